@@ -1,0 +1,28 @@
+use super::*;
+use std::alloc::{AllocError, Global};
+use std::test::*;
+
+fn row_of(alloc: Global, first: usize, second: usize) -> Result<BitRow, AllocError>
+    requires { (first < 128) × (second < 128) }
+    ensures { IfOk result (λ row. length row ≡ 2) }
+{
+    let mut row = BitRow::empty(alloc, 2)?;
+    row.insert(first);
+    row.insert(second);
+    Ok(row)
+}
+
+ghost use Rattle.std.specs.Prelude.{◌≡◌, ◌<◌, length, IfOk};
+
+#[test]
+fn sets_of_numbers(rt: HostRuntime) -> Result<(), Fail> {
+    let mut row = row_of(rt.alloc(), 3, 64)?;
+    let other = row_of(rt.alloc(), 64, 127)?;
+    assert!(rt; row.has(3) && row.has(64) && !row.has(4) && !row.has(0));
+    assert!(rt; row.meets(&other));
+    row.subtract(&other);
+    assert!(rt; row.has(3) && !row.has(64) && !row.meets(&other));
+    row.union_with(&other);
+    assert!(rt; row.has(3) && row.has(64) && row.has(127) && !row.has(126));
+    Ok(())
+}

@@ -1,0 +1,4 @@
+pub mod Cuts
+pub mod Keys
+pub mod Runs
+pub mod FirstLines

@@ -1,0 +1,5 @@
+use Rattle.sm_contexts.proofs.FirstLines.{first_lines}
+use Rattle.sm_contexts.proofs.contexts.Contexts.read.Goals as goal
+
+pub returns-clause-first_lines : goal.returns-clause-first_lines
+returns-clause-first_lines c = first_lines c.args.text.now c.in_ok-entries.entries c.in_ok-entries.ensures.read

@@ -1,0 +1,118 @@
+-- The entries of a contexts text, and the label of a name.
+use Rattle.std.specs.Prelude.{◌≡◌, ◌≤◌, ℕ, ◌+◌, Bool, true, not, ◌&&◌, ◌||◌, ◌==◌, nat_lt, if◌then◌else◌, List, [], ◌∷◌, ◌++◌, length, count_by, find, slice_index, Option, Some, None, Result, Ok, Err, codes, option_map}
+use Rattle.std.specs.List.{list_any}
+use Rattle.std.specs.Str.{bytes_eq}
+use Rattle.std.specs.Borrow.{Bor}
+use Rattle.sm_kinds.specs.Contexts.{is_context}
+use Rattle.sm_contexts.specs.declared.fault.ContextsFault.{ContextsFault}
+use Rattle.sm_contexts.specs.declared.fault.ContextsFault.TheVariants.{TooLarge, BadLine, Conflict, TwoDefaults, NoDefault, Memory}
+use Rattle.sm_contexts.specs.Lines.{lines, first_word, after_word}
+
+-- The first line that gives a key, counted from 1, and the context that it gives.
+pub record Entry : Type 0 where
+  pub line : ℕ
+  pub key : List ℕ
+  pub context : List ℕ
+
+abbrev pub Read : Type 0 → Type 0
+Read A = Result A ContextsFault
+
+infixl 10 ◌>>=◌
+abbrev pub ◌>>=◌ : {A B : Type 0} → Read A → (A → Read B) → Read B
+(Ok x) >>= f = f x
+(Err e) >>= f = Err e
+
+-- The fault is the expected one; want of memory may come in place of anything.
+abbrev pub Fails : {B : Type 0} → ContextsFault → Read B → Type 0
+Fails Memory expected = Unit {0}
+Fails TooLarge expected = expected ≡ Err TooLarge
+Fails (BadLine n) expected = expected ≡ Err (BadLine n)
+Fails (Conflict m n) expected = expected ≡ Err (Conflict m n)
+Fails (TwoDefaults n) expected = expected ≡ Err (TwoDefaults n)
+Fails NoDefault expected = expected ≡ Err NoDefault
+
+-- The result is the expected one, or memory was refused.
+abbrev pub Gives : {A B : Type 0} → (A → B) → Read A → Read B → Type 0
+Gives view (Ok x) expected = expected ≡ Ok (view x)
+Gives view (Err e) expected = Fails e expected
+
+-- The key of the line for every other name.
+abbrev pub default_key : List ℕ
+default_key = codes "*"
+
+abbrev pub has_key : List ℕ → Entry → Bool
+has_key key e = bytes_eq key e.key
+
+-- Neither a line without words nor a comment.
+abbrev pub is_entry : List ℕ → Bool
+is_entry line = not (length (first_word line) == 0 || slice_index (first_word line) 0 == 35)
+
+-- What the key's earlier entry, if there is one, makes of line n.
+abbrev pub placed : ℕ → List Entry → List ℕ → List ℕ → Option Entry → Read (List Entry)
+placed n entries key context None = Ok (entries ++ record { line = n; key = key; context = context } ∷ [])
+placed n entries key context (Some e) =
+    if bytes_eq key default_key then Err (TwoDefaults n)
+    else if bytes_eq e.context context then Ok entries
+    else Err (Conflict e.line n)
+
+unfoldable pub with_entry : ℕ → List Entry → List ℕ → List ℕ → Read (List Entry)
+with_entry n entries key context = placed n entries key context (find (has_key key) entries)
+
+-- The second word of line n has to be a context.
+abbrev pub context_at : ℕ → List ℕ → Read (List ℕ)
+context_at n word = if is_context word then Ok word else Err (BadLine n)
+
+-- Line n, behind the entries of the lines before it.
+unfoldable pub with_line : ℕ → List Entry → List ℕ → Read (List Entry)
+with_line n entries line =
+    if is_entry line then (context_at n (first_word (after_word line)) >>= λ context. with_entry n entries (first_word line) context) else Ok entries
+
+-- The lines from line n on, behind the entries of those before.
+unfoldable pub entries_from : ℕ → List Entry → List (List ℕ) → Read (List Entry)
+entries_from n entries [] = if list_any (has_key default_key) entries then Ok entries else Err NoDefault
+entries_from n entries (line ∷ more) = with_line n entries line >>= λ e. entries_from (n + 1) e more
+
+abbrev pub no_entries : List Entry
+no_entries = []
+
+-- The first line of each key, in order, or the first fault.
+unfoldable pub read : List ℕ → Read (List Entry)
+read text =
+    if nat_lt 4194304 (length text) then Err TooLarge
+    else if nat_lt 16384 (count_by is_entry (lines text)) then Err TooLarge
+    else entries_from 1 [] (lines text)
+
+-- There is a line for `*`, and no more entries than a text has bytes.
+pub record IsWhole (entries : List Entry) : Type 0 where
+  pub has_default : list_any (has_key default_key) entries ≡ true
+  pub few : length entries ≤ 4194304
+
+-- What an entry says of its key.
+abbrev pub line_and_context : Entry → ℕ × List ℕ
+line_and_context e = (e.line, e.context)
+
+-- What a line and a reference to a context say.
+abbrev pub seen : ℕ × Bor (List ℕ) → ℕ × List ℕ
+seen e = (e.0, e.1.now)
+
+-- The entry of the key, else that of `*`.
+abbrev pub or_default : List Entry → Option Entry → Option Entry
+or_default entries None = find (has_key default_key) entries
+or_default entries (Some e) = Some e
+
+-- The context of a name: that on the line with this key, else that on the line `*`.
+abbrev pub label : List Entry → List ℕ → Option (List ℕ)
+label entries name = option_map (λ e. e.context) (or_default entries (find (has_key name) entries))
+
+-- Whether a line gives a context to a name.
+abbrev pub is_line_of : List ℕ → List ℕ → Bool
+is_line_of name line = is_entry line && bytes_eq name (first_word line)
+
+-- The first line with this key, from line n on, and the context on it.
+abbrev pub line_of : List ℕ → ℕ → List (List ℕ) → Option (ℕ × List ℕ)
+line_of name n [] = None
+line_of name n (line ∷ more) = if is_line_of name line then Some (n, first_word (after_word line)) else line_of name (n + 1) more
+
+-- The entries have for each key the first line of the text with this key, and the context on it.
+abbrev pub AreFirstLines : List ℕ → List Entry → Type 0
+AreFirstLines text entries = (name : List ℕ) → option_map line_and_context (find (has_key name) entries) ≡ line_of name 1 (lines text)

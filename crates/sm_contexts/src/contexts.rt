@@ -1,0 +1,77 @@
+//! The labels of services.
+
+use crate::entries::Entries;
+use crate::fault::ContextsFault;
+use crate::reading::entries_of;
+use sm_kinds::Context;
+use std::alloc::Global;
+use std::marker::Model;
+
+/// The entries of a `service_contexts` text, among which there is one for `*`. Contracts see the first line
+/// of each key, in order.
+#[derive(Debug)]
+pub struct Contexts {
+    entries: Entries,
+}
+
+impl Drop for Contexts {
+    fn drop(self) {
+        let Contexts { entries: _ } = self;
+    }
+}
+
+impl Model for Contexts {
+    ghost use Rattle.std.specs.Prelude.{List};
+    ghost use Rattle.sm_contexts.specs.Reading.{Entry};
+
+    ghost Value = { List Entry };
+
+    ghost use Rattle.sm_contexts.specs.Reading.{IsWhole};
+
+    ghost view = { λ c. c.entries };
+
+    ghost invariant = { λ c. IsWhole c.entries };
+}
+
+impl Contexts {
+    ghost use Rattle.std.specs.Prelude.{◌≡◌, Some, IfOk, length, option_map, slice_get};
+    ghost use Rattle.sm_contexts.specs.Reading.{AreFirstLines, Gives, label, line_and_context, read, seen};
+
+    /// Reads a text: `service_contexts` of AOSP's system/sepolicy, of which each line has a key and a context,
+    /// parted by spaces, tabs and carriage returns. A line without words, or whose first word begins with
+    /// `#`, is skipped, and words behind the second are ignored. A key repeated with the same context is accepted.
+    pub fn read(alloc: Global, text: &[u8]) -> Result<Contexts, ContextsFault>
+        ensures exact { Gives (λ c. c) result (read text.now) }
+        ensures first_lines { IfOk result (AreFirstLines text.now) }
+    {
+        let entries = entries_of(alloc, text)?;
+        Ok(Contexts { entries })
+    }
+
+    /// The context of a name: that of the line with this key, else that of the line `*`.
+    pub fn label(&self, name: &[u8]) -> &Context
+        ensures { label self.now name.now ≡ Some result.now }
+    {
+        match self.entries.label(name) {
+            Some(context) => context,
+            None => unreachable!(),
+        }
+    }
+
+    /// The first line of the i-th distinct key, counted from 0, and its context.
+    pub fn entry(&self, i: u32) -> Option<(u32, &Context)>
+        ensures { option_map seen result ≡ option_map line_and_context (slice_get self.now i) }
+    {
+        match self.entries.get(i as usize) {
+            Some(first) => Some((first.line, &first.context)),
+            None => None,
+        }
+    }
+
+    /// The number of distinct keys.
+    pub fn count(&self) -> u32
+        ensures { result ≡ length self.now }
+    {
+        self.entries.len() as u32
+    }
+}

@@ -1,0 +1,129 @@
+//! The first line of each key.
+
+use crate::fault::ContextsFault;
+use indexmap::IndexMap;
+use sm_kinds::Context;
+use std::alloc::Global;
+use std::marker::Model;
+
+/// The first line that gives a key, counted from 1, and the context that it gives.
+#[derive(Debug)]
+pub struct FirstLine {
+    pub line: u32,
+    pub context: Context,
+}
+
+impl Drop for FirstLine {
+    fn drop(self) {
+        let FirstLine {
+            line: _,
+            context: _,
+        } = self;
+    }
+}
+
+/// Entries in the order of their lines, which contracts see as a list.
+#[derive(Debug)]
+pub struct Entries {
+    by_key: IndexMap<Vec<u8>, FirstLine>,
+}
+
+impl Drop for Entries {
+    fn drop(self) {
+        let Entries { by_key: _ } = self;
+    }
+}
+
+impl Model for Entries {
+    ghost use Rattle.std.specs.Prelude.{List};
+    ghost use Rattle.sm_contexts.specs.Reading.{Entry};
+
+    ghost Value = { List Entry };
+
+    ghost use Rattle.std.specs.Prelude.{map};
+    ghost use Rattle.sm_contexts.specs.Keyed.{entry_of};
+
+    ghost view = { λ e. map entry_of e.by_key.entries };
+}
+
+impl Entries {
+    ghost use Rattle.std.specs.Prelude.{◌≡◌, ◌≤◌, ◌+◌, [], find, length, option_map, slice_get, OnOk, OnErr};
+    ghost use Rattle.std.specs.List.{list_any};
+    ghost use Rattle.sm_contexts.specs.Reading.{Gives, with_entry, has_key, default_key, label};
+    ghost use Rattle.sm_contexts.specs.Keyed.{entry, first_line};
+
+    pub fn new(alloc: Global) -> Entries
+        ensures { result ≡ [] }
+    {
+        Entries {
+            by_key: IndexMap::new(alloc),
+        }
+    }
+
+    fn find(&self, key: &[u8]) -> Option<&FirstLine>
+        ensures { option_map (λ f. entry key.now f.now) result ≡ find (has_key key.now) self.now }
+    {
+        self.by_key.get(key)
+    }
+
+    pub fn len(&self) -> usize
+        ensures { result ≡ length self.now }
+    {
+        self.by_key.len()
+    }
+
+    pub fn has_default(&self) -> bool
+        ensures { result ≡ list_any (has_key default_key) self.now }
+    {
+        self.by_key.contains_key(b"*".as_slice())
+    }
+
+    /// Adds an entry, unless an earlier line has its key.
+    #[tactic(auto, unfolding(crate::specs::Reading::with_entry))]
+    pub fn add(
+        &mut self,
+        alloc: Global,
+        line: u32,
+        key: &[u8],
+        context: Context,
+    ) -> Result<(), ContextsFault>
+        ensures placed { Gives (λ _. self.new) result (with_entry line self.old key.now context) }
+        ensures few { OnOk result (length self.new ≤ length self.old + 1) }
+    {
+        if let Some(earlier) = self.find(key) {
+            if key == b"*".as_slice() {
+                return Err(ContextsFault::TwoDefaults(line));
+            }
+            if earlier.context.text() != context.text() {
+                return Err(ContextsFault::Conflict(earlier.line, line));
+            }
+            return Ok(());
+        }
+        let key = Vec::from_slice(alloc, key)?;
+        self.by_key.insert(key, FirstLine { line, context })?;
+        Ok(())
+    }
+
+    /// The context of the line with that key, else that of the line `*`.
+    pub fn label(&self, name: &[u8]) -> Option<&Context>
+        ensures { option_map (λ n. n.now) result ≡ label self.now name.now }
+    {
+        match self.find(name) {
+            Some(first) => Some(&first.context),
+            None => match self.find(b"*") {
+                Some(first) => Some(&first.context),
+                None => None,
+            },
+        }
+    }
+
+    /// The line and the context of an entry, by its place.
+    pub fn get(&self, i: usize) -> Option<&FirstLine>
+        ensures { option_map (λ f. f.now) result ≡ option_map first_line (slice_get self.now i) }
+    {
+        match self.by_key.get_index(i) {
+            Some((_, first)) => Some(first),
+            None => None,
+        }
+    }
+}

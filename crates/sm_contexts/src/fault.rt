@@ -1,0 +1,45 @@
+//! Why a contexts text was refused.
+
+ghost use Rattle.std.specs.Prelude.{◌≡◌};
+ghost use Rattle.sm_contexts.specs.declared.fault.ContextsFault.TheVariants.{Memory};
+
+use std::alloc::{AllocError, AllocFailed};
+use thiserror::Error;
+
+/// The first fault of a contexts text. Lines are numbered from 1.
+#[derive(Clone, Copy, Debug, PartialEq, Eq, Error)]
+pub enum ContextsFault {
+    /// The text has more than 4,194,304 bytes, or more than 16,384 entry lines.
+    #[error("too large")]
+    TooLarge,
+    /// The line has a key alone, or its second word is no context.
+    #[error("bad line {0}")]
+    BadLine(u32),
+    /// The later line gives the key of the earlier one another context. The earlier line is the key's first.
+    #[error("line {1} gives another context than line {0}")]
+    Conflict(u32, u32),
+    /// A second line for `*`.
+    #[error("second default at line {0}")]
+    TwoDefaults(u32),
+    /// There is no line for `*`.
+    #[error("no default")]
+    NoDefault,
+    #[error("memory")]
+    Memory,
+}
+
+impl From<AllocError> for ContextsFault {
+    ghost from_gives = { λ _ e. e ≡ Memory };
+
+    fn from(_e: AllocError) -> ContextsFault {
+        ContextsFault::Memory
+    }
+}
+
+impl<T: Drop> From<AllocFailed<T>> for ContextsFault {
+    ghost from_gives = { λ _ e. e ≡ Memory };
+
+    fn from(_e: AllocFailed<T>) -> ContextsFault {
+        ContextsFault::Memory
+    }
+}

@@ -1,0 +1,13 @@
+//! The labels of services: the reader of a `service_contexts` text, and the look-up of a name's context in it.
+#![tactic(auto)]
+
+mod contexts;
+mod entries;
+mod fault;
+mod lines;
+mod reading;
+#[cfg(test)]
+mod tests;
+
+pub use contexts::Contexts;
+pub use fault::ContextsFault;

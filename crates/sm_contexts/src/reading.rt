@@ -1,0 +1,99 @@
+//! Reads the lines of a contexts text.
+
+ghost use Rattle.std.specs.Prelude.{◌≡◌, ◌≤◌, ◌<◌, ◌+◌, length, count_by, IfOk};
+ghost use Rattle.sm_contexts.specs.Reading as spec;
+ghost use Rattle.sm_contexts.specs.Reading.{Gives, IsWhole};
+
+use crate::entries::Entries;
+use crate::fault::ContextsFault;
+use crate::lines::{Lines, first_word};
+use sm_kinds::{Context, ContextError};
+use std::alloc::Global;
+
+/// The greatest number of bytes of a text.
+const MAX_TEXT: usize = 4_194_304;
+
+/// The greatest number of entry lines.
+const MAX_ENTRIES: u32 = 16_384;
+
+fn is_entry(line: &[u8]) -> bool
+    ensures { result ≡ spec.is_entry line.now }
+{
+    let (word, _) = first_word(line);
+    !(word.is_empty() || word[0] == b'#')
+}
+
+fn entry_count(mut lines: Lines) -> u32
+    requires { length lines ≤ 4194304 }
+    ensures { result ≡ count_by spec.is_entry lines.entry }
+{
+    let mut count: u32 = 0;
+    'lines: while let Some(line) = lines.take() {
+        if is_entry(line) {
+            count += 1;
+        }
+    }
+    count
+}
+
+fn context_at(alloc: Global, line: u32, word: &[u8]) -> Result<Context, ContextsFault>
+    ensures { Gives (λ c. c) result (spec.context_at line word.now) }
+{
+    match Context::read(alloc, word) {
+        Ok(context) => Ok(context),
+        Err(ContextError::BadContext) => Err(ContextsFault::BadLine(line)),
+        Err(ContextError::Memory) => Err(ContextsFault::Memory),
+    }
+}
+
+#[tactic(auto, unfolding(crate::specs::Reading::with_line))]
+fn add_line(
+    alloc: Global,
+    mut entries: Entries,
+    number: u32,
+    line: &[u8],
+) -> Result<Entries, ContextsFault>
+    ensures read { Gives (λ e. e) result (spec.with_line number entries line.now) }
+    ensures few { IfOk result (λ e. length e ≤ length entries + 1) }
+{
+    if is_entry(line) {
+        let (key, rest) = first_word(line);
+        let (word, _) = first_word(rest);
+        let context = context_at(alloc, number, word)?;
+        entries.add(alloc, number, key, context)?;
+    }
+    Ok(entries)
+}
+
+fn add_lines(alloc: Global, mut lines: Lines) -> Result<Entries, ContextsFault>
+    requires { length lines ≤ 4194304 }
+    ensures read { Gives (λ e. e) result (spec.entries_from 1 spec.no_entries lines.entry) }
+    ensures whole { IfOk result IsWhole }
+{
+    let mut entries = Entries::new(alloc);
+    let mut number: u32 = 1;
+    'lines: while let Some(line) = lines.take() {
+        entries = add_line(alloc, entries, number, line)?;
+        number += 1;
+    }
+    if entries.has_default() {
+        Ok(entries)
+    } else {
+        Err(ContextsFault::NoDefault)
+    }
+}
+
+/// The first line of each key, in order.
+#[tactic(auto, unfolding(crate::specs::Reading::read))]
+pub fn entries_of(alloc: Global, text: &[u8]) -> Result<Entries, ContextsFault>
+    ensures read { Gives (λ e. e) result (spec.read text.now) }
+    ensures whole { IfOk result IsWhole }
+{
+    if text.len() > MAX_TEXT {
+        return Err(ContextsFault::TooLarge);
+    }
+    if entry_count(Lines::new(text)) > MAX_ENTRIES {
+        return Err(ContextsFault::TooLarge);
+    }
+    add_lines(alloc, Lines::new(text))
+}

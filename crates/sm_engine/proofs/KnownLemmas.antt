@@ -1,0 +1,77 @@
+-- One read or write after another, on the bytes that are known.
+use Rattle.std.proofs.Common.{◌≡◌, ℕ, ◌+◌, ◌-◌, ◌≤◌, List, [], ◌++◌, length, take, drop, Option, Some, None, refl, sym, ◌∙◌, append_assoc}
+use Rattle.std.proofs.lemmas.List.{append-nil, take-take, take-append-drop}
+use Rattle.std.proofs.Math.Seq.{take-add}
+use Rattle.std.specs.Io.KnownBytes.{Appends, Consumes, Keeps}
+use Rattle.sm_engine.specs.Running.{Spilled, Pending, Partly}
+
+pub Appends-then : (a b c : Option (List ℕ)) (x y : List ℕ) → Appends a b x → Appends b c y → Appends a c (x ++ y)
+Appends-then None b c x y p q = tt
+Appends-then (Some xs) None c x y p q = absurd p
+Appends-then (Some xs) (Some ys) None x y p q = absurd q
+Appends-then (Some xs) (Some ys) (Some zs) x y p q = q ∙ rw (p, append_assoc) refl
+
+pub Appends-nothing : (a : Option (List ℕ)) → Appends a a []
+Appends-nothing None = tt
+Appends-nothing (Some xs) = sym (append-nil xs)
+
+pub Consumes-then : (a b c : Option (List ℕ)) (x y : List ℕ) → Consumes a b x → Consumes b c y → Consumes a c (x ++ y)
+Consumes-then None b c x y p q = tt
+Consumes-then (Some xs) None c x y p q = absurd p
+Consumes-then (Some xs) (Some ys) None x y p q = absurd q
+Consumes-then (Some xs) (Some ys) (Some zs) x y p q = p ∙ rw (q, append_assoc) refl
+
+pub Consumes-nothing : (a : Option (List ℕ)) → Consumes a a []
+Consumes-nothing None = tt
+Consumes-nothing (Some xs) = refl
+
+-- one more write of a text, of which `at` bytes are written
+pub Appends-more : (a b c : Option (List ℕ)) (text : List ℕ) (at n : ℕ) → n ≤ length text - at → Appends a b (take at text) → Appends b c (take n (take (length text - at) (drop at text))) → Appends a c (take (at + n) text)
+Appends-more a b c text at n le p q = rw (take-add at n text) (Appends-then a b c _ _ p (rw (take-take n (length text - at) (drop at text) le) at q))
+
+pub Spilled-none : (a : Option (List ℕ)) (held : List ℕ) → Spilled a a held held
+Spilled-none a held = record { written = []; appended = Appends-nothing a; joined = refl }
+
+pub Spilled-all : (a b : Option (List ℕ)) (held rest : List ℕ) → rest ≡ [] → Appends a b held → Spilled a b held rest
+Spilled-all a b held rest e p = record { written = held; appended = p; joined = rw e (sym (append-nil held)) }
+
+-- the first state of a text that is written in parts
+pub Pending-start : (a : Option (List ℕ)) (held : List ℕ) → held ≡ [] → Pending a a held []
+Pending-start a held e = record { written = []; appended = Appends-nothing a; joined = sym e }
+
+pub Pending-spill : {a b c : Option (List ℕ)} {held rest whole : List ℕ} → Pending a b held whole → Spilled b c held rest → Pending a c rest whole
+Pending-spill {a} {b} {c} {held} {rest} {whole} p s = record {
+  written = p.written ++ s.written;
+  appended = Appends-then a b c _ _ p.appended s.appended;
+  joined = p.joined ∙ rw (s.joined, append_assoc) refl;
+}
+
+pub Pending-more : {a b : Option (List ℕ)} {held held' whole : List ℕ} (more : List ℕ) → Pending a b held whole → held' ≡ held ++ more → Pending a b held' (whole ++ more)
+Pending-more {a} {b} {held} {held'} {whole} more p e = record {
+  written = p.written;
+  appended = p.appended;
+  joined = rw (p.joined, e, append_assoc) refl;
+}
+
+pub Partly-pending : {a b : Option (List ℕ)} {held whole : List ℕ} → Pending a b held whole → Partly a b whole
+Partly-pending {a} {b} {held} {whole} p = record { written = p.written; missing = held; appended = p.appended; joined = p.joined }
+
+pub Partly-front : {a b : Option (List ℕ)} (c : Option (List ℕ)) {held whole : List ℕ} (n : ℕ) → Pending a b held whole → Appends b c (take n held) → Partly a c whole
+Partly-front {a} {b} c {held} {whole} n p q = record {
+  written = p.written ++ take n held;
+  missing = drop n held;
+  appended = Appends-then a b c _ _ p.appended q;
+  joined = p.joined ∙ rw (append_assoc, take-append-drop n held) refl;
+}
+
+pub Appends-pending : {a b : Option (List ℕ)} (c : Option (List ℕ)) {held whole : List ℕ} → Pending a b held whole → Appends b c held → Appends a c whole
+Appends-pending {a} {b} c {held} {whole} p q = rw p.joined (Appends-then a b c _ _ p.appended q)
+
+pub Consumes-keeps : (a b c : Option (List ℕ)) (x : List ℕ) → Consumes a b x → Keeps b c → Consumes a c x
+Consumes-keeps None b c x p q = tt
+Consumes-keeps (Some xs) None c x p q = absurd p
+Consumes-keeps (Some xs) (Some ys) None x p q = absurd q
+Consumes-keeps (Some xs) (Some ys) (Some zs) x p q = rw q p
+
+pub Partly-more : {a b : Option (List ℕ)} {whole : List ℕ} (more : List ℕ) → Partly a b whole → Partly a b (whole ++ more)
+Partly-more {a} {b} {whole} more p = record { written = p.written; missing = p.missing ++ more; appended = p.appended; joined = rw (p.joined, append_assoc) refl }

@@ -1,0 +1,80 @@
+//! Answers the items of one piece.
+
+ghost use Rattle.std.specs.Prelude.{◌≡◌, ◌<◌, ◌+◌, ℕ, [], OnOk, OnErr, take, ◌⊎◌};
+ghost use Rattle.std.specs.Io.KnownBytes.{Appends};
+ghost use Rattle.sm_engine.specs.Counts.{failures_of, inner_of, greatest};
+ghost use Rattle.sm_engine.specs.Running.{Wrote, Stopped, Spilled};
+
+use crate::counted::Counted;
+use crate::fault::Fault;
+use crate::machine::Machine;
+use crate::writing::write_whole;
+use sm_wire::Item;
+use std::alloc::Global;
+use std::io::Write;
+
+/// So many bytes are held back at most before they are written, one answer apart.
+const HELD_LIMIT: usize = 65536;
+
+/// Answers the items in order, and writes their texts.
+pub fn answer_items<M: Machine, W: Write, A: Write>(
+    alloc: Global,
+    machine: &mut M,
+    items: Vec<Item>,
+    writer: &mut Counted<W>,
+    audit: &mut Counted<A>,
+) -> Result<(), Fault>
+    requires writer { failures_of writer.old < greatest }
+    requires audit { failures_of audit.old < greatest }
+    ensures ok { OnOk result (Wrote M.answers machine.old items.items
+        (W.contents (inner_of writer.old)) (W.contents (inner_of writer.new))
+        (A.contents (inner_of audit.old)) (A.contents (inner_of audit.new)) machine.new) }
+    ensures writer_count { OnOk result (failures_of writer.new ≡ failures_of writer.old) }
+    ensures audit_count { OnOk result (failures_of audit.new ≡ failures_of audit.old) }
+    ensures err { OnErr result (Stopped M.answers machine.old items.items
+        (W.contents (inner_of writer.old)) (W.contents (inner_of writer.new))
+        (A.contents (inner_of audit.old)) (A.contents (inner_of audit.new)) machine.new) }
+    ensures fault { OnErr result ((result ≡ Err Fault.WriteFault) ⊎ (result ≡ Err Fault.Memory)) }
+    ensures failed { result ≡ Err Fault.WriteFault → failures_of writer.old + failures_of audit.old
+        < failures_of writer.new + failures_of audit.new }
+{
+    let mut replies = Vec::new(alloc);
+    let mut lines = Vec::new(alloc);
+    for item in items {
+        machine.answer(item, &mut replies, &mut lines)?;
+        spill(writer, &mut replies)?;
+        spill(audit, &mut lines)?;
+    }
+    write_held(writer, &mut replies)?;
+    write_held(audit, &mut lines)
+}
+
+/// Writes what is held once it is much.
+fn spill<W: Write>(writer: &mut Counted<W>, held: &mut Vec<u8>) -> Result<(), Fault>
+    requires { failures_of writer.old < greatest }
+    ensures ok { OnOk result (Spilled (W.contents (inner_of writer.old)) (W.contents (inner_of writer.new)) held.old.items held.new.items) }
+    ensures count { OnOk result (failures_of writer.new ≡ failures_of writer.old) }
+    ensures front { OnErr result ((n : ℕ) × Appends (W.contents (inner_of writer.old)) (W.contents (inner_of writer.new)) (take n held.old.items)) }
+    ensures fault { OnErr result (result ≡ Err Fault.WriteFault) }
+    ensures failed { OnErr result (failures_of writer.old < failures_of writer.new) }
+{
+    if held.len() < HELD_LIMIT {
+        return Ok(());
+    }
+    write_held(writer, held)
+}
+
+/// Writes what is held, and holds it no more.
+fn write_held<W: Write>(writer: &mut Counted<W>, held: &mut Vec<u8>) -> Result<(), Fault>
+    requires { failures_of writer.old < greatest }
+    ensures ok { OnOk result (Appends (W.contents (inner_of writer.old)) (W.contents (inner_of writer.new)) held.old.items) }
+    ensures held { OnOk result (held.new.items ≡ []) }
+    ensures count { OnOk result (failures_of writer.new ≡ failures_of writer.old) }
+    ensures front { OnErr result ((n : ℕ) × Appends (W.contents (inner_of writer.old)) (W.contents (inner_of writer.new)) (take n held.old.items)) }
+    ensures fault { OnErr result (result ≡ Err Fault.WriteFault) }
+    ensures failed { OnErr result (failures_of writer.old < failures_of writer.new) }
+{
+    write_whole(writer, held)?;
+    held.clear();
+    Ok(())
+}

@@ -1,0 +1,79 @@
+//! A reader or a writer that counts the calls that failed.
+
+ghost use Rattle.std.specs.Prelude.{◌≡◌, MatchResult, ◌+◌, ◌==◌, if◌then◌else◌};
+ghost use Rattle.std.specs.Io.{ReadsAtMost, WritesAtMost};
+ghost use Rattle.std.specs.Io.KnownBytes.{ReadConsumes, WriteAppends, Keeps};
+ghost use Rattle.sm_engine.specs.Counts.{failures_of, inner_of, one_more};
+
+use std::io::{self, Read, Write};
+
+#[derive(Drop)]
+pub struct Counted<T> {
+    inner: T,
+    failures: u64,
+}
+
+impl<T> Counted<T> {
+    pub fn new(inner: T) -> Counted<T>
+        ensures inner { inner_of result ≡ inner }
+        ensures failures { failures_of result ≡ 0 }
+    {
+        Counted { inner, failures: 0 }
+    }
+
+    /// How many reads failed, and how many writes failed or took no byte. At the greatest `u64` the count stays.
+    pub fn failures(&self) -> u64
+        ensures { result ≡ failures_of self.now }
+    {
+        self.failures
+    }
+
+    pub fn into_inner(self) -> T
+        ensures { result ≡ inner_of self }
+    {
+        let Counted { inner, failures: _ } = self;
+        inner
+    }
+}
+
+impl<R: Read> Read for Counted<R> {
+    ghost remaining = { λ c. R.remaining (inner_of c) };
+
+    fn read(&mut self, buf: &mut [u8]) -> io::Result<usize>
+        ensures bound { ReadsAtMost result buf.new }
+        ensures bytes { ReadConsumes (R.remaining (inner_of self.old)) (R.remaining (inner_of self.new)) result buf.new }
+        ensures count { MatchResult result (λ _. failures_of self.new ≡ failures_of self.old)
+            (λ _. failures_of self.new ≡ one_more (failures_of self.old)) }
+    {
+        let result = self.inner.read(buf);
+        if result.is_err() {
+            self.failures = self.failures.saturating_add(1);
+        }
+        result
+    }
+}
+
+impl<W: Write> Write for Counted<W> {
+    ghost contents = { λ c. W.contents (inner_of c) };
+
+    fn write(&mut self, buf: &[u8]) -> io::Result<usize>
+        ensures bound { WritesAtMost result buf.now }
+        ensures bytes { WriteAppends (W.contents (inner_of self.old)) (W.contents (inner_of self.new)) result buf.now }
+        ensures count { MatchResult result
+            (λ n. failures_of self.new ≡ (if n == 0 then one_more (failures_of self.old) else failures_of self.old))
+            (λ _. failures_of self.new ≡ one_more (failures_of self.old)) }
+    {
+        let result = self.inner.write(buf);
+        if !matches!(result, Ok(1..)) {
+            self.failures = self.failures.saturating_add(1);
+        }
+        result
+    }
+
+    fn flush(&mut self) -> io::Result<()>
+        ensures bytes { Keeps (W.contents (inner_of self.old)) (W.contents (inner_of self.new)) }
+        ensures count { failures_of self.new ≡ failures_of self.old }
+    {
+        self.inner.flush()
+    }
+}

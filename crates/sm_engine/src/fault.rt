@@ -1,0 +1,29 @@
+//! Why an engine stopped before the end of its input.
+
+use std::alloc::AllocError;
+
+/// Why an engine stopped before the end of its input.
+#[derive(Clone, Copy, Debug, PartialEq, Eq)]
+pub enum Fault {
+    /// A read failed.
+    ReadFault,
+    /// A write failed, or took no byte.
+    WriteFault,
+    /// The bound on the number of reads was met before the end of the input.
+    TooManyReads,
+    /// A line has more than 4,096 bytes.
+    LineTooLong,
+    /// Memory was refused to the engine itself.
+    Memory,
+}
+
+impl From<AllocError> for Fault {
+    ghost use Rattle.std.specs.Prelude.{◌≡◌};
+    ghost use Rattle.sm_engine.specs.declared.fault.Fault.TheVariants.{Memory};
+
+    ghost from_gives = { λ _ e. e ≡ Memory };
+
+    fn from(_e: AllocError) -> Fault {
+        Fault::Memory
+    }
+}

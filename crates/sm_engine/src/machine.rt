@@ -1,0 +1,24 @@
+//! What answers items.
+
+ghost use Rattle.std.specs.Prelude.{ℕ, List, OnOk, OnErr};
+ghost use Rattle.sm_wire.specs.declared.item.Item.{Item};
+ghost use Rattle.sm_engine.specs.Running.{Answered, GaveUp};
+
+use sm_wire::Item;
+use std::alloc::AllocError;
+
+/// A state that answers items with reply lines and audit lines.
+pub trait Machine {
+    // The item may be answered so: its reply lines, its audit lines, and the state after it.
+    ghost answers: { Self → Item → List ℕ → List ℕ → Self → Type 0 };
+
+    fn answer(
+        &mut self,
+        item: Item,
+        replies: &mut Vec<u8>,
+        audit: &mut Vec<u8>,
+    ) -> Result<(), AllocError>
+        ensures ok { OnOk result (Answered answers self.old item replies.old.items replies.new.items
+            audit.old.items audit.new.items self.new) }
+        ensures err { OnErr result (GaveUp answers self.old item self.new) };
+}

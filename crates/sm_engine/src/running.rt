@@ -1,0 +1,120 @@
+//! Reads lines, answers them, and writes the answers, to the end of the input.
+
+ghost use Rattle.std.specs.Prelude.{◌≡◌, ◌<◌, ◌≤◌, ◌+◌, IfOk, OnOk, OnErr, take, length, ℕ, codes, [], ◌⊎◌, if◌then◌else◌};
+ghost use Rattle.std.specs.Io.KnownBytes.{Appends, Consumes, Keeps, IsAtEnd};
+ghost use Rattle.sm_wire.specs.Items.{IsAlive, scan_after, items_after};
+ghost use Rattle.sm_engine.specs.Counts.{failures_of, inner_of, greatest};
+ghost use Rattle.sm_engine.specs.Running.{Wrote, Stopped, Served, ending_of};
+
+use crate::answering::answer_items;
+use crate::counted::Counted;
+use crate::fault::Fault;
+use crate::machine::Machine;
+use crate::writing::write_whole;
+use sm_wire::{FeedError, Lines};
+use std::alloc::Global;
+use std::io::{Read, Write};
+
+const PIECE: usize = 8192;
+
+/// Answers what comes from the reader until its end, a fault, or `bound` reads.
+pub fn run<M: Machine, R: Read, W: Write, A: Write>(
+    alloc: Global,
+    machine: &mut M,
+    bound: u32,
+    reader: &mut Counted<R>,
+    writer: &mut Counted<W>,
+    audit: &mut Counted<A>,
+) -> Result<(), Fault>
+    requires reader { failures_of reader.old < greatest }
+    requires writer { failures_of writer.old < greatest }
+    requires audit { failures_of audit.old < greatest }
+    ensures served { Served M.answers result bound machine.old
+        (R.remaining (inner_of reader.old)) (R.remaining (inner_of reader.new))
+        (W.contents (inner_of writer.old)) (W.contents (inner_of writer.new))
+        (A.contents (inner_of audit.old)) (A.contents (inner_of audit.new)) machine.new }
+    ensures end { OnOk result (IsAtEnd (R.remaining (inner_of reader.new))) }
+    ensures read_fault { result ≡ Err Fault.ReadFault → failures_of reader.old < failures_of reader.new }
+    ensures write_fault { result ≡ Err Fault.WriteFault → failures_of writer.old + failures_of audit.old
+        < failures_of writer.new + failures_of audit.new }
+{
+    let mut lines = Lines::new(alloc);
+    let mut buffer = [0u8; PIECE];
+    for reads in 0..bound {
+        let n = read_piece(reader, &mut buffer)?;
+        if n == 0 {
+            return write_ending(&lines, writer);
+        }
+        take_piece(alloc, machine, &mut lines, &buffer[..n], writer, audit)?;
+        if lines.is_dead() {
+            return Err(Fault::LineTooLong);
+        }
+    }
+    Err(Fault::TooManyReads)
+}
+
+fn read_piece<R: Read>(reader: &mut Counted<R>, buffer: &mut [u8]) -> Result<usize, Fault>
+    requires room { 0 < length buffer.old }
+    requires count { failures_of reader.old < greatest }
+    ensures within { IfOk result (λ n. n ≤ length buffer.new) }
+    ensures bytes { IfOk result (λ n. Consumes (R.remaining (inner_of reader.old)) (R.remaining (inner_of reader.new)) (take n buffer.new)) }
+    ensures end { IfOk result (λ n. n ≡ 0 → IsAtEnd (R.remaining (inner_of reader.new))) }
+    ensures count { OnOk result (failures_of reader.new ≡ failures_of reader.old) }
+    ensures fault { OnErr result (result ≡ Err Fault.ReadFault) }
+    ensures keeps { OnErr result (Keeps (R.remaining (inner_of reader.old)) (R.remaining (inner_of reader.new))) }
+    ensures failed { OnErr result (failures_of reader.old < failures_of reader.new) }
+{
+    match reader.read(buffer) {
+        Ok(n) => Ok(n),
+        Err(_) => Err(Fault::ReadFault),
+    }
+}
+
+fn take_piece<M: Machine, W: Write, A: Write>(
+    alloc: Global,
+    machine: &mut M,
+    lines: &mut Lines,
+    piece: &[u8],
+    writer: &mut Counted<W>,
+    audit: &mut Counted<A>,
+) -> Result<(), Fault>
+    requires alive { IsAlive lines.old }
+    requires writer { failures_of writer.old < greatest }
+    requires audit { failures_of audit.old < greatest }
+    ensures ok { OnOk result (Wrote M.answers machine.old (items_after lines.old piece.now)
+        (W.contents (inner_of writer.old)) (W.contents (inner_of writer.new))
+        (A.contents (inner_of audit.old)) (A.contents (inner_of audit.new)) machine.new) }
+    ensures lines { OnOk result (lines.new ≡ scan_after lines.old piece.now) }
+    ensures writer_count { OnOk result (failures_of writer.new ≡ failures_of writer.old) }
+    ensures audit_count { OnOk result (failures_of audit.new ≡ failures_of audit.old) }
+    ensures err { OnErr result (Stopped M.answers machine.old (items_after lines.old piece.now)
+        (W.contents (inner_of writer.old)) (W.contents (inner_of writer.new))
+        (A.contents (inner_of audit.old)) (A.contents (inner_of audit.new)) machine.new) }
+    ensures fault { OnErr result ((result ≡ Err Fault.WriteFault) ⊎ (result ≡ Err Fault.Memory)) }
+    ensures failed { result ≡ Err Fault.WriteFault → failures_of writer.old + failures_of audit.old
+        < failures_of writer.new + failures_of audit.new }
+{
+    match lines.feed(piece) {
+        Ok(items) => answer_items(alloc, machine, items, writer, audit),
+        Err(FeedError::Memory) => Err(Fault::Memory),
+        Err(FeedError::LineTooLong) => unreachable!(),
+    }
+}
+
+// Says that the input ended inside a line or a text, if it did.
+fn write_ending<W: Write>(lines: &Lines, writer: &mut Counted<W>) -> Result<(), Fault>
+    requires { failures_of writer.old < greatest }
+    ensures ok { OnOk result (Appends (W.contents (inner_of writer.old)) (W.contents (inner_of writer.new)) (ending_of lines.now)) }
+    ensures front { OnErr result ((n : ℕ) × Appends (W.contents (inner_of writer.old)) (W.contents (inner_of writer.new)) (take n (ending_of lines.now))) }
+    ensures fault { OnErr result (result ≡ Err Fault.WriteFault) }
+    ensures failed { OnErr result (failures_of writer.old < failures_of writer.new) }
+{
+    write_whole(writer, ending(lines.rest()))
+}
+
+// The words for a rest, or none.
+fn ending(is_part: bool) -> &'static [u8]
+    ensures { result.now ≡ (if is_part then codes "fault cut\n" else []) }
+{
+    if is_part { b"fault cut\n" } else { b"" }
+}

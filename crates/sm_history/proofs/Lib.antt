@@ -1,0 +1,9 @@
+pub mod Fresh
+pub mod Passed
+pub mod Keeps
+pub mod Laws
+pub mod Balanced
+pub mod Owners
+pub mod LeastFree
+pub mod Unconnected
+pub mod Versions

@@ -1,0 +1,16 @@
+pub use Rattle.sm_policy.specs.Policy
+pub use Rattle.sm_kinds.specs.Users
+pub use Rattle.sm_kinds.specs.Contexts
+pub mod Effects
+pub mod Clients
+pub mod Holdings
+pub mod Services
+pub mod Inboxes
+pub mod Checks
+pub mod Notices
+pub mod Histories
+pub mod Verdict
+pub mod Queries
+pub mod Lawful
+pub mod WorkedRuns
+pub mod Records

@@ -1,0 +1,30 @@
+//! What may happen to a service manager, what it answers, and what a history of it is.
+//!
+//! `src/` has the types of events, outcomes, queries and replies. `specs/` has the definitions that the
+//! whole product is proved against: what a history did, each table as a count, a filter or a search over
+//! it, the checks of each request, and the verdict.
+#![tactic(auto)]
+
+mod by;
+mod delivery;
+mod denial;
+mod entry;
+mod event;
+mod notice;
+mod outcome;
+mod query;
+mod refusal;
+mod reply;
+mod service;
+
+pub use by::By;
+pub use delivery::{Delivery, Given, GivenRefs, Message};
+pub use denial::Denial;
+pub use entry::Entry;
+pub use event::Event;
+pub use notice::{Notice, Notices, Reason, Told};
+pub use outcome::Outcome;
+pub use query::Query;
+pub use refusal::{Exception, Failure, Refusal};
+pub use reply::{Answer, NameList, Reply};
+pub use service::Service;

@@ -1,0 +1,4 @@
+pub mod Users
+pub mod Contexts
+pub mod Names
+pub mod Permissions

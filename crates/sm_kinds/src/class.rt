@@ -1,0 +1,37 @@
+//! The object classes of SELinux that are decided here.
+
+ghost use Rattle.std.specs.Prelude.{◌≡◌};
+
+/// An object class, in the order of SELinux's `security_classes` as this product uses it.
+#[derive(Clone, Copy, Debug, PartialEq, Eq)]
+pub enum Class {
+    ServiceManager,
+    Binder,
+}
+
+impl Class {
+    ghost use Rattle.sm_kinds.specs.Permissions.{class_word, class_read};
+
+    /// The class that the word names, if it is one of the two.
+    pub fn read(word: &[u8]) -> Option<Class>
+        ensures { result ≡ class_read word.now }
+    {
+        if word == b"service_manager".as_slice() {
+            Some(Class::ServiceManager)
+        } else if word == b"binder".as_slice() {
+            Some(Class::Binder)
+        } else {
+            None
+        }
+    }
+
+    /// The class's word in a policy text.
+    pub fn word(self) -> &'static [u8]
+        ensures { result.now ≡ class_word self }
+    {
+        match self {
+            Class::ServiceManager => b"service_manager",
+            Class::Binder => b"binder",
+        }
+    }
+}

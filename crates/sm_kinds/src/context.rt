@@ -1,0 +1,183 @@
+//! Security contexts.
+
+ghost use Rattle.std.specs.Prelude.{◌≡◌, ◌≢◌, ◌≤◌, ◌<◌, length, drop, take, IfOk, OnOk, OnErr, true, false};
+ghost use Rattle.std.specs.List.{prefix_len, list_all};
+ghost use Rattle.sm_kinds.specs.Contexts as spec;
+
+use bytes::Bytes;
+use std::alloc::{AllocError, Global};
+use std::marker::Model;
+use thiserror::Error;
+
+/// A security context, `user:role:type` or `user:role:type:range`, which contracts see as its text.
+/// The range is kept as text and never compared.
+#[derive(Debug)]
+pub struct Context {
+    text: Bytes,
+    kind: Bytes,
+}
+
+/// Why a text is no context.
+#[derive(Clone, Copy, Debug, PartialEq, Eq, Error)]
+pub enum ContextError {
+    /// The text isn't `user:role:type` or `user:role:type:range`.
+    #[error("not a context")]
+    BadContext,
+    #[error("out of memory")]
+    Memory,
+}
+
+impl Model for Context {
+    ghost use Rattle.std.specs.Prelude.{List, ℕ, ◌≡◌};
+    ghost use Rattle.sm_kinds.specs.Contexts.{type_of};
+
+    ghost Value = { List ℕ };
+
+    ghost view = { λ n. n.text };
+
+    ghost invariant = { λ n. n.kind ≡ type_of n.text };
+}
+
+impl Drop for Context {
+    fn drop(self) {
+        let Context { text: _, kind: _ } = self;
+    }
+}
+
+impl Clone for Context {
+    ghost is_clone = { λ n copy. copy ≡ n };
+
+    /// One more owner of the same text.
+    fn clone(&self) -> Result<Context, AllocError> {
+        let text = self.text.clone()?;
+        let kind = self.kind.clone()?;
+        Ok(Context { text, kind })
+    }
+}
+
+impl Context {
+    ghost use Rattle.sm_kinds.specs.declared.context.ContextError.TheVariants.{BadContext};
+
+    /// The context of this text.
+    pub fn read(alloc: Global, text: &[u8]) -> Result<Context, ContextError>
+        ensures value { IfOk result (λ c. c ≡ text.now) }
+        ensures good { OnOk result (spec.is_context text.now ≡ true) }
+        ensures bad { spec.is_context text.now ≡ false → result ≡ Err BadContext }
+        ensures only_bad { result ≡ Err BadContext → spec.is_context text.now ≡ false }
+    {
+        if !is_context(text) {
+            return Err(ContextError::BadContext);
+        }
+        match copied(alloc, text) {
+            Ok(context) => Ok(context),
+            Err(_) => Err(ContextError::Memory),
+        }
+    }
+
+    /// The type: the part behind the second colon, up to the third one or the end.
+    pub fn type_name(&self) -> &[u8]
+        ensures { result.now ≡ spec.type_of self.now }
+    {
+        self.kind.as_slice()
+    }
+
+    pub fn text(&self) -> &[u8]
+        ensures { result.now ≡ self.now }
+    {
+        self.text.as_slice()
+    }
+}
+
+fn copied(alloc: Global, text: &[u8]) -> Result<Context, AllocError>
+    ensures { IfOk result (λ c. c ≡ text.now) }
+{
+    let kind = Bytes::copy_from_slice(alloc, type_part(text))?;
+    let text = Bytes::copy_from_slice(alloc, text)?;
+    Ok(Context { text, kind })
+}
+
+fn is_graphic(b: u8) -> bool
+    ensures { result ≡ spec.is_graphic b }
+{
+    b'!' <= b && b <= b'~'
+}
+
+fn all_graphic(bytes: &[u8]) -> bool
+    ensures { result ≡ list_all spec.is_graphic bytes.now }
+{
+    bytes.iter().all(|b| is_graphic(*b))
+}
+
+fn part_len(bytes: &[u8]) -> usize
+    ensures value { result ≡ prefix_len spec.is_in_part bytes.now }
+    ensures within { result ≤ length bytes.now }
+{
+    bytes.iter().take_while(|b| **b != b':').count()
+}
+
+/// The bytes behind the first ones.
+fn behind(bytes: &[u8], count: usize) -> &[u8]
+    requires { count ≤ length bytes.now }
+    ensures { result.now ≡ drop count bytes.now }
+{
+    &bytes[count..]
+}
+
+/// What stands behind a part and its colon, or nothing.
+fn behind_part(bytes: &[u8]) -> &[u8]
+    ensures { result.now ≡ spec.behind_part bytes.now }
+{
+    let len = part_len(bytes);
+    if len == bytes.len() {
+        return behind(bytes, len);
+    }
+    behind(bytes, len + 1)
+}
+
+/// The third part.
+fn type_part(text: &[u8]) -> &[u8]
+    ensures { result.now ≡ spec.type_of text.now }
+{
+    let rest = behind_part(behind_part(text));
+    let (kind, _) = rest.split_at(part_len(rest));
+    kind
+}
+
+/// What stands behind a part that isn't empty and its colon.
+fn after_part(bytes: &[u8]) -> Option<&[u8]>
+    ensures { spec.SeenAs result (spec.after_part bytes.now) }
+{
+    let len = part_len(bytes);
+    if len == 0 || len == bytes.len() {
+        None
+    } else {
+        Some(behind(bytes, len + 1))
+    }
+}
+
+/// A type, and a range if there is one.
+fn is_type_and_range(bytes: &[u8]) -> bool
+    ensures { result ≡ spec.is_type_and_range bytes.now }
+{
+    let len = part_len(bytes);
+    len != 0 && len + 1 != bytes.len()
+}
+
+/// Whether the text is a context: `user:role:type` or `user:role:type:range`. The first three parts are
+/// bytes from 0x21 to 0x7E other than `:`, at least one; the range is at least one byte from 0x21 to
+/// 0x7E, and may hold `:`.
+#[tactic(auto, unfolding(crate::specs::Contexts::is_context))]
+pub fn is_context(text: &[u8]) -> bool
+    ensures { result ≡ spec.is_context text.now }
+{
+    if !all_graphic(text) {
+        return false;
+    }
+    let Some(role) = after_part(text) else {
+        return false;
+    };
+    let Some(rest) = after_part(role) else {
+        return false;
+    };
+    is_type_and_range(rest)
+}

@@ -1,0 +1,30 @@
+//! The numbers, names, contexts, classes and permissions that every part of svcmgr speaks of.
+//!
+//! Types here are plain values: nothing in this crate decides anything about access.
+#![tactic(auto)]
+
+mod class;
+mod context;
+mod identity;
+mod name;
+mod number;
+mod payload;
+mod perms;
+mod places;
+mod refs;
+#[cfg(test)]
+mod tests;
+mod user;
+mod word;
+
+pub use class::Class;
+pub use context::{Context, ContextError, is_context};
+pub use identity::Identity;
+pub use name::{Name, Names, valid_name};
+pub use number::{AdminId, ClientId, Node, ObjRef};
+pub use payload::{Payload, PayloadError};
+pub use perms::Perms;
+pub use places::Places;
+pub use refs::{Refs, RefsError};
+pub use user::{app_number, is_barred_app, is_isolated};
+pub use word::Word;

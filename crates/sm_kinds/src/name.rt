@@ -1,0 +1,132 @@
+//! Names of services, and of what a policy text declares.
+
+ghost use Rattle.std.specs.Prelude.{◌≡◌, ◌++◌, ◌∷◌, [], OnOk, OnErr, IfOk};
+ghost use Rattle.std.specs.List.{list_all};
+ghost use Rattle.sm_kinds.specs.Names.{is_name_byte, is_valid_name};
+
+use bytes::Bytes;
+use std::alloc::{AllocError, Global};
+use std::marker::Model;
+
+const LONGEST_NAME: usize = 127;
+
+/// A name, which contracts see as its bytes. Any bytes make one; `valid_name` tells which may name a service.
+#[derive(Debug)]
+pub struct Name {
+    bytes: Bytes,
+}
+
+impl Model for Name {
+    ghost use Rattle.std.specs.Prelude.{List, ℕ};
+
+    ghost Value = { List ℕ };
+
+    ghost view = { λ n. n.bytes };
+}
+
+impl Drop for Name {
+    fn drop(self) {
+        let Name { bytes: _ } = self;
+    }
+}
+
+impl Clone for Name {
+    ghost is_clone = { λ n copy. copy ≡ n };
+
+    /// One more owner of the same bytes.
+    fn clone(&self) -> Result<Name, AllocError> {
+        let bytes = self.bytes.clone()?;
+        Ok(Name { bytes })
+    }
+}
+
+impl Name {
+    /// A name of these bytes.
+    pub fn new(alloc: Global, bytes: &[u8]) -> Result<Name, AllocError>
+        ensures { IfOk result (λ n. n ≡ bytes.now) }
+    {
+        let bytes = Bytes::copy_from_slice(alloc, bytes)?;
+        Ok(Name { bytes })
+    }
+
+    pub fn bytes(&self) -> &[u8]
+        ensures { result.now ≡ self.now }
+    {
+        self.bytes.as_slice()
+    }
+}
+
+/// Names in order, which contracts see as the list of their bytes.
+#[derive(Debug)]
+pub struct Names {
+    list: Vec<Name>,
+}
+
+impl Model for Names {
+    ghost use Rattle.std.specs.Prelude.{List, ℕ};
+
+    ghost Value = { List (List ℕ) };
+
+    ghost view = { λ n. n.list.items };
+}
+
+impl Drop for Names {
+    fn drop(self) {
+        let Names { list: _ } = self;
+    }
+}
+
+impl Names {
+    ghost use Rattle.sm_kinds.specs.Names.{contains};
+
+    pub fn new(alloc: Global) -> Names
+        ensures { result ≡ [] }
+    {
+        Names {
+            list: Vec::new(alloc),
+        }
+    }
+
+    pub fn push(&mut self, name: Name) -> Result<(), AllocError>
+        ensures ok { OnOk result (self.new ≡ self.old ++ name ∷ []) }
+        ensures err { OnErr result (self.new ≡ self.old) }
+    {
+        self.list.push(name)?;
+        Ok(())
+    }
+
+    pub fn list(&self) -> &[Name]
+        ensures { result.now ≡ self.now }
+    {
+        &self.list
+    }
+
+    pub fn contains(&self, name: &[u8]) -> bool
+        ensures { result ≡ contains self.now name.now }
+    {
+        self.list.iter().any(|n| n.bytes() == name)
+    }
+}
+
+fn is_name_byte(b: u8) -> bool
+    ensures { result ≡ is_name_byte b }
+{
+    b.is_ascii_alphanumeric() || b == b'_' || b == b'-' || b == b'.' || b == b'/'
+}
+
+fn all_name_bytes(bytes: &[u8]) -> bool
+    ensures { result ≡ list_all is_name_byte bytes.now }
+{
+    bytes.iter().all(|b| is_name_byte(*b))
+}
+
+/// Whether the bytes may name a service (`ServiceManager.cpp`, `isValidServiceName`): 1 to 127 bytes,
+/// each an ASCII letter, a digit, `_`, `-`, `.` or `/`.
+pub fn valid_name(name: &[u8]) -> bool
+    ensures { result ≡ is_valid_name name.now }
+{
+    if name.is_empty() || name.len() > LONGEST_NAME {
+        return false;
+    }
+    all_name_bytes(name)
+}

@@ -1,0 +1,68 @@
+//! The references of a call.
+
+ghost use Rattle.std.specs.Prelude.{◌≡◌, ◌≤◌, ◌<◌, length, IfOk, OnOk};
+
+use crate::number::ObjRef;
+use std::alloc::{AllocError, Global};
+use std::marker::Model;
+use thiserror::Error;
+
+const MOST: usize = 16;
+
+/// The references that a call passes, at most 16, in order.
+#[derive(Debug)]
+pub struct Refs {
+    list: Vec<ObjRef>,
+}
+
+/// Why references make no list for a call.
+#[derive(Clone, Copy, Debug, PartialEq, Eq, Error)]
+pub enum RefsError {
+    /// There are more than 16 references.
+    #[error("more than 16 references")]
+    TooLong,
+    #[error("out of memory")]
+    Memory,
+}
+
+impl Model for Refs {
+    ghost use Rattle.std.specs.Prelude.{List, ◌≤◌, length};
+    ghost use Rattle.sm_kinds.specs.declared.number.ObjRef.{ObjRef};
+
+    ghost Value = { List ObjRef };
+
+    ghost view = { λ r. r.list.items };
+
+    ghost invariant = { λ r. length r.list.items ≤ 16 };
+}
+
+impl Drop for Refs {
+    fn drop(self) {
+        let Refs { list: _ } = self;
+    }
+}
+
+impl Refs {
+    ghost use Rattle.sm_kinds.specs.declared.refs.RefsError.TheVariants.{TooLong};
+
+    pub fn new(alloc: Global, list: &[ObjRef]) -> Result<Refs, RefsError>
+        ensures value { IfOk result (λ r. r ≡ list.now) }
+        ensures fits { OnOk result (length list.now ≤ 16) }
+        ensures long { 16 < length list.now → result ≡ Err TooLong }
+        ensures only_long { result ≡ Err TooLong → 16 < length list.now }
+    {
+        if list.len() > MOST {
+            return Err(RefsError::TooLong);
+        }
+        match Vec::from_slice(alloc, list) {
+            Ok(list) => Ok(Refs { list }),
+            Err(_) => Err(RefsError::Memory),
+        }
+    }
+
+    pub fn list(&self) -> &[ObjRef]
+        ensures { result.now ≡ self.now }
+    {
+        self.list.as_slice()
+    }
+}

@@ -1,0 +1,5 @@
+pub mod Few
+pub mod Finding
+pub mod Firsts
+pub mod UndeclaredLines
+pub mod Untyped

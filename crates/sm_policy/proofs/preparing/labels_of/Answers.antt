@@ -1,0 +1,18 @@
+use Rattle.std.proofs.Common.{◌∙◌, refl}
+use Rattle.sm_policy.specs.Preparing.{labels_of}
+use Rattle.sm_policy.proofs.UndeclaredLines.{first_line}
+use Rattle.sm_policy.proofs.preparing.labels_of.Goals as goal
+
+pub returns-in-Some : goal.returns-in-Some
+unfolding labels_of
+returns-in-Some c = λ policy typed.
+    let read = c.in_ok-contexts.ensures.exact in
+    let line = c.in-Some.ensures policy typed ∙ first_line policy c.args.text.now c.in_ok-contexts.contexts read in
+    rw (read, ← line) refl
+
+pub returns-in-None : goal.returns-in-None
+unfolding labels_of
+returns-in-None c = λ policy typed.
+    let read = c.in_ok-contexts.ensures.exact in
+    let line = c.in-None.ensures policy typed ∙ first_line policy c.args.text.now c.in_ok-contexts.contexts read in
+    rw (read, ← line) refl

@@ -1,0 +1,56 @@
+//! The sizes of a policy.
+
+ghost use Rattle.std.specs.Prelude.{◌≡◌, ◌≤◌, length};
+ghost use Rattle.sm_ruletext.specs.Statements.{is_rule, rule_count};
+ghost use Rattle.sm_types.specs.Members.{IsOf};
+ghost use Rattle.sm_policy.specs.Counting as spec;
+
+use sm_contexts::Contexts;
+use sm_ruletext::{Statement, What};
+use sm_types::Types;
+
+/// What `svcmgr check` tells of a policy.
+#[derive(Clone, Copy, Debug, PartialEq, Eq)]
+pub struct Counts {
+    /// Declared types.
+    pub types: u32,
+    /// Declared attributes.
+    pub attributes: u32,
+    /// Allow and neverallow rules for the classes `service_manager` and `binder`.
+    pub rules: u32,
+    /// Distinct keys of the contexts text.
+    pub labels: u32,
+}
+
+fn is_rule(what: &What) -> bool
+    ensures { result ≡ is_rule what.now }
+{
+    matches!(what, What::Allow(_) | What::Neverallow(_))
+}
+
+fn rule_count(statements: &[Statement]) -> u32
+    requires { length statements.now ≤ 4194304 }
+    ensures { result ≡ rule_count statements.now }
+{
+    let mut count: u32 = 0;
+    for statement in statements {
+        if is_rule(&statement.what) {
+            count += 1;
+        }
+    }
+    count
+}
+
+/// The sizes of a policy, whose types these are.
+pub fn counted(statements: &[Statement], types: &Types, contexts: &Contexts) -> Counts
+    requires few { length statements.now ≤ 4194304 }
+    requires typed { IsOf statements.now types.now }
+    ensures { result ≡ spec.counted statements.now contexts.now }
+{
+    Counts {
+        types: types.count() as u32,
+        attributes: types.attribute_count() as u32,
+        rules: rule_count(statements),
+        labels: contexts.count(),
+    }
+}

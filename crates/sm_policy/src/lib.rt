@@ -1,0 +1,20 @@
+//! Policies that were read and found good: the rules and the labels that servicemanager decides by.
+#![tactic(auto)]
+
+mod counts;
+mod fault;
+mod parts;
+mod prepared;
+mod preparing;
+mod refused;
+mod snapshot;
+#[cfg(test)]
+mod tests;
+mod violation;
+
+pub use counts::Counts;
+pub use fault::PolicyFault;
+pub use prepared::Prepared;
+pub use refused::refused_text;
+pub use snapshot::Snapshot;
+pub use violation::Violation;

@@ -1,0 +1,98 @@
+//! A policy that was read.
+
+use crate::PolicyFault;
+use crate::counts::Counts;
+use crate::parts::Parts;
+use sm_kinds::{Class, Context, Perms};
+use std::alloc::{AllocError, Global};
+use std::marker::Model;
+use std::sync::Arc;
+
+/// A policy, of which all owners share one copy. Contracts see the statements of its rule text and the
+/// entries of its contexts text.
+pub struct Prepared {
+    parts: Arc<Parts, Global>,
+}
+
+impl Model for Prepared {
+    ghost use Rattle.sm_policy.specs.Policy.{Policy};
+
+    ghost Value = { Policy };
+
+    ghost use Rattle.std.specs.Arc.{arc_value};
+
+    ghost view = { λ p. arc_value p.parts };
+
+    ghost use Rattle.sm_policy.specs.Policy.{IsConsistent};
+
+    ghost invariant = { λ p. IsConsistent (arc_value p.parts) };
+}
+
+impl Drop for Prepared {
+    fn drop(self) {
+        let Prepared { parts: _ } = self;
+    }
+}
+
+impl Prepared {
+    ghost use Rattle.std.specs.Prelude.{◌≡◌, IfOk};
+    ghost use Rattle.sm_policy.specs.Policy.{allowed, label_of, written_at, IsConsistent};
+    ghost use Rattle.sm_policy.specs.Counting.{counts_of};
+    ghost use Rattle.sm_policy.specs.Preparing.{Gives, prepared};
+
+    /// The policy of a rule text and a contexts text.
+    ///
+    /// # Errors
+    ///
+    /// The first refusal in this order: the grammar of the rule text (`Rules`); its declarations and memberships
+    /// (`Types`); the names and permissions of its rules (`Access`); the contexts text (`Contexts`); the first entry
+    /// line whose context has a type that the rule text doesn't declare (`UndeclaredLabel`); the first neverallow
+    /// rule that an allow rule breaks (`Neverallow`). `Memory` where memory was refused, in place of what would follow.
+    pub fn from_texts(alloc: Global, rules: &[u8], contexts: &[u8]) -> Result<Prepared, PolicyFault>
+        ensures exact { Gives (λ p. p) result (prepared rules.now contexts.now) }
+        ensures consistent { IfOk result IsConsistent }
+    {
+        let parts = Parts::from_texts(alloc, rules, contexts)?;
+        let parts = Arc::new(alloc, parts)?;
+        Ok(Prepared { parts })
+    }
+
+    /// Whether some allow rule gives the source type this permission on the target type. Types are given by
+    /// their names. `false` for a type that isn't declared and for a `perm` that is no single permission of
+    /// the class.
+    pub fn allows(&self, source: &[u8], target: &[u8], class: Class, perm: Perms) -> bool
+        ensures { result ≡ allowed self.now source.now target.now class perm }
+    {
+        self.why(source, target, class, perm).is_some()
+    }
+
+    /// The line of the first allow rule that gives it.
+    pub fn why(&self, source: &[u8], target: &[u8], class: Class, perm: Perms) -> Option<u32>
+        ensures { result ≡ written_at self.now source.now target.now class perm }
+    {
+        self.parts.why(source, target, class, perm)
+    }
+
+    /// The context of a name's service: the one on the line with this key, else the one on the line `*`.
+    pub fn label(&self, name: &[u8]) -> &Context
+        ensures { result.now ≡ label_of self.now name.now }
+    {
+        self.parts.label(name)
+    }
+
+    /// What `svcmgr check` tells of the policy.
+    pub fn counts(&self) -> Counts
+        ensures { result ≡ counts_of self.now }
+    {
+        self.parts.counts()
+    }
+
+    /// One more owner of the same policy. `Err`: no more owners fit.
+    pub fn share(&self) -> Result<Prepared, AllocError>
+        ensures same { IfOk result (λ p. p ≡ self.now) }
+        ensures consistent { IsConsistent self.now }
+    {
+        let parts = Arc::try_clone(&self.parts)?;
+        Ok(Prepared { parts })
+    }
+}

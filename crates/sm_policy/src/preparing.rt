@@ -1,0 +1,111 @@
+//! Reads the two texts of a policy.
+
+ghost use Rattle.std.specs.Prelude.{◌≡◌, ◌≤◌, List, IfOk, OnOk, length, slice_get};
+ghost use Rattle.sm_ruletext.specs.declared.statement.Statement.{Statement as TheStatement};
+ghost use Rattle.sm_types.specs.Members.{IsOf};
+ghost use Rattle.sm_types.specs.Names.{at};
+ghost use Rattle.sm_rules.specs.Access.{IsConsistent};
+ghost use Rattle.sm_rules.specs.Keeping.{RulesOf};
+ghost use Rattle.sm_policy.specs.Preparing as spec;
+ghost use Rattle.sm_policy.specs.Preparing.{Gives};
+ghost use Rattle.sm_policy.specs.Undeclared.{first_undeclared, undeclared_line};
+ghost use Rattle.sm_policy.specs.Violating.{named_violation};
+
+use crate::{PolicyFault, Violation};
+use sm_contexts::Contexts;
+use sm_kinds::Name;
+use sm_rules::Rules;
+use sm_ruletext::Statement;
+use sm_types::Types;
+use std::alloc::{AllocError, Global};
+
+/// The statements of a rule text.
+#[tactic(auto, unfolding(crate::specs::Preparing::rules_of))]
+pub fn rules_of(alloc: Global, text: &[u8]) -> Result<Vec<Statement>, PolicyFault>
+    ensures exact { Gives (λ v. v.items) result (spec.rules_of text.now) }
+    ensures few { IfOk result (λ v. length v.items ≤ 4194304) }
+{
+    let statements = sm_ruletext::read(alloc, text)?;
+    Ok(statements)
+}
+
+/// The line of an entry, if its type isn't declared.
+fn undeclared_line(types: &Types, contexts: &Contexts, i: u32) -> Option<u32>
+    ensures { (policy : List TheStatement) → IsOf policy types.now
+        → result ≡ undeclared_line policy (slice_get contexts.now i) }
+{
+    let (line, context) = contexts.entry(i)?;
+    match types.index(context.type_name()) {
+        Some(_) => None,
+        None => Some(line),
+    }
+}
+
+/// The first entry line whose type isn't declared.
+fn first_undeclared(types: &Types, contexts: &Contexts) -> Option<u32>
+    ensures { (policy : List TheStatement) → IsOf policy types.now
+        → result ≡ first_undeclared policy contexts.now }
+{
+    for i in 0..contexts.count() {
+        if let Some(line) = undeclared_line(types, contexts, i) {
+            return Some(line);
+        }
+    }
+    None
+}
+
+/// The labels of a contexts text.
+#[tactic(auto, unfolding(crate::specs::Preparing::labels_of))]
+pub fn labels_of(alloc: Global, types: &Types, text: &[u8]) -> Result<Contexts, PolicyFault>
+    ensures { (policy : List TheStatement) → IsOf policy types.now
+        → Gives (λ c. c) result (spec.labels_of policy text.now) }
+{
+    let contexts = Contexts::read(alloc, text)?;
+    match first_undeclared(types, &contexts) {
+        Some(line) => Err(PolicyFault::UndeclaredLabel(line)),
+        None => Ok(contexts),
+    }
+}
+
+/// The name of a type by its number, empty where there is none.
+fn type_name(types: &Types, index: u16) -> &[u8]
+    ensures { result.now ≡ at types.now.symbols.types index }
+{
+    match types.name(index) {
+        Some(name) => name,
+        None => b"",
+    }
+}
+
+/// A violation with the names of its types.
+fn named(
+    alloc: Global,
+    types: &Types,
+    violation: &sm_rules::Violation,
+) -> Result<Violation, AllocError>
+    ensures { IfOk result (λ v. v ≡ named_violation types.now.symbols.types violation.now) }
+{
+    let source = Name::new(alloc, type_name(types, violation.source))?;
+    let target = Name::new(alloc, type_name(types, violation.target))?;
+    Ok(Violation {
+        never_line: violation.never_line,
+        allow_line: violation.allow_line,
+        source,
+        target,
+        class: violation.class,
+        perm: violation.perm,
+    })
+}
+
+/// Refuses rules of which an allow rule allows what a neverallow rule forbids.
+pub fn refuse_violation(alloc: Global, types: &Types, rules: &Rules) -> Result<(), PolicyFault>
+    ensures exact { (policy : List TheStatement) → IsOf policy types.now → RulesOf policy types.now.symbols.types rules.now
+        → Gives (λ _. policy) result (spec.unbroken policy) }
+    ensures consistent { OnOk result ((policy : List TheStatement) → IsOf policy types.now
+        → RulesOf policy types.now.symbols.types rules.now → IsConsistent policy) }
+{
+    match rules.first_violation(alloc)? {
+        Some(violation) => Err(PolicyFault::Neverallow(named(alloc, types, &violation)?)),
+        None => Ok(()),
+    }
+}

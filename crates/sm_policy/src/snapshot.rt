@@ -1,0 +1,74 @@
+//! A policy in force.
+
+use crate::Prepared;
+use sm_kinds::{Class, Context, Perms};
+use std::marker::Model;
+
+/// A policy with its version: the number of the `Open` and `Reload` entries up to the one that brought it.
+pub struct Snapshot {
+    prepared: Prepared,
+    version: u64,
+}
+
+impl Model for Snapshot {
+    ghost use Rattle.sm_policy.specs.Policy.{Versioned};
+
+    ghost Value = { Versioned };
+
+    ghost view = { λ s. record { policy = s.prepared; number = s.version } };
+}
+
+impl Drop for Snapshot {
+    fn drop(self) {
+        let Snapshot {
+            prepared: _,
+            version: _,
+        } = self;
+    }
+}
+
+impl Snapshot {
+    ghost use Rattle.std.specs.Prelude.{◌≡◌};
+    ghost use Rattle.sm_kinds.specs.Contexts.{type_of};
+    ghost use Rattle.sm_policy.specs.Policy.{allowed, label_of, written_at};
+
+    pub fn new(prepared: Prepared, version: u64) -> Snapshot
+        ensures { result ≡ record { policy = prepared; number = version } }
+    {
+        Snapshot { prepared, version }
+    }
+
+    pub fn version(&self) -> u64
+        ensures { result ≡ self.now.number }
+    {
+        self.version
+    }
+
+    /// The context of a name's service.
+    pub fn label(&self, name: &[u8]) -> &Context
+        ensures { result.now ≡ label_of self.now.policy name.now }
+    {
+        self.prepared.label(name)
+    }
+
+    /// The type in that context.
+    pub fn label_type(&self, name: &[u8]) -> &[u8]
+        ensures { result.now ≡ type_of (label_of self.now.policy name.now) }
+    {
+        self.label(name).type_name()
+    }
+
+    /// Whether some allow rule gives the source type this permission on the target type.
+    pub fn allows(&self, source: &[u8], target: &[u8], class: Class, perm: Perms) -> bool
+        ensures { result ≡ allowed self.now.policy source.now target.now class perm }
+    {
+        self.prepared.allows(source, target, class, perm)
+    }
+
+    /// The line of the first allow rule that gives it.
+    pub fn why(&self, source: &[u8], target: &[u8], class: Class, perm: Perms) -> Option<u32>
+        ensures { result ≡ written_at self.now.policy source.now target.now class perm }
+    {
+        self.prepared.why(source, target, class, perm)
+    }
+}

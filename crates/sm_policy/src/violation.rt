@@ -1,0 +1,30 @@
+//! A neverallow rule that an allow rule breaks.
+
+use sm_kinds::{Class, Name, Perms};
+
+/// The first thing that a neverallow rule forbids and an allow rule allows, with the names of its types.
+#[derive(Debug)]
+pub struct Violation {
+    /// The line of the neverallow rule.
+    pub never_line: u32,
+    /// The line of the allow rule.
+    pub allow_line: u32,
+    pub source: Name,
+    pub target: Name,
+    pub class: Class,
+    /// A single permission of the class.
+    pub perm: Perms,
+}
+
+impl Drop for Violation {
+    fn drop(self) {
+        let Violation {
+            never_line: _,
+            allow_line: _,
+            source: _,
+            target: _,
+            class: _,
+            perm: _,
+        } = self;
+    }
+}

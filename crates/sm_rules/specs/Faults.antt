@@ -1,0 +1,71 @@
+-- What makes a rule be refused.
+use Rattle.std.specs.Prelude.{ℕ, Bool, not, ◌&&◌, ◌||◌, if◌then◌else◌, List, [], ◌∷◌, Option, Some, None, is_some}
+use Rattle.std.specs.List.{list_all}
+use Rattle.sm_kinds.specs.Permissions.{class_word, class_read, is_permission}
+use Rattle.sm_kinds.specs.declared.class.Class.TheVariants.{ServiceManager, Binder}
+use Rattle.sm_ruletext.specs.Sets.{selects, is_kept}
+use Rattle.sm_ruletext.specs.declared.set.Set.{Set}
+use Rattle.sm_ruletext.specs.declared.rule.Rule.{Rule}
+use Rattle.sm_ruletext.specs.declared.statement.What.{What}
+use Rattle.sm_ruletext.specs.declared.statement.What.TheVariants.{Attribute, Declared, Member, Allow, Neverallow}
+use Rattle.sm_ruletext.specs.declared.statement.Statement.{Statement}
+use Rattle.sm_types.specs.Names.{Name}
+use Rattle.sm_types.specs.Denoting.{Policy, all_known}
+use Rattle.sm_rules.specs.declared.fault.RulesFault.{RulesFault}
+use Rattle.sm_rules.specs.declared.fault.RulesFault.TheVariants.{Unknown, UnknownPermission, Memory}
+
+-- The word is one of the two classes.
+abbrev pub is_class : Name → Bool
+is_class word = is_some (class_read word)
+
+-- The class set has `*`, `~` or the name of another class.
+unfoldable pub is_open : Set → Bool
+is_open set = (set.all || set.complement) || not (list_all is_class set.plus && list_all is_class set.minus)
+
+-- Some selected class has the permission.
+unfoldable pub applies : Rule → Name → Bool
+applies rule word =
+    (selects rule.class (class_word ServiceManager) && is_permission ServiceManager word)
+    || (selects rule.class (class_word Binder) && is_permission Binder word)
+
+-- In a class set that isn't open, each permission is one of a selected class.
+unfoldable pub perms_known : Rule → Bool
+perms_known rule =
+    is_open rule.class || (list_all (applies rule) rule.perm.plus && list_all (applies rule) rule.perm.minus)
+
+-- First the names of types and attributes, then those of permissions.
+unfoldable pub rule_fault : Policy → ℕ → Rule → Option RulesFault
+rule_fault policy line rule =
+    if not (all_known policy rule.source && all_known policy rule.target) then Some (Unknown line)
+    else if not (perms_known rule) then Some (UnknownPermission line)
+    else None
+
+-- Rules that aren't kept are not looked at.
+abbrev pub fault_if_kept : Policy → ℕ → Rule → Option RulesFault
+fault_if_kept policy line rule = if is_kept rule then rule_fault policy line rule else None
+
+abbrev pub fault_of : Policy → ℕ → What → Option RulesFault
+fault_of policy line (Allow r) = fault_if_kept policy line r
+fault_of policy line (Neverallow r) = fault_if_kept policy line r
+fault_of policy line (Attribute n) = None
+fault_of policy line (Declared n names) = None
+fault_of policy line (Member n names) = None
+
+abbrev pub or_else : Option RulesFault → Option RulesFault → Option RulesFault
+or_else (Some e) other = Some e
+or_else None other = other
+
+-- The first fault of these statements of the policy, in their order.
+unfoldable pub fault_among : Policy → List Statement → Option RulesFault
+fault_among policy [] = None
+fault_among policy (st ∷ sts) = or_else (fault_of policy st.line st.what) (fault_among policy sts)
+
+-- The first fault of the policy's rules, in the order of the text.
+abbrev pub first_fault : Policy → Option RulesFault
+first_fault policy = fault_among policy policy
+
+-- A claim on a refusal other than for want of memory.
+abbrev pub UnlessMemory : RulesFault → Type 0 → Type 0
+UnlessMemory Memory P = Unit {0}
+UnlessMemory (Unknown line) P = P
+UnlessMemory (UnknownPermission line) P = P

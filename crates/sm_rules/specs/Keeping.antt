@@ -1,0 +1,129 @@
+-- Rules as they are kept: types by their numbers, permissions by their bits.
+use Rattle.std.specs.Prelude.{◌≡◌, ℕ, Bool, ◌&&◌, ◌||◌, ◌==◌, ◌<◌, ◌≤◌, ◌+◌, ◌/◌, ◌^◌, nat_eq, nat_lt, false, if◌then◌else◌, List, [], ◌∷◌, ◌++◌, length, find, option_map, Option, Some, None, All}
+use Rattle.std.specs.Int.{bit_at}
+use Rattle.std.specs.List.{list_any, filter_map}
+use Rattle.sm_bits.specs.Bits.{has}
+use Rattle.sm_kinds.specs.Permissions.{bit}
+use Rattle.sm_kinds.specs.declared.class.Class.{Class}
+use Rattle.sm_kinds.specs.declared.class.Class.TheVariants.{ServiceManager, Binder}
+use Rattle.sm_kinds.specs.declared.perms.Perms.{Perms}
+use Rattle.sm_ruletext.specs.Sets.{is_kept}
+use Rattle.sm_ruletext.specs.declared.rule.Rule.{Rule}
+use Rattle.sm_ruletext.specs.declared.statement.What.{What}
+use Rattle.sm_ruletext.specs.declared.statement.What.TheVariants.{Attribute, Declared, Member, Allow, Neverallow}
+use Rattle.sm_types.specs.Names.{Name, at, Distinct}
+use Rattle.sm_types.specs.Denoting.{Policy, in_set, types}
+use Rattle.sm_rules.specs.Access.{gives}
+use Rattle.sm_rules.specs.declared.kept.Kept.{Kept}
+
+-- ---- permissions by number, from 0 to 6, in the order of their bits
+
+-- Whether bit b of a byte is 1.
+unfoldable pub has_bit : ℕ → ℕ → Bool
+has_bit byte b = bit_at byte b == 1
+
+abbrev pub class_at : ℕ → Class
+class_at b = if nat_lt b 3 then ServiceManager else Binder
+
+abbrev pub perm_at : ℕ → Perms
+perm_at b =
+    if b == 0 then bit 1
+    else if b == 1 then bit 2
+    else if b == 2 then bit 4
+    else if b == 3 then bit 8
+    else if b == 4 then bit 16
+    else if b == 5 then bit 32
+    else bit 64
+
+-- ---- what kept rules cover, for permission b, source s and target t
+
+abbrev pub joins : ℕ → ℕ → Kept → Bool
+joins s t rule = has rule.sources s && (has rule.targets t || (rule.to_self && nat_eq s t))
+
+abbrev pub covers : ℕ → ℕ → ℕ → Kept → Bool
+covers b s t rule = joins s t rule && has_bit rule.perms.0 b
+
+-- The line of the first rule that covers it.
+abbrev pub covered_line : List Kept → ℕ → ℕ → ℕ → Option ℕ
+covered_line rules b s t = option_map (λ r. r.line) (find (covers b s t) rules)
+
+-- Some rule covers it.
+abbrev pub covered : List Kept → ℕ → ℕ → ℕ → Bool
+covered rules b s t = list_any (covers b s t) rules
+
+-- The rows of a rule have room for each type, and no number past the types.
+pub record FitsRule (count : ℕ) (rule : Kept) : Type 0 where
+  pub sources : length rule.sources ≡ count / 64 + 1
+  pub targets : length rule.targets ≡ count / 64 + 1
+  pub sources_past : (i : ℕ) → count ≤ i → has rule.sources i ≡ false
+  pub targets_past : (i : ℕ) → count ≤ i → has rule.targets i ≡ false
+
+pub record FitsRules (count : ℕ) (allows neverallows : List Kept) : Type 0 where
+  pub allowing : All (FitsRule count) allows
+  pub forbidding : All (FitsRule count) neverallows
+
+-- What is true of the parts of all rules that are built.
+pub record IsSound (count : ℕ) (allows neverallows : List Kept) : Type 0 where
+  pub small : count ≤ 4096
+  pub few : length allows + length neverallows < 2 ^ 64
+  pub fits : FitsRules count allows neverallows
+
+-- ---- the rules of a text, and those that are kept for them
+
+abbrev pub kept_only : ℕ → Rule → Option (ℕ × Rule)
+kept_only line rule = if is_kept rule then Some (line, rule) else None
+
+abbrev pub allow_in : ℕ → What → Option (ℕ × Rule)
+allow_in line (Allow r) = kept_only line r
+allow_in line (Neverallow r) = None
+allow_in line (Attribute n) = None
+allow_in line (Declared n names) = None
+allow_in line (Member n names) = None
+
+abbrev pub neverallow_in : ℕ → What → Option (ℕ × Rule)
+neverallow_in line (Neverallow r) = kept_only line r
+neverallow_in line (Allow r) = None
+neverallow_in line (Attribute n) = None
+neverallow_in line (Declared n names) = None
+neverallow_in line (Member n names) = None
+
+-- The allow rules of a text, and its neverallow rules, each behind its line.
+abbrev pub allow_rules : Policy → List (ℕ × Rule)
+allow_rules policy = filter_map (λ st. allow_in st.line st.what) policy
+
+abbrev pub neverallow_rules : Policy → List (ℕ × Rule)
+neverallow_rules policy = filter_map (λ st. neverallow_in st.line st.what) policy
+
+-- The kept rule says of the types by number what the rule of the policy says of them by name.
+pub record StandsFor (policy : Policy) (names : List Name) (written : ℕ × Rule) (kept : Kept) : Type 0 where
+  pub line : kept.line ≡ written.0
+  pub sources : (i : ℕ) → i < length names → has kept.sources i ≡ in_set policy written.1.source (at names i)
+  pub targets : (i : ℕ) → i < length names → has kept.targets i ≡ in_set policy written.1.target (at names i)
+  pub to_self : kept.to_self ≡ written.1.to_self
+  pub perms : (b : ℕ) → b < 7 → has_bit kept.perms.0 b ≡ gives (class_at b) (perm_at b) written.1
+
+-- The kept rules stand for those rules, one for each, in order.
+abbrev pub AllStandFor : Policy → List Name → List (ℕ × Rule) → List Kept → Type 0
+AllStandFor policy names [] [] = Unit {0}
+AllStandFor policy names (r ∷ rs) (k ∷ ks) = StandsFor policy names r k × AllStandFor policy names rs ks
+AllStandFor policy names [] (k ∷ ks) = ⊥
+AllStandFor policy names (r ∷ rs) [] = ⊥
+
+-- The list goes on by a kept rule that stands for this one, if there is one.
+abbrev pub Extends : Policy → List Name → Option (ℕ × Rule) → List Kept → List Kept → Type 0
+Extends policy names None old new = new ≡ old
+Extends policy names (Some rule) old new = (kept : Kept) × StandsFor policy names rule kept × (new ≡ old ++ kept ∷ [])
+
+-- What contracts see of the rules: the number of types, the allow rules and the neverallow rules.
+pub record KeptRules : Type 0 where
+  pub count : ℕ
+  pub allows : List Kept
+  pub neverallows : List Kept
+
+-- The rules are those of the policy, whose types have these names.
+pub record RulesOf (policy : Policy) (names : List Name) (rules : KeptRules) : Type 0 where
+  pub types : names ≡ types policy
+  pub distinct : Distinct names
+  pub count : rules.count ≡ length names
+  pub allows : AllStandFor policy names (allow_rules policy) rules.allows
+  pub neverallows : AllStandFor policy names (neverallow_rules policy) rules.neverallows

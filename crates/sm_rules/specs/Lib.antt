@@ -1,0 +1,5 @@
+pub mod Access
+pub mod Faults
+pub mod Keeping
+pub mod Matrices
+pub mod Violating

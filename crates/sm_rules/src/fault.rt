@@ -1,0 +1,34 @@
+//! Why the rules of a rule text were refused.
+
+ghost use Rattle.std.specs.Prelude.{◌≡◌};
+ghost use Rattle.sm_rules.specs.declared.fault.RulesFault.TheVariants.{Memory};
+
+use std::alloc::{AllocError, AllocFailed};
+
+/// The first fault of the rules.
+#[derive(Clone, Copy, Debug, PartialEq, Eq)]
+pub enum RulesFault {
+    /// The source or the target of the rule at this line has a name that isn't declared.
+    Unknown(u32),
+    /// The rule at this line has a permission that none of its classes has, and its class set
+    /// has neither `*` nor `~` nor the name of another class.
+    UnknownPermission(u32),
+    /// Memory was refused.
+    Memory,
+}
+
+impl From<AllocError> for RulesFault {
+    ghost from_gives = { λ _ e. e ≡ Memory };
+
+    fn from(_e: AllocError) -> RulesFault {
+        RulesFault::Memory
+    }
+}
+
+impl<T: Drop> From<AllocFailed<T>> for RulesFault {
+    ghost from_gives = { λ _ e. e ≡ Memory };
+
+    fn from(_e: AllocFailed<T>) -> RulesFault {
+        RulesFault::Memory
+    }
+}

@@ -1,0 +1,149 @@
+//! A rule whose sets are expanded.
+
+ghost use Rattle.std.specs.Prelude.{◌≡◌, ◌<◌, ◌≤◌, ◌+◌, ◌/◌, ◌*◌, ℕ, List, length, nat_eq, IfOk, IfErr, Some, None, true, false};
+ghost use Rattle.std.specs.List.{list_all};
+ghost use Rattle.sm_bits.specs.Bits.{has};
+ghost use Rattle.sm_ruletext.specs.declared.statement.Statement.{Statement as TheStatement};
+ghost use Rattle.sm_types.specs.Names.{at};
+ghost use Rattle.sm_types.specs.Denoting.{in_set, all_known};
+ghost use Rattle.sm_types.specs.Members.{IsOf};
+ghost use Rattle.sm_rules.specs.Faults as spec;
+ghost use Rattle.sm_rules.specs.Faults.{UnlessMemory, rule_fault};
+ghost use Rattle.sm_rules.specs.Keeping.{has_bit, joins, covers, FitsRule, StandsFor};
+ghost use Rattle.sm_rules.specs.declared.fault.RulesFault.TheVariants.{Unknown};
+
+use crate::RulesFault;
+use crate::perm_bits::{has_bit, perms_of};
+use sm_bits::BitRow;
+use sm_kinds::{Class, Names, Perms};
+use sm_ruletext::{Rule, Set};
+use sm_types::{Types, TypesFault};
+use std::alloc::Global;
+
+/// A kept rule: its types as bits by their numbers, its permissions as bits.
+pub struct Kept {
+    /// The line of its statement.
+    pub line: u32,
+    pub sources: BitRow,
+    pub targets: BitRow,
+    /// `self` stands in its target: each source is a target of its own.
+    pub to_self: bool,
+    /// The permissions that it gives, each of a class that it selects.
+    pub perms: Perms,
+}
+
+impl Drop for Kept {
+    fn drop(self) {
+        let Kept {
+            line: _,
+            sources: _,
+            targets: _,
+            to_self: _,
+            perms: _,
+        } = self;
+    }
+}
+
+impl Kept {
+    /// Whether the rule joins the two types.
+    pub fn joins(&self, s: usize, t: usize) -> bool
+        requires source { s < 64 * length self.now.sources }
+        requires target { t < 64 * length self.now.targets }
+        ensures { result ≡ joins s t self.now }
+    {
+        self.sources.has(s) && (self.targets.has(t) || (self.to_self && s == t))
+    }
+
+    /// Whether the rule gives permission `bit` on the two types.
+    pub fn covers(&self, bit: u32, s: usize, t: usize) -> bool
+        requires bit { bit < 8 }
+        requires source { s < 64 * length self.now.sources }
+        requires target { t < 64 * length self.now.targets }
+        ensures { result ≡ covers bit s t self.now }
+    {
+        self.joins(s, t) && has_bit(self.perms.0, bit)
+    }
+}
+
+fn all_classes(names: &Names) -> bool
+    ensures { result ≡ list_all spec.is_class names.now }
+{
+    names
+        .list()
+        .iter()
+        .all(|name| Class::read(name.bytes()).is_some())
+}
+
+#[tactic(auto, unfolding(crate::specs::Faults::is_open))]
+fn is_open(set: &Set) -> bool
+    ensures { result ≡ spec.is_open set.now }
+{
+    (set.all || set.complement) || !(all_classes(&set.plus) && all_classes(&set.minus))
+}
+
+#[tactic(auto, unfolding(crate::specs::Faults::applies))]
+fn applies(rule: &Rule, word: &[u8]) -> bool
+    ensures { result ≡ spec.applies rule.now word.now }
+{
+    (rule.class.selects(b"service_manager") && Perms::read(Class::ServiceManager, word).is_some())
+        || (rule.class.selects(b"binder") && Perms::read(Class::Binder, word).is_some())
+}
+
+fn all_apply(rule: &Rule, names: &Names) -> bool
+    ensures { result ≡ list_all (spec.applies rule.now) names.now }
+{
+    names.list().iter().all(|name| applies(rule, name.bytes()))
+}
+
+#[tactic(auto, unfolding(crate::specs::Faults::perms_known))]
+fn perms_known(rule: &Rule) -> bool
+    ensures { result ≡ spec.perms_known rule.now }
+{
+    is_open(&rule.class) || (all_apply(rule, &rule.perm.plus) && all_apply(rule, &rule.perm.minus))
+}
+
+/// The types of a set of the rule at a line.
+fn expand(alloc: Global, types: &Types, line: u32, set: &Set) -> Result<BitRow, RulesFault>
+    ensures room { IfOk result (λ row. length row ≡ length types.now.symbols.types / 64 + 1) }
+    ensures denoted { IfOk result (λ row. (policy : List TheStatement) → IsOf policy types.now
+        → (i : ℕ) → i < length types.now.symbols.types
+        → has row i ≡ in_set policy set.now (at types.now.symbols.types i)) }
+    ensures past { IfOk result (λ row. (i : ℕ) → length types.now.symbols.types ≤ i
+        → has row i ≡ false) }
+    ensures known { IfOk result (λ row. (policy : List TheStatement) → IsOf policy types.now
+        → all_known policy set.now ≡ true) }
+    ensures unknown { IfErr result (λ e. UnlessMemory e ((e ≡ Unknown line)
+        × ((policy : List TheStatement) → IsOf policy types.now
+        → all_known policy set.now ≡ false))) }
+{
+    match types.expand(alloc, set) {
+        Ok(row) => Ok(row),
+        Err(TypesFault::Memory) => Err(RulesFault::Memory),
+        Err(_) => Err(RulesFault::Unknown(line)),
+    }
+}
+
+/// The rule at a line, with its sets expanded: first its source, then its target, then its permissions.
+#[tactic(auto, unfolding(crate::specs::Faults::rule_fault))]
+pub fn keep(alloc: Global, types: &Types, line: u32, rule: &Rule) -> Result<Kept, RulesFault>
+    ensures refused { IfErr result (λ e. UnlessMemory e ((policy : List TheStatement)
+        → IsOf policy types.now → rule_fault policy line rule.now ≡ Some e)) }
+    ensures accepted { IfOk result (λ k. (policy : List TheStatement) → IsOf policy types.now
+        → rule_fault policy line rule.now ≡ None) }
+    ensures stands { IfOk result (λ k. (policy : List TheStatement) → IsOf policy types.now
+        → StandsFor policy types.now.symbols.types (line, rule.now) k) }
+    ensures fits { IfOk result (λ k. FitsRule (length types.now.symbols.types) k) }
+{
+    let sources = expand(alloc, types, line, &rule.source)?;
+    let targets = expand(alloc, types, line, &rule.target)?;
+    if !perms_known(rule) {
+        return Err(RulesFault::UnknownPermission(line));
+    }
+    Ok(Kept {
+        line,
+        sources,
+        targets,
+        to_self: rule.to_self,
+        perms: perms_of(rule),
+    })
+}

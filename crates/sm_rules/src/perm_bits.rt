@@ -1,0 +1,99 @@
+//! The permissions of a rule as bits.
+
+ghost use Rattle.std.specs.Prelude.{◌≡◌, ℕ, ◌<◌, ◌≤◌, ◌&&◌, ◌||◌, nat_eq, IfSome, IfNone, false};
+ghost use Rattle.sm_kinds.specs.Permissions.{perm_of};
+ghost use Rattle.sm_rules.specs.Access.{gives};
+ghost use Rattle.sm_rules.specs.Keeping.{has_bit, class_at, perm_at};
+
+use crate::plain;
+use sm_kinds::{Class, Perms};
+use sm_ruletext::Rule;
+
+/// How many permissions there are, numbered from 0 in the order of their bits.
+pub const PERM_COUNT: u32 = 7;
+
+pub fn class_at(bit: u32) -> Class
+    ensures { result ≡ class_at bit }
+{
+    if bit < 3 {
+        Class::ServiceManager
+    } else {
+        Class::Binder
+    }
+}
+
+pub fn perm_at(bit: u32) -> Perms
+    ensures { result ≡ perm_at bit }
+{
+    match bit {
+        0 => Perms(1),
+        1 => Perms(2),
+        2 => Perms(4),
+        3 => Perms(8),
+        4 => Perms(16),
+        5 => Perms(32),
+        _ => Perms(64),
+    }
+}
+
+/// The number of a permission, if it is a single one of the class.
+pub fn number_of(class: Class, perm: Perms) -> Option<u32>
+    ensures some { IfSome result (λ b. (b < 7) × (class_at b ≡ class) × (perm_at b ≡ perm)) }
+    ensures none { IfNone result (perm_of class perm ≡ None) }
+{
+    match class {
+        Class::ServiceManager => match perm.0 {
+            1 => Some(0),
+            2 => Some(1),
+            4 => Some(2),
+            _ => None,
+        },
+        Class::Binder => match perm.0 {
+            8 => Some(3),
+            16 => Some(4),
+            32 => Some(5),
+            64 => Some(6),
+            _ => None,
+        },
+    }
+}
+
+#[tactic(auto, unfolding(crate::specs::Keeping::has_bit))]
+pub fn has_bit(byte: u8, bit: u32) -> bool
+    requires { bit < 8 }
+    ensures { result ≡ has_bit byte bit }
+{
+    byte >> bit & 1 == 1
+}
+
+fn with_bit(byte: u8, bit: u32) -> u8
+    requires { bit < 8 }
+    ensures { (b : ℕ) → has_bit result b ≡ (has_bit byte b || nat_eq b bit) }
+{
+    byte | 1 << bit
+}
+
+/// Adds a permission, if the rule gives it.
+fn with_perm(byte: u8, rule: &Rule, bit: u32) -> u8
+    requires { bit < 7 }
+    ensures { (b : ℕ) → has_bit result b ≡ (has_bit byte b || (nat_eq b bit
+        && gives (class_at bit) (perm_at bit) rule.now)) }
+{
+    if plain::gives(rule, class_at(bit), perm_at(bit)) {
+        with_bit(byte, bit)
+    } else {
+        byte
+    }
+}
+
+/// The permissions that a rule gives, each of a class that it selects.
+pub fn perms_of(rule: &Rule) -> Perms
+    ensures given { (b : ℕ) → b < 7 → has_bit result.0 b ≡ gives (class_at b) (perm_at b) rule.now }
+    ensures other { (b : ℕ) → 7 ≤ b → has_bit result.0 b ≡ false }
+{
+    let mut perms = 0u8;
+    for bit in 0..PERM_COUNT {
+        perms = with_perm(perms, rule, bit);
+    }
+    Perms(perms)
+}

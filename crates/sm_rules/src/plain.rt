@@ -1,0 +1,153 @@
+//! What a rule text allows, by a plain walk over its statements: the meaning of rules as a program.
+
+ghost use Rattle.std.specs.Prelude.{◌≡◌, option_map};
+ghost use Rattle.std.specs.List.{list_any};
+ghost use Rattle.sm_kinds.specs.Permissions.{perm_of};
+ghost use Rattle.sm_types.specs.Denoting as denoting;
+ghost use Rattle.sm_rules.specs.Access as spec;
+
+use sm_kinds::{Class, Names, Perms};
+use sm_ruletext::{Rule, Set, Statement, What};
+
+fn is_type_named(what: &What, name: &[u8]) -> bool
+    ensures { result ≡ denoting.is_type_named name.now what.now }
+{
+    match what {
+        What::Declared(n, _) => n.bytes() == name,
+        _ => false,
+    }
+}
+
+fn gives_attribute(what: &What, name: &[u8], attribute: &[u8]) -> bool
+    ensures { result ≡ denoting.gives_attribute name.now attribute.now what.now }
+{
+    match what {
+        What::Declared(n, names) => n.bytes() == name && names.contains(attribute),
+        What::Member(n, names) => n.bytes() == name && names.contains(attribute),
+        _ => false,
+    }
+}
+
+fn declares(statements: &[Statement], name: &[u8]) -> bool
+    ensures { result ≡ denoting.declares statements.now name.now }
+{
+    statements.iter().any(|s| is_type_named(&s.what, name))
+}
+
+fn has_attribute(statements: &[Statement], name: &[u8], attribute: &[u8]) -> bool
+    ensures { result ≡ denoting.has_attribute statements.now name.now attribute.now }
+{
+    statements
+        .iter()
+        .any(|s| gives_attribute(&s.what, name, attribute))
+}
+
+fn is_named(statements: &[Statement], name: &[u8], word: &[u8]) -> bool
+    ensures { result ≡ denoting.is_named statements.now name.now word.now }
+{
+    word == name || has_attribute(statements, name, word)
+}
+
+fn any_names(statements: &[Statement], name: &[u8], words: &Names) -> bool
+    ensures { result ≡ list_any (denoting.is_named statements.now name.now) words.now }
+{
+    words
+        .list()
+        .iter()
+        .any(|word| is_named(statements, name, word.bytes()))
+}
+
+#[tactic(auto, unfolding(sm_types::specs::Denoting::chosen))]
+fn in_set(statements: &[Statement], set: &Set, name: &[u8]) -> bool
+    ensures { result ≡ denoting.in_set statements.now set.now name.now }
+{
+    let among = (set.all || any_names(statements, name, &set.plus))
+        && !any_names(statements, name, &set.minus);
+    declares(statements, name) && (if set.complement { !among } else { among })
+}
+
+#[tactic(auto, unfolding(crate::specs::Access::joins))]
+fn joins(statements: &[Statement], rule: &Rule, source: &[u8], target: &[u8]) -> bool
+    ensures { result ≡ spec.joins statements.now source.now target.now rule.now }
+{
+    in_set(statements, &rule.source, source)
+        && (in_set(statements, &rule.target, target) || (rule.to_self && source == target))
+}
+
+/// The word of a single permission of the class.
+fn word_of(class: Class, perm: Perms) -> Option<&'static [u8]>
+    ensures { option_map (λ w. w.now) result ≡ perm_of class perm }
+{
+    match class {
+        Class::ServiceManager => match perm.0 {
+            1 => Some(b"add"),
+            2 => Some(b"find"),
+            4 => Some(b"list"),
+            _ => None,
+        },
+        Class::Binder => match perm.0 {
+            8 => Some(b"impersonate"),
+            16 => Some(b"call"),
+            32 => Some(b"set_context_mgr"),
+            64 => Some(b"transfer"),
+            _ => None,
+        },
+    }
+}
+
+#[tactic(auto, unfolding(crate::specs::Access::gives))]
+pub fn gives(rule: &Rule, class: Class, perm: Perms) -> bool
+    ensures { result ≡ spec.gives class perm rule.now }
+{
+    match word_of(class, perm) {
+        Some(word) => rule.class.selects(class.word()) && rule.perm.selects(word),
+        None => false,
+    }
+}
+
+fn covers(
+    statements: &[Statement],
+    rule: &Rule,
+    source: &[u8],
+    target: &[u8],
+    class: Class,
+    perm: Perms,
+) -> bool
+    ensures { result ≡ spec.covers statements.now source.now target.now class perm rule.now }
+{
+    joins(statements, rule, source, target) && gives(rule, class, perm)
+}
+
+fn allows(
+    statements: &[Statement],
+    statement: &Statement,
+    source: &[u8],
+    target: &[u8],
+    class: Class,
+    perm: Perms,
+) -> bool
+    ensures { result ≡ spec.allows statements.now source.now target.now class perm statement.now }
+{
+    match &statement.what {
+        What::Allow(rule) => covers(statements, rule, source, target, class, perm),
+        _ => false,
+    }
+}
+
+/// The line of the first allow rule that allows it, by names.
+///
+/// Slow: it walks over all statements for each name of each rule. The tables answer the same.
+pub fn written_plainly(
+    statements: &[Statement],
+    source: &[u8],
+    target: &[u8],
+    class: Class,
+    perm: Perms,
+) -> Option<u32>
+    ensures { result ≡ spec.written_line statements.now source.now target.now class perm }
+{
+    statements
+        .iter()
+        .find(|statement| allows(statements, statement, source, target, class, perm))
+        .map(|statement| statement.line)
+}

@@ -1,0 +1,199 @@
+use super::*;
+use sm_kinds::{Class, Perms};
+use sm_ruletext::{Statement, read};
+use sm_types::Types;
+use std::alloc::Global;
+use std::test::*;
+
+const POLICY: &[u8] = b"attribute domain;\n\
+    attribute binderuser;\n\
+    type servicemanager, domain;\n\
+    type system_server, domain, binderuser;\n\
+    type untrusted_app, domain, binderuser;\n\
+    type isolated_app, domain, binderuser;\n\
+    type activity_service;\n\
+    type default_android_service;\n\
+    allow servicemanager self:binder set_context_mgr;\n\
+    allow binderuser servicemanager:binder { call transfer };\n\
+    allow servicemanager binderuser:binder { call transfer };\n\
+    allow system_server activity_service:service_manager add;\n\
+    allow binderuser activity_service:service_manager find;\n\
+    allow system_server servicemanager:service_manager list;\n\
+    allow untrusted_app system_server:binder { call transfer };\n\
+    neverallow untrusted_app *:service_manager add;\n";
+
+fn fault(alloc: Global, text: &[u8]) -> Option<RulesFault> {
+    let statements = read(alloc, text).ok()?;
+    let types = Types::build(alloc, &statements).ok()?;
+    Rules::build(alloc, &statements, &types).err()
+}
+
+#[test]
+fn faults(rt: HostRuntime) {
+    let fault = |text: &[u8]| fault(rt.alloc(), text);
+    assert_eq!(rt;
+        fault(b"type a;\nallow a b:binder call;"),
+        Some(RulesFault::Unknown(2))
+    );
+    assert_eq!(rt;
+        fault(b"type a;\nallow a a:binder find;"),
+        Some(RulesFault::UnknownPermission(2))
+    );
+    assert_eq!(rt; fault(b"type a;\nallow a a:{ binder file } find;"), None);
+    assert_eq!(rt; fault(b"type a;\nallow a a:{ binder -file } find;"), None);
+    assert_eq!(rt;
+        fault(b"type a;\nallow a a:binder ~find;"),
+        Some(RulesFault::UnknownPermission(2))
+    );
+    assert_eq!(rt; fault(b"type a;\nallow x y:file read;"), None);
+    // The names of types come first within a rule, and the first rule before the second.
+    assert_eq!(rt;
+        fault(b"type a;\nallow a b:binder find;\nallow a a:binder x;"),
+        Some(RulesFault::Unknown(2))
+    );
+    assert_eq!(rt;
+        fault(b"type a;\nneverallow a a:binder x;\nallow a b:binder call;"),
+        Some(RulesFault::UnknownPermission(2))
+    );
+}
+
+fn line(
+    alloc: Global,
+    text: &[u8],
+    names: (&[u8], &[u8]),
+    class: Class,
+    perm: Perms,
+) -> Result<Option<u32>, &'static str> {
+    let statements = read(alloc, text).ok().ok_or("read")?;
+    let types = Types::build(alloc, &statements).ok().ok_or("types")?;
+    let rules = Rules::build(alloc, &statements, &types)
+        .ok()
+        .ok_or("rules")?;
+    let source = types.index(names.0).ok_or("source")?;
+    let target = types.index(names.1).ok_or("target")?;
+    let line = rules.written(source, target, class, perm);
+    let plain = written_plainly(&statements, names.0, names.1, class, perm);
+    let named = rules.written_by_name(&types, names.0, names.1, class, perm);
+    if line == plain && line == named {
+        Ok(line)
+    } else {
+        Err("the walks answer otherwise")
+    }
+}
+
+#[test]
+fn lines(rt: HostRuntime) -> Result<(), Fail> {
+    let line = |text: &[u8], source: &[u8], target: &[u8], class, perm| {
+        line(rt.alloc(), text, (source, target), class, perm)
+    };
+    let own = line(
+        POLICY,
+        b"servicemanager",
+        b"servicemanager",
+        Class::Binder,
+        Perms(32),
+    )?;
+    assert_eq!(rt; own, Some(9));
+    let none = line(
+        POLICY,
+        b"isolated_app",
+        b"isolated_app",
+        Class::Binder,
+        Perms(32),
+    )?;
+    assert_eq!(rt; none, None);
+    let find = line(
+        POLICY,
+        b"isolated_app",
+        b"activity_service",
+        Class::ServiceManager,
+        Perms(2),
+    )?;
+    assert_eq!(rt; find, Some(13));
+    // Two permissions are no single one, and a permission of the other class is none.
+    let both = line(
+        POLICY,
+        b"isolated_app",
+        b"servicemanager",
+        Class::Binder,
+        Perms(80),
+    )?;
+    assert_eq!(rt; both, None);
+    let other = line(
+        POLICY,
+        b"isolated_app",
+        b"activity_service",
+        Class::Binder,
+        Perms(2),
+    )?;
+    assert_eq!(rt; other, None);
+    let sets = b"attribute d;\ntype a, d;\ntype b;\nallow { * -a } ~d:binder *;\n";
+    assert_eq!(rt; line(sets, b"b", b"b", Class::Binder, Perms(8))?, Some(4));
+    assert_eq!(rt; line(sets, b"a", b"b", Class::Binder, Perms(8))?, None);
+    assert_eq!(rt; line(sets, b"b", b"a", Class::Binder, Perms(8))?, None);
+    // The attribute is given behind the rule that names it.
+    let later = b"attribute d;\ntype a;\nallow d d:binder call;\ntypeattribute a d;\n";
+    assert_eq!(rt; line(later, b"a", b"a", Class::Binder, Perms(16))?, Some(3));
+    Ok(())
+}
+
+#[test]
+fn own_pairs(rt: HostRuntime) -> Result<(), Fail> {
+    let text = b"type a;\ntype b;\nallow { a b } self:binder call;\n";
+    let line = |source: &[u8], target: &[u8]| {
+        line(rt.alloc(), text, (source, target), Class::Binder, Perms(16))
+    };
+    assert_eq!(rt; line(b"a", b"a")?, Some(3));
+    assert_eq!(rt; line(b"b", b"b")?, Some(3));
+    assert_eq!(rt; line(b"a", b"b")?, None);
+    Ok(())
+}
+
+fn violation(alloc: Global, text: &[u8]) -> Result<Option<Violation>, &'static str> {
+    let statements = read(alloc, text).ok().ok_or("read")?;
+    let types = Types::build(alloc, &statements).ok().ok_or("types")?;
+    let rules = Rules::build(alloc, &statements, &types)
+        .ok()
+        .ok_or("rules")?;
+    rules.first_violation(alloc).ok().ok_or("memory")
+}
+
+#[test]
+fn violations(rt: HostRuntime) -> Result<(), Fail> {
+    assert_eq!(rt; violation(rt.alloc(), POLICY)?, None);
+    let mut text = Vec::from_slice(rt.alloc(), POLICY)?;
+    text.extend_from_slice(b"allow untrusted_app activity_service:service_manager add;\n")?;
+    let broken = Violation {
+        never_line: 16,
+        allow_line: 17,
+        source: 2,
+        target: 4,
+        class: Class::ServiceManager,
+        perm: Perms(1),
+    };
+    assert_eq!(rt; violation(rt.alloc(), &text)?, Some(broken));
+    // The first neverallow rule that is broken, by the first allow rule, then the least of each.
+    let text = b"type a;\ntype b;\nallow b { b a }:binder { transfer call };\nallow * *:binder *;\n\
+        neverallow * *:service_manager *;\nneverallow { a b } *:binder { call transfer };\nneverallow * *:binder *;\n";
+    let broken = Violation {
+        never_line: 6,
+        allow_line: 3,
+        source: 1,
+        target: 0,
+        class: Class::Binder,
+        perm: Perms(16),
+    };
+    assert_eq!(rt; violation(rt.alloc(), text)?, Some(broken));
+    // `self` alone meets itself.
+    let text = b"type a;\ntype b;\nallow b self:binder call;\nneverallow * self:binder call;\n";
+    let broken = Violation {
+        never_line: 4,
+        allow_line: 3,
+        source: 1,
+        target: 1,
+        class: Class::Binder,
+        perm: Perms(16),
+    };
+    assert_eq!(rt; violation(rt.alloc(), text)?, Some(broken));
+    Ok(())
+}

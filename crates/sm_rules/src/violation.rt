@@ -1,0 +1,235 @@
+//! An allow rule that breaks a neverallow rule.
+
+ghost use Rattle.std.specs.Prelude.{◌≡◌, ◌<◌, ◌≤◌, ◌*◌, ℕ, List, length, ◌&&◌, ◌||◌, All, IsTrue, false, true, IfSome, IfNone, IfOk, Some, slice_get};
+ghost use Rattle.sm_bits.specs.Bits.{has};
+ghost use Rattle.sm_rules.specs.Keeping.{has_bit, joins, covers, FitsRule};
+ghost use Rattle.sm_rules.specs.Matrices.{row, matrix, AllCompiled};
+ghost use Rattle.sm_rules.specs.Violating.{both_join, IsApart, Meets, AreApart, IsBetween, IsFirstOf, IsFirstAmong, AllApart, AllSquare};
+ghost use Rattle.sm_rules.specs.declared.kept.Kept.{Kept as TheKept};
+
+use crate::Kept;
+use crate::matrix::{Matrix, matrices_of};
+use crate::perm_bits::{PERM_COUNT, class_at, has_bit, perm_at};
+use sm_kinds::{Class, Perms};
+use std::alloc::{AllocError, Global};
+
+/// The first tuple that a neverallow rule forbids and an allow rule allows.
+#[derive(Clone, Copy, Debug, PartialEq, Eq)]
+pub struct Violation {
+    /// The line of the neverallow rule.
+    pub never_line: u32,
+    /// The line of the allow rule.
+    pub allow_line: u32,
+    /// The source and the target, by the numbers of their types.
+    pub source: u16,
+    pub target: u16,
+    pub class: Class,
+    /// A single permission of the class.
+    pub perm: Perms,
+}
+
+/// The lowest permission in both sets.
+fn common_bit(first: u8, second: u8) -> Option<u32>
+    ensures none { IfNone result ((b : ℕ) → b < 7 → (has_bit first b && has_bit second b) ≡ false) }
+    ensures some { IfSome result (λ b. (b < 7) × ((has_bit first b && has_bit second b) ≡ true)) }
+    ensures lowest { IfSome result (λ b. (c : ℕ) → c < b
+        → (has_bit first c && has_bit second c) ≡ false) }
+{
+    for bit in 0..PERM_COUNT {
+        if has_bit(first, bit) && has_bit(second, bit) {
+            return Some(bit);
+        }
+    }
+    None
+}
+
+/// Whether two rules join a type to itself, one of them by `self`.
+fn own_meet(a: &Kept, b: &Kept, s: usize) -> bool
+    requires a_source { s < 64 * length a.now.sources }
+    requires a_target { s < 64 * length a.now.targets }
+    requires b_source { s < 64 * length b.now.sources }
+    requires b_target { s < 64 * length b.now.targets }
+    ensures { result ≡ both_join s s a.now b.now }
+{
+    a.joins(s, s) && b.joins(s, s)
+}
+
+/// Whether two rules join some pair of types both.
+fn meet(a: &Kept, b: &Kept, count: usize) -> bool
+    requires first { FitsRule count a.now }
+    requires second { FitsRule count b.now }
+    ensures none { result ≡ false → (s t : ℕ) → both_join s t a.now b.now ≡ false }
+{
+    if !a.sources.meets(&b.sources) {
+        return false;
+    }
+    if a.targets.meets(&b.targets) {
+        return true;
+    }
+    for s in 0..count {
+        if own_meet(a, b, s) {
+            return true;
+        }
+    }
+    false
+}
+
+/// The first target to which two rules join a source both.
+fn first_target(a: &Kept, b: &Kept, count: usize, s: usize) -> Option<usize>
+    requires first { FitsRule count a.now }
+    requires second { FitsRule count b.now }
+    requires source { s < count }
+    ensures none { IfNone result ((t : ℕ) → t < count → both_join s t a.now b.now ≡ false) }
+    ensures some { IfSome result (λ t. (t < count) × (both_join s t a.now b.now ≡ true)) }
+    ensures first { IfSome result (λ t. (u : ℕ) → u < t → both_join s u a.now b.now ≡ false) }
+{
+    if !(a.sources.has(s) && b.sources.has(s)) {
+        return None;
+    }
+    for t in 0..count {
+        if a.joins(s, t) && b.joins(s, t) {
+            return Some(t);
+        }
+    }
+    None
+}
+
+/// The first source, and its first target, that two rules join both.
+fn first_pair(a: &Kept, b: &Kept, count: usize) -> Option<(usize, usize)>
+    requires first { FitsRule count a.now }
+    requires second { FitsRule count b.now }
+    ensures none { IfNone result ((s t : ℕ) → s < count → t < count
+        → both_join s t a.now b.now ≡ false) }
+    ensures some { IfSome result (λ p. (p.0 < count) × (p.1 < count)
+        × (both_join p.0 p.1 a.now b.now ≡ true)) }
+    ensures source { IfSome result (λ p. (s t : ℕ) → s < p.0 → t < count
+        → both_join s t a.now b.now ≡ false) }
+    ensures target { IfSome result (λ p. (t : ℕ) → t < p.1 → both_join p.0 t a.now b.now ≡ false) }
+{
+    for s in 0..count {
+        if let Some(t) = first_target(a, b, count, s) {
+            return Some((s, t));
+        }
+    }
+    None
+}
+
+/// What an allow rule and a neverallow rule have in common first, if anything.
+fn violation_between(allow: &Kept, never: &Kept, count: usize) -> Option<Violation>
+    requires few { count ≤ 4096 }
+    requires allow { FitsRule count allow.now }
+    requires never { FitsRule count never.now }
+    ensures none { IfNone result (AreApart allow.now never.now count) }
+    ensures some { IfSome result (λ v. IsBetween allow.now never.now count v) }
+{
+    let bit = common_bit(allow.perms.0, never.perms.0)?;
+    if !meet(allow, never, count) {
+        return None;
+    }
+    let (source, target) = first_pair(allow, never, count)?;
+    Some(Violation {
+        never_line: never.line,
+        allow_line: allow.line,
+        source: source as u16,
+        target: target as u16,
+        class: class_at(bit),
+        perm: perm_at(bit),
+    })
+}
+
+/// What a neverallow rule has in common with the first allow rule that breaks it, if one does.
+fn first_of(allows: &[Kept], never: &Kept, count: usize) -> Option<Violation>
+    requires few { count ≤ 4096 }
+    requires allows { All (FitsRule count) allows.now }
+    requires never { FitsRule count never.now }
+    ensures none { IfNone result ((i : ℕ) (allow : TheKept) → slice_get allows.now i ≡ Some allow
+        → AreApart allow never.now count) }
+    ensures some { IfSome result (λ v. IsFirstOf allows.now never.now count v) }
+{
+    for i in 0..allows.len() {
+        if let Some(violation) = violation_between(&allows[i], never, count) {
+            return Some(violation);
+        }
+    }
+    None
+}
+
+/// Whether a neverallow rule forbids permission `bit` where the matrix has it.
+fn meets_for(matrices: &[Matrix], never: &Kept, count: usize, bit: u32) -> bool
+    requires bit { bit < 7 }
+    requires number { length matrices.now ≡ 7 }
+    requires square { AllSquare matrices.now count }
+    requires never { FitsRule count never.now }
+    ensures none { result ≡ false → (s t : ℕ) → s < count
+        → (has (row (matrix matrices.now bit) s) t && covers bit s t never.now) ≡ false }
+    ensures some { IsTrue result → (s : ℕ) × (t : ℕ) × (s < count)
+        × IsTrue (has (row (matrix matrices.now bit) s) t && covers bit s t never.now) }
+{
+    if !has_bit(never.perms.0, bit) {
+        return false;
+    }
+    matrices[bit as usize].meets(never, count)
+}
+
+/// Whether a neverallow rule forbids something that the matrices have.
+fn is_broken(matrices: &[Matrix], never: &Kept, count: usize) -> bool
+    requires number { length matrices.now ≡ 7 }
+    requires square { AllSquare matrices.now count }
+    requires never { FitsRule count never.now }
+    ensures none { result ≡ false → (allows : List TheKept)
+        → AllCompiled allows count 7 matrices.now → IsApart allows count never.now }
+    ensures some { IsTrue result → (allows : List TheKept) → AllCompiled allows count 7 matrices.now
+        → Meets allows count never.now }
+{
+    for bit in 0..PERM_COUNT {
+        if meets_for(matrices, never, count, bit) {
+            return true;
+        }
+    }
+    false
+}
+
+/// The place of the first neverallow rule that forbids something that the matrices have.
+fn first_broken(matrices: &[Matrix], neverallows: &[Kept], count: usize) -> Option<usize>
+    requires number { length matrices.now ≡ 7 }
+    requires square { AllSquare matrices.now count }
+    requires fits { All (FitsRule count) neverallows.now }
+    ensures none { IfNone result ((allows : List TheKept) → AllCompiled allows count 7 matrices.now
+        → AllApart allows neverallows.now count) }
+    ensures some { IfSome result (λ n. (n < length neverallows.now)
+        × ((allows : List TheKept) (never : TheKept) → AllCompiled allows count 7 matrices.now
+        → slice_get neverallows.now n ≡ Some never → Meets allows count never)) }
+    ensures first { IfSome result (λ n. (allows : List TheKept)
+        → AllCompiled allows count 7 matrices.now
+        → (m : ℕ) (never : TheKept) → m < n → slice_get neverallows.now m ≡ Some never
+        → IsApart allows count never) }
+{
+    for n in 0..neverallows.len() {
+        if is_broken(matrices, &neverallows[n], count) {
+            return Some(n);
+        }
+    }
+    None
+}
+
+/// The first violation: of the first neverallow rule that is broken, by the first allow rule
+/// that breaks it.
+pub fn first_among(
+    alloc: Global,
+    allows: &[Kept],
+    neverallows: &[Kept],
+    count: usize,
+) -> Result<Option<Violation>, AllocError>
+    requires few { count ≤ 4096 }
+    requires allows { All (FitsRule count) allows.now }
+    requires neverallows { All (FitsRule count) neverallows.now }
+    ensures none { IfOk result (λ o. IfNone o (AllApart allows.now neverallows.now count)) }
+    ensures some { IfOk result (λ o. IfSome o
+        (λ v. IsFirstAmong allows.now neverallows.now count v)) }
+{
+    let matrices = matrices_of(alloc, allows, count)?;
+    match first_broken(&matrices, neverallows, count) {
+        Some(n) => Ok(first_of(allows, &neverallows[n], count)),
+        None => Ok(None),
+    }
+}

@@ -1,0 +1,124 @@
+-- The grammar, read from left to right over tokens. `line` is that of the statement.
+use Rattle.std.specs.Prelude.{◌≡◌, ℕ, zero, suc, Bool, true, false, if◌then◌else◌, List, [], ◌∷◌, ◌++◌, Result, Ok, Err}
+use Rattle.sm_ruletext.specs.declared.token.Kind.{Kind}
+use Rattle.sm_ruletext.specs.declared.token.Kind.TheVariants.{Word, Semicolon, Comma, Colon, Open, Close, Star, Tilde, Dash}
+use Rattle.sm_ruletext.specs.declared.fault.RuleTextFault.{RuleTextFault}
+use Rattle.sm_ruletext.specs.declared.fault.RuleTextFault.TheVariants.{TooLarge, Syntax, Unsupported, TooMany, Memory}
+use Rattle.sm_ruletext.specs.declared.items.Items.{Items}
+use Rattle.sm_ruletext.specs.declared.set.Set.{Set}
+use Rattle.sm_ruletext.specs.declared.rule.Rule.{Rule}
+use Rattle.sm_ruletext.specs.Lexing.{Tokens}
+use Rattle.sm_ruletext.specs.Words.{is_self}
+
+-- a value or a fault
+abbrev pub Step : Type 0 → Type 0
+Step A = Result A RuleTextFault
+
+-- a value and the tokens behind it
+abbrev pub Read : Type 0 → Type 0
+Read A = Step (A × Tokens)
+
+infixl 10 ◌>>=◌
+abbrev pub ◌>>=◌ : {A B : Type 0} → Step A → (A → Step B) → Step B
+(Ok x) >>= f = f x
+(Err e) >>= f = Err e
+
+-- The error is the fault that was expected, unless memory ran out.
+abbrev pub Fails : {B : Type 0} → RuleTextFault → Step B → Type 0
+Fails Memory expected = Unit {0}
+Fails TooLarge expected = expected ≡ Err TooLarge
+Fails (Syntax line) expected = expected ≡ Err (Syntax line)
+Fails (Unsupported line) expected = expected ≡ Err (Unsupported line)
+Fails TooMany expected = expected ≡ Err TooMany
+
+-- What was returned is what was expected, unless memory ran out.
+abbrev pub Gives : {A B : Type 0} → (A → B) → Step A → Step B → Type 0
+Gives view (Ok x) expected = expected ≡ Ok (view x)
+Gives view (Err e) expected = Fails e expected
+
+-- the same of a value and the tokens that are left
+abbrev pub Reads : {A B : Type 0} → (A → B) → Step A → Tokens → Read B → Type 0
+Reads view result left expected = Gives (λ x. (view x, left)) result expected
+
+-- ---- tokens and names
+
+unfoldable pub kind_at : ℕ → Tokens → Read Kind
+kind_at line [] = Err (Syntax line)
+kind_at line ((l, k) ∷ ts) = Ok (k, ts)
+
+unfoldable pub colon_at : ℕ → Tokens → Read (Unit {0})
+colon_at line ((l, Colon) ∷ ts) = Ok (tt, ts)
+colon_at line ts = Err (Syntax line)
+
+unfoldable pub semicolon_at : ℕ → Tokens → Read (Unit {0})
+semicolon_at line ((l, Semicolon) ∷ ts) = Ok (tt, ts)
+semicolon_at line ts = Err (Syntax line)
+
+-- a name other than `self`
+unfoldable pub name_at : ℕ → Tokens → Read (List ℕ)
+name_at line ((l, Word w) ∷ ts) = if is_self w then Err (Syntax line) else Ok (w, ts)
+name_at line ts = Err (Syntax line)
+
+-- a comma before each further name, and the semicolon
+unfoldable pub names_at : ℕ → List (List ℕ) → Tokens → Read (List (List ℕ))
+names_at line names ((l, Semicolon) ∷ ts) = Ok (names, ts)
+names_at line names ((l, Comma) ∷ (m, Word w) ∷ ts) = if is_self w then Err (Syntax line) else names_at line (names ++ w ∷ []) ts
+names_at line names ts = Err (Syntax line)
+
+-- ---- sets
+
+abbrev pub no_items : Items
+no_items = record { all = false; to_self = false; plus = []; minus = [] }
+
+-- one more word, which may be `self` where may_self says so
+unfoldable pub with_word : ℕ → Bool → Items → List ℕ → Step Items
+with_word line may_self items w =
+    if is_self w then (if may_self then Ok (record items { to_self = true }) else Err (Syntax line))
+    else Ok (record items { plus = items.plus ++ w ∷ [] })
+
+-- The items up to the `}` of the group. `depth` groups stand open inside it; `fresh` says that a `{` stands just before.
+unfoldable pub group_at : ℕ → Bool → ℕ → Bool → Items → Tokens → Read Items
+group_at line may_self depth fresh items ((l, Word w) ∷ ts) = with_word line may_self items w >>= λ i. group_at line may_self depth false i ts
+group_at line may_self depth fresh items ((l, Dash) ∷ (m, Word w) ∷ ts) =
+    if is_self w then Err (Syntax line) else group_at line may_self depth false (record items { minus = items.minus ++ w ∷ [] }) ts
+group_at line may_self depth fresh items ((l, Star) ∷ ts) = group_at line may_self depth false (record items { all = true }) ts
+group_at line may_self depth fresh items ((l, Open) ∷ ts) = group_at line may_self (suc depth) true items ts
+group_at line may_self zero false items ((l, Close) ∷ ts) = Ok (items, ts)
+group_at line may_self (suc depth) false items ((l, Close) ∷ ts) = group_at line may_self depth false items ts
+group_at line may_self depth fresh items ts = Err (Syntax line)
+
+-- a word or a group, whose first token is k
+unfoldable pub items_from : ℕ → Bool → Kind → Tokens → Read Items
+items_from line may_self (Word w) ts = with_word line may_self no_items w >>= λ i. Ok (i, ts)
+items_from line may_self Open ts = group_at line may_self zero true no_items ts
+items_from line may_self k ts = Err (Syntax line)
+
+-- the set of these items, and whether `self` is among them
+abbrev pub set_of : ℕ → Bool → Items → Set × Bool
+set_of line complement items =
+    (record { line = line; all = items.all; complement = complement; plus = items.plus; minus = items.minus }, items.to_self)
+
+unfoldable pub set_from : ℕ → Bool → Kind → Tokens → Read (Set × Bool)
+set_from line may_self Star ts = Ok (set_of line false (record no_items { all = true }), ts)
+set_from line may_self Tilde ts = do
+  k ← kind_at line ts
+  items ← items_from line false k.0 k.1
+  Ok (set_of line true items.0, items.1)
+set_from line may_self k ts = do
+  items ← items_from line may_self k ts
+  Ok (set_of line false items.0, items.1)
+
+unfoldable pub set_at : ℕ → Bool → Tokens → Read (Set × Bool)
+set_at line may_self ts = do
+  k ← kind_at line ts
+  set_from line may_self k.0 k.1
+
+unfoldable pub rule_at : ℕ → Tokens → Read Rule
+rule_at line ts = do
+  source ← set_at line false ts
+  target ← set_at line true source.1
+  colon ← colon_at line target.1
+  class ← set_at line false colon.1
+  perm ← set_at line false class.1
+  end ← semicolon_at line perm.1
+  Ok (record { source = source.0.0; target = target.0.0; class = class.0.0; perm = perm.0.0; to_self = target.0.1 }, end.1)

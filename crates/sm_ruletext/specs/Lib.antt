@@ -1,0 +1,6 @@
+pub mod Lexing
+pub mod Words
+pub mod Sets
+pub mod Grammar
+pub mod Statements
+pub mod Spelling

@@ -1,0 +1,85 @@
+-- The statements of a rule text.
+use Rattle.std.specs.Prelude.{ℕ, zero, suc, Bool, true, false, ◌&&◌, nat_le, nat_lt, count_by, if◌then◌else◌, List, [], ◌∷◌, ◌++◌, length, Option, Some, None, Ok, Err}
+use Rattle.sm_ruletext.specs.declared.token.Kind.{Kind}
+use Rattle.sm_ruletext.specs.declared.token.Kind.TheVariants.{Word, Semicolon}
+use Rattle.sm_ruletext.specs.declared.fault.RuleTextFault.TheVariants.{TooLarge, Syntax, Unsupported, TooMany}
+use Rattle.sm_ruletext.specs.declared.statement.What.{What}
+use Rattle.sm_ruletext.specs.declared.statement.What.TheVariants as what
+use Rattle.sm_ruletext.specs.declared.statement.Statement.{Statement}
+use Rattle.sm_ruletext.specs.declared.keyword.Keyword.{Keyword}
+use Rattle.sm_ruletext.specs.declared.keyword.Keyword.TheVariants as word
+use Rattle.sm_ruletext.specs.Sets.{is_kept}
+use Rattle.sm_ruletext.specs.Lexing.{Tokens, tokens}
+use Rattle.sm_ruletext.specs.Words.{keyword_of}
+use Rattle.sm_ruletext.specs.Grammar.{Step, Read, ◌>>=◌, semicolon_at, name_at, names_at, rule_at}
+
+unfoldable pub skipped_at : ℕ → Tokens → Read (Unit {0})
+skipped_at line [] = Err (Syntax line)
+skipped_at line ((l, Semicolon) ∷ ts) = Ok (tt, ts)
+skipped_at line ((l, k) ∷ ts) = skipped_at line ts
+
+-- what stands behind the first word of a statement; what is skipped is nothing
+unfoldable pub what_at : ℕ → Keyword → Tokens → Read (Option What)
+what_at line word.Attribute ts = do
+  name ← name_at line ts
+  end ← semicolon_at line name.1
+  Ok (Some (what.Attribute name.0), end.1)
+what_at line word.Types ts = do
+  name ← name_at line ts
+  names ← names_at line [] name.1
+  Ok (Some (what.Declared name.0 names.0), names.1)
+what_at line word.Typeattribute ts = do
+  name ← name_at line ts
+  first ← name_at line name.1
+  names ← names_at line (first.0 ∷ []) first.1
+  Ok (Some (what.Member name.0 names.0), names.1)
+what_at line word.Allow ts = do
+  rule ← rule_at line ts
+  Ok (if is_kept rule.0 then Some (what.Allow rule.0) else None, rule.1)
+what_at line word.Neverallow ts = do
+  rule ← rule_at line ts
+  Ok (if is_kept rule.0 then Some (what.Neverallow rule.0) else None, rule.1)
+what_at line word.Skipped ts = do
+  end ← skipped_at line ts
+  Ok (None, end.1)
+what_at line word.Unknown ts = Err (Unsupported line)
+
+abbrev pub is_rule : What → Bool
+is_rule (what.Attribute n) = false
+is_rule (what.Declared n ns) = false
+is_rule (what.Member n ns) = false
+is_rule (what.Allow r) = true
+is_rule (what.Neverallow r) = true
+
+abbrev pub rule_count : List Statement → ℕ
+rule_count sts = count_by (λ s. is_rule s.what) sts
+
+-- one more statement, unless it is a rule too many
+unfoldable pub with_statement : ℕ → List Statement → Option What → Step (List Statement)
+with_statement line sts None = Ok sts
+with_statement line sts (Some w) =
+    if is_rule w && nat_le 65536 (rule_count sts) then Err TooMany else Ok (sts ++ record { line = line; what = w } ∷ [])
+
+-- one statement, whose first token is k
+unfoldable pub statement_from : ℕ → Kind → List Statement → Tokens → Read (List Statement)
+statement_from line Semicolon sts ts = Ok (sts, ts)
+statement_from line (Word w) sts ts = do
+  what ← what_at line (keyword_of w) ts
+  more ← with_statement line sts what.0
+  Ok (more, what.1)
+statement_from line k sts ts = Err (Syntax line)
+
+-- the statements behind those of `sts`, if there are at most `most`
+unfoldable pub statements_within : ℕ → List Statement → Tokens → Step (List Statement)
+statements_within most sts [] = Ok sts
+statements_within zero sts (t ∷ ts) = Ok sts
+statements_within (suc most) sts ((line, k) ∷ ts) = do
+  next ← statement_from line k sts ts
+  statements_within most next.0 next.1
+
+-- a statement takes a token at least
+unfoldable pub statements_of : Tokens → Step (List Statement)
+statements_of ts = statements_within (length ts) [] ts
+
+unfoldable pub read : List ℕ → Step (List Statement)
+read text = if nat_lt 4194304 (length text) then Err TooLarge else statements_of (tokens 0 1 text)

@@ -1,0 +1,24 @@
+-- The words that begin a statement, and the names of classes.
+use Rattle.std.specs.Prelude.{ℕ, Bool, ◌||◌, if◌then◌else◌, List, codes}
+use Rattle.std.specs.Str.{bytes_eq}
+use Rattle.sm_ruletext.specs.declared.keyword.Keyword.{Keyword}
+use Rattle.sm_ruletext.specs.declared.keyword.Keyword.TheVariants.{Attribute, Types, Typeattribute, Allow, Neverallow, Skipped, Unknown}
+
+abbrev pub is_self : List ℕ → Bool
+is_self w = bytes_eq w (codes "self")
+
+unfoldable pub is_skipped : List ℕ → Bool
+is_skipped w =
+    bytes_eq w (codes "auditallow") || (bytes_eq w (codes "dontaudit") || (bytes_eq w (codes "type_transition")
+    || (bytes_eq w (codes "expandattribute") || (bytes_eq w (codes "allowxperm") || (bytes_eq w (codes "auditallowxperm")
+    || (bytes_eq w (codes "dontauditxperm") || bytes_eq w (codes "neverallowxperm")))))))
+
+unfoldable pub keyword_of : List ℕ → Keyword
+keyword_of w =
+    if bytes_eq w (codes "attribute") then Attribute
+    else if bytes_eq w (codes "type") then Types
+    else if bytes_eq w (codes "typeattribute") then Typeattribute
+    else if bytes_eq w (codes "allow") then Allow
+    else if bytes_eq w (codes "neverallow") then Neverallow
+    else if is_skipped w then Skipped
+    else Unknown

@@ -1,0 +1,36 @@
+//! Why a rule text was refused.
+
+ghost use Rattle.std.specs.Prelude.{◌≡◌};
+ghost use Rattle.sm_ruletext.specs.declared.fault.RuleTextFault.TheVariants.{Memory};
+
+use std::alloc::{AllocError, AllocFailed};
+
+/// The first fault of a rule text.
+#[derive(Clone, Copy, Debug, PartialEq, Eq)]
+pub enum RuleTextFault {
+    /// The text has more than 4,194,304 bytes.
+    TooLarge,
+    /// The statement at this line is not in the grammar.
+    Syntax(u32),
+    /// The statement at this line begins with another word.
+    Unsupported(u32),
+    /// There are more than 65,536 kept rules.
+    TooMany,
+    Memory,
+}
+
+impl From<AllocError> for RuleTextFault {
+    ghost from_gives = { λ _ e. e ≡ Memory };
+
+    fn from(_e: AllocError) -> RuleTextFault {
+        RuleTextFault::Memory
+    }
+}
+
+impl<T: Drop> From<AllocFailed<T>> for RuleTextFault {
+    ghost from_gives = { λ _ e. e ≡ Memory };
+
+    fn from(_e: AllocFailed<T>) -> RuleTextFault {
+        RuleTextFault::Memory
+    }
+}

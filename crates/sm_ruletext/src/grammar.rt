@@ -1,0 +1,226 @@
+//! Reads the parts of a statement. A fault is at the statement's line.
+
+ghost use Rattle.std.specs.Prelude.{◌≡◌, ◌<◌, ◌≤◌, ◌+◌, ◌^◌, ◌++◌, ◌∷◌, [], zero, true, false, length, option_to_list, OnOk, IfOk};
+ghost use Rattle.sm_ruletext.specs.Grammar as spec;
+ghost use Rattle.sm_ruletext.specs.Grammar.{Gives, Reads};
+
+use crate::items::Items;
+use crate::keyword::is_self;
+use crate::token::Kind;
+use crate::tokens::Tokens;
+use crate::{Rule, RuleTextFault, Set};
+use sm_kinds::{Name, Names};
+use std::alloc::Global;
+
+#[tactic(auto, unfolding(crate::specs::Grammar::kind_at))]
+pub fn kind<'a>(tokens: &mut Tokens<'a>, line: u32) -> Result<Kind<'a>, RuleTextFault>
+    ensures read { Reads (λ k. k) result tokens.new (spec.kind_at line tokens.old) }
+    ensures fewer { OnOk result (length tokens.new + 1 ≡ length tokens.old) }
+    ensures few { length tokens.old < 2 ^ 32 }
+{
+    match tokens.take() {
+        Some((_, kind)) => Ok(kind),
+        None => Err(RuleTextFault::Syntax(line)),
+    }
+}
+
+#[tactic(auto, unfolding(crate::specs::Grammar::kind_at, crate::specs::Grammar::colon_at))]
+fn colon(tokens: &mut Tokens, line: u32) -> Result<(), RuleTextFault>
+    ensures read { Reads (λ _. tt) result tokens.new (spec.colon_at line tokens.old) }
+    ensures fewer { OnOk result (length tokens.new ≤ length tokens.old) }
+{
+    match kind(tokens, line)? {
+        Kind::Colon => Ok(()),
+        _ => Err(RuleTextFault::Syntax(line)),
+    }
+}
+
+#[tactic(auto, unfolding(crate::specs::Grammar::kind_at, crate::specs::Grammar::semicolon_at))]
+pub fn semicolon(tokens: &mut Tokens, line: u32) -> Result<(), RuleTextFault>
+    ensures read { Reads (λ _. tt) result tokens.new (spec.semicolon_at line tokens.old) }
+    ensures fewer { OnOk result (length tokens.new ≤ length tokens.old) }
+{
+    match kind(tokens, line)? {
+        Kind::Semicolon => Ok(()),
+        _ => Err(RuleTextFault::Syntax(line)),
+    }
+}
+
+#[tactic(auto, unfolding(crate::specs::Grammar::kind_at, crate::specs::Grammar::name_at))]
+pub fn name(alloc: Global, tokens: &mut Tokens, line: u32) -> Result<Name, RuleTextFault>
+    ensures read { Reads (λ n. n) result tokens.new (spec.name_at line tokens.old) }
+    ensures fewer { OnOk result (length tokens.new + 1 ≡ length tokens.old) }
+{
+    match kind(tokens, line)? {
+        Kind::Word(word) => {
+            let bytes = word.bytes();
+            if is_self(bytes) {
+                return Err(RuleTextFault::Syntax(line));
+            }
+            Ok(Name::new(alloc, bytes)?)
+        }
+        _ => Err(RuleTextFault::Syntax(line)),
+    }
+}
+
+/// Reads further names, each behind a comma, and the semicolon.
+#[tactic(auto, unfolding(crate::specs::Grammar::names_at, crate::specs::Grammar::kind_at, crate::specs::Grammar::name_at))]
+pub fn names(
+    alloc: Global,
+    tokens: &mut Tokens,
+    line: u32,
+    mut names: Names,
+) -> Result<Names, RuleTextFault>
+    ensures read { Reads (λ n. n) result tokens.new (spec.names_at line names tokens.old) }
+    ensures fewer { OnOk result (length tokens.new ≤ length tokens.old) }
+{
+    'names: loop {
+        match kind(tokens, line)? {
+            Kind::Semicolon => return Ok(names),
+            Kind::Comma => {
+                let name = name(alloc, tokens, line)?;
+                names.push(name)?;
+            }
+            _ => return Err(RuleTextFault::Syntax(line)),
+        }
+    }
+}
+
+#[tactic(auto, unfolding(crate::specs::Grammar::with_word))]
+fn add_word(
+    alloc: Global,
+    mut items: Items,
+    line: u32,
+    may_self: bool,
+    word: &[u8],
+) -> Result<Items, RuleTextFault>
+    ensures { Gives (λ i. i) result (spec.with_word line may_self items word.now) }
+{
+    if is_self(word) {
+        if !may_self {
+            return Err(RuleTextFault::Syntax(line));
+        }
+        items.to_self = true;
+    } else {
+        let name = Name::new(alloc, word)?;
+        items.plus.push(name)?;
+    }
+    Ok(items)
+}
+
+/// Reads the items up to the end of a group, behind its brace.
+#[tactic(auto, unfolding(crate::specs::Grammar::group_at, crate::specs::Grammar::kind_at, crate::specs::Grammar::name_at))]
+fn group(
+    alloc: Global,
+    tokens: &mut Tokens,
+    line: u32,
+    may_self: bool,
+    mut items: Items,
+) -> Result<Items, RuleTextFault>
+    requires { length tokens.old < 2 ^ 32 }
+    ensures read { Reads
+        (λ i. i) result tokens.new (spec.group_at line may_self zero true items tokens.old) }
+    ensures fewer { OnOk result (length tokens.new ≤ length tokens.old) }
+{
+    let mut depth: usize = 0;
+    let mut fresh = true;
+    'items: loop {
+        match kind(tokens, line)? {
+            Kind::Word(word) => {
+                items = add_word(alloc, items, line, may_self, word.bytes())?;
+                fresh = false;
+            }
+            Kind::Dash => {
+                let name = name(alloc, tokens, line)?;
+                items.minus.push(name)?;
+                fresh = false;
+            }
+            Kind::Star => {
+                items.all = true;
+                fresh = false;
+            }
+            Kind::Open => {
+                depth += 1;
+                fresh = true;
+            }
+            Kind::Close => {
+                if fresh {
+                    return Err(RuleTextFault::Syntax(line));
+                }
+                if depth == 0 {
+                    return Ok(items);
+                }
+                depth -= 1;
+            }
+            _ => return Err(RuleTextFault::Syntax(line)),
+        }
+    }
+}
+
+#[tactic(auto, unfolding(crate::specs::Grammar::items_from))]
+fn items_from(
+    alloc: Global,
+    tokens: &mut Tokens,
+    line: u32,
+    may_self: bool,
+    first: Kind,
+) -> Result<Items, RuleTextFault>
+    requires { length tokens.old < 2 ^ 32 }
+    ensures read { Reads
+        (λ i. i) result tokens.new (spec.items_from line may_self first.entry tokens.old) }
+    ensures fewer { OnOk result (length tokens.new ≤ length tokens.old) }
+{
+    match first {
+        Kind::Word(word) => add_word(alloc, Items::none(alloc), line, may_self, word.bytes()),
+        Kind::Open => group(alloc, tokens, line, may_self, Items::none(alloc)),
+        _ => Err(RuleTextFault::Syntax(line)),
+    }
+}
+
+#[tactic(auto, unfolding(crate::specs::Grammar::set_at, crate::specs::Grammar::set_from))]
+fn set(
+    alloc: Global,
+    tokens: &mut Tokens,
+    line: u32,
+    may_self: bool,
+) -> Result<(Set, bool), RuleTextFault>
+    ensures read { Reads (λ s. s) result tokens.new (spec.set_at line may_self tokens.old) }
+    ensures fewer { OnOk result (length tokens.new ≤ length tokens.old) }
+{
+    match kind(tokens, line)? {
+        Kind::Star => {
+            let mut items = Items::none(alloc);
+            items.all = true;
+            Ok(items.into_set(line, false))
+        }
+        Kind::Tilde => {
+            let first = kind(tokens, line)?;
+            let items = items_from(alloc, tokens, line, false, first)?;
+            Ok(items.into_set(line, true))
+        }
+        first => {
+            let items = items_from(alloc, tokens, line, may_self, first)?;
+            Ok(items.into_set(line, false))
+        }
+    }
+}
+
+#[tactic(auto, unfolding(crate::specs::Grammar::rule_at))]
+pub fn rule(alloc: Global, tokens: &mut Tokens, line: u32) -> Result<Rule, RuleTextFault>
+    ensures read { Reads (λ r. r) result tokens.new (spec.rule_at line tokens.old) }
+    ensures fewer { OnOk result (length tokens.new ≤ length tokens.old) }
+{
+    let (source, _) = set(alloc, tokens, line, false)?;
+    let (target, to_self) = set(alloc, tokens, line, true)?;
+    colon(tokens, line)?;
+    let (class, _) = set(alloc, tokens, line, false)?;
+    let (perm, _) = set(alloc, tokens, line, false)?;
+    semicolon(tokens, line)?;
+    Ok(Rule {
+        source,
+        target,
+        class,
+        perm,
+        to_self,
+    })
+}

@@ -1,0 +1,23 @@
+//! The reader of the rule text: the statements of SELinux's policy language that declare types
+//! and attributes, give types attributes, allow, and forbid, each with the line it stands in.
+#![tactic(auto)]
+
+mod fault;
+mod grammar;
+mod items;
+mod keyword;
+mod reading;
+mod rule;
+mod set;
+mod statement;
+mod statements;
+#[cfg(test)]
+mod tests;
+mod token;
+mod tokens;
+
+pub use fault::RuleTextFault;
+pub use reading::read;
+pub use rule::Rule;
+pub use set::Set;
+pub use statement::{Statement, What};

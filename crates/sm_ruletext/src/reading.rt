@@ -1,0 +1,144 @@
+//! Reads a whole rule text.
+
+ghost use Rattle.std.specs.Prelude.{◌≡◌, ◌<◌, ◌≤◌, ◌+◌, ◌^◌, ◌++◌, ◌∷◌, [], List, length, OnOk, IfOk, IfErr};
+ghost use Rattle.sm_ruletext.specs.Grammar.{Gives, Reads};
+ghost use Rattle.sm_ruletext.specs.Lexing.{tokens};
+ghost use Rattle.sm_ruletext.specs.Spelling.{SpellsText, IsFaultOf};
+ghost use Rattle.sm_ruletext.specs.Statements as spec;
+ghost use Rattle.sm_ruletext.specs.declared.statement.Statement.{Statement};
+
+use crate::keyword::{Keyword, keyword_of};
+use crate::statements::Statements;
+use crate::token::Kind;
+use crate::tokens::Tokens;
+use crate::{RuleTextFault, Statement, What, grammar};
+use sm_kinds::Names;
+use std::alloc::Global;
+
+/// The most bytes of a rule text.
+const MAX_TEXT: usize = 4_194_304;
+
+#[tactic(auto, unfolding(crate::specs::Statements::skipped_at, crate::specs::Grammar::kind_at))]
+fn skipped(tokens: &mut Tokens, line: u32) -> Result<(), RuleTextFault>
+    ensures read { Reads (λ _. tt) result tokens.new (spec.skipped_at line tokens.old) }
+    ensures fewer { OnOk result (length tokens.new ≤ length tokens.old) }
+{
+    'skipped: loop {
+        if let Kind::Semicolon = grammar::kind(tokens, line)? {
+            return Ok(());
+        }
+    }
+}
+
+#[tactic(auto, unfolding(crate::specs::Statements::what_at))]
+fn what(
+    alloc: Global,
+    tokens: &mut Tokens,
+    line: u32,
+    keyword: Keyword,
+) -> Result<Option<What>, RuleTextFault>
+    ensures read { Reads (λ w. w) result tokens.new (spec.what_at line keyword tokens.old) }
+    ensures fewer { OnOk result (length tokens.new ≤ length tokens.old) }
+{
+    match keyword {
+        Keyword::Attribute => {
+            let name = grammar::name(alloc, tokens, line)?;
+            grammar::semicolon(tokens, line)?;
+            Ok(Some(What::Attribute(name)))
+        }
+        Keyword::Types => {
+            let name = grammar::name(alloc, tokens, line)?;
+            let names = grammar::names(alloc, tokens, line, Names::new(alloc))?;
+            Ok(Some(What::Declared(name, names)))
+        }
+        Keyword::Typeattribute => {
+            let name = grammar::name(alloc, tokens, line)?;
+            let first = grammar::name(alloc, tokens, line)?;
+            let mut names = Names::new(alloc);
+            names.push(first)?;
+            let names = grammar::names(alloc, tokens, line, names)?;
+            Ok(Some(What::Member(name, names)))
+        }
+        Keyword::Allow => {
+            let rule = grammar::rule(alloc, tokens, line)?;
+            if rule.is_kept() {
+                Ok(Some(What::Allow(rule)))
+            } else {
+                Ok(None)
+            }
+        }
+        Keyword::Neverallow => {
+            let rule = grammar::rule(alloc, tokens, line)?;
+            if rule.is_kept() {
+                Ok(Some(What::Neverallow(rule)))
+            } else {
+                Ok(None)
+            }
+        }
+        Keyword::Skipped => {
+            skipped(tokens, line)?;
+            Ok(None)
+        }
+        Keyword::Unknown => Err(RuleTextFault::Unsupported(line)),
+    }
+}
+
+/// The statements of a rule text, in order.
+pub fn read(alloc: Global, text: &[u8]) -> Result<Vec<Statement>, RuleTextFault>
+    // Which fault it is, if it is one.
+    ensures exact { Gives (λ v. v.items) result (spec.read text.now) }
+    // What is read is spelled so.
+    ensures found { IfOk result (λ v. SpellsText [] (tokens 0 1 text.now) v.items) }
+    // What is refused has that fault first.
+    ensures faults { IfErr result (λ e. IsFaultOf e text.now) }
+    // What is spelled so is read, unless memory runs out.
+    ensures only { (sts : List Statement) → length text.now ≤ 4194304
+        → SpellsText [] (tokens 0 1 text.now) sts
+        → Gives (λ v. v.items) result (Ok sts) }
+{
+    exactly(alloc, text)
+}
+
+#[tactic(auto, unfolding(crate::specs::Statements::read))]
+fn exactly(alloc: Global, text: &[u8]) -> Result<Vec<Statement>, RuleTextFault>
+    ensures { Gives (λ v. v.items) result (spec.read text.now) }
+{
+    if text.len() > MAX_TEXT {
+        return Err(RuleTextFault::TooLarge);
+    }
+    all(alloc, Tokens::new(text))
+}
+
+/// Reads one statement, whose first token is taken.
+#[tactic(auto, unfolding(crate::specs::Statements::statement_from))]
+fn statement(
+    alloc: Global,
+    tokens: &mut Tokens,
+    mut statements: Statements,
+    line: u32,
+    first: Kind,
+) -> Result<Statements, RuleTextFault>
+    ensures read { Reads
+        (λ s. s) result tokens.new (spec.statement_from line first.entry statements tokens.old) }
+    ensures fewer { OnOk result (length tokens.new ≤ length tokens.old) }
+{
+    match first {
+        Kind::Semicolon => Ok(statements),
+        Kind::Word(word) => {
+            let what = what(alloc, tokens, line, keyword_of(word.bytes()))?;
+            statements.add(line, what)?;
+            Ok(statements)
+        }
+        _ => Err(RuleTextFault::Syntax(line)),
+    }
+}
+
+fn all(alloc: Global, mut tokens: Tokens) -> Result<Vec<Statement>, RuleTextFault>
+    ensures { Gives (λ v. v.items) result (spec.statements_of tokens.entry) }
+{
+    let mut statements = Statements::new(alloc);
+    'statements: while let Some((line, first)) = tokens.take() {
+        statements = statement(alloc, &mut tokens, statements, line, first)?;
+    }
+    Ok(statements.into_vec())
+}

@@ -1,0 +1,39 @@
+//! A rule.
+
+ghost use Rattle.std.specs.Prelude.{◌≡◌};
+ghost use Rattle.sm_ruletext.specs.Sets as spec;
+
+use crate::Set;
+
+/// What stands behind `allow` or `neverallow`: `SOURCE TARGET : CLASS PERM`.
+#[derive(Debug)]
+pub struct Rule {
+    pub source: Set,
+    pub target: Set,
+    pub class: Set,
+    pub perm: Set,
+    /// `self` stands in the target.
+    pub to_self: bool,
+}
+
+impl Drop for Rule {
+    fn drop(self) {
+        let Rule {
+            source: _,
+            target: _,
+            class: _,
+            perm: _,
+            to_self: _,
+        } = self;
+    }
+}
+
+impl Rule {
+    /// Whether its classes have one of those that servicemanager checks: other rules say nothing here.
+    #[tactic(auto, unfolding(crate::specs::Sets::is_kept))]
+    pub fn is_kept(&self) -> bool
+        ensures { result ≡ spec.is_kept self.now }
+    {
+        self.class.selects(b"service_manager") || self.class.selects(b"binder")
+    }
+}

@@ -1,0 +1,32 @@
+//! A statement of the rule text.
+
+use crate::Rule;
+use sm_kinds::{Name, Names};
+
+/// What a statement says.
+#[derive(Debug, Drop)]
+pub enum What {
+    /// `attribute A;`
+    Attribute(Name),
+    /// `type T, A, ..;`
+    Declared(Name, Names),
+    /// `typeattribute T A, ..;`
+    Member(Name, Names),
+    /// `allow SOURCE TARGET : CLASS PERM;`
+    Allow(Rule),
+    /// `neverallow SOURCE TARGET : CLASS PERM;`
+    Neverallow(Rule),
+}
+
+/// A statement, with the line of its first byte; lines are numbered from 1.
+#[derive(Debug)]
+pub struct Statement {
+    pub line: u32,
+    pub what: What,
+}
+
+impl Drop for Statement {
+    fn drop(self) {
+        let Statement { line: _, what: _ } = self;
+    }
+}

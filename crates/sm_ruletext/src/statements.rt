@@ -1,0 +1,78 @@
+//! The statements of a text, while it is read.
+
+ghost use Rattle.std.specs.Prelude.{◌≡◌, []};
+ghost use Rattle.sm_ruletext.specs.Grammar.{Gives};
+ghost use Rattle.sm_ruletext.specs.Statements as spec;
+
+use crate::{RuleTextFault, Statement, What};
+use std::alloc::Global;
+use std::marker::Model;
+
+/// The most rules that are kept.
+const MAX_RULES: u32 = 65_536;
+
+fn is_rule(what: &What) -> bool
+    ensures { result ≡ spec.is_rule what.now }
+{
+    matches!(what, What::Allow(_) | What::Neverallow(_))
+}
+
+/// The statements so far, and how many of them are rules.
+pub struct Statements {
+    list: Vec<Statement>,
+    rules: u32,
+}
+
+impl Model for Statements {
+    ghost use Rattle.std.specs.Prelude.{List, ◌≡◌, ◌≤◌};
+    ghost use Rattle.sm_ruletext.specs.declared.statement.Statement.{Statement};
+    ghost use Rattle.sm_ruletext.specs.Statements.{rule_count};
+
+    ghost Value = { List Statement };
+
+    ghost view = { λ s. s.list.items };
+
+    ghost invariant = { λ s. (s.rules ≡ rule_count s.list.items) × (s.rules ≤ 65536) };
+}
+
+impl Drop for Statements {
+    fn drop(self) {
+        let Statements { list: _, rules: _ } = self;
+    }
+}
+
+impl Statements {
+    pub fn new(alloc: Global) -> Statements
+        ensures { result ≡ [] }
+    {
+        Statements {
+            list: Vec::new(alloc),
+            rules: 0,
+        }
+    }
+
+    #[tactic(auto, unfolding(crate::specs::Statements::with_statement))]
+    pub fn add(&mut self, line: u32, what: Option<What>) -> Result<(), RuleTextFault>
+        ensures { Gives (λ _. self.new) result (spec.with_statement line self.old what) }
+    {
+        let Some(what) = what else {
+            return Ok(());
+        };
+        let is_rule = is_rule(&what);
+        if is_rule && self.rules == MAX_RULES {
+            return Err(RuleTextFault::TooMany);
+        }
+        self.list.push(Statement { line, what })?;
+        if is_rule {
+            self.rules += 1;
+        }
+        Ok(())
+    }
+
+    pub fn into_vec(self) -> Vec<Statement>
+        ensures { result.items ≡ self }
+    {
+        let Statements { list, rules: _ } = self;
+        list
+    }
+}

@@ -1,0 +1,133 @@
+use super::*;
+use std::alloc::{AllocError, Global};
+use std::test::*;
+
+const POLICY: &[u8] = b"attribute domain;\n\
+    attribute binderuser;\n\
+    type servicemanager, domain;\n\
+    type system_server, domain, binderuser;\n\
+    type untrusted_app, domain, binderuser;\n\
+    type isolated_app, domain, binderuser;\n\
+    type activity_service;\n\
+    type default_android_service;\n\
+    allow servicemanager self:binder set_context_mgr;\n\
+    allow binderuser servicemanager:binder { call transfer };\n\
+    allow servicemanager binderuser:binder { call transfer };\n\
+    allow system_server activity_service:service_manager add;\n\
+    allow binderuser activity_service:service_manager find;\n\
+    allow system_server servicemanager:service_manager list;\n\
+    allow untrusted_app system_server:binder { call transfer };\n\
+    neverallow untrusted_app *:service_manager add;\n";
+
+fn repeated(alloc: Global, text: &mut Vec<u8>, piece: &[u8], times: u32) -> Result<(), AllocError> {
+    for _ in 0..times {
+        text.extend_from_slice(piece)?;
+    }
+    Ok(())
+}
+
+#[test]
+fn whole_text(rt: HostRuntime) -> Result<(), Fail> {
+    let statements = read(rt.alloc(), POLICY).ok().ok_or("accepted")?;
+    assert_eq!(rt; statements.len(), 16);
+    let mut line = 0;
+    for statement in &statements {
+        assert!(rt; statement.line > line);
+        line = statement.line;
+    }
+    assert_eq!(rt; line, 16);
+    // Without the last newline, and without the last semicolon.
+    let cut = read(rt.alloc(), &POLICY[..685]).ok().ok_or("accepted")?;
+    assert_eq!(rt; cut.len(), 16);
+    assert_eq!(rt;
+        read(rt.alloc(), &POLICY[..684]).err(),
+        Some(RuleTextFault::Syntax(16))
+    );
+    Ok(())
+}
+
+#[test]
+fn faults(rt: HostRuntime) {
+    let fault = |text: &[u8]| read(rt.alloc(), text).err();
+    assert_eq!(rt;
+        fault(b"type a;\npermissive a;\n"),
+        Some(RuleTextFault::Unsupported(2))
+    );
+    assert_eq!(rt; fault(b"type a;\ntype b"), Some(RuleTextFault::Syntax(2)));
+    assert_eq!(rt;
+        fault(b"\n# x\n allow a { } : b c;"),
+        Some(RuleTextFault::Syntax(3))
+    );
+    assert_eq!(rt; fault(b"allow self a:b c;"), Some(RuleTextFault::Syntax(1)));
+    assert_eq!(rt;
+        fault(b"allow a ~self:b c;"),
+        Some(RuleTextFault::Syntax(1))
+    );
+    assert_eq!(rt;
+        fault(b"allow a { -self }:b c;"),
+        Some(RuleTextFault::Syntax(1))
+    );
+    assert_eq!(rt;
+        fault(b"allow a {{ self } *}:b c;;auditallow x \"a;b\" # ;\n;"),
+        None
+    );
+    // No text begins where its line has no second quote.
+    assert_eq!(rt;
+        fault(b"auditallow x \"a;b\n;"),
+        Some(RuleTextFault::Unsupported(1))
+    );
+}
+
+#[test]
+fn sets(rt: HostRuntime) -> Result<(), Fail> {
+    let text =
+        b"attribute d;\ntype a, d;\ntype b;\nallow { * -a } ~d:binder *;\nallow x y:file read;";
+    let statements = read(rt.alloc(), text).ok().ok_or("accepted")?;
+    // The rule of another class is skipped.
+    assert_eq!(rt; statements.len(), 4);
+    for statement in &statements {
+        if let What::Allow(rule) = &statement.what {
+            assert_eq!(rt; statement.line, 4);
+            assert!(rt; rule.source.all && rule.target.complement && rule.perm.all);
+            assert!(rt; rule.source.minus.contains(b"a"));
+            assert!(rt; rule.is_kept() && rule.class.selects(b"binder"));
+        }
+    }
+    Ok(())
+}
+
+#[test]
+fn nested_braces(rt: HostRuntime) -> Result<(), Fail> {
+    let mut text = Vec::from_slice(rt.alloc(), b"type a;\nallow ")?;
+    repeated(rt.alloc(), &mut text, b"{", 1_000_000)?;
+    text.extend_from_slice(b"a")?;
+    repeated(rt.alloc(), &mut text, b"}", 1_000_000)?;
+    text.extend_from_slice(b" a:binder call;")?;
+    let statements = read(rt.alloc(), &text).ok().ok_or("accepted")?;
+    assert_eq!(rt; statements.len(), 2);
+    Ok(())
+}
+
+#[test]
+fn most_rules(rt: HostRuntime) -> Result<(), Fail> {
+    let mut text = Vec::from_slice(rt.alloc(), b"type a;\n")?;
+    repeated(rt.alloc(), &mut text, b"allow a a:binder call;\n", 65_536)?;
+    let statements = read(rt.alloc(), &text).ok().ok_or("accepted")?;
+    assert_eq!(rt; statements.len(), 65_537);
+    text.extend_from_slice(b"allow a a:binder call;\n")?;
+    assert_eq!(rt; read(rt.alloc(), &text).err(), Some(RuleTextFault::TooMany));
+    Ok(())
+}
+
+#[test]
+fn longest_text(rt: HostRuntime) -> Result<(), Fail> {
+    let mut text = Vec::new(rt.alloc());
+    repeated(rt.alloc(), &mut text, b"                ", 262_144)?;
+    assert_eq!(rt; read(rt.alloc(), &text).ok().ok_or("accepted")?.len(), 0);
+    text.push(b' ')?;
+    assert_eq!(rt;
+        read(rt.alloc(), &text).err(),
+        Some(RuleTextFault::TooLarge)
+    );
+    Ok(())
+}

@@ -1,0 +1,22 @@
+//! What the text is cut into.
+
+use sm_kinds::Word;
+
+/// The kinds of tokens.
+#[derive(Drop)]
+pub enum Kind<'a> {
+    Word(Word<'a>),
+    Semicolon,
+    Comma,
+    Colon,
+    Open,
+    Close,
+    Star,
+    Tilde,
+    Dash,
+    /// A byte that begins no token, or a text in double quotes.
+    Other,
+}
+
+/// A token, behind the line that it begins in.
+pub type Token<'a> = (u32, Kind<'a>);

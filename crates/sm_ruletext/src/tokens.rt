@@ -1,0 +1,175 @@
+//! Cuts a text into tokens, as they are asked for.
+
+ghost use Rattle.std.specs.Prelude.{◌≡◌, ◌≢◌, ◌<◌, ◌≤◌, ◌+◌, ◌^◌, ◌++◌, [], length, drop, slice_index, option_to_list, IfSome, IfNone};
+ghost use Rattle.std.specs.List.{prefix_len};
+ghost use Rattle.sm_ruletext.specs.Lexing as spec;
+
+use crate::token::{Kind, Token};
+use sm_kinds::Word;
+use std::marker::Model;
+
+/// The bytes behind the first ones.
+fn behind(bytes: &[u8], count: usize) -> &[u8]
+    requires { count ≤ length bytes.now }
+    ensures { result.now ≡ drop count bytes.now }
+{
+    &bytes[count..]
+}
+
+fn is_blank(b: u8) -> bool
+    ensures { result ≡ spec.is_blank b }
+{
+    b == b' ' || b == b'\t' || b == b'\r'
+}
+
+fn is_word_byte(b: u8) -> bool
+    ensures { result ≡ spec.is_word_byte b }
+{
+    b.is_ascii_alphanumeric() || b == b'_' || b == b'.' || b == b'-'
+}
+
+fn word_len(bytes: &[u8]) -> usize
+    ensures value { result ≡ prefix_len spec.is_word_byte bytes.now }
+    ensures within { result ≤ length bytes.now }
+{
+    bytes.iter().take_while(|b| is_word_byte(**b)).count()
+}
+
+fn line_len(bytes: &[u8]) -> usize
+    ensures value { result ≡ prefix_len spec.is_in_line bytes.now }
+    ensures within { result ≤ length bytes.now }
+{
+    bytes.iter().take_while(|b| **b != b'\n').count()
+}
+
+fn until_quote(bytes: &[u8]) -> usize
+    ensures value { result ≡ prefix_len spec.is_quoted bytes.now }
+    ensures within { result ≤ length bytes.now }
+{
+    bytes
+        .iter()
+        .take_while(|b| !(**b == b'"' || **b == b'\n'))
+        .count()
+}
+
+#[tactic(auto, unfolding(crate::specs::Lexing::quoted_len))]
+fn quoted_len(bytes: &[u8]) -> usize
+    ensures value { result ≡ spec.quoted_len bytes.now }
+    ensures within { result ≤ length bytes.now }
+{
+    let end = until_quote(bytes);
+    if end < bytes.len() && bytes[end] == b'"' {
+        end + 1
+    } else {
+        0
+    }
+}
+
+fn mark<'a>(b: u8) -> Kind<'a>
+    ensures { result ≡ spec.mark b }
+{
+    match b {
+        b';' => Kind::Semicolon,
+        b',' => Kind::Comma,
+        b':' => Kind::Colon,
+        b'{' => Kind::Open,
+        b'}' => Kind::Close,
+        b'*' => Kind::Star,
+        b'~' => Kind::Tilde,
+        b'-' => Kind::Dash,
+        _ => Kind::Other,
+    }
+}
+
+/// The token at the front, and how many bytes it takes.
+#[tactic(auto, unfolding(crate::specs::Lexing::kind_at, crate::specs::Lexing::len_after))]
+fn first(bytes: &[u8]) -> (Kind<'_>, usize)
+    requires { 0 < length bytes.now }
+    ensures kind { result.0 ≡ spec.kind_at (slice_index bytes.now 0) (drop 1 bytes.now) }
+    ensures len { result.1 ≡ 1 + spec.len_after (slice_index bytes.now 0) (drop 1 bytes.now) }
+    ensures within { result.1 ≤ length bytes.now }
+{
+    let b = bytes[0];
+    let after = behind(bytes, 1);
+    if b.is_ascii_alphabetic() {
+        let len = word_len(after) + 1;
+        (Kind::Word(Word::new(&bytes[..len])), len)
+    } else if b == b'"' {
+        (mark(b), quoted_len(after) + 1)
+    } else {
+        (mark(b), 1)
+    }
+}
+
+/// After white space and comments, with the line there.
+fn skip_blanks(bytes: &[u8], start: u32) -> (u32, &[u8])
+    requires { start + length bytes.now < 2 ^ 32 }
+    ensures same { spec.tokens 0 result.0 result.1.now ≡ spec.tokens 0 start bytes.now }
+    ensures stops { spec.IsAtToken result.1.now }
+    ensures small { result.0 + length result.1.now ≤ start + length bytes.now }
+{
+    let mut rest = bytes;
+    let mut line = start;
+    'blanks: while !rest.is_empty() {
+        let b = rest[0];
+        let after = behind(rest, 1);
+        if b == b'\n' {
+            line += 1;
+            rest = after;
+        } else if is_blank(b) {
+            rest = after;
+        } else if b == b'#' {
+            rest = behind(after, line_len(after));
+        } else {
+            break;
+        }
+    }
+    (line, rest)
+}
+
+/// The tokens of a text that are left.
+#[derive(Drop)]
+pub struct Tokens<'a> {
+    rest: &'a [u8],
+    line: u32,
+}
+
+impl<'a> Model for Tokens<'a> {
+    ghost use Rattle.std.specs.Prelude.{◌+◌, ◌<◌, ◌^◌, length};
+    ghost use Rattle.sm_ruletext.specs.Lexing as spec;
+
+    ghost Value = { spec.Tokens };
+
+    ghost view = { λ t. spec.tokens 0 t.line t.rest.now };
+
+    ghost invariant = { λ t. t.line + length t.rest.now < 2 ^ 32 };
+}
+
+impl<'a> Tokens<'a> {
+    pub fn new(text: &'a [u8]) -> Tokens<'a>
+        requires { length text.now ≤ 4194304 }
+        ensures { result ≡ spec.tokens 0 1 text.now }
+    {
+        Tokens {
+            rest: text,
+            line: 1,
+        }
+    }
+
+    /// Takes the first token.
+    pub fn take(&mut self) -> Option<Token<'a>>
+        ensures taken { self.old ≡ option_to_list result ++ self.new }
+        ensures none { IfNone result (self.old ≡ []) }
+        ensures few { length self.old < 2 ^ 32 }
+    {
+        let (line, rest) = skip_blanks(self.rest, self.line);
+        self.line = line;
+        if rest.is_empty() {
+            self.rest = rest;
+            return None;
+        }
+        let (kind, len) = first(rest);
+        self.rest = behind(rest, len);
+        Some((line, kind))
+    }
+}

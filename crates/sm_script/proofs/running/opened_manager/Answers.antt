@@ -1,0 +1,18 @@
+use Rattle.std.proofs.Common.{◌≡◌, ◌⊎◌, MatchResult, false, subst}
+use Rattle.sm_kinds.specs.declared.class.Class.TheVariants.{Binder}
+use Rattle.sm_kinds.specs.declared.identity.Identity.{Identity}
+use Rattle.sm_kinds.specs.Contexts.{type_of}
+use Rattle.sm_policy.specs.Policy.{allowed}
+use Rattle.sm_history.specs.declared.refusal.Refusal.TheVariants.{Memory}
+use Rattle.sm_history.specs.Checks.{managing}
+use Rattle.sm_history.specs.Lawful.{MayOpen}
+use Rattle.sm_core.specs.Opening.{opened, opening_denial}
+use Rattle.sm_script.proofs.running.opened_manager.Goals as goal
+
+-- the identity is the manager's
+pub returns-in-Ok : goal.returns-in-Ok
+returns-in-Ok c =
+    subst (λ (who : Identity). MatchResult c.open.result
+    (λ m. MayOpen who c.args.policy × (m ≡ record { places = c.args.places; history = opened who c.args.policy }))
+    (λ r. (r ≡ Memory) ⊎ ((allowed c.args.policy (type_of who.context) (type_of who.context) Binder managing ≡ false) × (r ≡ opening_denial who))))
+    c.in-Ok.ensures c.open.ensures

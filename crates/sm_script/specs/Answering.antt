@@ -1,0 +1,71 @@
+-- What the items of a script are answered.
+use Rattle.std.specs.Prelude.{◌≡◌, ◌⊎◌, ℕ, List, [], ◌++◌, Result, Ok, Err, codes, false}
+use Rattle.sm_kinds.specs.declared.number.AdminId.{AdminId}
+use Rattle.sm_policy.specs.declared.fault.PolicyFault.{PolicyFault}
+use Rattle.sm_policy.specs.Policy.{Policy}
+use Rattle.sm_policy.specs.Preparing.{Fails, prepared}
+use Rattle.sm_policy.specs.Refused.{refused_words}
+use Rattle.sm_history.specs.declared.by.By.{By}
+use Rattle.sm_history.specs.declared.by.By.TheVariants.{Manager, Client, Admin}
+use Rattle.sm_history.specs.declared.event.Event.{Event}
+use Rattle.sm_history.specs.declared.event.Event.TheVariants.{Connect, Add, Get, Reload}
+use Rattle.sm_history.specs.declared.reply.Reply.{Reply}
+use Rattle.sm_history.specs.Histories.{turn_of}
+use Rattle.sm_core.specs.Managed.{Managed, Answers, LooksAs}
+use Rattle.sm_wire.specs.declared.request.Request.{Request}
+use Rattle.sm_wire.specs.declared.request.Request.TheVariants.{Hello, Add as AddRequest, Get as GetRequest, Look, Ask}
+use Rattle.sm_wire.specs.declared.item.Item.{Item}
+use Rattle.sm_wire.specs.declared.item.Item.TheVariants as items
+use Rattle.sm_wire.specs.Replies.{reply_text, reply_text_for}
+use Rattle.sm_wire.specs.Texts.{Texts}
+
+-- an actor's event is answered by the verdict at the turn that the actor has, or memory was refused and nothing changed
+unfoldable pub AnswersNow : Managed → By → Event → Reply → Managed → Type 0
+AnswersNow old by event reply new = Answers old by (turn_of old.history by) event reply new
+
+-- the administrator of a script
+abbrev pub the_administrator : AdminId
+the_administrator = record { 0 = 1 }
+
+-- a request is judged on the history that the requests before it left
+abbrev pub Judges : Managed → Request → Reply → Managed → Type 0
+Judges old (Hello who) reply new = AnswersNow old Manager (Connect who) reply new
+Judges old (AddRequest client name obj allow_isolated dump) reply new = AnswersNow old (Client client) (Add name obj allow_isolated dump) reply new
+Judges old (GetRequest client name) reply new = AnswersNow old (Client client) (Get name) reply new
+Judges old (Look client query) reply new = LooksAs old (Client client) query reply × (new ≡ old)
+Judges old (Ask query) reply new = LooksAs old (Admin the_administrator) query reply × (new ≡ old)
+
+-- the line for a policy that is refused
+abbrev pub refused_policy_line : PolicyFault → List ℕ
+refused_policy_line fault = codes "refused " ++ refused_words fault ++ codes "\n"
+
+-- the texts are those of a policy, and this is the answer to the administrator who replaces the one in force by it
+pub record Reloads (old : Managed) (texts : Texts) (line : List ℕ) (new : Managed) : Type 0 where
+  pub policy : Policy
+  pub reads : prepared texts.rules texts.contexts ≡ Ok policy
+  pub reply : Reply
+  pub judged : AnswersNow old (Admin the_administrator) (Reload texts.expected policy) reply new
+  pub written : line ≡ reply_text_for false reply
+
+-- the texts are refused, and nothing changed
+pub record Refuses (old : Managed) (texts : Texts) (line : List ℕ) (new : Managed) : Type 0 where
+  pub fault : PolicyFault
+  pub fails : Fails fault (prepared texts.rules texts.contexts)
+  pub unchanged : new ≡ old
+  pub written : line ≡ refused_policy_line fault
+
+-- the line that a `reload` is answered, and the state that it leaves
+abbrev pub AnswersTexts : Managed → Texts → List ℕ → Managed → Type 0
+AnswersTexts old texts line new = Reloads old texts line new ⊎ Refuses old texts line new
+
+-- the line that an item is answered, and the state that it leaves
+abbrev pub AnswersLine : Managed → Item → List ℕ → Managed → Type 0
+AnswersLine old (items.Asked request) line new =
+    (reply : Reply) × Judges old request reply new × (line ≡ reply_text request reply)
+AnswersLine old (items.Policy texts) line new = AnswersTexts old texts line new
+AnswersLine old items.Malformed line new = (line ≡ codes "malformed\n") × (new ≡ old)
+AnswersLine old items.LineTooLong line new = (line ≡ codes "fault long\n") × (new ≡ old)
+
+-- an item's line is all that is written for it: audit lines aren't written yet
+abbrev pub AnswersItem : Managed → Item → List ℕ → List ℕ → Managed → Type 0
+AnswersItem old item line audit new = AnswersLine old item line new × (audit ≡ [])

@@ -1,0 +1,72 @@
+-- What a script's run leaves.
+use Rattle.std.specs.Prelude.{◌≡◌, ◌⊎◌, ℕ, List, false, Option, Result, Ok, Err, codes}
+use Rattle.sm_kinds.specs.declared.class.Class.TheVariants.{Binder}
+use Rattle.sm_kinds.specs.declared.identity.Identity.{Identity}
+use Rattle.sm_kinds.specs.Contexts.{type_of}
+use Rattle.sm_policy.specs.Policy.{Policy, allowed}
+use Rattle.sm_policy.specs.Preparing.{Fails, prepared}
+use Rattle.sm_history.specs.declared.refusal.Refusal.{Refusal}
+use Rattle.sm_history.specs.declared.refusal.Refusal.TheVariants.{Memory}
+use Rattle.sm_history.specs.Checks.{managing}
+use Rattle.sm_history.specs.Lawful.{MayOpen}
+use Rattle.sm_core.specs.Managed.{Managed}
+use Rattle.sm_core.specs.Opening.{opened, opening_denial}
+use Rattle.sm_engine.specs.declared.fault.Fault.{Fault}
+use Rattle.sm_engine.specs.Running.{Served}
+use Rattle.sm_script.specs.declared.script_fault.ScriptFault.{ScriptFault}
+use Rattle.sm_script.specs.declared.script_fault.ScriptFault.TheVariants.{Policy as PolicyRefused, Opening, Engine}
+use Rattle.sm_script.specs.Answering.{AnswersItem}
+
+-- the identity of a script's manager
+abbrev pub the_manager : Identity
+the_manager = record { pid = 1; uid = 1000; context = codes "u:r:servicemanager:s0" }
+
+-- a manager that was just opened
+abbrev pub opened_manager : ℕ → Policy → Managed
+opened_manager places policy = record { places = places; history = opened the_manager policy }
+
+-- the texts are those of a policy under which the manager may be opened, and this is it
+pub record Opens (rules contexts : List ℕ) (places : ℕ) (manager : Managed) : Type 0 where
+  pub policy : Policy
+  pub reads : prepared rules contexts ≡ Ok policy
+  pub may_open : MayOpen the_manager policy
+  pub opens : manager ≡ opened_manager places policy
+
+-- the manager may not be opened under a policy, and the refusal names the rule that is missing; or memory was refused
+abbrev pub MayNotOpen : Policy → Refusal → Type 0
+MayNotOpen policy refusal =
+    (refusal ≡ Memory)
+    ⊎ ((allowed policy (type_of the_manager.context) (type_of the_manager.context) Binder managing ≡ false) × (refusal ≡ opening_denial the_manager))
+
+-- the texts are those of a policy under which the manager wasn't opened
+pub record OpeningFails (rules contexts : List ℕ) (refusal : Refusal) : Type 0 where
+  pub policy : Policy
+  pub reads : prepared rules contexts ≡ Ok policy
+  pub fails : MayNotOpen policy refusal
+
+-- why nothing was run
+abbrev pub NotRun : List ℕ → List ℕ → ScriptFault → Type 0
+NotRun rules contexts (PolicyRefused fault) = Fails fault (prepared rules contexts)
+NotRun rules contexts (Opening refusal) = OpeningFails rules contexts refusal
+NotRun rules contexts (Engine fault) = ⊥
+
+-- what the engine read and wrote, from a manager that was just opened to the last one
+pub record Ran (rules contexts : List ℕ) (places bound : ℕ) (result : Result (Unit {0}) Fault) (r r_new w w_new a a_new : Option (List ℕ)) : Type 0 where
+  pub first : Managed
+  pub opened_first : Opens rules contexts places first
+  pub last : Managed
+  pub served : Served AnswersItem result bound first r r_new w w_new a a_new last
+
+-- how a script ended
+abbrev pub RunsScript : Result (Unit {0}) ScriptFault → List ℕ → List ℕ → ℕ → ℕ → Option (List ℕ) → Option (List ℕ) → Option (List ℕ) → Option (List ℕ) → Option (List ℕ) → Option (List ℕ) → Type 0
+RunsScript (Ok x) rules contexts places bound r r_new w w_new a a_new = Ran rules contexts places bound (Ok x) r r_new w w_new a a_new
+RunsScript (Err (Engine fault)) rules contexts places bound r r_new w w_new a a_new = Ran rules contexts places bound (Err fault) r r_new w w_new a a_new
+RunsScript (Err (PolicyRefused fault)) rules contexts places bound r r_new w w_new a a_new = NotRun rules contexts (PolicyRefused fault)
+RunsScript (Err (Opening refusal)) rules contexts places bound r r_new w w_new a a_new = NotRun rules contexts (Opening refusal)
+
+-- a fact, if nothing was run
+abbrev pub IfNotRun : Result (Unit {0}) ScriptFault → Type 0 → Type 0
+IfNotRun (Ok x) fact = Unit {0}
+IfNotRun (Err (Engine fault)) fact = Unit {0}
+IfNotRun (Err (PolicyRefused fault)) fact = fact
+IfNotRun (Err (Opening refusal)) fact = fact

@@ -1,0 +1,94 @@
+//! Scripts, from their policy texts to the end of their input.
+
+ghost use Rattle.std.specs.Prelude.{◌≡◌, ◌<◌, ◌+◌, OnOk, IfOk, MatchResult};
+ghost use Rattle.std.specs.Io.KnownBytes.{IsAtEnd};
+ghost use Rattle.sm_history.specs.Lawful.{MayOpen};
+ghost use Rattle.sm_engine.specs.Counts.{failures_of, inner_of, greatest};
+ghost use Rattle.sm_script.specs.Scripts.{the_manager, opened_manager, MayNotOpen, Opens, NotRun, RunsScript, IfNotRun};
+
+use crate::manager_script::Script;
+use crate::script_fault::ScriptFault;
+use sm_core::Manager;
+use sm_engine::{Counted, Fault, run};
+use sm_history::Refusal;
+use sm_kinds::{Context, ContextError, Identity, Places};
+use sm_policy::Prepared;
+use std::alloc::{AllocError, Global};
+use std::io::{Read, Write};
+
+/// Runs a script under the policy of these texts: answers the requests that come from the reader until its end, a
+/// fault, or `bound` reads. The journal has so many places. Audit lines aren't written yet.
+pub fn run_script<R: Read, W: Write, A: Write>(
+    alloc: Global,
+    rules: &[u8],
+    contexts: &[u8],
+    places: Places,
+    bound: u32,
+    reader: &mut Counted<R>,
+    writer: &mut Counted<W>,
+    audit: &mut Counted<A>,
+) -> Result<(), ScriptFault>
+    requires reader { failures_of reader.old < greatest }
+    requires writer { failures_of writer.old < greatest }
+    requires audit { failures_of audit.old < greatest }
+    // What is written are the answers to the items of what is read, each judged on what those before it left.
+    ensures ran { RunsScript result rules.now contexts.now places bound
+        (R.remaining (inner_of reader.old)) (R.remaining (inner_of reader.new))
+        (W.contents (inner_of writer.old)) (W.contents (inner_of writer.new))
+        (A.contents (inner_of audit.old)) (A.contents (inner_of audit.new)) }
+    ensures unread { IfNotRun result (reader.new ≡ reader.old) }
+    ensures unwritten { IfNotRun result (writer.new ≡ writer.old) }
+    ensures unaudited { IfNotRun result (audit.new ≡ audit.old) }
+    ensures end { OnOk result (IsAtEnd (R.remaining (inner_of reader.new))) }
+    ensures read_fault { result ≡ Err (ScriptFault.Engine Fault.ReadFault) → failures_of reader.old < failures_of reader.new }
+    ensures write_fault { result ≡ Err (ScriptFault.Engine Fault.WriteFault)
+        → failures_of writer.old + failures_of audit.old < failures_of writer.new + failures_of audit.new }
+{
+    let mut script = opened_script(alloc, rules, contexts, places)?;
+    match run(alloc, &mut script, bound, reader, writer, audit) {
+        Ok(()) => Ok(()),
+        Err(fault) => Err(ScriptFault::Engine(fault)),
+    }
+}
+
+// The script before its first request.
+fn opened_script(
+    alloc: Global,
+    rules: &[u8],
+    contexts: &[u8],
+    places: Places,
+) -> Result<Script, ScriptFault>
+    ensures { MatchResult result (λ s. Opens rules.now contexts.now places s) (λ e. NotRun rules.now contexts.now e) }
+{
+    let policy = Prepared::from_texts(alloc, rules, contexts)?;
+    let manager = opened_manager(alloc, policy, places)?;
+    Ok(Script::new(alloc, manager))
+}
+
+// The manager that was just opened under a policy.
+fn opened_manager(alloc: Global, policy: Prepared, places: Places) -> Result<Manager, Refusal>
+    ensures { MatchResult result
+        (λ m. MayOpen the_manager policy × (m ≡ opened_manager places policy))
+        (λ r. MayNotOpen policy r) }
+{
+    match manager_identity(alloc) {
+        Ok(who) => Manager::open(alloc, who, policy, places),
+        Err(_) => Err(Refusal::Memory),
+    }
+}
+
+// Process 1 with the user number of the system, in servicemanager's domain.
+#[tactic(auto, unfolding(sm_kinds::specs::Contexts::is_context))]
+fn manager_identity(alloc: Global) -> Result<Identity, AllocError>
+    ensures { IfOk result (λ who. who ≡ the_manager) }
+{
+    match Context::read(alloc, b"u:r:servicemanager:s0") {
+        Ok(context) => Ok(Identity {
+            pid: 1,
+            uid: 1000,
+            context,
+        }),
+        Err(ContextError::Memory) => Err(AllocError),
+        Err(ContextError::BadContext) => unreachable!(),
+    }
+}

@@ -1,0 +1,17 @@
+//! Whole scripts, over readers and writers that give little or fail: what the contracts leave to a run.
+#![tactic(auto)]
+
+mod failing;
+
+pub use failing::{FailAt, OneByte};
+
+#[cfg(test)]
+mod faults;
+#[cfg(test)]
+mod limits;
+#[cfg(test)]
+mod reloads;
+#[cfg(test)]
+mod scripts;
+#[cfg(test)]
+mod texts;

@@ -1,0 +1,160 @@
+//! Lines, names, clients and journals at their limits, and scripts that are not begun.
+
+use crate::texts::{DEVICE_LABELS, DEVICE_RULES, ONE_LABEL, PLAIN_RULES};
+use sm_engine::{Counted, Fault};
+use sm_history::Refusal;
+use sm_kinds::Places;
+use sm_policy::PolicyFault;
+use sm_script::{ScriptFault, run_script};
+use std::alloc::Global;
+use std::process::Abort;
+use std::test::Fail;
+
+/// What a run of a script left.
+#[derive(Drop)]
+struct Left {
+    result: Result<(), ScriptFault>,
+    replies: Vec<u8>,
+    unread: usize,
+}
+
+fn run_of(
+    rt: &impl Abort,
+    alloc: Global,
+    rules: &[u8],
+    contexts: &[u8],
+    places: u32,
+    script: &[u8],
+) -> Left {
+    let places = Places::new(places).expect(rt, "places");
+    let mut reader = Counted::new(script);
+    let mut writer = Counted::new(Vec::new(alloc));
+    let mut audit = Counted::new(Vec::new(alloc));
+    let result = run_script(
+        alloc,
+        rules,
+        contexts,
+        places,
+        100,
+        &mut reader,
+        &mut writer,
+        &mut audit,
+    );
+    Left {
+        result,
+        replies: writer.into_inner(),
+        unread: reader.into_inner().len(),
+    }
+}
+
+fn device_run(rt: &impl Abort, alloc: Global, places: u32, script: &[u8]) -> Left {
+    run_of(rt, alloc, DEVICE_RULES, DEVICE_LABELS, places, script)
+}
+
+#[test]
+fn input_that_ends_inside_a_line(rt: HostRuntime) -> Result<(), Fail> {
+    let script = b"hello 100 1000 u:r:system_server:s0\n1 lis";
+    let left = device_run(&rt, rt.alloc(), 1000, script);
+    assert!(rt; left.result.is_ok());
+    assert_eq!(rt;
+        left.replies.as_slice(),
+        b"client 1\nfault cut\n".as_slice()
+    );
+    Ok(())
+}
+
+#[test]
+fn lines_of_the_greatest_length(rt: HostRuntime) -> Result<(), Fail> {
+    let alloc = rt.alloc();
+    let mut script = vec![in alloc; b'a'; 4096]?;
+    script.extend_from_slice(b"\n")?;
+    let left = device_run(&rt, alloc, 1000, &script);
+    assert!(rt; left.result.is_ok());
+    assert_eq!(rt; left.replies.as_slice(), b"malformed\n".as_slice());
+    let mut script = vec![in alloc; b'a'; 4097]?;
+    script.extend_from_slice(b"\nhello 100 1000 u:r:system_server:s0\n")?;
+    let left = device_run(&rt, alloc, 1000, &script);
+    assert!(rt; matches!(&left.result, Err(ScriptFault::Engine(Fault::LineTooLong))));
+    assert_eq!(rt; left.replies.as_slice(), b"fault long\n".as_slice());
+    Ok(())
+}
+
+// `1 add NAME o1 0 8`, where the name is so many letters `a`.
+fn add_long(alloc: Global, letters: usize) -> Result<Vec<u8>, Fail> {
+    let mut script = Vec::from_slice(alloc, b"hello 100 1000 u:r:system_server:s0\n1 add ")?;
+    for _ in 0..letters {
+        script.push(b'a')?;
+    }
+    script.extend_from_slice(b" o1 0 8\n")?;
+    Ok(script)
+}
+
+#[test]
+fn names_of_the_greatest_length(rt: HostRuntime) -> Result<(), Fail> {
+    let alloc = rt.alloc();
+    let left = device_run(&rt, alloc, 1000, &add_long(alloc, 127)?);
+    assert_eq!(rt; left.replies.as_slice(), b"client 1\nok\n".as_slice());
+    let left = device_run(&rt, alloc, 1000, &add_long(alloc, 128)?);
+    assert_eq!(rt;
+        left.replies.as_slice(),
+        b"client 1\nexception -3 invalid-name\n".as_slice()
+    );
+    Ok(())
+}
+
+#[test]
+fn one_client_too_many(rt: HostRuntime) -> Result<(), Fail> {
+    let alloc = rt.alloc();
+    let mut script = Vec::new(alloc);
+    let mut wanted = Vec::new(alloc);
+    for n in 1u32..=64 {
+        script.extend_from_slice(b"hello 100 1000 u:r:system_server:s0\n")?;
+        wanted.extend_from_slice(format!(in alloc; "client {n}\n")?.as_bytes())?;
+    }
+    script.extend_from_slice(b"hello 100 1000 u:r:system_server:s0\n64 list 15\n65 list 15\n")?;
+    wanted.extend_from_slice(b"failed too-many-clients\nnames 1 65 0\nfailed not-connected\n")?;
+    let left = device_run(&rt, alloc, 1000, &script);
+    assert!(rt; left.result.is_ok());
+    assert_eq!(rt; left.replies.as_slice(), wanted.as_slice());
+    Ok(())
+}
+
+#[test]
+fn a_journal_of_four_places(rt: HostRuntime) -> Result<(), Fail> {
+    let script = b"hello 100 1000 u:r:system_server:s0
+1 add activity o1 0 8
+1 add activity o1 0 8
+1 list 15
+hello 200 10007 u:r:untrusted_app:s0
+";
+    let replies = b"client 1
+ok
+failed journal-full
+names 1 3 1 activity
+failed journal-full
+";
+    let left = device_run(&rt, rt.alloc(), 4, script);
+    assert!(rt; left.result.is_ok());
+    assert_eq!(rt; left.replies.as_slice(), replies.as_slice());
+    Ok(())
+}
+
+#[test]
+fn scripts_that_are_not_begun(rt: HostRuntime) -> Result<(), Fail> {
+    let script = b"hello 100 1000 u:r:system_server:s0\n";
+    let no_manager = b"type servicemanager;\ntype activity_service;\n";
+    let left = run_of(&rt, rt.alloc(), no_manager, ONE_LABEL, 1000, script);
+    assert!(rt; matches!(&left.result, Err(ScriptFault::Opening(Refusal::Denied(_)))));
+    assert_eq!(rt; left.replies.len(), 0);
+    assert_eq!(rt; left.unread, script.len());
+    let left = run_of(&rt, rt.alloc(), PLAIN_RULES, DEVICE_LABELS, 1000, script);
+    assert!(rt;
+        matches!(
+            &left.result,
+            Err(ScriptFault::Policy(PolicyFault::UndeclaredLabel(3)))
+        )
+    );
+    assert_eq!(rt; left.replies.len(), 0);
+    assert_eq!(rt; left.unread, script.len());
+    Ok(())
+}

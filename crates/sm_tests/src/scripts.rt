@@ -1,0 +1,164 @@
+//! Scripts and what they are answered, line by line.
+
+use crate::texts::{DEVICE_LABELS, DEVICE_RULES, ONE_LABEL, PLAIN_RULES};
+use sm_engine::Counted;
+use sm_kinds::Places;
+use sm_script::run_script;
+use std::alloc::Global;
+use std::process::Abort;
+use std::test::Fail;
+
+/// Request lines, each with the line that answers it.
+type Talk = &'static [(&'static str, &'static str)];
+
+// Runs the lines on the left, and wants those on the right.
+fn holds(
+    rt: &impl Abort,
+    alloc: Global,
+    rules: &[u8],
+    contexts: &[u8],
+    talk: Talk,
+) -> Result<(), Fail> {
+    let mut script = Vec::new(alloc);
+    let mut wanted = Vec::new(alloc);
+    for (line, answer) in talk {
+        script.extend_from_slice(line.as_bytes())?;
+        script.push(b'\n')?;
+        wanted.extend_from_slice(answer.as_bytes())?;
+        wanted.push(b'\n')?;
+    }
+    let places = Places::new(1_048_576).expect(rt, "places");
+    let mut reader = Counted::new(script.as_slice());
+    let mut writer = Counted::new(Vec::new(alloc));
+    let mut audit = Counted::new(Vec::new(alloc));
+    let result = run_script(
+        alloc,
+        rules,
+        contexts,
+        places,
+        100,
+        &mut reader,
+        &mut writer,
+        &mut audit,
+    );
+    assert!(rt; result.is_ok());
+    assert_eq!(rt; writer.into_inner().as_slice(), wanted.as_slice());
+    assert_eq!(rt; audit.into_inner().len(), 0);
+    Ok(())
+}
+
+const FIRST_PATH: Talk = &[
+    ("hello 100 1000 u:r:system_server:s0", "client 1"),
+    ("1 add activity o1 0 8", "ok"),
+    ("hello 101 1000 u:r:system_server:s0", "client 2"),
+    ("2 get activity", "handle 1"),
+    ("1 get activity", "own 1"),
+    ("2 list 8", "names 1 5 1 activity"),
+];
+
+const MISSING_RULES: Talk = &[
+    ("hello 200 1000 u:r:activity_service:s0", "client 1"),
+    (
+        "1 get activity",
+        "failed denied activity_service servicemanager binder call",
+    ),
+    ("hello 102 10000 u:r:system_server:s0", "client 2"),
+    ("2 add activity o1 0 8", "exception -1 app 10000"),
+    ("2 get activity", "null"),
+    ("2 list 15", "names 1 3 0"),
+];
+
+#[test]
+fn with_plain_rules(rt: HostRuntime) -> Result<(), Fail> {
+    for talk in [FIRST_PATH, MISSING_RULES] {
+        holds(&rt, rt.alloc(), PLAIN_RULES, ONE_LABEL, talk)?;
+    }
+    Ok(())
+}
+
+const ONE_HANDLE_FOR_AN_OBJECT: Talk = &[
+    ("hello 100 1000 u:r:system_server:s0", "client 1"),
+    ("1 add activity o1 0 8", "ok"),
+    ("hello 200 10007 u:r:untrusted_app:s0", "client 2"),
+    ("2 get activity", "handle 1"),
+    ("2 check activity", "handle 1"),
+    ("2 add activity o1 0 8", "exception -1 app 10007"),
+    (
+        "2 list 15",
+        "exception -1 denied untrusted_app servicemanager service_manager list",
+    ),
+    ("2 get foo", "null"),
+];
+
+const APPLICATIONS_OF_ANY_USER: Talk = &[
+    ("hello 101 1010007 u:r:system_server:s0", "client 1"),
+    ("1 add activity o1 0 8", "exception -1 app 1010007"),
+    ("hello 102 109999 u:r:system_server:s0", "client 2"),
+    ("2 add activity o1 0 8", "ok"),
+];
+
+const ISOLATED_CALLERS: Talk = &[
+    ("hello 100 1000 u:r:system_server:s0", "client 1"),
+    ("1 add activity o1 0 8", "ok"),
+    ("hello 300 99001 u:r:isolated_app:s0", "client 2"),
+    ("2 get activity", "null"),
+    ("1 add activity o1 1 8", "ok"),
+    ("2 get activity", "handle 1"),
+];
+
+const DUMP_FLAGS: Talk = &[
+    ("hello 100 1000 u:r:system_server:s0", "client 1"),
+    ("1 add activity o1 0 8", "ok"),
+    ("1 list 15", "names 1 3 1 activity"),
+    ("1 list 0", "names 1 3 0"),
+    ("1 list 16", "names 1 3 0"),
+    ("1 list 24", "names 1 3 1 activity"),
+];
+
+const NAMES_AND_OBJECTS: Talk = &[
+    ("hello 100 1000 u:r:system_server:s0", "client 1"),
+    ("1 add % o1 0 8", "exception -3 invalid-name"),
+    ("1 add %612062 o1 0 8", "exception -3 invalid-name"),
+    ("1 add %78 o1 0 8", "ok"),
+    ("1 add x null 0 8", "exception -3 null-binder"),
+    ("1 add y h9 0 8", "failed bad-handle"),
+    ("1 add y o2 0 1", "ok"),
+    ("1 list 15", "names 1 4 2 x y"),
+];
+
+const MALFORMED: Talk = &[
+    ("1 get activity", "failed not-connected"),
+    ("hello 100 1000 u:r", "malformed"),
+    ("hello 100 1000 u:r:system_server:s0", "client 1"),
+    ("", "malformed"),
+    ("1 frob", "malformed"),
+    ("1 list 15 ", "malformed"),
+    ("1  list 15", "malformed"),
+    ("1 list 015", "malformed"),
+    ("1 list 4294967296", "malformed"),
+    ("1 list 15\r", "malformed"),
+    ("1 get a\tb", "malformed"),
+    ("1 get %6", "malformed"),
+    ("1 get %6g", "malformed"),
+    ("1 add activity o1 2 8", "malformed"),
+    ("1 add activity p1 0 8", "malformed"),
+    ("1 take", "malformed"),
+    ("0 list 15", "failed not-connected"),
+    ("1 list 4294967295", "names 1 2 0"),
+];
+
+#[test]
+fn with_device_rules(rt: HostRuntime) -> Result<(), Fail> {
+    for talk in [
+        FIRST_PATH,
+        ONE_HANDLE_FOR_AN_OBJECT,
+        APPLICATIONS_OF_ANY_USER,
+        ISOLATED_CALLERS,
+        DUMP_FLAGS,
+        NAMES_AND_OBJECTS,
+        MALFORMED,
+    ] {
+        holds(&rt, rt.alloc(), DEVICE_RULES, DEVICE_LABELS, talk)?;
+    }
+    Ok(())
+}

@@ -1,0 +1,63 @@
+//! Policy texts for tests.
+
+/// Rules of single names: system_server may become a client, add and find `activity`, and list.
+pub const PLAIN_RULES: &[u8] = b"type servicemanager;
+type system_server;
+type activity_service;
+allow servicemanager servicemanager:binder set_context_mgr;
+allow system_server servicemanager:binder call;
+allow system_server servicemanager:binder transfer;
+allow servicemanager system_server:binder transfer;
+allow system_server activity_service:service_manager add;
+allow system_server activity_service:service_manager find;
+allow system_server servicemanager:service_manager list;
+";
+
+/// Every name has one label.
+pub const ONE_LABEL: &[u8] = b"activity u:object_r:activity_service:s0
+* u:object_r:activity_service:s0
+";
+
+/// Rules with attributes and groups, as a device has them: applications may find `activity` too.
+pub const DEVICE_RULES: &[u8] = b"attribute domain;
+attribute binderuser;
+type servicemanager, domain;
+type system_server, domain, binderuser;
+type untrusted_app, domain, binderuser;
+type isolated_app, domain, binderuser;
+type activity_service;
+type default_android_service;
+allow servicemanager self:binder set_context_mgr;
+allow binderuser servicemanager:binder { call transfer };
+allow servicemanager binderuser:binder { call transfer };
+allow system_server activity_service:service_manager add;
+allow binderuser activity_service:service_manager find;
+allow system_server servicemanager:service_manager list;
+allow untrusted_app system_server:binder { call transfer };
+allow system_server default_android_service:service_manager { add find };
+";
+
+/// The same without the last rule, and no application may ever add a service.
+pub const GUARDED_RULES: &[u8] = b"attribute domain;
+attribute binderuser;
+type servicemanager, domain;
+type system_server, domain, binderuser;
+type untrusted_app, domain, binderuser;
+type isolated_app, domain, binderuser;
+type activity_service;
+type default_android_service;
+allow servicemanager self:binder set_context_mgr;
+allow binderuser servicemanager:binder { call transfer };
+allow servicemanager binderuser:binder { call transfer };
+allow system_server activity_service:service_manager add;
+allow binderuser activity_service:service_manager find;
+allow system_server servicemanager:service_manager list;
+allow untrusted_app system_server:binder { call transfer };
+neverallow untrusted_app *:service_manager add;
+";
+
+/// `activity` has a label of its own.
+pub const DEVICE_LABELS: &[u8] = b"# labels
+activity u:object_r:activity_service:s0
+* u:object_r:default_android_service:s0
+";

@@ -1,0 +1,94 @@
+-- Rows of attributes as types are added to them.
+use Rattle.std.proofs.Common.{inl, inr, ◌≡◌, ℕ, ◌+◌, ◌<◌, ◌≤◌, Bool, true, false, ◌||◌, ◌&&◌, List, [], ◌∷◌, length, get_or, take, refl, sym, ap, ◌∙◌, arith, eqb, length-append, ◌++◌, ◌-◌, ◌%◌}
+use Rattle.std.specs.Str.{bytes_eq}
+use Rattle.std.proofs.lemmas.Bool.{cases_eq, cases_lt}
+use Rattle.std.proofs.lemmas.List.{get_or_append_left, get_or-append_right, get_or_past}
+use Rattle.std.proofs.lemmas.List.Folds.{list_any_more}
+use Rattle.sm_bits.specs.Bits.{has}
+use Rattle.sm_types.specs.Names.{Name, at}
+use Rattle.sm_types.specs.Denoting.{gives_attribute, has_attribute}
+use Rattle.sm_types.specs.Members.{row, Given, Fits, MembersOf}
+use Rattle.sm_kinds.specs.Names.{contains}
+use Rattle.sm_types.specs.declared.symbols.Symbols.{Symbols}
+use Rattle.sm_ruletext.specs.declared.statement.Statement.{Statement}
+use Rattle.std.proofs.lemmas.Nat.Bits.{bit_at-zero}
+
+-- no row is the empty set
+has_nothing : (i : ℕ) → has [] i ≡ false
+unfolding has
+has_nothing i = rw (bit_at-zero (i % 64)) refl
+
+not_or : (x y : Bool) → x ≡ (x || (y && false))
+not_or true y = refl
+not_or false true = refl
+not_or false false = refl
+
+pub given_none : (old : List (List ℕ)) (attributes : List Name) (t : ℕ) → Given old old attributes [] t
+given_none old attributes t = record { count = refl; room = λ a. refl; given = λ a i h. not_or (has (row old a) i) (eqb i t) }
+
+or_more : (x y c d : Bool) → ((x || (y && c)) || (y && d)) ≡ (x || (y && (c || d)))
+or_more true y c d = refl
+or_more false true c d = refl
+or_more false false c d = refl
+
+pub given_more : (old mid new : List (List ℕ)) (attributes names : List Name) (t n : ℕ) (name : Name) → n < length names → name ≡ get_or names n name
+    → length new ≡ length mid → ((a : ℕ) → length (row new a) ≡ length (row mid a))
+    → ((a i : ℕ) → a < length attributes → has (row new a) i ≡ (has (row mid a) i || (eqb i t && bytes_eq name (at attributes a))))
+    → Given old mid attributes (take n names) t → Given old new attributes (take (n + 1) names) t
+given_more old mid new attributes names t n name h is count room step before = record {
+  count = count ∙ before.count;
+  room = λ a. room a ∙ before.room a;
+  given = λ a i small.
+      let more : contains (take (n + 1) names) (at attributes a) ≡ (contains (take n names) (at attributes a) || bytes_eq name (at attributes a)) =
+      list_any_more (λ w. bytes_eq w (at attributes a)) names n name h ∙ ap (λ (w : Name). contains (take n names) (at attributes a) || bytes_eq w (at attributes a)) (sym is) in
+      rw (step a i small, before.given a i small, more) (or_more (has (row old a) i) (eqb i t) (contains (take n names) (at attributes a)) (bytes_eq name (at attributes a)));
+}
+
+-- n empty rows of w words
+pub record Empty (rows : List (List ℕ)) (n w : ℕ) : Type 0 where
+  pub count : length rows ≡ n
+  pub room : (a : ℕ) → a < n → length (row rows a) ≡ w
+  pub none : (a i : ℕ) → has (row rows a) i ≡ false
+
+row_old : (rows : List (List ℕ)) (r : List ℕ) (a : ℕ) → a < length rows → row (rows ++ r ∷ []) a ≡ row rows a
+row_old rows r a h = get_or_append_left rows (r ∷ []) [] a h
+
+row_new : (rows : List (List ℕ)) (r : List ℕ) (a : ℕ) → a ≡ length rows → row (rows ++ r ∷ []) a ≡ r
+row_new rows r a h = get_or-append_right rows (r ∷ []) (length rows) a [] refl (omega arith) ∙ (let z : a - length rows ≡ 0 = omega arith in rw z refl)
+
+row_past : (rows : List (List ℕ)) (a i : ℕ) → length rows ≤ a → has (row rows a) i ≡ false
+row_past rows a i h = rw (get_or_past rows a [] h) (has_nothing i)
+
+pub empty_none : (w : ℕ) → Empty [] 0 w
+empty_none w = record { count = refl; room = λ a h. absurd (omega arith); none = λ a i. row_past [] a i (omega arith) }
+
+pub empty_more : (rows new : List (List ℕ)) (r : List ℕ) (n w : ℕ) → new ≡ rows ++ r ∷ [] → length r ≡ w → ((i : ℕ) → has r i ≡ false) → Empty rows n w → Empty new (n + 1) w
+empty_more rows new r n w is wide nothing before = rw is (record {
+  count = length-append rows (r ∷ []) ∙ (omega (arith, before.count));
+  room = λ a h. elim (cases_lt a (length rows)) [
+    | inl old ↦ ap length (row_old rows r a old) ∙ before.room a (omega (arith, before.count))
+    | inr new ↦ ap length (row_new rows r a (omega (arith, before.count))) ∙ wide
+  ];
+  none = λ a i. elim (cases_lt a (length rows)) [
+    | inl old ↦ rw (row_old rows r a old) (before.none a i)
+    | inr new ↦ elim (cases_eq a (length rows)) [
+      | inl at ↦ rw (row_new rows r a at) (nothing i)
+      | inr off ↦ row_past (rows ++ r ∷ []) a i (omega (arith, length-append rows (r ∷ [])))
+    ]
+  ];
+})
+
+pub members_none : (symbols : Symbols) (rows : List (List ℕ)) → Fits rows symbols → ((a i : ℕ) → has (row rows a) i ≡ false) → MembersOf [] symbols rows
+members_none symbols rows fits none = record { fits = fits; says = λ a i h g. none a i }
+
+pub members_more : (policy : List Statement) (symbols : Symbols) (rows new : List (List ℕ)) (n : ℕ) (st : Statement) → n < length policy → st ≡ get_or policy n st → Fits new symbols
+    → ((a i : ℕ) → a < length symbols.attributes → i < length symbols.types → has (row new a) i ≡ (has (row rows a) i || gives_attribute (at symbols.types i) (at symbols.attributes a) st.what))
+    → MembersOf (take n policy) symbols rows → MembersOf (take (n + 1) policy) symbols new
+members_more policy symbols rows new n st h is fits step before = record {
+  fits = fits;
+  says = λ a i small low.
+      let p : Statement → Bool = λ s. gives_attribute (at symbols.types i) (at symbols.attributes a) s.what in
+      let more : has_attribute (take (n + 1) policy) (at symbols.types i) (at symbols.attributes a) ≡ (has_attribute (take n policy) (at symbols.types i) (at symbols.attributes a) || p st) =
+      list_any_more p policy n st h ∙ ap (λ (s : Statement). has_attribute (take n policy) (at symbols.types i) (at symbols.attributes a) || p s) (sym is) in
+      rw (step a i small low, before.says a i small low, more) refl;
+}

@@ -1,0 +1,96 @@
+-- What declarations are refused, in the order of the text.
+use Rattle.std.specs.Prelude.{◌≡◌, ℕ, Bool, true, not, ◌&&◌, ◌||◌, nat_le, if◌then◌else◌, List, [], ◌∷◌, ◌++◌, length, find, option_map, Option, Some, None, Result, Ok, Err}
+use Rattle.std.specs.List.{list_any, list_all}
+use Rattle.std.specs.Str.{bytes_eq}
+use Rattle.sm_ruletext.specs.declared.statement.What.{What}
+use Rattle.sm_ruletext.specs.declared.statement.What.TheVariants.{Attribute, Declared, Member, Allow, Neverallow}
+use Rattle.sm_ruletext.specs.declared.statement.Statement.{Statement}
+use Rattle.sm_types.specs.declared.symbols.Symbols.{Symbols}
+use Rattle.sm_types.specs.declared.fault.TypesFault.{TypesFault}
+use Rattle.sm_types.specs.declared.fault.TypesFault.TheVariants.{Twice, Unknown, TooMany, Memory}
+use Rattle.sm_types.specs.Names.{Name}
+
+abbrev pub Step : Type 0 → Type 0
+Step A = Result A TypesFault
+
+infixl 10 ◌>>=◌
+abbrev pub ◌>>=◌ : {A B : Type 0} → Step A → (A → Step B) → Step B
+(Ok x) >>= f = f x
+(Err e) >>= f = Err e
+
+-- The error is the fault that was expected, unless memory ran out.
+abbrev pub Fails : {B : Type 0} → TypesFault → Step B → Type 0
+Fails Memory expected = Unit {0}
+Fails (Twice line) expected = expected ≡ Err (Twice line)
+Fails (Unknown line) expected = expected ≡ Err (Unknown line)
+Fails TooMany expected = expected ≡ Err TooMany
+
+abbrev pub Gives : {A B : Type 0} → (A → B) → Step A → Step B → Type 0
+Gives view (Ok x) expected = expected ≡ Ok (view x)
+Gives view (Err e) expected = Fails e expected
+
+-- ---- declarations
+
+abbrev pub nothing : Symbols
+nothing = record { types = []; attributes = [] }
+
+-- types and attributes share one space of names
+abbrev pub is_declared : Symbols → Name → Bool
+is_declared symbols name = list_any (bytes_eq name) symbols.types || list_any (bytes_eq name) symbols.attributes
+
+unfoldable pub with_type : Symbols → ℕ → Name → Step Symbols
+with_type symbols line name =
+    if is_declared symbols name then Err (Twice line)
+    else if nat_le 4096 (length symbols.types) then Err TooMany
+    else Ok (record { types = symbols.types ++ name ∷ []; attributes = symbols.attributes })
+
+unfoldable pub with_attribute : Symbols → ℕ → Name → Step Symbols
+with_attribute symbols line name =
+    if is_declared symbols name then Err (Twice line)
+    else if nat_le 1024 (length symbols.attributes) then Err TooMany
+    else Ok (record { types = symbols.types; attributes = symbols.attributes ++ name ∷ [] })
+
+unfoldable pub with_declaration : Symbols → ℕ → What → Step Symbols
+with_declaration symbols line (Attribute name) = with_attribute symbols line name
+with_declaration symbols line (Declared name names) = with_type symbols line name
+with_declaration symbols line (Member name names) = Ok symbols
+with_declaration symbols line (Allow rule) = Ok symbols
+with_declaration symbols line (Neverallow rule) = Ok symbols
+
+unfoldable pub declared : Symbols → List Statement → Step Symbols
+declared symbols [] = Ok symbols
+declared symbols (st ∷ sts) = with_declaration symbols st.line st.what >>= λ next. declared next sts
+
+-- ---- memberships
+
+abbrev pub all_attributes : Symbols → List Name → Bool
+all_attributes symbols names = list_all (λ name. list_any (bytes_eq name) symbols.attributes) names
+
+abbrev pub members_known : Symbols → What → Bool
+members_known symbols (Declared name names) = all_attributes symbols names
+members_known symbols (Member name names) = list_any (bytes_eq name) symbols.types && all_attributes symbols names
+members_known symbols (Attribute name) = true
+members_known symbols (Allow rule) = true
+members_known symbols (Neverallow rule) = true
+
+abbrev pub first_unknown : Symbols → List Statement → Option ℕ
+first_unknown symbols policy = option_map (λ st. st.line) (find (λ st. not (members_known symbols st.what)) policy)
+
+abbrev pub unless : Option ℕ → Symbols → Step Symbols
+unless (Some line) symbols = Err (Unknown line)
+unless None symbols = Ok symbols
+
+-- the names of a policy, if nothing is refused: all declarations come first, then all memberships
+unfoldable pub symbols_of : List Statement → Step Symbols
+symbols_of policy = declared nothing policy >>= λ symbols. unless (first_unknown symbols policy) symbols
+
+-- A claim on a refusal other than for want of memory.
+abbrev pub UnlessMemory : TypesFault → Type 0 → Type 0
+UnlessMemory Memory P = Unit {0}
+UnlessMemory (Twice line) P = P
+UnlessMemory (Unknown line) P = P
+UnlessMemory TooMany P = P
+
+-- Each of these names is declared.
+abbrev pub all_declared : Symbols → List Name → Bool
+all_declared symbols names = list_all (is_declared symbols) names

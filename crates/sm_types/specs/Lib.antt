@@ -1,0 +1,4 @@
+pub mod Names
+pub mod Denoting
+pub mod Declaring
+pub mod Members

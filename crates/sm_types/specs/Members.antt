@@ -1,0 +1,41 @@
+-- Rows of bits that say which type has which attribute.
+use Rattle.std.specs.Prelude.{◌≡◌, ℕ, false, ◌&&◌, ◌||◌, nat_eq, ◌<◌, ◌≤◌, ◌/◌, ◌+◌, List, [], length, Ok}
+use Rattle.std.proofs.Common.{get_or}
+use Rattle.sm_bits.specs.Bits.{has}
+use Rattle.sm_kinds.specs.Names.{contains}
+use Rattle.sm_types.specs.Names.{Name, at, Distinct}
+use Rattle.sm_types.specs.Denoting.{Policy, types, attributes, has_attribute}
+use Rattle.sm_types.specs.Declaring.{symbols_of}
+use Rattle.sm_types.specs.declared.symbols.Symbols.{Symbols}
+use Rattle.sm_types.specs.declared.table.Table.{Table}
+
+-- The row of an attribute.
+abbrev pub row : List (List ℕ) → ℕ → List ℕ
+row members a = get_or members a []
+
+-- In the row of each attribute that is named, t is added, and nothing else is changed.
+pub record Given (old new : List (List ℕ)) (attributes names : List Name) (t : ℕ) : Type 0 where
+  pub count : length new ≡ length old
+  pub room : (a : ℕ) → length (row new a) ≡ length (row old a)
+  pub given : (a i : ℕ) → a < length attributes → has (row new a) i ≡ (has (row old a) i || (nat_eq i t && contains names (at attributes a)))
+
+-- No type stands twice, and each attribute has a row, with room for each type and no number past the types.
+pub record Fits (members : List (List ℕ)) (symbols : Symbols) : Type 0 where
+  pub distinct : Distinct symbols.types
+  pub few : length symbols.types ≤ 4096
+  pub count : length members ≡ length symbols.attributes
+  pub room : (a : ℕ) → a < length symbols.attributes → length (row members a) ≡ length symbols.types / 64 + 1
+  pub past : (a i : ℕ) → a < length symbols.attributes → length symbols.types ≤ i → has (row members a) i ≡ false
+
+-- The rows say which type has which attribute in the policy.
+pub record MembersOf (policy : Policy) (symbols : Symbols) (members : List (List ℕ)) : Type 0 where
+  pub fits : Fits members symbols
+  pub says : (a i : ℕ) → a < length symbols.attributes → i < length symbols.types
+      → has (row members a) i ≡ has_attribute policy (at symbols.types i) (at symbols.attributes a)
+
+-- The table is that of the policy, in which no declaration and no membership is refused.
+pub record IsOf (policy : Policy) (table : Table) : Type 0 where
+  pub accepted : symbols_of policy ≡ Ok table.symbols
+  pub types : table.symbols.types ≡ types policy
+  pub attributes : table.symbols.attributes ≡ attributes policy
+  pub rows : MembersOf policy table.symbols table.members.items

@@ -1,0 +1,20 @@
+-- Lists of distinct names.
+use Rattle.std.specs.Prelude.{◌≡◌, ℕ, Bool, true, false, ◌<◌, nat_eq, List, [], length, Option, Some, None}
+use Rattle.std.proofs.Common.{get_or}
+use Rattle.std.specs.Str.{bytes_eq}
+
+abbrev pub Name : Type 0
+Name = List ℕ
+
+-- The name at a place.
+abbrev pub at : List Name → ℕ → Name
+at names i = get_or names i []
+
+-- No name stands at two places.
+abbrev pub Distinct : List Name → Type 0
+Distinct names = (i j : ℕ) → i < length names → j < length names → bytes_eq (at names i) (at names j) ≡ true → i ≡ j
+
+-- Whether this is the place.
+abbrev pub is_at : Option ℕ → ℕ → Bool
+is_at (Some k) j = nat_eq j k
+is_at None j = false

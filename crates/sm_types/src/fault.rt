@@ -1,0 +1,35 @@
+//! Why the declarations of a rule text, or a set of types, were refused.
+
+ghost use Rattle.std.specs.Prelude.{◌≡◌};
+ghost use Rattle.sm_types.specs.declared.fault.TypesFault.TheVariants.{Memory};
+
+use std::alloc::{AllocError, AllocFailed};
+
+/// The first fault of the declarations, or that of a set.
+#[derive(Clone, Copy, Debug, PartialEq, Eq)]
+pub enum TypesFault {
+    /// The name that the statement at this line declares is declared already.
+    Twice(u32),
+    /// The statement at this line has a name that isn't declared so.
+    Unknown(u32),
+    /// There are more than 4,096 types or 1,024 attributes.
+    TooMany,
+    /// Memory was refused.
+    Memory,
+}
+
+impl From<AllocError> for TypesFault {
+    ghost from_gives = { λ _ e. e ≡ Memory };
+
+    fn from(_e: AllocError) -> TypesFault {
+        TypesFault::Memory
+    }
+}
+
+impl<T: Drop> From<AllocFailed<T>> for TypesFault {
+    ghost from_gives = { λ _ e. e ≡ Memory };
+
+    fn from(_e: AllocFailed<T>) -> TypesFault {
+        TypesFault::Memory
+    }
+}

@@ -1,0 +1,152 @@
+//! The names that a rule text declares.
+
+ghost use Rattle.std.specs.Prelude.{◌≡◌, ◌≤◌, length, IfOk, not, find, option_map};
+ghost use Rattle.std.specs.List.{list_any, list_all};
+ghost use Rattle.std.specs.Str.{bytes_eq};
+ghost use Rattle.sm_types.specs.Declaring as spec;
+ghost use Rattle.sm_types.specs.Declaring.{Gives};
+
+use crate::TypesFault;
+use crate::name_set::NameSet;
+use sm_kinds::Names;
+use sm_ruletext::{Statement, What};
+use std::alloc::Global;
+
+/// The most types of a rule text.
+const MAX_TYPES: usize = 4096;
+
+/// The most attributes of a rule text.
+const MAX_ATTRIBUTES: usize = 1024;
+
+/// The types and the attributes of a rule text, which share one space of names.
+#[derive(Drop)]
+pub struct Symbols {
+    pub types: NameSet,
+    pub attributes: NameSet,
+}
+
+fn is_declared(symbols: &Symbols, name: &[u8]) -> bool
+    ensures { result ≡ spec.is_declared symbols.now name.now }
+{
+    symbols.types.contains(name) || symbols.attributes.contains(name)
+}
+
+#[tactic(auto, unfolding(crate::specs::Declaring::with_type))]
+fn with_type(alloc: Global, symbols: Symbols, line: u32, name: &[u8]) -> Result<Symbols, TypesFault>
+    ensures few { IfOk result (λ s. length s.types ≤ 4096) }
+    ensures exact { Gives (λ s. s) result (spec.with_type symbols line name.now) }
+{
+    if is_declared(&symbols, name) {
+        return Err(TypesFault::Twice(line));
+    }
+    let Symbols {
+        mut types,
+        attributes,
+    } = symbols;
+    if types.len() >= MAX_TYPES {
+        return Err(TypesFault::TooMany);
+    }
+    types.insert(alloc, name)?;
+    Ok(Symbols { types, attributes })
+}
+
+#[tactic(auto, unfolding(crate::specs::Declaring::with_attribute))]
+fn with_attribute(
+    alloc: Global,
+    symbols: Symbols,
+    line: u32,
+    name: &[u8],
+) -> Result<Symbols, TypesFault>
+    ensures same { IfOk result (λ s. s.types ≡ symbols.types) }
+    ensures exact { Gives (λ s. s) result (spec.with_attribute symbols line name.now) }
+{
+    if is_declared(&symbols, name) {
+        return Err(TypesFault::Twice(line));
+    }
+    let Symbols {
+        types,
+        mut attributes,
+    } = symbols;
+    if attributes.len() >= MAX_ATTRIBUTES {
+        return Err(TypesFault::TooMany);
+    }
+    attributes.insert(alloc, name)?;
+    Ok(Symbols { types, attributes })
+}
+
+#[tactic(auto, unfolding(crate::specs::Declaring::with_declaration))]
+fn with_declaration(
+    alloc: Global,
+    symbols: Symbols,
+    statement: &Statement,
+) -> Result<Symbols, TypesFault>
+    ensures few { length symbols.types ≤ 4096 → IfOk result (λ s. length s.types ≤ 4096) }
+    ensures exact { Gives
+        (λ s. s) result (spec.with_declaration symbols statement.now.line statement.now.what) }
+{
+    match &statement.what {
+        What::Attribute(name) => with_attribute(alloc, symbols, statement.line, name.bytes()),
+        What::Declared(name, _) => with_type(alloc, symbols, statement.line, name.bytes()),
+        _ => Ok(symbols),
+    }
+}
+
+/// All declarations, in the order of the text.
+fn declared(alloc: Global, statements: &[Statement]) -> Result<Symbols, TypesFault>
+    ensures few { IfOk result (λ s. length s.types ≤ 4096) }
+    ensures exact { Gives (λ s. s) result (spec.declared spec.nothing statements.now) }
+{
+    let mut symbols = Symbols {
+        types: NameSet::new(alloc),
+        attributes: NameSet::new(alloc),
+    };
+    for statement in statements {
+        symbols = with_declaration(alloc, symbols, statement)?;
+    }
+    Ok(symbols)
+}
+
+fn all_attributes(symbols: &Symbols, names: &Names) -> bool
+    ensures { result ≡ spec.all_attributes symbols.now names.now }
+{
+    names
+        .list()
+        .iter()
+        .all(|name| symbols.attributes.contains(name.bytes()))
+}
+
+/// Whether the attributes that a statement gives are declared, and the type that it gives them.
+fn members_known(symbols: &Symbols, what: &What) -> bool
+    ensures { result ≡ spec.members_known symbols.now what.now }
+{
+    match what {
+        What::Declared(_, names) => all_attributes(symbols, names),
+        What::Member(name, names) => {
+            symbols.types.contains(name.bytes()) && all_attributes(symbols, names)
+        }
+        _ => true,
+    }
+}
+
+/// The line of the first statement whose names aren't declared so.
+fn first_unknown(symbols: &Symbols, statements: &[Statement]) -> Option<u32>
+    ensures { result ≡ spec.first_unknown symbols.now statements.now }
+{
+    statements
+        .iter()
+        .find(|statement| !members_known(symbols, &statement.what))
+        .map(|statement| statement.line)
+}
+
+/// The names that a rule text declares, where no declaration and no membership is refused.
+#[tactic(auto, unfolding(crate::specs::Declaring::symbols_of))]
+pub fn symbols_of(alloc: Global, statements: &[Statement]) -> Result<Symbols, TypesFault>
+    ensures few { IfOk result (λ s. length s.types ≤ 4096) }
+    ensures exact { Gives (λ s. s) result (spec.symbols_of statements.now) }
+{
+    let symbols = declared(alloc, statements)?;
+    match first_unknown(&symbols, statements) {
+        Some(line) => Err(TypesFault::Unknown(line)),
+        None => Ok(symbols),
+    }
+}

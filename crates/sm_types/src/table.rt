@@ -1,0 +1,173 @@
+//! Which types a set denotes.
+
+ghost use Rattle.std.specs.Prelude.{◌≡◌, ◌||◌, ◌&&◌, ◌<◌, ◌≤◌, ◌+◌, ◌/◌, ℕ, List, length, IfOk, IfErr, IsTrue, nat_lt, false, true};
+ghost use Rattle.std.specs.List.{list_any};
+ghost use Rattle.std.specs.Str.{bytes_eq};
+ghost use Rattle.sm_bits.specs.Bits.{has};
+ghost use Rattle.sm_ruletext.specs.declared.statement.Statement.{Statement as TheStatement};
+ghost use Rattle.sm_types.specs.Names.{at};
+ghost use Rattle.sm_types.specs.Declaring.{Fails, symbols_of, is_declared, all_declared, UnlessMemory};
+ghost use Rattle.sm_types.specs.Denoting.{is_named, has_attribute, chosen, in_set};
+ghost use Rattle.sm_types.specs.Members.{row, Fits, IsOf};
+ghost use Rattle.sm_types.specs.declared.fault.TypesFault.TheVariants.{Unknown};
+
+use crate::TypesFault;
+use crate::members::members_of;
+use crate::symbols::{Symbols, symbols_of};
+use sm_bits::BitRow;
+use sm_kinds::Names;
+use sm_ruletext::{Set, Statement};
+use std::alloc::{AllocError, Global};
+
+/// The types of a rule text, and for each attribute the row of those that have it.
+pub struct Table {
+    pub symbols: Symbols,
+    pub members: Vec<BitRow>,
+}
+
+impl Drop for Table {
+    fn drop(self) {
+        let Table {
+            symbols: _,
+            members: _,
+        } = self;
+    }
+}
+
+/// The table of a rule text, or the first refusal.
+pub fn table_of(alloc: Global, statements: &[Statement]) -> Result<Table, TypesFault>
+    ensures refused { IfErr result (λ e. Fails e (symbols_of statements.now)) }
+    ensures built { IfOk result (λ t. IsOf statements.now t) }
+{
+    let symbols = symbols_of(alloc, statements)?;
+    let members = members_of(alloc, &symbols, statements)?;
+    Ok(Table { symbols, members })
+}
+
+/// Adds the type of that name. `false`: there is none.
+fn add_type(table: &Table, set: &mut BitRow, word: &[u8]) -> bool
+    requires { length set.old ≡ length table.now.symbols.types / 64 + 1 }
+    ensures room { length set.new ≡ length set.old }
+    ensures known { result ≡ list_any (bytes_eq word.now) table.now.symbols.types }
+    ensures added { (i : ℕ) → i < length table.now.symbols.types
+        → has set.new i ≡ (has set.old i || bytes_eq word.now (at table.now.symbols.types i)) }
+    ensures past { (i : ℕ) → length table.now.symbols.types ≤ i → has set.new i ≡ has set.old i }
+{
+    match table.symbols.types.index(word) {
+        Some(t) => {
+            set.insert(t);
+            true
+        }
+        None => false,
+    }
+}
+
+/// Adds the types that have the attribute of that name. `false`: there is none.
+fn add_members(table: &Table, set: &mut BitRow, word: &[u8]) -> bool
+    requires fits { Fits table.now.members.items table.now.symbols }
+    requires room { length set.old ≡ length table.now.symbols.types / 64 + 1 }
+    ensures room { length set.new ≡ length set.old }
+    ensures known { result ≡ list_any (bytes_eq word.now) table.now.symbols.attributes }
+    ensures added { (policy : List TheStatement) → IsOf policy table.now → (i : ℕ)
+        → i < length table.now.symbols.types
+        → has set.new i ≡ (has set.old i
+        || has_attribute policy (at table.now.symbols.types i) word.now) }
+    ensures past { (i : ℕ) → length table.now.symbols.types ≤ i → has set.new i ≡ has set.old i }
+{
+    match table.symbols.attributes.index(word) {
+        Some(a) => {
+            set.union_with(&table.members[a]);
+            true
+        }
+        None => false,
+    }
+}
+
+/// Adds the types that a word names. `false`: the word isn't declared.
+fn add_named(table: &Table, set: &mut BitRow, word: &[u8]) -> bool
+    requires fits { Fits table.now.members.items table.now.symbols }
+    requires room { length set.old ≡ length table.now.symbols.types / 64 + 1 }
+    ensures room { length set.new ≡ length set.old }
+    ensures known { result ≡ is_declared table.now.symbols word.now }
+    ensures added { (policy : List TheStatement) → IsOf policy table.now → (i : ℕ)
+        → i < length table.now.symbols.types
+        → has set.new i ≡ (has set.old i
+        || is_named policy (at table.now.symbols.types i) word.now) }
+    ensures past { (i : ℕ) → length table.now.symbols.types ≤ i → has set.new i ≡ has set.old i }
+{
+    let is_type = add_type(table, set, word);
+    let is_attribute = add_members(table, set, word);
+    is_type || is_attribute
+}
+
+/// Adds the types that words name. `false`: some word isn't declared.
+fn add_all(table: &Table, set: &mut BitRow, words: &Names) -> bool
+    requires fits { Fits table.now.members.items table.now.symbols }
+    requires room { length set.old ≡ length table.now.symbols.types / 64 + 1 }
+    ensures room { length set.new ≡ length set.old }
+    ensures known { result ≡ all_declared table.now.symbols words.now }
+    ensures added { IsTrue result → (policy : List TheStatement) → IsOf policy table.now → (i : ℕ)
+        → i < length table.now.symbols.types
+        → has set.new i ≡ (has set.old i
+        || list_any (is_named policy (at table.now.symbols.types i)) words.now) }
+    ensures past { (i : ℕ) → length table.now.symbols.types ≤ i → has set.new i ≡ has set.old i }
+{
+    for word in words.list() {
+        if !add_named(table, set, word.bytes()) {
+            return false;
+        }
+    }
+    true
+}
+
+/// All types.
+fn all_types(alloc: Global, table: &Table) -> Result<BitRow, AllocError>
+    ensures room { IfOk result (λ row. length row ≡ length table.now.symbols.types / 64 + 1) }
+    ensures all { IfOk result (λ row. (i : ℕ) → has row i
+        ≡ nat_lt i (length table.now.symbols.types)) }
+{
+    let count = table.symbols.types.len();
+    let mut set = BitRow::empty(alloc, count / 64 + 1)?;
+    for t in 0..count {
+        set.insert(t);
+    }
+    Ok(set)
+}
+
+/// The types that the items of a set choose.
+#[tactic(auto, unfolding(crate::specs::Denoting::chosen))]
+pub fn chosen_types(alloc: Global, table: &Table, set: &Set) -> Result<BitRow, TypesFault>
+    requires { Fits table.now.members.items table.now.symbols }
+    ensures room { IfOk result (λ row. length row ≡ length table.now.symbols.types / 64 + 1) }
+    ensures denoted { IfOk result (λ row. (policy : List TheStatement) → IsOf policy table.now
+        → (i : ℕ) → i < length table.now.symbols.types
+        → has row i ≡ chosen policy set.now (at table.now.symbols.types i)) }
+    ensures past { IfOk result (λ row. (i : ℕ) → length table.now.symbols.types ≤ i
+        → has row i ≡ false) }
+    ensures known { IfOk result (λ row. (all_declared table.now.symbols set.now.plus
+        && all_declared table.now.symbols set.now.minus) ≡ true) }
+    ensures unknown { IfErr result (λ e. UnlessMemory e ((e ≡ Unknown set.now.line)
+        × ((all_declared table.now.symbols set.now.plus
+        && all_declared table.now.symbols set.now.minus) ≡ false))) }
+{
+    let all = all_types(alloc, table)?;
+    let words = table.symbols.types.len() / 64 + 1;
+    let mut chosen = BitRow::empty(alloc, words)?;
+    if set.all {
+        chosen.union_with(&all);
+    }
+    if !add_all(table, &mut chosen, &set.plus) {
+        return Err(TypesFault::Unknown(set.line));
+    }
+    let mut minus = BitRow::empty(alloc, words)?;
+    if !add_all(table, &mut minus, &set.minus) {
+        return Err(TypesFault::Unknown(set.line));
+    }
+    chosen.subtract(&minus);
+    if !set.complement {
+        return Ok(chosen);
+    }
+    let mut others = all;
+    others.subtract(&chosen);
+    Ok(others)
+}

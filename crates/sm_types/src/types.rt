@@ -1,0 +1,123 @@
+//! The types of a rule text.
+
+ghost use Rattle.std.specs.Prelude.{◌≡◌, ◌<◌, ◌≤◌, ◌+◌, ◌/◌, ℕ, List, length, position, slice_get, option_map, IfOk, IfErr, IfSome, Some, is_some, false, true};
+ghost use Rattle.std.specs.Str.{bytes_eq};
+ghost use Rattle.sm_bits.specs.Bits.{has};
+ghost use Rattle.sm_ruletext.specs.declared.statement.Statement.{Statement as TheStatement};
+ghost use Rattle.sm_types.specs.Names.{at, is_at};
+ghost use Rattle.sm_types.specs.Declaring.{Fails, symbols_of, UnlessMemory};
+ghost use Rattle.sm_types.specs.Denoting.{in_set, declares, all_known};
+ghost use Rattle.sm_types.specs.Members.{IsOf};
+ghost use Rattle.sm_types.specs.declared.fault.TypesFault.TheVariants.{Unknown};
+
+use crate::TypesFault;
+use crate::table::{Table, chosen_types, table_of};
+use sm_bits::BitRow;
+use sm_ruletext::{Set, Statement};
+use std::alloc::Global;
+use std::marker::Model;
+
+/// The declared types of a rule text, numbered from 0 in the order of their declaration, and
+/// which of them have which attribute.
+///
+/// Contracts see it as a table of names and rows; `IsOf` says that the table is that of a text.
+pub struct Types {
+    table: Table,
+}
+
+impl Model for Types {
+    ghost use Rattle.sm_types.specs.declared.table.Table.{Table};
+    ghost use Rattle.sm_types.specs.Members.{Fits};
+
+    ghost Value = { Table };
+
+    ghost view = { λ t. t.table };
+
+    ghost invariant = { λ t. Fits t.table.members.items t.table.symbols };
+}
+
+impl Drop for Types {
+    fn drop(self) {
+        let Types { table: _ } = self;
+    }
+}
+
+impl Types {
+    /// The types of a rule text.
+    ///
+    /// # Errors
+    ///
+    /// First all declarations in the order of the text: `Twice` for a name that is declared
+    /// again, as a type or an attribute, and `TooMany` for a type past 4,096 or an attribute
+    /// past 1,024. Then all memberships in that order: `Unknown` where a `type` statement gives
+    /// a name that is no attribute, or a `typeattribute` statement has a name that is no type,
+    /// or no attribute. `Memory` where memory was refused.
+    pub fn build(alloc: Global, statements: &[Statement]) -> Result<Types, TypesFault>
+        ensures refused { IfErr result (λ e. Fails e (symbols_of statements.now)) }
+        ensures built { IfOk result (λ types. IsOf statements.now types) }
+    {
+        let table = table_of(alloc, statements)?;
+        Ok(Types { table })
+    }
+
+    /// How many types there are, at most 4,096.
+    pub fn count(&self) -> usize
+        ensures count { result ≡ length self.now.symbols.types }
+        ensures few { result ≤ 4096 }
+    {
+        self.table.symbols.types.len()
+    }
+
+    /// How many attributes there are, at most 1,024.
+    pub fn attribute_count(&self) -> usize
+        ensures { result ≡ length self.now.symbols.attributes }
+    {
+        self.table.symbols.attributes.len()
+    }
+
+    /// The number of a type.
+    pub fn index(&self, name: &[u8]) -> Option<u16>
+        ensures place { result ≡ position (bytes_eq name.now) self.now.symbols.types }
+        ensures named { IfSome result (λ i. slice_get self.now.symbols.types i ≡ Some name.now) }
+        ensures declared { (policy : List TheStatement) → IsOf policy self.now
+            → is_some result ≡ declares policy name.now }
+    {
+        match self.table.symbols.types.index(name) {
+            Some(i) => Some(i as u16),
+            None => None,
+        }
+    }
+
+    /// The name of a type by its number.
+    pub fn name(&self, index: u16) -> Option<&[u8]>
+        ensures name { option_map (λ n. n.now) result ≡ slice_get self.now.symbols.types index }
+        ensures index { IfSome result (λ n. position (bytes_eq n.now) self.now.symbols.types
+            ≡ Some index) }
+    {
+        let name = self.table.symbols.types.name(usize::from(index))?;
+        Some(name)
+    }
+
+    /// The types that a set denotes, as bits by their numbers.
+    ///
+    /// # Errors
+    ///
+    /// `Unknown`, with the set's line, where a name of the set isn't declared, as a type or as
+    /// an attribute; `Memory` where memory was refused.
+    pub fn expand(&self, alloc: Global, set: &Set) -> Result<BitRow, TypesFault>
+        ensures room { IfOk result (λ row. length row ≡ length self.now.symbols.types / 64 + 1) }
+        ensures denoted { IfOk result (λ row. (policy : List TheStatement) → IsOf policy self.now
+            → (i : ℕ) → i < length self.now.symbols.types
+            → has row i ≡ in_set policy set.now (at self.now.symbols.types i)) }
+        ensures past { IfOk result (λ row. (i : ℕ) → length self.now.symbols.types ≤ i
+            → has row i ≡ false) }
+        ensures known { IfOk result (λ row. (policy : List TheStatement) → IsOf policy self.now
+            → all_known policy set.now ≡ true) }
+        ensures unknown { IfErr result (λ e. UnlessMemory e ((e ≡ Unknown set.now.line)
+            × ((policy : List TheStatement) → IsOf policy self.now
+            → all_known policy set.now ≡ false))) }
+    {
+        let row = chosen_types(alloc, &self.table, set)?;
+        Ok(row)
+    }
+}

@@ -1,0 +1,121 @@
+-- The items of a stream of bytes.
+use Rattle.std.specs.Prelude.{◌≡◌, ◌≢◌, ℕ, ◌+◌, List, [], ◌∷◌, ◌++◌, length, take, drop, Option, Some, None, Bool, true, false, ◌||◌, ◌&&◌, nat_le, ◌==◌, if◌then◌else◌}
+use Rattle.sm_wire.specs.declared.request.Request.{Request}
+use Rattle.sm_wire.specs.declared.item.Item.{Item}
+use Rattle.sm_wire.specs.declared.item.Item.TheVariants.{Asked, Policy, Malformed, LineTooLong}
+use Rattle.sm_wire.specs.declared.cuts.Mode.{Mode}
+use Rattle.sm_wire.specs.declared.cuts.Mode.TheVariants.{Line, Texts as TextsMode, Dead}
+use Rattle.sm_wire.specs.declared.announced.Announced.{Announced}
+use Rattle.sm_wire.specs.Grammar.{request_of, announced_of}
+
+-- how far the stream has been read: what comes next, and the bytes of it so far
+pub record Scan : Type 0 where
+  pub mode : Mode
+  pub held : List ℕ
+
+abbrev pub line_limit : ℕ
+line_limit = 4096
+
+abbrev pub text_limit : ℕ
+text_limit = 4194304
+
+-- before the first byte, and after an item
+abbrev pub scan_start : Scan
+scan_start = record { mode = Line; held = [] }
+
+-- after a line that was too long
+abbrev pub scan_dead : Scan
+scan_dead = record { mode = Dead; held = [] }
+
+-- no line was too long yet
+abbrev pub IsAlive : Scan → Type 0
+IsAlive s = s.mode ≢ Dead
+
+-- a line was too long
+abbrev pub IsDead : Scan → Type 0
+IsDead s = s.mode ≡ Dead
+
+-- where one byte leads, and the item that it ends
+abbrev pub Step : Type 0
+Step = Scan × List Item
+
+-- the item of a line
+unfoldable pub item_of : List ℕ → Item
+item_of line = asked (request_of line)
+  where
+    asked : Option Request → Item
+    asked (Some request) = Asked request
+    asked None = Malformed
+
+-- the item of a `reload` line and of the bytes behind it
+abbrev pub policy_item : Announced → List ℕ → Item
+policy_item a bytes = Policy (record { expected = a.expected; rules = take a.rules bytes; contexts = drop a.rules bytes })
+
+-- the end of a `reload` line: its texts come, if it announces any
+unfoldable pub text_start : Announced → Step
+text_start a =
+    if nat_le a.rules text_limit && nat_le a.contexts text_limit
+    then (if a.rules + a.contexts == 0 then (scan_start, policy_item a [] ∷ []) else (record { mode = TextsMode a; held = [] }, []))
+    else (scan_dead, LineTooLong ∷ [])
+
+-- the end of a line
+unfoldable pub line_end : List ℕ → Step
+line_end line = ended (announced_of line)
+  where
+    ended : Option Announced → Step
+    ended (Some a) = text_start a
+    ended None = (scan_start, item_of line ∷ [])
+
+-- one more byte of a line
+unfoldable pub line_step : List ℕ → ℕ → Step
+line_step held b = if b == 10 then line_end held
+    else (if nat_le line_limit (length held) then (scan_dead, LineTooLong ∷ [])
+    else (record { mode = Line; held = held ++ b ∷ [] }, []))
+
+-- the bytes of the texts, with one more
+unfoldable pub text_step : Announced → List ℕ → Step
+text_step a bytes = if length bytes == a.rules + a.contexts then (scan_start, policy_item a bytes ∷ [])
+    else (record { mode = TextsMode a; held = bytes }, [])
+
+-- one more byte
+unfoldable pub mode_step : Mode → List ℕ → ℕ → Step
+mode_step Line held b = line_step held b
+mode_step (TextsMode a) held b = text_step a (held ++ b ∷ [])
+mode_step Dead held b = (scan_dead, [])
+
+abbrev pub byte_step : Scan → ℕ → Step
+byte_step s b = mode_step s.mode s.held b
+
+-- where the bytes lead, and the items that are whole
+abbrev pub scan_after : Scan → List ℕ → Scan
+scan_after s [] = s
+scan_after s (b ∷ bs) = scan_after (byte_step s b).0 bs
+
+abbrev pub items_after : Scan → List ℕ → List Item
+items_after s [] = []
+items_after s (b ∷ bs) = (byte_step s b).1 ++ items_after (byte_step s b).0 bs
+
+-- the items of a stream, and what is left of it
+abbrev pub items_of : List ℕ → List Item
+items_of bytes = items_after scan_start bytes
+
+abbrev pub rest_of : List ℕ → Scan
+rest_of bytes = scan_after scan_start bytes
+
+-- a step's end as the code has it: what is read next, the bytes that it has of it, and one item more, if any
+pub record Makes (s : Step) (mode : Mode) (held : List ℕ) (old new : List Item) : Type 0 where
+  pub scan : s.0 ≡ record { mode = mode; held = held }
+  pub items : new ≡ old ++ s.1
+
+abbrev pub in_texts : Mode → Bool
+in_texts Line = false
+in_texts (TextsMode a) = true
+in_texts Dead = false
+
+abbrev pub is_some_byte : List ℕ → Bool
+is_some_byte [] = false
+is_some_byte (b ∷ bs) = true
+
+-- the stream stands inside a line or a text
+abbrev pub has_rest : Scan → Bool
+has_rest s = in_texts s.mode || is_some_byte s.held

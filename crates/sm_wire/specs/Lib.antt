@@ -1,0 +1,7 @@
+pub mod Number
+pub mod Fields
+pub mod Reading
+pub mod Grammar
+pub mod Items
+pub mod Replies
+pub mod Texts

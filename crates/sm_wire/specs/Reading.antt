@@ -1,0 +1,14 @@
+-- What a reader of a field or a line returns.
+use Rattle.std.specs.Prelude.{◌≡◌, Option, Some, None, option_and_then, Result, Ok, Err}
+use Rattle.sm_wire.specs.declared.read_error.ReadError.{ReadError}
+use Rattle.sm_wire.specs.declared.read_error.ReadError.TheVariants.{Malformed, Memory}
+
+infixl 10 ◌>>=◌
+abbrev pub ◌>>=◌ : {A B : Type 0} → Option A → (A → Option B) → Option B
+o >>= f = option_and_then f o
+
+-- what is read is what the grammar says, and Malformed comes where it says nothing; want of memory may come at any text
+abbrev pub Reads : {A : Type 0} → Result A ReadError → Option A → Type 0
+Reads (Ok x) o = o ≡ Some x
+Reads (Err Malformed) o = o ≡ None
+Reads (Err Memory) o = Unit {0}

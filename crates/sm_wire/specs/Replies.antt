@@ -1,0 +1,181 @@
+-- The reply lines.
+use Rattle.std.specs.Prelude.{ℕ, List, [], ◌∷◌, ◌++◌, length, codes, Bool, true, false, ◌&&◌, ◌==◌, if◌then◌else◌, Option, Some, None, unwrap_or}
+use Rattle.std.specs.List.{flat_map}
+use Rattle.std.specs.Fmt.{decimal}
+use Rattle.hex.specs.Hex.{encode_lower}
+use Rattle.sm_kinds.specs.declared.class.Class.{Class}
+use Rattle.sm_kinds.specs.declared.class.Class.TheVariants.{ServiceManager, Binder}
+use Rattle.sm_kinds.specs.declared.perms.Perms.{Perms}
+use Rattle.sm_kinds.specs.Names.{is_valid_name}
+use Rattle.sm_kinds.specs.Permissions.{class_word, perm_word}
+use Rattle.sm_history.specs.declared.delivery.Given.{Given}
+use Rattle.sm_history.specs.declared.delivery.Given.TheVariants.{Handle, Own, Null}
+use Rattle.sm_history.specs.declared.delivery.Message.{Message}
+use Rattle.sm_history.specs.declared.delivery.Message.TheVariants.{Called, Registered}
+use Rattle.sm_history.specs.declared.denial.Denial.{Denial}
+use Rattle.sm_history.specs.declared.denial.Denial.TheVariants.{Rule, App, Isolated}
+use Rattle.sm_history.specs.declared.outcome.Outcome.{Outcome}
+use Rattle.sm_history.specs.declared.outcome.Outcome.TheVariants.{Opened, Connected, Added, Granted, Watched, Unwatched, Unregistered, Sent, Released, Taken, Died, Reloaded}
+use Rattle.sm_history.specs.declared.refusal.Exception.{Exception}
+use Rattle.sm_history.specs.declared.refusal.Exception.TheVariants.{NotAdder, InvalidName, NullService, NullBinder, DeadOwner, TableFull, NothingToUnregister, NotRegistered, OtherObject, InUse}
+use Rattle.sm_history.specs.declared.refusal.Failure.{Failure}
+use Rattle.sm_history.specs.declared.refusal.Failure.TheVariants.{NotYours, NotConnected, OutOfTurn, BadHandle, TargetFull}
+use Rattle.sm_history.specs.declared.refusal.Refusal.{Refusal}
+use Rattle.sm_history.specs.declared.refusal.Refusal.TheVariants as refusals
+use Rattle.sm_history.specs.declared.reply.Answer.{Answer}
+use Rattle.sm_history.specs.declared.reply.Answer.TheVariants.{Names, Version, Why}
+use Rattle.sm_history.specs.declared.reply.Reply.{Reply}
+use Rattle.sm_history.specs.declared.reply.Reply.TheVariants.{Done, GotNull, GotOwn, Looked, Refused}
+use Rattle.sm_wire.specs.declared.request.Request.{Request}
+use Rattle.sm_wire.specs.declared.request.Request.TheVariants.{Hello, Add, Get, Look, Ask}
+
+-- a valid name as it is, another as `%` and two lower-case hexadecimal digits for each byte
+unfoldable pub name_text : List ℕ → List ℕ
+name_text name = if is_valid_name name then name else codes "%" ++ encode_lower name
+
+abbrev pub spaced_name : List ℕ → List ℕ
+spaced_name name = codes " " ++ name_text name
+
+-- `names VERSION LENGTH COUNT` and the names
+unfoldable pub names_text : ℕ → ℕ → List (List ℕ) → List ℕ
+names_text version count names =
+    codes "names " ++ decimal version ++ codes " " ++ decimal count ++ codes " " ++ decimal (length names) ++ flat_map spaced_name names
+
+-- `allowed VERSION LINE` or `unwritten VERSION`
+unfoldable pub why_text : ℕ → Option ℕ → List ℕ
+why_text version (Some line) = codes "allowed " ++ decimal version ++ codes " " ++ decimal line
+why_text version None = codes "unwritten " ++ decimal version
+
+unfoldable pub answer_text : ℕ → ℕ → Answer → List ℕ
+answer_text version count (Names names) = names_text version count names
+answer_text version count Version = codes "version " ++ decimal version ++ codes " " ++ decimal count
+answer_text version count (Why line) = why_text version line
+
+-- `hN`, `oN` or `null`
+unfoldable pub given_text : Given → List ℕ
+given_text (Handle n) = codes "h" ++ decimal n
+given_text (Own n) = codes "o" ++ decimal n
+given_text Null = codes "null"
+
+abbrev pub spaced_given : Given → List ℕ
+spaced_given given = codes " " ++ given_text given
+
+-- two lower-case hexadecimal digits for each byte, or `-` for none
+unfoldable pub payload_text : List ℕ → List ℕ
+payload_text [] = codes "-"
+payload_text (b ∷ bs) = encode_lower (b ∷ bs)
+
+-- `call oO PID UID` and a space
+unfoldable pub caller_text : ℕ → ℕ → ℕ → List ℕ
+caller_text object pid uid =
+    codes "call o" ++ decimal object ++ (codes " " ++ decimal pid) ++ (codes " " ++ decimal uid) ++ codes " "
+
+-- `registered oO NAME REF`
+unfoldable pub registered_text : ℕ → List ℕ → Given → List ℕ
+registered_text object name given =
+    codes "registered o" ++ decimal object ++ spaced_name name ++ spaced_given given
+
+-- `call oO PID UID PAYLOAD` and the references, or `registered oO NAME REF`
+unfoldable pub message_text : ℕ → Message → List ℕ
+message_text object (Called pid uid payload refs) = caller_text object pid uid ++ payload_text payload ++ flat_map spaced_given refs
+message_text object (Registered name given) = registered_text object name given
+
+unfoldable pub outcome_text : Outcome → List ℕ
+outcome_text Opened = codes "ok"
+outcome_text (Connected client) = codes "client " ++ decimal client.0
+outcome_text (Added notices) = codes "ok"
+outcome_text (Granted handle) = codes "handle " ++ decimal handle
+outcome_text (Watched notice) = codes "ok"
+outcome_text (Unwatched count) = codes "ok"
+outcome_text Unregistered = codes "ok"
+outcome_text (Sent delivery) = codes "ok"
+outcome_text Released = codes "ok"
+outcome_text (Taken delivery) = message_text delivery.object delivery.what
+outcome_text Died = codes "bye"
+outcome_text (Reloaded version) = codes "reloaded " ++ decimal version
+
+-- binder's exception codes
+abbrev pub exception_text : Exception → List ℕ
+exception_text NotAdder = codes "exception -1 not-adder"
+exception_text InvalidName = codes "exception -3 invalid-name"
+exception_text NullService = codes "exception -3 null-binder"
+exception_text NullBinder = codes "exception -4 null-binder"
+exception_text DeadOwner = codes "exception -5 dead-owner"
+exception_text TableFull = codes "exception -5 table-full"
+exception_text NothingToUnregister = codes "exception -5 nothing-to-unregister"
+exception_text NotRegistered = codes "exception -5 not-registered"
+exception_text OtherObject = codes "exception -5 other-object"
+exception_text InUse = codes "exception -5 in-use"
+
+unfoldable pub failure_text : Failure → List ℕ
+failure_text NotYours = codes "failed not-yours"
+failure_text NotConnected = codes "failed not-connected"
+failure_text (OutOfTurn have) = codes "failed out-of-turn " ++ decimal have
+failure_text BadHandle = codes "failed bad-handle"
+failure_text TargetFull = codes "failed target-full"
+
+-- a missing rule of `service_manager` is the exception EX_SECURITY, one of `binder` a failed transaction
+abbrev pub denied_by : Class → List ℕ
+denied_by ServiceManager = codes "exception -1 denied "
+denied_by Binder = codes "failed denied "
+
+-- the word of a single permission; a set of several has none
+abbrev pub perm_text : Perms → List ℕ
+perm_text perm = unwrap_or (perm_word perm) []
+
+unfoldable pub rule_text : List ℕ → List ℕ → Class → Perms → List ℕ
+rule_text source target class perm =
+    denied_by class ++ source ++ codes " " ++ target ++ codes " " ++ class_word class ++ codes " " ++ perm_text perm
+
+unfoldable pub denial_text : Denial → List ℕ
+denial_text (Rule source target class perm) = rule_text source target class perm
+denial_text (App uid) = codes "exception -1 app " ++ decimal uid
+denial_text (Isolated uid) = codes "exception -1 isolated " ++ decimal uid
+
+abbrev pub is_service_manager : Class → Bool
+is_service_manager ServiceManager = true
+is_service_manager Binder = false
+
+-- what a Get keeps to itself: that `find` is missing, or that the service isn't for isolated callers
+unfoldable pub is_hidden : Denial → Bool
+is_hidden (Rule source target class perm) = is_service_manager class && (perm.0 == 2)
+is_hidden (App uid) = false
+is_hidden (Isolated uid) = true
+
+-- the answer to a Get that is denied so is the one where nothing is found
+unfoldable pub denied_text : Bool → Denial → List ℕ
+denied_text is_get denial = if is_get && is_hidden denial then codes "null" else denial_text denial
+
+unfoldable pub refusal_text : Bool → Refusal → List ℕ
+refusal_text is_get (refusals.Denied denial) = denied_text is_get denial
+refusal_text is_get (refusals.Exception exception) = exception_text exception
+refusal_text is_get (refusals.Failed failure) = failure_text failure
+refusal_text is_get refusals.Dead = codes "dead"
+refusal_text is_get refusals.Empty = codes "empty"
+refusal_text is_get refusals.TooManyClients = codes "failed too-many-clients"
+refusal_text is_get (refusals.VersionMoved now) = codes "moved " ++ decimal now
+refusal_text is_get refusals.JournalFull = codes "failed journal-full"
+refusal_text is_get refusals.Memory = codes "failed memory"
+refusal_text is_get refusals.NoSeat = codes "failed no-seat"
+
+unfoldable pub answered_text : Bool → Reply → List ℕ
+answered_text is_get (Done outcome) = outcome_text outcome
+answered_text is_get GotNull = codes "null"
+answered_text is_get (GotOwn object) = codes "own " ++ decimal object
+answered_text is_get (Looked version count answer) = answer_text version count answer
+answered_text is_get (Refused refusal) = refusal_text is_get refusal
+
+-- the line of a reply, to a Get or to another request
+unfoldable pub reply_text_for : Bool → Reply → List ℕ
+reply_text_for is_get reply = answered_text is_get reply ++ codes "\n"
+
+unfoldable pub is_get_request : Request → Bool
+is_get_request (Hello who) = false
+is_get_request (Add client name obj allow_isolated dump) = false
+is_get_request (Get client name) = true
+is_get_request (Look client query) = false
+is_get_request (Ask query) = false
+
+-- the line of a reply to a request
+abbrev pub reply_text : Request → Reply → List ℕ
+reply_text request reply = reply_text_for (is_get_request request) reply

@@ -1,0 +1,111 @@
+//! Deliveries, as reply lines have them.
+
+ghost use Rattle.std.specs.Prelude.{◌≡◌, ◌++◌, OnOk, codes};
+ghost use Rattle.std.specs.List.{flat_map};
+ghost use Rattle.sm_wire.specs.Replies.{given_text, spaced_given, payload_text, caller_text, registered_text, message_text};
+
+use crate::names::{push_numbered, push_spaced_name};
+use sm_history::{Delivery, Given, Message};
+use std::alloc::{AllocError, Global};
+
+pub fn push_delivery(
+    alloc: Global,
+    out: &mut Vec<u8>,
+    delivery: &Delivery,
+) -> Result<(), AllocError>
+    ensures { OnOk result (out.new.items ≡ out.old.items ++ message_text delivery.now.object delivery.now.what) }
+{
+    push_message(alloc, out, delivery.object, &delivery.what)
+}
+
+#[tactic(auto, unfolding(crate::specs::Replies::message_text))]
+fn push_message(
+    alloc: Global,
+    out: &mut Vec<u8>,
+    object: u32,
+    message: &Message,
+) -> Result<(), AllocError>
+    ensures { OnOk result (out.new.items ≡ out.old.items ++ message_text object message.now) }
+{
+    match message {
+        Message::Called {
+            pid,
+            uid,
+            payload,
+            refs,
+        } => {
+            push_caller(out, object, *pid, *uid)?;
+            push_payload(alloc, out, payload.bytes())?;
+            push_refs(out, refs.list())
+        }
+        Message::Registered { name, given } => {
+            push_registered(alloc, out, object, name.bytes(), *given)
+        }
+    }
+}
+
+#[tactic(auto, unfolding(crate::specs::Replies::registered_text))]
+fn push_registered(
+    alloc: Global,
+    out: &mut Vec<u8>,
+    object: u32,
+    name: &[u8],
+    given: Given,
+) -> Result<(), AllocError>
+    ensures { OnOk result (out.new.items ≡ out.old.items ++ registered_text object name.now given) }
+{
+    push_numbered(out, b"registered o", u64::from(object))?;
+    push_spaced_name(alloc, out, name)?;
+    push_spaced_given(out, given)
+}
+
+#[tactic(auto, unfolding(crate::specs::Replies::caller_text))]
+fn push_caller(out: &mut Vec<u8>, object: u32, pid: u32, uid: u32) -> Result<(), AllocError>
+    ensures { OnOk result (out.new.items ≡ out.old.items ++ caller_text object pid uid) }
+{
+    push_numbered(out, b"call o", u64::from(object))?;
+    push_numbered(out, b" ", u64::from(pid))?;
+    push_numbered(out, b" ", u64::from(uid))?;
+    out.extend_from_slice(b" ")
+}
+
+#[tactic(auto, unfolding(crate::specs::Replies::payload_text))]
+fn push_payload(alloc: Global, out: &mut Vec<u8>, payload: &[u8]) -> Result<(), AllocError>
+    ensures { OnOk result (out.new.items ≡ out.old.items ++ payload_text payload.now) }
+{
+    match payload {
+        [] => out.extend_from_slice(b"-"),
+        [_, ..] => {
+            let digits = hex::encode(alloc, payload)?;
+            out.extend_from_slice(digits.as_bytes())
+        }
+    }
+}
+
+// Each reference after a space.
+fn push_refs(out: &mut Vec<u8>, refs: &[Given]) -> Result<(), AllocError>
+    ensures { OnOk result (out.new.items ≡ out.old.items ++ flat_map spaced_given refs.now) }
+{
+    for given in refs {
+        push_spaced_given(out, *given)?;
+    }
+    Ok(())
+}
+
+fn push_spaced_given(out: &mut Vec<u8>, given: Given) -> Result<(), AllocError>
+    ensures { OnOk result (out.new.items ≡ out.old.items ++ spaced_given given) }
+{
+    out.extend_from_slice(b" ")?;
+    push_given(out, given)
+}
+
+#[tactic(auto, unfolding(crate::specs::Replies::given_text))]
+fn push_given(out: &mut Vec<u8>, given: Given) -> Result<(), AllocError>
+    ensures { OnOk result (out.new.items ≡ out.old.items ++ given_text given) }
+{
+    match given {
+        Given::Handle(n) => push_numbered(out, b"h", u64::from(n)),
+        Given::Own(n) => push_numbered(out, b"o", u64::from(n)),
+        Given::Null => out.extend_from_slice(b"null"),
+    }
+}

@@ -1,0 +1,29 @@
+//! The lines that a service manager is spoken to in: request lines read, reply lines written, and a stream of bytes
+//! cut into its requests, whatever pieces it comes in.
+#![tactic(auto)]
+
+mod announced;
+mod announcing;
+mod cuts;
+mod deliveries;
+mod fields;
+mod grammar;
+mod item;
+mod laws;
+mod lines;
+mod names;
+mod numbers;
+mod read_error;
+mod refusals;
+mod replies;
+mod request;
+mod texts;
+
+pub use announced::Announced;
+pub use item::Item;
+pub use laws::{any_cut, first_line, long_line, reload_line};
+pub use lines::{FeedError, Lines};
+pub use read_error::ReadError;
+pub use replies::{reply_line, reply_line_for};
+pub use request::Request;
+pub use texts::PolicyTexts;

@@ -1,0 +1,55 @@
+//! Names and numbers, as reply lines have them.
+
+ghost use Rattle.std.specs.Prelude.{◌≡◌, ◌++◌, OnOk, codes};
+ghost use Rattle.std.specs.List.{flat_map};
+ghost use Rattle.std.specs.Fmt.{decimal};
+ghost use Rattle.sm_wire.specs.Replies.{name_text, spaced_name};
+
+use itoa::Buffer;
+use sm_kinds::{Name, valid_name};
+use std::alloc::{AllocError, Global};
+
+pub fn push_number(out: &mut Vec<u8>, n: u64) -> Result<(), AllocError>
+    ensures { OnOk result (out.new.items ≡ out.old.items ++ decimal n) }
+{
+    let mut buffer = Buffer::new();
+    let digits = buffer.format(n);
+    out.extend_from_slice(digits.as_bytes())
+}
+
+/// A word and a number.
+pub fn push_numbered(out: &mut Vec<u8>, word: &[u8], n: u64) -> Result<(), AllocError>
+    ensures { OnOk result (out.new.items ≡ out.old.items ++ (word.now ++ decimal n)) }
+{
+    out.extend_from_slice(word)?;
+    push_number(out, n)
+}
+
+#[tactic(auto, unfolding(crate::specs::Replies::name_text))]
+fn push_name(alloc: Global, out: &mut Vec<u8>, name: &[u8]) -> Result<(), AllocError>
+    ensures { OnOk result (out.new.items ≡ out.old.items ++ name_text name.now) }
+{
+    if valid_name(name) {
+        return out.extend_from_slice(name);
+    }
+    let digits = hex::encode(alloc, name)?;
+    out.extend_from_slice(b"%")?;
+    out.extend_from_slice(digits.as_bytes())
+}
+
+/// Each name after a space.
+pub fn push_names(alloc: Global, out: &mut Vec<u8>, names: &[Name]) -> Result<(), AllocError>
+    ensures { OnOk result (out.new.items ≡ out.old.items ++ flat_map spaced_name names.now) }
+{
+    for name in names {
+        push_spaced_name(alloc, out, name.bytes())?;
+    }
+    Ok(())
+}
+
+pub fn push_spaced_name(alloc: Global, out: &mut Vec<u8>, name: &[u8]) -> Result<(), AllocError>
+    ensures { OnOk result (out.new.items ≡ out.old.items ++ spaced_name name.now) }
+{
+    out.extend_from_slice(b" ")?;
+    push_name(alloc, out, name)
+}

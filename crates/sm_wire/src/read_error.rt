@@ -1,0 +1,23 @@
+//! Why a field or a line was not read.
+
+use std::alloc::AllocError;
+
+/// Why a field or a line was not read.
+#[derive(Clone, Copy, Debug, PartialEq, Eq)]
+pub enum ReadError {
+    /// The grammar of request lines does not have it.
+    Malformed,
+    /// Memory was refused.
+    Memory,
+}
+
+impl From<AllocError> for ReadError {
+    ghost use Rattle.std.specs.Prelude.{◌≡◌};
+    ghost use Rattle.sm_wire.specs.declared.read_error.ReadError.TheVariants.{Memory};
+
+    ghost from_gives = { λ _ e. e ≡ Memory };
+
+    fn from(_e: AllocError) -> ReadError {
+        ReadError::Memory
+    }
+}

@@ -1,0 +1,140 @@
+//! Refusals, as reply lines have them.
+
+ghost use Rattle.std.specs.Prelude.{◌≡◌, ◌++◌, OnOk, codes, unwrap_or, option_map};
+ghost use Rattle.sm_wire.specs.Replies.{exception_text, failure_text, denied_by, perm_text, rule_text, denial_text, is_hidden, denied_text, refusal_text};
+
+use crate::names::push_numbered;
+use sm_history::{Denial, Exception, Failure, Refusal};
+use sm_kinds::{Class, Perms};
+use std::alloc::AllocError;
+
+#[tactic(auto, unfolding(crate::specs::Replies::refusal_text))]
+pub fn push_refusal(out: &mut Vec<u8>, is_get: bool, refusal: &Refusal) -> Result<(), AllocError>
+    ensures { OnOk result (out.new.items ≡ out.old.items ++ refusal_text is_get refusal.now) }
+{
+    match refusal {
+        Refusal::Denied(denial) => push_denied(out, is_get, denial),
+        Refusal::Exception(exception) => out.extend_from_slice(exception_words(*exception)),
+        Refusal::Failed(failure) => push_failure(out, *failure),
+        Refusal::Dead => out.extend_from_slice(b"dead"),
+        Refusal::Empty => out.extend_from_slice(b"empty"),
+        Refusal::TooManyClients => out.extend_from_slice(b"failed too-many-clients"),
+        Refusal::VersionMoved(now) => push_numbered(out, b"moved ", *now),
+        Refusal::JournalFull => out.extend_from_slice(b"failed journal-full"),
+        Refusal::Memory => out.extend_from_slice(b"failed memory"),
+        Refusal::NoSeat => out.extend_from_slice(b"failed no-seat"),
+    }
+}
+
+// A Get that `find` or the isolated clause denies is answered as if nothing were there.
+#[tactic(auto, unfolding(crate::specs::Replies::denied_text))]
+fn push_denied(out: &mut Vec<u8>, is_get: bool, denial: &Denial) -> Result<(), AllocError>
+    ensures { OnOk result (out.new.items ≡ out.old.items ++ denied_text is_get denial.now) }
+{
+    if is_get && is_hidden(denial) {
+        return out.extend_from_slice(b"null");
+    }
+    push_denial(out, denial)
+}
+
+#[tactic(auto, unfolding(crate::specs::Replies::is_hidden))]
+fn is_hidden(denial: &Denial) -> bool
+    ensures { result ≡ is_hidden denial.now }
+{
+    match denial {
+        Denial::Rule {
+            source: _,
+            target: _,
+            class,
+            perm,
+        } => matches!(*class, Class::ServiceManager) && perm.0 == 2,
+        Denial::App(_) => false,
+        Denial::Isolated(_) => true,
+    }
+}
+
+#[tactic(auto, unfolding(crate::specs::Replies::denial_text))]
+fn push_denial(out: &mut Vec<u8>, denial: &Denial) -> Result<(), AllocError>
+    ensures { OnOk result (out.new.items ≡ out.old.items ++ denial_text denial.now) }
+{
+    match denial {
+        Denial::Rule {
+            source,
+            target,
+            class,
+            perm,
+        } => push_rule(out, source.bytes(), target.bytes(), *class, *perm),
+        Denial::App(uid) => push_numbered(out, b"exception -1 app ", u64::from(*uid)),
+        Denial::Isolated(uid) => push_numbered(out, b"exception -1 isolated ", u64::from(*uid)),
+    }
+}
+
+// The rule that is missing.
+#[tactic(auto, unfolding(crate::specs::Replies::rule_text))]
+fn push_rule(
+    out: &mut Vec<u8>,
+    source: &[u8],
+    target: &[u8],
+    class: Class,
+    perm: Perms,
+) -> Result<(), AllocError>
+    ensures { OnOk result (out.new.items ≡ out.old.items ++ rule_text source.now target.now class perm) }
+{
+    out.extend_from_slice(denied_by(class))?;
+    out.extend_from_slice(source)?;
+    out.extend_from_slice(b" ")?;
+    out.extend_from_slice(target)?;
+    out.extend_from_slice(b" ")?;
+    out.extend_from_slice(class.word())?;
+    out.extend_from_slice(b" ")?;
+    out.extend_from_slice(perm_words(perm))
+}
+
+fn denied_by(class: Class) -> &'static [u8]
+    ensures { result.now ≡ denied_by class }
+{
+    match class {
+        Class::ServiceManager => b"exception -1 denied ",
+        Class::Binder => b"failed denied ",
+    }
+}
+
+fn perm_words(perm: Perms) -> &'static [u8]
+    ensures { result.now ≡ perm_text perm }
+{
+    match perm.word() {
+        Some(word) => word,
+        None => b"",
+    }
+}
+
+// Binder's exception codes: EX_SECURITY -1, EX_ILLEGAL_ARGUMENT -3, EX_NULL_POINTER -4, EX_ILLEGAL_STATE -5.
+fn exception_words(exception: Exception) -> &'static [u8]
+    ensures { result.now ≡ exception_text exception }
+{
+    match exception {
+        Exception::NotAdder => b"exception -1 not-adder",
+        Exception::InvalidName => b"exception -3 invalid-name",
+        Exception::NullService => b"exception -3 null-binder",
+        Exception::NullBinder => b"exception -4 null-binder",
+        Exception::DeadOwner => b"exception -5 dead-owner",
+        Exception::TableFull => b"exception -5 table-full",
+        Exception::NothingToUnregister => b"exception -5 nothing-to-unregister",
+        Exception::NotRegistered => b"exception -5 not-registered",
+        Exception::OtherObject => b"exception -5 other-object",
+        Exception::InUse => b"exception -5 in-use",
+    }
+}
+
+#[tactic(auto, unfolding(crate::specs::Replies::failure_text))]
+fn push_failure(out: &mut Vec<u8>, failure: Failure) -> Result<(), AllocError>
+    ensures { OnOk result (out.new.items ≡ out.old.items ++ failure_text failure) }
+{
+    match failure {
+        Failure::NotYours => out.extend_from_slice(b"failed not-yours"),
+        Failure::NotConnected => out.extend_from_slice(b"failed not-connected"),
+        Failure::OutOfTurn(have) => push_numbered(out, b"failed out-of-turn ", have),
+        Failure::BadHandle => out.extend_from_slice(b"failed bad-handle"),
+        Failure::TargetFull => out.extend_from_slice(b"failed target-full"),
+    }
+}

@@ -1,0 +1,122 @@
+//! Reply lines.
+
+ghost use Rattle.std.specs.Prelude.{◌≡◌, ◌++◌, OnOk, IfOk};
+ghost use Rattle.sm_wire.specs.Replies.{names_text, why_text, answer_text, outcome_text, answered_text, reply_text_for, reply_text};
+
+use crate::deliveries::push_delivery;
+use crate::names::{push_names, push_number, push_numbered};
+use crate::refusals::push_refusal;
+use crate::request::Request;
+use sm_history::{Answer, Outcome, Reply};
+use sm_kinds::Name;
+use std::alloc::{AllocError, Global};
+
+/// The line of a reply to a request, with its newline.
+pub fn reply_line(alloc: Global, asked: &Request, reply: &Reply) -> Result<Vec<u8>, AllocError>
+    ensures { IfOk result (λ line. line.items ≡ reply_text asked.now reply.now) }
+{
+    reply_line_for(alloc, asked.is_get(), reply)
+}
+
+/// The line of a reply to a Get, or to any other request. A Get isn't told that it was denied by `find` or by the
+/// isolated clause (`ServiceManager.cpp`, `tryGetService`).
+#[tactic(auto, unfolding(crate::specs::Replies::reply_text_for))]
+pub fn reply_line_for(alloc: Global, is_get: bool, reply: &Reply) -> Result<Vec<u8>, AllocError>
+    ensures { IfOk result (λ line. line.items ≡ reply_text_for is_get reply.now) }
+{
+    let mut line = Vec::new(alloc);
+    push_answered(alloc, &mut line, is_get, reply)?;
+    line.extend_from_slice(b"\n")?;
+    Ok(line)
+}
+
+#[tactic(auto, unfolding(crate::specs::Replies::answered_text))]
+fn push_answered(
+    alloc: Global,
+    out: &mut Vec<u8>,
+    is_get: bool,
+    reply: &Reply,
+) -> Result<(), AllocError>
+    ensures { OnOk result (out.new.items ≡ out.old.items ++ answered_text is_get reply.now) }
+{
+    match reply {
+        Reply::Done(outcome) => push_outcome(alloc, out, outcome),
+        Reply::GotNull => out.extend_from_slice(b"null"),
+        Reply::GotOwn(object) => push_numbered(out, b"own ", u64::from(*object)),
+        Reply::Looked {
+            version,
+            length,
+            answer,
+        } => push_answer(alloc, out, *version, *length, answer),
+        Reply::Refused(refusal) => push_refusal(out, is_get, refusal),
+    }
+}
+
+#[tactic(auto, unfolding(crate::specs::Replies::outcome_text))]
+fn push_outcome(alloc: Global, out: &mut Vec<u8>, outcome: &Outcome) -> Result<(), AllocError>
+    ensures { OnOk result (out.new.items ≡ out.old.items ++ outcome_text outcome.now) }
+{
+    match outcome {
+        Outcome::Opened => out.extend_from_slice(b"ok"),
+        Outcome::Connected(client) => push_numbered(out, b"client ", u64::from(client.0)),
+        Outcome::Added(_) => out.extend_from_slice(b"ok"),
+        Outcome::Granted(handle) => push_numbered(out, b"handle ", u64::from(*handle)),
+        Outcome::Watched(_) => out.extend_from_slice(b"ok"),
+        Outcome::Unwatched(_) => out.extend_from_slice(b"ok"),
+        Outcome::Unregistered => out.extend_from_slice(b"ok"),
+        Outcome::Sent(_) => out.extend_from_slice(b"ok"),
+        Outcome::Released => out.extend_from_slice(b"ok"),
+        Outcome::Taken(delivery) => push_delivery(alloc, out, delivery),
+        Outcome::Died => out.extend_from_slice(b"bye"),
+        Outcome::Reloaded(version) => push_numbered(out, b"reloaded ", *version),
+    }
+}
+
+#[tactic(auto, unfolding(crate::specs::Replies::answer_text))]
+fn push_answer(
+    alloc: Global,
+    out: &mut Vec<u8>,
+    version: u64,
+    count: u64,
+    answer: &Answer,
+) -> Result<(), AllocError>
+    ensures { OnOk result (out.new.items ≡ out.old.items ++ answer_text version count answer.now) }
+{
+    match answer {
+        Answer::Names(names) => push_listing(alloc, out, version, count, names.list()),
+        Answer::Version => {
+            push_numbered(out, b"version ", version)?;
+            push_numbered(out, b" ", count)
+        }
+        Answer::Why(line) => push_why(out, version, *line),
+    }
+}
+
+#[tactic(auto, unfolding(crate::specs::Replies::names_text))]
+fn push_listing(
+    alloc: Global,
+    out: &mut Vec<u8>,
+    version: u64,
+    count: u64,
+    names: &[Name],
+) -> Result<(), AllocError>
+    ensures { OnOk result (out.new.items ≡ out.old.items ++ names_text version count names.now) }
+{
+    push_numbered(out, b"names ", version)?;
+    push_numbered(out, b" ", count)?;
+    push_numbered(out, b" ", names.len() as u64)?;
+    push_names(alloc, out, names)
+}
+
+#[tactic(auto, unfolding(crate::specs::Replies::why_text))]
+fn push_why(out: &mut Vec<u8>, version: u64, line: Option<u32>) -> Result<(), AllocError>
+    ensures { OnOk result (out.new.items ≡ out.old.items ++ why_text version line) }
+{
+    match line {
+        Some(line) => {
+            push_numbered(out, b"allowed ", version)?;
+            push_numbered(out, b" ", u64::from(line))
+        }
+        None => push_numbered(out, b"unwritten ", version),
+    }
+}

@@ -1,0 +1,61 @@
+//! The texts behind a `reload` line.
+
+use std::marker::Model;
+
+/// A `reload` line with the texts that follow it.
+pub struct PolicyTexts {
+    expected: u64,
+    rules: Vec<u8>,
+    contexts: Vec<u8>,
+}
+
+impl Model for PolicyTexts {
+    ghost use Rattle.sm_wire.specs.Texts.{Texts};
+
+    ghost Value = { Texts };
+
+    ghost view = { λ t. record { expected = t.expected; rules = t.rules.items; contexts = t.contexts.items } };
+}
+
+impl Drop for PolicyTexts {
+    fn drop(self) {
+        let PolicyTexts {
+            expected: _,
+            rules: _,
+            contexts: _,
+        } = self;
+    }
+}
+
+impl PolicyTexts {
+    ghost use Rattle.std.specs.Prelude.{◌≡◌};
+
+    pub fn new(expected: u64, rules: Vec<u8>, contexts: Vec<u8>) -> PolicyTexts
+        ensures { result ≡ record { expected = expected; rules = rules.items; contexts = contexts.items } }
+    {
+        PolicyTexts {
+            expected,
+            rules,
+            contexts,
+        }
+    }
+
+    /// The version that the policy in force must have.
+    pub fn expected(&self) -> u64
+        ensures { result ≡ self.now.expected }
+    {
+        self.expected
+    }
+
+    pub fn rules(&self) -> &[u8]
+        ensures { result.now ≡ self.now.rules }
+    {
+        self.rules.as_slice()
+    }
+
+    pub fn contexts(&self) -> &[u8]
+        ensures { result.now ≡ self.now.contexts }
+    {
+        self.contexts.as_slice()
+    }
+}
