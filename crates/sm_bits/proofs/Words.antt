@@ -1,7 +1,9 @@
 -- Bits of a row of words, as they are read and written.
-use Rattle.std.proofs.Common.{inl, inr, ◌⊎◌, ◌≡◌, ◌≢◌, ℕ, ◌+◌, ◌*◌, ◌/◌, ◌%◌, ◌^◌, ◌<◌, ◌≤◌, Bool, true, false, not, ◌&&◌, ◌||◌, eqb, List, length, get_or, set, replicate, refl, sym, ap, ◌∙◌, arith, w64}
+use Rattle.std.proofs.Common.{inl, inr, ◌⊎◌, ◌≡◌, ◌≢◌, ℕ, ◌+◌, ◌*◌, ◌/◌, ◌%◌, ◌^◌, ◌<◌, ◌≤◌, Bool, true, false, not, ◌&&◌, ◌||◌, eqb, List, length, get_or, set, replicate, refl, sym, ap, ◌∙◌, arith, w64, true≢false}
 use Rattle.std.specs.Int.{bit_at, bit_not, trailing_zeros}
 use Rattle.std.specs.Prelude.{bit_or, bit_and}
+use Rattle.std.specs.Int.Bits.{or_zero_l}
+use Rattle.std.proofs.lemmas.Nat.{le_or_l}
 use Rattle.std.proofs.lemmas.Bool.{cases_eq, cases_lt, eq-eqb, ne_eqb}
 use Rattle.std.proofs.lemmas.Nat.Bits.{bit_at-lt, bit_at-zero, shr_and_one, bit_at_or, bit_at_and, bit_at_not, bit_at_set_same, bit_at_set_other, bit_at-trailing_zeros}
 use Rattle.std.proofs.lemmas.List.{get_or-set_other, get_or-set_same, get_or_past, get_or-replicate, length-replicate}
@@ -125,3 +127,30 @@ together xs ys i some fits =
     let word : (64 * i + b) / 64 ≡ i = omega (arith, found.0) in
     let place : (64 * i + b) % 64 ≡ b = omega (arith, found.0) in
     (64 * i + b, rw (has_is xs (64 * i + b), has_is ys (64 * i + b), word, place) (sym (and_bits (get_or xs i 0) (get_or ys i 0) b) ∙ (rw found.1 refl)))
+
+-- what two rows have in common below word i, gathered in one word
+pub record Gathered (xs ys : List ℕ) (common i : ℕ) : Type 0 where
+  pub none : common ≡ 0 → (j : ℕ) → j / 64 < i → (has xs j && has ys j) ≡ false
+  pub some : 0 < common → (j : ℕ) × ((has xs j && has ys j) ≡ true)
+
+pub gathered_none : (xs ys : List ℕ) → Gathered xs ys 0 0
+gathered_none xs ys = record { none = λ e j h. absurd (omega arith); some = λ h. absurd (omega arith) }
+
+pub gathered_more : (xs ys : List ℕ) (common i : ℕ) → bit_and (get_or xs i 0) (get_or ys i 0) < 2 ^ 64 → Gathered xs ys common i
+    → Gathered xs ys (bit_or common (bit_and (get_or xs i 0) (get_or ys i 0))) (i + 1)
+gathered_more xs ys common i fits before =
+    let here : ℕ = bit_and (get_or xs i 0) (get_or ys i 0) in
+    elim (cases_eq common 0) [
+      | inl zero ↦ rw (zero, or_zero_l here) (record {
+        none = λ e. apart xs ys i (before.none zero) e;
+        some = λ h. together xs ys i h fits;
+      })
+      | inr set ↦ (let more : 0 < bit_or common here = omega (arith, le_or_l common here) in
+          record { none = λ e. absurd (omega arith); some = λ h. before.some (omega arith) })
+    ]
+
+pub gathered_all : (xs ys : List ℕ) (common i : ℕ) → length xs ≤ i → not (eqb common 0) ≡ false → Gathered xs ys common i → (j : ℕ) → (has xs j && has ys j) ≡ false
+gathered_all xs ys common i end nothing g = elim (cases_eq common 0) [
+  | inl zero ↦ apart_all xs ys i end (g.none zero)
+  | inr some ↦ absurd (true≢false (rw (ne_eqb common 0 some) at nothing))
+]

@@ -28,7 +28,8 @@ ghost use Rattle.std.specs.Prelude.{◌≡◌, ℕ, ◌&&◌, ◌||◌, not, fal
 ghost use Rattle.sm_bits.specs.Bits.{has};
 
 // The loops go over slices in place of the rows' vectors: a write through a slice cannot move
-// the words, so that they run as vector code.
+// the words, so that they run as vector code. For its sake `words_meet` goes to the end, too,
+// in place of stopping at the first word that both rows have something in.
 
 fn union_words(words: &mut [u64], others: &[u64])
     requires { length words.old ≡ length others.now }
@@ -53,12 +54,11 @@ fn words_meet(words: &[u64], others: &[u64]) -> bool
     ensures none { result ≡ false → (j : ℕ) → (has words.now j && has others.now j) ≡ false }
     ensures some { IsTrue result → (j : ℕ) × (IsTrue (has words.now j && has others.now j)) }
 {
+    let mut common = 0u64;
     for i in 0..words.len() {
-        if words[i] & others[i] != 0 {
-            return true;
-        }
+        common |= words[i] & others[i];
     }
-    false
+    common != 0
 }
 
 impl BitRow {

@@ -1,5 +1,5 @@
 -- User numbers.
-use Rattle.std.specs.Prelude.{ℕ, ◌%◌, ◌≤◌, Bool, nat_le, ◌&&◌}
+use Rattle.std.specs.Prelude.{ℕ, ◌%◌, Bool, nat_le, ◌&&◌}
 
 -- The application number of a user number.
 abbrev pub app_of : ℕ → ℕ

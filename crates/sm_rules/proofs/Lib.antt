@@ -9,3 +9,5 @@ pub mod Apart
 pub mod Consistent
 pub mod Firsts
 pub mod Undeclared
+pub mod Groups
+pub mod Broken

@@ -14,6 +14,12 @@ pub record Added (old new : List (List ℕ)) (rule : Kept) (i : ℕ) : Type 0 wh
   pub below : (s t : ℕ) → s < i → has (row new s) t ≡ (has (row old s) t || joins s t rule)
   pub above : (s : ℕ) → i ≤ s → row new s ≡ row old s
 
+-- the rows below i have those of others too, the rest not yet
+pub record AddedRows (old new others : List (List ℕ)) (i : ℕ) : Type 0 where
+  pub square : Square new (length old)
+  pub below : (s t : ℕ) → s < i → has (row new s) t ≡ (has (row old s) t || has (row others s) t)
+  pub above : (s : ℕ) → i ≤ s → row new s ≡ row old s
+
 -- n empty rows of w words
 pub record Empty (rows : List (List ℕ)) (n w : ℕ) : Type 0 where
   pub count : length rows ≡ n
@@ -67,3 +73,7 @@ compiled_more rules count n ms new m is here before = rw is (record {
         rw (get_or-append_right ms (m ∷ []) (length ms) b [] refl (omega arith), z, e) here)
   ];
 })
+
+-- a matrix of no pair says what no rule covers
+pub compiled_empty : (count b : ℕ) (m : List (List ℕ)) → Square m count → ((s t : ℕ) → has (row m s) t ≡ false) → Compiled [] count b m
+compiled_empty count b m square none = record { square = square; says = λ s t h. none s t }

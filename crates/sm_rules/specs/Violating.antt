@@ -5,7 +5,6 @@ use Rattle.sm_types.specs.Names.{Name, at}
 use Rattle.sm_types.specs.Denoting.{Policy}
 use Rattle.sm_rules.specs.Access as access
 use Rattle.sm_rules.specs.Keeping.{joins, covers, covered, class_at, perm_at, allow_rules, neverallow_rules}
-use Rattle.sm_rules.specs.Matrices.{Square, matrix}
 use Rattle.sm_rules.specs.declared.kept.Kept.{Kept}
 use Rattle.sm_rules.specs.declared.violation.Violation.{Violation}
 
@@ -69,10 +68,6 @@ pub record IsFirstAmong (allows neverallows : List Kept) (count : ℕ) (v : Viol
 -- No allow rule has anything in common with a neverallow rule.
 pub record AllApart (allows neverallows : List Kept) (count : ℕ) : Type 0 where
   pub apart : (n : ℕ) (never : Kept) → slice_get neverallows n ≡ Some never → IsApart allows count never
-
--- A matrix of the right size for each permission.
-pub record AllSquare (matrices : List (List (List ℕ))) (count : ℕ) : Type 0 where
-  pub each : (b : ℕ) → b < 7 → Square (matrix matrices b) count
 
 -- ---- by name
 

@@ -5,6 +5,7 @@ mod fault;
 mod kept;
 mod matrix;
 mod perm_bits;
+mod perm_sets;
 mod plain;
 mod rules;
 #[cfg(test)]

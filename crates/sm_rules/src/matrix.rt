@@ -1,12 +1,17 @@
 //! For a permission, which sources have which targets.
+//!
+//! Matrices are made by groups: a rule is added once to the matrix of all rules with just its
+//! permissions, and that matrix once to the matrix of each of these permissions. So the time of
+//! a rule, which has rows for thousands of sources, does not grow with its permissions.
 
-ghost use Rattle.std.specs.Prelude.{◌≡◌, ◌<◌, ◌≤◌, ◌*◌, ◌+◌, ◌/◌, ℕ, length, ◌&&◌, ◌||◌, All, IfOk, IsTrue, false};
+ghost use Rattle.std.specs.Prelude.{◌≡◌, ◌<◌, ◌≤◌, ◌*◌, ℕ, length, ◌&&◌, ◌||◌, All, IfOk, IsTrue, false, []};
 ghost use Rattle.sm_bits.specs.Bits.{has};
-ghost use Rattle.sm_rules.specs.Keeping.{joins, covered, FitsRule};
-ghost use Rattle.sm_rules.specs.Matrices.{row, Square, Compiled, AllCompiled};
+ghost use Rattle.sm_rules.specs.Keeping.{has_bit, joins, FitsRule};
+ghost use Rattle.sm_rules.specs.Matrices.{row, Square, AllSquare, AllCompiled, Grouped, Joined, IsUnion, joined_by};
 
 use crate::Kept;
 use crate::perm_bits::{PERM_COUNT, has_bit};
+use crate::perm_sets::{SET_COUNT, any_of_set, perm_set};
 use sm_bits::BitRow;
 use std::alloc::{AllocError, Global};
 use std::marker::Model;
@@ -57,20 +62,33 @@ fn empty_rows(alloc: Global, count: usize) -> Result<Vec<BitRow>, AllocError>
     Ok(rows)
 }
 
-/// For each source, the targets on which some rule gives permission `bit`.
-fn rows_of(alloc: Global, rules: &[Kept], count: usize, bit: u32) -> Result<Vec<BitRow>, AllocError>
+/// For each source, the targets to which some rule with exactly the permissions `set` joins it.
+fn rows_of(alloc: Global, rules: &[Kept], count: usize, set: u8) -> Result<Vec<BitRow>, AllocError>
     requires few { count ≤ 4096 }
     requires fits { All (FitsRule count) rules.now }
-    requires bit { bit < 8 }
-    ensures { IfOk result (λ m. Compiled rules.now count bit m.items) }
+    ensures { IfOk result (λ m. Grouped rules.now count set m.items) }
 {
     let mut rows = empty_rows(alloc, count)?;
     for rule in rules {
-        if has_bit(rule.perms.0, bit) {
+        if perm_set(rule) == set {
             add_rule(&mut rows, rule, count);
         }
     }
     Ok(rows)
+}
+
+/// Adds the targets of other rows.
+fn add_rows(rows: &mut Vec<BitRow>, others: &[BitRow], count: usize)
+    requires square { Square rows.old.items count }
+    requires others { Square others.now count }
+    ensures square { Square rows.new.items count }
+    ensures added { (s t : ℕ) → s < count → has (row rows.new.items s) t
+        ≡ (has (row rows.old.items s) t || has (row others.now s) t) }
+{
+    for s in 0..rows.len() {
+        let row = &mut rows[s];
+        row.union_with(&others[s]);
+    }
 }
 
 /// Whether a rule joins the source to one of the targets of its row.
@@ -127,20 +145,62 @@ impl Drop for Matrix {
 }
 
 impl Matrix {
-    /// The matrix of the pairs of types on which some rule gives permission `bit`.
+    /// The matrix of no pair.
+    pub fn empty(alloc: Global, count: usize) -> Result<Matrix, AllocError>
+        requires { count ≤ 4096 }
+        ensures square { IfOk result (λ m. Square m count) }
+        ensures none { IfOk result (λ m. (s t : ℕ) → has (row m s) t ≡ false) }
+    {
+        let rows = empty_rows(alloc, count)?;
+        Ok(Matrix { rows })
+    }
+
+    /// The matrix of the pairs of types that some rule with exactly the permissions `set` joins.
     pub fn compile(
         alloc: Global,
         rules: &[Kept],
         count: usize,
-        bit: u32,
+        set: u8,
     ) -> Result<Matrix, AllocError>
         requires few { count ≤ 4096 }
         requires fits { All (FitsRule count) rules.now }
-        requires bit { bit < 8 }
-        ensures { IfOk result (λ m. Compiled rules.now count bit m) }
+        ensures { IfOk result (λ m. Grouped rules.now count set m) }
     {
-        let rows = rows_of(alloc, rules, count, bit)?;
+        let rows = rows_of(alloc, rules, count, set)?;
         Ok(Matrix { rows })
+    }
+
+    /// Adds the pairs of another matrix, if permission `bit` is one of the set.
+    pub fn add_for(&mut self, other: &Matrix, count: usize, set: u8, bit: u32)
+        requires bit { bit < 8 }
+        requires square { Square self.old count }
+        requires other { Square other.now count }
+        ensures square { Square self.new count }
+        ensures added { (s t : ℕ) → s < count → has (row self.new s) t
+            ≡ (has (row self.old s) t || (has_bit set bit && has (row other.now s) t)) }
+    {
+        if has_bit(set, bit) {
+            add_rows(&mut self.rows, &other.rows, count);
+        }
+    }
+
+    /// The matrix of the pairs that some permission of the set has.
+    pub fn union_of(
+        alloc: Global,
+        matrices: &[Matrix],
+        count: usize,
+        set: u8,
+    ) -> Result<Matrix, AllocError>
+        requires few { count ≤ 4096 }
+        requires number { length matrices.now ≡ 7 }
+        requires square { AllSquare matrices.now count }
+        ensures { IfOk result (λ m. IsUnion matrices.now count set 7 m) }
+    {
+        let mut joined = Matrix::empty(alloc, count)?;
+        for bit in 0..PERM_COUNT {
+            joined.add_for(&matrices[bit as usize], count, set, bit);
+        }
+        Ok(joined)
     }
 
     /// Whether a rule joins two types that the matrix joins.
@@ -156,16 +216,65 @@ impl Matrix {
     }
 }
 
+/// A matrix of no pair for each permission.
+fn empty_matrices(alloc: Global, count: usize) -> Result<Vec<Matrix>, AllocError>
+    requires { count ≤ 4096 }
+    ensures { IfOk result (λ m. AllCompiled [] count 7 m.items) }
+{
+    let mut matrices = Vec::new(alloc);
+    for _ in 0..PERM_COUNT {
+        let matrix = Matrix::empty(alloc, count)?;
+        matrices.push(matrix)?;
+    }
+    Ok(matrices)
+}
+
+/// Adds the pairs of a matrix to the matrix of each permission of the set.
+fn join_group(matrices: &mut Vec<Matrix>, group: &Matrix, count: usize, set: u8)
+    requires number { length matrices.old.items ≡ 7 }
+    requires square { AllSquare matrices.old.items count }
+    requires group { Square group.now count }
+    ensures { Joined matrices.old.items matrices.new.items count set
+        (λ s t. has (row group.now s) t) }
+{
+    for bit in 0..PERM_COUNT {
+        let matrix = &mut matrices[bit as usize];
+        matrix.add_for(group, count, set, bit);
+    }
+}
+
+/// Adds what the rules with exactly the permissions `set` join, for each of these permissions.
+fn add_set(
+    alloc: Global,
+    matrices: &mut Vec<Matrix>,
+    rules: &[Kept],
+    count: usize,
+    set: u8,
+) -> Result<(), AllocError>
+    requires few { count ≤ 4096 }
+    requires number { length matrices.old.items ≡ 7 }
+    requires square { AllSquare matrices.old.items count }
+    requires fits { All (FitsRule count) rules.now }
+    ensures { IfOk result (λ done. Joined matrices.old.items matrices.new.items count set
+        (joined_by rules.now set)) }
+{
+    if !any_of_set(rules, set) {
+        return Ok(());
+    }
+    let group = Matrix::compile(alloc, rules, count, set)?;
+    join_group(matrices, &group, count, set);
+    Ok(())
+}
+
 /// A matrix for each permission.
 pub fn matrices_of(alloc: Global, rules: &[Kept], count: usize) -> Result<Vec<Matrix>, AllocError>
     requires few { count ≤ 4096 }
     requires fits { All (FitsRule count) rules.now }
     ensures { IfOk result (λ m. AllCompiled rules.now count 7 m.items) }
 {
-    let mut matrices = Vec::new(alloc);
-    for bit in 0..PERM_COUNT {
-        let matrix = Matrix::compile(alloc, rules, count, bit)?;
-        matrices.push(matrix)?;
+    let mut matrices = empty_matrices(alloc, count)?;
+    for set in 1..SET_COUNT {
+        add_set(alloc, &mut matrices, rules, count, set)?;
     }
     Ok(matrices)
 }

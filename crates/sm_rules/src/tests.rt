@@ -149,6 +149,133 @@ fn own_pairs(rt: HostRuntime) -> Result<(), Fail> {
     Ok(())
 }
 
+/// A source, a target, a class and a permission, behind a letter that stands for them.
+type Lettered = (u8, &'static [u8], &'static [u8], Class, u8);
+
+// The letters of what a rule gives, whose set `form` stands between the other two parts of it.
+fn letters(
+    alloc: Global,
+    before: &[u8],
+    form: &[u8],
+    behind: &[u8],
+    tuples: &[Lettered],
+) -> Result<Vec<u8>, Fail> {
+    let mut text = Vec::from_slice(alloc, b"attribute d;\ntype a, d;\ntype b, d;\ntype c;\n")?;
+    text.extend_from_slice(before)?;
+    text.extend_from_slice(form)?;
+    text.extend_from_slice(behind)?;
+    let mut letters = Vec::new(alloc);
+    for (letter, source, target, class, perm) in tuples {
+        if line(alloc, &text, (source, target), *class, Perms(*perm))?.is_some() {
+            letters.push(*letter)?;
+        }
+    }
+    Ok(letters)
+}
+
+/// Sets of types, and the types that they denote.
+const TYPE_SETS: [(&[u8], &[u8]); 13] = [
+    (b"*", b"abc"),
+    (b"a", b"a"),
+    (b"d", b"ab"),
+    (b"~a", b"bc"),
+    (b"~d", b"c"),
+    (b"~{ a b }", b"c"),
+    (b"~{ d -a }", b"ac"),
+    (b"~{ -a }", b"abc"),
+    (b"{ a c }", b"ac"),
+    (b"{ d -a }", b"b"),
+    (b"{ * -d }", b"c"),
+    (b"{ a { d -b } }", b"a"),
+    (b"{ -a }", b""),
+];
+
+#[test]
+fn sets_of_sources(rt: HostRuntime) -> Result<(), Fail> {
+    let tuples: [Lettered; 3] = [
+        (b'a', b"a", b"c", Class::Binder, 16),
+        (b'b', b"b", b"c", Class::Binder, 16),
+        (b'c', b"c", b"c", Class::Binder, 16),
+    ];
+    for (set, wanted) in TYPE_SETS {
+        let found = letters(rt.alloc(), b"allow ", set, b" c:binder call;\n", &tuples)?;
+        assert_eq!(rt; found.as_slice(), wanted);
+    }
+    Ok(())
+}
+
+#[test]
+fn sets_of_targets(rt: HostRuntime) -> Result<(), Fail> {
+    let tuples: [Lettered; 3] = [
+        (b'a', b"c", b"a", Class::Binder, 16),
+        (b'b', b"c", b"b", Class::Binder, 16),
+        (b'c', b"c", b"c", Class::Binder, 16),
+    ];
+    for (set, wanted) in TYPE_SETS {
+        let found = letters(rt.alloc(), b"allow c ", set, b":binder call;\n", &tuples)?;
+        assert_eq!(rt; found.as_slice(), wanted);
+    }
+    let own: [(&[u8], &[u8]); 4] = [
+        (b"self", b"c"),
+        (b"{ self -c }", b"c"),
+        (b"{ a { self } }", b"ac"),
+        (b"{ * -b -c self }", b"ac"),
+    ];
+    for (set, wanted) in own {
+        let found = letters(rt.alloc(), b"allow c ", set, b":binder call;\n", &tuples)?;
+        assert_eq!(rt; found.as_slice(), wanted);
+    }
+    Ok(())
+}
+
+#[test]
+fn sets_of_classes(rt: HostRuntime) -> Result<(), Fail> {
+    let tuples: [Lettered; 2] = [
+        (b's', b"a", b"b", Class::ServiceManager, 2),
+        (b'b', b"a", b"b", Class::Binder, 16),
+    ];
+    let cases: [(&[u8], &[u8]); 8] = [
+        (b"*", b"sb"),
+        (b"binder", b"b"),
+        (b"~binder", b"s"),
+        (b"~{ binder file }", b"s"),
+        (b"{ binder service_manager }", b"sb"),
+        (b"{ * -binder }", b"s"),
+        (b"{ binder { service_manager -binder } }", b"s"),
+        (b"{ binder -file }", b"b"),
+    ];
+    for (set, wanted) in cases {
+        let found = letters(rt.alloc(), b"allow a b:", set, b" *;\n", &tuples)?;
+        assert_eq!(rt; found.as_slice(), wanted);
+    }
+    Ok(())
+}
+
+#[test]
+fn sets_of_permissions(rt: HostRuntime) -> Result<(), Fail> {
+    let tuples: [Lettered; 4] = [
+        (b'i', b"a", b"b", Class::Binder, 8),
+        (b'c', b"a", b"b", Class::Binder, 16),
+        (b's', b"a", b"b", Class::Binder, 32),
+        (b't', b"a", b"b", Class::Binder, 64),
+    ];
+    let cases: [(&[u8], &[u8]); 8] = [
+        (b"*", b"icst"),
+        (b"call", b"c"),
+        (b"~call", b"ist"),
+        (b"~{ call transfer }", b"is"),
+        (b"{ call transfer }", b"ct"),
+        (b"{ * -call }", b"ist"),
+        (b"{ call { transfer -call } }", b"t"),
+        (b"{ -call }", b""),
+    ];
+    for (set, wanted) in cases {
+        let found = letters(rt.alloc(), b"allow a b:binder ", set, b";\n", &tuples)?;
+        assert_eq!(rt; found.as_slice(), wanted);
+    }
+    Ok(())
+}
+
 fn violation(alloc: Global, text: &[u8]) -> Result<Option<Violation>, &'static str> {
     let statements = read(alloc, text).ok().ok_or("read")?;
     let types = Types::build(alloc, &statements).ok().ok_or("types")?;
@@ -182,6 +309,20 @@ fn violations(rt: HostRuntime) -> Result<(), Fail> {
         target: 0,
         class: Class::Binder,
         perm: Perms(16),
+    };
+    assert_eq!(rt; violation(rt.alloc(), text)?, Some(broken));
+    // The first rule of the text, though that of fewer permissions is broken too. Each of its
+    // permissions counts, whichever allow rule gives it.
+    let text =
+        b"type a;\ntype b;\nallow a b:service_manager add;\nallow a a:binder { call transfer };\n\
+        neverallow a a:{ binder service_manager } { find transfer };\nneverallow a a:binder call;\n";
+    let broken = Violation {
+        never_line: 5,
+        allow_line: 4,
+        source: 0,
+        target: 0,
+        class: Class::Binder,
+        perm: Perms(64),
     };
     assert_eq!(rt; violation(rt.alloc(), text)?, Some(broken));
     // `self` alone meets itself.

@@ -1,15 +1,15 @@
 //! An allow rule that breaks a neverallow rule.
 
-ghost use Rattle.std.specs.Prelude.{◌≡◌, ◌<◌, ◌≤◌, ◌*◌, ℕ, List, length, ◌&&◌, ◌||◌, All, IsTrue, false, true, IfSome, IfNone, IfOk, Some, slice_get};
-ghost use Rattle.sm_bits.specs.Bits.{has};
-ghost use Rattle.sm_rules.specs.Keeping.{has_bit, joins, covers, FitsRule};
-ghost use Rattle.sm_rules.specs.Matrices.{row, matrix, AllCompiled};
-ghost use Rattle.sm_rules.specs.Violating.{both_join, IsApart, Meets, AreApart, IsBetween, IsFirstOf, IsFirstAmong, AllApart, AllSquare};
+ghost use Rattle.std.specs.Prelude.{◌≡◌, ◌<◌, ◌≤◌, ◌*◌, ℕ, length, ◌&&◌, All, IsTrue, false, true, IfSome, IfNone, IfOk, Some, slice_get};
+ghost use Rattle.sm_rules.specs.Keeping.{has_bit, FitsRule};
+ghost use Rattle.sm_rules.specs.Matrices.{perm_set, Square, AllSquare, Misses, Hits, IsClear, IsBroken};
+ghost use Rattle.sm_rules.specs.Violating.{both_join, AreApart, IsBetween, IsFirstOf, IsFirstAmong, AllApart};
 ghost use Rattle.sm_rules.specs.declared.kept.Kept.{Kept as TheKept};
 
 use crate::Kept;
 use crate::matrix::{Matrix, matrices_of};
 use crate::perm_bits::{PERM_COUNT, class_at, has_bit, perm_at};
+use crate::perm_sets::{SET_COUNT, any_of_set, perm_set};
 use sm_kinds::{Class, Perms};
 use std::alloc::{AllocError, Global};
 
@@ -154,62 +154,98 @@ fn first_of(allows: &[Kept], never: &Kept, count: usize) -> Option<Violation>
     None
 }
 
-/// Whether a neverallow rule forbids permission `bit` where the matrix has it.
-fn meets_for(matrices: &[Matrix], never: &Kept, count: usize, bit: u32) -> bool
-    requires bit { bit < 7 }
-    requires number { length matrices.now ≡ 7 }
-    requires square { AllSquare matrices.now count }
+/// Whether a neverallow rule has exactly the permissions `set` and joins a pair of the matrix.
+fn is_hit(matrix: &Matrix, never: &Kept, count: usize, set: u8) -> bool
+    requires square { Square matrix.now count }
     requires never { FitsRule count never.now }
-    ensures none { result ≡ false → (s t : ℕ) → s < count
-        → (has (row (matrix matrices.now bit) s) t && covers bit s t never.now) ≡ false }
-    ensures some { IsTrue result → (s : ℕ) × (t : ℕ) × (s < count)
-        × IsTrue (has (row (matrix matrices.now bit) s) t && covers bit s t never.now) }
+    ensures none { result ≡ false → perm_set never.now ≡ set → Misses matrix.now count never.now }
+    ensures some { IsTrue result → (perm_set never.now ≡ set) × Hits matrix.now count never.now }
 {
-    if !has_bit(never.perms.0, bit) {
-        return false;
-    }
-    matrices[bit as usize].meets(never, count)
+    perm_set(never) == set && matrix.meets(never, count)
 }
 
-/// Whether a neverallow rule forbids something that the matrices have.
-fn is_broken(matrices: &[Matrix], never: &Kept, count: usize) -> bool
-    requires number { length matrices.now ≡ 7 }
-    requires square { AllSquare matrices.now count }
-    requires never { FitsRule count never.now }
-    ensures none { result ≡ false → (allows : List TheKept)
-        → AllCompiled allows count 7 matrices.now → IsApart allows count never.now }
-    ensures some { IsTrue result → (allows : List TheKept) → AllCompiled allows count 7 matrices.now
-        → Meets allows count never.now }
+/// The place of the first neverallow rule below `end` that has exactly the permissions `set` and
+/// joins a pair of the matrix; `end`, if none does.
+fn first_hit(matrix: &Matrix, neverallows: &[Kept], count: usize, set: u8, end: usize) -> usize
+    requires square { Square matrix.now count }
+    requires fits { All (FitsRule count) neverallows.now }
+    requires end { end ≤ length neverallows.now }
+    ensures end { result ≤ end }
+    ensures hit { (never : TheKept) → result < end
+        → slice_get neverallows.now result ≡ Some never
+        → (perm_set never ≡ set) × Hits matrix.now count never }
+    ensures first { (n : ℕ) (never : TheKept) → n < result
+        → slice_get neverallows.now n ≡ Some never → perm_set never ≡ set
+        → Misses matrix.now count never }
 {
-    for bit in 0..PERM_COUNT {
-        if meets_for(matrices, never, count, bit) {
-            return true;
+    for n in 0..end {
+        if is_hit(matrix, &neverallows[n], count, set) {
+            return n;
         }
     }
-    false
+    end
 }
 
-/// The place of the first neverallow rule that forbids something that the matrices have.
-fn first_broken(matrices: &[Matrix], neverallows: &[Kept], count: usize) -> Option<usize>
+/// The place of the first neverallow rule below `end` that has exactly the permissions `set` and
+/// forbids something that the matrices have; `end`, if none does.
+fn first_broken_of(
+    alloc: Global,
+    matrices: &[Matrix],
+    neverallows: &[Kept],
+    count: usize,
+    set: u8,
+    end: usize,
+) -> Result<usize, AllocError>
+    requires few { count ≤ 4096 }
     requires number { length matrices.now ≡ 7 }
     requires square { AllSquare matrices.now count }
     requires fits { All (FitsRule count) neverallows.now }
-    ensures none { IfNone result ((allows : List TheKept) → AllCompiled allows count 7 matrices.now
-        → AllApart allows neverallows.now count) }
-    ensures some { IfSome result (λ n. (n < length neverallows.now)
-        × ((allows : List TheKept) (never : TheKept) → AllCompiled allows count 7 matrices.now
-        → slice_get neverallows.now n ≡ Some never → Meets allows count never)) }
-    ensures first { IfSome result (λ n. (allows : List TheKept)
-        → AllCompiled allows count 7 matrices.now
-        → (m : ℕ) (never : TheKept) → m < n → slice_get neverallows.now m ≡ Some never
-        → IsApart allows count never) }
+    requires end { end ≤ length neverallows.now }
+    ensures end { IfOk result (λ place. place ≤ end) }
+    ensures broken { IfOk result (λ place. (never : TheKept) → place < end
+        → slice_get neverallows.now place ≡ Some never → IsBroken matrices.now count never) }
+    ensures first { IfOk result (λ place. (n : ℕ) (never : TheKept) → n < place
+        → slice_get neverallows.now n ≡ Some never → perm_set never ≡ set
+        → IsClear matrices.now count never) }
 {
-    for n in 0..neverallows.len() {
-        if is_broken(matrices, &neverallows[n], count) {
-            return Some(n);
-        }
+    if !any_of_set(neverallows, set) {
+        return Ok(end);
     }
-    None
+    let joined = Matrix::union_of(alloc, matrices, count, set)?;
+    Ok(first_hit(&joined, neverallows, count, set, end))
+}
+
+/// The place of the first neverallow rule that forbids something that the matrices have.
+///
+/// The rules are gone through by the sets of their permissions: all rules of a set are tested
+/// against one matrix, of the pairs that some permission of the set has.
+fn first_broken(
+    alloc: Global,
+    matrices: &[Matrix],
+    neverallows: &[Kept],
+    count: usize,
+) -> Result<Option<usize>, AllocError>
+    requires few { count ≤ 4096 }
+    requires number { length matrices.now ≡ 7 }
+    requires square { AllSquare matrices.now count }
+    requires fits { All (FitsRule count) neverallows.now }
+    ensures none { IfOk result (λ o. IfNone o ((n : ℕ) (never : TheKept)
+        → slice_get neverallows.now n ≡ Some never → IsClear matrices.now count never)) }
+    ensures inside { IfOk result (λ o. IfSome o (λ place. place < length neverallows.now)) }
+    ensures broken { IfOk result (λ o. IfSome o (λ place. (never : TheKept)
+        → slice_get neverallows.now place ≡ Some never → IsBroken matrices.now count never)) }
+    ensures first { IfOk result (λ o. IfSome o (λ place. (n : ℕ) (never : TheKept) → n < place
+        → slice_get neverallows.now n ≡ Some never → IsClear matrices.now count never)) }
+{
+    let mut place = neverallows.len();
+    for set in 1..SET_COUNT {
+        place = first_broken_of(alloc, matrices, neverallows, count, set, place)?;
+    }
+    if place < neverallows.len() {
+        Ok(Some(place))
+    } else {
+        Ok(None)
+    }
 }
 
 /// The first violation: of the first neverallow rule that is broken, by the first allow rule
@@ -228,7 +264,7 @@ pub fn first_among(
         (λ v. IsFirstAmong allows.now neverallows.now count v)) }
 {
     let matrices = matrices_of(alloc, allows, count)?;
-    match first_broken(&matrices, neverallows, count) {
+    match first_broken(alloc, &matrices, neverallows, count)? {
         Some(n) => Ok(first_of(allows, &neverallows[n], count)),
         None => Ok(None),
     }

@@ -1,6 +1,6 @@
 -- The tokens of a text, each behind the line that it begins in.
-use Rattle.std.specs.Prelude.{ℕ, zero, suc, ◌+◌, Bool, not, ◌||◌, ◌==◌, if◌then◌else◌, List, [], ◌∷◌, take, slice_index, IsTrue}
-use Rattle.std.specs.List.{prefix_len}
+use Rattle.std.specs.Prelude.{ℕ, zero, suc, ◌+◌, Bool, false, not, ◌&&◌, ◌||◌, ◌==◌, if◌then◌else◌, List, [], ◌∷◌, take, slice_index, IsTrue}
+use Rattle.std.specs.List.{prefix_len, list_all}
 use Rattle.std.specs.Char.{is_ascii_alphabetic, is_ascii_alphanumeric}
 use Rattle.sm_ruletext.specs.declared.token.Kind.{Kind}
 use Rattle.sm_ruletext.specs.declared.token.Kind.TheVariants.{Word, Semicolon, Comma, Colon, Open, Close, Star, Tilde, Dash, Other}
@@ -19,6 +19,11 @@ is_in_line b = not (b == 10)
 -- a letter, a digit, `_`, `.` or `-`
 abbrev pub is_word_byte : ℕ → Bool
 is_word_byte b = ((is_ascii_alphanumeric b || b == 95) || b == 46) || b == 45
+
+-- a letter, and then letters, digits, `_`, `.` or `-`
+unfoldable pub is_word : List ℕ → Bool
+is_word [] = false
+is_word (b ∷ bs) = is_ascii_alphabetic b && list_all is_word_byte bs
 
 -- neither a double quote nor a newline
 abbrev pub is_quoted : ℕ → Bool

@@ -15,9 +15,11 @@ mod statements;
 mod tests;
 mod token;
 mod tokens;
+mod word;
 
 pub use fault::RuleTextFault;
 pub use reading::read;
 pub use rule::Rule;
 pub use set::Set;
 pub use statement::{Statement, What};
+pub use word::is_word;

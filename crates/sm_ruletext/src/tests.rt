@@ -79,6 +79,27 @@ fn faults(rt: HostRuntime) {
 }
 
 #[test]
+fn skipped_statements(rt: HostRuntime) -> Result<(), Fail> {
+    for word in [
+        b"auditallow".as_slice(),
+        b"dontaudit",
+        b"type_transition",
+        b"expandattribute",
+        b"allowxperm",
+        b"auditallowxperm",
+        b"dontauditxperm",
+        b"neverallowxperm",
+    ] {
+        let mut text = Vec::from_slice(rt.alloc(), word)?;
+        text.extend_from_slice(b" x y:z { w } \"a;b # c\" # d;\n;\ntype a;\n")?;
+        let statements = read(rt.alloc(), &text).ok().ok_or("accepted")?;
+        assert_eq!(rt; statements.len(), 1);
+        assert_eq!(rt; statements[0].line, 3);
+    }
+    Ok(())
+}
+
+#[test]
 fn sets(rt: HostRuntime) -> Result<(), Fail> {
     let text =
         b"attribute d;\ntype a, d;\ntype b;\nallow { * -a } ~d:binder *;\nallow x y:file read;";

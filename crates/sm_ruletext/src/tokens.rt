@@ -5,6 +5,7 @@ ghost use Rattle.std.specs.List.{prefix_len};
 ghost use Rattle.sm_ruletext.specs.Lexing as spec;
 
 use crate::token::{Kind, Token};
+use crate::word::is_word_byte;
 use sm_kinds::Word;
 use std::marker::Model;
 
@@ -20,12 +21,6 @@ fn is_blank(b: u8) -> bool
     ensures { result ≡ spec.is_blank b }
 {
     b == b' ' || b == b'\t' || b == b'\r'
-}
-
-fn is_word_byte(b: u8) -> bool
-    ensures { result ≡ spec.is_word_byte b }
-{
-    b.is_ascii_alphanumeric() || b == b'_' || b == b'.' || b == b'-'
 }
 
 fn word_len(bytes: &[u8]) -> usize

@@ -6,6 +6,8 @@ mod failing;
 pub use failing::{FailAt, OneByte};
 
 #[cfg(test)]
+mod checks;
+#[cfg(test)]
 mod faults;
 #[cfg(test)]
 mod limits;

@@ -134,6 +134,18 @@ fn all_types(alloc: Global, table: &Table) -> Result<BitRow, AllocError>
     Ok(set)
 }
 
+/// All types, or none.
+fn all_or_none(alloc: Global, table: &Table, is_all: bool) -> Result<BitRow, AllocError>
+    ensures room { IfOk result (λ row. length row ≡ length table.now.symbols.types / 64 + 1) }
+    ensures all { IfOk result (λ row. (i : ℕ) → has row i
+        ≡ (is_all && nat_lt i (length table.now.symbols.types))) }
+{
+    if is_all {
+        return all_types(alloc, table);
+    }
+    BitRow::empty(alloc, table.symbols.types.len() / 64 + 1)
+}
+
 /// The types that the items of a set choose.
 #[tactic(auto, unfolding(crate::specs::Denoting::chosen))]
 pub fn chosen_types(alloc: Global, table: &Table, set: &Set) -> Result<BitRow, TypesFault>
@@ -150,16 +162,11 @@ pub fn chosen_types(alloc: Global, table: &Table, set: &Set) -> Result<BitRow, T
         × ((all_declared table.now.symbols set.now.plus
         && all_declared table.now.symbols set.now.minus) ≡ false))) }
 {
-    let all = all_types(alloc, table)?;
-    let words = table.symbols.types.len() / 64 + 1;
-    let mut chosen = BitRow::empty(alloc, words)?;
-    if set.all {
-        chosen.union_with(&all);
-    }
+    let mut chosen = all_or_none(alloc, table, set.all)?;
     if !add_all(table, &mut chosen, &set.plus) {
         return Err(TypesFault::Unknown(set.line));
     }
-    let mut minus = BitRow::empty(alloc, words)?;
+    let mut minus = all_or_none(alloc, table, false)?;
     if !add_all(table, &mut minus, &set.minus) {
         return Err(TypesFault::Unknown(set.line));
     }
@@ -167,7 +174,7 @@ pub fn chosen_types(alloc: Global, table: &Table, set: &Set) -> Result<BitRow, T
     if !set.complement {
         return Ok(chosen);
     }
-    let mut others = all;
+    let mut others = all_types(alloc, table)?;
     others.subtract(&chosen);
     Ok(others)
 }

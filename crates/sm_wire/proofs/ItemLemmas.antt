@@ -1,5 +1,5 @@
 -- How the items of a stream follow from its bytes, one at a time.
-use Rattle.std.proofs.Common.{◌≡◌, ◌≢◌, length-append, Some, None, nat_le, ◌==◌, ◌&&◌, ℕ, Bool, true, false, if◌then◌else◌, ◌+◌, ◌-◌, ◌<◌, ◌≤◌, List, [], ◌∷◌, ◌++◌, length, take, drop, get_or, refl, ap, sym, ◌∙◌, arith, add-one, append_assoc, subst, length-drop}
+use Rattle.std.proofs.Common.{◌≡◌, ◌≢◌, length-append, Some, None, nat_le, ◌==◌, ℕ, Bool, true, false, if◌then◌else◌, ◌+◌, ◌-◌, ◌<◌, ◌≤◌, List, [], ◌∷◌, ◌++◌, length, take, drop, get_or, refl, ap, sym, ◌∙◌, arith, add-one, append_assoc, subst, length-drop}
 use Rattle.std.proofs.Math.Seq.{drop-cons, take-append_seam, drop-append_seam}
 use Rattle.std.proofs.lemmas.List.{length-take, take-take, get_or-take, get_or-drop}
 use Rattle.std.specs.List.{slice_range, slice_index}

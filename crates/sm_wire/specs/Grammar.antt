@@ -1,6 +1,5 @@
 -- The request lines.
-use Rattle.std.specs.Prelude.{ℕ, List, [], ◌∷◌, Option, Some, None, Bool, ◌==◌, ◌||◌, ◌&&◌, if◌then◌else◌, codes, true, false}
-use Rattle.std.specs.Char.{is_ascii_alphabetic, is_ascii_alphanumeric}
+use Rattle.std.specs.Prelude.{ℕ, List, [], ◌∷◌, Option, Some, None, Bool, ◌==◌, if◌then◌else◌, codes, true, false}
 use Rattle.std.specs.List.{list_all}
 use Rattle.std.specs.Result.{result_ok}
 use Rattle.std.specs.Str.{bytes_eq}
@@ -12,6 +11,7 @@ use Rattle.sm_kinds.specs.declared.class.Class.TheVariants.{ServiceManager, Bind
 use Rattle.sm_kinds.specs.declared.perms.Perms.{Perms}
 use Rattle.sm_kinds.specs.Contexts.{is_graphic, is_context}
 use Rattle.sm_kinds.specs.Permissions.{class_read, perm_read}
+use Rattle.sm_ruletext.specs.Lexing.{is_word}
 use Rattle.sm_history.specs.declared.query.Query.TheVariants as queries
 use Rattle.sm_wire.specs.declared.request.Request.{Request}
 use Rattle.sm_wire.specs.declared.request.Request.TheVariants.{Hello, Add, Get, Look, Ask}
@@ -102,14 +102,9 @@ unfoldable pub greeting_of : List (List ℕ) → Option Request
 greeting_of (word ∷ a ∷ b ∷ c ∷ []) = if bytes_eq word (codes "hello") then hello_of a b c else None
 greeting_of _ = None
 
--- a byte of a word of the rule text behind its first, which is a letter
-abbrev pub is_word_byte : ℕ → Bool
-is_word_byte b = ((is_ascii_alphanumeric b || b == 95) || b == 46) || b == 45
-
--- a word of the rule text: a letter, and then letters, digits, `_`, `.` or `-`
+-- a word of the rule text
 unfoldable pub word_of : List ℕ → Option (List ℕ)
-word_of [] = None
-word_of (b ∷ bs) = if is_ascii_alphabetic b && list_all is_word_byte bs then Some (b ∷ bs) else None
+word_of bytes = if is_word bytes then Some bytes else None
 
 abbrev pub first_of_two : {A : Type 0} → Option A → Option A → Option A
 first_of_two (Some r) other = Some r

@@ -7,7 +7,7 @@ ghost use Rattle.hex.specs.Hex.{decode_of};
 ghost use Rattle.sm_kinds.specs.Contexts.{is_graphic};
 ghost use Rattle.sm_kinds.specs.Permissions.{class_read};
 ghost use Rattle.sm_wire.specs.Reading.{Reads};
-ghost use Rattle.sm_wire.specs.Grammar.{plain_name_of, name_of, reference_of, flag_of, context_of, get_of, list_of, add_of, one_field_of, client_request_of, client_line_of, hello_of, greeting_of, is_word_byte, word_of, perm_of, explain_of, explaining_of, asking_of, fields_request_of, request_of};
+ghost use Rattle.sm_wire.specs.Grammar.{plain_name_of, name_of, reference_of, flag_of, context_of, get_of, list_of, add_of, one_field_of, client_request_of, client_line_of, hello_of, greeting_of, word_of, perm_of, explain_of, explaining_of, asking_of, fields_request_of, request_of};
 
 use crate::fields::split_fields;
 use crate::numbers::u32_field;
@@ -16,6 +16,7 @@ use crate::request::Request;
 use hex::FromHexError;
 use sm_history::Query;
 use sm_kinds::{Class, ClientId, Context, ContextError, Identity, Name, ObjRef, Perms};
+use sm_ruletext::is_word;
 use std::alloc::Global;
 
 /// What the line asks for. The line has no newline.
@@ -231,29 +232,15 @@ fn is_graphic(b: u8) -> bool
     (33..=126).contains(&b)
 }
 
-// A word of a rule text: a letter, and then letters, digits, `_`, `.` or `-`.
+// A word of a rule text.
 #[tactic(auto, unfolding(crate::specs::Grammar::word_of))]
 fn word_field(alloc: Global, field: &[u8]) -> Result<Name, ReadError>
     ensures { Reads result (word_of field.now) }
 {
-    match field {
-        [first, rest @ ..] if first.is_ascii_alphabetic() && all_word_bytes(rest) => {
-            Ok(Name::new(alloc, field)?)
-        }
-        _ => Err(ReadError::Malformed),
+    if !is_word(field) {
+        return Err(ReadError::Malformed);
     }
-}
-
-fn all_word_bytes(bytes: &[u8]) -> bool
-    ensures { result ≡ list_all is_word_byte bytes.now }
-{
-    bytes.iter().all(|b| is_word_byte(*b))
-}
-
-fn is_word_byte(b: u8) -> bool
-    ensures { result ≡ is_word_byte b }
-{
-    b.is_ascii_alphanumeric() || b == b'_' || b == b'.' || b == b'-'
+    Ok(Name::new(alloc, field)?)
 }
 
 fn class_field(field: &[u8]) -> Result<Class, ReadError>

@@ -6,9 +6,9 @@ mod files;
 mod options;
 
 use ending::Ending;
-use options::{Run, run_of};
+use options::{Mode, Options, options_of};
 use sm_engine::Counted;
-use sm_script::run_script;
+use sm_script::{check, run_script};
 use std::io;
 use std::process::ExitCode;
 
@@ -17,9 +17,9 @@ const BOUND: u32 = 16_777_216;
 
 fn main(rt: HostRuntime) -> io::Result<ExitCode> {
     let words: Vec<String> = std::env::args(&rt)?.collect(rt.alloc())?;
-    match run_of(rt.alloc(), words.as_slice()) {
-        Ok(run) => match serve_script(&rt, run) {
-            Ok(()) => Ok(ExitCode::SUCCESS),
+    match options_of(rt.alloc(), words.as_slice()) {
+        Ok(options) => match perform(&rt, &options) {
+            Ok(code) => Ok(code),
             Err(ending) => {
                 rt.stderr().write_all(&ending.line(rt.alloc())?)?;
                 Ok(ExitCode::FAILURE)
@@ -32,10 +32,17 @@ fn main(rt: HostRuntime) -> io::Result<ExitCode> {
     }
 }
 
+fn perform(rt: &HostRuntime, options: &Options) -> Result<ExitCode, Ending> {
+    match options.mode {
+        Mode::Run => serve_script(rt, options),
+        Mode::Check => check_policy(rt, options),
+    }
+}
+
 /// Runs the script that comes on standard input. Replies go to standard output, audit lines to standard error.
-fn serve_script(rt: &HostRuntime, run: Run) -> Result<(), Ending> {
-    let rules = files::read_limited(rt, run.rules)?;
-    let contexts = files::read_limited(rt, run.contexts)?;
+fn serve_script(rt: &HostRuntime, options: &Options) -> Result<ExitCode, Ending> {
+    let rules = files::read_limited(rt, options.rules)?;
+    let contexts = files::read_limited(rt, options.contexts)?;
     let mut reader = Counted::new(rt.stdin());
     let mut writer = Counted::new(rt.stdout());
     let mut audit = Counted::new(rt.stderr());
@@ -43,11 +50,23 @@ fn serve_script(rt: &HostRuntime, run: Run) -> Result<(), Ending> {
         rt.alloc(),
         &rules,
         &contexts,
-        run.places,
+        options.places,
         BOUND,
         &mut reader,
         &mut writer,
         &mut audit,
     )?;
-    Ok(())
+    Ok(ExitCode::SUCCESS)
+}
+
+/// Tells on standard output whether a policy is accepted.
+fn check_policy(rt: &HostRuntime, options: &Options) -> Result<ExitCode, Ending> {
+    let rules = files::read_limited(rt, options.rules)?;
+    let contexts = files::read_limited(rt, options.contexts)?;
+    let mut writer = Counted::new(rt.stdout());
+    if check(rt.alloc(), &rules, &contexts, &mut writer)? {
+        Ok(ExitCode::SUCCESS)
+    } else {
+        Ok(ExitCode::FAILURE)
+    }
 }

@@ -1,16 +1,48 @@
 //! What the command line asks for.
 
+ghost use Rattle.std.specs.Prelude.{◌≡◌, IfSome};
+
 use clap::error::ErrorKind;
-use clap::{Arg, Command, Error, value_parser};
+use clap::{Arg, ArgMatches, Command, Error, value_parser};
 use sm_kinds::Places;
 use std::alloc::Global;
 
-/// `svcmgr run [--journal N] RULES CONTEXTS`: the places of the journal and the two files of the policy.
+/// What the program is to do.
+#[derive(Clone, Copy, Debug, PartialEq, Eq)]
+pub enum Mode {
+    /// `svcmgr run [--journal N] RULES CONTEXTS`
+    Run,
+    /// `svcmgr check RULES CONTEXTS`
+    Check,
+}
+
+/// What the command line asks for.
 #[derive(Drop)]
-pub struct Run<'a> {
+pub struct Options<'a> {
+    pub mode: Mode,
+    /// The places of the journal of a run.
     pub places: Places,
     pub rules: &'a str,
     pub contexts: &'a str,
+}
+
+// A command, with the files of a policy.
+fn with_files<'a>(alloc: Global, command: Command<'a>) -> Result<Command<'a>, Error> {
+    Ok(
+        command
+            .arg(
+                Arg::new(alloc, "rules")
+                    .value_name("RULES")
+                    .help("A file of SELinux rules")
+                    .required(true),
+            )?
+            .arg(
+                Arg::new(alloc, "contexts")
+                    .value_name("CONTEXTS")
+                    .help("A file of service contexts")
+                    .required(true),
+            )?,
+    )
 }
 
 fn command<'a>(alloc: Global) -> Result<Command<'a>, Error> {
@@ -23,47 +55,42 @@ fn command<'a>(alloc: Global) -> Result<Command<'a>, Error> {
                 .help("The places of the journal, 2 to 1048576")
                 .value_parser(value_parser!(u32).range(2..=1_048_576))
                 .default_value("1048576"),
-        )?
-        .arg(
-            Arg::new(alloc, "rules")
-                .value_name("RULES")
-                .help("A file of SELinux rules")
-                .required(true),
-        )?
-        .arg(
-            Arg::new(alloc, "contexts")
-                .value_name("CONTEXTS")
-                .help("A file of service contexts")
-                .required(true),
         )?;
+    let check = Command::new(alloc, "check").about("Tells whether a policy is accepted");
     Ok(
         Command::new(alloc, "svcmgr")
             .about("A service manager with SELinux access control")
             .subcommand_required(true)
-            .subcommand(run)?,
+            .subcommand(with_files(alloc, run)?)?
+            .subcommand(with_files(alloc, check)?)?,
     )
 }
 
-/// What the words ask for, or the text that the parser has for them.
-pub fn run_of<'a>(alloc: Global, words: &'a [String]) -> Result<Run<'a>, Error> {
-    let matches = command(alloc)?.try_get_matches_from(words)?;
-    let Some(("run", run)) = matches.subcommand() else {
-        return Err(command(alloc)?.error(ErrorKind::MissingSubcommand, "a command is missing")?);
+fn in_mode<'a>(mode: Mode, matches: &ArgMatches<'a>) -> Option<Options<'a>>
+    ensures { IfSome result (λ options. options.mode ≡ mode) }
+{
+    let entries = match mode {
+        Mode::Run => matches.get_one::<u32>("journal")?,
+        Mode::Check => 1_048_576,
     };
-    let entries = run.get_one::<u32>("journal").unwrap_or(1_048_576);
-    match (
-        Places::new(entries),
-        run.get_str("rules"),
-        run.get_str("contexts"),
-    ) {
-        (Some(places), Some(rules), Some(contexts)) => Ok(Run {
-            places,
-            rules,
-            contexts,
-        }),
-        _ => Err(command(alloc)?.error(
-            ErrorKind::MissingRequiredArgument,
-            "RULES and CONTEXTS are wanted",
-        )?),
+    Some(Options {
+        mode,
+        places: Places::new(entries)?,
+        rules: matches.get_str("rules")?,
+        contexts: matches.get_str("contexts")?,
+    })
+}
+
+/// What the words ask for, or the text that the parser has for them.
+pub fn options_of<'a>(alloc: Global, words: &'a [String]) -> Result<Options<'a>, Error> {
+    let matches = command(alloc)?.try_get_matches_from(words)?;
+    let options = match matches.subcommand() {
+        Some(("run", run)) => in_mode(Mode::Run, run),
+        Some(("check", check)) => in_mode(Mode::Check, check),
+        _ => None,
+    };
+    match options {
+        Some(options) => Ok(options),
+        None => Err(command(alloc)?.error(ErrorKind::MissingSubcommand, "a command is missing")?),
     }
 }

@@ -1,6 +1,5 @@
-use Rattle.std.proofs.Common.{◌≡◌, ◌&&◌, ℕ, ◌<◌, ◌/◌, false}
-use Rattle.sm_bits.specs.Bits.{has}
+use Rattle.sm_bits.proofs.Words.{Gathered}
 use Rattle.sm_bits.proofs.bit_row.words_meet.Given as goal
 
 abbrev pub invariant-loop-i : goal.invariant-loop-i
-invariant-loop-i l = (j : ℕ) → j / 64 < l.i → (has l.words j && has l.others j) ≡ false
+invariant-loop-i l = Gathered l.words l.others l.common l.i

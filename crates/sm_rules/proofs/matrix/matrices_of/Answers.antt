@@ -1,9 +1,15 @@
-use Rattle.sm_rules.proofs.Rows.{compiled_none, compiled_more}
+use Rattle.std.proofs.Common.{◌≡◌, arith}
+use Rattle.sm_rules.proofs.Groups.{through_none, through_more, through_all}
 use Rattle.sm_rules.proofs.matrix.matrices_of.Goals as goal
 
-pub loop-bit-init : goal.loop-bit-init
-loop-bit-init c = rw c.new-matrices.ensures.items (compiled_none c.args.rules.now c.args.count)
+pub loop-set-init : goal.loop-set-init
+loop-set-init c = through_none c.args.rules.now c.args.count c.in_ok-matrices.matrices.items c.in_ok-matrices.ensures
 
-pub loop-bit-preserved : goal.loop-bit-preserved
-loop-bit-preserved c =
-    compiled_more c.args.rules.now c.args.count c.loop-bit.bit c.loop-bit.matrices.items c.push.new.self.items c.in_ok-matrix.matrix c.in_ok-push.ensures.items c.in_ok-matrix.ensures c.loop-bit.invariant
+pub loop-set-preserved : goal.loop-set-preserved
+loop-set-preserved c =
+    through_more c.args.rules.now c.args.count c.loop-set.set c.loop-set.matrices.items c.add_set.new.matrices.items c.in_ok-add_set.ensures c.loop-set.invariant
+
+pub returns : goal.returns
+returns c =
+    let end : c.loop-set.set ≡ 128 = omega arith in
+    through_all c.args.rules.now c.args.count c.loop-set.matrices.items (rw end at c.loop-set.invariant)

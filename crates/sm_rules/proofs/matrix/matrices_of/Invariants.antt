@@ -1,5 +1,5 @@
-use Rattle.sm_rules.specs.Matrices.{AllCompiled}
+use Rattle.sm_rules.proofs.Groups.{Through}
 use Rattle.sm_rules.proofs.matrix.matrices_of.Given as goal
 
-abbrev pub invariant-loop-bit : goal.invariant-loop-bit
-invariant-loop-bit l = AllCompiled l.rules l.count l.bit l.matrices.items
+abbrev pub invariant-loop-set : goal.invariant-loop-set
+invariant-loop-set l = Through l.rules l.count l.set l.matrices.items

@@ -1,11 +1,10 @@
 use Rattle.std.proofs.Common.{◌≡◌, ◌<◌, ℕ, take}
 use Rattle.sm_bits.specs.Bits.{has}
-use Rattle.sm_rules.specs.Keeping.{covered}
-use Rattle.sm_rules.specs.Matrices.{Square, row}
+use Rattle.sm_rules.specs.Matrices.{Square, row, joined_by}
 use Rattle.sm_rules.proofs.matrix.rows_of.Given as goal
 
 abbrev pub invariant-loop-rule : goal.invariant-loop-rule
 invariant-loop-rule l = record {
   square : Square l.rows.items l.count;
-  covered : (s t : ℕ) → s < l.count → has (row l.rows.items s) t ≡ covered (take l.rule-index l.rules) l.bit s t;
+  joined : (s t : ℕ) → s < l.count → has (row l.rows.items s) t ≡ joined_by (take l.rule-index l.rules) l.set s t;
 }

@@ -1,14 +1,21 @@
-use Rattle.std.proofs.Common.{arith, refl}
-use Rattle.sm_rules.specs.declared.kept.Kept.{Kept}
-use Rattle.sm_rules.specs.Violating.{IsApart}
-use Rattle.sm_rules.proofs.Meeting.{one_more, to_the_end}
+use Rattle.std.proofs.Common.{◌<◌, length, arith}
+use Rattle.std.proofs.lemmas.Option.{slice_get_within}
+use Rattle.sm_rules.proofs.Broken.{sought_none, sought_more, sought_all}
 use Rattle.sm_rules.proofs.violation.first_broken.Goals as goal
 
-pub loop-n-preserved : goal.loop-n-preserved
-loop-n-preserved c allows compiled =
-    one_more c.args.neverallows.now (λ (never : Kept). IsApart allows c.args.count never) c.loop-n.n c.index-neverallows-n.result (omega arith) c.index-neverallows-n.is
-    (c.if-is_broken.ensures.none refl allows compiled) (c.loop-n.invariant allows compiled)
+pub loop-set-init : goal.loop-set-init
+loop-set-init c = sought_none c.args.matrices.now c.args.neverallows.now c.args.count
 
-pub returns-clause-none : goal.returns-clause-none
-returns-clause-none c allows compiled =
-    record { apart = to_the_end c.args.neverallows.now (λ (never : Kept). IsApart allows c.args.count never) c.loop-n.n (omega arith) (c.loop-n.invariant allows compiled) }
+pub loop-set-preserved : goal.loop-set-preserved
+loop-set-preserved c =
+    let found = c.in_ok-place.ensures in
+    sought_more c.args.matrices.now c.args.neverallows.now c.args.count c.loop-set.set c.loop-set.place c.in_ok-place.place found.end found.broken found.first c.loop-set.invariant
+
+pub returns-then-place-neverallows-clause-first : goal.returns-then-place-neverallows-clause-first
+returns-then-place-neverallows-clause-first c n never h found =
+    sought_all c.args.matrices.now c.args.neverallows.now c.args.count c.loop-set.set c.loop-set.place c.loop-set-test.false c.loop-set.invariant n never h found
+
+pub returns-else-place-neverallows-clause-none : goal.returns-else-place-neverallows-clause-none
+returns-else-place-neverallows-clause-none c n never found =
+    let inside : n < length c.args.neverallows.now = slice_get_within c.args.neverallows.now n never found in
+    sought_all c.args.matrices.now c.args.neverallows.now c.args.count c.loop-set.set c.loop-set.place c.loop-set-test.false c.loop-set.invariant n never (omega arith) found

@@ -1,0 +1,28 @@
+//! Words of a rule text.
+
+ghost use Rattle.std.specs.Prelude.{◌≡◌};
+ghost use Rattle.std.specs.List.{list_all};
+ghost use Rattle.sm_ruletext.specs.Lexing as spec;
+
+pub fn is_word_byte(b: u8) -> bool
+    ensures { result ≡ spec.is_word_byte b }
+{
+    b.is_ascii_alphanumeric() || b == b'_' || b == b'.' || b == b'-'
+}
+
+fn all_word_bytes(bytes: &[u8]) -> bool
+    ensures { result ≡ list_all spec.is_word_byte bytes.now }
+{
+    bytes.iter().all(|b| is_word_byte(*b))
+}
+
+/// Whether these bytes are a word: a letter, and then letters, digits, `_`, `.` or `-`.
+#[tactic(auto, unfolding(crate::specs::Lexing::is_word))]
+pub fn is_word(bytes: &[u8]) -> bool
+    ensures { result ≡ spec.is_word bytes.now }
+{
+    match bytes {
+        [first, rest @ ..] => first.is_ascii_alphabetic() && all_word_bytes(rest),
+        [] => false,
+    }
+}

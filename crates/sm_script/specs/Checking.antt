@@ -1,0 +1,30 @@
+-- What `svcmgr check` tells of a policy.
+use Rattle.std.specs.Prelude.{ℕ, List, ◌++◌, Bool, true, false, Result, Ok, Err, codes, decimal}
+use Rattle.sm_policy.specs.declared.counts.Counts.{Counts}
+use Rattle.sm_policy.specs.declared.fault.PolicyFault.{PolicyFault}
+use Rattle.sm_policy.specs.Counting.{counts_of}
+use Rattle.sm_policy.specs.Policy.{Policy}
+use Rattle.sm_policy.specs.Refused.{refused_words}
+
+-- `policy ok: T types, A attributes, R rules, L labels`
+abbrev pub accepted_line : Counts → List ℕ
+accepted_line counts =
+    codes "policy ok: " ++ decimal counts.types
+    ++ codes " types, " ++ decimal counts.attributes
+    ++ codes " attributes, " ++ decimal counts.rules
+    ++ codes " rules, " ++ decimal counts.labels
+    ++ codes " labels\n"
+
+-- `policy refused: TEXT`
+abbrev pub refused_line : PolicyFault → List ℕ
+refused_line fault = codes "policy refused: " ++ refused_words fault ++ codes "\n"
+
+-- the line for what comes of two texts
+abbrev pub checked_line : Result Policy PolicyFault → List ℕ
+checked_line (Ok policy) = accepted_line (counts_of policy)
+checked_line (Err fault) = refused_line fault
+
+-- whether they are those of a policy
+abbrev pub is_accepted : Result Policy PolicyFault → Bool
+is_accepted (Ok policy) = true
+is_accepted (Err fault) = false

@@ -1,0 +1,99 @@
+//! What `svcmgr check` tells of a policy.
+
+ghost use Rattle.std.specs.Prelude.{◌≡◌, ◌⊎◌, ◌++◌, ◌<◌, ℕ, IfOk, OnOk, OnErr, take, decimal};
+ghost use Rattle.std.specs.Io.KnownBytes.{Appends};
+ghost use Rattle.sm_engine.specs.Counts.{failures_of, inner_of, greatest};
+ghost use Rattle.sm_policy.specs.Preparing.{prepared};
+ghost use Rattle.sm_script.specs.Checking as spec;
+
+use itoa::Buffer;
+use sm_engine::{Counted, Fault, write_whole};
+use sm_policy::{Counts, PolicyFault, Prepared, refused_text};
+use std::alloc::{AllocError, Global};
+use std::io::Write;
+
+/// Writes a line that tells whether these two texts are those of a policy, and its sizes or the first refusal.
+/// Answers whether they are.
+///
+/// # Errors
+///
+/// `WriteFault` where a write failed; a front of the line is written then. `Memory` where memory was refused; nothing
+/// is written then.
+pub fn check<W: Write>(
+    alloc: Global,
+    rules: &[u8],
+    contexts: &[u8],
+    writer: &mut Counted<W>,
+) -> Result<bool, Fault>
+    requires { failures_of writer.old < greatest }
+    ensures accepted { IfOk result (λ accepted. accepted ≡ spec.is_accepted (prepared rules.now contexts.now)) }
+    ensures written { OnOk result (Appends (W.contents (inner_of writer.old)) (W.contents (inner_of writer.new))
+        (spec.checked_line (prepared rules.now contexts.now))) }
+    ensures front { result ≡ Err Fault.WriteFault → (n : ℕ) × Appends (W.contents (inner_of writer.old)) (W.contents (inner_of writer.new))
+        (take n (spec.checked_line (prepared rules.now contexts.now))) }
+    ensures unwritten { result ≡ Err Fault.Memory → writer.new ≡ writer.old }
+    ensures fault { OnErr result ((result ≡ Err Fault.WriteFault) ⊎ (result ≡ Err Fault.Memory)) }
+    ensures write_fault { result ≡ Err Fault.WriteFault → failures_of writer.old < failures_of writer.new }
+{
+    let verdict = judge(alloc, rules, contexts)?;
+    write_whole(writer, &verdict.line)?;
+    Ok(verdict.is_accepted)
+}
+
+/// What a check tells, and whether the policy is accepted.
+#[derive(Drop)]
+struct Verdict {
+    line: Vec<u8>,
+    is_accepted: bool,
+}
+
+// The verdict on two texts.
+fn judge(alloc: Global, rules: &[u8], contexts: &[u8]) -> Result<Verdict, AllocError>
+    ensures line { IfOk result (λ v. v.line.items ≡ spec.checked_line (prepared rules.now contexts.now)) }
+    ensures accepted { IfOk result (λ v. v.is_accepted ≡ spec.is_accepted (prepared rules.now contexts.now)) }
+{
+    match Prepared::from_texts(alloc, rules, contexts) {
+        Ok(policy) => Ok(Verdict {
+            line: accepted_line(alloc, policy.counts())?,
+            is_accepted: true,
+        }),
+        Err(PolicyFault::Memory) => Err(AllocError),
+        Err(fault) => Ok(Verdict {
+            line: refused_line(alloc, &fault)?,
+            is_accepted: false,
+        }),
+    }
+}
+
+// `policy ok: T types, A attributes, R rules, L labels`
+fn accepted_line(alloc: Global, counts: Counts) -> Result<Vec<u8>, AllocError>
+    ensures { IfOk result (λ line. line.items ≡ spec.accepted_line counts) }
+{
+    let mut line = Vec::new(alloc);
+    push_count(&mut line, b"policy ok: ", counts.types)?;
+    push_count(&mut line, b" types, ", counts.attributes)?;
+    push_count(&mut line, b" attributes, ", counts.rules)?;
+    push_count(&mut line, b" rules, ", counts.labels)?;
+    line.extend_from_slice(b" labels\n")?;
+    Ok(line)
+}
+
+// Adds some words and a number.
+fn push_count(line: &mut Vec<u8>, words: &[u8], count: u32) -> Result<(), AllocError>
+    ensures { OnOk result (line.new.items ≡ line.old.items ++ words.now ++ decimal count) }
+{
+    let mut buffer = Buffer::new();
+    line.extend_from_slice(words)?;
+    line.extend_from_slice(buffer.format(count).as_bytes())
+}
+
+/// `policy refused: TEXT`, where TEXT are the words for the fault.
+pub fn refused_line(alloc: Global, fault: &PolicyFault) -> Result<Vec<u8>, AllocError>
+    ensures { IfOk result (λ line. line.items ≡ spec.refused_line fault.now) }
+{
+    let mut line = Vec::from_slice(alloc, b"policy refused: ")?;
+    let words = refused_text(alloc, fault)?;
+    line.extend_from_slice(&words)?;
+    line.extend_from_slice(b"\n")?;
+    Ok(line)
+}

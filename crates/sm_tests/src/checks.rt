@@ -1,0 +1,210 @@
+//! What a check tells of a policy, and writers that fail at it.
+
+use crate::texts::{DEVICE_LABELS, GUARDED_RULES};
+use crate::{FailAt, OneByte};
+use sm_engine::{Counted, Fault};
+use sm_script::check;
+use std::alloc::Global;
+use std::process::Abort;
+use std::test::Fail;
+
+const ACCEPTED: &[u8] = b"policy ok: 6 types, 2 attributes, 8 rules, 2 labels\n";
+
+// Checks two texts, and wants this line; and whether they are a policy's.
+fn tells(
+    rt: &impl Abort,
+    alloc: Global,
+    rules: &[u8],
+    contexts: &[u8],
+    line: &[u8],
+    is_accepted: bool,
+) {
+    let mut writer = Counted::new(Vec::new(alloc));
+    let result = check(alloc, rules, contexts, &mut writer);
+    assert!(rt; result == Ok(is_accepted));
+    assert_eq!(rt; writer.into_inner().as_slice(), line);
+}
+
+#[test]
+fn an_accepted_policy(rt: HostRuntime) -> Result<(), Fail> {
+    tells(
+        &rt,
+        rt.alloc(),
+        GUARDED_RULES,
+        DEVICE_LABELS,
+        ACCEPTED,
+        true,
+    );
+    Ok(())
+}
+
+#[test]
+fn a_broken_neverallow(rt: HostRuntime) -> Result<(), Fail> {
+    let mut rules = Vec::from_slice(rt.alloc(), GUARDED_RULES)?;
+    rules.extend_from_slice(b"allow untrusted_app activity_service:service_manager add;\n")?;
+    let line =
+        b"policy refused: neverallow at line 16 by allow at line 17: untrusted_app activity_service service_manager add\n";
+    tells(&rt, rt.alloc(), &rules, DEVICE_LABELS, line, false);
+    Ok(())
+}
+
+#[test]
+fn texts_that_are_refused(rt: HostRuntime) -> Result<(), Fail> {
+    let cases: [(&[u8], &[u8], &[u8]); 11] = [
+        (
+            b"type a;\ntype b",
+            b"",
+            b"policy refused: rules: syntax at line 2\n",
+        ),
+        (
+            b"permissive a;",
+            b"",
+            b"policy refused: rules: unsupported statement at line 1\n",
+        ),
+        (
+            b"type a;\ntype a;",
+            b"",
+            b"policy refused: rules: declared twice at line 2\n",
+        ),
+        (
+            b"type a, d;",
+            b"",
+            b"policy refused: rules: unknown name at line 1\n",
+        ),
+        (
+            b"type a;\nallow a a:binder find;",
+            b"",
+            b"policy refused: rules: unknown permission at line 2\n",
+        ),
+        (b"type a;", b"b", b"policy refused: contexts: bad line 1\n"),
+        (
+            b"type a;",
+            b"b u:r:a\nb u:r:c",
+            b"policy refused: contexts: line 2 gives another context than line 1\n",
+        ),
+        (
+            b"type a;",
+            b"* u:r:a\n* u:r:a",
+            b"policy refused: contexts: second default at line 2\n",
+        ),
+        (
+            b"type a;",
+            b"b u:r:a",
+            b"policy refused: contexts: no default\n",
+        ),
+        (
+            b"type a;",
+            b"* u:r:a\nb u:r:c",
+            b"policy refused: contexts: undeclared type at line 2\n",
+        ),
+        (
+            b"type a;\nneverallow a self:binder *;\nallow * *:binder call;",
+            b"* u:r:a",
+            b"policy refused: neverallow at line 2 by allow at line 3: a a binder call\n",
+        ),
+    ];
+    for (rules, contexts, line) in cases {
+        tells(&rt, rt.alloc(), rules, contexts, line, false);
+    }
+    Ok(())
+}
+
+// So many times the words, then those behind them.
+fn repeated(alloc: Global, words: &[u8], times: usize, last: &[u8]) -> Result<Vec<u8>, Fail> {
+    let mut text = Vec::new(alloc);
+    for _ in 0..times {
+        text.extend_from_slice(words)?;
+    }
+    text.extend_from_slice(last)?;
+    Ok(text)
+}
+
+#[test]
+fn sizes_over_their_limits(rt: HostRuntime) -> Result<(), Fail> {
+    let alloc = rt.alloc();
+    let rules = repeated(alloc, b" ", 4_194_293, b"type a; type")?;
+    let line = b"policy refused: rules: too large\n";
+    tells(&rt, alloc, &rules, b"", line, false);
+    let rules = repeated(alloc, b"allow a a:binder call;\n", 65_537, b"type a;")?;
+    let line = b"policy refused: rules: too many\n";
+    tells(&rt, alloc, &rules, b"", line, false);
+    let contexts = repeated(alloc, b"# no entry\n", 381_301, b"b")?;
+    let line = b"policy refused: contexts: too large\n";
+    tells(&rt, alloc, b"type a;", &contexts, line, false);
+    let contexts = repeated(alloc, b"a u:r:a\n", 16_384, b"* u:r:a")?;
+    tells(&rt, alloc, b"type a;", &contexts, line, false);
+    let contexts = repeated(alloc, b"a u:r:a\n", 16_383, b"* u:r:a")?;
+    let line = b"policy ok: 1 types, 0 attributes, 0 rules, 2 labels\n";
+    tells(&rt, alloc, b"type a;", &contexts, line, true);
+    Ok(())
+}
+
+// 2,000 types of 500 attributes, 30,000 allow rules and 1,000 neverallow rules.
+fn phone_rules(alloc: Global) -> Result<Vec<u8>, Fail> {
+    let mut text = Vec::new(alloc);
+    for i in 0u32..500 {
+        text.extend_from_slice(format!(in alloc; "attribute d{i};\n")?.as_bytes())?;
+    }
+    for i in 0u32..2000 {
+        let (d, e) = (i % 500, (i + 7) % 500);
+        text.extend_from_slice(format!(in alloc; "type t{i}, d{d}, d{e};\n")?.as_bytes())?;
+    }
+    for i in 0u32..15_000 {
+        let (d, s, t) = (i % 500, i % 2000, i * 7 % 2000);
+        let rules = format!(in alloc;
+            "allow t{s} t{t}:binder {{ call transfer }};\nallow d{d} {{ t{t} t{s} }}:service_manager ~add;\n"
+        )?;
+        text.extend_from_slice(rules.as_bytes())?;
+    }
+    for i in 0u32..500 {
+        let rules = format!(in alloc;
+            "neverallow {{ d{i} -t{i} }} *:service_manager add;\nneverallow ~d{i} self:binder set_context_mgr;\n"
+        )?;
+        text.extend_from_slice(rules.as_bytes())?;
+    }
+    Ok(text)
+}
+
+#[test]
+fn a_policy_of_a_phones_size(rt: HostRuntime) -> Result<(), Fail> {
+    let alloc = rt.alloc();
+    let mut rules = phone_rules(alloc)?;
+    rules.extend_from_slice(b"allow t1999 t3:service_manager add;\n")?;
+    let line =
+        b"policy refused: neverallow at line 32513 by allow at line 33501: t1999 t3 service_manager add\n";
+    tells(&rt, alloc, &rules, b"* u:r:t0", line, false);
+    Ok(())
+}
+
+// The Nth write fails, one byte a write. Whether there was an Nth write.
+fn write_fails(rt: &impl Abort, alloc: Global, n: u32) -> bool {
+    let mut writer = Counted::new(FailAt {
+        inner: OneByte(Vec::new(alloc)),
+        left: n,
+    });
+    let result = check(alloc, GUARDED_RULES, DEVICE_LABELS, &mut writer);
+    let failures = writer.failures();
+    let written = writer.into_inner().inner.0;
+    assert!(rt; ACCEPTED.starts_with(&written));
+    if result.is_ok() {
+        assert_eq!(rt; written.len(), ACCEPTED.len());
+        return false;
+    }
+    assert!(rt; result == Err(Fault::WriteFault));
+    assert_eq!(rt; failures, 1);
+    assert_eq!(rt; written.len() + 1, n as usize);
+    true
+}
+
+#[test]
+fn each_write_of_a_check_fails(rt: HostRuntime) -> Result<(), Fail> {
+    let mut failed = 0u32;
+    for n in 1..1000 {
+        if !write_fails(&rt, rt.alloc(), n) {
+            break;
+        }
+        failed = n;
+    }
+    assert_eq!(rt; failed as usize, ACCEPTED.len());
+    Ok(())
+}

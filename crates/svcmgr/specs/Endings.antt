@@ -1,0 +1,59 @@
+-- What standard error is told where the program ends without an answer.
+use Rattle.std.specs.Prelude.{◌≡◌, ℕ, List, [], ◌++◌, unwrap_or, codes}
+use Rattle.sm_kinds.specs.declared.class.Class.{Class}
+use Rattle.sm_kinds.specs.declared.perms.Perms.{Perms}
+use Rattle.sm_kinds.specs.Permissions.{class_word, perm_word}
+use Rattle.sm_history.specs.declared.denial.Denial.TheVariants.{Rule, App, Isolated}
+use Rattle.sm_history.specs.declared.refusal.Refusal.{Refusal}
+use Rattle.sm_history.specs.declared.refusal.Refusal.TheVariants as refusals
+use Rattle.sm_engine.specs.declared.fault.Fault.{Fault}
+use Rattle.sm_engine.specs.declared.fault.Fault.TheVariants as faults
+use Rattle.sm_script.specs.declared.script_fault.ScriptFault.{ScriptFault}
+use Rattle.sm_script.specs.declared.script_fault.ScriptFault.TheVariants.{Policy, Opening, Engine}
+use Rattle.sm_script.specs.Checking.{refused_line}
+use Rattle.svcmgr.specs.declared.ending.Ending.{Ending}
+use Rattle.svcmgr.specs.declared.ending.Ending.TheVariants.{File, Script}
+
+abbrev pub faulted : List ℕ → List ℕ
+faulted words = codes "fault: " ++ words ++ codes "\n"
+
+abbrev pub fault_line : Fault → List ℕ
+fault_line faults.ReadFault = codes "fault: a read failed\n"
+fault_line faults.WriteFault = codes "fault: a write failed\n"
+fault_line faults.TooManyReads = codes "fault: too many reads\n"
+fault_line faults.LineTooLong = codes "fault: a line is too long\n"
+fault_line faults.Memory = codes "fault: no memory\n"
+
+-- the rule that the manager lacks
+abbrev pub denied_line : List ℕ → List ℕ → Class → Perms → List ℕ
+denied_line source target class perm =
+    codes "open denied " ++ source ++ codes " " ++ target ++ codes " " ++ class_word class
+    ++ codes " " ++ unwrap_or (perm_word perm) [] ++ codes "\n"
+
+-- what no opening answers
+abbrev pub unopened_line : List ℕ
+unopened_line = codes "fault: the manager was not opened\n"
+
+abbrev pub opening_line : Refusal → List ℕ
+opening_line (refusals.Denied (Rule source target class perm)) = denied_line source target class perm
+opening_line (refusals.Denied (App uid)) = unopened_line
+opening_line (refusals.Denied (Isolated uid)) = unopened_line
+opening_line (refusals.Exception exception) = unopened_line
+opening_line (refusals.Failed failure) = unopened_line
+opening_line refusals.Dead = unopened_line
+opening_line refusals.Empty = unopened_line
+opening_line refusals.TooManyClients = unopened_line
+opening_line (refusals.VersionMoved now) = unopened_line
+opening_line refusals.JournalFull = unopened_line
+opening_line refusals.NoSeat = unopened_line
+opening_line refusals.Memory = codes "fault: no memory\n"
+
+abbrev pub script_line : ScriptFault → List ℕ
+script_line (Policy fault) = refused_line fault
+script_line (Opening refusal) = opening_line refusal
+script_line (Engine fault) = fault_line fault
+
+-- the line says why; of a file it has the words of the operating system
+abbrev pub Tells : Ending → List ℕ → Type 0
+Tells (File error) line = (words : List ℕ) × (line ≡ faulted words)
+Tells (Script fault) line = line ≡ script_line fault
