@@ -2,4 +2,3 @@ pub mod Few
 pub mod Finding
 pub mod Firsts
 pub mod UndeclaredLines
-pub mod Untyped

@@ -69,9 +69,8 @@ impl Parts {
     pub fn why(&self, source: &[u8], target: &[u8], class: Class, perm: Perms) -> Option<u32>
         ensures { result ≡ written_at self.now source.now target.now class perm }
     {
-        let source = self.types.index(source)?;
-        let target = self.types.index(target)?;
-        self.rules.written(source, target, class, perm)
+        self.rules
+            .written_by_name(&self.types, source, target, class, perm)
     }
 
     #[tactic(auto, unfolding(crate::specs::Policy::label_of))]

@@ -17,3 +17,5 @@ mod reloads;
 mod scripts;
 #[cfg(test)]
 mod texts;
+#[cfg(test)]
+mod turns;

@@ -1,9 +1,9 @@
 //! Lines, names, clients and journals at their limits, and scripts that are not begun.
 
-use crate::texts::{DEVICE_LABELS, DEVICE_RULES, ONE_LABEL, PLAIN_RULES};
+use crate::texts::{DEVICE_LABELS, DEVICE_RULES, GUARDED_RULES, ONE_LABEL, PLAIN_RULES};
 use sm_engine::{Counted, Fault};
-use sm_history::Refusal;
-use sm_kinds::Places;
+use sm_history::{Denial, Refusal};
+use sm_kinds::{Class, Perms, Places};
 use sm_policy::PolicyFault;
 use sm_script::{ScriptFault, run_script};
 use std::alloc::Global;
@@ -139,14 +139,50 @@ failed journal-full
     Ok(())
 }
 
+// Whether the opening was denied by the rule that is needed to become the manager.
+fn is_denied(left: &Left) -> bool {
+    match &left.result {
+        Err(
+            ScriptFault::Opening(
+                Refusal::Denied(
+                    Denial::Rule {
+                        source,
+                        target,
+                        class,
+                        perm,
+                    },
+                ),
+            ),
+        ) => {
+            source.bytes() == b"servicemanager".as_slice()
+                && target.bytes() == b"servicemanager".as_slice()
+                && *class == Class::Binder
+                && *perm == Perms::SET_CONTEXT_MGR
+        }
+        _ => false,
+    }
+}
+
 #[test]
-fn scripts_that_are_not_begun(rt: HostRuntime) -> Result<(), Fail> {
+fn managers_without_set_context_mgr(rt: HostRuntime) -> Result<(), Fail> {
     let script = b"hello 100 1000 u:r:system_server:s0\n";
-    let no_manager = b"type servicemanager;\ntype activity_service;\n";
-    let left = run_of(&rt, rt.alloc(), no_manager, ONE_LABEL, 1000, script);
-    assert!(rt; matches!(&left.result, Err(ScriptFault::Opening(Refusal::Denied(_)))));
+    let mut rules = Vec::from_slice(rt.alloc(), &PLAIN_RULES[..64])?;
+    rules.extend_from_slice(&PLAIN_RULES[124..])?;
+    let left = run_of(&rt, rt.alloc(), &rules, ONE_LABEL, 1000, script);
+    assert!(rt; is_denied(&left));
     assert_eq!(rt; left.replies.len(), 0);
     assert_eq!(rt; left.unread, script.len());
+    let mut rules = Vec::from_slice(rt.alloc(), &GUARDED_RULES[..241])?;
+    rules.extend_from_slice(&GUARDED_RULES[291..])?;
+    let left = run_of(&rt, rt.alloc(), &rules, DEVICE_LABELS, 1000, script);
+    assert!(rt; is_denied(&left));
+    assert_eq!(rt; left.replies.len(), 0);
+    Ok(())
+}
+
+#[test]
+fn a_refused_policy_is_not_run(rt: HostRuntime) -> Result<(), Fail> {
+    let script = b"hello 100 1000 u:r:system_server:s0\n";
     let left = run_of(&rt, rt.alloc(), PLAIN_RULES, DEVICE_LABELS, 1000, script);
     assert!(rt;
         matches!(
