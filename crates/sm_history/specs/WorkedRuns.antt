@@ -1,5 +1,5 @@
 -- Worked runs, computed by the definitions: a policy, requests in order, and the replies that they must have.
-use Rattle.std.specs.Prelude.{ℕ, Bool, true, false, List, [], ◌∷◌, None, codes, ◌≡◌, refl}
+use Rattle.std.specs.Prelude.{ℕ, false, List, [], ◌∷◌, None, codes, ◌≡◌, refl}
 use Rattle.sm_kinds.specs.declared.number.ObjRef.TheVariants.{Own as OwnRef}
 use Rattle.sm_kinds.specs.declared.identity.Identity.{Identity}
 use Rattle.sm_kinds.specs.declared.class.Class.TheVariants.{Binder}
@@ -9,7 +9,6 @@ use Rattle.sm_ruletext.specs.declared.statement.Statement.{Statement}
 use Rattle.sm_ruletext.specs.declared.statement.What.TheVariants.{Attribute, Declared, Allow}
 use Rattle.sm_types.specs.Denoting.{chosen}
 use Rattle.sm_rules.specs.Access.{joins, gives}
-use Rattle.sm_contexts.specs.Reading.{Entry}
 use Rattle.sm_policy.specs.Policy.{Policy, allowed, label_of}
 use Rattle.sm_history.specs.declared.by.By.{By}
 use Rattle.sm_history.specs.declared.by.By.TheVariants.{Manager, Client}
