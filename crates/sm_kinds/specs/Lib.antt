@@ -2,3 +2,4 @@ pub mod Users
 pub mod Contexts
 pub mod Names
 pub mod Permissions
+pub mod Messages

@@ -6,6 +6,7 @@
 mod class;
 mod context;
 mod identity;
+mod messages;
 mod name;
 mod number;
 mod payload;
@@ -20,6 +21,7 @@ mod word;
 pub use class::Class;
 pub use context::{Context, ContextError, is_context};
 pub use identity::Identity;
+pub use messages::{push_access, push_numbered};
 pub use name::{Name, Names, valid_name};
 pub use number::{AdminId, ClientId, Node, ObjRef};
 pub use payload::{Payload, PayloadError};

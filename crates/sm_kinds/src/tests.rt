@@ -2,7 +2,8 @@
 
 use crate::{
     Class, ClientId, Context, ContextError, Name, Names, ObjRef, Payload, PayloadError, Perms,
-    Places, Refs, RefsError, Word, app_number, is_barred_app, is_isolated, valid_name,
+    Places, Refs, RefsError, Word, app_number, is_barred_app, is_isolated, push_access,
+    push_numbered, valid_name,
 };
 use std::test::Fail;
 
@@ -95,5 +96,31 @@ fn limits_are_accepted_and_one_more_is_not(rt: HostRuntime) -> Result<(), Fail> 
     assert_eq!(rt; Refs::new(rt.alloc(), &refs[..16])?.list().len(), 16);
     assert!(rt; matches!(Refs::new(rt.alloc(), &refs), Err(RefsError::TooLong)));
     assert!(rt; ClientId(1) < ClientId(2));
+    Ok(())
+}
+
+#[test]
+fn messages_name_numbers_and_accesses(rt: HostRuntime) -> Result<(), Fail> {
+    let mut text = Vec::from_slice(rt.alloc(), b"failed ")?;
+    push_numbered(&mut text, b"out-of-turn ", 18_446_744_073_709_551_615)?;
+    assert_eq!(rt;
+        text.as_slice(),
+        b"failed out-of-turn 18446744073709551615".as_slice()
+    );
+    let mut text = Vec::from_slice(rt.alloc(), b"denied ")?;
+    push_access(
+        &mut text,
+        b"system_server",
+        b"servicemanager",
+        Class::Binder,
+        Perms::CALL,
+    )?;
+    assert_eq!(rt;
+        text.as_slice(),
+        b"denied system_server servicemanager binder call".as_slice()
+    );
+    let mut text = Vec::new(rt.alloc());
+    push_access(&mut text, b"a", b"b", Class::ServiceManager, Perms(3))?;
+    assert_eq!(rt; text.as_slice(), b"a b service_manager ".as_slice());
     Ok(())
 }

@@ -1,26 +1,17 @@
 //! The words for a policy that is refused.
 
-ghost use Rattle.std.specs.Prelude.{◌≡◌, ◌++◌, IfOk, OnOk, decimal};
-ghost use Rattle.sm_policy.specs.Refused.{access_words, broken_words, contexts_words, perm_words, refused_words, spaced, text_words, types_words, violation_words};
+ghost use Rattle.std.specs.Prelude.{◌≡◌, IfOk};
+ghost use Rattle.sm_kinds.specs.Messages.{numbered};
+ghost use Rattle.sm_policy.specs.Refused.{rules_words, broken_words, contexts_words, refused_words, text_words, types_words, violation_words};
 ghost use Rattle.sm_contexts.specs.declared.fault.ContextsFault.TheVariants.{Conflict};
 
 use crate::{PolicyFault, Violation};
-use itoa::Buffer;
 use sm_contexts::ContextsFault;
-use sm_kinds::Perms;
+use sm_kinds::{push_access, push_numbered};
 use sm_rules::RulesFault;
 use sm_ruletext::RuleTextFault;
 use sm_types::TypesFault;
 use std::alloc::{AllocError, Global};
-
-/// Adds some words and a number.
-fn push_number(text: &mut Vec<u8>, words: &[u8], n: u32) -> Result<(), AllocError>
-    ensures { OnOk result (text.new.items ≡ text.old.items ++ words.now ++ decimal n) }
-{
-    let mut buffer = Buffer::new();
-    text.extend_from_slice(words)?;
-    text.extend_from_slice(buffer.format(n).as_bytes())
-}
 
 fn words(alloc: Global, words: &[u8]) -> Result<Vec<u8>, AllocError>
     ensures { IfOk result (λ v. v.items ≡ words.now) }
@@ -29,10 +20,10 @@ fn words(alloc: Global, words: &[u8]) -> Result<Vec<u8>, AllocError>
 }
 
 fn numbered(alloc: Global, words: &[u8], n: u32) -> Result<Vec<u8>, AllocError>
-    ensures { IfOk result (λ v. v.items ≡ words.now ++ decimal n) }
+    ensures { IfOk result (λ v. v.items ≡ numbered words.now n) }
 {
     let mut text = Vec::new(alloc);
-    push_number(&mut text, words, n)?;
+    push_numbered(&mut text, words, u64::from(n))?;
     Ok(text)
 }
 
@@ -40,7 +31,11 @@ fn conflict(alloc: Global, earlier: u32, later: u32) -> Result<Vec<u8>, AllocErr
     ensures { IfOk result (λ v. v.items ≡ contexts_words (Conflict earlier later)) }
 {
     let mut text = numbered(alloc, b"contexts: line ", later)?;
-    push_number(&mut text, b" gives another context than line ", earlier)?;
+    push_numbered(
+        &mut text,
+        b" gives another context than line ",
+        u64::from(earlier),
+    )?;
     Ok(text)
 }
 
@@ -69,8 +64,8 @@ fn types_refused(alloc: Global, fault: TypesFault) -> Result<Vec<u8>, AllocError
     }
 }
 
-fn access_refused(alloc: Global, fault: RulesFault) -> Result<Vec<u8>, AllocError>
-    ensures { IfOk result (λ v. v.items ≡ access_words fault) }
+fn rules_refused(alloc: Global, fault: RulesFault) -> Result<Vec<u8>, AllocError>
+    ensures { IfOk result (λ v. v.items ≡ rules_words fault) }
 {
     match fault {
         RulesFault::Unknown(n) => numbered(alloc, b"rules: unknown name at line ", n),
@@ -94,40 +89,26 @@ fn contexts_refused(alloc: Global, fault: ContextsFault) -> Result<Vec<u8>, Allo
     }
 }
 
-/// Adds a space and a word.
-fn push_word(text: &mut Vec<u8>, word: &[u8]) -> Result<(), AllocError>
-    ensures { OnOk result (text.new.items ≡ text.old.items ++ spaced word.now) }
-{
-    text.extend_from_slice(b" ")?;
-    text.extend_from_slice(word)
-}
-
 fn broken(alloc: Global, never: u32, allow: u32) -> Result<Vec<u8>, AllocError>
     ensures { IfOk result (λ v. v.items ≡ broken_words never allow) }
 {
     let mut text = numbered(alloc, b"neverallow at line ", never)?;
-    push_number(&mut text, b" by allow at line ", allow)?;
-    text.extend_from_slice(b":")?;
+    push_numbered(&mut text, b" by allow at line ", u64::from(allow))?;
+    text.extend_from_slice(b": ")?;
     Ok(text)
-}
-
-fn perm_word(perm: Perms) -> &'static [u8]
-    ensures { result.now ≡ perm_words perm }
-{
-    match perm.word() {
-        Some(word) => word,
-        None => b"",
-    }
 }
 
 fn violated(alloc: Global, violation: &Violation) -> Result<Vec<u8>, AllocError>
     ensures { IfOk result (λ v. v.items ≡ violation_words violation.now) }
 {
     let mut text = broken(alloc, violation.never_line, violation.allow_line)?;
-    push_word(&mut text, violation.source.bytes())?;
-    push_word(&mut text, violation.target.bytes())?;
-    push_word(&mut text, violation.class.word())?;
-    push_word(&mut text, perm_word(violation.perm))?;
+    push_access(
+        &mut text,
+        violation.source.bytes(),
+        violation.target.bytes(),
+        violation.class,
+        violation.perm,
+    )?;
     Ok(text)
 }
 
@@ -138,7 +119,7 @@ pub fn refused_text(alloc: Global, fault: &PolicyFault) -> Result<Vec<u8>, Alloc
     match fault {
         PolicyFault::Rules(e) => text_refused(alloc, *e),
         PolicyFault::Types(e) => types_refused(alloc, *e),
-        PolicyFault::Access(e) => access_refused(alloc, *e),
+        PolicyFault::Access(e) => rules_refused(alloc, *e),
         PolicyFault::Contexts(e) => contexts_refused(alloc, *e),
         PolicyFault::UndeclaredLabel(n) => {
             numbered(alloc, b"contexts: undeclared type at line ", *n)

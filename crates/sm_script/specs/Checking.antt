@@ -1,5 +1,6 @@
 -- What `svcmgr check` tells of a policy.
-use Rattle.std.specs.Prelude.{ℕ, List, ◌++◌, Bool, true, false, Result, Ok, Err, codes, decimal}
+use Rattle.std.specs.Prelude.{ℕ, List, ◌++◌, Bool, true, false, Result, Ok, Err, codes}
+use Rattle.sm_kinds.specs.Messages.{numbered}
 use Rattle.sm_policy.specs.declared.counts.Counts.{Counts}
 use Rattle.sm_policy.specs.declared.fault.PolicyFault.{PolicyFault}
 use Rattle.sm_policy.specs.Counting.{counts_of}
@@ -9,10 +10,10 @@ use Rattle.sm_policy.specs.Refused.{refused_words}
 -- `policy ok: T types, A attributes, R rules, L labels`
 abbrev pub accepted_line : Counts → List ℕ
 accepted_line counts =
-    codes "policy ok: " ++ decimal counts.types
-    ++ codes " types, " ++ decimal counts.attributes
-    ++ codes " attributes, " ++ decimal counts.rules
-    ++ codes " rules, " ++ decimal counts.labels
+    numbered (codes "policy ok: ") counts.types
+    ++ numbered (codes " types, ") counts.attributes
+    ++ numbered (codes " attributes, ") counts.rules
+    ++ numbered (codes " rules, ") counts.labels
     ++ codes " labels\n"
 
 -- `policy refused: TEXT`

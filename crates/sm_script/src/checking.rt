@@ -1,13 +1,13 @@
 //! What `svcmgr check` tells of a policy.
 
-ghost use Rattle.std.specs.Prelude.{◌≡◌, ◌⊎◌, ◌++◌, ◌<◌, ℕ, IfOk, OnOk, OnErr, take, decimal};
+ghost use Rattle.std.specs.Prelude.{◌≡◌, ◌⊎◌, ◌<◌, ℕ, IfOk, OnOk, OnErr, take};
 ghost use Rattle.std.specs.Io.KnownBytes.{Appends};
 ghost use Rattle.sm_engine.specs.Counts.{failures_of, inner_of, greatest};
 ghost use Rattle.sm_policy.specs.Preparing.{prepared};
 ghost use Rattle.sm_script.specs.Checking as spec;
 
-use itoa::Buffer;
 use sm_engine::{Counted, Fault, write_whole};
+use sm_kinds::push_numbered;
 use sm_policy::{Counts, PolicyFault, Prepared, refused_text};
 use std::alloc::{AllocError, Global};
 use std::io::Write;
@@ -70,21 +70,12 @@ fn accepted_line(alloc: Global, counts: Counts) -> Result<Vec<u8>, AllocError>
     ensures { IfOk result (λ line. line.items ≡ spec.accepted_line counts) }
 {
     let mut line = Vec::new(alloc);
-    push_count(&mut line, b"policy ok: ", counts.types)?;
-    push_count(&mut line, b" types, ", counts.attributes)?;
-    push_count(&mut line, b" attributes, ", counts.rules)?;
-    push_count(&mut line, b" rules, ", counts.labels)?;
+    push_numbered(&mut line, b"policy ok: ", u64::from(counts.types))?;
+    push_numbered(&mut line, b" types, ", u64::from(counts.attributes))?;
+    push_numbered(&mut line, b" attributes, ", u64::from(counts.rules))?;
+    push_numbered(&mut line, b" rules, ", u64::from(counts.labels))?;
     line.extend_from_slice(b" labels\n")?;
     Ok(line)
-}
-
-// Adds some words and a number.
-fn push_count(line: &mut Vec<u8>, words: &[u8], count: u32) -> Result<(), AllocError>
-    ensures { OnOk result (line.new.items ≡ line.old.items ++ words.now ++ decimal count) }
-{
-    let mut buffer = Buffer::new();
-    line.extend_from_slice(words)?;
-    line.extend_from_slice(buffer.format(count).as_bytes())
 }
 
 /// `policy refused: TEXT`, where TEXT are the words for the fault.

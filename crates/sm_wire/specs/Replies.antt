@@ -1,13 +1,12 @@
 -- The reply lines.
-use Rattle.std.specs.Prelude.{ℕ, List, [], ◌∷◌, ◌++◌, length, codes, Bool, true, false, ◌&&◌, ◌==◌, if◌then◌else◌, Option, Some, None, unwrap_or}
+use Rattle.std.specs.Prelude.{ℕ, List, [], ◌∷◌, ◌++◌, length, codes, Bool, true, false, ◌&&◌, ◌==◌, if◌then◌else◌, Option, Some, None}
 use Rattle.std.specs.List.{flat_map}
-use Rattle.std.specs.Fmt.{decimal}
 use Rattle.hex.specs.Hex.{encode_lower}
 use Rattle.sm_kinds.specs.declared.class.Class.{Class}
 use Rattle.sm_kinds.specs.declared.class.Class.TheVariants.{ServiceManager, Binder}
 use Rattle.sm_kinds.specs.declared.perms.Perms.{Perms}
 use Rattle.sm_kinds.specs.Names.{is_valid_name}
-use Rattle.sm_kinds.specs.Permissions.{class_word, perm_word}
+use Rattle.sm_kinds.specs.Messages.{access_words, numbered}
 use Rattle.sm_history.specs.declared.delivery.Given.{Given}
 use Rattle.sm_history.specs.declared.delivery.Given.TheVariants.{Handle, Own, Null}
 use Rattle.sm_history.specs.declared.delivery.Message.{Message}
@@ -39,22 +38,22 @@ spaced_name name = codes " " ++ name_text name
 -- `names VERSION LENGTH COUNT` and the names
 unfoldable pub names_text : ℕ → ℕ → List (List ℕ) → List ℕ
 names_text version count names =
-    codes "names " ++ decimal version ++ codes " " ++ decimal count ++ codes " " ++ decimal (length names) ++ flat_map spaced_name names
+    numbered (codes "names ") version ++ numbered (codes " ") count ++ numbered (codes " ") (length names) ++ flat_map spaced_name names
 
 -- `allowed VERSION LINE` or `unwritten VERSION`
 unfoldable pub why_text : ℕ → Option ℕ → List ℕ
-why_text version (Some line) = codes "allowed " ++ decimal version ++ codes " " ++ decimal line
-why_text version None = codes "unwritten " ++ decimal version
+why_text version (Some line) = numbered (codes "allowed ") version ++ numbered (codes " ") line
+why_text version None = numbered (codes "unwritten ") version
 
 unfoldable pub answer_text : ℕ → ℕ → Answer → List ℕ
 answer_text version count (Names names) = names_text version count names
-answer_text version count Version = codes "version " ++ decimal version ++ codes " " ++ decimal count
+answer_text version count Version = numbered (codes "version ") version ++ numbered (codes " ") count
 answer_text version count (Why line) = why_text version line
 
 -- `hN`, `oN` or `null`
 unfoldable pub given_text : Given → List ℕ
-given_text (Handle n) = codes "h" ++ decimal n
-given_text (Own n) = codes "o" ++ decimal n
+given_text (Handle n) = numbered (codes "h") n
+given_text (Own n) = numbered (codes "o") n
 given_text Null = codes "null"
 
 abbrev pub spaced_given : Given → List ℕ
@@ -68,12 +67,12 @@ payload_text (b ∷ bs) = encode_lower (b ∷ bs)
 -- `call oO PID UID` and a space
 unfoldable pub caller_text : ℕ → ℕ → ℕ → List ℕ
 caller_text object pid uid =
-    codes "call o" ++ decimal object ++ (codes " " ++ decimal pid) ++ (codes " " ++ decimal uid) ++ codes " "
+    numbered (codes "call o") object ++ numbered (codes " ") pid ++ numbered (codes " ") uid ++ codes " "
 
 -- `registered oO NAME REF`
 unfoldable pub registered_text : ℕ → List ℕ → Given → List ℕ
 registered_text object name given =
-    codes "registered o" ++ decimal object ++ spaced_name name ++ spaced_given given
+    numbered (codes "registered o") object ++ spaced_name name ++ spaced_given given
 
 -- `call oO PID UID PAYLOAD` and the references, or `registered oO NAME REF`
 unfoldable pub message_text : ℕ → Message → List ℕ
@@ -82,9 +81,9 @@ message_text object (Registered name given) = registered_text object name given
 
 unfoldable pub outcome_text : Outcome → List ℕ
 outcome_text Opened = codes "ok"
-outcome_text (Connected client) = codes "client " ++ decimal client.0
+outcome_text (Connected client) = numbered (codes "client ") client.0
 outcome_text (Added notices) = codes "ok"
-outcome_text (Granted handle) = codes "handle " ++ decimal handle
+outcome_text (Granted handle) = numbered (codes "handle ") handle
 outcome_text (Watched notice) = codes "ok"
 outcome_text (Unwatched count) = codes "ok"
 outcome_text Unregistered = codes "ok"
@@ -92,7 +91,7 @@ outcome_text (Sent delivery) = codes "ok"
 outcome_text Released = codes "ok"
 outcome_text (Taken delivery) = message_text delivery.object delivery.what
 outcome_text Died = codes "bye"
-outcome_text (Reloaded version) = codes "reloaded " ++ decimal version
+outcome_text (Reloaded version) = numbered (codes "reloaded ") version
 
 -- binder's exception codes
 abbrev pub exception_text : Exception → List ℕ
@@ -110,7 +109,7 @@ exception_text InUse = codes "exception -5 in-use"
 unfoldable pub failure_text : Failure → List ℕ
 failure_text NotYours = codes "failed not-yours"
 failure_text NotConnected = codes "failed not-connected"
-failure_text (OutOfTurn have) = codes "failed out-of-turn " ++ decimal have
+failure_text (OutOfTurn have) = numbered (codes "failed out-of-turn ") have
 failure_text BadHandle = codes "failed bad-handle"
 failure_text TargetFull = codes "failed target-full"
 
@@ -119,18 +118,13 @@ abbrev pub denied_by : Class → List ℕ
 denied_by ServiceManager = codes "exception -1 denied "
 denied_by Binder = codes "failed denied "
 
--- the word of a single permission; a set of several has none
-abbrev pub perm_text : Perms → List ℕ
-perm_text perm = unwrap_or (perm_word perm) []
-
 unfoldable pub rule_text : List ℕ → List ℕ → Class → Perms → List ℕ
-rule_text source target class perm =
-    denied_by class ++ source ++ codes " " ++ target ++ codes " " ++ class_word class ++ codes " " ++ perm_text perm
+rule_text source target class perm = denied_by class ++ access_words source target class perm
 
 unfoldable pub denial_text : Denial → List ℕ
 denial_text (Rule source target class perm) = rule_text source target class perm
-denial_text (App uid) = codes "exception -1 app " ++ decimal uid
-denial_text (Isolated uid) = codes "exception -1 isolated " ++ decimal uid
+denial_text (App uid) = numbered (codes "exception -1 app ") uid
+denial_text (Isolated uid) = numbered (codes "exception -1 isolated ") uid
 
 abbrev pub is_service_manager : Class → Bool
 is_service_manager ServiceManager = true
@@ -153,7 +147,7 @@ refusal_text is_get (refusals.Failed failure) = failure_text failure
 refusal_text is_get refusals.Dead = codes "dead"
 refusal_text is_get refusals.Empty = codes "empty"
 refusal_text is_get refusals.TooManyClients = codes "failed too-many-clients"
-refusal_text is_get (refusals.VersionMoved now) = codes "moved " ++ decimal now
+refusal_text is_get (refusals.VersionMoved now) = numbered (codes "moved ") now
 refusal_text is_get refusals.JournalFull = codes "failed journal-full"
 refusal_text is_get refusals.Memory = codes "failed memory"
 refusal_text is_get refusals.NoSeat = codes "failed no-seat"
@@ -161,7 +155,7 @@ refusal_text is_get refusals.NoSeat = codes "failed no-seat"
 unfoldable pub answered_text : Bool → Reply → List ℕ
 answered_text is_get (Done outcome) = outcome_text outcome
 answered_text is_get GotNull = codes "null"
-answered_text is_get (GotOwn object) = codes "own " ++ decimal object
+answered_text is_get (GotOwn object) = numbered (codes "own ") object
 answered_text is_get (Looked version count answer) = answer_text version count answer
 answered_text is_get (Refused refusal) = refusal_text is_get refusal
 

@@ -4,8 +4,9 @@ ghost use Rattle.std.specs.Prelude.{◌≡◌, ◌++◌, OnOk, codes};
 ghost use Rattle.std.specs.List.{flat_map};
 ghost use Rattle.sm_wire.specs.Replies.{given_text, spaced_given, payload_text, caller_text, registered_text, message_text};
 
-use crate::names::{push_numbered, push_spaced_name};
+use crate::names::push_spaced_name;
 use sm_history::{Delivery, Given, Message};
+use sm_kinds::push_numbered;
 use std::alloc::{AllocError, Global};
 
 pub fn push_delivery(

@@ -1,29 +1,11 @@
-//! Names and numbers, as reply lines have them.
+//! Names, as reply lines have them.
 
 ghost use Rattle.std.specs.Prelude.{◌≡◌, ◌++◌, OnOk, codes};
 ghost use Rattle.std.specs.List.{flat_map};
-ghost use Rattle.std.specs.Fmt.{decimal};
 ghost use Rattle.sm_wire.specs.Replies.{name_text, spaced_name};
 
-use itoa::Buffer;
 use sm_kinds::{Name, valid_name};
 use std::alloc::{AllocError, Global};
-
-pub fn push_number(out: &mut Vec<u8>, n: u64) -> Result<(), AllocError>
-    ensures { OnOk result (out.new.items ≡ out.old.items ++ decimal n) }
-{
-    let mut buffer = Buffer::new();
-    let digits = buffer.format(n);
-    out.extend_from_slice(digits.as_bytes())
-}
-
-/// A word and a number.
-pub fn push_numbered(out: &mut Vec<u8>, word: &[u8], n: u64) -> Result<(), AllocError>
-    ensures { OnOk result (out.new.items ≡ out.old.items ++ (word.now ++ decimal n)) }
-{
-    out.extend_from_slice(word)?;
-    push_number(out, n)
-}
 
 #[tactic(auto, unfolding(crate::specs::Replies::name_text))]
 fn push_name(alloc: Global, out: &mut Vec<u8>, name: &[u8]) -> Result<(), AllocError>

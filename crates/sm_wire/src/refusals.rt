@@ -1,11 +1,10 @@
 //! Refusals, as reply lines have them.
 
-ghost use Rattle.std.specs.Prelude.{◌≡◌, ◌++◌, OnOk, codes, unwrap_or, option_map};
-ghost use Rattle.sm_wire.specs.Replies.{exception_text, failure_text, denied_by, perm_text, rule_text, denial_text, is_hidden, denied_text, refusal_text};
+ghost use Rattle.std.specs.Prelude.{◌≡◌, ◌++◌, OnOk, codes};
+ghost use Rattle.sm_wire.specs.Replies.{exception_text, failure_text, denied_by, rule_text, denial_text, is_hidden, denied_text, refusal_text};
 
-use crate::names::push_numbered;
 use sm_history::{Denial, Exception, Failure, Refusal};
-use sm_kinds::{Class, Perms};
+use sm_kinds::{Class, Perms, push_access, push_numbered};
 use std::alloc::AllocError;
 
 #[tactic(auto, unfolding(crate::specs::Replies::refusal_text))]
@@ -81,13 +80,7 @@ fn push_rule(
     ensures { OnOk result (out.new.items ≡ out.old.items ++ rule_text source.now target.now class perm) }
 {
     out.extend_from_slice(denied_by(class))?;
-    out.extend_from_slice(source)?;
-    out.extend_from_slice(b" ")?;
-    out.extend_from_slice(target)?;
-    out.extend_from_slice(b" ")?;
-    out.extend_from_slice(class.word())?;
-    out.extend_from_slice(b" ")?;
-    out.extend_from_slice(perm_words(perm))
+    push_access(out, source, target, class, perm)
 }
 
 fn denied_by(class: Class) -> &'static [u8]
@@ -96,15 +89,6 @@ fn denied_by(class: Class) -> &'static [u8]
     match class {
         Class::ServiceManager => b"exception -1 denied ",
         Class::Binder => b"failed denied ",
-    }
-}
-
-fn perm_words(perm: Perms) -> &'static [u8]
-    ensures { result.now ≡ perm_text perm }
-{
-    match perm.word() {
-        Some(word) => word,
-        None => b"",
     }
 }
 

@@ -4,11 +4,11 @@ ghost use Rattle.std.specs.Prelude.{◌≡◌, ◌++◌, OnOk, IfOk};
 ghost use Rattle.sm_wire.specs.Replies.{names_text, why_text, answer_text, outcome_text, answered_text, reply_text_for, reply_text};
 
 use crate::deliveries::push_delivery;
-use crate::names::{push_names, push_number, push_numbered};
+use crate::names::push_names;
 use crate::refusals::push_refusal;
 use crate::request::Request;
 use sm_history::{Answer, Outcome, Reply};
-use sm_kinds::Name;
+use sm_kinds::{Name, push_numbered};
 use std::alloc::{AllocError, Global};
 
 /// The line of a reply to a request, with its newline.

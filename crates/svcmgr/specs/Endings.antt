@@ -1,8 +1,8 @@
 -- What standard error is told where the program ends without an answer.
-use Rattle.std.specs.Prelude.{◌≡◌, ℕ, List, [], ◌++◌, unwrap_or, codes}
+use Rattle.std.specs.Prelude.{◌≡◌, ℕ, List, ◌++◌, codes}
 use Rattle.sm_kinds.specs.declared.class.Class.{Class}
 use Rattle.sm_kinds.specs.declared.perms.Perms.{Perms}
-use Rattle.sm_kinds.specs.Permissions.{class_word, perm_word}
+use Rattle.sm_kinds.specs.Messages.{access_words}
 use Rattle.sm_history.specs.declared.denial.Denial.TheVariants.{Rule, App, Isolated}
 use Rattle.sm_history.specs.declared.refusal.Refusal.{Refusal}
 use Rattle.sm_history.specs.declared.refusal.Refusal.TheVariants as refusals
@@ -26,9 +26,7 @@ fault_line faults.Memory = codes "fault: no memory\n"
 
 -- the rule that the manager lacks
 abbrev pub denied_line : List ℕ → List ℕ → Class → Perms → List ℕ
-denied_line source target class perm =
-    codes "open denied " ++ source ++ codes " " ++ target ++ codes " " ++ class_word class
-    ++ codes " " ++ unwrap_or (perm_word perm) [] ++ codes "\n"
+denied_line source target class perm = codes "open denied " ++ access_words source target class perm ++ codes "\n"
 
 -- what no opening answers
 abbrev pub unopened_line : List ℕ

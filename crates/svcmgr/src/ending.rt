@@ -6,7 +6,7 @@ ghost use Rattle.svcmgr.specs.Endings.{Tells};
 
 use sm_engine::Fault;
 use sm_history::{Denial, Refusal};
-use sm_kinds::{Class, Perms};
+use sm_kinds::{Class, Perms, push_access};
 use sm_script::{ScriptFault, refused_line};
 use std::alloc::{AllocError, Global};
 use std::io;
@@ -107,13 +107,7 @@ fn denied_line(
     ensures { IfOk result (λ line. line.items ≡ spec.denied_line source.now target.now class perm) }
 {
     let mut line = Vec::from_slice(alloc, b"open denied ")?;
-    line.extend_from_slice(source)?;
-    line.extend_from_slice(b" ")?;
-    line.extend_from_slice(target)?;
-    line.extend_from_slice(b" ")?;
-    line.extend_from_slice(class.word())?;
-    line.extend_from_slice(b" ")?;
-    line.extend_from_slice(perm.word().unwrap_or(b""))?;
+    push_access(&mut line, source, target, class, perm)?;
     line.extend_from_slice(b"\n")?;
     Ok(line)
 }

@@ -1,4 +1,3 @@
-use Rattle.std.proofs.Common.{arith}
 use Rattle.svcmgr.proofs.files.first_bytes.Goals as goal
 use Rattle.svcmgr.proofs.Fronts.{front}
 
@@ -7,4 +6,4 @@ pub returns-clause-known : goal.returns-clause-known
 returns-clause-known g c =
     front (g.R.Read.remaining c.args.reader) 4194305 c.read_to_end.new.buf.items c.truncate.new.self.items
     (rw (c.take.ensures.limit, c.take.ensures.inner, c.new-bytes.ensures.items) at c.in_ok-read_to_end.ensures.bytes)
-    (grind (arith)) c.truncate.ensures.items
+    c.truncate.ensures.items

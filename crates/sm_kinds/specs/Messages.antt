@@ -1,0 +1,15 @@
+-- What messages have in common.
+use Rattle.std.specs.Prelude.{ℕ, List, [], ◌++◌, codes, unwrap_or}
+use Rattle.std.specs.Fmt.{decimal}
+use Rattle.sm_kinds.specs.declared.class.Class.{Class}
+use Rattle.sm_kinds.specs.declared.perms.Perms.{Perms}
+use Rattle.sm_kinds.specs.Permissions.{class_word, perm_word}
+
+-- Words and a number in decimal digits.
+abbrev pub numbered : List ℕ → ℕ → List ℕ
+numbered words n = words ++ decimal n
+
+-- A source, a target, a class and a permission. What is no single permission has no word.
+unfoldable pub access_words : List ℕ → List ℕ → Class → Perms → List ℕ
+access_words source target class perm =
+    source ++ codes " " ++ target ++ codes " " ++ class_word class ++ codes " " ++ unwrap_or (perm_word perm) []
