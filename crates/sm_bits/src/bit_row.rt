@@ -24,7 +24,8 @@ impl Drop for BitRow {
     }
 }
 
-ghost use Rattle.std.specs.Prelude.{◌≡◌, ℕ, ◌&&◌, ◌||◌, not, false, IsTrue, length};
+ghost use Rattle.std.specs.Prelude.{◌≡◌, ℕ, ◌*◌, ◌^◌, ◌<◌, ◌≤◌, ◌&&◌, ◌||◌, not, false, IsTrue, length, count_ones};
+ghost use Rattle.std.specs.List.{sum_by};
 ghost use Rattle.sm_bits.specs.Bits.{has};
 
 // The loops go over slices in place of the rows' vectors: a write through a slice cannot move
@@ -61,8 +62,21 @@ fn words_meet(words: &[u64], others: &[u64]) -> bool
     common != 0
 }
 
+fn count_words(words: &[u64]) -> usize
+    requires { length words.now < 2 ^ 32 }
+    ensures counted { result ≡ sum_by count_ones words.now }
+    ensures most { result ≤ 64 * length words.now }
+{
+    let mut count = 0;
+    for word in words {
+        count += word.count_ones() as usize;
+    }
+    count
+}
+
 impl BitRow {
-    ghost use Rattle.std.specs.Prelude.{◌≡◌, ℕ, ◌*◌, ◌<◌, ◌&&◌, ◌||◌, not, false, nat_eq, length, IfOk, IsTrue};
+    ghost use Rattle.std.specs.Prelude.{◌≡◌, ℕ, ◌*◌, ◌^◌, ◌<◌, ◌≤◌, ◌&&◌, ◌||◌, not, false, nat_eq, length, IfOk, IsTrue, count_ones};
+    ghost use Rattle.std.specs.List.{sum_by};
     ghost use Rattle.sm_bits.specs.Bits.{has};
 
     /// The set of no number, with room for those below 64 times `words`.
@@ -76,6 +90,15 @@ impl BitRow {
     {
         let words = vec![in alloc; 0u64; words]?;
         Ok(BitRow { words })
+    }
+
+    /// How many numbers are in the set.
+    pub fn count(&self) -> usize
+        requires { length self.now < 2 ^ 32 }
+        ensures counted { result ≡ sum_by count_ones self.now }
+        ensures most { result ≤ 64 * length self.now }
+    {
+        count_words(&self.words)
     }
 
     /// Whether number `i` is in the set.

@@ -20,8 +20,10 @@ fn sets_of_numbers(rt: HostRuntime) -> Result<(), Fail> {
     let other = row_of(rt.alloc(), 64, 127)?;
     assert!(rt; row.has(3) && row.has(64) && !row.has(4) && !row.has(0));
     assert!(rt; row.meets(&other));
+    assert!(rt; row.count() == 2);
     row.subtract(&other);
     assert!(rt; row.has(3) && !row.has(64) && !row.meets(&other));
+    assert!(rt; row.count() == 1);
     row.union_with(&other);
     assert!(rt; row.has(3) && row.has(64) && row.has(127) && !row.has(126));
     Ok(())

@@ -1,8 +1,10 @@
 -- Rules by the sets of their permissions.
-use Rattle.std.proofs.Common.{inl, inr, ◌≡◌, ℕ, ◌+◌, ◌*◌, ◌/◌, ◌%◌, ◌^◌, ◌<◌, ◌≤◌, Bool, true, false, ◌&&◌, ◌||◌, eqb, ltb, List, [], ◌∷◌, length, refl, sym, ap, ◌∙◌, arith, true≢false}
+use Rattle.std.proofs.Common.{inl, inr, ◌≡◌, ℕ, ◌+◌, ◌*◌, ◌/◌, ◌%◌, ◌^◌, ◌<◌, ◌≤◌, Bool, true, false, ◌&&◌, ◌||◌, eqb, ltb, List, [], ◌∷◌, length, get_or, take, refl, sym, ap, ◌∙◌, arith, true≢false}
 use Rattle.std.specs.Int.{bit_at}
 use Rattle.std.specs.List.{list_any}
 use Rattle.std.proofs.lemmas.Bool.{cases_eq, cases_lt, eq-eqb, ne_eqb, lt-ltb, le-ltb}
+use Rattle.std.proofs.lemmas.List.Folds.{list_any_more}
+use Rattle.std.proofs.Math.Seq.{take-length}
 use Rattle.std.proofs.lemmas.Nat.Bits.{bit_at_cat_low}
 use Rattle.sm_bits.specs.Bits.{has}
 use Rattle.sm_rules.specs.declared.kept.Kept.{Kept}
@@ -154,3 +156,13 @@ pub record JoinedBelow (old new : List (List (List ℕ))) (group : List (List �
   pub square : AllSquare new count
   pub below : (b s t : ℕ) → b < n → s < count → has (row (matrix new b) s) t ≡ (has (row (matrix old b) s) t || (has_bit set b && has (row group s) t))
   pub above : (b : ℕ) → n ≤ b → matrix new b ≡ matrix old b
+
+-- ---- the rules of a set, one by one
+
+pub joined_more : (rules : List Kept) (set i s t : ℕ) (rule : Kept) (old new : Bool) → i < length rules → rule ≡ get_or rules i rule
+    → old ≡ joined_by (take i rules) set s t → new ≡ (old || (joins s t rule && is_of_set set rule)) → new ≡ joined_by (take (i + 1) rules) set s t
+joined_more rules set i s t rule old new inside is before step =
+    step ∙ (rw (list_any_more (λ r. joins s t r && is_of_set set r) rules i rule inside, ← is, before) refl)
+
+pub joined_whole : (rules : List Kept) (set i s t : ℕ) → i ≡ length rules → joined_by (take i rules) set s t ≡ joined_by rules set s t
+joined_whole rules set i s t end = rw (end, take-length rules) refl

@@ -11,3 +11,5 @@ pub mod Firsts
 pub mod Undeclared
 pub mod Groups
 pub mod Broken
+pub mod Doubling
+pub mod Sifting

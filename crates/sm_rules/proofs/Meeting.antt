@@ -37,7 +37,7 @@ pub both_given : (b s t : ℕ) (allow never : Kept) → both_join s t allow neve
     → clashes b s t allow never ≡ true
 both_given b s t allow never h g = all_true (joins s t allow) (joins s t never) (has_bit allow.perms.0 b) (has_bit never.perms.0 b) h g
 
-some_same : {X : Type 0} (x y : X) → Some x ≡ Some y → x ≡ y
+pub some_same : {X : Type 0} (x y : X) → Some x ≡ Some y → x ≡ y
 some_same x y h = cc h
 
 -- what holds of each item before one, and of that one

@@ -1,7 +1,10 @@
 //! What the rules of a rule text allow, and which of its allow rules a neverallow rule forbids.
 #![tactic(auto)]
 
+mod batch;
 mod fault;
+mod gathered;
+mod hits;
 mod kept;
 mod matrix;
 mod perm_bits;
@@ -10,6 +13,7 @@ mod plain;
 mod rules;
 #[cfg(test)]
 mod tests;
+mod unions;
 mod violation;
 
 pub use fault::RulesFault;

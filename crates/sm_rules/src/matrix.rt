@@ -1,81 +1,27 @@
 //! For a permission, which sources have which targets.
 //!
-//! Matrices are made by groups: a rule is added once to the matrix of all rules with just its
+//! Matrices are made by sets of permissions: a rule is added once to the matrix of all rules with just its
 //! permissions, and that matrix once to the matrix of each of these permissions. So the time of
 //! a rule, which has rows for thousands of sources, does not grow with its permissions.
 
-ghost use Rattle.std.specs.Prelude.{◌≡◌, ◌<◌, ◌≤◌, ◌*◌, ℕ, length, ◌&&◌, ◌||◌, All, IfOk, IsTrue, false, []};
+ghost use Rattle.std.specs.Prelude.{◌≡◌, ◌<◌, ◌≤◌, ◌+◌, ◌*◌, ◌/◌, ℕ, length, nat_eq, ◌&&◌, ◌||◌, All, IfOk, IsTrue, false, []};
 ghost use Rattle.sm_bits.specs.Bits.{has};
 ghost use Rattle.sm_rules.specs.Keeping.{has_bit, joins, FitsRule};
 ghost use Rattle.sm_rules.specs.Matrices.{row, Square, AllSquare, AllCompiled, Grouped, Joined, IsUnion, joined_by};
+ghost use Rattle.sm_rules.specs.Hitting.{Unites, IsDiagonal};
+ghost use Rattle.sm_rules.specs.Uniting.{AreWide, Doubled};
 
 use crate::Kept;
+use crate::gathered::{empty_rows, rows_of};
 use crate::perm_bits::{PERM_COUNT, has_bit};
-use crate::perm_sets::{SET_COUNT, any_of_set, perm_set};
+use crate::perm_sets::{SET_COUNT, any_of_set};
+use crate::unions::Unions;
 use sm_bits::BitRow;
 use std::alloc::{AllocError, Global};
 use std::marker::Model;
 
-/// Adds the targets of a rule to the row of one source.
-fn add_source(row: &mut BitRow, rule: &Kept, s: usize)
-    requires sources { length rule.now.sources ≡ length row.old }
-    requires targets { length rule.now.targets ≡ length row.old }
-    requires source { s < 64 * length row.old }
-    ensures room { length row.new ≡ length row.old }
-    ensures added { (t : ℕ) → has row.new t ≡ (has row.old t || joins s t rule.now) }
-{
-    if !rule.sources.has(s) {
-        return;
-    }
-    row.union_with(&rule.targets);
-    if rule.to_self {
-        row.insert(s);
-    }
-}
-
-/// Adds the targets of a rule to the rows of all its sources.
-fn add_rule(rows: &mut Vec<BitRow>, rule: &Kept, count: usize)
-    requires square { Square rows.old.items count }
-    requires fits { FitsRule count rule.now }
-    ensures square { Square rows.new.items count }
-    ensures added { (s t : ℕ) → s < count → has (row rows.new.items s) t
-        ≡ (has (row rows.old.items s) t || joins s t rule.now) }
-{
-    for s in 0..rows.len() {
-        let row = &mut rows[s];
-        add_source(row, rule, s);
-    }
-}
-
-/// Rows without a target.
-fn empty_rows(alloc: Global, count: usize) -> Result<Vec<BitRow>, AllocError>
-    requires { count ≤ 4096 }
-    ensures square { IfOk result (λ m. Square m.items count) }
-    ensures none { IfOk result (λ m. (s t : ℕ) → has (row m.items s) t ≡ false) }
-{
-    let words = count / 64 + 1;
-    let mut rows = Vec::new(alloc);
-    for _ in 0..count {
-        let row = BitRow::empty(alloc, words)?;
-        rows.push(row)?;
-    }
-    Ok(rows)
-}
-
-/// For each source, the targets to which some rule with exactly the permissions `set` joins it.
-fn rows_of(alloc: Global, rules: &[Kept], count: usize, set: u8) -> Result<Vec<BitRow>, AllocError>
-    requires few { count ≤ 4096 }
-    requires fits { All (FitsRule count) rules.now }
-    ensures { IfOk result (λ m. Grouped rules.now count set m.items) }
-{
-    let mut rows = empty_rows(alloc, count)?;
-    for rule in rules {
-        if perm_set(rule) == set {
-            add_rule(&mut rows, rule, count);
-        }
-    }
-    Ok(rows)
-}
+/// How many sources are tested together, by the unions of their rows.
+pub const GROUP: usize = 8;
 
 /// Adds the targets of other rows.
 fn add_rows(rows: &mut Vec<BitRow>, others: &[BitRow], count: usize)
@@ -123,6 +69,74 @@ fn rows_meet(rows: &[BitRow], rule: &Kept, count: usize) -> bool
         }
     }
     false
+}
+
+/// Adds the unions with the row of a source; past the last source, with no target.
+fn add_row(
+    alloc: Global,
+    unions: &mut Unions,
+    rows: &[BitRow],
+    count: usize,
+    s: usize,
+) -> Result<(), AllocError>
+    requires few { count ≤ 4096 }
+    requires square { Square rows.now count }
+    requires wide { AreWide (count / 64 + 1) unions.old }
+    ensures wide { IfOk result (λ done. AreWide (count / 64 + 1) unions.new) }
+    ensures doubled { IfOk result (λ done. Doubled unions.old unions.new (row rows.now s)) }
+{
+    let words = count / 64 + 1;
+    if s < rows.len() {
+        return unions.add(alloc, &rows[s], words);
+    }
+    let nothing = BitRow::empty(alloc, words)?;
+    unions.add(alloc, &nothing, words)
+}
+
+/// The unions of the rows of eight sources.
+fn unions_of(
+    alloc: Global,
+    rows: &[BitRow],
+    count: usize,
+    group: usize,
+) -> Result<Unions, AllocError>
+    requires few { count ≤ 4096 }
+    requires group { group < 8 * (count / 64 + 1) }
+    requires square { Square rows.now count }
+    ensures wide { IfOk result (λ unions. AreWide (count / 64 + 1) unions) }
+    ensures united { IfOk result (λ unions. Unites rows.now (8 * group) 8 unions) }
+{
+    let mut unions = Unions::none(alloc, count / 64 + 1)?;
+    for k in 0..GROUP {
+        add_row(alloc, &mut unions, rows, count, GROUP * group + k)?;
+    }
+    Ok(unions)
+}
+
+/// Adds a source, if its row has it as a target.
+fn add_if_own(own: &mut BitRow, row: &BitRow, s: usize)
+    requires own { s < 64 * length own.old }
+    requires row { s < 64 * length row.now }
+    ensures room { length own.new ≡ length own.old }
+    ensures added { (j : ℕ) → has own.new j ≡ (has own.old j || (nat_eq j s && has row.now s)) }
+{
+    if row.has(s) {
+        own.insert(s);
+    }
+}
+
+/// The sources that are targets of their own.
+fn own_sources(alloc: Global, rows: &[BitRow], count: usize) -> Result<BitRow, AllocError>
+    requires few { count ≤ 4096 }
+    requires square { Square rows.now count }
+    ensures room { IfOk result (λ own. length own ≡ count / 64 + 1) }
+    ensures diagonal { IfOk result (λ own. IsDiagonal rows.now count own) }
+{
+    let mut own = BitRow::empty(alloc, count / 64 + 1)?;
+    for s in 0..rows.len() {
+        add_if_own(&mut own, &rows[s], s);
+    }
+    Ok(own)
 }
 
 /// A matrix of bits, a row for each source; contracts see it as the list of its rows.
@@ -213,6 +227,27 @@ impl Matrix {
             × IsTrue (has (row self.now s) t && joins s t rule.now) }
     {
         rows_meet(&self.rows, rule, count)
+    }
+
+    /// The unions of the rows of eight sources, from source 8 times `group` on.
+    pub fn unions_of(&self, alloc: Global, count: usize, group: usize) -> Result<Unions, AllocError>
+        requires few { count ≤ 4096 }
+        requires group { group < 8 * (count / 64 + 1) }
+        requires square { Square self.now count }
+        ensures wide { IfOk result (λ unions. AreWide (count / 64 + 1) unions) }
+        ensures united { IfOk result (λ unions. Unites self.now (8 * group) 8 unions) }
+    {
+        unions_of(alloc, &self.rows, count, group)
+    }
+
+    /// The sources that the matrix joins to themselves.
+    pub fn own_sources(&self, alloc: Global, count: usize) -> Result<BitRow, AllocError>
+        requires few { count ≤ 4096 }
+        requires square { Square self.now count }
+        ensures room { IfOk result (λ own. length own ≡ count / 64 + 1) }
+        ensures diagonal { IfOk result (λ own. IsDiagonal self.now count own) }
+    {
+        own_sources(alloc, &self.rows, count)
     }
 }
 

@@ -66,7 +66,8 @@ pub fn has_bit(byte: u8, bit: u32) -> bool
     byte >> bit & 1 == 1
 }
 
-fn with_bit(byte: u8, bit: u32) -> u8
+/// The byte with one more bit.
+pub fn with_bit(byte: u8, bit: u32) -> u8
     requires { bit < 8 }
     ensures { (b : ℕ) → has_bit result b ≡ (has_bit byte b || nat_eq b bit) }
 {

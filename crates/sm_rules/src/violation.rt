@@ -1,15 +1,16 @@
 //! An allow rule that breaks a neverallow rule.
 
-ghost use Rattle.std.specs.Prelude.{◌≡◌, ◌<◌, ◌≤◌, ◌*◌, ℕ, length, ◌&&◌, All, IsTrue, false, true, IfSome, IfNone, IfOk, Some, slice_get};
+ghost use Rattle.std.specs.Prelude.{◌≡◌, ◌<◌, ◌≤◌, ◌*◌, ℕ, length, ◌&&◌, All, false, true, IfSome, IfNone, IfOk, Some, slice_get};
 ghost use Rattle.sm_rules.specs.Keeping.{has_bit, FitsRule};
-ghost use Rattle.sm_rules.specs.Matrices.{perm_set, Square, AllSquare, Misses, Hits, IsClear, IsBroken};
+ghost use Rattle.sm_rules.specs.Matrices.{perm_set, AllSquare, IsClear, IsBroken};
 ghost use Rattle.sm_rules.specs.Violating.{both_join, AreApart, IsBetween, IsFirstOf, IsFirstAmong, AllApart};
 ghost use Rattle.sm_rules.specs.declared.kept.Kept.{Kept as TheKept};
 
 use crate::Kept;
+use crate::hits::first_hit;
 use crate::matrix::{Matrix, matrices_of};
 use crate::perm_bits::{PERM_COUNT, class_at, has_bit, perm_at};
-use crate::perm_sets::{SET_COUNT, any_of_set, perm_set};
+use crate::perm_sets::{SET_COUNT, any_of_set};
 use sm_kinds::{Class, Perms};
 use std::alloc::{AllocError, Global};
 
@@ -154,38 +155,6 @@ fn first_of(allows: &[Kept], never: &Kept, count: usize) -> Option<Violation>
     None
 }
 
-/// Whether a neverallow rule has exactly the permissions `set` and joins a pair of the matrix.
-fn is_hit(matrix: &Matrix, never: &Kept, count: usize, set: u8) -> bool
-    requires square { Square matrix.now count }
-    requires never { FitsRule count never.now }
-    ensures none { result ≡ false → perm_set never.now ≡ set → Misses matrix.now count never.now }
-    ensures some { IsTrue result → (perm_set never.now ≡ set) × Hits matrix.now count never.now }
-{
-    perm_set(never) == set && matrix.meets(never, count)
-}
-
-/// The place of the first neverallow rule below `end` that has exactly the permissions `set` and
-/// joins a pair of the matrix; `end`, if none does.
-fn first_hit(matrix: &Matrix, neverallows: &[Kept], count: usize, set: u8, end: usize) -> usize
-    requires square { Square matrix.now count }
-    requires fits { All (FitsRule count) neverallows.now }
-    requires end { end ≤ length neverallows.now }
-    ensures end { result ≤ end }
-    ensures hit { (never : TheKept) → result < end
-        → slice_get neverallows.now result ≡ Some never
-        → (perm_set never ≡ set) × Hits matrix.now count never }
-    ensures first { (n : ℕ) (never : TheKept) → n < result
-        → slice_get neverallows.now n ≡ Some never → perm_set never ≡ set
-        → Misses matrix.now count never }
-{
-    for n in 0..end {
-        if is_hit(matrix, &neverallows[n], count, set) {
-            return n;
-        }
-    }
-    end
-}
-
 /// The place of the first neverallow rule below `end` that has exactly the permissions `set` and
 /// forbids something that the matrices have; `end`, if none does.
 fn first_broken_of(
@@ -212,7 +181,7 @@ fn first_broken_of(
         return Ok(end);
     }
     let joined = Matrix::union_of(alloc, matrices, count, set)?;
-    Ok(first_hit(&joined, neverallows, count, set, end))
+    first_hit(alloc, &joined, neverallows, count, set, end)
 }
 
 /// The place of the first neverallow rule that forbids something that the matrices have.

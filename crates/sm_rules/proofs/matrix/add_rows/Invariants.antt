@@ -1,5 +1,7 @@
-use Rattle.sm_rules.proofs.Rows.{AddedRows}
+use Rattle.sm_bits.specs.Bits.{has}
+use Rattle.sm_rules.specs.Matrices.{row}
+use Rattle.sm_rules.proofs.Rows.{AddedPairs}
 use Rattle.sm_rules.proofs.matrix.add_rows.Given as goal
 
 abbrev pub invariant-loop-s : goal.invariant-loop-s
-invariant-loop-s l = AddedRows l.initial.rows.items l.rows.items l.others l.s
+invariant-loop-s l = AddedPairs l.initial.rows.items l.rows.items (λ s t. has (row l.others s) t) l.s
