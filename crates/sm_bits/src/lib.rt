@@ -3,7 +3,9 @@
 #![tactic(auto)]
 
 mod bit_row;
+mod rows;
 #[cfg(test)]
 mod tests;
 
 pub use bit_row::BitRow;
+pub use rows::empty_rows;

@@ -28,3 +28,12 @@ fn sets_of_numbers(rt: HostRuntime) -> Result<(), Fail> {
     assert!(rt; row.has(3) && row.has(64) && row.has(127) && !row.has(126));
     Ok(())
 }
+
+#[test]
+fn several_rows(rt: HostRuntime) -> Result<(), Fail> {
+    let mut rows = empty_rows(rt.alloc(), 3, 2)?;
+    assert!(rt; rows.len() == 3);
+    rows[1].insert(127);
+    assert!(rt; rows[1].has(127) && !rows[0].has(127) && !rows[2].has(127));
+    Ok(())
+}

@@ -9,7 +9,8 @@ mod reloading;
 mod turns;
 
 ghost use Rattle.std.specs.Prelude.{◌≡◌, true, false, Some, None, MatchOption, MatchResult, ◌==◌};
-ghost use Rattle.sm_history.specs.Clients.{is_live};
+ghost use Rattle.sm_kinds.specs.declared.class.Class.TheVariants.{Binder, ServiceManager};
+ghost use Rattle.sm_history.specs.Clients.{is_live, manager_at, label_at};
 ghost use Rattle.sm_history.specs.Histories.{effects_of};
 ghost use Rattle.sm_history.specs.Holdings.{resolve_at, fits_handles, handed, number_for};
 ghost use Rattle.sm_history.specs.Services.{service_at};
@@ -113,6 +114,23 @@ impl Manager {
             class,
             perm,
         }))
+    }
+
+    /// A check of one rule of `binder`, from the type of a caller to the manager's.
+    fn missing_to_manager(&self, caller: &Context, perm: Perms) -> Option<Refusal>
+        ensures { IsRuled self.now.history caller.now
+            (manager_at (effects_of self.now.history)).context Binder perm result }
+    {
+        self.missing(caller, &self.who.context, Class::Binder, perm)
+    }
+
+    /// A check of one rule of `service_manager`, from the type of a caller to that of a name's label.
+    fn missing_to_label(&self, caller: &Context, name: &Name, perm: Perms) -> Option<Refusal>
+        ensures { IsRuled self.now.history caller.now
+            (label_at (effects_of self.now.history) name.now) ServiceManager perm result }
+    {
+        let label = self.policy.label(name.bytes());
+        self.missing(caller, label, Class::ServiceManager, perm)
     }
 
     /// The service under a name.

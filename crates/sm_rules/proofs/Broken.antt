@@ -2,10 +2,10 @@
 use Rattle.std.proofs.Common.{inl, inr, ◌≡◌, ℕ, ◌+◌, ◌<◌, ◌≤◌, true, false, ◌&&◌, List, length, Some, sym, ap, ◌∙◌, arith, slice_get, true≢false}
 use Rattle.std.specs.List.{list_any}
 use Rattle.std.proofs.lemmas.Bool.{cases_eq, cases_lt, eq-eqb, and_parts, and_from, false_from_ne_true}
-use Rattle.sm_bits.specs.Bits.{has}
+use Rattle.sm_bits.specs.Bits.{has, row}
 use Rattle.sm_rules.specs.declared.kept.Kept.{Kept}
 use Rattle.sm_rules.specs.Keeping.{has_bit, joins, covers}
-use Rattle.sm_rules.specs.Matrices.{row, matrix, AllCompiled, perm_set, is_of_set, IsUnion, Misses, Hits, IsClear, IsBroken}
+use Rattle.sm_rules.specs.Matrices.{matrix, AllCompiled, perm_set, is_of_set, IsUnion, Misses, Hits, IsClear, IsBroken}
 use Rattle.sm_rules.specs.Violating.{IsApart, Meets}
 use Rattle.sm_rules.proofs.Bits.{no_bits}
 use Rattle.sm_rules.proofs.Searches.{any_at}

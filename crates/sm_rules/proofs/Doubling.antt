@@ -4,9 +4,8 @@ use Rattle.std.specs.Int.{bit_at}
 use Rattle.std.proofs.Math.Nat.{two-pow-succ}
 use Rattle.std.proofs.lemmas.Bool.{cases_eq, cases_lt}
 use Rattle.std.proofs.lemmas.Nat.Bits.{bit_at_above, bit_at_cat_low, bit_at_cat_high}
-use Rattle.sm_bits.specs.Bits.{has}
+use Rattle.sm_bits.specs.Bits.{has, row}
 use Rattle.sm_rules.specs.Keeping.{has_bit}
-use Rattle.sm_rules.specs.Matrices.{row}
 use Rattle.sm_rules.specs.Uniting.{Doubled}
 use Rattle.sm_rules.specs.Hitting.{any_row, Unites}
 use Rattle.sm_rules.proofs.Bits.{no_bits}

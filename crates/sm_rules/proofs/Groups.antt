@@ -6,10 +6,10 @@ use Rattle.std.proofs.lemmas.Bool.{cases_eq, cases_lt, eq-eqb, ne_eqb, lt-ltb, l
 use Rattle.std.proofs.lemmas.List.Folds.{list_any_more}
 use Rattle.std.proofs.Math.Seq.{take-length}
 use Rattle.std.proofs.lemmas.Nat.Bits.{bit_at_cat_low}
-use Rattle.sm_bits.specs.Bits.{has}
+use Rattle.sm_bits.specs.Bits.{has, row}
 use Rattle.sm_rules.specs.declared.kept.Kept.{Kept}
 use Rattle.sm_rules.specs.Keeping.{has_bit, joins, covers}
-use Rattle.sm_rules.specs.Matrices.{row, matrix, AllSquare, AllCompiled, perm_set, is_of_set, joined_by, Joined}
+use Rattle.sm_rules.specs.Matrices.{matrix, AllSquare, AllCompiled, perm_set, is_of_set, joined_by, Joined}
 use Rattle.sm_rules.proofs.Bits.{no_bits}
 use Rattle.sm_rules.proofs.Searches.{any_same}
 

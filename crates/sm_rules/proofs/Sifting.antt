@@ -4,10 +4,10 @@ use Rattle.std.proofs.lemmas.Bool.{cases_eq, cases_lt, eq-eqb, eqb-true, and_par
 use Rattle.std.proofs.lemmas.Grind.{get_or_default_zero}
 use Rattle.std.proofs.lemmas.List.Elements.{All-get_or}
 use Rattle.std.proofs.lemmas.Option.{slice_get_read, slice_get_within, get_or_from_slice_get}
-use Rattle.sm_bits.specs.Bits.{has}
+use Rattle.sm_bits.specs.Bits.{has, row}
 use Rattle.sm_rules.specs.declared.kept.Kept.{Kept}
 use Rattle.sm_rules.specs.Keeping.{joins, FitsRule}
-use Rattle.sm_rules.specs.Matrices.{row, matrix, perm_set, Misses, Hits}
+use Rattle.sm_rules.specs.Matrices.{matrix, perm_set, Misses, Hits}
 use Rattle.sm_rules.specs.Hitting.{Unites, UnionMisses, UnionHits, MissesGroup, AllUnite, AllMiss, SomeHit, MissesGroups, IsDiagonal, OwnMisses, OwnHits, rule_at, Chosen, FindsFirst}
 use Rattle.sm_rules.proofs.Doubling.{any_at, some_row}
 use Rattle.sm_rules.proofs.Meeting.{some_same}

@@ -1,9 +1,9 @@
 -- Neverallow rules against a matrix, by groups of eight sources.
 use Rattle.std.specs.Prelude.{◌≡◌, ℕ, zero, suc, Bool, true, false, ◌&&◌, ◌||◌, ◌+◌, ◌*◌, ◌/◌, ◌^◌, ◌<◌, ◌≤◌, List, length, Option, Some, slice_get}
 use Rattle.std.proofs.Common.{get_or}
-use Rattle.sm_bits.specs.Bits.{has}
+use Rattle.sm_bits.specs.Bits.{has, row}
 use Rattle.sm_rules.specs.Keeping.{has_bit}
-use Rattle.sm_rules.specs.Matrices.{row, matrix, perm_set}
+use Rattle.sm_rules.specs.Matrices.{matrix, perm_set}
 use Rattle.sm_rules.specs.Uniting.{AreWide}
 use Rattle.sm_rules.specs.declared.kept.Kept.{Kept}
 

@@ -2,13 +2,9 @@
 use Rattle.std.specs.Prelude.{◌≡◌, ℕ, Bool, true, false, ◌&&◌, ◌||◌, ◌+◌, ◌/◌, ◌%◌, ◌<◌, nat_eq, List, [], length}
 use Rattle.std.specs.List.{list_any}
 use Rattle.std.proofs.Common.{get_or}
-use Rattle.sm_bits.specs.Bits.{has}
+use Rattle.sm_bits.specs.Bits.{has, row}
 use Rattle.sm_rules.specs.Keeping.{has_bit, joins, covers, covered}
 use Rattle.sm_rules.specs.declared.kept.Kept.{Kept}
-
--- The row of a source.
-abbrev pub row : List (List ℕ) → ℕ → List ℕ
-row rows s = get_or rows s []
 
 -- The matrix of a permission.
 abbrev pub matrix : List (List (List ℕ)) → ℕ → List (List ℕ)

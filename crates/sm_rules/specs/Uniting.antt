@@ -1,8 +1,8 @@
 -- The unions of all subsets of a few rows, and what rules and sources have by them.
 use Rattle.std.specs.Prelude.{◌≡◌, ℕ, Bool, ◌&&◌, ◌||◌, ◌+◌, ◌/◌, ◌<◌, ◌≤◌, false, nat_eq, List, length}
 use Rattle.std.proofs.Common.{get_or}
-use Rattle.sm_bits.specs.Bits.{has}
-use Rattle.sm_rules.specs.Matrices.{row, Square}
+use Rattle.sm_bits.specs.Bits.{has, row}
+use Rattle.sm_rules.specs.Matrices.{Square}
 use Rattle.sm_rules.specs.declared.batch.Batch.{Batch}
 use Rattle.sm_rules.specs.declared.gathered.Gathered.{Gathered}
 

@@ -1,9 +1,9 @@
 //! Up to eight rules whose targets go into the rows of their sources together.
 
-ghost use Rattle.std.specs.Prelude.{◌≡◌, ◌<◌, ◌≤◌, ◌+◌, ◌*◌, ◌/◌, ℕ, length, ◌&&◌, ◌||◌, if◌then◌else◌, IfOk, false, slice_index};
-ghost use Rattle.sm_bits.specs.Bits.{has};
+ghost use Rattle.std.specs.Prelude.{◌≡◌, ◌<◌, ◌≤◌, ◌+◌, ◌*◌, ◌/◌, ℕ, length, ◌&&◌, ◌||◌, if◌then◌else◌, IfOk, false, nat_lt, slice_index};
+ghost use Rattle.sm_bits.specs.Bits.{has, row};
 ghost use Rattle.sm_rules.specs.Keeping.{FitsRule};
-ghost use Rattle.sm_rules.specs.Matrices.{row, Square};
+ghost use Rattle.sm_rules.specs.Matrices.{Square};
 ghost use Rattle.sm_rules.specs.Uniting.{FitsBatch, in_batch};
 
 use crate::Kept;
@@ -74,7 +74,7 @@ impl Batch {
 
     /// Whether the batch has as many rules as it may.
     pub fn is_full(&self) -> bool
-        ensures { result ≡ false → length self.now.unions ≤ 128 }
+        ensures { result ≡ nat_lt 128 (length self.now.unions) }
     {
         self.unions.len() > MOST_UNIONS
     }

@@ -1,30 +1,24 @@
 //! The pairs of types that rules join, gathered rule by rule.
 
 ghost use Rattle.std.specs.Prelude.{◌≡◌, ◌<◌, ◌≤◌, ◌*◌, ◌/◌, ◌+◌, ℕ, length, nat_eq, ◌&&◌, ◌||◌, All, IfOk, false};
-ghost use Rattle.sm_bits.specs.Bits.{has};
+ghost use Rattle.sm_bits.specs.Bits.{has, row};
 ghost use Rattle.sm_rules.specs.Keeping.{joins, FitsRule};
-ghost use Rattle.sm_rules.specs.Matrices.{row, Square, Grouped, is_of_set};
+ghost use Rattle.sm_rules.specs.Matrices.{Square, Grouped, is_of_set};
 ghost use Rattle.sm_rules.specs.Uniting.{FitsGathered, in_gathered};
 
 use crate::Kept;
 use crate::batch::{BATCH, Batch};
 use crate::perm_sets::perm_set;
-use sm_bits::BitRow;
+use sm_bits::{BitRow, empty_rows};
 use std::alloc::{AllocError, Global};
 
 /// Rows without a target.
-pub fn empty_rows(alloc: Global, count: usize) -> Result<Vec<BitRow>, AllocError>
+pub fn no_pairs(alloc: Global, count: usize) -> Result<Vec<BitRow>, AllocError>
     requires { count ≤ 4096 }
     ensures square { IfOk result (λ m. Square m.items count) }
     ensures none { IfOk result (λ m. (s t : ℕ) → has (row m.items s) t ≡ false) }
 {
-    let words = count / 64 + 1;
-    let mut rows = Vec::new(alloc);
-    for _ in 0..count {
-        let row = BitRow::empty(alloc, words)?;
-        rows.push(row)?;
-    }
-    Ok(rows)
+    empty_rows(alloc, count, count / 64 + 1)
 }
 
 /// Adds the targets of a rule to the row of one source.
@@ -114,7 +108,7 @@ impl Gathered {
         ensures fits { IfOk result (λ gathered. FitsGathered count gathered) }
         ensures none { IfOk result (λ gathered. (s t : ℕ) → in_gathered gathered s t ≡ false) }
     {
-        let rows = empty_rows(alloc, count)?;
+        let rows = no_pairs(alloc, count)?;
         let own = BitRow::empty(alloc, count / 64 + 1)?;
         let batch = Batch::empty(alloc, count)?;
         Ok(Gathered { rows, own, batch })

@@ -6,9 +6,9 @@
 //! cache, and the unions of a few groups are not.
 
 ghost use Rattle.std.specs.Prelude.{◌≡◌, ◌<◌, ◌≤◌, ◌+◌, ◌*◌, ◌/◌, ◌++◌, ◌∷◌, [], ℕ, length, ◌&&◌, All, IsTrue, IfOk, Some, slice_get, nat_eq, ◌||◌, false, if◌then◌else◌};
-ghost use Rattle.sm_bits.specs.Bits.{has};
+ghost use Rattle.sm_bits.specs.Bits.{has, row};
 ghost use Rattle.sm_rules.specs.Keeping.{has_bit, FitsRule};
-ghost use Rattle.sm_rules.specs.Matrices.{row, perm_set, is_of_set, Square, Misses, Hits};
+ghost use Rattle.sm_rules.specs.Matrices.{perm_set, is_of_set, Square, Misses, Hits};
 ghost use Rattle.sm_rules.specs.Uniting.{AreWide};
 ghost use Rattle.sm_rules.specs.Hitting.{IsPlaceOf, UnionMisses, UnionHits, AreReady, AllUnite, AllMiss, SomeHit, MissesGroups, OwnMisses, OwnHits, ArePlaces, Chosen, FindsFirst};
 ghost use Rattle.sm_rules.specs.declared.kept.Kept.{Kept as TheKept};

@@ -5,14 +5,14 @@
 //! a rule, which has rows for thousands of sources, does not grow with its permissions.
 
 ghost use Rattle.std.specs.Prelude.{◌≡◌, ◌<◌, ◌≤◌, ◌+◌, ◌*◌, ◌/◌, ℕ, length, nat_eq, ◌&&◌, ◌||◌, All, IfOk, IsTrue, false, []};
-ghost use Rattle.sm_bits.specs.Bits.{has};
+ghost use Rattle.sm_bits.specs.Bits.{has, row};
 ghost use Rattle.sm_rules.specs.Keeping.{has_bit, joins, FitsRule};
-ghost use Rattle.sm_rules.specs.Matrices.{row, Square, AllSquare, AllCompiled, Grouped, Joined, IsUnion, joined_by};
+ghost use Rattle.sm_rules.specs.Matrices.{Square, AllSquare, AllCompiled, Grouped, Joined, IsUnion, joined_by};
 ghost use Rattle.sm_rules.specs.Hitting.{Unites, IsDiagonal};
 ghost use Rattle.sm_rules.specs.Uniting.{AreWide, Doubled};
 
 use crate::Kept;
-use crate::gathered::{empty_rows, rows_of};
+use crate::gathered::{no_pairs, rows_of};
 use crate::perm_bits::{PERM_COUNT, has_bit};
 use crate::perm_sets::{SET_COUNT, any_of_set};
 use crate::unions::Unions;
@@ -165,7 +165,7 @@ impl Matrix {
         ensures square { IfOk result (λ m. Square m count) }
         ensures none { IfOk result (λ m. (s t : ℕ) → has (row m s) t ≡ false) }
     {
-        let rows = empty_rows(alloc, count)?;
+        let rows = no_pairs(alloc, count)?;
         Ok(Matrix { rows })
     }
 

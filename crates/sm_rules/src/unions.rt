@@ -5,8 +5,7 @@
 //! of the subsets with it are those without it, raised by the number of unions so far.
 
 ghost use Rattle.std.specs.Prelude.{◌≡◌, ◌<◌, ℕ, ◌&&◌, ◌||◌, length, false, IfOk, IsTrue};
-ghost use Rattle.sm_bits.specs.Bits.{has};
-ghost use Rattle.sm_rules.specs.Matrices.{row};
+ghost use Rattle.sm_bits.specs.Bits.{has, row};
 ghost use Rattle.sm_rules.specs.Uniting.{AreWide, Doubled};
 
 use sm_bits::BitRow;

@@ -1,22 +1,14 @@
 -- Rows of attributes as types are added to them.
-use Rattle.std.proofs.Common.{inl, inr, ◌≡◌, ℕ, ◌+◌, ◌<◌, ◌≤◌, Bool, true, false, ◌||◌, ◌&&◌, List, [], ◌∷◌, length, get_or, take, refl, sym, ap, ◌∙◌, arith, eqb, length-append, ◌++◌, ◌-◌, ◌%◌}
+use Rattle.std.proofs.Common.{◌≡◌, ℕ, ◌+◌, ◌<◌, Bool, true, false, ◌||◌, ◌&&◌, List, [], length, get_or, take, refl, sym, ap, ◌∙◌, eqb}
 use Rattle.std.specs.Str.{bytes_eq}
-use Rattle.std.proofs.lemmas.Bool.{cases_eq, cases_lt}
-use Rattle.std.proofs.lemmas.List.{get_or_append_left, get_or-append_right, get_or_past}
 use Rattle.std.proofs.lemmas.List.Folds.{list_any_more}
-use Rattle.sm_bits.specs.Bits.{has}
+use Rattle.sm_bits.specs.Bits.{has, row}
 use Rattle.sm_types.specs.Names.{Name, at}
 use Rattle.sm_types.specs.Denoting.{gives_attribute, has_attribute}
-use Rattle.sm_types.specs.Members.{row, Given, Fits, MembersOf}
+use Rattle.sm_types.specs.Members.{Given, Fits, MembersOf}
 use Rattle.sm_kinds.specs.Names.{contains}
 use Rattle.sm_types.specs.declared.symbols.Symbols.{Symbols}
 use Rattle.sm_ruletext.specs.declared.statement.Statement.{Statement}
-use Rattle.std.proofs.lemmas.Nat.Bits.{bit_at-zero}
-
--- no row is the empty set
-has_nothing : (i : ℕ) → has [] i ≡ false
-unfolding has
-has_nothing i = rw (bit_at-zero (i % 64)) refl
 
 not_or : (x y : Bool) → x ≡ (x || (y && false))
 not_or true y = refl
@@ -43,40 +35,6 @@ given_more old mid new attributes names t n name h is count room step before = r
       list_any_more (λ w. bytes_eq w (at attributes a)) names n name h ∙ ap (λ (w : Name). contains (take n names) (at attributes a) || bytes_eq w (at attributes a)) (sym is) in
       rw (step a i small, before.given a i small, more) (or_more (has (row old a) i) (eqb i t) (contains (take n names) (at attributes a)) (bytes_eq name (at attributes a)));
 }
-
--- n empty rows of w words
-pub record Empty (rows : List (List ℕ)) (n w : ℕ) : Type 0 where
-  pub count : length rows ≡ n
-  pub room : (a : ℕ) → a < n → length (row rows a) ≡ w
-  pub none : (a i : ℕ) → has (row rows a) i ≡ false
-
-row_old : (rows : List (List ℕ)) (r : List ℕ) (a : ℕ) → a < length rows → row (rows ++ r ∷ []) a ≡ row rows a
-row_old rows r a h = get_or_append_left rows (r ∷ []) [] a h
-
-row_new : (rows : List (List ℕ)) (r : List ℕ) (a : ℕ) → a ≡ length rows → row (rows ++ r ∷ []) a ≡ r
-row_new rows r a h = get_or-append_right rows (r ∷ []) (length rows) a [] refl (omega arith) ∙ (let z : a - length rows ≡ 0 = omega arith in rw z refl)
-
-row_past : (rows : List (List ℕ)) (a i : ℕ) → length rows ≤ a → has (row rows a) i ≡ false
-row_past rows a i h = rw (get_or_past rows a [] h) (has_nothing i)
-
-pub empty_none : (w : ℕ) → Empty [] 0 w
-empty_none w = record { count = refl; room = λ a h. absurd (omega arith); none = λ a i. row_past [] a i (omega arith) }
-
-pub empty_more : (rows new : List (List ℕ)) (r : List ℕ) (n w : ℕ) → new ≡ rows ++ r ∷ [] → length r ≡ w → ((i : ℕ) → has r i ≡ false) → Empty rows n w → Empty new (n + 1) w
-empty_more rows new r n w is wide nothing before = rw is (record {
-  count = length-append rows (r ∷ []) ∙ (omega (arith, before.count));
-  room = λ a h. elim (cases_lt a (length rows)) [
-    | inl old ↦ ap length (row_old rows r a old) ∙ before.room a (omega (arith, before.count))
-    | inr new ↦ ap length (row_new rows r a (omega (arith, before.count))) ∙ wide
-  ];
-  none = λ a i. elim (cases_lt a (length rows)) [
-    | inl old ↦ rw (row_old rows r a old) (before.none a i)
-    | inr new ↦ elim (cases_eq a (length rows)) [
-      | inl at ↦ rw (row_new rows r a at) (nothing i)
-      | inr off ↦ row_past (rows ++ r ∷ []) a i (omega (arith, length-append rows (r ∷ [])))
-    ]
-  ];
-})
 
 pub members_none : (symbols : Symbols) (rows : List (List ℕ)) → Fits rows symbols → ((a i : ℕ) → has (row rows a) i ≡ false) → MembersOf [] symbols rows
 members_none symbols rows fits none = record { fits = fits; says = λ a i h g. none a i }

@@ -1,17 +1,12 @@
 -- Rows of bits that say which type has which attribute.
-use Rattle.std.specs.Prelude.{◌≡◌, ℕ, false, ◌&&◌, ◌||◌, nat_eq, ◌<◌, ◌≤◌, ◌/◌, ◌+◌, List, [], length, Ok}
-use Rattle.std.proofs.Common.{get_or}
-use Rattle.sm_bits.specs.Bits.{has}
+use Rattle.std.specs.Prelude.{◌≡◌, ℕ, false, ◌&&◌, ◌||◌, nat_eq, ◌<◌, ◌≤◌, ◌/◌, ◌+◌, List, length, Ok}
+use Rattle.sm_bits.specs.Bits.{has, row}
 use Rattle.sm_kinds.specs.Names.{contains}
 use Rattle.sm_types.specs.Names.{Name, at, Distinct}
 use Rattle.sm_types.specs.Denoting.{Policy, types, attributes, has_attribute}
 use Rattle.sm_types.specs.Declaring.{symbols_of}
 use Rattle.sm_types.specs.declared.symbols.Symbols.{Symbols}
 use Rattle.sm_types.specs.declared.table.Table.{Table}
-
--- The row of an attribute.
-abbrev pub row : List (List ℕ) → ℕ → List ℕ
-row members a = get_or members a []
 
 -- In the row of each attribute that is named, t is added, and nothing else is changed.
 pub record Given (old new : List (List ℕ)) (attributes names : List Name) (t : ℕ) : Type 0 where

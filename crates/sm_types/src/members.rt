@@ -4,13 +4,13 @@ ghost use Rattle.std.specs.Prelude.{◌≡◌, ◌||◌, ◌&&◌, ◌*◌, ◌<
 ghost use Rattle.std.specs.List.{list_any};
 ghost use Rattle.sm_types.specs.Names.{at};
 ghost use Rattle.sm_types.specs.Denoting.{gives_attribute};
-ghost use Rattle.sm_types.specs.Members.{row, Given, Fits, MembersOf};
+ghost use Rattle.sm_types.specs.Members.{Given, Fits, MembersOf};
 ghost use Rattle.std.specs.Str.{bytes_eq};
-ghost use Rattle.sm_bits.specs.Bits.{has};
+ghost use Rattle.sm_bits.specs.Bits.{has, row};
 
 use crate::name_set::NameSet;
 use crate::symbols::Symbols;
-use sm_bits::BitRow;
+use sm_bits::{BitRow, empty_rows};
 use sm_kinds::Names;
 use sm_ruletext::{Statement, What};
 use std::alloc::{AllocError, Global};
@@ -76,12 +76,7 @@ fn no_members(alloc: Global, symbols: &Symbols) -> Result<Vec<BitRow>, AllocErro
         → has (row m.items a) i ≡ false)) }
 {
     let words = symbols.types.len() / 64 + 1;
-    let mut members = Vec::new(alloc);
-    for _ in 0..symbols.attributes.len() {
-        let row = BitRow::empty(alloc, words)?;
-        members.push(row)?;
-    }
-    Ok(members)
+    empty_rows(alloc, symbols.attributes.len(), words)
 }
 
 /// Which types have which attribute.

@@ -8,7 +8,7 @@ ghost use Rattle.sm_ruletext.specs.declared.statement.Statement.{Statement as Th
 ghost use Rattle.sm_types.specs.Names.{at};
 ghost use Rattle.sm_types.specs.Declaring.{Fails, symbols_of, is_declared, all_declared, UnlessMemory};
 ghost use Rattle.sm_types.specs.Denoting.{is_named, has_attribute, chosen, in_set};
-ghost use Rattle.sm_types.specs.Members.{row, Fits, IsOf};
+ghost use Rattle.sm_types.specs.Members.{Fits, IsOf};
 ghost use Rattle.sm_types.specs.declared.fault.TypesFault.TheVariants.{Unknown};
 
 use crate::TypesFault;

@@ -67,12 +67,7 @@ impl Manager {
         let Some(row) = self.caller(client.0) else {
             return Reply::Refused(Refusal::Failed(Failure::NotConnected));
         };
-        if let Some(refusal) = self.missing(
-            &row.who.context,
-            &self.who.context,
-            Class::Binder,
-            Perms::CALL,
-        ) {
+        if let Some(refusal) = self.missing_to_manager(&row.who.context, Perms::CALL) {
             return Reply::Refused(refusal);
         }
         if let Some(refusal) = self.missing(

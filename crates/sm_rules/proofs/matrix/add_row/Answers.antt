@@ -1,8 +1,8 @@
 use Rattle.std.proofs.Common.{sym, ◌∙◌, arith}
 use Rattle.std.proofs.lemmas.Result.{IfOk-weaker}
-use Rattle.sm_rules.specs.Matrices.{row}
+use Rattle.sm_bits.specs.Bits.{row}
+use Rattle.sm_bits.proofs.EmptyRows.{row_past}
 use Rattle.sm_rules.specs.Uniting.{Doubled}
-use Rattle.sm_rules.proofs.Rows.{row_past}
 use Rattle.sm_rules.proofs.Doubling.{doubled_same}
 use Rattle.sm_rules.proofs.matrix.add_row.Goals as goal
 

@@ -1,5 +1,4 @@
-use Rattle.sm_bits.specs.Bits.{has}
-use Rattle.sm_rules.specs.Matrices.{row}
+use Rattle.sm_bits.specs.Bits.{has, row}
 use Rattle.sm_rules.proofs.Rows.{AddedPairs}
 use Rattle.sm_rules.proofs.matrix.add_rows.Given as goal
 

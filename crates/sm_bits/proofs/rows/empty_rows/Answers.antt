@@ -1,5 +1,5 @@
-use Rattle.sm_rules.proofs.Rows.{empty_none, empty_more}
-use Rattle.sm_rules.proofs.gathered.empty_rows.Goals as goal
+use Rattle.sm_bits.proofs.EmptyRows.{empty_none, empty_more}
+use Rattle.sm_bits.proofs.rows.empty_rows.Goals as goal
 
 pub loop-init : goal.loop-init
 loop-init c = rw c.new-rows.ensures.items (empty_none _)
