@@ -52,6 +52,7 @@ impl Entries {
     ghost use Rattle.sm_contexts.specs.Reading.{Gives, with_entry, has_key, default_key, label};
     ghost use Rattle.sm_contexts.specs.Keyed.{entry, first_line};
 
+    /// No entry.
     pub fn new(alloc: Global) -> Entries
         ensures { result ≡ [] }
     {
@@ -66,12 +67,14 @@ impl Entries {
         self.by_key.get(key)
     }
 
+    /// How many keys have an entry.
     pub fn len(&self) -> usize
         ensures { result ≡ length self.now }
     {
         self.by_key.len()
     }
 
+    /// Whether `*` has an entry.
     pub fn has_default(&self) -> bool
         ensures { result ≡ list_any (has_key default_key) self.now }
     {

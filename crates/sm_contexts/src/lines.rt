@@ -77,6 +77,7 @@ impl<'a> Model for Lines<'a> {
 }
 
 impl<'a> Lines<'a> {
+    /// The lines of a text, the first next.
     pub fn new(text: &'a [u8]) -> Lines<'a>
         ensures all { result ≡ spec.lines text.now }
         ensures few { length result ≤ length text.now }
@@ -84,6 +85,7 @@ impl<'a> Lines<'a> {
         Lines { rest: text }
     }
 
+    /// The next line without its end, or `None` behind the last one.
     pub fn take(&mut self) -> Option<&'a [u8]>
         ensures taken { self.old ≡ option_to_list (option_map (λ l. l.now) result) ++ self.new }
         ensures none { IfNone result (self.old ≡ []) }

@@ -7,6 +7,7 @@ ghost use Rattle.sm_engine.specs.Counts.{failures_of, inner_of, one_more};
 
 use std::io::{self, Read, Write};
 
+/// A reader or a writer, with the number of its calls that failed.
 #[derive(Drop)]
 pub struct Counted<T> {
     inner: T,
@@ -14,6 +15,7 @@ pub struct Counted<T> {
 }
 
 impl<T> Counted<T> {
+    /// The reader or writer, of which no call has failed yet.
     pub fn new(inner: T) -> Counted<T>
         ensures inner { inner_of result ≡ inner }
         ensures failures { failures_of result ≡ 0 }
@@ -28,6 +30,7 @@ impl<T> Counted<T> {
         self.failures
     }
 
+    /// The reader or writer itself.
     pub fn into_inner(self) -> T
         ensures { result ≡ inner_of self }
     {

@@ -11,9 +11,10 @@ pub enum Fault {
     WriteFault,
     /// The bound on the number of reads was met before the end of the input.
     TooManyReads,
-    /// A line has more than 4,096 bytes.
+    /// A line has more than 4,096 bytes, or a `reload` line announces a text of more than 4,194,304.
     LineTooLong,
-    /// Memory was refused to the engine itself.
+    /// Memory was refused to the engine, or to the machine for the text of an answer: then the item may have been
+    /// carried out.
     Memory,
 }
 

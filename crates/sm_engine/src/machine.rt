@@ -12,6 +12,11 @@ pub trait Machine {
     // The item may be answered so: its reply lines, its audit lines, and the state after it.
     ghost answers: { Self → Item → List ℕ → List ℕ → Self → Type 0 };
 
+    /// Answers an item: its reply lines and its audit lines go to the ends of the two texts.
+    ///
+    /// # Errors
+    ///
+    /// An error where memory was refused; the item may have been carried out then.
     fn answer(
         &mut self,
         item: Item,

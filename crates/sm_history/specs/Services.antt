@@ -7,7 +7,7 @@ use Rattle.std.specs.declared.cmp.Ordering.TheVariants.{Less, Equal, Greater}
 use Rattle.sm_history.specs.Effects.{Effect, Effects, Service, Watch, Adds, Removes, Watches, Unwatches}
 use Rattle.sm_history.specs.Clients.{is_live}
 
--- What a effect says of a name: a service, or that there is none.
+-- What an effect says of a name: a service, or that there is none.
 pub data Said : Type 0 where
   Silent : Said
   Gone : Said

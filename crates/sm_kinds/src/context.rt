@@ -81,6 +81,7 @@ impl Context {
         self.kind.as_slice()
     }
 
+    /// The whole context.
     pub fn text(&self) -> &[u8]
         ensures { result.now ≡ self.now }
     {
@@ -102,7 +103,8 @@ fn is_graphic(b: u8) -> bool
     b'!' <= b && b <= b'~'
 }
 
-fn all_graphic(bytes: &[u8]) -> bool
+/// Whether each byte is a graphic character of ASCII, 0x21 to 0x7E.
+pub fn all_graphic(bytes: &[u8]) -> bool
     ensures { result ≡ list_all spec.is_graphic bytes.now }
 {
     bytes.iter().all(|b| is_graphic(*b))

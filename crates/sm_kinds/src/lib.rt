@@ -19,7 +19,7 @@ mod user;
 mod word;
 
 pub use class::Class;
-pub use context::{Context, ContextError, is_context};
+pub use context::{Context, ContextError, all_graphic, is_context};
 pub use identity::Identity;
 pub use messages::{push_access, push_numbered};
 pub use name::{Name, Names, valid_name};

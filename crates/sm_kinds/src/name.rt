@@ -49,6 +49,7 @@ impl Name {
         Ok(Name { bytes })
     }
 
+    /// The bytes of the name.
     pub fn bytes(&self) -> &[u8]
         ensures { result.now ≡ self.now }
     {
@@ -79,6 +80,7 @@ impl Drop for Names {
 impl Names {
     ghost use Rattle.sm_kinds.specs.Names.{contains};
 
+    /// No name.
     pub fn new(alloc: Global) -> Names
         ensures { result ≡ [] }
     {
@@ -87,6 +89,11 @@ impl Names {
         }
     }
 
+    /// Adds a name at the end.
+    ///
+    /// # Errors
+    ///
+    /// An error where memory was refused; the list is as it was then.
     pub fn push(&mut self, name: Name) -> Result<(), AllocError>
         ensures ok { OnOk result (self.new ≡ self.old ++ name ∷ []) }
         ensures err { OnErr result (self.new ≡ self.old) }
@@ -95,12 +102,14 @@ impl Names {
         Ok(())
     }
 
+    /// The names in their order.
     pub fn list(&self) -> &[Name]
         ensures { result.now ≡ self.now }
     {
         &self.list
     }
 
+    /// Whether a name is in the list.
     pub fn contains(&self, name: &[u8]) -> bool
         ensures { result ≡ contains self.now name.now }
     {

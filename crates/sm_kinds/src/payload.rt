@@ -69,6 +69,7 @@ impl Payload {
         }
     }
 
+    /// The bytes of the payload.
     pub fn bytes(&self) -> &[u8]
         ensures { result.now ≡ self.now }
     {

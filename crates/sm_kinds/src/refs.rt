@@ -60,6 +60,7 @@ impl Refs {
         }
     }
 
+    /// The references in their order.
     pub fn list(&self) -> &[ObjRef]
         ensures { result.now ≡ self.now }
     {

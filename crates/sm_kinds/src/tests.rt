@@ -2,8 +2,8 @@
 
 use crate::{
     Class, ClientId, Context, ContextError, Name, Names, ObjRef, Payload, PayloadError, Perms,
-    Places, Refs, RefsError, Word, app_number, is_barred_app, is_isolated, push_access,
-    push_numbered, valid_name,
+    Places, Refs, RefsError, Word, all_graphic, app_number, is_barred_app, is_isolated,
+    push_access, push_numbered, valid_name,
 };
 use std::test::Fail;
 
@@ -21,6 +21,7 @@ fn contexts_have_three_parts_and_perhaps_a_range(rt: HostRuntime) -> Result<(), 
     for text in bad {
         assert!(rt; matches!(Context::read(alloc, text), Err(ContextError::BadContext)));
     }
+    assert!(rt; all_graphic(b"!a~") && !all_graphic(b"a b") && !all_graphic(b"a\x7f"));
     Ok(())
 }
 

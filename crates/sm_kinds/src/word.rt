@@ -19,12 +19,14 @@ impl<'a> Model for Word<'a> {
 impl<'a> Word<'a> {
     ghost use Rattle.std.specs.Prelude.{◌≡◌};
 
+    /// A word of these bytes.
     pub fn new(bytes: &'a [u8]) -> Word<'a>
         ensures { result ≡ bytes.now }
     {
         Word { bytes }
     }
 
+    /// The bytes of the word.
     pub fn bytes(&self) -> &'a [u8]
         ensures { result.now ≡ self.now }
     {

@@ -1,12 +1,12 @@
 //! The sizes of a policy.
 
 ghost use Rattle.std.specs.Prelude.{◌≡◌, ◌≤◌, length};
-ghost use Rattle.sm_ruletext.specs.Statements.{is_rule, rule_count};
+ghost use Rattle.sm_ruletext.specs.Statements.{rule_count};
 ghost use Rattle.sm_types.specs.Members.{IsOf};
 ghost use Rattle.sm_policy.specs.Counting as spec;
 
 use sm_contexts::Contexts;
-use sm_ruletext::{Statement, What};
+use sm_ruletext::Statement;
 use sm_types::Types;
 
 /// What `svcmgr check` tells of a policy.
@@ -22,19 +22,13 @@ pub struct Counts {
     pub labels: u32,
 }
 
-fn is_rule(what: &What) -> bool
-    ensures { result ≡ is_rule what.now }
-{
-    matches!(what, What::Allow(_) | What::Neverallow(_))
-}
-
 fn rule_count(statements: &[Statement]) -> u32
     requires { length statements.now ≤ 4194304 }
     ensures { result ≡ rule_count statements.now }
 {
     let mut count: u32 = 0;
     for statement in statements {
-        if is_rule(&statement.what) {
+        if statement.what.is_rule() {
             count += 1;
         }
     }

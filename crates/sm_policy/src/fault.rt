@@ -26,6 +26,7 @@ pub enum PolicyFault {
     UndeclaredLabel(u32),
     /// An allow rule allows what a neverallow rule forbids.
     Neverallow(Violation),
+    /// Memory was refused.
     Memory,
 }
 

@@ -47,6 +47,7 @@ impl Parts {
     ghost use Rattle.sm_policy.specs.Counting.{counts_of};
     ghost use Rattle.sm_policy.specs.Preparing.{Gives, prepared};
 
+    /// The parts of a policy, or the first refusal of its texts.
     #[tactic(auto, unfolding(crate::specs::Preparing::prepared))]
     pub fn from_texts(alloc: Global, rules: &[u8], contexts: &[u8]) -> Result<Parts, PolicyFault>
         ensures exact { Gives (λ p. p) result (prepared rules.now contexts.now) }
@@ -65,6 +66,7 @@ impl Parts {
         })
     }
 
+    /// The line of the first allow rule that gives the permission, if there is one.
     #[tactic(auto, unfolding(crate::specs::Policy::written_at))]
     pub fn why(&self, source: &[u8], target: &[u8], class: Class, perm: Perms) -> Option<u32>
         ensures { result ≡ written_at self.now source.now target.now class perm }
@@ -73,6 +75,7 @@ impl Parts {
             .written_by_name(&self.types, source, target, class, perm)
     }
 
+    /// The label of a name.
     #[tactic(auto, unfolding(crate::specs::Policy::label_of))]
     pub fn label(&self, name: &[u8]) -> &Context
         ensures { result.now ≡ label_of self.now name.now }
@@ -80,6 +83,7 @@ impl Parts {
         self.contexts.label(name)
     }
 
+    /// The sizes of the policy.
     pub fn counts(&self) -> Counts
         ensures { result ≡ counts_of self.now }
     {

@@ -32,12 +32,14 @@ impl Snapshot {
     ghost use Rattle.sm_kinds.specs.Contexts.{type_of};
     ghost use Rattle.sm_policy.specs.Policy.{allowed, label_of, written_at};
 
+    /// A policy with its version.
     pub fn new(prepared: Prepared, version: u64) -> Snapshot
         ensures { result ≡ record { policy = prepared; number = version } }
     {
         Snapshot { prepared, version }
     }
 
+    /// The number of the policy among those that were in force.
     pub fn version(&self) -> u64
         ensures { result ≡ self.now.number }
     {

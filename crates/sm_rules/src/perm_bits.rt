@@ -12,6 +12,7 @@ use sm_ruletext::Rule;
 /// How many permissions there are, numbered from 0 in the order of their bits.
 pub const PERM_COUNT: u32 = 7;
 
+/// The class of a permission, by its place.
 pub fn class_at(bit: u32) -> Class
     ensures { result ≡ class_at bit }
 {
@@ -22,6 +23,7 @@ pub fn class_at(bit: u32) -> Class
     }
 }
 
+/// The permission at a place.
 pub fn perm_at(bit: u32) -> Perms
     ensures { result ≡ perm_at bit }
 {
@@ -58,6 +60,7 @@ pub fn number_of(class: Class, perm: Perms) -> Option<u32>
     }
 }
 
+/// Whether a bit is set.
 #[tactic(auto, unfolding(crate::specs::Keeping::has_bit))]
 pub fn has_bit(byte: u8, bit: u32) -> bool
     requires { bit < 8 }

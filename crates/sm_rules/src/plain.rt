@@ -95,6 +95,7 @@ fn word_of(class: Class, perm: Perms) -> Option<&'static [u8]>
     }
 }
 
+/// Whether a rule is of this class and has this permission.
 #[tactic(auto, unfolding(crate::specs::Access::gives))]
 pub fn gives(rule: &Rule, class: Class, perm: Perms) -> bool
     ensures { result ≡ spec.gives class perm rule.now }

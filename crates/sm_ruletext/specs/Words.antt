@@ -1,4 +1,4 @@
--- The words that begin a statement, and the names of classes.
+-- The words that begin a statement, and `self`.
 use Rattle.std.specs.Prelude.{ℕ, Bool, ◌||◌, if◌then◌else◌, List, codes}
 use Rattle.std.specs.Str.{bytes_eq}
 use Rattle.sm_ruletext.specs.declared.keyword.Keyword.{Keyword}

@@ -12,10 +12,11 @@ pub enum RuleTextFault {
     TooLarge,
     /// The statement at this line is not in the grammar.
     Syntax(u32),
-    /// The statement at this line begins with another word.
+    /// The statement at this line begins with a word that begins no statement of the grammar.
     Unsupported(u32),
     /// There are more than 65,536 kept rules.
     TooMany,
+    /// Memory was refused.
     Memory,
 }
 

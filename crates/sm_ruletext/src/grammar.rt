@@ -12,6 +12,7 @@ use crate::{Rule, RuleTextFault, Set};
 use sm_kinds::{Name, Names};
 use std::alloc::Global;
 
+/// The next token.
 #[tactic(auto, unfolding(crate::specs::Grammar::kind_at))]
 pub fn kind<'a>(tokens: &mut Tokens<'a>, line: u32) -> Result<Kind<'a>, RuleTextFault>
     ensures read { Reads (λ k. k) result tokens.new (spec.kind_at line tokens.old) }
@@ -35,6 +36,7 @@ fn colon(tokens: &mut Tokens, line: u32) -> Result<(), RuleTextFault>
     }
 }
 
+/// A semicolon.
 #[tactic(auto, unfolding(crate::specs::Grammar::kind_at, crate::specs::Grammar::semicolon_at))]
 pub fn semicolon(tokens: &mut Tokens, line: u32) -> Result<(), RuleTextFault>
     ensures read { Reads (λ _. tt) result tokens.new (spec.semicolon_at line tokens.old) }
@@ -46,6 +48,7 @@ pub fn semicolon(tokens: &mut Tokens, line: u32) -> Result<(), RuleTextFault>
     }
 }
 
+/// A word that may be a name.
 #[tactic(auto, unfolding(crate::specs::Grammar::kind_at, crate::specs::Grammar::name_at))]
 pub fn name(alloc: Global, tokens: &mut Tokens, line: u32) -> Result<Name, RuleTextFault>
     ensures read { Reads (λ n. n) result tokens.new (spec.name_at line tokens.old) }
@@ -205,6 +208,7 @@ fn set(
     }
 }
 
+/// What stands behind `allow` or `neverallow`.
 #[tactic(auto, unfolding(crate::specs::Grammar::rule_at))]
 pub fn rule(alloc: Global, tokens: &mut Tokens, line: u32) -> Result<Rule, RuleTextFault>
     ensures read { Reads (λ r. r) result tokens.new (spec.rule_at line tokens.old) }

@@ -28,6 +28,7 @@ impl Drop for Items {
 }
 
 impl Items {
+    /// A set without items.
     pub fn none(alloc: Global) -> Items
         ensures { result ≡ spec.no_items }
     {

@@ -1,8 +1,9 @@
-//! The words that begin a statement, and the names of classes.
+//! The words that begin a statement, and `self`.
 
 ghost use Rattle.std.specs.Prelude.{◌≡◌};
 ghost use Rattle.sm_ruletext.specs.Words as spec;
 
+/// What a statement begins with.
 #[derive(Clone, Copy, Debug)]
 pub enum Keyword {
     Attribute,
@@ -14,6 +15,7 @@ pub enum Keyword {
     Unknown,
 }
 
+/// Whether a word is `self`.
 pub fn is_self(word: &[u8]) -> bool
     ensures { result ≡ spec.is_self word.now }
 {
@@ -34,6 +36,7 @@ fn is_skipped(word: &[u8]) -> bool
         || word == b"neverallowxperm".as_slice()
 }
 
+/// What a statement that begins with this word is.
 #[tactic(auto, unfolding(crate::specs::Words::keyword_of))]
 pub fn keyword_of(word: &[u8]) -> Keyword
     ensures { result ≡ spec.keyword_of word.now }

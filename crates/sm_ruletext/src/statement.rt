@@ -18,6 +18,18 @@ pub enum What {
     Neverallow(Rule),
 }
 
+impl What {
+    ghost use Rattle.std.specs.Prelude.{◌≡◌};
+    ghost use Rattle.sm_ruletext.specs.Statements.{is_rule};
+
+    /// Whether it is an allow or a neverallow rule.
+    pub fn is_rule(&self) -> bool
+        ensures { result ≡ is_rule self.now }
+    {
+        matches!(self, What::Allow(_) | What::Neverallow(_))
+    }
+}
+
 /// A statement, with the line of its first byte; lines are numbered from 1.
 #[derive(Debug)]
 pub struct Statement {

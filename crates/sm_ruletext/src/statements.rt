@@ -11,12 +11,6 @@ use std::marker::Model;
 /// The most rules that are kept.
 const MAX_RULES: u32 = 65_536;
 
-fn is_rule(what: &What) -> bool
-    ensures { result ≡ spec.is_rule what.now }
-{
-    matches!(what, What::Allow(_) | What::Neverallow(_))
-}
-
 /// The statements so far, and how many of them are rules.
 pub struct Statements {
     list: Vec<Statement>,
@@ -42,6 +36,7 @@ impl Drop for Statements {
 }
 
 impl Statements {
+    /// No statement.
     pub fn new(alloc: Global) -> Statements
         ensures { result ≡ [] }
     {
@@ -51,6 +46,7 @@ impl Statements {
         }
     }
 
+    /// Adds a statement, unless it is skipped or a rule too many.
     #[tactic(auto, unfolding(crate::specs::Statements::with_statement))]
     pub fn add(&mut self, line: u32, what: Option<What>) -> Result<(), RuleTextFault>
         ensures { Gives (λ _. self.new) result (spec.with_statement line self.old what) }
@@ -58,7 +54,7 @@ impl Statements {
         let Some(what) = what else {
             return Ok(());
         };
-        let is_rule = is_rule(&what);
+        let is_rule = what.is_rule();
         if is_rule && self.rules == MAX_RULES {
             return Err(RuleTextFault::TooMany);
         }
@@ -69,6 +65,7 @@ impl Statements {
         Ok(())
     }
 
+    /// The statements in their order.
     pub fn into_vec(self) -> Vec<Statement>
         ensures { result.items ≡ self }
     {

@@ -135,6 +135,7 @@ fn most_rules(rt: HostRuntime) -> Result<(), Fail> {
     repeated(rt.alloc(), &mut text, b"allow a a:binder call;\n", 65_536)?;
     let statements = read(rt.alloc(), &text).ok().ok_or("accepted")?;
     assert_eq!(rt; statements.len(), 65_537);
+    assert!(rt; !statements[0].what.is_rule() && statements[1].what.is_rule());
     text.extend_from_slice(b"allow a a:binder call;\n")?;
     assert_eq!(rt; read(rt.alloc(), &text).err(), Some(RuleTextFault::TooMany));
     Ok(())

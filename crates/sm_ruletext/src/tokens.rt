@@ -141,6 +141,7 @@ impl<'a> Model for Tokens<'a> {
 }
 
 impl<'a> Tokens<'a> {
+    /// The tokens of a text, the first next.
     pub fn new(text: &'a [u8]) -> Tokens<'a>
         requires { length text.now ≤ 4194304 }
         ensures { result ≡ spec.tokens 0 1 text.now }

@@ -4,6 +4,7 @@ ghost use Rattle.std.specs.Prelude.{◌≡◌};
 ghost use Rattle.std.specs.List.{list_all};
 ghost use Rattle.sm_ruletext.specs.Lexing as spec;
 
+/// Whether a byte may stand in a word.
 pub fn is_word_byte(b: u8) -> bool
     ensures { result ≡ spec.is_word_byte b }
 {

@@ -52,6 +52,7 @@ impl Machine for Script {
 }
 
 impl Script {
+    /// A manager behind an engine.
     pub fn new(alloc: Global, manager: Manager) -> Script
         ensures { result ≡ manager }
     {

@@ -1,12 +1,15 @@
 //! What a check tells of a policy, and writers that fail at it.
 
-use crate::texts::{DEVICE_LABELS, GUARDED_RULES};
+use crate::texts::{DEVICE_LABELS, DEVICE_RULES};
 use crate::{FailAt, OneByte};
 use sm_engine::{Counted, Fault};
 use sm_script::check;
 use std::alloc::Global;
 use std::process::Abort;
 use std::test::Fail;
+
+/// Rules and contexts, with the line that is told of them.
+type Told = &'static [(&'static [u8], &'static [u8], &'static [u8])];
 
 const ACCEPTED: &[u8] = b"policy ok: 6 types, 2 attributes, 8 rules, 2 labels\n";
 
@@ -27,20 +30,55 @@ fn tells(
 
 #[test]
 fn an_accepted_policy(rt: HostRuntime) -> Result<(), Fail> {
-    tells(
-        &rt,
-        rt.alloc(),
-        GUARDED_RULES,
-        DEVICE_LABELS,
-        ACCEPTED,
-        true,
-    );
+    tells(&rt, rt.alloc(), DEVICE_RULES, DEVICE_LABELS, ACCEPTED, true);
+    Ok(())
+}
+
+// What is skipped isn't counted. A rule with a kept class is, also if it allows nothing.
+const SMALL_POLICIES: Told = &[
+    (
+        b"auditallow x y:z { w };\ntype a;",
+        b"* u:r:a",
+        b"policy ok: 1 types, 0 attributes, 0 rules, 1 labels\n",
+    ),
+    (
+        b"type a;\nallow x y:file read;",
+        b"* u:r:a",
+        b"policy ok: 1 types, 0 attributes, 0 rules, 1 labels\n",
+    ),
+    (
+        b"type a;\nallow a a:{ binder file } find;",
+        b"* u:r:a",
+        b"policy ok: 1 types, 0 attributes, 1 rules, 1 labels\n",
+    ),
+    (
+        b"attribute d;\ntype a, d;\ntype b;\nallow { * -a } ~d:binder *;",
+        b"* u:r:a",
+        b"policy ok: 2 types, 1 attributes, 1 rules, 1 labels\n",
+    ),
+    (
+        b"type a;\ntype b;\nallow { a b } self:binder call;\nneverallow a b:binder call;\nneverallow a b:file read;",
+        b"* u:r:a",
+        b"policy ok: 2 types, 0 attributes, 2 rules, 1 labels\n",
+    ),
+    (
+        b"type x;\ntype d;",
+        b"activity u:object_r:x:s0\nactivity u:object_r:x:s0\n* u:object_r:d:s0",
+        b"policy ok: 2 types, 0 attributes, 0 rules, 2 labels\n",
+    ),
+];
+
+#[test]
+fn small_policies(rt: HostRuntime) -> Result<(), Fail> {
+    for (rules, contexts, line) in SMALL_POLICIES {
+        tells(&rt, rt.alloc(), rules, contexts, line, true);
+    }
     Ok(())
 }
 
 #[test]
 fn a_broken_neverallow(rt: HostRuntime) -> Result<(), Fail> {
-    let mut rules = Vec::from_slice(rt.alloc(), GUARDED_RULES)?;
+    let mut rules = Vec::from_slice(rt.alloc(), DEVICE_RULES)?;
     rules.extend_from_slice(b"allow untrusted_app activity_service:service_manager add;\n")?;
     let line =
         b"policy refused: neverallow at line 16 by allow at line 17: untrusted_app activity_service service_manager add\n";
@@ -48,62 +86,68 @@ fn a_broken_neverallow(rt: HostRuntime) -> Result<(), Fail> {
     Ok(())
 }
 
+const REFUSED: Told = &[
+    (
+        b"type a;\ntype b",
+        b"",
+        b"policy refused: rules: syntax at line 2\n",
+    ),
+    (
+        b"type a;\npermissive a;",
+        b"",
+        b"policy refused: rules: unsupported statement at line 2\n",
+    ),
+    (
+        b"type a;\ntype a;",
+        b"",
+        b"policy refused: rules: declared twice at line 2\n",
+    ),
+    (
+        b"type a, d;",
+        b"",
+        b"policy refused: rules: unknown name at line 1\n",
+    ),
+    (
+        b"type a;\nallow a b:binder call;",
+        b"",
+        b"policy refused: rules: unknown name at line 2\n",
+    ),
+    (
+        b"type a;\nallow a a:binder find;",
+        b"",
+        b"policy refused: rules: unknown permission at line 2\n",
+    ),
+    (b"type a;", b"b", b"policy refused: contexts: bad line 1\n"),
+    (
+        b"type a;",
+        b"b u:r:a\nb u:r:c",
+        b"policy refused: contexts: line 2 gives another context than line 1\n",
+    ),
+    (
+        b"type a;",
+        b"* u:r:a\n* u:r:a",
+        b"policy refused: contexts: second default at line 2\n",
+    ),
+    (
+        b"type a;",
+        b"b u:r:a",
+        b"policy refused: contexts: no default\n",
+    ),
+    (
+        b"type a;",
+        b"* u:r:a\nb u:r:c",
+        b"policy refused: contexts: undeclared type at line 2\n",
+    ),
+    (
+        b"type a;\nneverallow a self:binder *;\nallow * *:binder call;",
+        b"* u:r:a",
+        b"policy refused: neverallow at line 2 by allow at line 3: a a binder call\n",
+    ),
+];
+
 #[test]
 fn texts_that_are_refused(rt: HostRuntime) -> Result<(), Fail> {
-    let cases: [(&[u8], &[u8], &[u8]); 11] = [
-        (
-            b"type a;\ntype b",
-            b"",
-            b"policy refused: rules: syntax at line 2\n",
-        ),
-        (
-            b"permissive a;",
-            b"",
-            b"policy refused: rules: unsupported statement at line 1\n",
-        ),
-        (
-            b"type a;\ntype a;",
-            b"",
-            b"policy refused: rules: declared twice at line 2\n",
-        ),
-        (
-            b"type a, d;",
-            b"",
-            b"policy refused: rules: unknown name at line 1\n",
-        ),
-        (
-            b"type a;\nallow a a:binder find;",
-            b"",
-            b"policy refused: rules: unknown permission at line 2\n",
-        ),
-        (b"type a;", b"b", b"policy refused: contexts: bad line 1\n"),
-        (
-            b"type a;",
-            b"b u:r:a\nb u:r:c",
-            b"policy refused: contexts: line 2 gives another context than line 1\n",
-        ),
-        (
-            b"type a;",
-            b"* u:r:a\n* u:r:a",
-            b"policy refused: contexts: second default at line 2\n",
-        ),
-        (
-            b"type a;",
-            b"b u:r:a",
-            b"policy refused: contexts: no default\n",
-        ),
-        (
-            b"type a;",
-            b"* u:r:a\nb u:r:c",
-            b"policy refused: contexts: undeclared type at line 2\n",
-        ),
-        (
-            b"type a;\nneverallow a self:binder *;\nallow * *:binder call;",
-            b"* u:r:a",
-            b"policy refused: neverallow at line 2 by allow at line 3: a a binder call\n",
-        ),
-    ];
-    for (rules, contexts, line) in cases {
+    for (rules, contexts, line) in REFUSED {
         tells(&rt, rt.alloc(), rules, contexts, line, false);
     }
     Ok(())
@@ -182,7 +226,7 @@ fn write_fails(rt: &impl Abort, alloc: Global, n: u32) -> bool {
         inner: OneByte(Vec::new(alloc)),
         left: n,
     });
-    let result = check(alloc, GUARDED_RULES, DEVICE_LABELS, &mut writer);
+    let result = check(alloc, DEVICE_RULES, DEVICE_LABELS, &mut writer);
     let failures = writer.failures();
     let written = writer.into_inner().inner.0;
     assert!(rt; ACCEPTED.starts_with(&written));

@@ -1,6 +1,8 @@
 //! Lines, names, clients and journals at their limits, and scripts that are not begun.
 
-use crate::texts::{DEVICE_LABELS, DEVICE_RULES, GUARDED_RULES, ONE_LABEL, PLAIN_RULES};
+use crate::texts::{
+    DEVICE_LABELS, DEVICE_RULES, DEVICE_RULES_WITH_DEFAULTS, ONE_LABEL, PLAIN_RULES,
+};
 use sm_engine::{Counted, Fault};
 use sm_history::{Denial, Refusal};
 use sm_kinds::{Class, Perms, Places};
@@ -67,38 +69,90 @@ fn input_that_ends_inside_a_line(rt: HostRuntime) -> Result<(), Fail> {
 fn lines_of_the_greatest_length(rt: HostRuntime) -> Result<(), Fail> {
     let alloc = rt.alloc();
     let mut script = vec![in alloc; b'a'; 4096]?;
+    let left = device_run(&rt, alloc, 1000, &script);
+    assert!(rt; left.result.is_ok());
+    assert_eq!(rt; left.replies.as_slice(), b"fault cut\n".as_slice());
     script.extend_from_slice(b"\n")?;
     let left = device_run(&rt, alloc, 1000, &script);
     assert!(rt; left.result.is_ok());
     assert_eq!(rt; left.replies.as_slice(), b"malformed\n".as_slice());
-    let mut script = vec![in alloc; b'a'; 4097]?;
-    script.extend_from_slice(b"\nhello 100 1000 u:r:system_server:s0\n")?;
-    let left = device_run(&rt, alloc, 1000, &script);
-    assert!(rt; matches!(&left.result, Err(ScriptFault::Engine(Fault::LineTooLong))));
-    assert_eq!(rt; left.replies.as_slice(), b"fault long\n".as_slice());
     Ok(())
 }
 
-// `1 add NAME o1 0 8`, where the name is so many letters `a`.
-fn add_long(alloc: Global, letters: usize) -> Result<Vec<u8>, Fail> {
-    let mut script = Vec::from_slice(alloc, b"hello 100 1000 u:r:system_server:s0\n1 add ")?;
+#[test]
+fn lines_too_long(rt: HostRuntime) -> Result<(), Fail> {
+    let alloc = rt.alloc();
+    let mut script = vec![in alloc; b'a'; 4097]?;
+    // Whether or not the line ends, and whatever follows.
+    for more in [b"".as_slice(), b"\nhello 100 1000 u:r:system_server:s0\n"] {
+        script.extend_from_slice(more)?;
+        let left = device_run(&rt, alloc, 1000, &script);
+        assert!(rt; matches!(&left.result, Err(ScriptFault::Engine(Fault::LineTooLong))));
+        assert_eq!(rt; left.replies.as_slice(), b"fault long\n".as_slice());
+    }
+    Ok(())
+}
+
+// Adds `1 add NAME o1 0 8`, where the name is so many letters `a`.
+fn push_add(script: &mut Vec<u8>, letters: usize) -> Result<(), Fail> {
+    script.extend_from_slice(b"1 add ")?;
     for _ in 0..letters {
         script.push(b'a')?;
     }
     script.extend_from_slice(b" o1 0 8\n")?;
-    Ok(script)
+    Ok(())
 }
 
 #[test]
 fn names_of_the_greatest_length(rt: HostRuntime) -> Result<(), Fail> {
     let alloc = rt.alloc();
-    let left = device_run(&rt, alloc, 1000, &add_long(alloc, 127)?);
-    assert_eq!(rt; left.replies.as_slice(), b"client 1\nok\n".as_slice());
-    let left = device_run(&rt, alloc, 1000, &add_long(alloc, 128)?);
-    assert_eq!(rt;
-        left.replies.as_slice(),
-        b"client 1\nexception -3 invalid-name\n".as_slice()
-    );
+    let mut script = Vec::from_slice(
+        alloc,
+        b"hello 100 1000 u:r:system_server:s0\n1 add % o1 0 8\n",
+    )?;
+    push_add(&mut script, 127)?;
+    push_add(&mut script, 128)?;
+    script.extend_from_slice(b"1 add x null 0 8\n")?;
+    let wanted = b"client 1
+exception -3 invalid-name
+ok
+exception -3 invalid-name
+exception -3 null-binder
+";
+    let rules = DEVICE_RULES_WITH_DEFAULTS;
+    let left = run_of(&rt, alloc, rules, DEVICE_LABELS, 1000, &script);
+    assert!(rt; left.result.is_ok());
+    assert_eq!(rt; left.replies.as_slice(), wanted.as_slice());
+    Ok(())
+}
+
+#[test]
+fn one_name_too_many(rt: HostRuntime) -> Result<(), Fail> {
+    let alloc = rt.alloc();
+    let mut script = Vec::from_slice(alloc, b"hello 100 1000 u:r:system_server:s0\n")?;
+    let mut wanted = Vec::from_slice(alloc, b"client 1\n")?;
+    for n in 1u32..=4096 {
+        script.extend_from_slice(format!(in alloc; "1 add n{n} o1 0 8\n")?.as_bytes())?;
+        wanted.extend_from_slice(b"ok\n")?;
+    }
+    // A name that has a service is given another one, and there is still no room for a new name.
+    script.extend_from_slice(
+        b"1 add m o1 0 8\n1 add m null 0 8\n1 add n7 o2 0 1\n1 get n7\n1 add m o1 0 8\n1 get m\n1 list 1\n",
+    )?;
+    wanted.extend_from_slice(
+        b"exception -5 table-full
+exception -3 null-binder
+ok
+own 2
+exception -5 table-full
+null
+names 1 4099 1 n7
+",
+    )?;
+    let rules = DEVICE_RULES_WITH_DEFAULTS;
+    let left = run_of(&rt, alloc, rules, DEVICE_LABELS, 5000, &script);
+    assert!(rt; left.result.is_ok());
+    assert_eq!(rt; left.replies.as_slice(), wanted.as_slice());
     Ok(())
 }
 
@@ -119,6 +173,13 @@ fn one_client_too_many(rt: HostRuntime) -> Result<(), Fail> {
     Ok(())
 }
 
+// Runs a script to its end with a journal of so many places, and wants these replies.
+fn replies(rt: &impl Abort, alloc: Global, places: u32, script: &[u8], wanted: &[u8]) {
+    let left = device_run(rt, alloc, places, script);
+    assert!(rt; left.result.is_ok());
+    assert_eq!(rt; left.replies.as_slice(), wanted);
+}
+
 #[test]
 fn a_journal_of_four_places(rt: HostRuntime) -> Result<(), Fail> {
     let script = b"hello 100 1000 u:r:system_server:s0
@@ -127,15 +188,85 @@ fn a_journal_of_four_places(rt: HostRuntime) -> Result<(), Fail> {
 1 list 15
 hello 200 10007 u:r:untrusted_app:s0
 ";
-    let replies = b"client 1
+    let wanted = b"client 1
 ok
 failed journal-full
 names 1 3 1 activity
 failed journal-full
 ";
-    let left = device_run(&rt, rt.alloc(), 4, script);
-    assert!(rt; left.result.is_ok());
-    assert_eq!(rt; left.replies.as_slice(), replies.as_slice());
+    replies(&rt, rt.alloc(), 4, script, wanted);
+    Ok(())
+}
+
+// A client takes a place for its entry, and one is kept for its death.
+#[test]
+fn journals_without_a_place_for_a_client(rt: HostRuntime) -> Result<(), Fail> {
+    let script = b"hello 100 1000 u:r:system_server:s0
+1 list 15
+1 add activity o1 0 8
+hello 101 1000 u:r:system_server:s0
+2 add activity o1 0 8
+hello 102 1000 u:r:system_server:s0
+1 get activity
+1 version
+";
+    let alloc = rt.alloc();
+    let none = b"failed journal-full
+failed not-connected
+failed not-connected
+failed journal-full
+failed not-connected
+failed journal-full
+failed not-connected
+failed not-connected
+";
+    replies(&rt, alloc, 2, script, none);
+    let one = b"client 1
+names 1 2 0
+failed journal-full
+failed journal-full
+failed not-connected
+failed journal-full
+null
+version 1 2
+";
+    replies(&rt, alloc, 3, script, one);
+    Ok(())
+}
+
+#[test]
+fn journals_without_a_place_for_a_handle(rt: HostRuntime) -> Result<(), Fail> {
+    let script = b"hello 100 1000 u:r:system_server:s0
+1 add activity o1 0 8
+hello 200 10007 u:r:untrusted_app:s0
+2 get activity
+2 get activity
+1 get activity
+2 get foo
+1 version
+";
+    let alloc = rt.alloc();
+    // An object of one's own takes no place, and a denial none.
+    let none = b"client 1
+ok
+client 2
+failed journal-full
+failed journal-full
+own 1
+null
+version 1 4
+";
+    replies(&rt, alloc, 6, script, none);
+    let one = b"client 1
+ok
+client 2
+handle 1
+failed journal-full
+own 1
+null
+version 1 5
+";
+    replies(&rt, alloc, 7, script, one);
     Ok(())
 }
 
@@ -172,8 +303,8 @@ fn managers_without_set_context_mgr(rt: HostRuntime) -> Result<(), Fail> {
     assert!(rt; is_denied(&left));
     assert_eq!(rt; left.replies.len(), 0);
     assert_eq!(rt; left.unread, script.len());
-    let mut rules = Vec::from_slice(rt.alloc(), &GUARDED_RULES[..241])?;
-    rules.extend_from_slice(&GUARDED_RULES[291..])?;
+    let mut rules = Vec::from_slice(rt.alloc(), &DEVICE_RULES[..241])?;
+    rules.extend_from_slice(&DEVICE_RULES[291..])?;
     let left = run_of(&rt, rt.alloc(), &rules, DEVICE_LABELS, 1000, script);
     assert!(rt; is_denied(&left));
     assert_eq!(rt; left.replies.len(), 0);

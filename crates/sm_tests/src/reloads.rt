@@ -1,6 +1,6 @@
 //! Scripts in which the administrator replaces the policy, or asks what it says.
 
-use crate::texts::{DEVICE_LABELS, GUARDED_RULES, ONE_LABEL, PLAIN_RULES};
+use crate::texts::{DEVICE_LABELS, DEVICE_RULES, ONE_LABEL, PLAIN_RULES};
 use sm_engine::Counted;
 use sm_kinds::Places;
 use sm_script::run_script;
@@ -8,15 +8,27 @@ use std::alloc::Global;
 use std::process::Abort;
 use std::test::Fail;
 
-// Runs a script under the guarded rules, and wants these replies; and whether the engine reads to the end.
+// Runs a script under a device's rules, and wants these replies; and whether the engine reads to the end.
 fn replies(rt: &impl Abort, alloc: Global, script: &[u8], wanted: &[u8], is_whole: bool) {
-    let places = Places::new(1_048_576).expect(rt, "places");
+    replies_with(rt, alloc, 1_048_576, script, wanted, is_whole);
+}
+
+// The same with a journal of so many places.
+fn replies_with(
+    rt: &impl Abort,
+    alloc: Global,
+    places: u32,
+    script: &[u8],
+    wanted: &[u8],
+    is_whole: bool,
+) {
+    let places = Places::new(places).expect(rt, "places");
     let mut reader = Counted::new(script);
     let mut writer = Counted::new(Vec::new(alloc));
     let mut audit = Counted::new(Vec::new(alloc));
     let result = run_script(
         alloc,
-        GUARDED_RULES,
+        DEVICE_RULES,
         DEVICE_LABELS,
         places,
         100,
@@ -43,6 +55,14 @@ handle 1
 handle 1
 ";
 
+// Adds a `reload` line, and a device's texts behind it.
+fn push_reload(script: &mut Vec<u8>, line: &[u8]) -> Result<(), Fail> {
+    script.extend_from_slice(line)?;
+    script.extend_from_slice(DEVICE_RULES)?;
+    script.extend_from_slice(DEVICE_LABELS)?;
+    Ok(())
+}
+
 #[test]
 fn another_policy(rt: HostRuntime) -> Result<(), Fail> {
     let alloc = rt.alloc();
@@ -67,7 +87,7 @@ fn a_refused_policy(rt: HostRuntime) -> Result<(), Fail> {
     let alloc = rt.alloc();
     let mut script = Vec::from_slice(alloc, ONE_SERVICE)?;
     script.extend_from_slice(b"reload 1 744 89\n")?;
-    script.extend_from_slice(GUARDED_RULES)?;
+    script.extend_from_slice(DEVICE_RULES)?;
     script.extend_from_slice(b"allow untrusted_app activity_service:service_manager add;\n")?;
     script.extend_from_slice(DEVICE_LABELS)?;
     script.extend_from_slice(b"2 version\n2 get activity\n")?;
@@ -87,11 +107,95 @@ fn a_version_that_moved(rt: HostRuntime) -> Result<(), Fail> {
     let alloc = rt.alloc();
     let mut script = Vec::new(alloc);
     for _ in 0..2 {
-        script.extend_from_slice(b"reload 1 686 89\n")?;
-        script.extend_from_slice(GUARDED_RULES)?;
-        script.extend_from_slice(DEVICE_LABELS)?;
+        push_reload(&mut script, b"reload 1 686 89\n")?;
     }
     replies(&rt, alloc, &script, b"reloaded 2\nmoved 2\n", true);
+    Ok(())
+}
+
+#[test]
+fn the_greatest_version(rt: HostRuntime) -> Result<(), Fail> {
+    let alloc = rt.alloc();
+    let mut script = Vec::new(alloc);
+    push_reload(&mut script, b"reload 18446744073709551615 686 89\n")?;
+    script.extend_from_slice(b"reload 18446744073709551616 0 0\n")?;
+    push_reload(&mut script, b"reload 1 686 89\n")?;
+    let wanted = b"moved 1
+malformed
+reloaded 2
+";
+    replies(&rt, alloc, &script, wanted, true);
+    Ok(())
+}
+
+// Where the line is malformed, what was meant as texts is read as lines.
+#[test]
+fn texts_read_as_lines(rt: HostRuntime) -> Result<(), Fail> {
+    let script = b"reload 18446744073709551616 8 65
+type a;
+# labels
+explain untrusted_app system_server binder call
+* u:r:a
+reload 1 08 8
+type a;
+* u:r:a
+reload 1 8
+reload 1 8 4294967296
+reload 1 8 8 8
+reload  1 8 8
+1 reload 1 0 0
+
+";
+    let wanted = b"malformed
+malformed
+malformed
+allowed 1 15
+malformed
+malformed
+malformed
+malformed
+malformed
+malformed
+malformed
+malformed
+malformed
+malformed
+";
+    replies(&rt, rt.alloc(), script, wanted, true);
+    Ok(())
+}
+
+// One place is for the opening. A reload takes one, and a client two.
+#[test]
+fn journals_without_a_place_for_a_policy(rt: HostRuntime) -> Result<(), Fail> {
+    let alloc = rt.alloc();
+    let mut script = Vec::new(alloc);
+    push_reload(&mut script, b"reload 1 686 89\n")?;
+    push_reload(&mut script, b"reload 2 686 89\n")?;
+    push_reload(&mut script, b"reload 1 686 89\n")?;
+    script.extend_from_slice(b"reload 2 0 0\n")?;
+    script.extend_from_slice(b"explain untrusted_app system_server binder call\n")?;
+    // The version is asked before the place, and the texts before either.
+    let wanted = b"reloaded 2
+failed journal-full
+moved 2
+refused contexts: no default
+allowed 2 15
+";
+    replies_with(&rt, alloc, 2, &script, wanted, true);
+    let mut script = Vec::from_slice(alloc, b"hello 100 1000 u:r:system_server:s0\n")?;
+    push_reload(&mut script, b"reload 1 686 89\n")?;
+    script.extend_from_slice(b"1 version\n")?;
+    let wanted = b"client 1
+failed journal-full
+version 1 2
+";
+    replies_with(&rt, alloc, 3, &script, wanted, true);
+    let wanted = b"client 1
+reloaded 2
+version 2 3
+";
+    replies_with(&rt, alloc, 4, &script, wanted, true);
     Ok(())
 }
 
@@ -122,10 +226,17 @@ malformed
 #[test]
 fn texts_cut_short(rt: HostRuntime) -> Result<(), Fail> {
     let alloc = rt.alloc();
-    let mut script = Vec::from_slice(alloc, b"reload 1 686 89\n")?;
-    script.extend_from_slice(GUARDED_RULES)?;
-    replies(&rt, alloc, &script, b"fault cut\n", true);
-    replies(&rt, alloc, b"reload 1 686 89\n", b"fault cut\n", true);
+    let mut script = Vec::from_slice(alloc, b"1 list 15\n")?;
+    push_reload(&mut script, b"reload 1 686 89\n")?;
+    let before = b"1 list 15\nreload 1 686 89\n".len();
+    let wanted = b"failed not-connected\nfault cut\n";
+    // Before the rule text, inside it, between the texts, and inside the contexts text.
+    for held in [0usize, 1, 300, 685, 686, 687, 720, 774] {
+        let cut = script.get(..before + held).ok_or("a front")?;
+        replies(&rt, alloc, cut, wanted, true);
+    }
+    let wanted = b"failed not-connected\nreloaded 2\n";
+    replies(&rt, alloc, &script, wanted, true);
     Ok(())
 }
 

@@ -1,6 +1,8 @@
 //! Scripts and what they are answered, line by line.
 
-use crate::texts::{DEVICE_LABELS, DEVICE_RULES, ONE_LABEL, PLAIN_RULES};
+use crate::texts::{
+    DEVICE_LABELS, DEVICE_RULES, DEVICE_RULES_WITH_DEFAULTS, ONE_LABEL, PLAIN_RULES,
+};
 use sm_engine::Counted;
 use sm_kinds::Places;
 use sm_script::run_script;
@@ -81,13 +83,26 @@ const ONE_HANDLE_FOR_AN_OBJECT: Talk = &[
     ("1 add activity o1 0 8", "ok"),
     ("hello 200 10007 u:r:untrusted_app:s0", "client 2"),
     ("2 get activity", "handle 1"),
-    ("2 check activity", "handle 1"),
+    ("2 get activity", "handle 1"),
     ("2 add activity o1 0 8", "exception -1 app 10007"),
     (
         "2 list 15",
         "exception -1 denied untrusted_app servicemanager service_manager list",
     ),
     ("2 get foo", "null"),
+];
+
+// `check` means what `get` means: each one that is answered by a handle is an entry, and no other.
+const CHECKS: Talk = &[
+    ("hello 100 1000 u:r:system_server:s0", "client 1"),
+    ("1 check activity", "null"),
+    ("1 add activity o1 0 8", "ok"),
+    ("1 check activity", "own 1"),
+    ("hello 200 10007 u:r:untrusted_app:s0", "client 2"),
+    ("2 check activity", "handle 1"),
+    ("2 get activity", "handle 1"),
+    ("2 check foo", "null"),
+    ("1 version", "version 1 6"),
 ];
 
 const APPLICATIONS_OF_ANY_USER: Talk = &[
@@ -113,6 +128,47 @@ const DUMP_FLAGS: Talk = &[
     ("1 list 0", "names 1 3 0"),
     ("1 list 16", "names 1 3 0"),
     ("1 list 24", "names 1 3 1 activity"),
+];
+
+// The label is asked before the object and the name are looked at, and after the handle.
+const NAMES_WITHOUT_LABELS: Talk = &[
+    ("hello 100 1000 u:r:system_server:s0", "client 1"),
+    (
+        "1 add foo o1 0 8",
+        "exception -1 denied system_server default_android_service service_manager add",
+    ),
+    (
+        "1 add foo null 0 8",
+        "exception -1 denied system_server default_android_service service_manager add",
+    ),
+    (
+        "1 add % o1 0 8",
+        "exception -1 denied system_server default_android_service service_manager add",
+    ),
+    ("1 add foo h9 0 8", "failed bad-handle"),
+    ("1 add activity null 0 8", "exception -3 null-binder"),
+    ("1 get foo", "null"),
+    ("1 list 15", "names 1 2 0"),
+];
+
+// Each number has at most 32 bits. The last five digits of a user number say whose it is.
+const GREATEST_NUMBERS: Talk = &[
+    ("hello 4294967296 1000 u:r:system_server:s0", "malformed"),
+    ("hello 100 4294967296 u:r:system_server:s0", "malformed"),
+    ("hello 0100 1000 u:r:system_server:s0", "malformed"),
+    (
+        "hello 4294967295 4294967295 u:r:system_server:s0",
+        "client 1",
+    ),
+    ("1 add activity o1 0 8", "exception -1 app 4294967295"),
+    ("hello 0 0 u:r:system_server:s0", "client 2"),
+    ("2 add activity o4294967296 0 8", "malformed"),
+    ("2 add activity o1 0 4294967296", "malformed"),
+    ("2 add activity o4294967295 0 4294967295", "ok"),
+    ("2 get activity", "own 4294967295"),
+    ("2 list 2147483648", "names 1 4 1 activity"),
+    ("4294967295 list 15", "failed not-connected"),
+    ("4294967296 list 15", "malformed"),
 ];
 
 const NAMES_AND_OBJECTS: Talk = &[
@@ -152,13 +208,26 @@ fn with_device_rules(rt: HostRuntime) -> Result<(), Fail> {
     for talk in [
         FIRST_PATH,
         ONE_HANDLE_FOR_AN_OBJECT,
+        CHECKS,
         APPLICATIONS_OF_ANY_USER,
         ISOLATED_CALLERS,
         DUMP_FLAGS,
-        NAMES_AND_OBJECTS,
+        NAMES_WITHOUT_LABELS,
+        GREATEST_NUMBERS,
         MALFORMED,
     ] {
         holds(&rt, rt.alloc(), DEVICE_RULES, DEVICE_LABELS, talk)?;
     }
     Ok(())
+}
+
+#[test]
+fn with_rules_for_defaults(rt: HostRuntime) -> Result<(), Fail> {
+    holds(
+        &rt,
+        rt.alloc(),
+        DEVICE_RULES_WITH_DEFAULTS,
+        DEVICE_LABELS,
+        NAMES_AND_OBJECTS,
+    )
 }

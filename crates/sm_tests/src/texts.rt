@@ -18,7 +18,8 @@ pub const ONE_LABEL: &[u8] = b"activity u:object_r:activity_service:s0
 * u:object_r:activity_service:s0
 ";
 
-/// Rules with attributes and groups, as a device has them: applications may find `activity` too.
+/// Rules with attributes and groups, as a device has them: applications may find `activity`, and none may ever add a
+/// service.
 pub const DEVICE_RULES: &[u8] = b"attribute domain;
 attribute binderuser;
 type servicemanager, domain;
@@ -34,11 +35,11 @@ allow system_server activity_service:service_manager add;
 allow binderuser activity_service:service_manager find;
 allow system_server servicemanager:service_manager list;
 allow untrusted_app system_server:binder { call transfer };
-allow system_server default_android_service:service_manager { add find };
+neverallow untrusted_app *:service_manager add;
 ";
 
-/// The same without the last rule, and no application may ever add a service.
-pub const GUARDED_RULES: &[u8] = b"attribute domain;
+/// The same, and system_server may add and find names without a label of their own.
+pub const DEVICE_RULES_WITH_DEFAULTS: &[u8] = b"attribute domain;
 attribute binderuser;
 type servicemanager, domain;
 type system_server, domain, binderuser;
@@ -54,6 +55,7 @@ allow binderuser activity_service:service_manager find;
 allow system_server servicemanager:service_manager list;
 allow untrusted_app system_server:binder { call transfer };
 neverallow untrusted_app *:service_manager add;
+allow system_server default_android_service:service_manager { add find };
 ";
 
 /// `activity` has a label of its own.

@@ -1,6 +1,6 @@
 //! A manager that is called directly: whose turn it is, and who may ask what.
 
-use crate::texts::{ONE_LABEL, PLAIN_RULES};
+use crate::texts::{DEVICE_LABELS, DEVICE_RULES};
 use sm_core::Manager;
 use sm_history::{By, Failure, Outcome, Query, Refusal, Reply};
 use sm_kinds::{AdminId, Class, ClientId, Context, Identity, Name, ObjRef, Perms, Places};
@@ -10,7 +10,7 @@ use std::process::Abort;
 use std::test::Fail;
 
 fn policy(rt: &impl Abort, alloc: Global) -> Prepared {
-    Prepared::from_texts(alloc, PLAIN_RULES, ONE_LABEL)
+    Prepared::from_texts(alloc, DEVICE_RULES, DEVICE_LABELS)
         .ok()
         .expect(rt, "a policy")
 }

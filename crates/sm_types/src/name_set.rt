@@ -32,6 +32,7 @@ impl NameSet {
     ghost use Rattle.std.specs.Str.{bytes_eq};
     ghost use Rattle.sm_types.specs.Names.{Distinct, is_at, at};
 
+    /// No name.
     pub fn new(alloc: Global) -> NameSet
         ensures { result ≡ [] }
     {
@@ -40,6 +41,7 @@ impl NameSet {
         }
     }
 
+    /// How many names there are.
     pub fn len(&self) -> usize
         ensures len { result ≡ length self.now }
         ensures distinct { Distinct self.now }
@@ -47,6 +49,7 @@ impl NameSet {
         self.names.len()
     }
 
+    /// Whether a name is in the set.
     pub fn contains(&self, name: &[u8]) -> bool
         ensures { result ≡ list_any (bytes_eq name.now) self.now }
     {
@@ -63,6 +66,7 @@ impl NameSet {
         self.names.get_index_of(name)
     }
 
+    /// The name with this number, if there is one.
     pub fn name(&self, index: usize) -> Option<&[u8]>
         ensures { option_map (λ n. n.now) result ≡ slice_get self.now index }
     {

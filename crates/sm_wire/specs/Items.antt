@@ -23,15 +23,15 @@ text_limit = 4194304
 abbrev pub scan_start : Scan
 scan_start = record { mode = Line; held = [] }
 
--- after a line that was too long
+-- after a line or an announced text that was too long
 abbrev pub scan_dead : Scan
 scan_dead = record { mode = Dead; held = [] }
 
--- no line was too long yet
+-- no line and no announced text was too long yet
 abbrev pub IsAlive : Scan → Type 0
 IsAlive s = s.mode ≢ Dead
 
--- a line was too long
+-- a line or an announced text was too long
 abbrev pub IsDead : Scan → Type 0
 IsDead s = s.mode ≡ Dead
 

@@ -9,6 +9,7 @@ use sm_history::{Delivery, Given, Message};
 use sm_kinds::push_numbered;
 use std::alloc::{AllocError, Global};
 
+/// Adds the words of a delivery.
 pub fn push_delivery(
     alloc: Global,
     out: &mut Vec<u8>,

@@ -1,10 +1,8 @@
 //! Requests, read from the fields of a line: a function for each production.
 
 ghost use Rattle.std.specs.Prelude.{◌≡◌, map};
-ghost use Rattle.std.specs.List.{list_all};
 ghost use Rattle.std.specs.Result.{result_ok};
 ghost use Rattle.hex.specs.Hex.{decode_of};
-ghost use Rattle.sm_kinds.specs.Contexts.{is_graphic};
 ghost use Rattle.sm_kinds.specs.Permissions.{class_read};
 ghost use Rattle.sm_wire.specs.Reading.{Reads};
 ghost use Rattle.sm_wire.specs.Grammar.{plain_name_of, name_of, reference_of, flag_of, context_of, get_of, list_of, add_of, one_field_of, client_request_of, client_line_of, hello_of, greeting_of, word_of, perm_of, explain_of, explaining_of, asking_of, fields_request_of, request_of};
@@ -15,7 +13,9 @@ use crate::read_error::ReadError;
 use crate::request::Request;
 use hex::FromHexError;
 use sm_history::Query;
-use sm_kinds::{Class, ClientId, Context, ContextError, Identity, Name, ObjRef, Perms};
+use sm_kinds::{
+    Class, ClientId, Context, ContextError, Identity, Name, ObjRef, Perms, all_graphic,
+};
 use sm_ruletext::is_word;
 use std::alloc::Global;
 
@@ -218,18 +218,6 @@ fn plain_name(alloc: Global, field: &[u8]) -> Result<Name, ReadError>
         return Err(ReadError::Malformed);
     }
     Ok(Name::new(alloc, field)?)
-}
-
-fn all_graphic(bytes: &[u8]) -> bool
-    ensures { result ≡ list_all is_graphic bytes.now }
-{
-    bytes.iter().all(|b| is_graphic(*b))
-}
-
-fn is_graphic(b: u8) -> bool
-    ensures { result ≡ is_graphic b }
-{
-    (33..=126).contains(&b)
 }
 
 // A word of a rule text.

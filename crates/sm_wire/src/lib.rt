@@ -17,11 +17,13 @@ mod read_error;
 mod refusals;
 mod replies;
 mod request;
+#[cfg(test)]
+mod tests;
 mod texts;
 
 pub use announced::Announced;
 pub use item::Item;
-pub use laws::{any_cut, first_line, long_line, reload_line};
+pub use laws::{any_cut, first_line, long_line, one_spelling, reload_line};
 pub use lines::{FeedError, Lines};
 pub use read_error::ReadError;
 pub use replies::{reply_line, reply_line_for};

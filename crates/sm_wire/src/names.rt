@@ -29,6 +29,7 @@ pub fn push_names(alloc: Global, out: &mut Vec<u8>, names: &[Name]) -> Result<()
     Ok(())
 }
 
+/// Adds a space and a name.
 pub fn push_spaced_name(alloc: Global, out: &mut Vec<u8>, name: &[u8]) -> Result<(), AllocError>
     ensures { OnOk result (out.new.items ≡ out.old.items ++ spaced_name name.now) }
 {

@@ -7,6 +7,7 @@ use sm_history::{Denial, Exception, Failure, Refusal};
 use sm_kinds::{Class, Perms, push_access, push_numbered};
 use std::alloc::AllocError;
 
+/// Adds the words of a refusal, of a Get or of another request.
 #[tactic(auto, unfolding(crate::specs::Replies::refusal_text))]
 pub fn push_refusal(out: &mut Vec<u8>, is_get: bool, refusal: &Refusal) -> Result<(), AllocError>
     ensures { OnOk result (out.new.items ≡ out.old.items ++ refusal_text is_get refusal.now) }

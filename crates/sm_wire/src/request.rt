@@ -43,8 +43,8 @@ impl Request {
         request(alloc, line)
     }
 
-    #[tactic(auto, unfolding(crate::specs::Replies::is_get_request))]
     /// Whether it is `get` or `check`.
+    #[tactic(auto, unfolding(crate::specs::Replies::is_get_request))]
     pub fn is_get(&self) -> bool
         ensures { result ≡ is_get_request self.now }
     {

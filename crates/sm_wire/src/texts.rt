@@ -30,6 +30,7 @@ impl Drop for PolicyTexts {
 impl PolicyTexts {
     ghost use Rattle.std.specs.Prelude.{◌≡◌};
 
+    /// The texts of a `reload` that expects this version.
     pub fn new(expected: u64, rules: Vec<u8>, contexts: Vec<u8>) -> PolicyTexts
         ensures { result ≡ record { expected = expected; rules = rules.items; contexts = contexts.items } }
     {
@@ -47,12 +48,14 @@ impl PolicyTexts {
         self.expected
     }
 
+    /// The rule text.
     pub fn rules(&self) -> &[u8]
         ensures { result.now ≡ self.now.rules }
     {
         self.rules.as_slice()
     }
 
+    /// The contexts text.
     pub fn contexts(&self) -> &[u8]
         ensures { result.now ≡ self.now.contexts }
     {

@@ -39,7 +39,8 @@ fn perform(rt: &HostRuntime, options: &Options) -> Result<ExitCode, Ending> {
     }
 }
 
-/// Runs the script that comes on standard input. Replies go to standard output, audit lines to standard error.
+/// Runs the script that comes on standard input. Replies go to standard output; audit
+/// lines, of which there are none yet, would go to standard error.
 fn serve_script(rt: &HostRuntime, options: &Options) -> Result<ExitCode, Ending> {
     let rules = files::read_limited(rt, options.rules)?;
     let contexts = files::read_limited(rt, options.contexts)?;
