@@ -1,9 +1,10 @@
 -- No effect names a client that has not connected.
-use Rattle.std.proofs.Common.{◌≡◌, ℕ, ◌≤◌, ◌<◌, Bool, true, false, ◌||◌, ◌==◌, List, [], ◌∷◌, refl, ap, sym, ◌∙◌, subst, arith, Option, Some, None, if◌then◌else◌}
+use Rattle.std.proofs.Common.{◌≡◌, ℕ, ◌≤◌, ◌<◌, Bool, true, false, ◌==◌, List, [], ◌∷◌, refl, sym, ◌∙◌, subst, arith, Option, Some, None, if◌then◌else◌}
 use Rattle.std.specs.List.{list_any}
 use Rattle.std.proofs.lemmas.Bool.Decides.{nat_tests}
-use Rattle.std.proofs.lemmas.Bool.{true≢false}
+use Rattle.std.proofs.lemmas.Bool.{and_parts, or_from, or_parts}
 use Rattle.sm_kinds.specs.declared.number.Node.{Node}
+use Rattle.sm_history.specs.declared.stop.Stop.{Stop}
 use Rattle.sm_history.specs.Effects.{Effect, Effects, Watch, Opens, Sets, Connects, Dies, Adds, Removes, Gives, Releases, Watches, Unwatches, Delivers, Takes}
 use Rattle.sm_history.specs.Clients.{is_live, next_client, is_connect_of}
 use Rattle.sm_kinds.specs.declared.number.ObjRef.{ObjRef}
@@ -12,37 +13,19 @@ use Rattle.sm_history.specs.declared.event.Event.TheVariants.{Open, Connect, Add
 use Rattle.sm_history.specs.Effects.{Service}
 use Rattle.sm_history.specs.Holdings.{handed, number_for, resolve_at, node_at}
 use Rattle.sm_history.specs.Services.{service_at, watchers_at, watches_at, watches_made}
-use Rattle.sm_history.specs.Checks.{Check}
 use Rattle.sm_history.specs.Notices.{after_told, after_notice, after_notices, first_missing, registration}
 use Rattle.sm_history.specs.Histories.{found, handed_ref, handed_refs, after_event, after_watch, after_get, call_delivery, watch, service}
-use Rattle.std.specs.Prelude.{filter, ◌&&◌, bytes_eq}
+use Rattle.std.specs.Prelude.{filter, bytes_eq}
 use Rattle.std.specs.List.{list_all}
 use Rattle.std.specs.Prelude.{nat_lt}
+use Rattle.sm_history.specs.Sound.{IsFresh, names}
 
--- An effect names a client.
-abbrev pub names : ℕ → Effect → Bool
-names k (Connects c who) = c == k
-names k (Dies c) = c == k
-names k (Gives c n r) = c == k
-names k (Releases c n) = c == k
-names k (Watches w) = w.client == k
-names k (Unwatches w) = w.client == k
-names k (Delivers c x) = c == k
-names k (Takes c) = c == k
-names k _ = false
-
-abbrev pub IsFresh : Effects → Type 0
-IsFresh d = (k : ℕ) → next_client d ≤ k → list_any (names k) d ≡ false
-
-or_false : (a b : Bool) → a ≡ false → b ≡ false → (a || b) ≡ false
-or_false a b p q = ap (λ v. v || b) p ∙ q
-
-below : (c n k : ℕ) → c < n → n ≤ k → (c == k) ≡ false
+pub below : (c n k : ℕ) → c < n → n ≤ k → (c == k) ≡ false
 below c n k lt le = grind (arith, nat_tests)
 
 -- One more effect, of a client that has connected.
-fresh_more : (x : Effect) (d : Effects) → IsFresh d → next_client (x ∷ d) ≡ next_client d → ((k : ℕ) → next_client d ≤ k → names k x ≡ false) → IsFresh (x ∷ d)
-fresh_more x d fresh same new k le = let le' : next_client d ≤ k = subst (λ (n : ℕ). n ≤ k) same le in or_false (names k x) (list_any (names k) d) (new k le') (fresh k le')
+pub fresh_more : (x : Effect) (d : Effects) → IsFresh d → next_client (x ∷ d) ≡ next_client d → ((k : ℕ) → next_client d ≤ k → names k x ≡ false) → IsFresh (x ∷ d)
+fresh_more x d fresh same new k le = let le' : next_client d ≤ k = subst (λ (n : ℕ). n ≤ k) same le in or_from (names k x) (list_any (names k) d) (new k le') (fresh k le')
 
 pub fresh_handed : (d : Effects) (c : ℕ) (n : Node) → IsFresh d → c < next_client d → IsFresh (handed d c n)
 fresh_handed d c n fresh lt =
@@ -51,22 +34,14 @@ fresh_handed d c n fresh lt =
       | false ↦ fresh_more (Gives c n (number_for d c n)) d fresh refl (λ k le. below c (next_client d) k lt le)
     ]
 
-fresh_connect : (d : Effects) (who : _) → IsFresh d → IsFresh (Connects (next_client d) who ∷ d)
-fresh_connect d who fresh k le = or_false (next_client d == k) (list_any (names k) d) (grind (arith, nat_tests)) (fresh k (omega arith))
-
-or_left : (a b : Bool) → (a || b) ≡ false → a ≡ false
-or_left true b h = h
-or_left false b h = refl
-
-or_right : (a b : Bool) → (a || b) ≡ false → b ≡ false
-or_right true b h = absurd (true≢false h)
-or_right false b h = h
+pub fresh_connect : (d : Effects) (who : _) → IsFresh d → IsFresh (Connects (next_client d) who ∷ d)
+fresh_connect d who fresh k le = or_from (next_client d == k) (list_any (names k) d) (grind (arith, nat_tests)) (fresh k (omega arith))
 
 -- A client that no effect names has not connected.
 pub not_connected : (d : Effects) (k : ℕ) → list_any (names k) d ≡ false → list_any (is_connect_of k) d ≡ false
 not_connected [] k h = refl
-not_connected (Connects c who ∷ d) k h = or_false (c == k) (list_any (is_connect_of k) d) (or_left (c == k) (list_any (names k) d) h) (not_connected d k (or_right (c == k) (list_any (names k) d) h))
-not_connected (x ∷ d) k h = not_connected d k (or_right (names k x) (list_any (names k) d) h)
+not_connected (Connects c who ∷ d) k h = or_from (c == k) (list_any (is_connect_of k) d) (or_parts (c == k) (list_any (names k) d) h).0 (not_connected d k (or_parts (c == k) (list_any (names k) d) h).1)
+not_connected (x ∷ d) k h = not_connected d k (or_parts (names k x) (list_any (names k) d) h).1
 
 -- A live client's number was given out.
 pub live_below : (d : Effects) (c : ℕ) → IsFresh d → is_live d c ≡ true → c < next_client d
@@ -80,16 +55,8 @@ live_below d c fresh live =
 abbrev pub AllBelow : ℕ → List Watch → Type 0
 AllBelow n ws = list_all (λ w. nat_lt w.client n) ws ≡ true
 
-and_left : (a b : Bool) → (a && b) ≡ true → a ≡ true
-and_left true b h = refl
-and_left false b h = h
-
-and_right : (a b : Bool) → (a && b) ≡ true → b ≡ true
-and_right true b h = h
-and_right false b h = absurd (true≢false (sym h))
-
 -- What holds of each element that a filter keeps.
-all_filtered : {X : Type 0} → (p q : X → Bool) (xs : List X) → ((x : X) → p x ≡ true → q x ≡ true) → list_all q (filter p xs) ≡ true
+pub all_filtered : {X : Type 0} → (p q : X → Bool) (xs : List X) → ((x : X) → p x ≡ true → q x ≡ true) → list_all q (filter p xs) ≡ true
 all_filtered p q [] imp = refl
 all_filtered {X} p q (x ∷ xs) imp =
     elim (p x) as (λ b. p x ≡ b → list_all q (if b then x ∷ filter p xs else filter p xs) ≡ true) [
@@ -97,12 +64,12 @@ all_filtered {X} p q (x ∷ xs) imp =
       | false ↦ λ e. all_filtered p q xs imp
     ] refl
 
-all_filtered_again : {X : Type 0} → (p q : X → Bool) (xs : List X) → list_all q xs ≡ true → list_all q (filter p xs) ≡ true
+pub all_filtered_again : {X : Type 0} → (p q : X → Bool) (xs : List X) → list_all q xs ≡ true → list_all q (filter p xs) ≡ true
 all_filtered_again p q [] h = refl
 all_filtered_again p q (x ∷ xs) h =
     elim (p x) as (λ b. list_all q (if b then x ∷ filter p xs else filter p xs) ≡ true) [
-      | true ↦ rw (and_left (q x) (list_all q xs) h) (all_filtered_again p q xs (and_right (q x) (list_all q xs) h))
-      | false ↦ all_filtered_again p q xs (and_right (q x) (list_all q xs) h)
+      | true ↦ rw (and_parts (q x) (list_all q xs) h).0 (all_filtered_again p q xs (and_parts (q x) (list_all q xs) h).1)
+      | false ↦ all_filtered_again p q xs (and_parts (q x) (list_all q xs) h).1
     ]
 
 pub watchers_below : (d : Effects) (name : List ℕ) → IsFresh d → AllBelow (next_client d) (watchers_at d name)
@@ -114,11 +81,11 @@ watchers_below d name fresh =
 next-handed : (d : Effects) (c : ℕ) (n : Node) → next_client (handed d c n) ≡ next_client d
 next-handed d c n = elim (n.owner.0 == c) as (λ b. next_client (if b then d else Gives c n (number_for d c n) ∷ d) ≡ next_client d) [ true ↦ refl | false ↦ refl ]
 
-next-told : (d : Effects) (n : Node) (w : Watch) (o : Option Check) → next_client (after_told d n w o) ≡ next_client d
+next-told : (d : Effects) (n : Node) (w : Watch) (o : Option Stop) → next_client (after_told d n w o) ≡ next_client d
 next-told d n w None = next-handed d w.client n
 next-told d n w (Some failing) = refl
 
-fresh_told : (d : Effects) (n : Node) (w : Watch) (o : Option Check) → IsFresh d → w.client < next_client d → IsFresh (after_told d n w o)
+fresh_told : (d : Effects) (n : Node) (w : Watch) (o : Option Stop) → IsFresh d → w.client < next_client d → IsFresh (after_told d n w o)
 fresh_told d n w None fresh lt =
     fresh_more (Delivers w.client (registration d n w)) (handed d w.client n) (fresh_handed d w.client n fresh lt) refl
     (λ k le. below w.client (next_client d) k lt (subst (λ (m : ℕ). m ≤ k) (next-handed d w.client n) le))
@@ -127,10 +94,10 @@ fresh_told d n w (Some failing) fresh lt = fresh
 pub fresh_notices : (d : Effects) (n : Node) (ws : List Watch) → IsFresh d → AllBelow (next_client d) ws → IsFresh (after_notices d n ws)
 fresh_notices d n [] fresh below = fresh
 fresh_notices d n (w ∷ ws) fresh below =
-    let here : w.client < next_client d = let e = and_left (nat_lt w.client (next_client d)) (list_all (λ (v : Watch). nat_lt v.client (next_client d)) ws) below in grind (arith, nat_tests) in
+    let here : w.client < next_client d = let e = (and_parts (nat_lt w.client (next_client d)) (list_all (λ (v : Watch). nat_lt v.client (next_client d)) ws) below).0 in grind (arith, nat_tests) in
     let same : next_client d ≡ next_client (after_notice d n w) = sym (next-told d n w (first_missing d n w)) in
     fresh_notices (after_notice d n w) n ws (fresh_told d n w (first_missing d n w) fresh here)
-    (subst (λ (m : ℕ). AllBelow m ws) same (and_right (nat_lt w.client (next_client d)) (list_all (λ (v : Watch). nat_lt v.client (next_client d)) ws) below))
+    (subst (λ (m : ℕ). AllBelow m ws) same (and_parts (nat_lt w.client (next_client d)) (list_all (λ (v : Watch). nat_lt v.client (next_client d)) ws) below).1)
 
 fresh_ref : (d : Effects) (to : ℕ) (o : Option Node) → IsFresh d → to < next_client d → IsFresh (handed_ref d to o)
 fresh_ref d to None fresh lt = fresh

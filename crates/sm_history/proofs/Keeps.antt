@@ -2,13 +2,13 @@
 use Rattle.std.proofs.Common.{◌≡◌, ℕ, Bool, true, false, ◌==◌, List, [], ◌∷◌, refl, Option, Some, None, if◌then◌else◌}
 use Rattle.sm_kinds.specs.declared.number.Node.{Node}
 use Rattle.sm_kinds.specs.declared.number.ObjRef.{ObjRef}
+use Rattle.sm_history.specs.declared.stop.Stop.{Stop}
 use Rattle.sm_history.specs.declared.event.Event.{Event}
 use Rattle.sm_history.specs.declared.event.Event.TheVariants.{Open, Connect, Add, Get, Watch as WatchName, Unwatch, Unregister, Call, Release, Take, Die, Reload}
-use Rattle.sm_history.specs.Effects.{Effect, Effects, Service, Watch, Opens, Sets, Connects, Dies, Adds, Removes, Gives, Releases, Watches, Unwatches, Delivers, Takes}
+use Rattle.sm_history.specs.Effects.{Effect, Effects, Service, Watch, Opens, Sets, Connects, Dies, Adds, Removes, Gives, Releases, Watches, Unwatches, Delivers, Takes, Resumes}
 use Rattle.sm_history.specs.Clients.{next_client}
 use Rattle.sm_history.specs.Holdings.{handed, number_for, resolve_at, node_at}
 use Rattle.sm_history.specs.Services.{service_at, watchers_at}
-use Rattle.sm_history.specs.Checks.{Check}
 use Rattle.sm_history.specs.Notices.{after_told, after_notice, after_notices, first_missing, registration}
 use Rattle.sm_history.specs.Histories.{found, handed_ref, handed_refs, after_event, after_watch, after_get, call_delivery, watch, service}
 
@@ -17,6 +17,7 @@ is_plain (Connects c who) = false
 is_plain (Dies c) = false
 is_plain (Releases c n) = false
 is_plain (Adds name s) = false
+is_plain (Resumes version clients) = false
 is_plain _ = true
 
 -- No plain effect breaks it.
@@ -26,7 +27,7 @@ Lasts P = (x : Effect) (d : Effects) → is_plain x ≡ true → P d → P (x �
 pub handed_keeps : (P : Effects → Type 0) → Lasts P → (d : Effects) (c : ℕ) (n : Node) → P d → P (handed d c n)
 handed_keeps P lasts d c n h = elim (n.owner.0 == c) as (λ b. P (if b then d else Gives c n (number_for d c n) ∷ d)) [ true ↦ h | false ↦ lasts (Gives c n (number_for d c n)) d refl h ]
 
-told_keeps : (P : Effects → Type 0) → Lasts P → (d : Effects) (n : Node) (w : Watch) (o : Option Check) → P d → P (after_told d n w o)
+told_keeps : (P : Effects → Type 0) → Lasts P → (d : Effects) (n : Node) (w : Watch) (o : Option Stop) → P d → P (after_told d n w o)
 told_keeps P lasts d n w None h = lasts (Delivers w.client (registration d n w)) (handed d w.client n) refl (handed_keeps P lasts d w.client n h)
 told_keeps P lasts d n w (Some failing) h = h
 

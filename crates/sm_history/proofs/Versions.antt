@@ -1,27 +1,26 @@
 -- No more policies came into force than changes were made.
-use Rattle.std.proofs.Common.{◌≡◌, ℕ, ◌+◌, ◌≤◌, true, false, ◌==◌, List, [], ◌∷◌, refl, sym, ◌∙◌, subst, Option, Some, None, if◌then◌else◌, length, arith}
-use Rattle.std.specs.Prelude.{is_some, cond}
-use Rattle.std.proofs.lemmas.List.Sums.{sum_by-cons}
+use Rattle.std.proofs.Common.{◌≡◌, ℕ, ◌+◌, ◌≤◌, true, false, ◌==◌, List, [], ◌∷◌, refl, sym, ◌∙◌, subst, Option, Some, None, if◌then◌else◌, arith}
 use Rattle.sm_kinds.specs.declared.number.Node.{Node}
 use Rattle.sm_kinds.specs.declared.number.ObjRef.{ObjRef}
 use Rattle.sm_policy.specs.Policy.{Policy}
+use Rattle.sm_history.specs.declared.stop.Stop.{Stop}
 use Rattle.sm_history.specs.declared.event.Event.{Event}
 use Rattle.sm_history.specs.declared.event.Event.TheVariants.{Open, Connect, Add, Get, Watch as WatchName, Unwatch, Unregister, Call, Release, Take, Die, Reload}
 use Rattle.sm_history.specs.declared.entry.Entry.{Entry}
 use Rattle.sm_history.specs.declared.service.Service.{Service}
-use Rattle.sm_history.specs.Effects.{Effect, Effects, Watch, Sets, Opens, Adds, Gives, Watches}
-use Rattle.sm_history.specs.Clients.{version_at, policy_set}
+use Rattle.sm_history.specs.Effects.{Effects, Watch, Sets, Opens, Adds, Gives, Watches}
+use Rattle.sm_history.specs.Clients.{version_at}
 use Rattle.sm_history.specs.Holdings.{handed, number_for, resolve_at, node_at}
 use Rattle.sm_history.specs.Services.{service_at, watchers_at}
-use Rattle.sm_history.specs.Checks.{Check}
 use Rattle.sm_history.specs.Notices.{after_told, after_notice, after_notices, first_missing}
-use Rattle.sm_history.specs.Histories.{History, effects_of, client_of, found, handed_ref, handed_refs, after_event, after_watch, after_get, watch, service}
+use Rattle.sm_history.specs.Histories.{History, whole, length_of, effects_of, client_of, found, handed_ref, handed_refs, after_event, after_watch, after_get, watch, service}
 use Rattle.sm_history.specs.Lawful.{IsLawful, IsOpening}
+use Rattle.sm_history.proofs.Induction.{holds_lawful}
 
 handed-same : (d : Effects) (c : ℕ) (n : Node) → version_at (handed d c n) ≡ version_at d
 handed-same d c n = elim (n.owner.0 == c) as (λ b. version_at (if b then d else Gives c n (number_for d c n) ∷ d) ≡ version_at d) [ true ↦ refl | false ↦ refl ]
 
-told-same : (d : Effects) (n : Node) (w : Watch) (o : Option Check) → version_at (after_told d n w o) ≡ version_at d
+told-same : (d : Effects) (n : Node) (w : Watch) (o : Option Stop) → version_at (after_told d n w o) ≡ version_at d
 told-same d n w None = handed-same d w.client n
 told-same d n w (Some failing) = refl
 
@@ -47,7 +46,7 @@ watch-same d w (Some s) = told-same d s.node w (first_missing d s.node w)
 
 -- A policy that comes into force is the next one.
 pub version_set : (p : Policy) (d : Effects) → version_at (Sets p ∷ d) ≡ version_at d + 1
-version_set p d = let cons = sum_by-cons (λ (x : Effect). cond (is_some (policy_set x)) 1 0) (Sets p) d in omega (arith, cons)
+version_set p d = refl
 
 -- An event brings one policy into force at most.
 version_after : (d : Effects) (c : ℕ) (event : Event) → version_at (after_event d c event) ≤ version_at d + 1
@@ -67,13 +66,16 @@ version_after d c Take = omega arith
 version_after d c Die = omega arith
 version_after d c (Reload expected policy) = let one = version_set policy d in omega (arith, one)
 
-version_opening : (e : Entry) → IsOpening e → version_at (effects_of (e ∷ [])) ≤ 1
-version_opening e (who, policy, is, may, ok) = subst (λ (x : Entry). version_at (effects_of (x ∷ [])) ≤ 1) (sym is) (omega arith)
+abbrev IsSmall : History → Type 0
+IsSmall h = version_at (effects_of h) ≤ length_of h
 
-pub version_small : (places : ℕ) (h : History) → IsLawful places h → version_at (effects_of h) ≤ length h
-version_small places [] l = absurd l
-version_small places (e ∷ []) l = let one = version_opening e l in omega (arith, one)
-version_small places (e ∷ f ∷ h) (before, done, sound) =
-    let i = version_small places (f ∷ h) before in
-    let n = version_after (effects_of (f ∷ h)) (client_of e.by) e.event in
-    omega (arith, i, n)
+small_opening : (e : Entry) → IsOpening e → IsSmall (whole (e ∷ []))
+small_opening e (who, policy, is, may, ok) = subst (λ (x : Entry). IsSmall (whole (x ∷ []))) (sym is) (omega arith)
+
+pub version_small : (places : ℕ) (h : History) → IsLawful places h → version_at (effects_of h) ≤ length_of h
+version_small places h l =
+    holds_lawful IsSmall (record {
+      opens = small_opening;
+      goes_on = λ e g m i. let n = version_after (effects_of g) (client_of e.by) e.event in omega (arith, i, n);
+      resumes = λ a la i. omega (arith, i);
+    }) places h l

@@ -12,5 +12,14 @@ pub mod Histories
 pub mod Verdict
 pub mod Queries
 pub mod Lawful
+pub mod Agreeing
+pub mod Rows
+pub mod Openings
+pub mod Following
+pub mod Sound
+pub mod Beginning
+pub mod Segments
+pub mod SegmentLaw
+pub mod LawStatements
 pub mod WorkedRuns
 pub mod Records

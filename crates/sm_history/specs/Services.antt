@@ -1,11 +1,12 @@
 -- Names and watches.
-use Rattle.std.specs.Prelude.{ℕ, Bool, false, ◌&&◌, ◌||◌, not, ◌==◌, nat_lt, List, [], ◌∷◌, ◌++◌, Option, Some, None, bytes_eq, if◌then◌else◌, filter, is_some, length}
+use Rattle.std.specs.Prelude.{ℕ, Bool, ◌&&◌, ◌||◌, not, ◌==◌, nat_lt, List, [], ◌∷◌, ◌++◌, Option, Some, None, bytes_eq, if◌then◌else◌, filter, is_some, length}
 use Rattle.std.specs.Ordering.{nat_cmp}
 use Rattle.std.specs.Cmp.Lexicographic.{slice_cmp}
 use Rattle.std.specs.declared.cmp.Ordering.{Ordering}
 use Rattle.std.specs.declared.cmp.Ordering.TheVariants.{Less, Equal, Greater}
 use Rattle.sm_history.specs.Effects.{Effect, Effects, Service, Watch, Adds, Removes, Watches, Unwatches}
 use Rattle.sm_history.specs.Clients.{is_live}
+use Rattle.sm_history.specs.declared.limits.TheConstants.{MOST_NAMES}
 
 -- What an effect says of a name: a service, or that there is none.
 pub data Said : Type 0 where
@@ -64,25 +65,22 @@ names_added (x ∷ d) = with_name (name_added x) (names_added d)
 abbrev pub current_names : Effects → List (List ℕ)
 current_names d = filter (λ name. is_some (service_at d name)) (names_added d)
 
--- There are at most 4,096 names.
+-- A name has a service, or there is place for one more.
 abbrev pub has_name_room : Effects → List ℕ → Bool
-has_name_room d name = is_some (service_at d name) || nat_lt (length (current_names d)) 4096
+has_name_room d name = is_some (service_at d name) || nat_lt (length (current_names d)) MOST_NAMES
 
 abbrev pub same_watch : Watch → Watch → Bool
 same_watch a b = (a.client == b.client) && bytes_eq a.name b.name && (a.object == b.object)
 
-abbrev pub is_unwatch_of : Watch → Effect → Bool
-is_unwatch_of w (Unwatches v) = same_watch v w
-is_unwatch_of w _ = false
-
-abbrev pub watch_made : Effect → List Watch
-watch_made (Watches w) = w ∷ []
-watch_made _ = []
+abbrev pub watched_by : Effect → List Watch → List Watch
+watched_by (Watches w) ws = ws ++ w ∷ []
+watched_by (Unwatches v) ws = filter (λ w. not (same_watch v w)) ws
+watched_by _ ws = ws
 
 -- The watches that were made and not taken back later, the oldest first.
 abbrev pub watches_made : Effects → List Watch
 watches_made [] = []
-watches_made (x ∷ d) = filter (λ w. not (is_unwatch_of w x)) (watches_made d) ++ watch_made x
+watches_made (x ∷ d) = watched_by x (watches_made d)
 
 -- The watches of live clients.
 abbrev pub watches_at : Effects → List Watch

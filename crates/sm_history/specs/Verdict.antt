@@ -6,6 +6,7 @@ use Rattle.sm_kinds.specs.declared.number.ObjRef.{ObjRef}
 use Rattle.sm_kinds.specs.declared.number.ObjRef.TheVariants.{Null as NullRef}
 use Rattle.sm_kinds.specs.Names.{is_valid_name}
 use Rattle.sm_kinds.specs.Users.{is_barred, is_isolated_user}
+use Rattle.sm_history.specs.declared.stop.Stop.{Stop}
 use Rattle.sm_history.specs.declared.by.By.{By}
 use Rattle.sm_history.specs.declared.by.By.TheVariants.{Manager, Client, Admin}
 use Rattle.sm_history.specs.declared.event.Event.{Event}
@@ -17,7 +18,8 @@ use Rattle.sm_history.specs.declared.refusal.Refusal.TheVariants.{Exception, Fai
 use Rattle.sm_history.specs.declared.refusal.Failure.TheVariants.{NotYours, NotConnected, OutOfTurn, BadHandle, TargetFull}
 use Rattle.sm_history.specs.declared.refusal.Exception.TheVariants.{NotAdder, InvalidName, NullService, NullBinder, DeadOwner, TableFull, NothingToUnregister, NotRegistered, OtherObject, InUse}
 use Rattle.sm_history.specs.declared.reply.Reply.{Reply}
-use Rattle.sm_history.specs.declared.reply.Reply.TheVariants.{Done, GotNull, GotOwn, Refused}
+use Rattle.sm_history.specs.declared.reply.Reply.TheVariants.{Done}
+use Rattle.sm_history.specs.declared.stop.Instead.TheVariants.{GotNull, GotOwn, Refused}
 use Rattle.sm_history.specs.declared.delivery.Delivery.{Delivery}
 use Rattle.sm_history.specs.declared.notice.Notice.{Notice}
 use Rattle.sm_history.specs.Effects.{Effects, Service, Watch, Adds, Watches, same_node}
@@ -28,6 +30,7 @@ use Rattle.sm_history.specs.Inboxes.{inbox_at, has_inbox_room}
 use Rattle.sm_history.specs.Checks.{Check, Spares, Wants, answer_of, first_failing, to_manager, from_manager, to_client, to_label, adding, finding, calling, transferring}
 use Rattle.sm_history.specs.Notices.{notice_at, notices_at}
 use Rattle.sm_history.specs.Histories.{History, turn_of, client_of, found, handed_refs, call_delivery, service, watch, effects_of}
+use Rattle.sm_history.specs.declared.limits.TheConstants.{MOST_WATCHES, MOST_CLIENTS, LAST_CLIENT}
 
 -- Clauses on the user number.
 abbrev pub not_barred : Effects → ℕ → List ℕ → Check
@@ -100,7 +103,7 @@ watch_checks d c name =
     ∷ to_label d c name finding
     ∷ not_isolated d c name true
     ∷ Wants (is_valid_name name) (Refused (Exception InvalidName))
-    ∷ Wants (nat_lt (length (watches_at d)) 4096) (Refused (Exception TableFull))
+    ∷ Wants (nat_lt (length (watches_at d)) MOST_WATCHES) (Refused (Exception TableFull))
     ∷ []
 
 abbrev pub unwatch_checks : Effects → ℕ → List ℕ → ℕ → List Check
@@ -139,7 +142,7 @@ call_checks d c handle refs =
 -- The checks of each event of client c, in order.
 abbrev pub event_checks : Effects → ℕ → Event → List Check
 event_checks d c (Open who policy) = []
-event_checks d c (Connect who) = Wants (nat_lt (length (live_clients d)) 64 && nat_le (next_client d) 4294967295) (Refused TooManyClients) ∷ []
+event_checks d c (Connect who) = Wants (nat_lt (length (live_clients d)) MOST_CLIENTS && nat_le (next_client d) LAST_CLIENT) (Refused TooManyClients) ∷ []
 event_checks d c (Add name obj allow dump) = add_checks d c name obj
 event_checks d c (Get name) = get_checks d c name
 event_checks d c (WatchName name object) = watch_checks d c name
@@ -183,7 +186,7 @@ is_die Die = true
 is_die _ = false
 
 abbrev pub has_place : ℕ → History → Event → Bool
-has_place places h event = is_die event || nat_le (length h + length (live_clients (effects_of h)) + places_needed event) places
+has_place places h event = is_die event || nat_le (length h.entries + length (live_clients (effects_of h)) + places_needed event) places
 
 -- All that an event must meet.
 abbrev pub checks : ℕ → History → By → ℕ → Event → List Check
@@ -218,7 +221,7 @@ outcome_of d c Take = Taken (taken (inbox_at d c) (call_delivery [] 0 (found Non
 outcome_of d c Die = Died
 outcome_of d c (Reload expected policy) = Reloaded (version_at d + 1)
 
-abbrev pub answered : Option Check → Outcome → Reply
+abbrev pub answered : Option Stop → Outcome → Reply
 answered None outcome = Done outcome
 answered (Some failing) outcome = answer_of failing
 

@@ -8,23 +8,34 @@
 mod by;
 mod delivery;
 mod denial;
+mod effect;
 mod entry;
 mod event;
+pub mod laws;
+mod limits;
 mod notice;
 mod outcome;
 mod query;
 mod refusal;
 mod reply;
 mod service;
+mod stop;
+mod turn;
 
 pub use by::By;
 pub use delivery::{Delivery, Given, GivenRefs, Message};
 pub use denial::Denial;
+pub use effect::{Effect, Watch};
 pub use entry::Entry;
 pub use event::Event;
+pub use limits::{
+    LAST_CLIENT, MOST_CLIENTS, MOST_DELIVERIES, MOST_HANDLES, MOST_NAMES, MOST_WATCHES,
+};
 pub use notice::{Notice, Notices, Reason, Told};
 pub use outcome::Outcome;
 pub use query::Query;
 pub use refusal::{Exception, Failure, Refusal};
 pub use reply::{Answer, NameList, Reply};
 pub use service::Service;
+pub use stop::{Instead, Stop};
+pub use turn::TurnRow;

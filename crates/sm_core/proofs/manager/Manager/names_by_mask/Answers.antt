@@ -1,9 +1,0 @@
-use Rattle.std.proofs.Common.{reverse}
-use Rattle.sm_history.specs.Histories.{effects_of}
-use Rattle.sm_core.proofs.NameRows.{names_matching}
-use Rattle.sm_core.proofs.manager.Manager.names_by_mask.Goals as goal
-
-pub returns : goal.returns
-returns c =
-    rw (← c.self.view_is)
-    (rw (c.deref.ensures.value, c.self.invariant.names_are, names_matching c.args.mask (effects_of (reverse c.self.inside.journal.items))) at c.matching.ensures)

@@ -1,0 +1,50 @@
+-- What holds of every lawful history and of histories that begin with others: each the contract of a function of `laws.rt`.
+use Rattle.std.specs.Prelude.{ℕ, ◌≡◌, ◌≤◌, true, is_none}
+use Rattle.sm_history.specs.declared.by.By.{By}
+use Rattle.sm_history.specs.declared.entry.Entry.{Entry}
+use Rattle.sm_history.specs.declared.reply.Reply.TheVariants.{Done}
+use Rattle.sm_history.specs.Effects.{Effects}
+use Rattle.sm_history.specs.Clients.{next_client, version_at}
+use Rattle.sm_history.specs.Holdings.{node_at, free_number}
+use Rattle.sm_history.specs.Histories.{History, entered, effects_of, length_of, turn_of}
+use Rattle.sm_history.specs.Verdict.{verdict}
+use Rattle.sm_history.specs.Segments.{client}
+use Rattle.sm_history.specs.Lawful.{IsLawful, FitsPlaces, HasSoundPolicy}
+use Rattle.sm_history.specs.Sound.{Sound}
+use Rattle.sm_history.specs.Beginning.{BeginsWith}
+
+abbrev pub LawfulAreSound : Type 0
+LawfulAreSound = (places : ℕ) (h : History) → IsLawful places h → Sound (effects_of h)
+
+-- No more clients connected, no more policies were set and no actor made more changes than there are changes.
+abbrev pub NumbersAreSmall : Type 0
+NumbersAreSmall = (places : ℕ) (h : History) → IsLawful places h →
+    (next_client (effects_of h) ≤ length_of h) × (version_at (effects_of h) ≤ length_of h) × ((by : By) → turn_of h by ≤ length_of h)
+
+-- A client that is still to connect has made no change.
+abbrev pub UnconnectedHaveNoTurns : Type 0
+UnconnectedHaveNoTurns =
+    (places : ℕ) (h : History) → IsLawful places h → (c : ℕ) → next_client (effects_of h) ≤ c → turn_of h (client c) ≡ 0
+
+-- Under the number of a new handle the client holds nothing.
+abbrev pub FreeNumbersAreFree : Type 0
+FreeNumbersAreFree = (d : Effects) (c : ℕ) → is_none (node_at d c (free_number d c)) ≡ true
+
+-- A history goes on lawfully by a change that is done.
+abbrev pub DoneIsLawful : Type 0
+DoneIsLawful = (places : ℕ) (h : History) (e : Entry) → IsLawful places h
+    → verdict places h e.by e.turn e.event ≡ Done e.outcome → HasSoundPolicy e.event → IsLawful places (entered e h)
+
+-- Such a change leaves the places for the deaths to come.
+abbrev pub DoneFits : Type 0
+DoneFits = (places : ℕ) (h : History) (e : Entry) → IsLawful places h → FitsPlaces places h
+    → verdict places h e.by e.turn e.event ≡ Done e.outcome → FitsPlaces places (entered e h)
+
+abbrev pub BeginsWithItself : Type 0
+BeginsWithItself = (h : History) → BeginsWith h h
+
+abbrev pub BeginsWithTheOneBefore : Type 0
+BeginsWithTheOneBefore = (e : Entry) (h : History) → BeginsWith (entered e h) h
+
+abbrev pub BeginsWithItsBeginnings : Type 0
+BeginsWithItsBeginnings = (g h k : History) → BeginsWith g h → BeginsWith h k → BeginsWith g k

@@ -1,0 +1,44 @@
+//! Laws of the definitions, each the contract of a function that does nothing.
+
+ghost use Rattle.sm_history.specs.SegmentLaw.{SegmentsRead};
+ghost use Rattle.sm_history.specs.LawStatements.{LawfulAreSound, NumbersAreSmall, UnconnectedHaveNoTurns, FreeNumbersAreFree, DoneIsLawful, DoneFits, BeginsWithItself, BeginsWithTheOneBefore, BeginsWithItsBeginnings};
+
+/// A lawful history is answered as the segment of its older part's rows and its newer part is, but for a full journal.
+pub fn segments()
+    ensures { SegmentsRead }
+{}
+
+/// In every lawful history nothing is said of a client that hasn't connected, the owner of each added object has
+/// connected, no more is released than was granted, no client holds two objects under one number, and no more is
+/// taken than was delivered.
+pub fn soundness()
+    ensures { LawfulAreSound }
+{}
+
+/// Clients, versions and turns of a lawful history are no more than its changes.
+pub fn small_numbers()
+    ensures { NumbersAreSmall }
+{}
+
+/// A client that is still to connect has made no change.
+pub fn unconnected_turns()
+    ensures { UnconnectedHaveNoTurns }
+{}
+
+/// Under the number of a new handle the client holds nothing.
+pub fn free_numbers()
+    ensures { FreeNumbersAreFree }
+{}
+
+/// A lawful history goes on lawfully by a change that is done, and keeps the places for the deaths to come.
+pub fn going_on()
+    ensures lawful { DoneIsLawful }
+    ensures fits { DoneFits }
+{}
+
+/// "Begins with" is an order, in which a history stands behind the one before its last change.
+pub fn beginnings()
+    ensures itself { BeginsWithItself }
+    ensures before { BeginsWithTheOneBefore }
+    ensures through { BeginsWithItsBeginnings }
+{}
