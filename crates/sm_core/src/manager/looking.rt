@@ -1,0 +1,103 @@
+//! Queries, which change nothing.
+
+ghost use Rattle.std.specs.Prelude.{◌≡◌, true, length, IfOk, MatchResult};
+ghost use Rattle.sm_history.specs.declared.query.Query.TheVariants.{List as ListNames};
+ghost use Rattle.sm_history.specs.declared.reply.Reply.TheVariants.{Looked};
+ghost use Rattle.sm_history.specs.Clients.{is_live, policy_at, version_at};
+ghost use Rattle.sm_history.specs.Histories.{effects_of, length_of, client_of};
+ghost use Rattle.sm_history.specs.Queries.{names_by_mask, is_their_query, query_checks, checks_of_query, found_out};
+ghost use Rattle.sm_history.specs.Verdict.{is_there};
+ghost use Rattle.sm_core.specs.Managed.{LooksAs};
+ghost use Rattle.sm_core.specs.Judging.{AllPass, Halts};
+
+use crate::manager::replying::answer;
+use crate::manager::{Manager, wanted};
+use crate::named::matching;
+use sm_history::{Answer, By, Failure, Instead, NameList, Query, Refusal, Reply, Stop};
+use sm_kinds::Name;
+use std::alloc::AllocError;
+
+/// Who may ask which query.
+fn may_ask(by: By, query: &Query) -> bool
+    ensures { result ≡ is_their_query by query.now }
+{
+    match by {
+        By::Manager => false,
+        By::Client(_) => !matches!(query, Query::Explain { .. }),
+        By::Admin(_) => !matches!(query, Query::List(_)),
+    }
+}
+
+impl Manager {
+    /// The answer to a query, on the history as it stands.
+    pub fn look(&self, by: By, query: Query) -> Reply
+        ensures { LooksAs self.now by query result }
+    {
+        match self.judge_query(by, &query) {
+            Ok(found) => Reply::Looked {
+                version: self.state.version,
+                length: self.journal.len() as u64,
+                answer: found,
+            },
+            Err(stop) => answer(self.alloc, stop),
+        }
+    }
+
+    /// What stops a query, or what it finds out.
+    fn judge_query(&self, by: By, query: &Query) -> Result<Answer, Stop>
+        ensures { MatchResult result
+            (λ found. AllPass (policy_at (effects_of self.now.history)) (checks_of_query self.now.history by query.now)
+            × (found ≡ found_out (effects_of self.now.history) query.now))
+            (Halts (policy_at (effects_of self.now.history)) (checks_of_query self.now.history by query.now)) }
+    {
+        if !may_ask(by, query) {
+            return Err(Stop::Unmet(Instead::Refused(Refusal::Failed(Failure::NotYours))));
+        }
+        if !self.is_there(by) {
+            return Err(Stop::Unmet(Instead::Refused(Refusal::Failed(Failure::NotConnected))));
+        }
+        match query {
+            Query::List(mask) => match by {
+                By::Client(client) => self.list(client.0, *mask),
+                By::Manager => unreachable!(),
+                By::Admin(_) => unreachable!(),
+            },
+            Query::Version => Ok(Answer::Version),
+            Query::Explain {
+                source,
+                target,
+                class,
+                perm,
+            } => {
+                let policy = &self.state.policy;
+                Ok(Answer::Why(policy.why(source.bytes(), target.bytes(), *class, *perm)))
+            }
+        }
+    }
+
+    /// `listServices`: `list` is checked against the manager's own context.
+    fn list(&self, client: u32, mask: u32) -> Result<Answer, Stop>
+        requires { is_live (effects_of self.now.history) client ≡ true }
+        ensures { MatchResult result
+            (λ found. AllPass (policy_at (effects_of self.now.history)) (query_checks (effects_of self.now.history) client (ListNames mask))
+            × (found ≡ found_out (effects_of self.now.history) (ListNames mask)))
+            (Halts (policy_at (effects_of self.now.history)) (query_checks (effects_of self.now.history) client (ListNames mask))) }
+    {
+        let Some(row) = self.caller(client) else {
+            unreachable!();
+        };
+        self.can_call_manager(&row.who)?;
+        self.can_list(&row.who)?;
+        match self.names_by_mask(mask) {
+            Ok(names) => Ok(Answer::Names(NameList::new(names))),
+            Err(_) => Err(wanted()),
+        }
+    }
+
+    /// The names whose dump flags share a bit with the mask, in rising byte order.
+    fn names_by_mask(&self, mask: u32) -> Result<Vec<Name>, AllocError>
+        ensures { IfOk result (λ v. v.items ≡ names_by_mask (effects_of self.now.history) mask) }
+    {
+        matching(self.alloc, &self.state.names, mask)
+    }
+}
