@@ -9,6 +9,7 @@ ghost use Rattle.sm_neverallow.specs.Uniting.{FitsBatch, in_batch};
 use crate::unions::Unions;
 use sm_bits::BitRow;
 use sm_rules::Kept;
+use sm_types::TypeCount;
 use std::alloc::{AllocError, Global};
 
 /// How many rules a batch may have.
@@ -61,14 +62,13 @@ impl Drop for Batch {
 
 impl Batch {
     /// The batch of no rule.
-    pub fn empty(alloc: Global, count: usize) -> Result<Batch, AllocError>
-        requires { count ≤ 4096 }
+    pub fn empty(alloc: Global, count: TypeCount) -> Result<Batch, AllocError>
         ensures fits { IfOk result (λ batch. FitsBatch count batch) }
         ensures room { IfOk result (λ batch. length batch.unions ≡ 1) }
         ensures none { IfOk result (λ batch. (s t : ℕ) → in_batch batch s t ≡ false) }
     {
-        let unions = Unions::none(alloc, count / 64 + 1)?;
-        let places = vec![in alloc; 0usize; count]?;
+        let unions = Unions::none(alloc, count.words())?;
+        let places = vec![in alloc; 0usize; count.get()]?;
         Ok(Batch { unions, places })
     }
 
@@ -80,8 +80,7 @@ impl Batch {
     }
 
     /// Adds the sources and targets of a rule, but for `self`.
-    pub fn add(&mut self, alloc: Global, rule: &Kept, count: usize) -> Result<(), AllocError>
-        requires few { count ≤ 4096 }
+    pub fn add(&mut self, alloc: Global, rule: &Kept, count: TypeCount) -> Result<(), AllocError>
         requires room { length self.old.unions ≤ 128 }
         requires fits { FitsBatch count self.old }
         requires rule { FitsRule count rule.now }
@@ -90,14 +89,13 @@ impl Batch {
             ≡ (in_batch self.old s t || (has rule.now.sources s && has rule.now.targets t))) }
     {
         let weight = self.unions.len();
-        self.unions.add(alloc, &rule.targets, count / 64 + 1)?;
+        self.unions.add(alloc, &rule.targets, count.words())?;
         move_places(&mut self.places, &rule.sources, weight);
         Ok(())
     }
 
     /// Adds to the row of a source what the batch has for it.
-    pub fn add_to_row(&self, row: &mut BitRow, count: usize, s: usize)
-        requires few { count ≤ 4096 }
+    pub fn add_to_row(&self, row: &mut BitRow, count: TypeCount, s: usize)
         requires fits { FitsBatch count self.now }
         requires source { s < count }
         requires row { length row.old ≡ count / 64 + 1 }
@@ -107,13 +105,12 @@ impl Batch {
         let place = self.places[s];
         // The first union is empty.
         if place != 0 {
-            self.unions.add_to(place, row, count / 64 + 1);
+            self.unions.add_to(place, row, count.words());
         }
     }
 
     /// Adds to the rows what the batch has.
-    pub fn add_to(&self, rows: &mut Vec<BitRow>, count: usize)
-        requires few { count ≤ 4096 }
+    pub fn add_to(&self, rows: &mut Vec<BitRow>, count: TypeCount)
         requires fits { FitsBatch count self.now }
         requires square { Square rows.old.items count }
         ensures square { Square rows.new.items count }

@@ -10,15 +10,15 @@ use crate::batch::{BATCH, Batch};
 use crate::perm_sets::perm_set;
 use sm_bits::{BitRow, empty_rows};
 use sm_rules::Kept;
+use sm_types::TypeCount;
 use std::alloc::{AllocError, Global};
 
 /// Rows without a target.
-pub fn no_pairs(alloc: Global, count: usize) -> Result<Vec<BitRow>, AllocError>
-    requires { count ≤ 4096 }
+pub fn no_pairs(alloc: Global, count: TypeCount) -> Result<Vec<BitRow>, AllocError>
     ensures square { IfOk result (λ m. Square m.items count) }
     ensures none { IfOk result (λ m. (s t : ℕ) → has (row m.items s) t ≡ false) }
 {
-    empty_rows(alloc, count, count / 64 + 1)
+    empty_rows(alloc, count.get(), count.words())
 }
 
 /// Adds the targets of a rule to the row of one source.
@@ -39,7 +39,7 @@ fn add_source(row: &mut BitRow, rule: &Kept, s: usize)
 }
 
 /// Adds the targets of a rule to the rows of all its sources.
-fn add_rule(rows: &mut Vec<BitRow>, rule: &Kept, count: usize)
+fn add_rule(rows: &mut Vec<BitRow>, rule: &Kept, count: TypeCount)
     requires square { Square rows.old.items count }
     requires fits { FitsRule count rule.now }
     ensures square { Square rows.new.items count }
@@ -65,7 +65,7 @@ fn add_own_source(row: &mut BitRow, own: &BitRow, s: usize)
 }
 
 /// Adds each of these sources to its own row.
-fn add_own(rows: &mut Vec<BitRow>, own: &BitRow, count: usize)
+fn add_own(rows: &mut Vec<BitRow>, own: &BitRow, count: TypeCount)
     requires square { Square rows.old.items count }
     requires own { length own.now ≡ count / 64 + 1 }
     ensures square { Square rows.new.items count }
@@ -103,20 +103,18 @@ pub struct Gathered {
 
 impl Gathered {
     /// The pairs of no rule.
-    pub fn empty(alloc: Global, count: usize) -> Result<Gathered, AllocError>
-        requires { count ≤ 4096 }
+    pub fn empty(alloc: Global, count: TypeCount) -> Result<Gathered, AllocError>
         ensures fits { IfOk result (λ gathered. FitsGathered count gathered) }
         ensures none { IfOk result (λ gathered. (s t : ℕ) → in_gathered gathered s t ≡ false) }
     {
         let rows = no_pairs(alloc, count)?;
-        let own = BitRow::empty(alloc, count / 64 + 1)?;
+        let own = BitRow::empty(alloc, count.words())?;
         let batch = Batch::empty(alloc, count)?;
         Ok(Gathered { rows, own, batch })
     }
 
     /// Makes room for one more rule in the batch.
-    fn make_room(&mut self, alloc: Global, count: usize) -> Result<(), AllocError>
-        requires few { count ≤ 4096 }
+    fn make_room(&mut self, alloc: Global, count: TypeCount) -> Result<(), AllocError>
         requires fits { FitsGathered count self.old }
         ensures fits { IfOk result (λ done. FitsGathered count self.new) }
         ensures room { IfOk result (λ done. length self.new.batch.unions ≤ 128) }
@@ -132,8 +130,12 @@ impl Gathered {
     }
 
     /// Adds what a rule joins to the batch, and to the sources with `self`.
-    fn add_to_batch(&mut self, alloc: Global, rule: &Kept, count: usize) -> Result<(), AllocError>
-        requires few { count ≤ 4096 }
+    fn add_to_batch(
+        &mut self,
+        alloc: Global,
+        rule: &Kept,
+        count: TypeCount,
+    ) -> Result<(), AllocError>
         requires fits { FitsGathered count self.old }
         requires rule { FitsRule count rule.now }
         ensures fits { IfOk result (λ done. FitsGathered count self.new) }
@@ -148,15 +150,15 @@ impl Gathered {
 
     /// Adds what a rule joins: with other rules, or by itself if it has so few sources that its
     /// part in the unions would cost more. The pairs are the same.
-    fn add(&mut self, alloc: Global, rule: &Kept, count: usize) -> Result<(), AllocError>
-        requires few { count ≤ 4096 }
+    fn add(&mut self, alloc: Global, rule: &Kept, count: TypeCount) -> Result<(), AllocError>
         requires fits { FitsGathered count self.old }
         requires rule { FitsRule count rule.now }
         ensures fits { IfOk result (λ done. FitsGathered count self.new) }
         ensures added { IfOk result (λ done. (s t : ℕ) → s < count
             → in_gathered self.new s t ≡ (in_gathered self.old s t || joins s t rule.now)) }
     {
-        if rule.sources.count() >= count / BATCH {
+        let many = count.get() / BATCH;
+        if rule.sources.count() >= many {
             return self.add_to_batch(alloc, rule, count);
         }
         add_rule(&mut self.rows, rule, count);
@@ -168,10 +170,9 @@ impl Gathered {
         &mut self,
         alloc: Global,
         rule: &Kept,
-        count: usize,
+        count: TypeCount,
         set: u8,
     ) -> Result<(), AllocError>
-        requires few { count ≤ 4096 }
         requires fits { FitsGathered count self.old }
         requires rule { FitsRule count rule.now }
         ensures fits { IfOk result (λ done. FitsGathered count self.new) }
@@ -185,8 +186,7 @@ impl Gathered {
     }
 
     /// The pairs as rows.
-    pub fn into_rows(self, count: usize) -> Vec<BitRow>
-        requires few { count ≤ 4096 }
+    pub fn into_rows(self, count: TypeCount) -> Vec<BitRow>
         requires fits { FitsGathered count self }
         ensures square { Square result.items count }
         ensures same { (s t : ℕ) → s < count → has (row result.items s) t ≡ in_gathered self s t }
@@ -206,10 +206,9 @@ impl Gathered {
 pub fn rows_of(
     alloc: Global,
     rules: &[Kept],
-    count: usize,
+    count: TypeCount,
     set: u8,
 ) -> Result<Vec<BitRow>, AllocError>
-    requires few { count ≤ 4096 }
     requires fits { All (FitsRule count) rules.now }
     ensures { IfOk result (λ m. Grouped rules.now count set m.items) }
 {

@@ -18,6 +18,7 @@ use crate::perm_sets::perm_set;
 use crate::unions::Unions;
 use sm_bits::{BitRow, with_bit};
 use sm_rules::Kept;
+use sm_types::TypeCount;
 use std::alloc::{AllocError, Global};
 
 /// How many rules with every source cost as much as the unions of all groups.
@@ -55,8 +56,7 @@ fn place_of(rule: &Kept, group: usize) -> u8
 }
 
 /// Whether a rule joins a source of the group to a target of its row.
-fn is_group_hit(unions: &Unions, rule: &Kept, count: usize, group: usize) -> bool
-    requires few { count ≤ 4096 }
+fn is_group_hit(unions: &Unions, rule: &Kept, count: TypeCount, group: usize) -> bool
     requires group { group < 8 * (count / 64 + 1) }
     requires number { length unions.now ≡ 256 }
     requires wide { AreWide (count / 64 + 1) unions.now }
@@ -65,9 +65,10 @@ fn is_group_hit(unions: &Unions, rule: &Kept, count: usize, group: usize) -> boo
     ensures none { result ≡ false → UnionMisses unions.now group rule.now }
     ensures some { IsTrue result → UnionHits unions.now group rule.now }
 {
+    let words = count.words();
     let place = place_of(rule, group);
     // The first union is empty.
-    place != 0 && unions.meets(place as usize, &rule.targets, count / 64 + 1)
+    place != 0 && unions.meets(place as usize, &rule.targets, words)
 }
 
 /// Whether a rule joins one of these sources to itself by `self`.
@@ -80,14 +81,14 @@ fn is_own_hit(own: &BitRow, rule: &Kept) -> bool
 }
 
 /// Whether a rule joins a source of one of the groups to a target of its row.
-fn is_hit(all: &[Unions], rule: &Kept, count: usize, first: usize) -> bool
-    requires few { count ≤ 4096 }
+fn is_hit(all: &[Unions], rule: &Kept, count: TypeCount, first: usize) -> bool
     requires groups { first + length all.now ≤ 8 * (count / 64 + 1) }
     requires ready { AreReady count all.now }
     requires rule { FitsRule count rule.now }
     ensures none { result ≡ false → AllMiss all.now first rule.now }
     ensures some { IsTrue result → SomeHit all.now first rule.now }
 {
+    prove!(first <= 8 * count.words());
     for j in 0..all.len() {
         if is_group_hit(&all[j], rule, count, first + j) {
             return true;
@@ -102,11 +103,10 @@ fn first_in_groups(
     all: &[Unions],
     rules: &[Kept],
     places: &[usize],
-    count: usize,
+    count: TypeCount,
     first: usize,
     end: usize,
 ) -> usize
-    requires few { count ≤ 4096 }
     requires groups { first + length all.now ≤ 8 * (count / 64 + 1) }
     requires ready { AreReady count all.now }
     requires fits { All (FitsRule count) rules.now }
@@ -127,16 +127,16 @@ fn first_in_groups(
 fn unions_of(
     alloc: Global,
     matrix: &Matrix,
-    count: usize,
+    count: TypeCount,
     first: usize,
 ) -> Result<Vec<Unions>, AllocError>
-    requires few { count ≤ 4096 }
     requires groups { first + 4 ≤ 8 * (count / 64 + 1) }
     requires square { Square matrix.now count }
     ensures number { IfOk result (λ all. length all.items ≡ 4) }
     ensures ready { IfOk result (λ all. AreReady count all.items) }
     ensures united { IfOk result (λ all. AllUnite matrix.now first all.items) }
 {
+    prove!(first <= 8 * count.words());
     let mut all = Vec::new(alloc);
     for j in 0..GROUPS {
         let unions = matrix.unions_of(alloc, count, first + j)?;
@@ -147,7 +147,7 @@ fn unions_of(
 
 /// The first of the places whose rule joins one of these sources to itself by `self`; their
 /// number, if there is none.
-fn first_own(own: &BitRow, rules: &[Kept], places: &[usize], count: usize) -> usize
+fn first_own(own: &BitRow, rules: &[Kept], places: &[usize], count: TypeCount) -> usize
     requires own { length own.now ≡ count / 64 + 1 }
     requires fits { All (FitsRule count) rules.now }
     requires places { ArePlaces rules.now places.now }
@@ -169,11 +169,10 @@ fn first_of_groups(
     matrix: &Matrix,
     rules: &[Kept],
     places: &[usize],
-    count: usize,
+    count: TypeCount,
     first: usize,
     end: usize,
 ) -> Result<usize, AllocError>
-    requires few { count ≤ 4096 }
     requires groups { first + 4 ≤ 8 * (count / 64 + 1) }
     requires square { Square matrix.now count }
     requires fits { All (FitsRule count) rules.now }
@@ -193,9 +192,8 @@ fn first_by_groups(
     matrix: &Matrix,
     rules: &[Kept],
     places: &[usize],
-    count: usize,
+    count: TypeCount,
 ) -> Result<usize, AllocError>
-    requires few { count ≤ 4096 }
     requires square { Square matrix.now count }
     requires fits { All (FitsRule count) rules.now }
     requires places { ArePlaces rules.now places.now }
@@ -205,14 +203,14 @@ fn first_by_groups(
     let own = matrix.own_sources(alloc, count)?;
     let mut found = first_own(&own, rules, places, count);
     // A word of a row has 64 sources, and so eight groups.
-    for step in 0..2 * (count / 64 + 1) {
+    for step in 0..2 * count.words() {
         found = first_of_groups(alloc, matrix, rules, places, count, GROUPS * step, found)?;
     }
     Ok(found)
 }
 
 /// The same, sought rule by rule.
-fn first_by_rules(matrix: &Matrix, rules: &[Kept], places: &[usize], count: usize) -> usize
+fn first_by_rules(matrix: &Matrix, rules: &[Kept], places: &[usize], count: TypeCount) -> usize
     requires square { Square matrix.now count }
     requires fits { All (FitsRule count) rules.now }
     requires places { ArePlaces rules.now places.now }
@@ -252,15 +250,15 @@ fn places_of(alloc: Global, rules: &[Kept], set: u8, end: usize) -> Result<Vec<u
 
 /// Whether the rules have so many sources in all that the unions cost less than they save. Either
 /// answer is right, and only the time is another.
-fn have_many_sources(rules: &[Kept], places: &[usize], count: usize) -> bool
-    requires few { count ≤ 4096 }
+fn have_many_sources(rules: &[Kept], places: &[usize], count: TypeCount) -> bool
     requires fits { All (FitsRule count) rules.now }
     requires places { ArePlaces rules.now places.now }
 {
+    let many = MANY * count.get();
     let mut sources = 0;
     for place in places {
         sources += rules[*place].sources.count();
-        if sources >= MANY * count {
+        if sources >= many {
             return true;
         }
     }
@@ -273,9 +271,8 @@ fn first_of_places(
     matrix: &Matrix,
     rules: &[Kept],
     places: &[usize],
-    count: usize,
+    count: TypeCount,
 ) -> Result<usize, AllocError>
-    requires few { count ≤ 4096 }
     requires square { Square matrix.now count }
     requires fits { All (FitsRule count) rules.now }
     requires places { ArePlaces rules.now places.now }
@@ -294,11 +291,10 @@ pub fn first_hit(
     alloc: Global,
     matrix: &Matrix,
     rules: &[Kept],
-    count: usize,
+    count: TypeCount,
     set: u8,
     end: usize,
 ) -> Result<usize, AllocError>
-    requires few { count ≤ 4096 }
     requires square { Square matrix.now count }
     requires fits { All (FitsRule count) rules.now }
     requires end { end ≤ length rules.now }

@@ -16,6 +16,7 @@ use crate::perm_sets::{SET_COUNT, any_of_set};
 use crate::unions::Unions;
 use sm_bits::{BitRow, has_bit};
 use sm_rules::{Kept, PERM_COUNT};
+use sm_types::TypeCount;
 use std::alloc::{AllocError, Global};
 use std::marker::Model;
 
@@ -23,7 +24,7 @@ use std::marker::Model;
 pub const GROUP: usize = 8;
 
 /// Adds the targets of other rows.
-fn add_rows(rows: &mut Vec<BitRow>, others: &[BitRow], count: usize)
+fn add_rows(rows: &mut Vec<BitRow>, others: &[BitRow], count: TypeCount)
     requires square { Square rows.old.items count }
     requires others { Square others.now count }
     ensures square { Square rows.new.items count }
@@ -54,7 +55,7 @@ fn source_meets(row: &BitRow, rule: &Kept, s: usize) -> bool
 }
 
 /// Whether a rule joins some source to one of the targets of its row.
-fn rows_meet(rows: &[BitRow], rule: &Kept, count: usize) -> bool
+fn rows_meet(rows: &[BitRow], rule: &Kept, count: TypeCount) -> bool
     requires square { Square rows.now count }
     requires fits { FitsRule count rule.now }
     ensures none { result ≡ false → (s t : ℕ) → s < count
@@ -75,16 +76,15 @@ fn add_row(
     alloc: Global,
     unions: &mut Unions,
     rows: &[BitRow],
-    count: usize,
+    count: TypeCount,
     s: usize,
 ) -> Result<(), AllocError>
-    requires few { count ≤ 4096 }
     requires square { Square rows.now count }
     requires wide { AreWide (count / 64 + 1) unions.old }
     ensures wide { IfOk result (λ done. AreWide (count / 64 + 1) unions.new) }
     ensures doubled { IfOk result (λ done. Doubled unions.old unions.new (row rows.now s)) }
 {
-    let words = count / 64 + 1;
+    let words = count.words();
     if s < rows.len() {
         return unions.add(alloc, &rows[s], words);
     }
@@ -96,16 +96,15 @@ fn add_row(
 fn unions_of(
     alloc: Global,
     rows: &[BitRow],
-    count: usize,
+    count: TypeCount,
     group: usize,
 ) -> Result<Unions, AllocError>
-    requires few { count ≤ 4096 }
     requires group { group < 8 * (count / 64 + 1) }
     requires square { Square rows.now count }
     ensures wide { IfOk result (λ unions. AreWide (count / 64 + 1) unions) }
     ensures united { IfOk result (λ unions. Unites rows.now (8 * group) 8 unions) }
 {
-    let mut unions = Unions::none(alloc, count / 64 + 1)?;
+    let mut unions = Unions::none(alloc, count.words())?;
     for k in 0..GROUP {
         add_row(alloc, &mut unions, rows, count, GROUP * group + k)?;
     }
@@ -125,13 +124,12 @@ fn add_if_own(own: &mut BitRow, row: &BitRow, s: usize)
 }
 
 /// The sources that are targets of their own.
-fn own_sources(alloc: Global, rows: &[BitRow], count: usize) -> Result<BitRow, AllocError>
-    requires few { count ≤ 4096 }
+fn own_sources(alloc: Global, rows: &[BitRow], count: TypeCount) -> Result<BitRow, AllocError>
     requires square { Square rows.now count }
     ensures room { IfOk result (λ own. length own ≡ count / 64 + 1) }
     ensures diagonal { IfOk result (λ own. IsDiagonal rows.now count own) }
 {
-    let mut own = BitRow::empty(alloc, count / 64 + 1)?;
+    let mut own = BitRow::empty(alloc, count.words())?;
     for s in 0..rows.len() {
         add_if_own(&mut own, &rows[s], s);
     }
@@ -159,8 +157,7 @@ impl Drop for Matrix {
 
 impl Matrix {
     /// The matrix of no pair.
-    pub fn empty(alloc: Global, count: usize) -> Result<Matrix, AllocError>
-        requires { count ≤ 4096 }
+    pub fn empty(alloc: Global, count: TypeCount) -> Result<Matrix, AllocError>
         ensures square { IfOk result (λ m. Square m count) }
         ensures none { IfOk result (λ m. (s t : ℕ) → has (row m s) t ≡ false) }
     {
@@ -172,10 +169,9 @@ impl Matrix {
     pub fn compile(
         alloc: Global,
         rules: &[Kept],
-        count: usize,
+        count: TypeCount,
         set: u8,
     ) -> Result<Matrix, AllocError>
-        requires few { count ≤ 4096 }
         requires fits { All (FitsRule count) rules.now }
         ensures { IfOk result (λ m. Grouped rules.now count set m) }
     {
@@ -184,7 +180,7 @@ impl Matrix {
     }
 
     /// Adds the pairs of another matrix, if permission `bit` is one of the set.
-    pub fn add_for(&mut self, other: &Matrix, count: usize, set: u8, bit: u32)
+    pub fn add_for(&mut self, other: &Matrix, count: TypeCount, set: u8, bit: u32)
         requires bit { bit < 8 }
         requires square { Square self.old count }
         requires other { Square other.now count }
@@ -201,10 +197,9 @@ impl Matrix {
     pub fn union_of(
         alloc: Global,
         matrices: &[Matrix],
-        count: usize,
+        count: TypeCount,
         set: u8,
     ) -> Result<Matrix, AllocError>
-        requires few { count ≤ 4096 }
         requires number { length matrices.now ≡ 7 }
         requires square { AllSquare matrices.now count }
         ensures { IfOk result (λ m. IsUnion matrices.now count set 7 m) }
@@ -217,7 +212,7 @@ impl Matrix {
     }
 
     /// Whether a rule joins two types that the matrix joins.
-    pub fn meets(&self, rule: &Kept, count: usize) -> bool
+    pub fn meets(&self, rule: &Kept, count: TypeCount) -> bool
         requires square { Square self.now count }
         requires fits { FitsRule count rule.now }
         ensures none { result ≡ false → (s t : ℕ) → s < count
@@ -229,8 +224,12 @@ impl Matrix {
     }
 
     /// The unions of the rows of eight sources, from source 8 times `group` on.
-    pub fn unions_of(&self, alloc: Global, count: usize, group: usize) -> Result<Unions, AllocError>
-        requires few { count ≤ 4096 }
+    pub fn unions_of(
+        &self,
+        alloc: Global,
+        count: TypeCount,
+        group: usize,
+    ) -> Result<Unions, AllocError>
         requires group { group < 8 * (count / 64 + 1) }
         requires square { Square self.now count }
         ensures wide { IfOk result (λ unions. AreWide (count / 64 + 1) unions) }
@@ -240,8 +239,7 @@ impl Matrix {
     }
 
     /// The sources that the matrix joins to themselves.
-    pub fn own_sources(&self, alloc: Global, count: usize) -> Result<BitRow, AllocError>
-        requires few { count ≤ 4096 }
+    pub fn own_sources(&self, alloc: Global, count: TypeCount) -> Result<BitRow, AllocError>
         requires square { Square self.now count }
         ensures room { IfOk result (λ own. length own ≡ count / 64 + 1) }
         ensures diagonal { IfOk result (λ own. IsDiagonal self.now count own) }
@@ -251,8 +249,7 @@ impl Matrix {
 }
 
 /// A matrix of no pair for each permission.
-fn empty_matrices(alloc: Global, count: usize) -> Result<Vec<Matrix>, AllocError>
-    requires { count ≤ 4096 }
+fn empty_matrices(alloc: Global, count: TypeCount) -> Result<Vec<Matrix>, AllocError>
     ensures { IfOk result (λ m. AllCompiled [] count 7 m.items) }
 {
     let mut matrices = Vec::new(alloc);
@@ -264,7 +261,7 @@ fn empty_matrices(alloc: Global, count: usize) -> Result<Vec<Matrix>, AllocError
 }
 
 /// Adds the pairs of a matrix to the matrix of each permission of the set.
-fn join_group(matrices: &mut Vec<Matrix>, group: &Matrix, count: usize, set: u8)
+fn join_group(matrices: &mut Vec<Matrix>, group: &Matrix, count: TypeCount, set: u8)
     requires number { length matrices.old.items ≡ 7 }
     requires square { AllSquare matrices.old.items count }
     requires group { Square group.now count }
@@ -282,10 +279,9 @@ fn add_set(
     alloc: Global,
     matrices: &mut Vec<Matrix>,
     rules: &[Kept],
-    count: usize,
+    count: TypeCount,
     set: u8,
 ) -> Result<(), AllocError>
-    requires few { count ≤ 4096 }
     requires number { length matrices.old.items ≡ 7 }
     requires square { AllSquare matrices.old.items count }
     requires fits { All (FitsRule count) rules.now }
@@ -301,8 +297,11 @@ fn add_set(
 }
 
 /// A matrix for each permission.
-pub fn matrices_of(alloc: Global, rules: &[Kept], count: usize) -> Result<Vec<Matrix>, AllocError>
-    requires few { count ≤ 4096 }
+pub fn matrices_of(
+    alloc: Global,
+    rules: &[Kept],
+    count: TypeCount,
+) -> Result<Vec<Matrix>, AllocError>
     requires fits { All (FitsRule count) rules.now }
     ensures { IfOk result (λ m. AllCompiled rules.now count 7 m.items) }
 {

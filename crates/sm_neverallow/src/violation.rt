@@ -16,6 +16,7 @@ use crate::perm_sets::{SET_COUNT, any_of_set};
 use sm_bits::has_bit;
 use sm_kinds::{Class, Perms};
 use sm_rules::{Kept, PERM_COUNT, Rules, class_at, perm_at};
+use sm_types::TypeCount;
 use std::alloc::{AllocError, Global};
 
 /// The first tuple that a neverallow rule forbids and an allow rule allows.
@@ -60,7 +61,7 @@ fn own_meet(a: &Kept, b: &Kept, s: usize) -> bool
 }
 
 /// Whether two rules join some pair of types both.
-fn meet(a: &Kept, b: &Kept, count: usize) -> bool
+fn meet(a: &Kept, b: &Kept, count: TypeCount) -> bool
     requires first { FitsRule count a.now }
     requires second { FitsRule count b.now }
     ensures none { result ≡ false → (s t : ℕ) → both_join s t a.now b.now ≡ false }
@@ -71,7 +72,7 @@ fn meet(a: &Kept, b: &Kept, count: usize) -> bool
     if a.targets.meets(&b.targets) {
         return true;
     }
-    for s in 0..count {
+    for s in 0..count.get() {
         if own_meet(a, b, s) {
             return true;
         }
@@ -80,7 +81,7 @@ fn meet(a: &Kept, b: &Kept, count: usize) -> bool
 }
 
 /// The first target to which two rules join a source both.
-fn first_target(a: &Kept, b: &Kept, count: usize, s: usize) -> Option<usize>
+fn first_target(a: &Kept, b: &Kept, count: TypeCount, s: usize) -> Option<usize>
     requires first { FitsRule count a.now }
     requires second { FitsRule count b.now }
     requires source { s < count }
@@ -91,7 +92,7 @@ fn first_target(a: &Kept, b: &Kept, count: usize, s: usize) -> Option<usize>
     if !(a.sources.has(s) && b.sources.has(s)) {
         return None;
     }
-    for t in 0..count {
+    for t in 0..count.get() {
         if a.joins(s, t) && b.joins(s, t) {
             return Some(t);
         }
@@ -100,7 +101,7 @@ fn first_target(a: &Kept, b: &Kept, count: usize, s: usize) -> Option<usize>
 }
 
 /// The first source, and its first target, that two rules join both.
-fn first_pair(a: &Kept, b: &Kept, count: usize) -> Option<(usize, usize)>
+fn first_pair(a: &Kept, b: &Kept, count: TypeCount) -> Option<(u16, u16)>
     requires first { FitsRule count a.now }
     requires second { FitsRule count b.now }
     ensures none { IfNone result ((s t : ℕ) → s < count → t < count
@@ -111,17 +112,16 @@ fn first_pair(a: &Kept, b: &Kept, count: usize) -> Option<(usize, usize)>
         → both_join s t a.now b.now ≡ false) }
     ensures target { IfSome result (λ p. (t : ℕ) → t < p.1 → both_join p.0 t a.now b.now ≡ false) }
 {
-    for s in 0..count {
+    for s in 0..count.get() {
         if let Some(t) = first_target(a, b, count, s) {
-            return Some((s, t));
+            return Some((s as u16, t as u16));
         }
     }
     None
 }
 
 /// What an allow rule and a neverallow rule have in common first, if anything.
-fn violation_between(allow: &Kept, never: &Kept, count: usize) -> Option<Violation>
-    requires few { count ≤ 4096 }
+fn violation_between(allow: &Kept, never: &Kept, count: TypeCount) -> Option<Violation>
     requires allow { FitsRule count allow.now }
     requires never { FitsRule count never.now }
     ensures none { IfNone result (AreApart allow.now never.now count) }
@@ -135,16 +135,15 @@ fn violation_between(allow: &Kept, never: &Kept, count: usize) -> Option<Violati
     Some(Violation {
         never_line: never.line,
         allow_line: allow.line,
-        source: source as u16,
-        target: target as u16,
+        source,
+        target,
         class: class_at(bit),
         perm: perm_at(bit),
     })
 }
 
 /// What a neverallow rule has in common with the first allow rule that breaks it, if one does.
-fn first_of(allows: &[Kept], never: &Kept, count: usize) -> Option<Violation>
-    requires few { count ≤ 4096 }
+fn first_of(allows: &[Kept], never: &Kept, count: TypeCount) -> Option<Violation>
     requires allows { All (FitsRule count) allows.now }
     requires never { FitsRule count never.now }
     ensures none { IfNone result ((i : ℕ) (allow : TheKept) → slice_get allows.now i ≡ Some allow
@@ -165,11 +164,10 @@ fn first_broken_of(
     alloc: Global,
     matrices: &[Matrix],
     neverallows: &[Kept],
-    count: usize,
+    count: TypeCount,
     set: u8,
     end: usize,
 ) -> Result<usize, AllocError>
-    requires few { count ≤ 4096 }
     requires number { length matrices.now ≡ 7 }
     requires square { AllSquare matrices.now count }
     requires fits { All (FitsRule count) neverallows.now }
@@ -196,9 +194,8 @@ fn first_broken(
     alloc: Global,
     matrices: &[Matrix],
     neverallows: &[Kept],
-    count: usize,
+    count: TypeCount,
 ) -> Result<Option<usize>, AllocError>
-    requires few { count ≤ 4096 }
     requires number { length matrices.now ≡ 7 }
     requires square { AllSquare matrices.now count }
     requires fits { All (FitsRule count) neverallows.now }
@@ -227,9 +224,8 @@ fn first_among(
     alloc: Global,
     allows: &[Kept],
     neverallows: &[Kept],
-    count: usize,
+    count: TypeCount,
 ) -> Result<Option<Violation>, AllocError>
-    requires few { count ≤ 4096 }
     requires allows { All (FitsRule count) allows.now }
     requires neverallows { All (FitsRule count) neverallows.now }
     ensures none { IfOk result (λ o. IfNone o (AllApart allows.now neverallows.now count)) }

@@ -60,7 +60,6 @@ pub record FitsRules (count : ℕ) (allows neverallows : List Kept) : Type 0 whe
 
 -- What is true of the parts of all rules that are built.
 pub record IsSound (count : ℕ) (allows neverallows : List Kept) : Type 0 where
-  pub small : count ≤ 4096
   pub few : length allows + length neverallows < 2 ^ 64
   pub fits : FitsRules count allows neverallows
 

@@ -13,7 +13,7 @@ use crate::kept::{Kept, keep};
 use crate::perm_bits::number_of;
 use sm_kinds::{Class, Perms};
 use sm_ruletext::{Rule, Statement, What};
-use sm_types::Types;
+use sm_types::{TypeCount, Types};
 use std::alloc::Global;
 use std::marker::Model;
 
@@ -127,7 +127,7 @@ fn all_rules(alloc: Global, statements: &[Statement], types: &Types) -> Result<D
 ///
 /// Contracts see them as the lists of kept rules; `RulesOf` says that they are those of a text.
 pub struct Rules {
-    count: usize,
+    count: TypeCount,
     allows: Vec<Kept>,
     neverallows: Vec<Kept>,
 }
@@ -154,7 +154,7 @@ impl Drop for Rules {
 }
 
 /// The line of the first rule that gives permission `bit` on the two types.
-fn first_line(rules: &[Kept], count: usize, bit: u32, s: usize, t: usize) -> Option<u32>
+fn first_line(rules: &[Kept], count: TypeCount, bit: u32, s: usize, t: usize) -> Option<u32>
     requires fits { All (FitsRule count) rules.now }
     requires bit { bit < 8 }
     requires source { s < count }
@@ -193,16 +193,15 @@ impl Rules {
             neverallows,
         } = all_rules(alloc, statements, types)?;
         Ok(Rules {
-            count: types.count(),
+            count: types.type_count(),
             allows,
             neverallows,
         })
     }
 
     /// How many types the text declares.
-    pub fn type_count(&self) -> usize
-        ensures count { result ≡ self.now.count }
-        ensures few { result ≤ 4096 }
+    pub fn type_count(&self) -> TypeCount
+        ensures { result ≡ self.now.count }
     {
         self.count
     }
@@ -259,10 +258,10 @@ impl Rules {
     {
         let s = usize::from(source);
         let t = usize::from(target);
-        if s >= self.count {
+        if s >= self.count.get() {
             return None;
         }
-        if t >= self.count {
+        if t >= self.count.get() {
             return None;
         }
         let bit = number_of(class, perm)?;

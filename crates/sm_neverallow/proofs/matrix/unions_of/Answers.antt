@@ -4,7 +4,7 @@ use Rattle.sm_neverallow.proofs.matrix.unions_of.Goals as goal
 
 pub loop-k-init : goal.loop-k-init
 loop-k-init c = record {
-  wide = c.in_ok-unions.ensures.wide;
+  wide = rw c.words.ensures.number at c.in_ok-unions.ensures.wide;
   united = unites_none c.args.rows.now (8 * c.args.group) c.in_ok-unions.unions c.in_ok-unions.ensures.number c.in_ok-unions.ensures.none;
 }
 
