@@ -11,8 +11,8 @@ use Rattle.sm_types.specs.Denoting.{types}
 use Rattle.sm_rules.specs.Access.{covers, written, forbidden, IsConsistent}
 use Rattle.sm_rules.proofs.Consistent.{written_any, forbidden_any}
 use Rattle.sm_rules.specs.Keeping.{allow_rules, neverallow_rules, class_at, perm_at}
-use Rattle.sm_rules.specs.Violating.{breaks, IsFirstViolation}
-use Rattle.sm_rules.specs.declared.violation.Violation.{Violation as Numbered}
+use Rattle.sm_neverallow.specs.Violating.{breaks, IsFirstViolation}
+use Rattle.sm_neverallow.specs.declared.violation.Violation.{Violation as Numbered}
 use Rattle.sm_policy.specs.declared.violation.Violation.{Violation}
 use Rattle.sm_policy.specs.Violating.{first_some, perm_numbers, clash, clash_of_pair, clash_of_source, first_clash, clash_of_never, first_violation, named_violation}
 

@@ -6,7 +6,7 @@ use Rattle.sm_types.specs.Denoting.{types}
 use Rattle.sm_rules.specs.Access.{covers}
 use Rattle.sm_rules.specs.Keeping.{allow_rules, neverallow_rules, class_at, perm_at}
 use Rattle.sm_types.specs.Names.{Name, at}
-use Rattle.sm_rules.specs.declared.violation.Violation.{Violation as Numbered}
+use Rattle.sm_neverallow.specs.declared.violation.Violation.{Violation as Numbered}
 use Rattle.sm_policy.specs.declared.violation.Violation.{Violation}
 
 -- The first that f gives of the items, in their order.

@@ -14,6 +14,7 @@ ghost use Rattle.sm_policy.specs.Violating.{named_violation};
 use crate::{PolicyFault, Violation};
 use sm_contexts::Contexts;
 use sm_kinds::Name;
+use sm_neverallow::first_violation;
 use sm_rules::Rules;
 use sm_ruletext::Statement;
 use sm_types::Types;
@@ -81,7 +82,7 @@ fn type_name(types: &Types, index: u16) -> &[u8]
 fn named(
     alloc: Global,
     types: &Types,
-    violation: &sm_rules::Violation,
+    violation: &sm_neverallow::Violation,
 ) -> Result<Violation, AllocError>
     ensures { IfOk result (λ v. v ≡ named_violation types.now.symbols.types violation.now) }
 {
@@ -104,7 +105,7 @@ pub fn refuse_violation(alloc: Global, types: &Types, rules: &Rules) -> Result<(
     ensures consistent { OnOk result ((policy : List TheStatement) → IsOf policy types.now
         → RulesOf policy types.now.symbols.types rules.now → IsConsistent policy) }
 {
-    match rules.first_violation(alloc)? {
+    match first_violation(alloc, rules)? {
         Some(violation) => Err(PolicyFault::Neverallow(named(alloc, types, &violation)?)),
         None => Ok(()),
     }

@@ -1,15 +1,5 @@
-pub mod Bits
 pub mod Standing
 pub mod Walks
 pub mod Lines
-pub mod Rows
-pub mod Meeting
-pub mod Searches
-pub mod Apart
 pub mod Consistent
-pub mod Firsts
 pub mod Undeclared
-pub mod Groups
-pub mod Broken
-pub mod Doubling
-pub mod Sifting

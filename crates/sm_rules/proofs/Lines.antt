@@ -1,8 +1,8 @@
 -- The first rule that covers a tuple, by number and by name.
-use Rattle.std.proofs.Common.{◌≡◌, ℕ, ◌<◌, Bool, true, false, cond, ◌||◌, ◌&&◌, eqb, List, [], ◌∷◌, length, find, option_map, Option, Some, None, refl, sym, ap, ◌∙◌, inl, inr, true≢false}
+use Rattle.std.proofs.Common.{◌≡◌, ℕ, ◌<◌, Bool, true, false, cond, eqb, List, [], ◌∷◌, length, find, option_map, Option, Some, None, refl, sym, ap, ◌∙◌, inl, inr, true≢false}
 use Rattle.std.specs.List.{cons_option}
 use Rattle.std.specs.Str.{bytes_eq}
-use Rattle.std.proofs.lemmas.Bool.{cases_eq, eq-eqb, ne_eqb, false_from_ne_true}
+use Rattle.std.proofs.lemmas.Bool.{cases_eq, eq-eqb, ne_eqb, false_from_ne_true, or_parts, and_right}
 use Rattle.std.proofs.lemmas.Slice.Eq.{bytes_eq-Decides}
 use Rattle.sm_kinds.specs.Permissions.{class_word, perm_of}
 use Rattle.sm_kinds.specs.declared.class.Class.{Class}
@@ -20,28 +20,16 @@ use Rattle.sm_rules.specs.Access.{gives, allows, written_line, picks}
 use Rattle.sm_rules.specs.Keeping.{covers, covered_line, class_at, perm_at, StandsFor, AllStandFor, KeptRules, RulesOf, allow_in, allow_rules}
 use Rattle.sm_rules.specs.declared.kept.Kept.{Kept}
 
-left_false : (x y : Bool) → (x || y) ≡ false → x ≡ false
-left_false false y h = refl
-left_false true y h = h
-
-right_false : (x y : Bool) → (x || y) ≡ false → y ≡ false
-right_false false y h = h
-right_false true y h = absurd (true≢false h)
-
-pub and_false : (x : Bool) → (x && false) ≡ false
-and_false true = refl
-and_false false = refl
-
 -- a rule that isn't kept gives nothing
 pub unkept : (rule : Rule) (class : Class) (perm : Perms) → is_kept rule ≡ false → gives class perm rule ≡ false
 unfolding is_kept gives
-unkept rule ServiceManager perm h = rw (left_false (selects rule.class (class_word ServiceManager)) (selects rule.class (class_word Binder)) h) refl
-unkept rule Binder perm h = rw (right_false (selects rule.class (class_word ServiceManager)) (selects rule.class (class_word Binder)) h) refl
+unkept rule ServiceManager perm h = rw (or_parts (selects rule.class (class_word ServiceManager)) (selects rule.class (class_word Binder)) h).0 refl
+unkept rule Binder perm h = rw (or_parts (selects rule.class (class_word ServiceManager)) (selects rule.class (class_word Binder)) h).1 refl
 
 -- nor does a rule give what is no single permission of the class
 unnamed : (rule : Rule) (class : Class) (perm : Perms) → perm_of class perm ≡ None → gives class perm rule ≡ false
 unfolding gives
-unnamed rule class perm h = rw h (and_false (selects rule.class (class_word class)))
+unnamed rule class perm h = rw h (and_right (selects rule.class (class_word class)) false refl)
 
 same_place : (names : List Name) (s t : ℕ) → Distinct names → s < length names → t < length names → eqb s t ≡ bytes_eq (at names s) (at names t)
 same_place names s t distinct hs ht = elim (cases_eq s t) [
@@ -100,7 +88,7 @@ lines_of policy s t class perm (st ∷ sts) = by st.what refl (lines_of policy s
   by (Neverallow r) e rest = rest
   by (Allow r) e rest =
       allow_step (access.covers policy s t class perm r) (is_kept r) st r (λ q. access.covers policy s t class perm q.1) (allow_rules sts)
-      (find (allows policy s t class perm) sts) refl (λ h. rw (unkept r class perm h) (and_false (access.joins policy s t r))) rest
+      (find (allows policy s t class perm) sts) refl (λ h. and_right (access.joins policy s t r) (gives class perm r) (unkept r class perm h)) rest
 
 -- what the kept allow rules say by number is what the text says by name
 pub written_is : (policy : Policy) (names : List Name) (rules : KeptRules) (b s t : ℕ) (class : Class) (perm : Perms) → RulesOf policy names rules
@@ -120,5 +108,5 @@ unwritten policy s t class perm h =
     rw (
       lines_of policy s t class perm policy,
       none_found (λ (r : ℕ × Rule). access.covers policy s t class perm r.1) (allow_rules policy)
-          (λ r. rw (unnamed r.1 class perm h) (and_false (access.joins policy s t r.1))),
+          (λ r. and_right (access.joins policy s t r.1) (gives class perm r.1) (unnamed r.1 class perm h)),
     ) refl

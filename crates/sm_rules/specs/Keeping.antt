@@ -1,8 +1,7 @@
 -- Rules as they are kept: types by their numbers, permissions by their bits.
-use Rattle.std.specs.Prelude.{◌≡◌, ℕ, Bool, ◌&&◌, ◌||◌, ◌==◌, ◌<◌, ◌≤◌, ◌+◌, ◌/◌, ◌^◌, nat_eq, nat_lt, false, if◌then◌else◌, List, [], ◌∷◌, ◌++◌, length, find, option_map, Option, Some, None, All}
-use Rattle.std.specs.Int.{bit_at}
+use Rattle.std.specs.Prelude.{◌≡◌, ℕ, Bool, ◌&&◌, ◌||◌, ◌==◌, ◌<◌, ◌≤◌, ◌+◌, ◌/◌, ◌^◌, nat_eq, nat_lt, false, if◌then◌else◌, List, [], ◌∷◌, ◌++◌, length, find, option_map, slice_get, Option, Some, None, All}
 use Rattle.std.specs.List.{list_any, filter_map}
-use Rattle.sm_bits.specs.Bits.{has}
+use Rattle.sm_bits.specs.Bits.{has, has_bit}
 use Rattle.sm_kinds.specs.Permissions.{bit}
 use Rattle.sm_kinds.specs.declared.class.Class.{Class}
 use Rattle.sm_kinds.specs.declared.class.Class.TheVariants.{ServiceManager, Binder}
@@ -13,14 +12,11 @@ use Rattle.sm_ruletext.specs.declared.statement.What.{What}
 use Rattle.sm_ruletext.specs.declared.statement.What.TheVariants.{Attribute, Declared, Member, Allow, Neverallow}
 use Rattle.sm_types.specs.Names.{Name, at, Distinct}
 use Rattle.sm_types.specs.Denoting.{Policy, in_set, types}
+use Rattle.sm_rules.specs.Access as access
 use Rattle.sm_rules.specs.Access.{gives}
 use Rattle.sm_rules.specs.declared.kept.Kept.{Kept}
 
 -- ---- permissions by number, from 0 to 6, in the order of their bits
-
--- Whether bit b of a byte is 1.
-unfoldable pub has_bit : ℕ → ℕ → Bool
-has_bit byte b = bit_at byte b == 1
 
 abbrev pub class_at : ℕ → Class
 class_at b = if nat_lt b 3 then ServiceManager else Binder
@@ -64,7 +60,6 @@ pub record FitsRules (count : ℕ) (allows neverallows : List Kept) : Type 0 whe
 
 -- What is true of the parts of all rules that are built.
 pub record IsSound (count : ℕ) (allows neverallows : List Kept) : Type 0 where
-  pub small : count ≤ 4096
   pub few : length allows + length neverallows < 2 ^ 64
   pub fits : FitsRules count allows neverallows
 
@@ -113,6 +108,19 @@ AllStandFor policy names (r ∷ rs) [] = ⊥
 abbrev pub Extends : Policy → List Name → Option (ℕ × Rule) → List Kept → List Kept → Type 0
 Extends policy names None old new = new ≡ old
 Extends policy names (Some rule) old new = (kept : Kept) × StandsFor policy names rule kept × (new ≡ old ++ kept ∷ [])
+
+-- The kept rule covers by number what the rule of the policy covers by name, and names its line.
+pub record Says (policy : Policy) (names : List Name) (written : ℕ × Rule) (kept : Kept) : Type 0 where
+  pub line : kept.line ≡ written.0
+  pub covers : (b s t : ℕ) → b < 7 → s < length names → t < length names
+      → covers b s t kept ≡ access.covers policy (at names s) (at names t) (class_at b) (perm_at b) written.1
+
+-- Each kept rule says what the rule at its place in the list says, and each rule of the list has one.
+pub record AllSay (policy : Policy) (names : List Name) (rules : List (ℕ × Rule)) (kept : List Kept) : Type 0 where
+  pub of_kept : (n : ℕ) (k : Kept) → slice_get kept n ≡ Some k
+      → (r : ℕ × Rule) × (slice_get rules n ≡ Some r) × Says policy names r k
+  pub of_rule : (n : ℕ) (r : ℕ × Rule) → slice_get rules n ≡ Some r
+      → (k : Kept) × (slice_get kept n ≡ Some k) × Says policy names r k
 
 -- What contracts see of the rules: the number of types, the allow rules and the neverallow rules.
 pub record KeptRules : Type 0 where

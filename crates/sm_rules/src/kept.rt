@@ -2,19 +2,19 @@
 
 ghost use Rattle.std.specs.Prelude.{◌≡◌, ◌<◌, ◌≤◌, ◌+◌, ◌/◌, ◌*◌, ℕ, List, length, nat_eq, IfOk, IfErr, Some, None, true, false};
 ghost use Rattle.std.specs.List.{list_all};
-ghost use Rattle.sm_bits.specs.Bits.{has};
+ghost use Rattle.sm_bits.specs.Bits.{has, has_bit};
 ghost use Rattle.sm_ruletext.specs.declared.statement.Statement.{Statement as TheStatement};
 ghost use Rattle.sm_types.specs.Names.{at};
 ghost use Rattle.sm_types.specs.Denoting.{in_set, all_known};
 ghost use Rattle.sm_types.specs.Members.{IsOf};
 ghost use Rattle.sm_rules.specs.Faults as spec;
 ghost use Rattle.sm_rules.specs.Faults.{UnlessMemory, rule_fault};
-ghost use Rattle.sm_rules.specs.Keeping.{has_bit, joins, covers, FitsRule, StandsFor};
+ghost use Rattle.sm_rules.specs.Keeping.{joins, covers, FitsRule, StandsFor};
 ghost use Rattle.sm_rules.specs.declared.fault.RulesFault.TheVariants.{Unknown};
 
 use crate::RulesFault;
-use crate::perm_bits::{has_bit, perms_of};
-use sm_bits::BitRow;
+use crate::perm_bits::perms_of;
+use sm_bits::{BitRow, has_bit};
 use sm_kinds::{Class, Names, Perms};
 use sm_ruletext::{Rule, Set};
 use sm_types::{Types, TypesFault};

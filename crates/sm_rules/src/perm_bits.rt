@@ -3,9 +3,11 @@
 ghost use Rattle.std.specs.Prelude.{◌≡◌, ℕ, ◌<◌, ◌≤◌, ◌&&◌, ◌||◌, nat_eq, IfSome, IfNone, false};
 ghost use Rattle.sm_kinds.specs.Permissions.{perm_of};
 ghost use Rattle.sm_rules.specs.Access.{gives};
-ghost use Rattle.sm_rules.specs.Keeping.{has_bit, class_at, perm_at};
+ghost use Rattle.sm_bits.specs.Bits.{has_bit};
+ghost use Rattle.sm_rules.specs.Keeping.{class_at, perm_at};
 
 use crate::plain;
+use sm_bits::with_bit;
 use sm_kinds::{Class, Perms};
 use sm_ruletext::Rule;
 
@@ -58,23 +60,6 @@ pub fn number_of(class: Class, perm: Perms) -> Option<u32>
             _ => None,
         },
     }
-}
-
-/// Whether a bit is set.
-#[tactic(auto, unfolding(crate::specs::Keeping::has_bit))]
-pub fn has_bit(byte: u8, bit: u32) -> bool
-    requires { bit < 8 }
-    ensures { result ≡ has_bit byte bit }
-{
-    byte >> bit & 1 == 1
-}
-
-/// The byte with one more bit.
-pub fn with_bit(byte: u8, bit: u32) -> u8
-    requires { bit < 8 }
-    ensures { (b : ℕ) → has_bit result b ≡ (has_bit byte b || nat_eq b bit) }
-{
-    byte | 1 << bit
 }
 
 /// Adds a permission, if the rule gives it.

@@ -1,22 +1,20 @@
 //! The rules of a rule text.
 
-ghost use Rattle.std.specs.Prelude.{◌≡◌, ◌<◌, ◌≤◌, ◌+◌, ◌^◌, ℕ, List, length, All, IfOk, IfErr, IfSome, IfNone, Some, None, true, ◌&&◌};
+ghost use Rattle.std.specs.Prelude.{◌≡◌, ◌<◌, ◌≤◌, ◌+◌, ◌^◌, ℕ, List, length, All, IfOk, IfErr, Some, None};
 ghost use Rattle.sm_ruletext.specs.declared.statement.Statement.{Statement as TheStatement};
 ghost use Rattle.sm_types.specs.Names.{at};
 ghost use Rattle.sm_types.specs.Members.{IsOf};
-ghost use Rattle.sm_rules.specs.Access.{written, written_line, forbidden, IsConsistent};
-ghost use Rattle.sm_rules.specs.Violating.{IsFirstViolation};
+ghost use Rattle.sm_rules.specs.Access.{written, written_line, forbidden};
 ghost use Rattle.sm_rules.specs.Faults.{UnlessMemory, first_fault, fault_if_kept, fault_of};
-ghost use Rattle.sm_rules.specs.Keeping.{FitsRule, FitsRules, Extends, kept_only, allow_in, neverallow_in, allow_rules, neverallow_rules, AllStandFor, covered_line, RulesOf};
+ghost use Rattle.sm_rules.specs.Keeping.{FitsRule, FitsRules, Extends, kept_only, allow_in, neverallow_in, allow_rules, neverallow_rules, AllStandFor, AllSay, class_at, perm_at, covered, covered_line, RulesOf};
 
 use crate::RulesFault;
 use crate::kept::{Kept, keep};
 use crate::perm_bits::number_of;
-use crate::violation::{Violation, first_among};
 use sm_kinds::{Class, Perms};
 use sm_ruletext::{Rule, Statement, What};
-use sm_types::Types;
-use std::alloc::{AllocError, Global};
+use sm_types::{TypeCount, Types};
+use std::alloc::Global;
 use std::marker::Model;
 
 /// Adds a rule, if it is kept.
@@ -129,7 +127,7 @@ fn all_rules(alloc: Global, statements: &[Statement], types: &Types) -> Result<D
 ///
 /// Contracts see them as the lists of kept rules; `RulesOf` says that they are those of a text.
 pub struct Rules {
-    count: usize,
+    count: TypeCount,
     allows: Vec<Kept>,
     neverallows: Vec<Kept>,
 }
@@ -156,7 +154,7 @@ impl Drop for Rules {
 }
 
 /// The line of the first rule that gives permission `bit` on the two types.
-fn first_line(rules: &[Kept], count: usize, bit: u32, s: usize, t: usize) -> Option<u32>
+fn first_line(rules: &[Kept], count: TypeCount, bit: u32, s: usize, t: usize) -> Option<u32>
     requires fits { All (FitsRule count) rules.now }
     requires bit { bit < 8 }
     requires source { s < count }
@@ -195,10 +193,49 @@ impl Rules {
             neverallows,
         } = all_rules(alloc, statements, types)?;
         Ok(Rules {
-            count: types.count(),
+            count: types.type_count(),
             allows,
             neverallows,
         })
+    }
+
+    /// How many types the text declares.
+    pub fn type_count(&self) -> TypeCount
+        ensures { result ≡ self.now.count }
+    {
+        self.count
+    }
+
+    /// The allow rules that are kept, in the order of the text.
+    pub fn allows(&self) -> &[Kept]
+        ensures kept { result.now ≡ self.now.allows }
+        ensures fits { All (FitsRule self.now.count) result.now }
+        ensures said { (policy : List TheStatement) (names : List (List ℕ))
+            → RulesOf policy names self.now
+            → AllSay policy names (allow_rules policy) result.now }
+        ensures written { (policy : List TheStatement) (names : List (List ℕ))
+            → RulesOf policy names self.now → (b s t : ℕ)
+            → b < 7 → s < length names → t < length names
+            → covered result.now b s t
+            ≡ written policy (at names s) (at names t) (class_at b) (perm_at b) }
+    {
+        &self.allows
+    }
+
+    /// The neverallow rules that are kept, in the order of the text.
+    pub fn neverallows(&self) -> &[Kept]
+        ensures kept { result.now ≡ self.now.neverallows }
+        ensures fits { All (FitsRule self.now.count) result.now }
+        ensures said { (policy : List TheStatement) (names : List (List ℕ))
+            → RulesOf policy names self.now
+            → AllSay policy names (neverallow_rules policy) result.now }
+        ensures forbidden { (policy : List TheStatement) (names : List (List ℕ))
+            → RulesOf policy names self.now → (b s t : ℕ)
+            → b < 7 → s < length names → t < length names
+            → covered result.now b s t
+            ≡ forbidden policy (at names s) (at names t) (class_at b) (perm_at b) }
+    {
+        &self.neverallows
     }
 
     /// How many rules are kept, neverallow rules among them.
@@ -221,15 +258,16 @@ impl Rules {
     {
         let s = usize::from(source);
         let t = usize::from(target);
-        if s >= self.count {
+        if s >= self.count.get() {
             return None;
         }
-        if t >= self.count {
+        if t >= self.count.get() {
             return None;
         }
         let bit = number_of(class, perm)?;
         first_line(&self.allows, self.count, bit, s, t)
     }
+
     /// The same by the names of the types, `types` being those of the text. `None` also where a
     /// name is that of no declared type.
     pub fn written_by_name(
@@ -247,34 +285,5 @@ impl Rules {
         let s = types.index(source)?;
         let t = types.index(target)?;
         self.written(s, t, class, perm)
-    }
-
-    /// The first violation of the neverallow rules: of the first neverallow rule in the order of
-    /// the text that is broken, by the first allow rule that breaks it; then of the least source
-    /// and the least target by the order of declaration, and the lowest permission by the order
-    /// of bits. `None`: no allow rule allows what a neverallow rule forbids.
-    ///
-    /// # Errors
-    ///
-    /// An error where memory was refused.
-    pub fn first_violation(&self, alloc: Global) -> Result<Option<Violation>, AllocError>
-        ensures none { IfOk result
-            (λ o. IfNone o ((policy : List TheStatement) (names : List (List ℕ))
-            → RulesOf policy names self.now
-            → IsConsistent policy)) }
-        ensures some { IfOk result (λ o. IfSome o
-            (λ v. (policy : List TheStatement) (names : List (List ℕ))
-            → RulesOf policy names self.now
-            → IsFirstViolation policy names v)) }
-        ensures both { IfOk result (λ o. IfSome o
-            (λ v. (policy : List TheStatement) (names : List (List ℕ))
-            → RulesOf policy names self.now
-            → (written policy (at names v.source) (at names v.target) v.class v.perm
-            && forbidden policy (at names v.source) (at names v.target) v.class v.perm) ≡ true)) }
-    {
-        match first_among(alloc, &self.allows, &self.neverallows, self.count)? {
-            Some(violation) => Ok(Some(violation)),
-            None => Ok(None),
-        }
     }
 }

@@ -2,12 +2,13 @@
 use Rattle.std.proofs.Common.{◌≡◌, ℕ, Bool, true, false, not, ◌||◌, ◌&&◌, List, [], ◌∷◌, ◌++◌, find, option_map, Option, Some, None, Ok, Err, refl, sym, ap, ◌∙◌, append_assoc, true≢false, cond, length, ◌<◌, nat_le}
 use Rattle.std.specs.List.{list_any, cons_option}
 use Rattle.std.specs.Str.{bytes_eq}
-use Rattle.std.proofs.lemmas.Bool.{false_from_ne_true}
+use Rattle.std.proofs.lemmas.Bool.{and_parts, and_right, false_from_ne_true}
 use Rattle.std.proofs.lemmas.List.{append-nil}
 use Rattle.std.proofs.lemmas.List.Folds.{list_any_at}
 use Rattle.sm_ruletext.specs.declared.statement.What.{What}
 use Rattle.sm_ruletext.specs.declared.statement.What.TheVariants.{Attribute, Declared, Member, Allow, Neverallow}
 use Rattle.sm_ruletext.specs.declared.statement.Statement.{Statement}
+use Rattle.sm_types.specs.declared.TheConstants.{MOST_TYPES, MOST_ATTRIBUTES}
 use Rattle.sm_types.specs.declared.symbols.Symbols.{Symbols}
 use Rattle.sm_types.specs.declared.fault.TypesFault.{TypesFault}
 use Rattle.sm_types.specs.declared.fault.TypesFault.TheVariants.{Twice, TooMany}
@@ -19,30 +20,18 @@ use Rattle.sm_kinds.specs.Names.{contains}
 use Rattle.sm_types.specs.declared.table.Table.{Table}
 use Rattle.sm_types.proofs.NameLemmas.{same_name, name_same}
 
-and_left : (x y : Bool) → (x && y) ≡ true → x ≡ true
-and_left true y h = refl
-and_left false y h = h
-
-and_right : (x y : Bool) → (x && y) ≡ true → y ≡ true
-and_right true y h = h
-and_right false y h = absurd (true≢false (sym h))
-
-and_false : (x y : Bool) → y ≡ false → (x && y) ≡ false
-and_false true y h = h
-and_false false y h = refl
-
 unlisted_names : (symbols : Symbols) (word : Name) → list_any (bytes_eq word) symbols.attributes ≡ false → (names : List Name) → all_attributes symbols names ≡ true → contains names word ≡ false
 unlisted_names symbols word none [] known = refl
 unlisted_names symbols word none (n ∷ names) known =
-    let here : list_any (bytes_eq n) symbols.attributes ≡ true = and_left (list_any (bytes_eq n) symbols.attributes) (all_attributes symbols names) known in
+    let here : list_any (bytes_eq n) symbols.attributes ≡ true = (and_parts (list_any (bytes_eq n) symbols.attributes) (all_attributes symbols names) known).0 in
     let e : bytes_eq n word ≡ false = false_from_ne_true (bytes_eq n word) (λ t. true≢false (sym (rw (same_name n word t) at here) ∙ none)) in
-    rw e (unlisted_names symbols word none names (and_right (list_any (bytes_eq n) symbols.attributes) (all_attributes symbols names) known))
+    rw e (unlisted_names symbols word none names (and_parts (list_any (bytes_eq n) symbols.attributes) (all_attributes symbols names) known).1)
 
 unlisted_what : (symbols : Symbols) (word t : Name) → list_any (bytes_eq word) symbols.attributes ≡ false → (what : What) → members_known symbols what ≡ true → gives_attribute t word what ≡ false
 unlisted_what symbols word t none (Attribute n) known = refl
-unlisted_what symbols word t none (Declared n names) known = and_false (bytes_eq n t) (contains names word) (unlisted_names symbols word none names known)
+unlisted_what symbols word t none (Declared n names) known = and_right (bytes_eq n t) (contains names word) (unlisted_names symbols word none names known)
 unlisted_what symbols word t none (Member n names) known =
-    and_false (bytes_eq n t) (contains names word) (unlisted_names symbols word none names (and_right (list_any (bytes_eq n) symbols.types) (all_attributes symbols names) known))
+    and_right (bytes_eq n t) (contains names word) (unlisted_names symbols word none names (and_parts (list_any (bytes_eq n) symbols.types) (all_attributes symbols names) known).1)
 unlisted_what symbols word t none (Allow r) known = refl
 unlisted_what symbols word t none (Neverallow r) known = refl
 
@@ -81,10 +70,10 @@ step_names : (symbols next : Symbols) (line : ℕ) (what : What) → with_declar
     → (next.types ≡ symbols.types ++ cons_option (type_of what) []) × (next.attributes ≡ symbols.attributes ++ cons_option (attribute_of what) [])
 unfolding with_declaration with_type with_attribute
 step_names symbols next line (Attribute n) h =
-    let e = taken symbols next (is_declared symbols n) (nat_le 1024 (length symbols.attributes)) (Twice line) TooMany (record { types = symbols.types; attributes = symbols.attributes ++ n ∷ [] }) h in
+    let e = taken symbols next (is_declared symbols n) (nat_le MOST_ATTRIBUTES (length symbols.attributes)) (Twice line) TooMany (record { types = symbols.types; attributes = symbols.attributes ++ n ∷ [] }) h in
     (rw (← e) (sym (append-nil symbols.types)), rw (← e) refl)
 step_names symbols next line (Declared n names) h =
-    let e = taken symbols next (is_declared symbols n) (nat_le 4096 (length symbols.types)) (Twice line) TooMany (record { types = symbols.types ++ n ∷ []; attributes = symbols.attributes }) h in
+    let e = taken symbols next (is_declared symbols n) (nat_le MOST_TYPES (length symbols.types)) (Twice line) TooMany (record { types = symbols.types ++ n ∷ []; attributes = symbols.attributes }) h in
     (rw (← e) refl, rw (← e) (sym (append-nil symbols.attributes)))
 step_names symbols next line (Member n names) h = let e : symbols ≡ next = cc h in (rw (← e) (sym (append-nil symbols.types)), rw (← e) (sym (append-nil symbols.attributes)))
 step_names symbols next line (Allow r) h = let e : symbols ≡ next = cc h in (rw (← e) (sym (append-nil symbols.types)), rw (← e) (sym (append-nil symbols.attributes)))

@@ -5,6 +5,7 @@ use Rattle.std.specs.Str.{bytes_eq}
 use Rattle.sm_ruletext.specs.declared.statement.What.{What}
 use Rattle.sm_ruletext.specs.declared.statement.What.TheVariants.{Attribute, Declared, Member, Allow, Neverallow}
 use Rattle.sm_ruletext.specs.declared.statement.Statement.{Statement}
+use Rattle.sm_types.specs.declared.TheConstants.{MOST_TYPES, MOST_ATTRIBUTES}
 use Rattle.sm_types.specs.declared.symbols.Symbols.{Symbols}
 use Rattle.sm_types.specs.declared.fault.TypesFault.{TypesFault}
 use Rattle.sm_types.specs.declared.fault.TypesFault.TheVariants.{Twice, Unknown, TooMany, Memory}
@@ -41,13 +42,13 @@ is_declared symbols name = list_any (bytes_eq name) symbols.types || list_any (b
 unfoldable pub with_type : Symbols → ℕ → Name → Step Symbols
 with_type symbols line name =
     if is_declared symbols name then Err (Twice line)
-    else if nat_le 4096 (length symbols.types) then Err TooMany
+    else if nat_le MOST_TYPES (length symbols.types) then Err TooMany
     else Ok (record { types = symbols.types ++ name ∷ []; attributes = symbols.attributes })
 
 unfoldable pub with_attribute : Symbols → ℕ → Name → Step Symbols
 with_attribute symbols line name =
     if is_declared symbols name then Err (Twice line)
-    else if nat_le 1024 (length symbols.attributes) then Err TooMany
+    else if nat_le MOST_ATTRIBUTES (length symbols.attributes) then Err TooMany
     else Ok (record { types = symbols.types; attributes = symbols.attributes ++ name ∷ [] })
 
 unfoldable pub with_declaration : Symbols → ℕ → What → Step Symbols

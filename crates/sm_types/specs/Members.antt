@@ -5,6 +5,7 @@ use Rattle.sm_kinds.specs.Names.{contains}
 use Rattle.sm_types.specs.Names.{Name, at, Distinct}
 use Rattle.sm_types.specs.Denoting.{Policy, types, attributes, has_attribute}
 use Rattle.sm_types.specs.Declaring.{symbols_of}
+use Rattle.sm_types.specs.declared.TheConstants.{MOST_TYPES}
 use Rattle.sm_types.specs.declared.symbols.Symbols.{Symbols}
 use Rattle.sm_types.specs.declared.table.Table.{Table}
 
@@ -17,10 +18,14 @@ pub record Given (old new : List (List ℕ)) (attributes names : List Name) (t :
 -- No type stands twice, and each attribute has a row, with room for each type and no number past the types.
 pub record Fits (members : List (List ℕ)) (symbols : Symbols) : Type 0 where
   pub distinct : Distinct symbols.types
-  pub few : length symbols.types ≤ 4096
   pub count : length members ≡ length symbols.attributes
   pub room : (a : ℕ) → a < length symbols.attributes → length (row members a) ≡ length symbols.types / 64 + 1
   pub past : (a i : ℕ) → a < length symbols.attributes → length symbols.types ≤ i → has (row members a) i ≡ false
+
+-- What is true of every table.
+pub record IsSound (table : Table) : Type 0 where
+  pub few : length table.symbols.types ≤ MOST_TYPES
+  pub fits : Fits table.members.items table.symbols
 
 -- The rows say which type has which attribute in the policy.
 pub record MembersOf (policy : Policy) (symbols : Symbols) (members : List (List ℕ)) : Type 0 where

@@ -12,7 +12,8 @@ pub enum TypesFault {
     Twice(u32),
     /// The statement at this line has a name that isn't declared so.
     Unknown(u32),
-    /// There are more than 4,096 types or 1,024 attributes.
+    /// There are more than [`MOST_TYPES`](crate::MOST_TYPES) types or
+    /// [`MOST_ATTRIBUTES`](crate::MOST_ATTRIBUTES) attributes.
     TooMany,
     /// Memory was refused.
     Memory,

@@ -9,7 +9,15 @@ mod symbols;
 mod table;
 #[cfg(test)]
 mod tests;
+mod type_count;
 mod types;
 
 pub use fault::TypesFault;
+pub use type_count::TypeCount;
 pub use types::Types;
+
+/// The most types that a rule text may declare.
+pub const MOST_TYPES: usize = 4096;
+
+/// The most attributes that a rule text may declare.
+pub const MOST_ATTRIBUTES: usize = 1024;

@@ -71,7 +71,6 @@ fn with_members(members: &mut Vec<BitRow>, symbols: &Symbols, what: &What)
 
 /// An empty row for each attribute.
 fn no_members(alloc: Global, symbols: &Symbols) -> Result<Vec<BitRow>, AllocError>
-    requires { length symbols.now.types ≤ 4096 }
     ensures { IfOk result (λ m. (Fits m.items symbols.now) × ((a i : ℕ)
         → has (row m.items a) i ≡ false)) }
 {
@@ -85,7 +84,6 @@ pub fn members_of(
     symbols: &Symbols,
     statements: &[Statement],
 ) -> Result<Vec<BitRow>, AllocError>
-    requires { length symbols.now.types ≤ 4096 }
     ensures { IfOk result (λ m. MembersOf statements.now symbols.now m.items) }
 {
     let mut members = no_members(alloc, symbols)?;

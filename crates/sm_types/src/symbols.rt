@@ -5,18 +5,13 @@ ghost use Rattle.std.specs.List.{list_any, list_all};
 ghost use Rattle.std.specs.Str.{bytes_eq};
 ghost use Rattle.sm_types.specs.Declaring as spec;
 ghost use Rattle.sm_types.specs.Declaring.{Gives};
+ghost use Rattle.sm_types.specs.declared.TheConstants.{MOST_TYPES};
 
-use crate::TypesFault;
 use crate::name_set::NameSet;
+use crate::{MOST_ATTRIBUTES, MOST_TYPES, TypesFault};
 use sm_kinds::Names;
 use sm_ruletext::{Statement, What};
 use std::alloc::Global;
-
-/// The most types of a rule text.
-const MAX_TYPES: usize = 4096;
-
-/// The most attributes of a rule text.
-const MAX_ATTRIBUTES: usize = 1024;
 
 /// The types and the attributes of a rule text, which share one space of names.
 #[derive(Drop)]
@@ -33,7 +28,7 @@ fn is_declared(symbols: &Symbols, name: &[u8]) -> bool
 
 #[tactic(auto, unfolding(crate::specs::Declaring::with_type))]
 fn with_type(alloc: Global, symbols: Symbols, line: u32, name: &[u8]) -> Result<Symbols, TypesFault>
-    ensures few { IfOk result (λ s. length s.types ≤ 4096) }
+    ensures few { IfOk result (λ s. length s.types ≤ MOST_TYPES) }
     ensures exact { Gives (λ s. s) result (spec.with_type symbols line name.now) }
 {
     if is_declared(&symbols, name) {
@@ -43,7 +38,7 @@ fn with_type(alloc: Global, symbols: Symbols, line: u32, name: &[u8]) -> Result<
         mut types,
         attributes,
     } = symbols;
-    if types.len() >= MAX_TYPES {
+    if types.len() >= MOST_TYPES {
         return Err(TypesFault::TooMany);
     }
     types.insert(alloc, name)?;
@@ -67,7 +62,7 @@ fn with_attribute(
         types,
         mut attributes,
     } = symbols;
-    if attributes.len() >= MAX_ATTRIBUTES {
+    if attributes.len() >= MOST_ATTRIBUTES {
         return Err(TypesFault::TooMany);
     }
     attributes.insert(alloc, name)?;
@@ -80,7 +75,7 @@ fn with_declaration(
     symbols: Symbols,
     statement: &Statement,
 ) -> Result<Symbols, TypesFault>
-    ensures few { length symbols.types ≤ 4096 → IfOk result (λ s. length s.types ≤ 4096) }
+    ensures few { length symbols.types ≤ MOST_TYPES → IfOk result (λ s. length s.types ≤ MOST_TYPES) }
     ensures exact { Gives
         (λ s. s) result (spec.with_declaration symbols statement.now.line statement.now.what) }
 {
@@ -93,7 +88,7 @@ fn with_declaration(
 
 /// All declarations, in the order of the text.
 fn declared(alloc: Global, statements: &[Statement]) -> Result<Symbols, TypesFault>
-    ensures few { IfOk result (λ s. length s.types ≤ 4096) }
+    ensures few { IfOk result (λ s. length s.types ≤ MOST_TYPES) }
     ensures exact { Gives (λ s. s) result (spec.declared spec.nothing statements.now) }
 {
     let mut symbols = Symbols {
@@ -141,7 +136,7 @@ fn first_unknown(symbols: &Symbols, statements: &[Statement]) -> Option<u32>
 /// The names that a rule text declares, where no declaration and no membership is refused.
 #[tactic(auto, unfolding(crate::specs::Declaring::symbols_of))]
 pub fn symbols_of(alloc: Global, statements: &[Statement]) -> Result<Symbols, TypesFault>
-    ensures few { IfOk result (λ s. length s.types ≤ 4096) }
+    ensures few { IfOk result (λ s. length s.types ≤ MOST_TYPES) }
     ensures exact { Gives (λ s. s) result (spec.symbols_of statements.now) }
 {
     let symbols = declared(alloc, statements)?;

@@ -9,6 +9,7 @@ ghost use Rattle.sm_types.specs.Names.{at};
 ghost use Rattle.sm_types.specs.Declaring.{Fails, symbols_of, is_declared, all_declared, UnlessMemory};
 ghost use Rattle.sm_types.specs.Denoting.{is_named, has_attribute, chosen, in_set};
 ghost use Rattle.sm_types.specs.Members.{Fits, IsOf};
+ghost use Rattle.sm_types.specs.declared.TheConstants.{MOST_TYPES};
 ghost use Rattle.sm_types.specs.declared.fault.TypesFault.TheVariants.{Unknown};
 
 use crate::TypesFault;
@@ -38,6 +39,7 @@ impl Drop for Table {
 pub fn table_of(alloc: Global, statements: &[Statement]) -> Result<Table, TypesFault>
     ensures refused { IfErr result (λ e. Fails e (symbols_of statements.now)) }
     ensures built { IfOk result (λ t. IsOf statements.now t) }
+    ensures few { IfOk result (λ t. length t.symbols.types ≤ MOST_TYPES) }
 {
     let symbols = symbols_of(alloc, statements)?;
     let members = members_of(alloc, &symbols, statements)?;

@@ -8,10 +8,11 @@ ghost use Rattle.sm_types.specs.Names.{at, is_at};
 ghost use Rattle.sm_types.specs.Declaring.{Fails, symbols_of, UnlessMemory};
 ghost use Rattle.sm_types.specs.Denoting.{in_set, declares, all_known};
 ghost use Rattle.sm_types.specs.Members.{IsOf};
+ghost use Rattle.sm_types.specs.declared.TheConstants.{MOST_TYPES};
 ghost use Rattle.sm_types.specs.declared.fault.TypesFault.TheVariants.{Unknown};
 
-use crate::TypesFault;
 use crate::table::{Table, chosen_types, table_of};
+use crate::{TypeCount, TypesFault};
 use sm_bits::BitRow;
 use sm_ruletext::{Set, Statement};
 use std::alloc::Global;
@@ -27,13 +28,13 @@ pub struct Types {
 
 impl Model for Types {
     ghost use Rattle.sm_types.specs.declared.table.Table.{Table};
-    ghost use Rattle.sm_types.specs.Members.{Fits};
+    ghost use Rattle.sm_types.specs.Members.{IsSound};
 
     ghost Value = { Table };
 
     ghost view = { λ t. t.table };
 
-    ghost invariant = { λ t. Fits t.table.members.items t.table.symbols };
+    ghost invariant = { λ t. IsSound t.table };
 }
 
 impl Drop for Types {
@@ -48,8 +49,8 @@ impl Types {
     /// # Errors
     ///
     /// First all declarations in the order of the text: `Twice` for a name that is declared
-    /// again, as a type or an attribute, and `TooMany` for a type past 4,096 or an attribute
-    /// past 1,024. Then all memberships in that order: `Unknown` where a `type` statement gives
+    /// again, as a type or an attribute, and `TooMany` for a type past [`MOST_TYPES`] or an
+    /// attribute past [`MOST_ATTRIBUTES`]. Then all memberships in that order: `Unknown` where a `type` statement gives
     /// a name that is no attribute, or a `typeattribute` statement has a name that is no type,
     /// or no attribute. `Memory` where memory was refused.
     pub fn build(alloc: Global, statements: &[Statement]) -> Result<Types, TypesFault>
@@ -60,15 +61,22 @@ impl Types {
         Ok(Types { table })
     }
 
-    /// How many types there are, at most 4,096.
-    pub fn count(&self) -> usize
-        ensures count { result ≡ length self.now.symbols.types }
-        ensures few { result ≤ 4096 }
+    /// How many types there are, as a number that is known to be small.
+    pub fn type_count(&self) -> TypeCount
+        ensures { result ≡ length self.now.symbols.types }
     {
-        self.table.symbols.types.len()
+        TypeCount::new(self.table.symbols.types.len())
     }
 
-    /// How many attributes there are, at most 1,024.
+    /// How many types there are.
+    pub fn count(&self) -> usize
+        ensures count { result ≡ length self.now.symbols.types }
+        ensures few { result ≤ MOST_TYPES }
+    {
+        self.type_count().get()
+    }
+
+    /// How many attributes there are, at most [`MOST_ATTRIBUTES`](crate::MOST_ATTRIBUTES).
     pub fn attribute_count(&self) -> usize
         ensures { result ≡ length self.now.symbols.attributes }
     {

@@ -1,6 +1,6 @@
 use Rattle.std.proofs.Common.{◌≡◌, Some, refl}
 use Rattle.sm_types.specs.Denoting.{types}
-use Rattle.sm_rules.specs.Violating.{IsFirstViolation}
+use Rattle.sm_neverallow.specs.Violating.{IsFirstViolation}
 use Rattle.sm_policy.specs.Preparing.{unbroken}
 use Rattle.sm_policy.specs.Violating.{first_violation, named_violation}
 use Rattle.sm_policy.proofs.Firsts.{violation_is, no_violation}

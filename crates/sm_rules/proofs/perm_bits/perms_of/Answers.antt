@@ -1,6 +1,6 @@
 use Rattle.sm_rules.specs.Access.{gives}
 use Rattle.sm_rules.specs.Keeping.{class_at, perm_at}
-use Rattle.sm_rules.proofs.Bits.{told_none, told_more}
+use Rattle.sm_bits.proofs.ByteBits.{told_none, told_more}
 use Rattle.sm_rules.proofs.perm_bits.perms_of.Goals as goal
 
 pub loop-bit-init : goal.loop-bit-init

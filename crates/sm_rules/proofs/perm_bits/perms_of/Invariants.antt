@@ -1,6 +1,6 @@
 use Rattle.sm_rules.specs.Access.{gives}
 use Rattle.sm_rules.specs.Keeping.{class_at, perm_at}
-use Rattle.sm_rules.proofs.Bits.{Told}
+use Rattle.sm_bits.proofs.ByteBits.{Told}
 use Rattle.sm_rules.proofs.perm_bits.perms_of.Given as goal
 
 abbrev pub invariant-loop-bit : goal.invariant-loop-bit

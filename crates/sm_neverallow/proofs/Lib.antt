@@ -1,0 +1,10 @@
+pub mod Doubling
+pub mod Rows
+pub mod Groups
+pub mod Searches
+pub mod Meeting
+pub mod Apart
+pub mod Broken
+pub mod Sifting
+pub mod Consistent
+pub mod Firsts

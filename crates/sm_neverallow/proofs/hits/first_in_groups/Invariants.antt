@@ -1,0 +1,7 @@
+use Rattle.std.proofs.Common.{◌≡◌, ◌<◌, ℕ, Some}
+use Rattle.sm_rules.specs.declared.kept.Kept.{Kept}
+use Rattle.sm_neverallow.specs.Hitting.{AllMiss, rule_at}
+use Rattle.sm_neverallow.proofs.hits.first_in_groups.Given as goal
+
+abbrev pub invariant-loop-k : goal.invariant-loop-k
+invariant-loop-k l = (k : ℕ) (rule : Kept) → k < l.k → rule_at l.rules l.places k ≡ Some rule → AllMiss l.all l.first rule

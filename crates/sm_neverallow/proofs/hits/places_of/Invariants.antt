@@ -1,0 +1,5 @@
+use Rattle.sm_neverallow.specs.Hitting.{Chosen}
+use Rattle.sm_neverallow.proofs.hits.places_of.Given as goal
+
+abbrev pub invariant-loop-place : goal.invariant-loop-place
+invariant-loop-place l = Chosen l.rules l.set l.place l.places.items

@@ -1,0 +1,10 @@
+use Rattle.std.proofs.Common.{◌+◌, ◌*◌, ◌/◌}
+use Rattle.sm_neverallow.specs.Hitting.{Unites}
+use Rattle.sm_neverallow.specs.Uniting.{AreWide}
+use Rattle.sm_neverallow.proofs.matrix.unions_of.Given as goal
+
+abbrev pub invariant-loop-k : goal.invariant-loop-k
+invariant-loop-k l = record {
+  wide : AreWide (l.count / 64 + 1) l.unions;
+  united : Unites l.rows (8 * l.group) l.k l.unions;
+}

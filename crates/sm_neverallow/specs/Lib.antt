@@ -1,0 +1,4 @@
+pub mod Hitting
+pub mod Matrices
+pub mod Uniting
+pub mod Violating

@@ -1,0 +1,86 @@
+-- Rows of bits for pairs of types: for each source, its targets.
+use Rattle.std.specs.Prelude.{◌≡◌, ℕ, Bool, true, false, ◌&&◌, ◌||◌, ◌+◌, ◌/◌, ◌%◌, ◌<◌, nat_eq, List, [], length}
+use Rattle.std.specs.List.{list_any}
+use Rattle.std.proofs.Common.{get_or}
+use Rattle.sm_bits.specs.Bits.{has, row, has_bit}
+use Rattle.sm_rules.specs.Keeping.{joins, covers, covered}
+use Rattle.sm_rules.specs.declared.kept.Kept.{Kept}
+
+-- The matrix of a permission.
+abbrev pub matrix : List (List (List ℕ)) → ℕ → List (List ℕ)
+matrix matrices b = get_or matrices b []
+
+-- A row for each type, with room for each type.
+pub record Square (rows : List (List ℕ)) (n : ℕ) : Type 0 where
+  pub count : length rows ≡ n
+  pub room : (s : ℕ) → s < n → length (row rows s) ≡ n / 64 + 1
+
+-- The rows say what some rule covers for permission b.
+pub record Compiled (rules : List Kept) (count b : ℕ) (rows : List (List ℕ)) : Type 0 where
+  pub square : Square rows count
+  pub says : (s t : ℕ) → s < count → has (row rows s) t ≡ covered rules b s t
+
+-- A matrix for each of the first permissions.
+pub record AllCompiled (rules : List Kept) (count n : ℕ) (matrices : List (List (List ℕ))) : Type 0 where
+  pub number : length matrices ≡ n
+  pub each : (b : ℕ) → b < n → Compiled rules count b (matrix matrices b)
+
+-- A matrix of the right size for each permission.
+pub record AllSquare (matrices : List (List (List ℕ))) (count : ℕ) : Type 0 where
+  pub each : (b : ℕ) → b < 7 → Square (matrix matrices b) count
+
+-- ---- rules by the set of their permissions
+
+-- The permissions of a rule as a number below 128, a bit for each.
+abbrev pub perm_set : Kept → ℕ
+perm_set rule = rule.perms.0 % 128
+
+abbrev pub is_of_set : ℕ → Kept → Bool
+is_of_set set rule = nat_eq (perm_set rule) set
+
+-- Some rule has exactly these permissions, and joins the two types.
+abbrev pub joined_by : List Kept → ℕ → ℕ → ℕ → Bool
+joined_by rules set s t = list_any (λ r. joins s t r && is_of_set set r) rules
+
+-- The rows say what the rules of exactly these permissions join.
+pub record Grouped (rules : List Kept) (count set : ℕ) (rows : List (List ℕ)) : Type 0 where
+  pub square : Square rows count
+  pub says : (s t : ℕ) → s < count → has (row rows s) t ≡ joined_by rules set s t
+
+-- The matrices have what they had, and for each permission of a set these pairs too.
+pub record Joined (old new : List (List (List ℕ))) (count set : ℕ) (pairs : ℕ → ℕ → Bool) : Type 0 where
+  pub number : length new ≡ 7
+  pub square : AllSquare new count
+  pub says : (b s t : ℕ) → b < 7 → s < count → has (row (matrix new b) s) t ≡ (has (row (matrix old b) s) t || (has_bit set b && pairs s t))
+
+-- The rows have the pairs that the matrices have for the permissions of a set below n, and no others.
+pub record IsUnion (matrices : List (List (List ℕ))) (count set n : ℕ) (rows : List (List ℕ)) : Type 0 where
+  pub square : Square rows count
+  pub all : (b s t : ℕ) → b < n → s < count → has_bit set b ≡ true → has (row (matrix matrices b) s) t ≡ true → has (row rows s) t ≡ true
+  pub only : (s t : ℕ) → s < count → has (row rows s) t ≡ true → (b : ℕ) × (b < n) × (has_bit set b ≡ true) × (has (row (matrix matrices b) s) t ≡ true)
+
+-- ---- rules against matrices
+
+-- The rule joins no pair of the rows.
+pub record Misses (rows : List (List ℕ)) (count : ℕ) (rule : Kept) : Type 0 where
+  pub misses : (s t : ℕ) → s < count → (has (row rows s) t && joins s t rule) ≡ false
+
+-- The rule joins some pair of the rows.
+pub record Hits (rows : List (List ℕ)) (count : ℕ) (rule : Kept) : Type 0 where
+  pub s : ℕ
+  pub t : ℕ
+  pub inside : s < count
+  pub both : (has (row rows s) t && joins s t rule) ≡ true
+
+-- The rule covers nothing that the matrices have.
+pub record IsClear (matrices : List (List (List ℕ))) (count : ℕ) (rule : Kept) : Type 0 where
+  pub clear : (b s t : ℕ) → b < 7 → s < count → (has (row (matrix matrices b) s) t && covers b s t rule) ≡ false
+
+-- The rule covers something that the matrices have.
+pub record IsBroken (matrices : List (List (List ℕ))) (count : ℕ) (rule : Kept) : Type 0 where
+  pub b : ℕ
+  pub s : ℕ
+  pub t : ℕ
+  pub low : b < 7
+  pub inside : s < count
+  pub both : (has (row (matrix matrices b) s) t && covers b s t rule) ≡ true

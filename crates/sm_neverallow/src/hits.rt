@@ -1,0 +1,316 @@
+//! The first neverallow rule that joins a pair of a matrix.
+//!
+//! Many rules are tested by groups of eight sources: the rows of a group are joined once for each
+//! subset of them, so that a rule is tested once for all its sources in the group. Each rule is
+//! tested with a few groups in turn, since the rules together are larger than a processor's
+//! cache, and the unions of a few groups are not.
+
+ghost use Rattle.std.specs.Prelude.{◌≡◌, ◌<◌, ◌≤◌, ◌+◌, ◌*◌, ◌/◌, ◌++◌, ◌∷◌, [], ℕ, length, ◌&&◌, All, IsTrue, IfOk, Some, slice_get, nat_eq, ◌||◌, false, if◌then◌else◌};
+ghost use Rattle.sm_bits.specs.Bits.{has, row, has_bit};
+ghost use Rattle.sm_rules.specs.Keeping.{FitsRule};
+ghost use Rattle.sm_neverallow.specs.Matrices.{perm_set, is_of_set, Square, Misses, Hits};
+ghost use Rattle.sm_neverallow.specs.Uniting.{AreWide};
+ghost use Rattle.sm_neverallow.specs.Hitting.{IsPlaceOf, UnionMisses, UnionHits, AreReady, AllUnite, AllMiss, SomeHit, MissesGroups, OwnMisses, OwnHits, ArePlaces, Chosen, FindsFirst};
+ghost use Rattle.sm_rules.specs.declared.kept.Kept.{Kept as TheKept};
+
+use crate::matrix::{GROUP, Matrix};
+use crate::perm_sets::perm_set;
+use crate::unions::Unions;
+use sm_bits::{BitRow, with_bit};
+use sm_rules::Kept;
+use sm_types::TypeCount;
+use std::alloc::{AllocError, Global};
+
+/// How many rules with every source cost as much as the unions of all groups.
+const MANY: usize = 192;
+
+/// How many groups are tested together.
+const GROUPS: usize = 4;
+
+/// Adds a bit, if the rule has that source of the group.
+fn with_source(byte: u8, rule: &Kept, group: usize, bit: u32) -> u8
+    requires bit { bit < 8 }
+    requires room { 8 * group + 8 ≤ 64 * length rule.now.sources }
+    requires group { group < 1024 }
+    ensures { (b : ℕ) → has_bit result b
+        ≡ (has_bit byte b || (nat_eq b bit && has rule.now.sources (8 * group + bit))) }
+{
+    if rule.sources.has(GROUP * group + bit as usize) {
+        with_bit(byte, bit)
+    } else {
+        byte
+    }
+}
+
+/// Which of the eight sources of a group a rule has, a bit for each.
+fn place_of(rule: &Kept, group: usize) -> u8
+    requires room { 8 * group + 8 ≤ 64 * length rule.now.sources }
+    requires group { group < 1024 }
+    ensures { IsPlaceOf result group rule.now }
+{
+    let mut place = 0u8;
+    for bit in 0..8u32 {
+        place = with_source(place, rule, group, bit);
+    }
+    place
+}
+
+/// Whether a rule joins a source of the group to a target of its row.
+fn is_group_hit(unions: &Unions, rule: &Kept, count: TypeCount, group: usize) -> bool
+    requires group { group < 8 * (count / 64 + 1) }
+    requires number { length unions.now ≡ 256 }
+    requires wide { AreWide (count / 64 + 1) unions.now }
+    requires none { (t : ℕ) → has (row unions.now 0) t ≡ false }
+    requires rule { FitsRule count rule.now }
+    ensures none { result ≡ false → UnionMisses unions.now group rule.now }
+    ensures some { IsTrue result → UnionHits unions.now group rule.now }
+{
+    let words = count.words();
+    let place = place_of(rule, group);
+    // The first union is empty.
+    place != 0 && unions.meets(place as usize, &rule.targets, words)
+}
+
+/// Whether a rule joins one of these sources to itself by `self`.
+fn is_own_hit(own: &BitRow, rule: &Kept) -> bool
+    requires { length own.now ≡ length rule.now.sources }
+    ensures none { result ≡ false → OwnMisses own.now rule.now }
+    ensures some { IsTrue result → OwnHits own.now rule.now }
+{
+    rule.to_self && own.meets(&rule.sources)
+}
+
+/// Whether a rule joins a source of one of the groups to a target of its row.
+fn is_hit(all: &[Unions], rule: &Kept, count: TypeCount, first: usize) -> bool
+    requires groups { first + length all.now ≤ 8 * (count / 64 + 1) }
+    requires ready { AreReady count all.now }
+    requires rule { FitsRule count rule.now }
+    ensures none { result ≡ false → AllMiss all.now first rule.now }
+    ensures some { IsTrue result → SomeHit all.now first rule.now }
+{
+    prove!(first <= 8 * count.words());
+    for j in 0..all.len() {
+        if is_group_hit(&all[j], rule, count, first + j) {
+            return true;
+        }
+    }
+    false
+}
+
+/// The first of the places below `end` whose rule joins a source of one of the groups to a target
+/// of its row; `end`, if there is none.
+fn first_in_groups(
+    all: &[Unions],
+    rules: &[Kept],
+    places: &[usize],
+    count: TypeCount,
+    first: usize,
+    end: usize,
+) -> usize
+    requires groups { first + length all.now ≤ 8 * (count / 64 + 1) }
+    requires ready { AreReady count all.now }
+    requires fits { All (FitsRule count) rules.now }
+    requires places { ArePlaces rules.now places.now }
+    requires end { end ≤ length places.now }
+    ensures { FindsFirst rules.now places.now end result
+        (SomeHit all.now first) (AllMiss all.now first) }
+{
+    for k in 0..end {
+        if is_hit(all, &rules[places[k]], count, first) {
+            return k;
+        }
+    }
+    end
+}
+
+/// The unions of the rows of a few groups.
+fn unions_of(
+    alloc: Global,
+    matrix: &Matrix,
+    count: TypeCount,
+    first: usize,
+) -> Result<Vec<Unions>, AllocError>
+    requires groups { first + 4 ≤ 8 * (count / 64 + 1) }
+    requires square { Square matrix.now count }
+    ensures number { IfOk result (λ all. length all.items ≡ 4) }
+    ensures ready { IfOk result (λ all. AreReady count all.items) }
+    ensures united { IfOk result (λ all. AllUnite matrix.now first all.items) }
+{
+    prove!(first <= 8 * count.words());
+    let mut all = Vec::new(alloc);
+    for j in 0..GROUPS {
+        let unions = matrix.unions_of(alloc, count, first + j)?;
+        all.push(unions)?;
+    }
+    Ok(all)
+}
+
+/// The first of the places whose rule joins one of these sources to itself by `self`; their
+/// number, if there is none.
+fn first_own(own: &BitRow, rules: &[Kept], places: &[usize], count: TypeCount) -> usize
+    requires own { length own.now ≡ count / 64 + 1 }
+    requires fits { All (FitsRule count) rules.now }
+    requires places { ArePlaces rules.now places.now }
+    ensures { FindsFirst rules.now places.now (length places.now) result
+        (OwnHits own.now) (OwnMisses own.now) }
+{
+    for k in 0..places.len() {
+        if is_own_hit(own, &rules[places[k]]) {
+            return k;
+        }
+    }
+    places.len()
+}
+
+/// The first of the places below `end` whose rule joins a source of one of a few groups to a
+/// target of its row in the matrix; `end`, if there is none.
+fn first_of_groups(
+    alloc: Global,
+    matrix: &Matrix,
+    rules: &[Kept],
+    places: &[usize],
+    count: TypeCount,
+    first: usize,
+    end: usize,
+) -> Result<usize, AllocError>
+    requires groups { first + 4 ≤ 8 * (count / 64 + 1) }
+    requires square { Square matrix.now count }
+    requires fits { All (FitsRule count) rules.now }
+    requires places { ArePlaces rules.now places.now }
+    requires end { end ≤ length places.now }
+    ensures { IfOk result (λ found. FindsFirst rules.now places.now end found
+        (Hits matrix.now count) (MissesGroups matrix.now first 4)) }
+{
+    let all = unions_of(alloc, matrix, count, first)?;
+    Ok(first_in_groups(&all, rules, places, count, first, end))
+}
+
+/// The first of the places whose rule joins a pair of the matrix, sought by groups of sources;
+/// the number of places, if there is none.
+fn first_by_groups(
+    alloc: Global,
+    matrix: &Matrix,
+    rules: &[Kept],
+    places: &[usize],
+    count: TypeCount,
+) -> Result<usize, AllocError>
+    requires square { Square matrix.now count }
+    requires fits { All (FitsRule count) rules.now }
+    requires places { ArePlaces rules.now places.now }
+    ensures { IfOk result (λ found. FindsFirst rules.now places.now (length places.now) found
+        (Hits matrix.now count) (Misses matrix.now count)) }
+{
+    let own = matrix.own_sources(alloc, count)?;
+    let mut found = first_own(&own, rules, places, count);
+    // A word of a row has 64 sources, and so eight groups.
+    for step in 0..2 * count.words() {
+        found = first_of_groups(alloc, matrix, rules, places, count, GROUPS * step, found)?;
+    }
+    Ok(found)
+}
+
+/// The same, sought rule by rule.
+fn first_by_rules(matrix: &Matrix, rules: &[Kept], places: &[usize], count: TypeCount) -> usize
+    requires square { Square matrix.now count }
+    requires fits { All (FitsRule count) rules.now }
+    requires places { ArePlaces rules.now places.now }
+    ensures { FindsFirst rules.now places.now (length places.now) result
+        (Hits matrix.now count) (Misses matrix.now count) }
+{
+    for k in 0..places.len() {
+        if matrix.meets(&rules[places[k]], count) {
+            return k;
+        }
+    }
+    places.len()
+}
+
+/// Adds the place of a rule, if it has exactly the permissions `set`.
+fn add_place(places: &mut Vec<usize>, rule: &Kept, set: u8, place: usize) -> Result<(), AllocError>
+    ensures { IfOk result (λ done. places.new.items
+        ≡ (if is_of_set set rule.now then places.old.items ++ place ∷ [] else places.old.items)) }
+{
+    if perm_set(rule) == set {
+        places.push(place)?;
+    }
+    Ok(())
+}
+
+/// The places of the rules below `end` that have exactly the permissions `set`.
+fn places_of(alloc: Global, rules: &[Kept], set: u8, end: usize) -> Result<Vec<usize>, AllocError>
+    requires { end ≤ length rules.now }
+    ensures { IfOk result (λ places. Chosen rules.now set end places.items) }
+{
+    let mut places = Vec::new(alloc);
+    for place in 0..end {
+        add_place(&mut places, &rules[place], set, place)?;
+    }
+    Ok(places)
+}
+
+/// Whether the rules have so many sources in all that the unions cost less than they save. Either
+/// answer is right, and only the time is another.
+fn have_many_sources(rules: &[Kept], places: &[usize], count: TypeCount) -> bool
+    requires fits { All (FitsRule count) rules.now }
+    requires places { ArePlaces rules.now places.now }
+{
+    let many = MANY * count.get();
+    let mut sources = 0;
+    for place in places {
+        sources += rules[*place].sources.count();
+        if sources >= many {
+            return true;
+        }
+    }
+    false
+}
+
+/// The first of the places whose rule joins a pair of the matrix; their number, if there is none.
+fn first_of_places(
+    alloc: Global,
+    matrix: &Matrix,
+    rules: &[Kept],
+    places: &[usize],
+    count: TypeCount,
+) -> Result<usize, AllocError>
+    requires square { Square matrix.now count }
+    requires fits { All (FitsRule count) rules.now }
+    requires places { ArePlaces rules.now places.now }
+    ensures { IfOk result (λ found. FindsFirst rules.now places.now (length places.now) found
+        (Hits matrix.now count) (Misses matrix.now count)) }
+{
+    if !have_many_sources(rules, places, count) {
+        return Ok(first_by_rules(matrix, rules, places, count));
+    }
+    first_by_groups(alloc, matrix, rules, places, count)
+}
+
+/// The place of the first rule below `end` that has exactly the permissions `set` and joins a
+/// pair of the matrix; `end`, if none does.
+pub fn first_hit(
+    alloc: Global,
+    matrix: &Matrix,
+    rules: &[Kept],
+    count: TypeCount,
+    set: u8,
+    end: usize,
+) -> Result<usize, AllocError>
+    requires square { Square matrix.now count }
+    requires fits { All (FitsRule count) rules.now }
+    requires end { end ≤ length rules.now }
+    ensures end { IfOk result (λ place. place ≤ end) }
+    ensures hit { IfOk result (λ place. (rule : TheKept) → place < end
+        → slice_get rules.now place ≡ Some rule
+        → (perm_set rule ≡ set) × Hits matrix.now count rule) }
+    ensures first { IfOk result (λ place. (n : ℕ) (rule : TheKept) → n < place
+        → slice_get rules.now n ≡ Some rule → perm_set rule ≡ set
+        → Misses matrix.now count rule) }
+{
+    let places = places_of(alloc, rules, set, end)?;
+    let found = first_of_places(alloc, matrix, rules, &places, count)?;
+    if found < places.len() {
+        Ok(places[found])
+    } else {
+        Ok(end)
+    }
+}

@@ -1,0 +1,274 @@
+//! An allow rule that breaks a neverallow rule.
+
+ghost use Rattle.std.specs.Prelude.{◌≡◌, ◌<◌, ◌≤◌, ◌*◌, ℕ, List, length, ◌&&◌, All, false, true, IfSome, IfNone, IfOk, Some, slice_get};
+ghost use Rattle.sm_bits.specs.Bits.{has_bit};
+ghost use Rattle.sm_ruletext.specs.declared.statement.Statement.{Statement as TheStatement};
+ghost use Rattle.sm_types.specs.Names.{at};
+ghost use Rattle.sm_rules.specs.Access.{written, forbidden, IsConsistent};
+ghost use Rattle.sm_rules.specs.Keeping.{FitsRule, RulesOf};
+ghost use Rattle.sm_neverallow.specs.Matrices.{perm_set, AllSquare, IsClear, IsBroken};
+ghost use Rattle.sm_neverallow.specs.Violating.{both_join, AreApart, IsBetween, IsFirstOf, IsFirstAmong, AllApart, IsFirstViolation};
+ghost use Rattle.sm_rules.specs.declared.kept.Kept.{Kept as TheKept};
+
+use crate::hits::first_hit;
+use crate::matrix::{Matrix, matrices_of};
+use crate::perm_sets::{SET_COUNT, any_of_set};
+use sm_bits::has_bit;
+use sm_kinds::{Class, Perms};
+use sm_rules::{Kept, PERM_COUNT, Rules, class_at, perm_at};
+use sm_types::TypeCount;
+use std::alloc::{AllocError, Global};
+
+/// The first tuple that a neverallow rule forbids and an allow rule allows.
+#[derive(Clone, Copy, Debug, PartialEq, Eq)]
+pub struct Violation {
+    /// The line of the neverallow rule.
+    pub never_line: u32,
+    /// The line of the allow rule.
+    pub allow_line: u32,
+    /// The source and the target, by the numbers of their types.
+    pub source: u16,
+    pub target: u16,
+    pub class: Class,
+    /// A single permission of the class.
+    pub perm: Perms,
+}
+
+/// The lowest permission in both sets.
+fn common_bit(first: u8, second: u8) -> Option<u32>
+    ensures none { IfNone result ((b : ℕ) → b < 7 → (has_bit first b && has_bit second b) ≡ false) }
+    ensures some { IfSome result (λ b. (b < 7) × ((has_bit first b && has_bit second b) ≡ true)) }
+    ensures lowest { IfSome result (λ b. (c : ℕ) → c < b
+        → (has_bit first c && has_bit second c) ≡ false) }
+{
+    for bit in 0..PERM_COUNT {
+        if has_bit(first, bit) && has_bit(second, bit) {
+            return Some(bit);
+        }
+    }
+    None
+}
+
+/// Whether two rules join a type to itself, one of them by `self`.
+fn own_meet(a: &Kept, b: &Kept, s: usize) -> bool
+    requires a_source { s < 64 * length a.now.sources }
+    requires a_target { s < 64 * length a.now.targets }
+    requires b_source { s < 64 * length b.now.sources }
+    requires b_target { s < 64 * length b.now.targets }
+    ensures { result ≡ both_join s s a.now b.now }
+{
+    a.joins(s, s) && b.joins(s, s)
+}
+
+/// Whether two rules join some pair of types both.
+fn meet(a: &Kept, b: &Kept, count: TypeCount) -> bool
+    requires first { FitsRule count a.now }
+    requires second { FitsRule count b.now }
+    ensures none { result ≡ false → (s t : ℕ) → both_join s t a.now b.now ≡ false }
+{
+    if !a.sources.meets(&b.sources) {
+        return false;
+    }
+    if a.targets.meets(&b.targets) {
+        return true;
+    }
+    for s in 0..count.get() {
+        if own_meet(a, b, s) {
+            return true;
+        }
+    }
+    false
+}
+
+/// The first target to which two rules join a source both.
+fn first_target(a: &Kept, b: &Kept, count: TypeCount, s: usize) -> Option<usize>
+    requires first { FitsRule count a.now }
+    requires second { FitsRule count b.now }
+    requires source { s < count }
+    ensures none { IfNone result ((t : ℕ) → t < count → both_join s t a.now b.now ≡ false) }
+    ensures some { IfSome result (λ t. (t < count) × (both_join s t a.now b.now ≡ true)) }
+    ensures first { IfSome result (λ t. (u : ℕ) → u < t → both_join s u a.now b.now ≡ false) }
+{
+    if !(a.sources.has(s) && b.sources.has(s)) {
+        return None;
+    }
+    for t in 0..count.get() {
+        if a.joins(s, t) && b.joins(s, t) {
+            return Some(t);
+        }
+    }
+    None
+}
+
+/// The first source, and its first target, that two rules join both.
+fn first_pair(a: &Kept, b: &Kept, count: TypeCount) -> Option<(u16, u16)>
+    requires first { FitsRule count a.now }
+    requires second { FitsRule count b.now }
+    ensures none { IfNone result ((s t : ℕ) → s < count → t < count
+        → both_join s t a.now b.now ≡ false) }
+    ensures some { IfSome result (λ p. (p.0 < count) × (p.1 < count)
+        × (both_join p.0 p.1 a.now b.now ≡ true)) }
+    ensures source { IfSome result (λ p. (s t : ℕ) → s < p.0 → t < count
+        → both_join s t a.now b.now ≡ false) }
+    ensures target { IfSome result (λ p. (t : ℕ) → t < p.1 → both_join p.0 t a.now b.now ≡ false) }
+{
+    for s in 0..count.get() {
+        if let Some(t) = first_target(a, b, count, s) {
+            return Some((s as u16, t as u16));
+        }
+    }
+    None
+}
+
+/// What an allow rule and a neverallow rule have in common first, if anything.
+fn violation_between(allow: &Kept, never: &Kept, count: TypeCount) -> Option<Violation>
+    requires allow { FitsRule count allow.now }
+    requires never { FitsRule count never.now }
+    ensures none { IfNone result (AreApart allow.now never.now count) }
+    ensures some { IfSome result (λ v. IsBetween allow.now never.now count v) }
+{
+    let bit = common_bit(allow.perms.0, never.perms.0)?;
+    if !meet(allow, never, count) {
+        return None;
+    }
+    let (source, target) = first_pair(allow, never, count)?;
+    Some(Violation {
+        never_line: never.line,
+        allow_line: allow.line,
+        source,
+        target,
+        class: class_at(bit),
+        perm: perm_at(bit),
+    })
+}
+
+/// What a neverallow rule has in common with the first allow rule that breaks it, if one does.
+fn first_of(allows: &[Kept], never: &Kept, count: TypeCount) -> Option<Violation>
+    requires allows { All (FitsRule count) allows.now }
+    requires never { FitsRule count never.now }
+    ensures none { IfNone result ((i : ℕ) (allow : TheKept) → slice_get allows.now i ≡ Some allow
+        → AreApart allow never.now count) }
+    ensures some { IfSome result (λ v. IsFirstOf allows.now never.now count v) }
+{
+    for i in 0..allows.len() {
+        if let Some(violation) = violation_between(&allows[i], never, count) {
+            return Some(violation);
+        }
+    }
+    None
+}
+
+/// The place of the first neverallow rule below `end` that has exactly the permissions `set` and
+/// forbids something that the matrices have; `end`, if none does.
+fn first_broken_of(
+    alloc: Global,
+    matrices: &[Matrix],
+    neverallows: &[Kept],
+    count: TypeCount,
+    set: u8,
+    end: usize,
+) -> Result<usize, AllocError>
+    requires number { length matrices.now ≡ 7 }
+    requires square { AllSquare matrices.now count }
+    requires fits { All (FitsRule count) neverallows.now }
+    requires end { end ≤ length neverallows.now }
+    ensures end { IfOk result (λ place. place ≤ end) }
+    ensures broken { IfOk result (λ place. (never : TheKept) → place < end
+        → slice_get neverallows.now place ≡ Some never → IsBroken matrices.now count never) }
+    ensures first { IfOk result (λ place. (n : ℕ) (never : TheKept) → n < place
+        → slice_get neverallows.now n ≡ Some never → perm_set never ≡ set
+        → IsClear matrices.now count never) }
+{
+    if !any_of_set(neverallows, set) {
+        return Ok(end);
+    }
+    let joined = Matrix::union_of(alloc, matrices, count, set)?;
+    first_hit(alloc, &joined, neverallows, count, set, end)
+}
+
+/// The place of the first neverallow rule that forbids something that the matrices have.
+///
+/// The rules are gone through by the sets of their permissions: all rules of a set are tested
+/// against one matrix, of the pairs that some permission of the set has.
+fn first_broken(
+    alloc: Global,
+    matrices: &[Matrix],
+    neverallows: &[Kept],
+    count: TypeCount,
+) -> Result<Option<usize>, AllocError>
+    requires number { length matrices.now ≡ 7 }
+    requires square { AllSquare matrices.now count }
+    requires fits { All (FitsRule count) neverallows.now }
+    ensures none { IfOk result (λ o. IfNone o ((n : ℕ) (never : TheKept)
+        → slice_get neverallows.now n ≡ Some never → IsClear matrices.now count never)) }
+    ensures inside { IfOk result (λ o. IfSome o (λ place. place < length neverallows.now)) }
+    ensures broken { IfOk result (λ o. IfSome o (λ place. (never : TheKept)
+        → slice_get neverallows.now place ≡ Some never → IsBroken matrices.now count never)) }
+    ensures first { IfOk result (λ o. IfSome o (λ place. (n : ℕ) (never : TheKept) → n < place
+        → slice_get neverallows.now n ≡ Some never → IsClear matrices.now count never)) }
+{
+    let mut place = neverallows.len();
+    for set in 1..SET_COUNT {
+        place = first_broken_of(alloc, matrices, neverallows, count, set, place)?;
+    }
+    if place < neverallows.len() {
+        Ok(Some(place))
+    } else {
+        Ok(None)
+    }
+}
+
+/// The first violation: of the first neverallow rule that is broken, by the first allow rule
+/// that breaks it.
+fn first_among(
+    alloc: Global,
+    allows: &[Kept],
+    neverallows: &[Kept],
+    count: TypeCount,
+) -> Result<Option<Violation>, AllocError>
+    requires allows { All (FitsRule count) allows.now }
+    requires neverallows { All (FitsRule count) neverallows.now }
+    ensures none { IfOk result (λ o. IfNone o (AllApart allows.now neverallows.now count)) }
+    ensures some { IfOk result (λ o. IfSome o
+        (λ v. IsFirstAmong allows.now neverallows.now count v)) }
+{
+    let matrices = matrices_of(alloc, allows, count)?;
+    match first_broken(alloc, &matrices, neverallows, count)? {
+        Some(n) => Ok(first_of(allows, &neverallows[n], count)),
+        None => Ok(None),
+    }
+}
+
+/// The first violation of the neverallow rules: of the first neverallow rule in the order of
+/// the text that is broken, by the first allow rule that breaks it; then of the least source
+/// and the least target by the order of declaration, and the lowest permission by the order
+/// of bits. `None`: no allow rule allows what a neverallow rule forbids.
+///
+/// # Errors
+///
+/// An error where memory was refused.
+pub fn first_violation(alloc: Global, rules: &Rules) -> Result<Option<Violation>, AllocError>
+    ensures none { IfOk result
+        (λ o. IfNone o ((policy : List TheStatement) (names : List (List ℕ))
+        → RulesOf policy names rules.now
+        → IsConsistent policy)) }
+    ensures some { IfOk result (λ o. IfSome o
+        (λ v. (policy : List TheStatement) (names : List (List ℕ))
+        → RulesOf policy names rules.now
+        → IsFirstViolation policy names v)) }
+    ensures both { IfOk result (λ o. IfSome o
+        (λ v. (policy : List TheStatement) (names : List (List ℕ))
+        → RulesOf policy names rules.now
+        → (written policy (at names v.source) (at names v.target) v.class v.perm
+        && forbidden policy (at names v.source) (at names v.target) v.class v.perm) ≡ true)) }
+{
+    match first_among(
+        alloc,
+        rules.allows(),
+        rules.neverallows(),
+        rules.type_count(),
+    )? {
+        Some(violation) => Ok(Some(violation)),
+        None => Ok(None),
+    }
+}

@@ -1,6 +1,0 @@
-use Rattle.std.proofs.Common.{◌*◌}
-use Rattle.sm_rules.proofs.Sifting.{Sifted}
-use Rattle.sm_rules.proofs.hits.first_by_groups.Given as goal
-
-abbrev pub invariant-loop-step : goal.invariant-loop-step
-invariant-loop-step l = Sifted l.matrix l.rules l.places l.own l.count (4 * l.step) l.found

@@ -1,5 +1,0 @@
-use Rattle.sm_rules.specs.Hitting.{Chosen}
-use Rattle.sm_rules.proofs.hits.places_of.Given as goal
-
-abbrev pub invariant-loop-place : goal.invariant-loop-place
-invariant-loop-place l = Chosen l.rules l.set l.place l.places.items

@@ -1,5 +1,0 @@
-use Rattle.sm_rules.proofs.Rows.{Ready}
-use Rattle.sm_rules.proofs.hits.unions_of.Given as goal
-
-abbrev pub invariant-loop-j : goal.invariant-loop-j
-invariant-loop-j l = Ready l.matrix l.count l.first l.j l.all.items

@@ -1,5 +1,0 @@
-use Rattle.sm_rules.specs.Matrices.{IsUnion}
-use Rattle.sm_rules.proofs.matrix.Matrix.union_of.Given as goal
-
-abbrev pub invariant-loop-bit : goal.invariant-loop-bit
-invariant-loop-bit l = IsUnion l.matrices l.count l.set l.bit l.joined

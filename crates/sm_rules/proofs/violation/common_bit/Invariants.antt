@@ -1,6 +1,0 @@
-use Rattle.std.proofs.Common.{◌≡◌, ◌<◌, ◌&&◌, ℕ, false}
-use Rattle.sm_rules.specs.Keeping.{has_bit}
-use Rattle.sm_rules.proofs.violation.common_bit.Given as goal
-
-abbrev pub invariant-loop-bit : goal.invariant-loop-bit
-invariant-loop-bit l = (b : ℕ) → b < l.bit → (has_bit l.first b && has_bit l.second b) ≡ false

@@ -1,5 +1,0 @@
-use Rattle.sm_rules.proofs.Broken.{Sought}
-use Rattle.sm_rules.proofs.violation.first_broken.Given as goal
-
-abbrev pub invariant-loop-set : goal.invariant-loop-set
-invariant-loop-set l = Sought l.matrices l.neverallows l.count l.set l.place

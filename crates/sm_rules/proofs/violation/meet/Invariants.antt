@@ -1,6 +1,0 @@
-use Rattle.std.proofs.Common.{◌≡◌, ◌<◌, ℕ, false}
-use Rattle.sm_rules.specs.Violating.{both_join}
-use Rattle.sm_rules.proofs.violation.meet.Given as goal
-
-abbrev pub invariant-loop-s : goal.invariant-loop-s
-invariant-loop-s l = (s : ℕ) → s < l.s → both_join s s l.a l.b ≡ false
