@@ -7,7 +7,10 @@ use Rattle.std.proofs.lemmas.Slice.Eq.{bytes_eq-Decides}
 use Rattle.sm_kinds.specs.Contexts.{is_context}
 use Rattle.sm_contexts.specs.declared.fault.ContextsFault.TheVariants.{TooLarge, BadLine, Conflict, TwoDefaults, NoDefault}
 use Rattle.sm_contexts.specs.Lines.{lines, first_word, after_word}
-use Rattle.sm_contexts.specs.Reading.{Entry, Read, ◌>>=◌, has_key, default_key, is_entry, placed, with_entry, with_line, entries_from, read, line_and_context, line_of, is_line_of, AreFirstLines}
+use Rattle.sm_kinds.specs.Reading.{◌>>=◌}
+use Rattle.sm_kinds.specs.declared.limits.TheConstants.{MOST_TEXT_BYTES}
+use Rattle.sm_contexts.specs.declared.limits.TheConstants.{MOST_ENTRY_LINES}
+use Rattle.sm_contexts.specs.Reading.{Entry, Read, has_key, default_key, is_entry, placed, with_entry, with_line, entries_from, read, line_and_context, line_of, is_line_of, AreFirstLines}
 
 -- the first answer, else the second
 or_else : {A : Type 0} → Option A → Option A → Option A
@@ -108,7 +111,7 @@ entries_found name n entries all (line ∷ more) done = by (with_line n entries 
 
 pub first_lines : (text : List ℕ) (entries : List Entry) → read text ≡ Ok entries → AreFirstLines text entries
 unfolding read found or_else
-first_lines text entries done name = by (nat_lt 4194304 (length text)) (nat_lt 16384 (count_by is_entry (lines text))) done where
+first_lines text entries done name = by (nat_lt MOST_TEXT_BYTES (length text)) (nat_lt MOST_ENTRY_LINES (count_by is_entry (lines text))) done where
   by : (a b : Bool) → cond a (Err TooLarge) (cond b (Err TooLarge) (entries_from 1 [] (lines text))) ≡ Ok entries
       → option_map line_and_context (find (has_key name) entries) ≡ line_of name 1 (lines text)
   by true b h = absurd cc

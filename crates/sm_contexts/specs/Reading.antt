@@ -1,9 +1,12 @@
 -- The entries of a contexts text, and the label of a name.
-use Rattle.std.specs.Prelude.{◌≡◌, ◌≤◌, ℕ, ◌+◌, Bool, true, not, ◌&&◌, ◌||◌, ◌==◌, nat_lt, if◌then◌else◌, List, [], ◌∷◌, ◌++◌, length, count_by, find, slice_index, Option, Some, None, Result, Ok, Err, codes, option_map}
+use Rattle.std.specs.Prelude.{◌≡◌, ◌≤◌, ℕ, ◌+◌, Bool, true, false, not, ◌&&◌, ◌||◌, ◌==◌, nat_lt, if◌then◌else◌, List, [], ◌∷◌, ◌++◌, length, count_by, find, slice_index, Option, Some, None, Result, Ok, Err, codes, option_map}
 use Rattle.std.specs.List.{list_any}
 use Rattle.std.specs.Str.{bytes_eq}
 use Rattle.std.specs.Borrow.{Bor}
 use Rattle.sm_kinds.specs.Contexts.{is_context}
+use Rattle.sm_kinds.specs.Reading.{◌>>=◌}
+use Rattle.sm_kinds.specs.declared.limits.TheConstants.{MOST_TEXT_BYTES}
+use Rattle.sm_contexts.specs.declared.limits.TheConstants.{MOST_ENTRY_LINES}
 use Rattle.sm_contexts.specs.declared.fault.ContextsFault.{ContextsFault}
 use Rattle.sm_contexts.specs.declared.fault.ContextsFault.TheVariants.{TooLarge, BadLine, Conflict, TwoDefaults, NoDefault, Memory}
 use Rattle.sm_contexts.specs.Lines.{lines, first_word, after_word}
@@ -17,24 +20,14 @@ pub record Entry : Type 0 where
 abbrev pub Read : Type 0 → Type 0
 Read A = Result A ContextsFault
 
-infixl 10 ◌>>=◌
-abbrev pub ◌>>=◌ : {A B : Type 0} → Read A → (A → Read B) → Read B
-(Ok x) >>= f = f x
-(Err e) >>= f = Err e
-
--- The fault is the expected one; want of memory may come in place of anything.
-abbrev pub Fails : {B : Type 0} → ContextsFault → Read B → Type 0
-Fails Memory expected = Unit {0}
-Fails TooLarge expected = expected ≡ Err TooLarge
-Fails (BadLine n) expected = expected ≡ Err (BadLine n)
-Fails (Conflict m n) expected = expected ≡ Err (Conflict m n)
-Fails (TwoDefaults n) expected = expected ≡ Err (TwoDefaults n)
-Fails NoDefault expected = expected ≡ Err NoDefault
-
--- The result is the expected one, or memory was refused.
-abbrev pub Gives : {A B : Type 0} → (A → B) → Read A → Read B → Type 0
-Gives view (Ok x) expected = expected ≡ Ok (view x)
-Gives view (Err e) expected = Fails e expected
+-- Want of memory.
+abbrev pub is_memory : ContextsFault → Bool
+is_memory Memory = true
+is_memory TooLarge = false
+is_memory (BadLine n) = false
+is_memory (Conflict m n) = false
+is_memory (TwoDefaults n) = false
+is_memory NoDefault = false
 
 -- The key of the line for every other name.
 abbrev pub default_key : List ℕ
@@ -78,14 +71,14 @@ no_entries = []
 -- The first line of each key, in order, or the first fault.
 unfoldable pub read : List ℕ → Read (List Entry)
 read text =
-    if nat_lt 4194304 (length text) then Err TooLarge
-    else if nat_lt 16384 (count_by is_entry (lines text)) then Err TooLarge
+    if nat_lt MOST_TEXT_BYTES (length text) then Err TooLarge
+    else if nat_lt MOST_ENTRY_LINES (count_by is_entry (lines text)) then Err TooLarge
     else entries_from 1 [] (lines text)
 
 -- There is a line for `*`, and no more entries than a text has bytes.
 pub record IsWhole (entries : List Entry) : Type 0 where
   pub has_default : list_any (has_key default_key) entries ≡ true
-  pub few : length entries ≤ 4194304
+  pub few : length entries ≤ MOST_TEXT_BYTES
 
 -- What an entry says of its key.
 abbrev pub line_and_context : Entry → ℕ × List ℕ

@@ -9,15 +9,9 @@ use std::marker::Model;
 
 /// The entries of a `service_contexts` text, among which there is one for `*`. Contracts see the first line
 /// of each key, in order.
-#[derive(Debug)]
+#[derive(Debug, Drop)]
 pub struct Contexts {
     entries: Entries,
-}
-
-impl Drop for Contexts {
-    fn drop(self) {
-        let Contexts { entries: _ } = self;
-    }
 }
 
 impl Model for Contexts {
@@ -35,13 +29,14 @@ impl Model for Contexts {
 
 impl Contexts {
     ghost use Rattle.std.specs.Prelude.{◌≡◌, Some, IfOk, length, option_map, slice_get};
-    ghost use Rattle.sm_contexts.specs.Reading.{AreFirstLines, Gives, label, line_and_context, read, seen};
+    ghost use Rattle.sm_kinds.specs.Reading.{Gives};
+    ghost use Rattle.sm_contexts.specs.Reading.{AreFirstLines, is_memory, label, line_and_context, read, seen};
 
     /// Reads a text: `service_contexts` of AOSP's system/sepolicy, of which each line has a key and a context,
     /// parted by spaces, tabs and carriage returns. A line without words, or whose first word begins with
     /// `#`, is skipped, and words behind the second are ignored. A key repeated with the same context is accepted.
     pub fn read(alloc: Global, text: &[u8]) -> Result<Contexts, ContextsFault>
-        ensures exact { Gives (λ c. c) result (read text.now) }
+        ensures exact { Gives is_memory (λ c. c) result (read text.now) }
         ensures first_lines { IfOk result (AreFirstLines text.now) }
     {
         let entries = entries_of(alloc, text)?;

@@ -7,31 +7,16 @@ use std::alloc::Global;
 use std::marker::Model;
 
 /// The first line that gives a key, counted from 1, and the context that it gives.
-#[derive(Debug)]
+#[derive(Debug, Drop)]
 pub struct FirstLine {
     pub line: u32,
     pub context: Context,
 }
 
-impl Drop for FirstLine {
-    fn drop(self) {
-        let FirstLine {
-            line: _,
-            context: _,
-        } = self;
-    }
-}
-
 /// Entries in the order of their lines, which contracts see as a list.
-#[derive(Debug)]
+#[derive(Debug, Drop)]
 pub struct Entries {
     by_key: IndexMap<Vec<u8>, FirstLine>,
-}
-
-impl Drop for Entries {
-    fn drop(self) {
-        let Entries { by_key: _ } = self;
-    }
 }
 
 impl Model for Entries {
@@ -49,7 +34,8 @@ impl Model for Entries {
 impl Entries {
     ghost use Rattle.std.specs.Prelude.{◌≡◌, ◌≤◌, ◌+◌, [], find, length, option_map, slice_get, OnOk, OnErr};
     ghost use Rattle.std.specs.List.{list_any};
-    ghost use Rattle.sm_contexts.specs.Reading.{Gives, with_entry, has_key, default_key, label};
+    ghost use Rattle.sm_kinds.specs.Reading.{Gives};
+    ghost use Rattle.sm_contexts.specs.Reading.{is_memory, with_entry, has_key, default_key, label};
     ghost use Rattle.sm_contexts.specs.Keyed.{entry, first_line};
 
     /// No entry.
@@ -90,7 +76,7 @@ impl Entries {
         key: &[u8],
         context: Context,
     ) -> Result<(), ContextsFault>
-        ensures placed { Gives (λ _. self.new) result (with_entry line self.old key.now context) }
+        ensures placed { Gives is_memory (λ _. self.new) result (with_entry line self.old key.now context) }
         ensures few { OnOk result (length self.new ≤ length self.old + 1) }
     {
         if let Some(earlier) = self.find(key) {

@@ -9,7 +9,7 @@ use thiserror::Error;
 /// The first fault of a contexts text. Lines are numbered from 1.
 #[derive(Clone, Copy, Debug, PartialEq, Eq, Error)]
 pub enum ContextsFault {
-    /// The text has more than 4,194,304 bytes, or more than 16,384 entry lines.
+    /// The text has more than `MOST_TEXT_BYTES` bytes, or more than `MOST_ENTRY_LINES` entry lines.
     #[error("too large")]
     TooLarge,
     /// The line has a key alone, or its second word is no context.

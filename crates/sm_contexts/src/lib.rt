@@ -4,6 +4,7 @@
 mod contexts;
 mod entries;
 mod fault;
+mod limits;
 mod lines;
 mod reading;
 #[cfg(test)]
@@ -11,3 +12,4 @@ mod tests;
 
 pub use contexts::Contexts;
 pub use fault::ContextsFault;
+pub use limits::MOST_ENTRY_LINES;

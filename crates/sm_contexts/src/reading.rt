@@ -2,19 +2,15 @@
 
 ghost use Rattle.std.specs.Prelude.{◌≡◌, ◌≤◌, ◌<◌, ◌+◌, length, count_by, IfOk};
 ghost use Rattle.sm_contexts.specs.Reading as spec;
-ghost use Rattle.sm_contexts.specs.Reading.{Gives, IsWhole};
+ghost use Rattle.sm_kinds.specs.Reading.{Gives};
+ghost use Rattle.sm_contexts.specs.Reading.{IsWhole, is_memory};
 
 use crate::entries::Entries;
 use crate::fault::ContextsFault;
+use crate::limits::MOST_ENTRY_LINES;
 use crate::lines::{Lines, first_word};
-use sm_kinds::{Context, ContextError};
+use sm_kinds::{Context, ContextError, MOST_TEXT_BYTES};
 use std::alloc::Global;
-
-/// The greatest number of bytes of a text.
-const MAX_TEXT: usize = 4_194_304;
-
-/// The greatest number of entry lines.
-const MAX_ENTRIES: u32 = 16_384;
 
 fn is_entry(line: &[u8]) -> bool
     ensures { result ≡ spec.is_entry line.now }
@@ -24,7 +20,7 @@ fn is_entry(line: &[u8]) -> bool
 }
 
 fn entry_count(mut lines: Lines) -> u32
-    requires { length lines ≤ 4194304 }
+    requires { length lines ≤ MOST_TEXT_BYTES }
     ensures { result ≡ count_by spec.is_entry lines.entry }
 {
     let mut count: u32 = 0;
@@ -37,7 +33,7 @@ fn entry_count(mut lines: Lines) -> u32
 }
 
 fn context_at(alloc: Global, line: u32, word: &[u8]) -> Result<Context, ContextsFault>
-    ensures { Gives (λ c. c) result (spec.context_at line word.now) }
+    ensures { Gives is_memory (λ c. c) result (spec.context_at line word.now) }
 {
     match Context::read(alloc, word) {
         Ok(context) => Ok(context),
@@ -53,7 +49,7 @@ fn add_line(
     number: u32,
     line: &[u8],
 ) -> Result<Entries, ContextsFault>
-    ensures read { Gives (λ e. e) result (spec.with_line number entries line.now) }
+    ensures read { Gives is_memory (λ e. e) result (spec.with_line number entries line.now) }
     ensures few { IfOk result (λ e. length e ≤ length entries + 1) }
 {
     if is_entry(line) {
@@ -66,8 +62,8 @@ fn add_line(
 }
 
 fn add_lines(alloc: Global, mut lines: Lines) -> Result<Entries, ContextsFault>
-    requires { length lines ≤ 4194304 }
-    ensures read { Gives (λ e. e) result (spec.entries_from 1 spec.no_entries lines.entry) }
+    requires { length lines ≤ MOST_TEXT_BYTES }
+    ensures read { Gives is_memory (λ e. e) result (spec.entries_from 1 spec.no_entries lines.entry) }
     ensures whole { IfOk result IsWhole }
 {
     let mut entries = Entries::new(alloc);
@@ -86,13 +82,13 @@ fn add_lines(alloc: Global, mut lines: Lines) -> Result<Entries, ContextsFault>
 /// The first line of each key, in order.
 #[tactic(auto, unfolding(crate::specs::Reading::read))]
 pub fn entries_of(alloc: Global, text: &[u8]) -> Result<Entries, ContextsFault>
-    ensures read { Gives (λ e. e) result (spec.read text.now) }
+    ensures read { Gives is_memory (λ e. e) result (spec.read text.now) }
     ensures whole { IfOk result IsWhole }
 {
-    if text.len() > MAX_TEXT {
+    if text.len() > MOST_TEXT_BYTES {
         return Err(ContextsFault::TooLarge);
     }
-    if entry_count(Lines::new(text)) > MAX_ENTRIES {
+    if entry_count(Lines::new(text)) > MOST_ENTRY_LINES {
         return Err(ContextsFault::TooLarge);
     }
     add_lines(alloc, Lines::new(text))

@@ -3,3 +3,4 @@ pub mod Contexts
 pub mod Names
 pub mod Permissions
 pub mod Messages
+pub mod Reading

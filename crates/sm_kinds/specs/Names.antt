@@ -3,6 +3,7 @@ use Rattle.std.specs.Prelude.{ℕ, Bool, List, ◌&&◌, ◌||◌, ◌==◌, nat
 use Rattle.std.specs.List.{list_any, list_all}
 use Rattle.std.specs.Str.{bytes_eq}
 use Rattle.std.specs.Char.{is_ascii_alphanumeric}
+use Rattle.sm_kinds.specs.declared.limits.TheConstants.{MOST_NAME_BYTES}
 
 -- Whether the name is among these.
 abbrev pub contains : List (List ℕ) → List ℕ → Bool
@@ -12,6 +13,6 @@ contains names name = list_any (λ n. bytes_eq n name) names
 abbrev pub is_name_byte : ℕ → Bool
 is_name_byte b = (((is_ascii_alphanumeric b || b == 95) || b == 45) || b == 46) || b == 47
 
--- 1 to 127 bytes, each of those.
+-- At least one byte and at most the limit, each of those.
 abbrev pub is_valid_name : List ℕ → Bool
-is_valid_name name = nat_le 1 (length name) && nat_le (length name) 127 && list_all is_name_byte name
+is_valid_name name = nat_le 1 (length name) && nat_le (length name) MOST_NAME_BYTES && list_all is_name_byte name

@@ -6,21 +6,11 @@ use crate::context::Context;
 use std::alloc::AllocError;
 
 /// Who a process is: its process number, its user number and its security context, as the kernel tells them.
-#[derive(Debug)]
+#[derive(Debug, Drop)]
 pub struct Identity {
     pub pid: u32,
     pub uid: u32,
     pub context: Context,
-}
-
-impl Drop for Identity {
-    fn drop(self) {
-        let Identity {
-            pid: _,
-            uid: _,
-            context: _,
-        } = self;
-    }
 }
 
 impl Clone for Identity {

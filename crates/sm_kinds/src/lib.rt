@@ -6,6 +6,7 @@
 mod class;
 mod context;
 mod identity;
+mod limits;
 mod messages;
 mod name;
 mod number;
@@ -21,6 +22,9 @@ mod word;
 pub use class::Class;
 pub use context::{Context, ContextError, all_graphic, is_context};
 pub use identity::Identity;
+pub use limits::{
+    LEAST_PLACES, MOST_NAME_BYTES, MOST_PAYLOAD_BYTES, MOST_PLACES, MOST_REFS, MOST_TEXT_BYTES,
+};
 pub use messages::{push_access, push_numbered};
 pub use name::{Name, Names, valid_name};
 pub use number::{AdminId, ClientId, Node, ObjRef};
@@ -28,5 +32,8 @@ pub use payload::{Payload, PayloadError};
 pub use perms::Perms;
 pub use places::Places;
 pub use refs::{Refs, RefsError};
-pub use user::{app_number, is_barred_app, is_isolated};
+pub use user::{
+    AID_APP_START, AID_ISOLATED_END, AID_ISOLATED_START, AID_USER_OFFSET, app_number,
+    is_barred_app, is_isolated,
+};
 pub use word::Word;

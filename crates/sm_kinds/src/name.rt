@@ -4,14 +4,13 @@ ghost use Rattle.std.specs.Prelude.{◌≡◌, ◌++◌, ◌∷◌, [], OnOk, On
 ghost use Rattle.std.specs.List.{list_all};
 ghost use Rattle.sm_kinds.specs.Names.{is_name_byte, is_valid_name};
 
+use crate::limits::MOST_NAME_BYTES;
 use bytes::Bytes;
 use std::alloc::{AllocError, Global};
 use std::marker::Model;
 
-const LONGEST_NAME: usize = 127;
-
 /// A name, which contracts see as its bytes. Any bytes make one; `valid_name` tells which may name a service.
-#[derive(Debug)]
+#[derive(Debug, Drop)]
 pub struct Name {
     bytes: Bytes,
 }
@@ -22,12 +21,6 @@ impl Model for Name {
     ghost Value = { List ℕ };
 
     ghost view = { λ n. n.bytes };
-}
-
-impl Drop for Name {
-    fn drop(self) {
-        let Name { bytes: _ } = self;
-    }
 }
 
 impl Clone for Name {
@@ -58,7 +51,7 @@ impl Name {
 }
 
 /// Names in order, which contracts see as the list of their bytes.
-#[derive(Debug)]
+#[derive(Debug, Drop)]
 pub struct Names {
     list: Vec<Name>,
 }
@@ -69,12 +62,6 @@ impl Model for Names {
     ghost Value = { List (List ℕ) };
 
     ghost view = { λ n. n.list.items };
-}
-
-impl Drop for Names {
-    fn drop(self) {
-        let Names { list: _ } = self;
-    }
 }
 
 impl Names {
@@ -129,12 +116,12 @@ fn all_name_bytes(bytes: &[u8]) -> bool
     bytes.iter().all(|b| is_name_byte(*b))
 }
 
-/// Whether the bytes may name a service (`ServiceManager.cpp`, `isValidServiceName`): 1 to 127 bytes,
-/// each an ASCII letter, a digit, `_`, `-`, `.` or `/`.
+/// Whether the bytes may name a service (`ServiceManager.cpp`, `isValidServiceName`): 1 to
+/// `MOST_NAME_BYTES` bytes, each an ASCII letter, a digit, `_`, `-`, `.` or `/`.
 pub fn valid_name(name: &[u8]) -> bool
     ensures { result ≡ is_valid_name name.now }
 {
-    if name.is_empty() || name.len() > LONGEST_NAME {
+    if name.is_empty() || name.len() > MOST_NAME_BYTES {
         return false;
     }
     all_name_bytes(name)

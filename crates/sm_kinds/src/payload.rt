@@ -2,15 +2,14 @@
 
 ghost use Rattle.std.specs.Prelude.{◌≡◌, ◌≤◌, ◌<◌, length, IfOk, OnOk};
 
+use crate::limits::MOST_PAYLOAD_BYTES;
 use bytes::Bytes;
 use std::alloc::{AllocError, Global};
 use std::marker::Model;
 use thiserror::Error;
 
-const LONGEST: usize = 1_024;
-
-/// The bytes that a call carries, at most 1,024.
-#[derive(Debug)]
+/// The bytes that a call carries, at most `MOST_PAYLOAD_BYTES`.
+#[derive(Debug, Drop)]
 pub struct Payload {
     bytes: Bytes,
 }
@@ -18,7 +17,7 @@ pub struct Payload {
 /// Why bytes make no payload.
 #[derive(Clone, Copy, Debug, PartialEq, Eq, Error)]
 pub enum PayloadError {
-    /// There are more than 1,024 bytes.
+    /// There are more than `MOST_PAYLOAD_BYTES` bytes.
     #[error("more than 1,024 bytes")]
     TooLong,
     #[error("out of memory")]
@@ -27,18 +26,13 @@ pub enum PayloadError {
 
 impl Model for Payload {
     ghost use Rattle.std.specs.Prelude.{List, ℕ, ◌≤◌, length};
+    ghost use Rattle.sm_kinds.specs.declared.limits.TheConstants.{MOST_PAYLOAD_BYTES};
 
     ghost Value = { List ℕ };
 
     ghost view = { λ p. p.bytes };
 
-    ghost invariant = { λ p. length p.bytes ≤ 1024 };
-}
-
-impl Drop for Payload {
-    fn drop(self) {
-        let Payload { bytes: _ } = self;
-    }
+    ghost invariant = { λ p. length p.bytes ≤ MOST_PAYLOAD_BYTES };
 }
 
 impl Clone for Payload {
@@ -54,13 +48,14 @@ impl Clone for Payload {
 impl Payload {
     ghost use Rattle.sm_kinds.specs.declared.payload.PayloadError.TheVariants.{TooLong};
 
+    /// The payload of these bytes.
     pub fn new(alloc: Global, bytes: &[u8]) -> Result<Payload, PayloadError>
         ensures value { IfOk result (λ p. p ≡ bytes.now) }
-        ensures fits { OnOk result (length bytes.now ≤ 1024) }
-        ensures long { 1024 < length bytes.now → result ≡ Err TooLong }
-        ensures only_long { result ≡ Err TooLong → 1024 < length bytes.now }
+        ensures fits { OnOk result (length bytes.now ≤ MOST_PAYLOAD_BYTES) }
+        ensures long { MOST_PAYLOAD_BYTES < length bytes.now → result ≡ Err TooLong }
+        ensures only_long { result ≡ Err TooLong → MOST_PAYLOAD_BYTES < length bytes.now }
     {
-        if bytes.len() > LONGEST {
+        if bytes.len() > MOST_PAYLOAD_BYTES {
             return Err(PayloadError::TooLong);
         }
         match Bytes::copy_from_slice(alloc, bytes) {

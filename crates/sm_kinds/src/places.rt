@@ -2,9 +2,10 @@
 
 ghost use Rattle.std.specs.Prelude.{◌≡◌, ◌≤◌, IsSome, IfSome, ◌↔◌};
 
+use crate::limits::{LEAST_PLACES, MOST_PLACES};
 use std::marker::Model;
 
-/// How many entries a journal has room for: 2 to 1,048,576.
+/// How many entries a journal has room for: `LEAST_PLACES` to `MOST_PLACES`.
 #[derive(Clone, Copy, Debug, PartialEq, Eq)]
 pub struct Places {
     entries: u32,
@@ -12,34 +13,35 @@ pub struct Places {
 
 impl Model for Places {
     ghost use Rattle.std.specs.Prelude.{ℕ, ◌≤◌};
+    ghost use Rattle.sm_kinds.specs.declared.limits.TheConstants.{LEAST_PLACES, MOST_PLACES};
 
     ghost Value = { ℕ };
 
     ghost view = { λ p. p.entries };
 
-    ghost invariant = { λ p. (2 ≤ p.entries) × (p.entries ≤ 1048576) };
+    ghost invariant = { λ p. (LEAST_PLACES ≤ p.entries) × (p.entries ≤ MOST_PLACES) };
 
     ghost inverse = { λ n. record { entries = n } };
 }
 
 impl Places {
-    /// `None`: the number isn't from 2 to 1,048,576.
+    /// Room for this many entries. `None`: the number isn't from `LEAST_PLACES` to `MOST_PLACES`.
     pub fn new(entries: u32) -> Option<Places>
-        ensures range { IsSome result ↔ ((2 ≤ entries) × (entries ≤ 1048576)) }
+        ensures range { IsSome result ↔ ((LEAST_PLACES ≤ entries) × (entries ≤ MOST_PLACES)) }
         ensures value { IfSome result (λ p. p ≡ entries) }
     {
-        if 2 <= entries && entries <= 1_048_576 {
+        if LEAST_PLACES <= entries && entries <= MOST_PLACES {
             Some(Places { entries })
         } else {
             None
         }
     }
 
-    /// The number of entries, from 2 to 1,048,576.
+    /// The number of entries, from `LEAST_PLACES` to `MOST_PLACES`.
     pub fn entries(self) -> u32
         ensures value { result ≡ self }
-        ensures least { 2 ≤ self }
-        ensures most { self ≤ 1048576 }
+        ensures least { LEAST_PLACES ≤ self }
+        ensures most { self ≤ MOST_PLACES }
     {
         self.entries
     }

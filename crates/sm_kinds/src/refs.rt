@@ -2,15 +2,14 @@
 
 ghost use Rattle.std.specs.Prelude.{◌≡◌, ◌≤◌, ◌<◌, length, IfOk, OnOk};
 
+use crate::limits::MOST_REFS;
 use crate::number::ObjRef;
 use std::alloc::{AllocError, Global};
 use std::marker::Model;
 use thiserror::Error;
 
-const MOST: usize = 16;
-
-/// The references that a call passes, at most 16, in order.
-#[derive(Debug)]
+/// The references that a call passes, at most `MOST_REFS`, in order.
+#[derive(Debug, Drop)]
 pub struct Refs {
     list: Vec<ObjRef>,
 }
@@ -18,7 +17,7 @@ pub struct Refs {
 /// Why references make no list for a call.
 #[derive(Clone, Copy, Debug, PartialEq, Eq, Error)]
 pub enum RefsError {
-    /// There are more than 16 references.
+    /// There are more than `MOST_REFS` references.
     #[error("more than 16 references")]
     TooLong,
     #[error("out of memory")]
@@ -27,31 +26,27 @@ pub enum RefsError {
 
 impl Model for Refs {
     ghost use Rattle.std.specs.Prelude.{List, ◌≤◌, length};
+    ghost use Rattle.sm_kinds.specs.declared.limits.TheConstants.{MOST_REFS};
     ghost use Rattle.sm_kinds.specs.declared.number.ObjRef.{ObjRef};
 
     ghost Value = { List ObjRef };
 
     ghost view = { λ r. r.list.items };
 
-    ghost invariant = { λ r. length r.list.items ≤ 16 };
-}
-
-impl Drop for Refs {
-    fn drop(self) {
-        let Refs { list: _ } = self;
-    }
+    ghost invariant = { λ r. length r.list.items ≤ MOST_REFS };
 }
 
 impl Refs {
     ghost use Rattle.sm_kinds.specs.declared.refs.RefsError.TheVariants.{TooLong};
 
+    /// The references of this list.
     pub fn new(alloc: Global, list: &[ObjRef]) -> Result<Refs, RefsError>
         ensures value { IfOk result (λ r. r ≡ list.now) }
-        ensures fits { OnOk result (length list.now ≤ 16) }
-        ensures long { 16 < length list.now → result ≡ Err TooLong }
-        ensures only_long { result ≡ Err TooLong → 16 < length list.now }
+        ensures fits { OnOk result (length list.now ≤ MOST_REFS) }
+        ensures long { MOST_REFS < length list.now → result ≡ Err TooLong }
+        ensures only_long { result ≡ Err TooLong → MOST_REFS < length list.now }
     {
-        if list.len() > MOST {
+        if list.len() > MOST_REFS {
             return Err(RefsError::TooLong);
         }
         match Vec::from_slice(alloc, list) {

@@ -2,26 +2,24 @@
 use Rattle.std.proofs.Common.{◌≡◌, ℕ, zero, suc, ◌+◌, ◌≤◌, Bool, true, false, ◌&&◌, cond, List, [], ◌∷◌, ◌++◌, length, length-append, Option, None, Some, Ok, Err, refl, ap, arith}
 use Rattle.std.specs.Prelude.{nat_lt, nat_le}
 use Rattle.std.proofs.lemmas.Bool.{ltb-false}
+use Rattle.sm_kinds.specs.Reading.{◌>>=◌}
+use Rattle.sm_kinds.specs.declared.limits.TheConstants.{MOST_TEXT_BYTES}
+use Rattle.sm_kinds.proofs.Readers.{went_well}
+use Rattle.sm_ruletext.specs.declared.limits.TheConstants.{MOST_RULES}
 use Rattle.sm_ruletext.specs.declared.fault.RuleTextFault.TheVariants.{TooLarge, TooMany}
 use Rattle.sm_ruletext.specs.declared.statement.What.{What}
 use Rattle.sm_ruletext.specs.declared.statement.Statement.{Statement}
 use Rattle.sm_ruletext.specs.declared.token.Kind.{Kind}
 use Rattle.sm_ruletext.specs.declared.token.Kind.TheVariants.{Word, Semicolon, Comma, Colon, Open, Close, Star, Tilde, Dash, Other}
-use Rattle.sm_ruletext.specs.Grammar.{Step, ◌>>=◌}
 use Rattle.sm_ruletext.specs.Lexing.{Tokens, tokens}
 use Rattle.sm_ruletext.specs.Words.{keyword_of}
 use Rattle.sm_ruletext.specs.Statements.{what_at, with_statement, statement_from, statements_within, statements_of, read, is_rule, rule_count}
 use Rattle.sm_ruletext.proofs.Cuts.{length-tokens}
 
--- what went well went well in both parts
-went_well : {A B : Type 0} (r : Step A) (f : A → Step B) (y : B) → (r >>= f) ≡ Ok y → (x : A) × (r ≡ Ok x) × (f x ≡ Ok y)
-went_well (Ok x) f y h = (x, refl, h)
-went_well (Err e) f y h = absurd cc
-
 one_more : (line : ℕ) (sts more : List Statement) (w : Option What) → with_statement line sts w ≡ Ok more → length more ≤ length sts + 1
 unfolding with_statement
 one_more line sts more None h = let is : sts ≡ more = cc in omega (arith, ap (length {A = Statement}) is)
-one_more line sts more (Some w) h = by (is_rule w && nat_le 65536 (rule_count sts)) h where
+one_more line sts more (Some w) h = by (is_rule w && nat_le MOST_RULES (rule_count sts)) h where
   by : (b : Bool) → cond b (Err TooMany) (Ok (sts ++ record { line = line; what = w } ∷ [])) ≡ Ok more → length more ≤ length sts + 1
   by true g = absurd cc
   by false g = let is : sts ++ record { line = line; what = w } ∷ [] ≡ more = cc in omega (arith, ap (length {A = Statement}) is, length-append sts (record { line = line; what = w } ∷ []))
@@ -51,9 +49,9 @@ few_within (suc most) sts all ((line, k) ∷ ts) h =
     let next = went_well (statement_from line k sts ts) (λ n. statements_within most n.0 n.1) all h in
     omega (arith, one_statement line k sts ts next.0 next.1, few_within most next.0.0 all next.0.1 next.2)
 
-pub few : (text : List ℕ) (all : List Statement) → read text ≡ Ok all → length all ≤ 4194304
+pub few : (text : List ℕ) (all : List Statement) → read text ≡ Ok all → length all ≤ MOST_TEXT_BYTES
 unfolding read statements_of
-few text all h = by (nat_lt 4194304 (length text)) refl h where
-  by : (b : Bool) → nat_lt 4194304 (length text) ≡ b → cond b (Err TooLarge) (statements_within (length (tokens 0 1 text)) [] (tokens 0 1 text)) ≡ Ok all → length all ≤ 4194304
+few text all h = by (nat_lt MOST_TEXT_BYTES (length text)) refl h where
+  by : (b : Bool) → nat_lt MOST_TEXT_BYTES (length text) ≡ b → cond b (Err TooLarge) (statements_within (length (tokens 0 1 text)) [] (tokens 0 1 text)) ≡ Ok all → length all ≤ MOST_TEXT_BYTES
   by true long g = absurd cc
-  by false short g = omega (arith, ltb-false 4194304 (length text) short, few_within (length (tokens 0 1 text)) [] all (tokens 0 1 text) g, length-tokens 0 1 text)
+  by false short g = omega (arith, ltb-false MOST_TEXT_BYTES (length text) short, few_within (length (tokens 0 1 text)) [] all (tokens 0 1 text) g, length-tokens 0 1 text)

@@ -5,11 +5,14 @@ use Rattle.std.specs.List.{list_any}
 use Rattle.std.specs.Str.{bytes_eq}
 use Rattle.std.proofs.lemmas.Slice.Eq.{bytes_eq-Decides}
 use Rattle.sm_kinds.specs.Contexts.{is_context, type_of}
+use Rattle.sm_kinds.specs.Reading.{◌>>=◌}
+use Rattle.sm_kinds.specs.declared.limits.TheConstants.{MOST_TEXT_BYTES}
 use Rattle.sm_ruletext.specs.declared.statement.Statement.{Statement}
 use Rattle.sm_types.specs.Denoting.{declares}
 use Rattle.sm_contexts.specs.declared.fault.ContextsFault.TheVariants.{TooLarge, BadLine, Conflict, TwoDefaults, NoDefault}
 use Rattle.sm_contexts.specs.Lines.{lines, first_word, after_word}
-use Rattle.sm_contexts.specs.Reading.{Entry, Read, ◌>>=◌, has_key, default_key, is_entry, placed, with_entry, with_line, entries_from, read}
+use Rattle.sm_contexts.specs.declared.limits.TheConstants.{MOST_ENTRY_LINES}
+use Rattle.sm_contexts.specs.Reading.{Entry, Read, has_key, default_key, is_entry, placed, with_entry, with_line, entries_from, read}
 use Rattle.sm_policy.specs.Preparing.{is_undeclared_line, undeclared_from}
 use Rattle.sm_policy.specs.Undeclared.{first_undeclared, is_undeclared}
 use Rattle.sm_policy.proofs.Finding.{or_first}
@@ -121,7 +124,7 @@ lines_said sts n entries all (line ∷ more) done = by (with_line n entries line
 
 pub first_line : (sts : List Statement) (text : List ℕ) (entries : List Entry) → read text ≡ Ok entries → first_undeclared sts entries ≡ undeclared_from sts 1 (lines text)
 unfolding read
-first_line sts text entries done = by (nat_lt 4194304 (length text)) (nat_lt 16384 (count_by is_entry (lines text))) done where
+first_line sts text entries done = by (nat_lt MOST_TEXT_BYTES (length text)) (nat_lt MOST_ENTRY_LINES (count_by is_entry (lines text))) done where
   by : (a b : Bool) → cond a (Err TooLarge) (cond b (Err TooLarge) (entries_from 1 [] (lines text))) ≡ Ok entries
       → first_undeclared sts entries ≡ undeclared_from sts 1 (lines text)
   by true b h = absurd cc

@@ -1,6 +1,7 @@
 -- What comes of the two texts of a policy: a policy, or the first refusal.
-use Rattle.std.specs.Prelude.{◌≡◌, ℕ, ◌+◌, Bool, not, ◌&&◌, if◌then◌else◌, List, [], ◌∷◌, Option, Some, None, Result, Ok, Err}
+use Rattle.std.specs.Prelude.{ℕ, ◌+◌, Bool, true, false, not, ◌&&◌, if◌then◌else◌, List, [], ◌∷◌, Option, Some, None, Result, Ok, Err}
 use Rattle.sm_kinds.specs.Contexts.{type_of}
+use Rattle.sm_kinds.specs.Reading.{◌>>=◌}
 use Rattle.sm_ruletext.specs.declared.fault.RuleTextFault.{RuleTextFault}
 use Rattle.sm_ruletext.specs.declared.fault.RuleTextFault.TheVariants as text
 use Rattle.sm_ruletext.specs.declared.statement.Statement.{Statement}
@@ -26,25 +27,15 @@ use Rattle.sm_policy.specs.Violating.{first_violation}
 abbrev pub Step : Type 0 → Type 0
 Step A = Result A PolicyFault
 
-infixl 10 ◌>>=◌
-abbrev pub ◌>>=◌ : {A B : Type 0} → Step A → (A → Step B) → Step B
-(Ok x) >>= f = f x
-(Err e) >>= f = Err e
-
--- The fault is the expected one; want of memory may come in place of anything.
-abbrev pub Fails : {B : Type 0} → PolicyFault → Step B → Type 0
-Fails Memory expected = Unit {0}
-Fails (Rules e) expected = expected ≡ Err (Rules e)
-Fails (Types e) expected = expected ≡ Err (Types e)
-Fails (Access e) expected = expected ≡ Err (Access e)
-Fails (Contexts e) expected = expected ≡ Err (Contexts e)
-Fails (UndeclaredLabel n) expected = expected ≡ Err (UndeclaredLabel n)
-Fails (Neverallow v) expected = expected ≡ Err (Neverallow v)
-
--- The result is the expected one, or memory was refused.
-abbrev pub Gives : {A B : Type 0} → (A → B) → Step A → Step B → Type 0
-Gives view (Ok x) expected = expected ≡ Ok (view x)
-Gives view (Err e) expected = Fails e expected
+-- Want of memory.
+abbrev pub is_memory : PolicyFault → Bool
+is_memory Memory = true
+is_memory (Rules e) = false
+is_memory (Types e) = false
+is_memory (Access e) = false
+is_memory (Contexts e) = false
+is_memory (UndeclaredLabel n) = false
+is_memory (Neverallow v) = false
 
 -- ---- faults of each part, as faults of the policy
 

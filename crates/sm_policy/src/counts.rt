@@ -1,6 +1,7 @@
 //! The sizes of a policy.
 
 ghost use Rattle.std.specs.Prelude.{◌≡◌, ◌≤◌, length};
+ghost use Rattle.sm_kinds.specs.declared.limits.TheConstants.{MOST_TEXT_BYTES};
 ghost use Rattle.sm_ruletext.specs.Statements.{rule_count};
 ghost use Rattle.sm_types.specs.Members.{IsOf};
 ghost use Rattle.sm_policy.specs.Counting as spec;
@@ -23,7 +24,7 @@ pub struct Counts {
 }
 
 fn rule_count(statements: &[Statement]) -> u32
-    requires { length statements.now ≤ 4194304 }
+    requires { length statements.now ≤ MOST_TEXT_BYTES }
     ensures { result ≡ rule_count statements.now }
 {
     let mut count: u32 = 0;
@@ -37,7 +38,7 @@ fn rule_count(statements: &[Statement]) -> u32
 
 /// The sizes of a policy, whose types these are.
 pub fn counted(statements: &[Statement], types: &Types, contexts: &Contexts) -> Counts
-    requires few { length statements.now ≤ 4194304 }
+    requires few { length statements.now ≤ MOST_TEXT_BYTES }
     requires typed { IsOf statements.now types.now }
     ensures { result ≡ spec.counted statements.now contexts.now }
 {

@@ -45,12 +45,13 @@ impl Parts {
     ghost use Rattle.std.specs.Prelude.{◌≡◌, IfOk};
     ghost use Rattle.sm_policy.specs.Policy.{IsConsistent, label_of, written_at};
     ghost use Rattle.sm_policy.specs.Counting.{counts_of};
-    ghost use Rattle.sm_policy.specs.Preparing.{Gives, prepared};
+    ghost use Rattle.sm_kinds.specs.Reading.{Gives};
+    ghost use Rattle.sm_policy.specs.Preparing.{is_memory, prepared};
 
     /// The parts of a policy, or the first refusal of its texts.
     #[tactic(auto, unfolding(crate::specs::Preparing::prepared))]
     pub fn from_texts(alloc: Global, rules: &[u8], contexts: &[u8]) -> Result<Parts, PolicyFault>
-        ensures exact { Gives (λ p. p) result (prepared rules.now contexts.now) }
+        ensures exact { Gives is_memory (λ p. p) result (prepared rules.now contexts.now) }
         ensures consistent { IfOk result IsConsistent }
     {
         let statements = rules_of(alloc, rules)?;

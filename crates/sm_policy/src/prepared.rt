@@ -38,7 +38,8 @@ impl Prepared {
     ghost use Rattle.std.specs.Prelude.{◌≡◌, IfOk};
     ghost use Rattle.sm_policy.specs.Policy.{allowed, label_of, written_at, IsConsistent};
     ghost use Rattle.sm_policy.specs.Counting.{counts_of};
-    ghost use Rattle.sm_policy.specs.Preparing.{Gives, prepared};
+    ghost use Rattle.sm_kinds.specs.Reading.{Gives};
+    ghost use Rattle.sm_policy.specs.Preparing.{is_memory, prepared};
 
     /// The policy of a rule text and a contexts text.
     ///
@@ -49,7 +50,7 @@ impl Prepared {
     /// line whose context has a type that the rule text doesn't declare (`UndeclaredLabel`); the first neverallow
     /// rule that an allow rule breaks (`Neverallow`). `Memory` where memory was refused, in place of what would follow.
     pub fn from_texts(alloc: Global, rules: &[u8], contexts: &[u8]) -> Result<Prepared, PolicyFault>
-        ensures exact { Gives (λ p. p) result (prepared rules.now contexts.now) }
+        ensures exact { Gives is_memory (λ p. p) result (prepared rules.now contexts.now) }
         ensures consistent { IfOk result IsConsistent }
     {
         let parts = Parts::from_texts(alloc, rules, contexts)?;

@@ -1,13 +1,15 @@
 //! Reads the two texts of a policy.
 
 ghost use Rattle.std.specs.Prelude.{◌≡◌, ◌≤◌, List, IfOk, OnOk, length, slice_get};
+ghost use Rattle.sm_kinds.specs.Reading.{Gives};
+ghost use Rattle.sm_kinds.specs.declared.limits.TheConstants.{MOST_TEXT_BYTES};
 ghost use Rattle.sm_ruletext.specs.declared.statement.Statement.{Statement as TheStatement};
 ghost use Rattle.sm_types.specs.Members.{IsOf};
 ghost use Rattle.sm_types.specs.Names.{at};
 ghost use Rattle.sm_rules.specs.Access.{IsConsistent};
 ghost use Rattle.sm_rules.specs.Keeping.{RulesOf};
 ghost use Rattle.sm_policy.specs.Preparing as spec;
-ghost use Rattle.sm_policy.specs.Preparing.{Gives};
+ghost use Rattle.sm_policy.specs.Preparing.{is_memory};
 ghost use Rattle.sm_policy.specs.Undeclared.{first_undeclared, undeclared_line};
 ghost use Rattle.sm_policy.specs.Violating.{named_violation};
 
@@ -23,8 +25,8 @@ use std::alloc::{AllocError, Global};
 /// The statements of a rule text.
 #[tactic(auto, unfolding(crate::specs::Preparing::rules_of))]
 pub fn rules_of(alloc: Global, text: &[u8]) -> Result<Vec<Statement>, PolicyFault>
-    ensures exact { Gives (λ v. v.items) result (spec.rules_of text.now) }
-    ensures few { IfOk result (λ v. length v.items ≤ 4194304) }
+    ensures exact { Gives is_memory (λ v. v.items) result (spec.rules_of text.now) }
+    ensures few { IfOk result (λ v. length v.items ≤ MOST_TEXT_BYTES) }
 {
     let statements = sm_ruletext::read(alloc, text)?;
     Ok(statements)
@@ -59,7 +61,7 @@ fn first_undeclared(types: &Types, contexts: &Contexts) -> Option<u32>
 #[tactic(auto, unfolding(crate::specs::Preparing::labels_of))]
 pub fn labels_of(alloc: Global, types: &Types, text: &[u8]) -> Result<Contexts, PolicyFault>
     ensures { (policy : List TheStatement) → IsOf policy types.now
-        → Gives (λ c. c) result (spec.labels_of policy text.now) }
+        → Gives is_memory (λ c. c) result (spec.labels_of policy text.now) }
 {
     let contexts = Contexts::read(alloc, text)?;
     match first_undeclared(types, &contexts) {
@@ -101,7 +103,7 @@ fn named(
 /// Refuses rules of which an allow rule allows what a neverallow rule forbids.
 pub fn refuse_violation(alloc: Global, types: &Types, rules: &Rules) -> Result<(), PolicyFault>
     ensures exact { (policy : List TheStatement) → IsOf policy types.now → RulesOf policy types.now.symbols.types rules.now
-        → Gives (λ _. policy) result (spec.unbroken policy) }
+        → Gives is_memory (λ _. policy) result (spec.unbroken policy) }
     ensures consistent { OnOk result ((policy : List TheStatement) → IsOf policy types.now
         → RulesOf policy types.now.symbols.types rules.now → IsConsistent policy) }
 {

@@ -15,11 +15,14 @@ use Rattle.sm_ruletext.specs.declared.keyword.Keyword.{Keyword}
 use Rattle.sm_ruletext.specs.declared.keyword.Keyword.TheVariants as word
 use Rattle.sm_ruletext.specs.Lexing.{Tokens, tokens}
 use Rattle.sm_ruletext.specs.Words.{is_self, keyword_of}
-use Rattle.sm_ruletext.specs.Grammar.{Gives, Step, Read, ◌>>=◌, no_items, set_of, with_word, kind_at, name_at, names_at, semicolon_at, colon_at, group_at, items_from, set_from, set_at, rule_at}
+use Rattle.sm_kinds.specs.Reading.{◌>>=◌, Gives}
+use Rattle.sm_kinds.specs.declared.limits.TheConstants.{MOST_TEXT_BYTES}
+use Rattle.sm_kinds.proofs.Readers.{went_well}
+use Rattle.sm_ruletext.specs.declared.limits.TheConstants.{MOST_RULES}
+use Rattle.sm_ruletext.specs.Grammar.{Step, Read, is_memory, no_items, set_of, with_word, kind_at, name_at, names_at, semicolon_at, colon_at, group_at, items_from, set_from, set_at, rule_at}
 use Rattle.sm_ruletext.specs.Statements.{is_rule, rule_count, skipped_at, what_at, with_statement, statement_from, statements_within, statements_of, read}
 use Rattle.sm_ruletext.specs.Spelling.{SpellsStatement, SpellsNone, BeginsNoStatement, HasFault, IsFaultOf}
 use Rattle.sm_ruletext.proofs.Turns.{ok_parts}
-use Rattle.sm_ruletext.proofs.Spelled.{bind_ok}
 use Rattle.sm_ruletext.proofs.Stated.{what_again, what_taken, placed, added}
 
 -- the only fault is Syntax, at this line
@@ -226,7 +229,7 @@ unknown_or word.Unknown = inl refl
 too_many_only : (line : ℕ) (sts : List Statement) (w : Option What) (e : RuleTextFault) → with_statement line sts w ≡ Err e → e ≡ TooMany
 unfolding with_statement
 too_many_only line sts None e h = absurd cc
-too_many_only line sts (Some w) e h = by (is_rule w && leb 65536 (rule_count sts)) h where
+too_many_only line sts (Some w) e h = by (is_rule w && leb MOST_RULES (rule_count sts)) h where
   by : (b : Bool) → cond {A = Step (List Statement)} b (Err TooMany) (Ok (sts ++ record { line = line; what = w } ∷ [])) ≡ Err e → e ≡ TooMany
   by true h = cc
   by false h = absurd cc
@@ -282,8 +285,8 @@ fault_taken (suc most) sts ((line, Word w) ∷ ts) e enough h =
 
       later : (more : List Statement) (us : Tokens) → (length us ≤ most → statements_within most more us ≡ Err e → HasFault more us e) → (what_at line (keyword_of w) ts >>= added line sts) ≡ Ok (more, us) → statements_within most more us ≡ Err e → HasFault sts ((line, Word w) ∷ ts) e
       later more us hence g rest =
-          let b = bind_ok (what_at line (keyword_of w) ts) (added line sts) (more, us) g in
-          let c = bind_ok (with_statement line sts b.0.0) (λ x. placed x b.0.1) (more, us) b.2 in
+          let b = went_well (what_at line (keyword_of w) ts) (added line sts) (more, us) g in
+          let c = went_well (with_statement line sts b.0.0) (λ x. placed x b.0.1) (more, us) b.2 in
           let p = ok_parts c.0 more b.0.1 us c.2 in
           let r = what_taken line (keyword_of w) ts b.0.1 b.0.0 b.1 in
           let fewer : length us ≤ most = omega (arith, enough, ap length r.parts, length-append r.vs ((r.l, Semicolon) ∷ b.0.1), ap (λ (x : Tokens). length x) p.1) in
@@ -305,23 +308,23 @@ no_too_large : (sts : List Statement) (ts : Tokens) → HasFault sts ts TooLarge
 no_too_large _ _ (HasFault.empty l ts sts _ h) = no_too_large sts ts h
 no_too_large _ _ (HasFault.stated line l w vs ts what sts more _ s g h) = no_too_large more ts h
 
-pub fault_result : {E : Type 0} (view : E → List Statement) (r : Step E) (text : List ℕ) → Gives view r (read text) → IfErr r (λ e. IsFaultOf e text)
+pub fault_result : {E : Type 0} (view : E → List Statement) (r : Step E) (text : List ℕ) → Gives is_memory view r (read text) → IfErr r (λ e. IsFaultOf e text)
 unfolding read
 fault_result view (Ok v) text h = tt
 fault_result view (Err Memory) text h = tt
-fault_result view (Err TooLarge) text h = by (ltb 4194304 (length text)) refl h where
-  by : (b : Bool) → ltb 4194304 (length text) ≡ b → cond {A = Step (List Statement)} b (Err TooLarge) (statements_of (tokens 0 1 text)) ≡ Err TooLarge → 4194304 < length text
-  by true e g = ltb-true 4194304 (length text) e
+fault_result view (Err TooLarge) text h = by (ltb MOST_TEXT_BYTES (length text)) refl h where
+  by : (b : Bool) → ltb MOST_TEXT_BYTES (length text) ≡ b → cond {A = Step (List Statement)} b (Err TooLarge) (statements_of (tokens 0 1 text)) ≡ Err TooLarge → MOST_TEXT_BYTES < length text
+  by true e g = ltb-true MOST_TEXT_BYTES (length text) e
   by false e g = absurd (no_too_large [] (tokens 0 1 text) (fault_is_first (tokens 0 1 text) TooLarge g))
-fault_result view (Err (Syntax n)) text h = by (ltb 4194304 (length text)) h where
+fault_result view (Err (Syntax n)) text h = by (ltb MOST_TEXT_BYTES (length text)) h where
   by : (b : Bool) → cond {A = Step (List Statement)} b (Err TooLarge) (statements_of (tokens 0 1 text)) ≡ Err (Syntax n) → HasFault [] (tokens 0 1 text) (Syntax n)
   by true g = absurd cc
   by false g = fault_is_first (tokens 0 1 text) (Syntax n) g
-fault_result view (Err (Unsupported n)) text h = by (ltb 4194304 (length text)) h where
+fault_result view (Err (Unsupported n)) text h = by (ltb MOST_TEXT_BYTES (length text)) h where
   by : (b : Bool) → cond {A = Step (List Statement)} b (Err TooLarge) (statements_of (tokens 0 1 text)) ≡ Err (Unsupported n) → HasFault [] (tokens 0 1 text) (Unsupported n)
   by true g = absurd cc
   by false g = fault_is_first (tokens 0 1 text) (Unsupported n) g
-fault_result view (Err TooMany) text h = by (ltb 4194304 (length text)) h where
+fault_result view (Err TooMany) text h = by (ltb MOST_TEXT_BYTES (length text)) h where
   by : (b : Bool) → cond {A = Step (List Statement)} b (Err TooLarge) (statements_of (tokens 0 1 text)) ≡ Err TooMany → HasFault [] (tokens 0 1 text) TooMany
   by true g = absurd cc
   by false g = fault_is_first (tokens 0 1 text) TooMany g

@@ -2,10 +2,11 @@
 use Rattle.std.proofs.Common.{◌≡◌, ℕ, zero, suc, ◌≤◌, List, [], ◌∷◌, length, Ok, Err, refl, sym, ◌∙◌, arith}
 use Rattle.sm_ruletext.specs.declared.token.Kind.{Kind}
 use Rattle.sm_ruletext.specs.declared.fault.RuleTextFault.{RuleTextFault}
-use Rattle.sm_ruletext.specs.declared.fault.RuleTextFault.TheVariants.{TooLarge, Syntax, Unsupported, TooMany, Memory}
 use Rattle.sm_ruletext.specs.declared.statement.Statement.{Statement}
 use Rattle.sm_ruletext.specs.Lexing.{Tokens}
-use Rattle.sm_ruletext.specs.Grammar.{Step, ◌>>=◌, Fails}
+use Rattle.sm_kinds.specs.Reading.{◌>>=◌, Fails}
+use Rattle.sm_kinds.proofs.Readers.{fails_along}
+use Rattle.sm_ruletext.specs.Grammar.{Step, is_memory}
 use Rattle.sm_ruletext.specs.Statements.{statement_from, statements_within, statements_of}
 
 -- the statements so far lead to the whole
@@ -33,24 +34,17 @@ leads_on total sts more line k before ts us front so_far step fewer =
           record { most = most; enough = omega (arith, enough, fewer); same = sym e ∙ (sym (one_more most line k sts ts) ∙ same) }
 
 pub leads_to_fault : (e : RuleTextFault) (total : Step (List Statement)) (sts : List Statement) (line : ℕ) (k : Kind) (before ts : Tokens) → before ≡ (line, k) ∷ ts → LeadsTo total sts before
-    → Fails e (statement_from line k sts ts) → Fails e total
+    → Fails is_memory e (statement_from line k sts ts) → Fails is_memory e total
 leads_to_fault e total sts line k before ts front so_far step =
     go so_far.most (rw front at so_far.enough) (rw front at so_far.same) where
-      fails : (f : RuleTextFault) (most : ℕ) → statements_within (suc most) sts ((line, k) ∷ ts) ≡ total → statement_from line k sts ts ≡ Err f → total ≡ Err f
-      fails f most same h =
-          let u : (statement_from line k sts ts >>= λ next. statements_within most next.0 next.1) ≡ Err f = rw h refl in
+      fails : (most : ℕ) → statements_within (suc most) sts ((line, k) ∷ ts) ≡ total → statement_from line k sts ts ≡ Err e → total ≡ Err e
+      fails most same h =
+          let u : (statement_from line k sts ts >>= λ next. statements_within most next.0 next.1) ≡ Err e = rw h refl in
           sym same ∙ (one_more most line k sts ts ∙ u)
 
-      by : (e : RuleTextFault) (most : ℕ) → statements_within (suc most) sts ((line, k) ∷ ts) ≡ total → Fails e (statement_from line k sts ts) → Fails e total
-      by Memory most same h = tt
-      by TooLarge most same h = fails TooLarge most same h
-      by (Syntax n) most same h = fails (Syntax n) most same h
-      by (Unsupported n) most same h = fails (Unsupported n) most same h
-      by TooMany most same h = fails TooMany most same h
-
-      go : (most : ℕ) → length ((line, k) ∷ ts) ≤ most → statements_within most sts ((line, k) ∷ ts) ≡ total → Fails e total
+      go : (most : ℕ) → length ((line, k) ∷ ts) ≤ most → statements_within most sts ((line, k) ∷ ts) ≡ total → Fails is_memory e total
       go zero enough same = absurd (omega arith)
-      go (suc most) enough same = by e most same step
+      go (suc most) enough same = fails_along is_memory e (statement_from line k sts ts) total (fails most same) step
 
 pub leads_to_end : (total : Step (List Statement)) (sts : List Statement) (ts : Tokens) → ts ≡ [] → LeadsTo total sts ts → total ≡ Ok sts
 unfolding statements_within

@@ -10,7 +10,9 @@ use Rattle.sm_ruletext.specs.declared.set.Set.{Set}
 use Rattle.sm_ruletext.specs.declared.rule.Rule.{Rule}
 use Rattle.sm_ruletext.specs.Lexing.{Tokens}
 use Rattle.sm_ruletext.specs.Words.{is_self}
-use Rattle.sm_ruletext.specs.Grammar.{Step, Read, ◌>>=◌, no_items, with_word, group_at, items_from, set_of, set_from, set_at, kind_at, colon_at, semicolon_at, rule_at}
+use Rattle.sm_kinds.specs.Reading.{◌>>=◌}
+use Rattle.sm_kinds.proofs.Readers.{went_well}
+use Rattle.sm_ruletext.specs.Grammar.{Step, Read, no_items, with_word, group_at, items_from, set_of, set_from, set_at, kind_at, colon_at, semicolon_at, rule_at}
 use Rattle.sm_ruletext.proofs.Turns.{ok_parts}
 use Rattle.sm_ruletext.specs.Spelling.{SpellsItems, SpellsSimple, SpellsSet, SpellsRule}
 
@@ -60,10 +62,6 @@ simple_again line l m k ts _ us _ (SpellsSimple.group n p vs i s) e =
     rw (← k-is, ← ts-is, append_assoc vs ((p, Close) ∷ []) us, items_again line m vs no_items i s 0 true ((p, Close) ∷ us)) (closes line m i p us)
 
 -- ---- what is read is spelled so
-
-pub bind_ok : {A B : Type 0} (r : Step A) (f : A → Step B) (y : B) → (r >>= f) ≡ Ok y → (x : A) × (r ≡ Ok x) × (f x ≡ Ok y)
-bind_ok (Ok x) f y e = (x, refl, e)
-bind_ok (Err d) f y e = absurd cc
 
 word_cases : (line : ℕ) (m : Bool) (i j : Items) (w : List ℕ) → with_word line m i w ≡ Ok j
     → ((is_self w ≡ true) × (m ≡ true) × (j ≡ record i { to_self = true })) ⊎ ((is_self w ≡ false) × (j ≡ record i { plus = i.plus ++ w ∷ [] }))
@@ -123,7 +121,7 @@ group_taken : (line : ℕ) (m : Bool) (depth : ℕ) (fresh : Bool) (i : Items) (
 unfolding group_at
 group_taken line m depth fresh i [] j us e = absurd cc
 group_taken line m depth fresh i ((l, Word w) ∷ ts) j us e =
-    let b = bind_ok (with_word line m i w) (λ n. group_at line m depth false n ts) (j, us) e in
+    let b = went_well (with_word line m i w) (λ n. group_at line m depth false n ts) (j, us) e in
     closes_more m depth fresh ((l, Word w) ∷ []) ts us i b.0 j (word_spelled line l m i b.0 w b.1) (group_taken line m depth false b.0 ts j us b.2)
 group_taken line m depth fresh i ((l, Dash) ∷ []) j us e = absurd cc
 group_taken line m depth fresh i ((l, Dash) ∷ (n, Word w) ∷ ts) j us e =
@@ -168,7 +166,7 @@ Taken Spelled ts us = (vs : Tokens) × (ts ≡ vs ++ us) × Spelled vs
 simple_taken : (line l : ℕ) (m : Bool) (k : Kind) (ts us : Tokens) (i : Items) → items_from line m k ts ≡ Ok (i, us) → Taken (λ vs. SpellsSimple m vs i) ((l, k) ∷ ts) us
 unfolding items_from
 simple_taken line l m (Word w) ts us i e =
-    let b = bind_ok (with_word line m no_items w) (λ n. Ok (n, ts)) (i, us) e in
+    let b = went_well (with_word line m no_items w) (λ n. Ok (n, ts)) (i, us) e in
     let p = ok_parts b.0 i ts us b.2 in (
       (l, Word w) ∷ [],
       ap (λ (x : Tokens). (l, Word w) ∷ x) p.1,
@@ -195,7 +193,7 @@ as_set line r = Ok (set_of line false r.0, r.1)
 -- a set that is neither `*` nor a complement
 simple_set : (line l : ℕ) (m : Bool) (k : Kind) (ts us : Tokens) (s : Set × Bool) → (items_from line m k ts >>= as_set line) ≡ Ok (s, us) → Taken (λ vs. SpellsSet line m vs s) ((l, k) ∷ ts) us
 simple_set line l m k ts us s e =
-    let b = bind_ok (items_from line m k ts) (λ r. Ok (set_of line false r.0, r.1)) (s, us) e in
+    let b = went_well (items_from line m k ts) (λ r. Ok (set_of line false r.0, r.1)) (s, us) e in
     let p = ok_parts (set_of line false b.0.0) s b.0.1 us b.2 in
     let t = simple_taken line l m k ts b.0.1 b.0.0 b.1 in
     (t.0, t.1 ∙ ap (λ (x : Tokens). t.0 ++ x) p.1, subst (λ (x : Set × Bool). SpellsSet line m t.0 x) p.0 (SpellsSet.simple t.0 b.0.0 t.2))
@@ -208,7 +206,7 @@ set_taken line m ((l, Star) ∷ ts) us s e =
     ((l, Star) ∷ [], ap (λ (x : Tokens). (l, Star) ∷ x) p.1, subst (λ (x : Set × Bool). SpellsSet line m ((l, Star) ∷ []) x) p.0 (SpellsSet.all l))
 set_taken line m ((l, Tilde) ∷ []) us s e = absurd cc
 set_taken line m ((l, Tilde) ∷ (n, k) ∷ ts) us s e =
-    let b = bind_ok (items_from line false k ts) (λ r. Ok (set_of line true r.0, r.1)) (s, us) e in
+    let b = went_well (items_from line false k ts) (λ r. Ok (set_of line true r.0, r.1)) (s, us) e in
     let p = ok_parts (set_of line true b.0.0) s b.0.1 us b.2 in
     let t = simple_taken line n false k ts b.0.1 b.0.0 b.1 in
     ((l, Tilde) ∷ t.0, ap (λ (x : Tokens). (l, Tilde) ∷ x) (t.1 ∙ ap (λ (x : Tokens). t.0 ++ x) p.1), subst (λ (x : Set × Bool). SpellsSet line m ((l, Tilde) ∷ t.0) x) p.0 (SpellsSet.complement l t.0 b.0.0 t.2))

@@ -14,12 +14,15 @@ use Rattle.sm_ruletext.specs.declared.keyword.Keyword.{Keyword}
 use Rattle.sm_ruletext.specs.declared.keyword.Keyword.TheVariants as word
 use Rattle.sm_ruletext.specs.Lexing.{Tokens, tokens}
 use Rattle.sm_ruletext.specs.Words.{is_self, keyword_of}
-use Rattle.sm_ruletext.specs.Grammar.{Gives, Step, Read, ◌>>=◌, name_at, names_at, semicolon_at, colon_at, set_at, rule_at}
+use Rattle.sm_kinds.specs.Reading.{◌>>=◌, Gives}
+use Rattle.sm_kinds.specs.declared.limits.TheConstants.{MOST_TEXT_BYTES}
+use Rattle.sm_kinds.proofs.Readers.{went_well}
+use Rattle.sm_ruletext.specs.Grammar.{Step, Read, is_memory, name_at, names_at, semicolon_at, colon_at, set_at, rule_at}
 use Rattle.sm_ruletext.specs.Sets.{is_kept}
 use Rattle.sm_ruletext.specs.Statements.{skipped_at, what_at, with_statement, statement_from, statements_within, statements_of, read}
 use Rattle.sm_ruletext.specs.Spelling.{SpellsRule, SpellsNames, HasNoSemicolon, SpellsStatement, SpellsText}
 use Rattle.sm_ruletext.proofs.Turns.{ok_parts, name_taken}
-use Rattle.sm_ruletext.proofs.Spelled.{bind_ok, dash_cases, set_taken, rule_again}
+use Rattle.sm_ruletext.proofs.Spelled.{dash_cases, set_taken, rule_again}
 
 -- ---- what is spelled so is read
 
@@ -134,13 +137,13 @@ unfolding rule_at
 rule_taken line ts us r e =
     let finish : Set × Bool → Set × Bool → Set × Bool → (Set × Bool) × Tokens → Read Rule =
     λ source target class perm. semicolon_at line perm.1 >>= λ end. Ok (record { source = source.0; target = target.0; class = class.0; perm = perm.0.0; to_self = target.1 }, end.1) in
-    let a = bind_ok (set_at line false ts) (λ source. set_at line true source.1 >>= λ target. colon_at line target.1 >>= λ colon. set_at line false colon.1 >>= λ class. set_at line false class.1 >>= finish source.0 target.0 class.0) (r, us) e in
-    let b = bind_ok (set_at line true a.0.1) (λ target. colon_at line target.1 >>= λ colon. set_at line false colon.1 >>= λ class. set_at line false class.1 >>= finish a.0.0 target.0 class.0) (r, us) a.2 in
-    let n = bind_ok (colon_at line b.0.1) (λ colon. set_at line false colon.1 >>= λ class. set_at line false class.1 >>= finish a.0.0 b.0.0 class.0) (r, us) b.2 in
-    let c = bind_ok (set_at line false n.0.1) (λ class. set_at line false class.1 >>= finish a.0.0 b.0.0 class.0) (r, us) n.2 in
-    let d = bind_ok (set_at line false c.0.1) (finish a.0.0 b.0.0 c.0.0) (r, us) c.2 in
+    let a = went_well (set_at line false ts) (λ source. set_at line true source.1 >>= λ target. colon_at line target.1 >>= λ colon. set_at line false colon.1 >>= λ class. set_at line false class.1 >>= finish source.0 target.0 class.0) (r, us) e in
+    let b = went_well (set_at line true a.0.1) (λ target. colon_at line target.1 >>= λ colon. set_at line false colon.1 >>= λ class. set_at line false class.1 >>= finish a.0.0 target.0 class.0) (r, us) a.2 in
+    let n = went_well (colon_at line b.0.1) (λ colon. set_at line false colon.1 >>= λ class. set_at line false class.1 >>= finish a.0.0 b.0.0 class.0) (r, us) b.2 in
+    let c = went_well (set_at line false n.0.1) (λ class. set_at line false class.1 >>= finish a.0.0 b.0.0 class.0) (r, us) n.2 in
+    let d = went_well (set_at line false c.0.1) (finish a.0.0 b.0.0 c.0.0) (r, us) c.2 in
     let made : Rule = record { source = a.0.0.0; target = b.0.0.0; class = c.0.0.0; perm = d.0.0.0; to_self = b.0.0.1 } in
-    let f = bind_ok (semicolon_at line d.0.1) (λ end. Ok (made, end.1)) (r, us) d.2 in
+    let f = went_well (semicolon_at line d.0.1) (λ end. Ok (made, end.1)) (r, us) d.2 in
     let p = ok_parts made r f.0.1 us f.2 in
     let ta = set_taken line false ts a.0.1 a.0.0 a.1 in
     let tb = set_taken line true a.0.1 b.0.1 b.0.0 b.1 in
@@ -215,7 +218,7 @@ rule_statement : (line : ℕ) (k : Keyword) (make : Rule → What) (ts us : Toke
     → ((bs : Tokens) (r : Rule) → SpellsRule line bs r → SpellsStatement line k bs (cond (is_kept r) (Some (make r)) None))
     → (rule_at line ts >>= rule_made make) ≡ Ok (w, us) → Ends (λ vs. SpellsStatement line k vs w) ts us
 rule_statement line k make ts us w spells e =
-    let a = bind_ok (rule_at line ts) (rule_made make) (w, us) e in
+    let a = went_well (rule_at line ts) (rule_made make) (w, us) e in
     let p = ok_parts (cond (is_kept a.0.0) (Some (make a.0.0)) None) w a.0.1 us a.2 in
     let r = rule_taken line ts a.0.1 a.0.0 a.1 in
     ends_as line k ts a.0.1 us (cond (is_kept a.0.0) (Some (make a.0.0)) None) w (record { vs = r.vs; l = r.l; parts = r.parts; spelled = spells r.vs a.0.0 r.spelled }) p.0 p.1
@@ -223,8 +226,8 @@ rule_statement line k make ts us w spells e =
 pub what_taken : (line : ℕ) (k : Keyword) (ts us : Tokens) (w : Option What) → what_at line k ts ≡ Ok (w, us) → Ends (λ vs. SpellsStatement line k vs w) ts us
 unfolding what_at
 what_taken line word.Attribute ts us w e =
-    let a = bind_ok (name_at line ts) (λ name. semicolon_at line name.1 >>= λ end. named (what.Attribute name.0) end.1) (w, us) e in
-    let b = bind_ok (semicolon_at line a.0.1) (λ end. named (what.Attribute a.0.0) end.1) (w, us) a.2 in
+    let a = went_well (name_at line ts) (λ name. semicolon_at line name.1 >>= λ end. named (what.Attribute name.0) end.1) (w, us) e in
+    let b = went_well (semicolon_at line a.0.1) (λ end. named (what.Attribute a.0.0) end.1) (w, us) a.2 in
     let p = ok_parts (Some (what.Attribute a.0.0)) w b.0.1 us b.2 in
     let ta = name_taken line ts a.0.1 a.0.0 a.1 in
     let tb = semicolon_taken line a.0.1 b.0.1 b.1 in
@@ -235,8 +238,8 @@ what_taken line word.Attribute ts us w e =
       spelled = SpellsStatement.attribute ta.0 a.0.0 ta.2;
     }) p.0 p.1
 what_taken line word.Types ts us w e =
-    let a = bind_ok (name_at line ts) (λ name. names_at line [] name.1 >>= λ names. named (what.Declared name.0 names.0) names.1) (w, us) e in
-    let b = bind_ok (names_at line [] a.0.1) (λ names. named (what.Declared a.0.0 names.0) names.1) (w, us) a.2 in
+    let a = went_well (name_at line ts) (λ name. names_at line [] name.1 >>= λ names. named (what.Declared name.0 names.0) names.1) (w, us) e in
+    let b = went_well (names_at line [] a.0.1) (λ names. named (what.Declared a.0.0 names.0) names.1) (w, us) a.2 in
     let p = ok_parts (Some (what.Declared a.0.0 b.0.0)) w b.0.1 us b.2 in
     let ta = name_taken line ts a.0.1 a.0.0 a.1 in
     let tb = names_taken line [] b.0.0 a.0.1 b.0.1 b.1 in
@@ -247,9 +250,9 @@ what_taken line word.Types ts us w e =
       spelled = SpellsStatement.types ta.0 a.0.0 tb.2.vs tb.0 ta.2 tb.2.spelled;
     }) (ap (λ (x : List (List ℕ)). Some (what.Declared a.0.0 x)) (sym tb.1) ∙ p.0) p.1
 what_taken line word.Typeattribute ts us w e =
-    let a = bind_ok (name_at line ts) (λ name. name_at line name.1 >>= λ first. names_at line (first.0 ∷ []) first.1 >>= λ names. named (what.Member name.0 names.0) names.1) (w, us) e in
-    let f = bind_ok (name_at line a.0.1) (λ first. names_at line (first.0 ∷ []) first.1 >>= λ names. named (what.Member a.0.0 names.0) names.1) (w, us) a.2 in
-    let b = bind_ok (names_at line (f.0.0 ∷ []) f.0.1) (λ names. named (what.Member a.0.0 names.0) names.1) (w, us) f.2 in
+    let a = went_well (name_at line ts) (λ name. name_at line name.1 >>= λ first. names_at line (first.0 ∷ []) first.1 >>= λ names. named (what.Member name.0 names.0) names.1) (w, us) e in
+    let f = went_well (name_at line a.0.1) (λ first. names_at line (first.0 ∷ []) first.1 >>= λ names. named (what.Member a.0.0 names.0) names.1) (w, us) a.2 in
+    let b = went_well (names_at line (f.0.0 ∷ []) f.0.1) (λ names. named (what.Member a.0.0 names.0) names.1) (w, us) f.2 in
     let p = ok_parts (Some (what.Member a.0.0 b.0.0)) w b.0.1 us b.2 in
     let ta = name_taken line ts a.0.1 a.0.0 a.1 in
     let tf = name_taken line a.0.1 f.0.1 f.0.0 f.1 in
@@ -263,7 +266,7 @@ what_taken line word.Typeattribute ts us w e =
 what_taken line word.Allow ts us w e = rule_statement line word.Allow what.Allow ts us w (λ bs r s. SpellsStatement.allow bs r s) e
 what_taken line word.Neverallow ts us w e = rule_statement line word.Neverallow what.Neverallow ts us w (λ bs r s. SpellsStatement.neverallow bs r s) e
 what_taken line word.Skipped ts us w e =
-    let a = bind_ok (skipped_at line ts) (λ end. nothing end.1) (w, us) e in
+    let a = went_well (skipped_at line ts) (λ end. nothing end.1) (w, us) e in
     let p = ok_parts None w a.0.1 us a.2 in
     let r = skipped_taken line ts a.0.1 a.1 in
     ends_as line word.Skipped ts a.0.1 us None w (record { vs = r.vs; l = r.l; parts = r.parts; spelled = SpellsStatement.skipped r.vs r.spelled }) p.0 p.1
@@ -275,9 +278,9 @@ text_taken most sts all [] enough e = let same : sts ≡ all = cc in rw (← sam
 text_taken zero sts all (t ∷ ts) enough e = absurd (omega arith)
 text_taken (suc most) sts all ((line, Semicolon) ∷ ts) enough e = SpellsText.empty line ts sts all (text_taken most sts all ts (omega arith) e)
 text_taken (suc most) sts all ((line, Word w) ∷ ts) enough e =
-    let a = bind_ok (what_at line (keyword_of w) ts >>= added line sts) (λ next. statements_within most next.0 next.1) all e in
-    let b = bind_ok (what_at line (keyword_of w) ts) (added line sts) a.0 a.1 in
-    let c = bind_ok (with_statement line sts b.0.0) (λ more. placed more b.0.1) a.0 b.2 in
+    let a = went_well (what_at line (keyword_of w) ts >>= added line sts) (λ next. statements_within most next.0 next.1) all e in
+    let b = went_well (what_at line (keyword_of w) ts) (added line sts) a.0 a.1 in
+    let c = went_well (with_statement line sts b.0.0) (λ more. placed more b.0.1) a.0 b.2 in
     let p = ok_parts c.0 a.0.0 b.0.1 a.0.1 c.2 in
     let r = what_taken line (keyword_of w) ts b.0.1 b.0.0 b.1 in
     let rest : statements_within most c.0 b.0.1 ≡ Ok all = rw (p.0, p.1) a.2 in
@@ -300,12 +303,12 @@ read_is_spelled ts sts e = text_taken (length ts) [] sts ts (omega arith) e
 
 pub found : (text : List ℕ) (sts : List Statement) → read text ≡ Ok sts → SpellsText [] (tokens 0 1 text) sts
 unfolding read
-found text sts e = read_is_spelled (tokens 0 1 text) sts (dash_cases (ltb 4194304 (length text)) TooLarge (Err TooLarge) (statements_of (tokens 0 1 text)) sts e).1
+found text sts e = read_is_spelled (tokens 0 1 text) sts (dash_cases (ltb MOST_TEXT_BYTES (length text)) TooLarge (Err TooLarge) (statements_of (tokens 0 1 text)) sts e).1
 
-pub only : (text : List ℕ) (sts : List Statement) → length text ≤ 4194304 → SpellsText [] (tokens 0 1 text) sts → read text ≡ Ok sts
+pub only : (text : List ℕ) (sts : List Statement) → length text ≤ MOST_TEXT_BYTES → SpellsText [] (tokens 0 1 text) sts → read text ≡ Ok sts
 unfolding read
-only text sts short s = rw (le-ltb 4194304 (length text) short) (spelled_is_read (tokens 0 1 text) sts s)
+only text sts short s = rw (le-ltb MOST_TEXT_BYTES (length text) short) (spelled_is_read (tokens 0 1 text) sts s)
 
-pub found_result : {E : Type 0} (view : E → List Statement) (r : Step E) (text : List ℕ) → Gives view r (read text) → IfOk r (λ v. SpellsText [] (tokens 0 1 text) (view v))
+pub found_result : {E : Type 0} (view : E → List Statement) (r : Step E) (text : List ℕ) → Gives is_memory view r (read text) → IfOk r (λ v. SpellsText [] (tokens 0 1 text) (view v))
 found_result view (Ok v) text h = found text (view v) h
 found_result view (Err e) text h = tt

@@ -1,5 +1,6 @@
 -- The grammar, read from left to right over tokens. `line` is that of the statement.
-use Rattle.std.specs.Prelude.{◌≡◌, ℕ, zero, suc, Bool, true, false, if◌then◌else◌, List, [], ◌∷◌, ◌++◌, Result, Ok, Err}
+use Rattle.std.specs.Prelude.{ℕ, zero, suc, Bool, true, false, if◌then◌else◌, List, [], ◌∷◌, ◌++◌, Result, Ok, Err}
+use Rattle.sm_kinds.specs.Reading.{◌>>=◌, Gives}
 use Rattle.sm_ruletext.specs.declared.token.Kind.{Kind}
 use Rattle.sm_ruletext.specs.declared.token.Kind.TheVariants.{Word, Semicolon, Comma, Colon, Open, Close, Star, Tilde, Dash}
 use Rattle.sm_ruletext.specs.declared.fault.RuleTextFault.{RuleTextFault}
@@ -18,27 +19,17 @@ Step A = Result A RuleTextFault
 abbrev pub Read : Type 0 → Type 0
 Read A = Step (A × Tokens)
 
-infixl 10 ◌>>=◌
-abbrev pub ◌>>=◌ : {A B : Type 0} → Step A → (A → Step B) → Step B
-(Ok x) >>= f = f x
-(Err e) >>= f = Err e
+-- want of memory
+abbrev pub is_memory : RuleTextFault → Bool
+is_memory Memory = true
+is_memory TooLarge = false
+is_memory (Syntax line) = false
+is_memory (Unsupported line) = false
+is_memory TooMany = false
 
--- The error is the fault that was expected, unless memory ran out.
-abbrev pub Fails : {B : Type 0} → RuleTextFault → Step B → Type 0
-Fails Memory expected = Unit {0}
-Fails TooLarge expected = expected ≡ Err TooLarge
-Fails (Syntax line) expected = expected ≡ Err (Syntax line)
-Fails (Unsupported line) expected = expected ≡ Err (Unsupported line)
-Fails TooMany expected = expected ≡ Err TooMany
-
--- What was returned is what was expected, unless memory ran out.
-abbrev pub Gives : {A B : Type 0} → (A → B) → Step A → Step B → Type 0
-Gives view (Ok x) expected = expected ≡ Ok (view x)
-Gives view (Err e) expected = Fails e expected
-
--- the same of a value and the tokens that are left
+-- What was returned, and the tokens that are left, are what was expected, unless memory was refused.
 abbrev pub Reads : {A B : Type 0} → (A → B) → Step A → Tokens → Read B → Type 0
-Reads view result left expected = Gives (λ x. (view x, left)) result expected
+Reads view result left expected = Gives is_memory (λ x. (view x, left)) result expected
 
 -- ---- tokens and names
 

@@ -1,5 +1,6 @@
 -- The written grammar: which tokens spell what. The line of a token says nothing.
 use Rattle.std.specs.Prelude.{◌≡◌, ◌<◌, length, ℕ, Bool, true, false, List, [], ◌∷◌, ◌++◌, Option, Some, None, Ok, Err, if◌then◌else◌}
+use Rattle.sm_kinds.specs.declared.limits.TheConstants.{MOST_TEXT_BYTES}
 use Rattle.sm_ruletext.specs.declared.token.Kind.{Kind}
 use Rattle.sm_ruletext.specs.declared.token.Kind.TheVariants.{Word, Semicolon, Comma, Colon, Open, Close, Star, Tilde, Dash}
 use Rattle.sm_ruletext.specs.declared.fault.RuleTextFault.{RuleTextFault}
@@ -96,7 +97,7 @@ pub data HasFault : List Statement → Tokens → RuleTextFault → Type 0 where
 -- what each error says of the text
 abbrev pub IsFaultOf : RuleTextFault → List ℕ → Type 0
 IsFaultOf Memory text = Unit {0}
-IsFaultOf TooLarge text = 4194304 < length text
+IsFaultOf TooLarge text = MOST_TEXT_BYTES < length text
 IsFaultOf (Syntax line) text = HasFault [] (tokens 0 1 text) (Syntax line)
 IsFaultOf (Unsupported line) text = HasFault [] (tokens 0 1 text) (Unsupported line)
 IsFaultOf TooMany text = HasFault [] (tokens 0 1 text) TooMany

@@ -1,5 +1,8 @@
 -- The statements of a rule text.
 use Rattle.std.specs.Prelude.{ℕ, zero, suc, Bool, true, false, ◌&&◌, nat_le, nat_lt, count_by, if◌then◌else◌, List, [], ◌∷◌, ◌++◌, length, Option, Some, None, Ok, Err}
+use Rattle.sm_kinds.specs.Reading.{◌>>=◌}
+use Rattle.sm_kinds.specs.declared.limits.TheConstants.{MOST_TEXT_BYTES}
+use Rattle.sm_ruletext.specs.declared.limits.TheConstants.{MOST_RULES}
 use Rattle.sm_ruletext.specs.declared.token.Kind.{Kind}
 use Rattle.sm_ruletext.specs.declared.token.Kind.TheVariants.{Word, Semicolon}
 use Rattle.sm_ruletext.specs.declared.fault.RuleTextFault.TheVariants.{TooLarge, Syntax, Unsupported, TooMany}
@@ -11,7 +14,7 @@ use Rattle.sm_ruletext.specs.declared.keyword.Keyword.TheVariants as word
 use Rattle.sm_ruletext.specs.Sets.{is_kept}
 use Rattle.sm_ruletext.specs.Lexing.{Tokens, tokens}
 use Rattle.sm_ruletext.specs.Words.{keyword_of}
-use Rattle.sm_ruletext.specs.Grammar.{Step, Read, ◌>>=◌, semicolon_at, name_at, names_at, rule_at}
+use Rattle.sm_ruletext.specs.Grammar.{Step, Read, semicolon_at, name_at, names_at, rule_at}
 
 unfoldable pub skipped_at : ℕ → Tokens → Read (Unit {0})
 skipped_at line [] = Err (Syntax line)
@@ -58,7 +61,7 @@ rule_count sts = count_by (λ s. is_rule s.what) sts
 unfoldable pub with_statement : ℕ → List Statement → Option What → Step (List Statement)
 with_statement line sts None = Ok sts
 with_statement line sts (Some w) =
-    if is_rule w && nat_le 65536 (rule_count sts) then Err TooMany else Ok (sts ++ record { line = line; what = w } ∷ [])
+    if is_rule w && nat_le MOST_RULES (rule_count sts) then Err TooMany else Ok (sts ++ record { line = line; what = w } ∷ [])
 
 -- one statement, whose first token is k
 unfoldable pub statement_from : ℕ → Kind → List Statement → Tokens → Read (List Statement)
@@ -82,4 +85,4 @@ unfoldable pub statements_of : Tokens → Step (List Statement)
 statements_of ts = statements_within (length ts) [] ts
 
 unfoldable pub read : List ℕ → Step (List Statement)
-read text = if nat_lt 4194304 (length text) then Err TooLarge else statements_of (tokens 0 1 text)
+read text = if nat_lt MOST_TEXT_BYTES (length text) then Err TooLarge else statements_of (tokens 0 1 text)

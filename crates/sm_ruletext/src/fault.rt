@@ -8,13 +8,13 @@ use std::alloc::{AllocError, AllocFailed};
 /// The first fault of a rule text.
 #[derive(Clone, Copy, Debug, PartialEq, Eq)]
 pub enum RuleTextFault {
-    /// The text has more than 4,194,304 bytes.
+    /// The text has more than `MOST_TEXT_BYTES` bytes.
     TooLarge,
     /// The statement at this line is not in the grammar.
     Syntax(u32),
     /// The statement at this line begins with a word that begins no statement of the grammar.
     Unsupported(u32),
-    /// There are more than 65,536 kept rules.
+    /// There are more than `MOST_RULES` kept rules.
     TooMany,
     /// Memory was refused.
     Memory,

@@ -2,7 +2,8 @@
 
 ghost use Rattle.std.specs.Prelude.{◌≡◌, ◌<◌, ◌≤◌, ◌+◌, ◌^◌, ◌++◌, ◌∷◌, [], zero, true, false, length, option_to_list, OnOk, IfOk};
 ghost use Rattle.sm_ruletext.specs.Grammar as spec;
-ghost use Rattle.sm_ruletext.specs.Grammar.{Gives, Reads};
+ghost use Rattle.sm_kinds.specs.Reading.{Gives};
+ghost use Rattle.sm_ruletext.specs.Grammar.{Reads, is_memory};
 
 use crate::items::Items;
 use crate::keyword::is_self;
@@ -97,7 +98,7 @@ fn add_word(
     may_self: bool,
     word: &[u8],
 ) -> Result<Items, RuleTextFault>
-    ensures { Gives (λ i. i) result (spec.with_word line may_self items word.now) }
+    ensures { Gives is_memory (λ i. i) result (spec.with_word line may_self items word.now) }
 {
     if is_self(word) {
         if !may_self {

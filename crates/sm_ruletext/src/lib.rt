@@ -6,6 +6,7 @@ mod fault;
 mod grammar;
 mod items;
 mod keyword;
+mod limits;
 mod reading;
 mod rule;
 mod set;
@@ -18,6 +19,7 @@ mod tokens;
 mod word;
 
 pub use fault::RuleTextFault;
+pub use limits::MOST_RULES;
 pub use reading::read;
 pub use rule::Rule;
 pub use set::Set;

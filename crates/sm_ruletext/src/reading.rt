@@ -1,7 +1,8 @@
 //! Reads a whole rule text.
 
 ghost use Rattle.std.specs.Prelude.{◌≡◌, ◌<◌, ◌≤◌, ◌+◌, ◌^◌, ◌++◌, ◌∷◌, [], List, length, OnOk, IfOk, IfErr};
-ghost use Rattle.sm_ruletext.specs.Grammar.{Gives, Reads};
+ghost use Rattle.sm_kinds.specs.Reading.{Gives};
+ghost use Rattle.sm_ruletext.specs.Grammar.{Reads, is_memory};
 ghost use Rattle.sm_ruletext.specs.Lexing.{tokens};
 ghost use Rattle.sm_ruletext.specs.Spelling.{SpellsText, IsFaultOf};
 ghost use Rattle.sm_ruletext.specs.Statements as spec;
@@ -12,11 +13,8 @@ use crate::statements::Statements;
 use crate::token::Kind;
 use crate::tokens::Tokens;
 use crate::{RuleTextFault, Statement, What, grammar};
-use sm_kinds::Names;
+use sm_kinds::{MOST_TEXT_BYTES, Names};
 use std::alloc::Global;
-
-/// The most bytes of a rule text.
-const MAX_TEXT: usize = 4_194_304;
 
 #[tactic(auto, unfolding(crate::specs::Statements::skipped_at, crate::specs::Grammar::kind_at))]
 fn skipped(tokens: &mut Tokens, line: u32) -> Result<(), RuleTextFault>
@@ -86,24 +84,24 @@ fn what(
 /// The statements of a rule text, in order.
 pub fn read(alloc: Global, text: &[u8]) -> Result<Vec<Statement>, RuleTextFault>
     // Which fault it is, if it is one.
-    ensures exact { Gives (λ v. v.items) result (spec.read text.now) }
+    ensures exact { Gives is_memory (λ v. v.items) result (spec.read text.now) }
     // What is read is spelled so.
     ensures found { IfOk result (λ v. SpellsText [] (tokens 0 1 text.now) v.items) }
     // What is refused has that fault first.
     ensures faults { IfErr result (λ e. IsFaultOf e text.now) }
     // What is spelled so is read, unless memory runs out.
-    ensures only { (sts : List Statement) → length text.now ≤ 4194304
+    ensures only { (sts : List Statement) → length text.now ≤ MOST_TEXT_BYTES
         → SpellsText [] (tokens 0 1 text.now) sts
-        → Gives (λ v. v.items) result (Ok sts) }
+        → Gives is_memory (λ v. v.items) result (Ok sts) }
 {
     exactly(alloc, text)
 }
 
 #[tactic(auto, unfolding(crate::specs::Statements::read))]
 fn exactly(alloc: Global, text: &[u8]) -> Result<Vec<Statement>, RuleTextFault>
-    ensures { Gives (λ v. v.items) result (spec.read text.now) }
+    ensures { Gives is_memory (λ v. v.items) result (spec.read text.now) }
 {
-    if text.len() > MAX_TEXT {
+    if text.len() > MOST_TEXT_BYTES {
         return Err(RuleTextFault::TooLarge);
     }
     all(alloc, Tokens::new(text))
@@ -134,7 +132,7 @@ fn statement(
 }
 
 fn all(alloc: Global, mut tokens: Tokens) -> Result<Vec<Statement>, RuleTextFault>
-    ensures { Gives (λ v. v.items) result (spec.statements_of tokens.entry) }
+    ensures { Gives is_memory (λ v. v.items) result (spec.statements_of tokens.entry) }
 {
     let mut statements = Statements::new(alloc);
     'statements: while let Some((line, first)) = tokens.take() {

@@ -6,7 +6,7 @@ ghost use Rattle.sm_ruletext.specs.Sets as spec;
 use crate::Set;
 
 /// What stands behind `allow` or `neverallow`: `SOURCE TARGET : CLASS PERM`.
-#[derive(Debug)]
+#[derive(Debug, Drop)]
 pub struct Rule {
     pub source: Set,
     pub target: Set,
@@ -14,18 +14,6 @@ pub struct Rule {
     pub perm: Set,
     /// `self` stands in the target.
     pub to_self: bool,
-}
-
-impl Drop for Rule {
-    fn drop(self) {
-        let Rule {
-            source: _,
-            target: _,
-            class: _,
-            perm: _,
-            to_self: _,
-        } = self;
-    }
 }
 
 impl Rule {

@@ -6,7 +6,7 @@ ghost use Rattle.sm_ruletext.specs.Sets as spec;
 use sm_kinds::Names;
 
 /// A set of types, of classes or of permissions, as it is written.
-#[derive(Debug)]
+#[derive(Debug, Drop)]
 pub struct Set {
     /// The line of its statement.
     pub line: u32,
@@ -18,18 +18,6 @@ pub struct Set {
     pub plus: Names,
     /// The names behind a `-`.
     pub minus: Names,
-}
-
-impl Drop for Set {
-    fn drop(self) {
-        let Set {
-            line: _,
-            all: _,
-            complement: _,
-            plus: _,
-            minus: _,
-        } = self;
-    }
 }
 
 impl Set {

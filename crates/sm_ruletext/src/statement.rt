@@ -31,14 +31,8 @@ impl What {
 }
 
 /// A statement, with the line of its first byte; lines are numbered from 1.
-#[derive(Debug)]
+#[derive(Debug, Drop)]
 pub struct Statement {
     pub line: u32,
     pub what: What,
-}
-
-impl Drop for Statement {
-    fn drop(self) {
-        let Statement { line: _, what: _ } = self;
-    }
 }

@@ -6,7 +6,7 @@ ghost use Rattle.sm_ruletext.specs.Lexing as spec;
 
 use crate::token::{Kind, Token};
 use crate::word::is_word_byte;
-use sm_kinds::Word;
+use sm_kinds::{MOST_TEXT_BYTES, Word};
 use std::marker::Model;
 
 /// The bytes behind the first ones.
@@ -143,7 +143,7 @@ impl<'a> Model for Tokens<'a> {
 impl<'a> Tokens<'a> {
     /// The tokens of a text, the first next.
     pub fn new(text: &'a [u8]) -> Tokens<'a>
-        requires { length text.now ≤ 4194304 }
+        requires { length text.now ≤ MOST_TEXT_BYTES }
         ensures { result ≡ spec.tokens 0 1 text.now }
     {
         Tokens {

@@ -3,7 +3,8 @@ use Rattle.std.specs.Prelude.{◌≡◌, ◌⊎◌, ℕ, List, [], ◌++◌, Ok,
 use Rattle.sm_kinds.specs.declared.number.AdminId.{AdminId}
 use Rattle.sm_policy.specs.declared.fault.PolicyFault.{PolicyFault}
 use Rattle.sm_policy.specs.Policy.{Policy}
-use Rattle.sm_policy.specs.Preparing.{Fails, prepared}
+use Rattle.sm_kinds.specs.Reading.{Fails}
+use Rattle.sm_policy.specs.Preparing.{is_memory, prepared}
 use Rattle.sm_policy.specs.Refused.{refused_words}
 use Rattle.sm_history.specs.declared.by.By.{By}
 use Rattle.sm_history.specs.declared.by.By.TheVariants.{Manager, Client, Admin}
@@ -50,7 +51,7 @@ pub record Reloads (old : Managed) (texts : Texts) (line : List ℕ) (new : Mana
 -- the texts are refused, and nothing changed
 pub record Refuses (old : Managed) (texts : Texts) (line : List ℕ) (new : Managed) : Type 0 where
   pub fault : PolicyFault
-  pub fails : Fails fault (prepared texts.rules texts.contexts)
+  pub fails : Fails is_memory fault (prepared texts.rules texts.contexts)
   pub unchanged : new ≡ old
   pub written : line ≡ refused_policy_line fault
 

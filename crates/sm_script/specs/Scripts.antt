@@ -4,7 +4,8 @@ use Rattle.sm_kinds.specs.declared.class.Class.TheVariants.{Binder}
 use Rattle.sm_kinds.specs.declared.identity.Identity.{Identity}
 use Rattle.sm_kinds.specs.Contexts.{type_of}
 use Rattle.sm_policy.specs.Policy.{Policy, allowed}
-use Rattle.sm_policy.specs.Preparing.{Fails, prepared}
+use Rattle.sm_kinds.specs.Reading.{Fails}
+use Rattle.sm_policy.specs.Preparing.{is_memory, prepared}
 use Rattle.sm_history.specs.declared.refusal.Refusal.{Refusal}
 use Rattle.sm_history.specs.declared.refusal.Refusal.TheVariants.{Memory}
 use Rattle.sm_history.specs.Checks.{managing}
@@ -46,7 +47,7 @@ pub record OpeningFails (rules contexts : List ℕ) (refusal : Refusal) : Type 0
 
 -- why nothing was run
 abbrev pub NotRun : List ℕ → List ℕ → ScriptFault → Type 0
-NotRun rules contexts (PolicyRefused fault) = Fails fault (prepared rules contexts)
+NotRun rules contexts (PolicyRefused fault) = Fails is_memory fault (prepared rules contexts)
 NotRun rules contexts (Opening refusal) = OpeningFails rules contexts refusal
 NotRun rules contexts (Engine fault) = ⊥
 

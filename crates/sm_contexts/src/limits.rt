@@ -1,0 +1,4 @@
+//! The limits on contexts texts.
+
+/// The most entry lines of a text: those with words whose first doesn't begin with `#`, bad ones too.
+pub const MOST_ENTRY_LINES: u32 = 16_384;
