@@ -14,3 +14,4 @@ pub mod Queries
 pub mod Lawful
 pub mod WorkedRuns
 pub mod Records
+pub mod Told

@@ -16,6 +16,7 @@ mod query;
 mod refusal;
 mod reply;
 mod service;
+mod told;
 
 pub use by::By;
 pub use delivery::{Delivery, Given, GivenRefs, Message};
@@ -28,3 +29,4 @@ pub use query::Query;
 pub use refusal::{Exception, Failure, Refusal};
 pub use reply::{Answer, NameList, Reply};
 pub use service::Service;
+pub use told::is_hidden;
