@@ -23,3 +23,4 @@ pub mod SegmentLaw
 pub mod LawStatements
 pub mod WorkedRuns
 pub mod Records
+pub mod Told

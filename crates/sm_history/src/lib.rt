@@ -20,6 +20,7 @@ mod refusal;
 mod reply;
 mod service;
 mod stop;
+mod told;
 mod turn;
 
 pub use by::By;
@@ -37,5 +38,9 @@ pub use query::Query;
 pub use refusal::{Exception, Failure, Refusal};
 pub use reply::{Answer, NameList, Reply};
 pub use service::Service;
+<<<<<<< HEAD
 pub use stop::{Instead, Stop};
 pub use turn::TurnRow;
+=======
+pub use told::is_hidden;
+>>>>>>> h_c

@@ -1,5 +1,5 @@
 -- What the items of a script are answered.
-use Rattle.std.specs.Prelude.{◌≡◌, ◌⊎◌, ℕ, List, [], ◌++◌, Ok, codes, false}
+use Rattle.std.specs.Prelude.{◌≡◌, ◌⊎◌, ℕ, List, [], ◌++◌, Ok, codes}
 use Rattle.sm_kinds.specs.declared.number.AdminId.{AdminId}
 use Rattle.sm_policy.specs.declared.fault.PolicyFault.{PolicyFault}
 use Rattle.sm_policy.specs.Policy.{Policy}
@@ -12,12 +12,13 @@ use Rattle.sm_history.specs.declared.event.Event.{Event}
 use Rattle.sm_history.specs.declared.event.Event.TheVariants.{Connect, Add, Get, Reload}
 use Rattle.sm_history.specs.declared.reply.Reply.{Reply}
 use Rattle.sm_history.specs.Histories.{turn_of}
+use Rattle.sm_history.specs.Told.{told}
 use Rattle.sm_core.specs.Managed.{Managed, Answers, LooksAs}
 use Rattle.sm_wire.specs.declared.request.Request.{Request}
 use Rattle.sm_wire.specs.declared.request.Request.TheVariants.{Hello, Add as AddRequest, Get as GetRequest, Look, Ask}
 use Rattle.sm_wire.specs.declared.item.Item.{Item}
 use Rattle.sm_wire.specs.declared.item.Item.TheVariants as items
-use Rattle.sm_wire.specs.Replies.{reply_text, reply_text_for}
+use Rattle.sm_wire.specs.Replies.{reply_text, told_text}
 use Rattle.sm_wire.specs.Texts.{Texts}
 
 -- an actor's event is answered by the verdict at the turn that the actor has, or memory was refused and nothing changed
@@ -46,7 +47,7 @@ pub record Reloads (old : Managed) (texts : Texts) (line : List ℕ) (new : Mana
   pub reads : prepared texts.rules texts.contexts ≡ Ok policy
   pub reply : Reply
   pub judged : AnswersNow old (Admin the_administrator) (Reload texts.expected policy) reply new
-  pub written : line ≡ reply_text_for false reply
+  pub written : line ≡ told_text (told (Reload texts.expected policy) reply)
 
 -- the texts are refused, and nothing changed
 pub record Refuses (old : Managed) (texts : Texts) (line : List ℕ) (new : Managed) : Type 0 where

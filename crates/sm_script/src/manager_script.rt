@@ -10,11 +10,12 @@ use crate::judging::{judge, reload};
 use sm_core::Manager;
 use sm_engine::Machine;
 use sm_policy::{PolicyFault, Prepared, refused_text};
-use sm_wire::{Item, PolicyTexts, Request, reply_line_for};
+use sm_wire::{Item, PolicyTexts, Request, reply_line, told_line};
 use std::alloc::{AllocError, Global};
 use std::marker::Model;
 
 /// A service manager that answers the items of a script.
+#[derive(Drop)]
 pub struct Script {
     alloc: Global,
     manager: Manager,
@@ -26,15 +27,6 @@ impl Model for Script {
     ghost Value = { Managed };
 
     ghost view = { λ s. s.manager };
-}
-
-impl Drop for Script {
-    fn drop(self) {
-        let Script {
-            alloc: _,
-            manager: _,
-        } = self;
-    }
 }
 
 impl Machine for Script {
@@ -76,9 +68,8 @@ impl Script {
         ensures ok { IfOk result (λ line. AnswersLine self.old (Asked request) line.items self.new) }
         ensures err { OnErr result (GaveUp AnswersItem self.old (Asked request) self.new) }
     {
-        let is_get = request.is_get();
-        let reply = judge(&mut self.manager, request);
-        reply_line_for(self.alloc, is_get, &reply)
+        let reply = judge(&mut self.manager, &request);
+        reply_line(self.alloc, &request, &reply)
     }
 
     fn policy_line(&mut self, texts: &PolicyTexts) -> Result<Vec<u8>, AllocError>
@@ -97,7 +88,7 @@ impl Script {
         ensures err { OnErr result (GaveUp AnswersItem self.old (Policy texts.now) self.new) }
     {
         let reply = reload(&mut self.manager, texts.expected(), policy);
-        reply_line_for(self.alloc, false, &reply)
+        told_line(self.alloc, &reply)
     }
 }
 

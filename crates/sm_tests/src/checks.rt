@@ -1,9 +1,9 @@
 //! What a check tells of a policy, and writers that fail at it.
 
-use crate::texts::{DEVICE_LABELS, DEVICE_RULES};
+use crate::texts::{BROKEN_RULE, DEVICE_LABELS, DEVICE_RULES, device_rules_with};
 use crate::{FailAt, OneByte};
+use sm_check::check;
 use sm_engine::{Counted, Fault};
-use sm_script::check;
 use std::alloc::Global;
 use std::process::Abort;
 use std::test::Fail;
@@ -78,8 +78,7 @@ fn small_policies(rt: HostRuntime) -> Result<(), Fail> {
 
 #[test]
 fn a_broken_neverallow(rt: HostRuntime) -> Result<(), Fail> {
-    let mut rules = Vec::from_slice(rt.alloc(), DEVICE_RULES)?;
-    rules.extend_from_slice(b"allow untrusted_app activity_service:service_manager add;\n")?;
+    let rules = device_rules_with(rt.alloc(), BROKEN_RULE)?;
     let line =
         b"policy refused: neverallow at line 16 by allow at line 17: untrusted_app activity_service service_manager add\n";
     tells(&rt, rt.alloc(), &rules, DEVICE_LABELS, line, false);

@@ -1,10 +1,9 @@
 //! Readers and writers that give little, or fail.
 
-use crate::texts::{DEVICE_LABELS, DEVICE_RULES};
+use crate::fixture::Fixture;
 use crate::{FailAt, OneByte};
-use sm_engine::{Counted, Fault};
-use sm_kinds::Places;
-use sm_script::{ScriptFault, run_script};
+use sm_engine::Fault;
+use sm_script::ScriptFault;
 use std::alloc::Global;
 use std::process::Abort;
 use std::test::Fail;
@@ -24,85 +23,46 @@ handle 1
 fault cut
 ";
 
-fn places(rt: &impl Abort) -> Places {
-    Places::new(1000).expect(rt, "places")
-}
-
 #[test]
 fn one_byte_a_call(rt: HostRuntime) -> Result<(), Fail> {
-    let alloc = rt.alloc();
-    let mut reader = Counted::new(OneByte(SCRIPT));
-    let mut writer = Counted::new(OneByte(Vec::new(alloc)));
-    let mut audit = Counted::new(Vec::new(alloc));
-    let result = run_script(
-        alloc,
-        DEVICE_RULES,
-        DEVICE_LABELS,
-        places(&rt),
-        1000,
-        &mut reader,
-        &mut writer,
-        &mut audit,
-    );
-    assert!(rt; result.is_ok());
-    assert_eq!(rt; writer.into_inner().0.as_slice(), REPLIES);
+    let writer = OneByte(Vec::new(rt.alloc()));
+    let left = Fixture::device().run(&rt, rt.alloc(), OneByte(SCRIPT), writer);
+    assert!(rt; left.ending.is_ok());
+    assert_eq!(rt; left.writer.into_inner().0.as_slice(), REPLIES);
     Ok(())
 }
 
 #[test]
 fn too_many_reads(rt: HostRuntime) -> Result<(), Fail> {
-    let alloc = rt.alloc();
-    let mut reader = Counted::new(OneByte(SCRIPT));
-    let mut writer = Counted::new(Vec::new(alloc));
-    let mut audit = Counted::new(Vec::new(alloc));
-    let result = run_script(
-        alloc,
-        DEVICE_RULES,
-        DEVICE_LABELS,
-        places(&rt),
-        3,
-        &mut reader,
-        &mut writer,
-        &mut audit,
-    );
-    assert!(rt; matches!(&result, Err(ScriptFault::Engine(Fault::TooManyReads))));
-    assert_eq!(rt; reader.into_inner().0.len(), SCRIPT.len() - 3);
-    assert_eq!(rt; writer.into_inner().len(), 0);
+    let policy = Fixture::device().with_reads(3);
+    let left = policy.run(&rt, rt.alloc(), OneByte(SCRIPT), Vec::new(rt.alloc()));
+    assert!(rt; matches!(&left.ending, Err(ScriptFault::Engine(Fault::TooManyReads))));
+    assert_eq!(rt; left.reader.into_inner().0.len(), SCRIPT.len() - 3);
+    assert_eq!(rt; left.writer.into_inner().len(), 0);
     Ok(())
 }
 
 // The Nth read fails, one byte a read. Whether there was an Nth read.
-fn read_fails(rt: &impl Abort, alloc: Global, n: u32) -> Result<bool, Fail> {
-    let mut reader = Counted::new(FailAt {
+fn read_fails(rt: &impl Abort, alloc: Global, n: u32) -> bool {
+    let reader = FailAt {
         inner: OneByte(SCRIPT),
         left: n,
-    });
-    let mut writer = Counted::new(Vec::new(alloc));
-    let mut audit = Counted::new(Vec::new(alloc));
-    let result = run_script(
-        alloc,
-        DEVICE_RULES,
-        DEVICE_LABELS,
-        places(rt),
-        1000,
-        &mut reader,
-        &mut writer,
-        &mut audit,
-    );
-    assert!(rt; REPLIES.starts_with(&writer.into_inner()));
-    if result.is_ok() {
-        return Ok(false);
+    };
+    let left = Fixture::device().run(rt, alloc, reader, Vec::new(alloc));
+    assert!(rt; REPLIES.starts_with(&left.writer.into_inner()));
+    if left.ending.is_ok() {
+        return false;
     }
-    assert!(rt; matches!(&result, Err(ScriptFault::Engine(Fault::ReadFault))));
-    assert_eq!(rt; reader.failures(), 1);
-    Ok(true)
+    assert!(rt; matches!(&left.ending, Err(ScriptFault::Engine(Fault::ReadFault))));
+    assert_eq!(rt; left.reader.failures(), 1);
+    true
 }
 
 #[test]
 fn each_read_fails(rt: HostRuntime) -> Result<(), Fail> {
     let mut failed = 0u32;
     for n in 1..1000 {
-        if !read_fails(&rt, rt.alloc(), n)? {
+        if !read_fails(&rt, rt.alloc(), n) {
             break;
         }
         failed = n;
@@ -112,40 +72,29 @@ fn each_read_fails(rt: HostRuntime) -> Result<(), Fail> {
 }
 
 // The Nth write fails, one byte a write. Whether there was an Nth write.
-fn write_fails(rt: &impl Abort, alloc: Global, n: u32) -> Result<bool, Fail> {
-    let mut reader = Counted::new(SCRIPT);
-    let mut writer = Counted::new(FailAt {
+fn write_fails(rt: &impl Abort, alloc: Global, n: u32) -> bool {
+    let writer = FailAt {
         inner: OneByte(Vec::new(alloc)),
         left: n,
-    });
-    let mut audit = Counted::new(Vec::new(alloc));
-    let result = run_script(
-        alloc,
-        DEVICE_RULES,
-        DEVICE_LABELS,
-        places(rt),
-        1000,
-        &mut reader,
-        &mut writer,
-        &mut audit,
-    );
-    let failures = writer.failures();
-    let replies = writer.into_inner().inner.0;
+    };
+    let left = Fixture::device().run(rt, alloc, SCRIPT, writer);
+    let failures = left.writer.failures();
+    let replies = left.writer.into_inner().inner.0;
     assert!(rt; REPLIES.starts_with(&replies));
-    if result.is_ok() {
-        return Ok(false);
+    if left.ending.is_ok() {
+        return false;
     }
-    assert!(rt; matches!(&result, Err(ScriptFault::Engine(Fault::WriteFault))));
+    assert!(rt; matches!(&left.ending, Err(ScriptFault::Engine(Fault::WriteFault))));
     assert_eq!(rt; failures, 1);
     assert_eq!(rt; replies.len() + 1, n as usize);
-    Ok(true)
+    true
 }
 
 #[test]
 fn each_write_fails(rt: HostRuntime) -> Result<(), Fail> {
     let mut failed = 0u32;
     for n in 1..1000 {
-        if !write_fails(&rt, rt.alloc(), n)? {
+        if !write_fails(&rt, rt.alloc(), n) {
             break;
         }
         failed = n;

@@ -10,6 +10,8 @@ mod checks;
 #[cfg(test)]
 mod faults;
 #[cfg(test)]
+mod fixture;
+#[cfg(test)]
 mod limits;
 #[cfg(test)]
 mod reloads;

@@ -1,67 +1,21 @@
 //! Lines, names, clients and journals at their limits, and scripts that are not begun.
 
+use crate::fixture::{Fixture, Left};
 use crate::texts::{
-    DEVICE_LABELS, DEVICE_RULES, DEVICE_RULES_WITH_DEFAULTS, ONE_LABEL, PLAIN_RULES,
+    DEVICE_LABELS, DEVICE_RULES, ONE_LABEL, PLAIN_RULES, RULE_FOR_DEFAULTS, device_rules_with,
 };
-use sm_engine::{Counted, Fault};
+use sm_engine::Fault;
 use sm_history::{Denial, Refusal};
-use sm_kinds::{Class, Perms, Places};
+use sm_kinds::{Class, Perms};
 use sm_policy::PolicyFault;
-use sm_script::{ScriptFault, run_script};
+use sm_script::ScriptFault;
 use std::alloc::Global;
-use std::process::Abort;
 use std::test::Fail;
-
-/// What a run of a script left.
-#[derive(Drop)]
-struct Left {
-    result: Result<(), ScriptFault>,
-    replies: Vec<u8>,
-    unread: usize,
-}
-
-fn run_of(
-    rt: &impl Abort,
-    alloc: Global,
-    rules: &[u8],
-    contexts: &[u8],
-    places: u32,
-    script: &[u8],
-) -> Left {
-    let places = Places::new(places).expect(rt, "places");
-    let mut reader = Counted::new(script);
-    let mut writer = Counted::new(Vec::new(alloc));
-    let mut audit = Counted::new(Vec::new(alloc));
-    let result = run_script(
-        alloc,
-        rules,
-        contexts,
-        places,
-        100,
-        &mut reader,
-        &mut writer,
-        &mut audit,
-    );
-    Left {
-        result,
-        replies: writer.into_inner(),
-        unread: reader.into_inner().len(),
-    }
-}
-
-fn device_run(rt: &impl Abort, alloc: Global, places: u32, script: &[u8]) -> Left {
-    run_of(rt, alloc, DEVICE_RULES, DEVICE_LABELS, places, script)
-}
 
 #[test]
 fn input_that_ends_inside_a_line(rt: HostRuntime) -> Result<(), Fail> {
     let script = b"hello 100 1000 u:r:system_server:s0\n1 lis";
-    let left = device_run(&rt, rt.alloc(), 1000, script);
-    assert!(rt; left.result.is_ok());
-    assert_eq!(rt;
-        left.replies.as_slice(),
-        b"client 1\nfault cut\n".as_slice()
-    );
+    Fixture::device().replies(&rt, rt.alloc(), script, b"client 1\nfault cut\n");
     Ok(())
 }
 
@@ -69,13 +23,9 @@ fn input_that_ends_inside_a_line(rt: HostRuntime) -> Result<(), Fail> {
 fn lines_of_the_greatest_length(rt: HostRuntime) -> Result<(), Fail> {
     let alloc = rt.alloc();
     let mut script = vec![in alloc; b'a'; 4096]?;
-    let left = device_run(&rt, alloc, 1000, &script);
-    assert!(rt; left.result.is_ok());
-    assert_eq!(rt; left.replies.as_slice(), b"fault cut\n".as_slice());
+    Fixture::device().replies(&rt, alloc, &script, b"fault cut\n");
     script.extend_from_slice(b"\n")?;
-    let left = device_run(&rt, alloc, 1000, &script);
-    assert!(rt; left.result.is_ok());
-    assert_eq!(rt; left.replies.as_slice(), b"malformed\n".as_slice());
+    Fixture::device().replies(&rt, alloc, &script, b"malformed\n");
     Ok(())
 }
 
@@ -86,9 +36,8 @@ fn lines_too_long(rt: HostRuntime) -> Result<(), Fail> {
     // Whether or not the line ends, and whatever follows.
     for more in [b"".as_slice(), b"\nhello 100 1000 u:r:system_server:s0\n"] {
         script.extend_from_slice(more)?;
-        let left = device_run(&rt, alloc, 1000, &script);
-        assert!(rt; matches!(&left.result, Err(ScriptFault::Engine(Fault::LineTooLong))));
-        assert_eq!(rt; left.replies.as_slice(), b"fault long\n".as_slice());
+        let ending = Fixture::device().ending(&rt, alloc, &script, b"fault long\n");
+        assert!(rt; matches!(&ending, Err(ScriptFault::Engine(Fault::LineTooLong))));
     }
     Ok(())
 }
@@ -119,10 +68,8 @@ ok
 exception -3 invalid-name
 exception -3 null-binder
 ";
-    let rules = DEVICE_RULES_WITH_DEFAULTS;
-    let left = run_of(&rt, alloc, rules, DEVICE_LABELS, 1000, &script);
-    assert!(rt; left.result.is_ok());
-    assert_eq!(rt; left.replies.as_slice(), wanted.as_slice());
+    let rules = device_rules_with(alloc, RULE_FOR_DEFAULTS)?;
+    Fixture::new(&rules, DEVICE_LABELS).replies(&rt, alloc, &script, wanted);
     Ok(())
 }
 
@@ -149,10 +96,8 @@ null
 names 1 4099 1 n7
 ",
     )?;
-    let rules = DEVICE_RULES_WITH_DEFAULTS;
-    let left = run_of(&rt, alloc, rules, DEVICE_LABELS, 5000, &script);
-    assert!(rt; left.result.is_ok());
-    assert_eq!(rt; left.replies.as_slice(), wanted.as_slice());
+    let rules = device_rules_with(alloc, RULE_FOR_DEFAULTS)?;
+    Fixture::new(&rules, DEVICE_LABELS).replies(&rt, alloc, &script, &wanted);
     Ok(())
 }
 
@@ -167,17 +112,8 @@ fn one_client_too_many(rt: HostRuntime) -> Result<(), Fail> {
     }
     script.extend_from_slice(b"hello 100 1000 u:r:system_server:s0\n64 list 15\n65 list 15\n")?;
     wanted.extend_from_slice(b"failed too-many-clients\nnames 1 65 0\nfailed not-connected\n")?;
-    let left = device_run(&rt, alloc, 1000, &script);
-    assert!(rt; left.result.is_ok());
-    assert_eq!(rt; left.replies.as_slice(), wanted.as_slice());
+    Fixture::device().replies(&rt, alloc, &script, &wanted);
     Ok(())
-}
-
-// Runs a script to its end with a journal of so many places, and wants these replies.
-fn replies(rt: &impl Abort, alloc: Global, places: u32, script: &[u8], wanted: &[u8]) {
-    let left = device_run(rt, alloc, places, script);
-    assert!(rt; left.result.is_ok());
-    assert_eq!(rt; left.replies.as_slice(), wanted);
 }
 
 #[test]
@@ -194,7 +130,9 @@ failed journal-full
 names 1 3 1 activity
 failed journal-full
 ";
-    replies(&rt, rt.alloc(), 4, script, wanted);
+    Fixture::device()
+        .with_places(4)
+        .replies(&rt, rt.alloc(), script, wanted);
     Ok(())
 }
 
@@ -220,7 +158,9 @@ failed journal-full
 failed not-connected
 failed not-connected
 ";
-    replies(&rt, alloc, 2, script, none);
+    Fixture::device()
+        .with_places(2)
+        .replies(&rt, alloc, script, none);
     let one = b"client 1
 names 1 2 0
 failed journal-full
@@ -230,7 +170,9 @@ failed journal-full
 null
 version 1 2
 ";
-    replies(&rt, alloc, 3, script, one);
+    Fixture::device()
+        .with_places(3)
+        .replies(&rt, alloc, script, one);
     Ok(())
 }
 
@@ -256,7 +198,9 @@ own 1
 null
 version 1 4
 ";
-    replies(&rt, alloc, 6, script, none);
+    Fixture::device()
+        .with_places(6)
+        .replies(&rt, alloc, script, none);
     let one = b"client 1
 ok
 client 2
@@ -266,13 +210,15 @@ own 1
 null
 version 1 5
 ";
-    replies(&rt, alloc, 7, script, one);
+    Fixture::device()
+        .with_places(7)
+        .replies(&rt, alloc, script, one);
     Ok(())
 }
 
 // Whether the opening was denied by the rule that is needed to become the manager.
-fn is_denied(left: &Left) -> bool {
-    match &left.result {
+fn is_denied(left: &Left<&[u8], Vec<u8>>) -> bool {
+    match &left.ending {
         Err(
             ScriptFault::Opening(
                 Refusal::Denied(
@@ -296,32 +242,37 @@ fn is_denied(left: &Left) -> bool {
 
 #[test]
 fn managers_without_set_context_mgr(rt: HostRuntime) -> Result<(), Fail> {
-    let script = b"hello 100 1000 u:r:system_server:s0\n";
-    let mut rules = Vec::from_slice(rt.alloc(), &PLAIN_RULES[..64])?;
-    rules.extend_from_slice(&PLAIN_RULES[124..])?;
-    let left = run_of(&rt, rt.alloc(), &rules, ONE_LABEL, 1000, script);
-    assert!(rt; is_denied(&left));
-    assert_eq!(rt; left.replies.len(), 0);
-    assert_eq!(rt; left.unread, script.len());
-    let mut rules = Vec::from_slice(rt.alloc(), &DEVICE_RULES[..241])?;
-    rules.extend_from_slice(&DEVICE_RULES[291..])?;
-    let left = run_of(&rt, rt.alloc(), &rules, DEVICE_LABELS, 1000, script);
-    assert!(rt; is_denied(&left));
-    assert_eq!(rt; left.replies.len(), 0);
+    let alloc = rt.alloc();
+    let script = b"hello 100 1000 u:r:system_server:s0\n".as_slice();
+    let mut plain = Vec::from_slice(alloc, &PLAIN_RULES[..64])?;
+    plain.extend_from_slice(&PLAIN_RULES[124..])?;
+    let mut device = Vec::from_slice(alloc, &DEVICE_RULES[..241])?;
+    device.extend_from_slice(&DEVICE_RULES[291..])?;
+    let policies = [
+        Fixture::new(&plain, ONE_LABEL),
+        Fixture::new(&device, DEVICE_LABELS),
+    ];
+    for policy in policies {
+        let left = policy.run(&rt, alloc, script, Vec::new(alloc));
+        assert!(rt; is_denied(&left));
+        assert_eq!(rt; left.writer.into_inner().len(), 0);
+        assert_eq!(rt; left.reader.into_inner().len(), script.len());
+    }
     Ok(())
 }
 
 #[test]
 fn a_refused_policy_is_not_run(rt: HostRuntime) -> Result<(), Fail> {
-    let script = b"hello 100 1000 u:r:system_server:s0\n";
-    let left = run_of(&rt, rt.alloc(), PLAIN_RULES, DEVICE_LABELS, 1000, script);
+    let script = b"hello 100 1000 u:r:system_server:s0\n".as_slice();
+    let policy = Fixture::new(PLAIN_RULES, DEVICE_LABELS);
+    let left = policy.run(&rt, rt.alloc(), script, Vec::new(rt.alloc()));
     assert!(rt;
         matches!(
-            &left.result,
+            &left.ending,
             Err(ScriptFault::Policy(PolicyFault::UndeclaredLabel(3)))
         )
     );
-    assert_eq!(rt; left.replies.len(), 0);
-    assert_eq!(rt; left.unread, script.len());
+    assert_eq!(rt; left.writer.into_inner().len(), 0);
+    assert_eq!(rt; left.reader.into_inner().len(), script.len());
     Ok(())
 }

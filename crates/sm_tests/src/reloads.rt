@@ -1,44 +1,10 @@
 //! Scripts in which the administrator replaces the policy, or asks what it says.
 
-use crate::texts::{DEVICE_LABELS, DEVICE_RULES, ONE_LABEL, PLAIN_RULES};
-use sm_engine::Counted;
-use sm_kinds::Places;
-use sm_script::run_script;
-use std::alloc::Global;
-use std::process::Abort;
+use crate::fixture::Fixture;
+use crate::texts::{BROKEN_RULE, DEVICE_LABELS, DEVICE_RULES, ONE_LABEL, PLAIN_RULES};
+use sm_engine::Fault;
+use sm_script::ScriptFault;
 use std::test::Fail;
-
-// Runs a script under a device's rules, and wants these replies; and whether the engine reads to the end.
-fn replies(rt: &impl Abort, alloc: Global, script: &[u8], wanted: &[u8], is_whole: bool) {
-    replies_with(rt, alloc, 1_048_576, script, wanted, is_whole);
-}
-
-// The same with a journal of so many places.
-fn replies_with(
-    rt: &impl Abort,
-    alloc: Global,
-    places: u32,
-    script: &[u8],
-    wanted: &[u8],
-    is_whole: bool,
-) {
-    let places = Places::new(places).expect(rt, "places");
-    let mut reader = Counted::new(script);
-    let mut writer = Counted::new(Vec::new(alloc));
-    let mut audit = Counted::new(Vec::new(alloc));
-    let result = run_script(
-        alloc,
-        DEVICE_RULES,
-        DEVICE_LABELS,
-        places,
-        100,
-        &mut reader,
-        &mut writer,
-        &mut audit,
-    );
-    assert_eq!(rt; result.is_ok(), is_whole);
-    assert_eq!(rt; writer.into_inner().as_slice(), wanted);
-}
 
 // Two clients: a service is added, and an application gets it twice.
 const ONE_SERVICE: &[u8] = b"hello 100 1000 u:r:system_server:s0
@@ -78,7 +44,7 @@ failed denied untrusted_app servicemanager binder call
 version 2 7
 ",
     )?;
-    replies(&rt, alloc, &script, &wanted, true);
+    Fixture::device().replies(&rt, alloc, &script, &wanted);
     Ok(())
 }
 
@@ -88,7 +54,7 @@ fn a_refused_policy(rt: HostRuntime) -> Result<(), Fail> {
     let mut script = Vec::from_slice(alloc, ONE_SERVICE)?;
     script.extend_from_slice(b"reload 1 744 89\n")?;
     script.extend_from_slice(DEVICE_RULES)?;
-    script.extend_from_slice(b"allow untrusted_app activity_service:service_manager add;\n")?;
+    script.extend_from_slice(BROKEN_RULE)?;
     script.extend_from_slice(DEVICE_LABELS)?;
     script.extend_from_slice(b"2 version\n2 get activity\n")?;
     let mut wanted = Vec::from_slice(alloc, ONE_SERVICE_REPLIES)?;
@@ -98,7 +64,7 @@ version 1 6
 handle 1
 ",
     )?;
-    replies(&rt, alloc, &script, &wanted, true);
+    Fixture::device().replies(&rt, alloc, &script, &wanted);
     Ok(())
 }
 
@@ -109,7 +75,7 @@ fn a_version_that_moved(rt: HostRuntime) -> Result<(), Fail> {
     for _ in 0..2 {
         push_reload(&mut script, b"reload 1 686 89\n")?;
     }
-    replies(&rt, alloc, &script, b"reloaded 2\nmoved 2\n", true);
+    Fixture::device().replies(&rt, alloc, &script, b"reloaded 2\nmoved 2\n");
     Ok(())
 }
 
@@ -124,7 +90,7 @@ fn the_greatest_version(rt: HostRuntime) -> Result<(), Fail> {
 malformed
 reloaded 2
 ";
-    replies(&rt, alloc, &script, wanted, true);
+    Fixture::device().replies(&rt, alloc, &script, wanted);
     Ok(())
 }
 
@@ -161,7 +127,7 @@ malformed
 malformed
 malformed
 ";
-    replies(&rt, rt.alloc(), script, wanted, true);
+    Fixture::device().replies(&rt, rt.alloc(), script, wanted);
     Ok(())
 }
 
@@ -182,7 +148,9 @@ moved 2
 refused contexts: no default
 allowed 2 15
 ";
-    replies_with(&rt, alloc, 2, &script, wanted, true);
+    Fixture::device()
+        .with_places(2)
+        .replies(&rt, alloc, &script, wanted);
     let mut script = Vec::from_slice(alloc, b"hello 100 1000 u:r:system_server:s0\n")?;
     push_reload(&mut script, b"reload 1 686 89\n")?;
     script.extend_from_slice(b"1 version\n")?;
@@ -190,12 +158,16 @@ allowed 2 15
 failed journal-full
 version 1 2
 ";
-    replies_with(&rt, alloc, 3, &script, wanted, true);
+    Fixture::device()
+        .with_places(3)
+        .replies(&rt, alloc, &script, wanted);
     let wanted = b"client 1
 reloaded 2
 version 2 3
 ";
-    replies_with(&rt, alloc, 4, &script, wanted, true);
+    Fixture::device()
+        .with_places(4)
+        .replies(&rt, alloc, &script, wanted);
     Ok(())
 }
 
@@ -219,7 +191,7 @@ unwritten 1
 malformed
 malformed
 ";
-    replies(&rt, rt.alloc(), script, wanted, true);
+    Fixture::device().replies(&rt, rt.alloc(), script, wanted);
     Ok(())
 }
 
@@ -233,24 +205,25 @@ fn texts_cut_short(rt: HostRuntime) -> Result<(), Fail> {
     // Before the rule text, inside it, between the texts, and inside the contexts text.
     for held in [0usize, 1, 300, 685, 686, 687, 720, 774] {
         let cut = script.get(..before + held).ok_or("a front")?;
-        replies(&rt, alloc, cut, wanted, true);
+        Fixture::device().replies(&rt, alloc, cut, wanted);
     }
     let wanted = b"failed not-connected\nreloaded 2\n";
-    replies(&rt, alloc, &script, wanted, true);
+    Fixture::device().replies(&rt, alloc, &script, wanted);
     Ok(())
 }
 
 #[test]
 fn texts_too_long(rt: HostRuntime) -> Result<(), Fail> {
     let alloc = rt.alloc();
-    replies(&rt, alloc, b"reload 1 4194305 0\n", b"fault long\n", false);
-    replies(&rt, alloc, b"reload 1 0 4194305\n", b"fault long\n", false);
-    replies(
-        &rt,
-        alloc,
-        b"reload 1 0 0\n",
-        b"refused contexts: no default\n",
-        true,
-    );
+    let scripts = [
+        b"reload 1 4194305 0\n".as_slice(),
+        b"reload 1 0 4194305\n".as_slice(),
+    ];
+    for script in scripts {
+        let ending = Fixture::device().ending(&rt, alloc, script, b"fault long\n");
+        assert!(rt; matches!(&ending, Err(ScriptFault::Engine(Fault::LineTooLong))));
+    }
+    let wanted = b"refused contexts: no default\n";
+    Fixture::device().replies(&rt, alloc, b"reload 1 0 0\n", wanted);
     Ok(())
 }

@@ -1,11 +1,7 @@
 //! Scripts and what they are answered, line by line.
 
-use crate::texts::{
-    DEVICE_LABELS, DEVICE_RULES, DEVICE_RULES_WITH_DEFAULTS, ONE_LABEL, PLAIN_RULES,
-};
-use sm_engine::Counted;
-use sm_kinds::Places;
-use sm_script::run_script;
+use crate::fixture::Fixture;
+use crate::texts::{DEVICE_LABELS, ONE_LABEL, PLAIN_RULES, RULE_FOR_DEFAULTS, device_rules_with};
 use std::alloc::Global;
 use std::process::Abort;
 use std::test::Fail;
@@ -14,13 +10,7 @@ use std::test::Fail;
 type Talk = &'static [(&'static str, &'static str)];
 
 // Runs the lines on the left, and wants those on the right.
-fn holds(
-    rt: &impl Abort,
-    alloc: Global,
-    rules: &[u8],
-    contexts: &[u8],
-    talk: Talk,
-) -> Result<(), Fail> {
+fn holds(rt: &impl Abort, alloc: Global, policy: Fixture, talk: Talk) -> Result<(), Fail> {
     let mut script = Vec::new(alloc);
     let mut wanted = Vec::new(alloc);
     for (line, answer) in talk {
@@ -29,23 +19,7 @@ fn holds(
         wanted.extend_from_slice(answer.as_bytes())?;
         wanted.push(b'\n')?;
     }
-    let places = Places::new(1_048_576).expect(rt, "places");
-    let mut reader = Counted::new(script.as_slice());
-    let mut writer = Counted::new(Vec::new(alloc));
-    let mut audit = Counted::new(Vec::new(alloc));
-    let result = run_script(
-        alloc,
-        rules,
-        contexts,
-        places,
-        100,
-        &mut reader,
-        &mut writer,
-        &mut audit,
-    );
-    assert!(rt; result.is_ok());
-    assert_eq!(rt; writer.into_inner().as_slice(), wanted.as_slice());
-    assert_eq!(rt; audit.into_inner().len(), 0);
+    policy.replies(rt, alloc, &script, &wanted);
     Ok(())
 }
 
@@ -73,7 +47,7 @@ const MISSING_RULES: Talk = &[
 #[test]
 fn with_plain_rules(rt: HostRuntime) -> Result<(), Fail> {
     for talk in [FIRST_PATH, MISSING_RULES] {
-        holds(&rt, rt.alloc(), PLAIN_RULES, ONE_LABEL, talk)?;
+        holds(&rt, rt.alloc(), Fixture::new(PLAIN_RULES, ONE_LABEL), talk)?;
     }
     Ok(())
 }
@@ -216,18 +190,14 @@ fn with_device_rules(rt: HostRuntime) -> Result<(), Fail> {
         GREATEST_NUMBERS,
         MALFORMED,
     ] {
-        holds(&rt, rt.alloc(), DEVICE_RULES, DEVICE_LABELS, talk)?;
+        holds(&rt, rt.alloc(), Fixture::device(), talk)?;
     }
     Ok(())
 }
 
 #[test]
 fn with_rules_for_defaults(rt: HostRuntime) -> Result<(), Fail> {
-    holds(
-        &rt,
-        rt.alloc(),
-        DEVICE_RULES_WITH_DEFAULTS,
-        DEVICE_LABELS,
-        NAMES_AND_OBJECTS,
-    )
+    let rules = device_rules_with(rt.alloc(), RULE_FOR_DEFAULTS)?;
+    let policy = Fixture::new(&rules, DEVICE_LABELS);
+    holds(&rt, rt.alloc(), policy, NAMES_AND_OBJECTS)
 }

@@ -1,5 +1,7 @@
 //! Policy texts for tests.
 
+use std::alloc::{AllocError, Global};
+
 /// Rules of single names: system_server may become a client, add and find `activity`, and list.
 pub const PLAIN_RULES: &[u8] = b"type servicemanager;
 type system_server;
@@ -38,25 +40,19 @@ allow untrusted_app system_server:binder { call transfer };
 neverallow untrusted_app *:service_manager add;
 ";
 
-/// The same, and system_server may add and find names without a label of their own.
-pub const DEVICE_RULES_WITH_DEFAULTS: &[u8] = b"attribute domain;
-attribute binderuser;
-type servicemanager, domain;
-type system_server, domain, binderuser;
-type untrusted_app, domain, binderuser;
-type isolated_app, domain, binderuser;
-type activity_service;
-type default_android_service;
-allow servicemanager self:binder set_context_mgr;
-allow binderuser servicemanager:binder { call transfer };
-allow servicemanager binderuser:binder { call transfer };
-allow system_server activity_service:service_manager add;
-allow binderuser activity_service:service_manager find;
-allow system_server servicemanager:service_manager list;
-allow untrusted_app system_server:binder { call transfer };
-neverallow untrusted_app *:service_manager add;
-allow system_server default_android_service:service_manager { add find };
-";
+/// A further rule: system_server may add and find names without a label of their own.
+pub const RULE_FOR_DEFAULTS: &[u8] =
+    b"allow system_server default_android_service:service_manager { add find };\n";
+
+/// A further rule, which breaks the neverallow rule of a device's.
+pub const BROKEN_RULE: &[u8] = b"allow untrusted_app activity_service:service_manager add;\n";
+
+/// A device's rules, and this one behind them.
+pub fn device_rules_with(alloc: Global, rule: &[u8]) -> Result<Vec<u8>, AllocError> {
+    let mut rules = Vec::from_slice(alloc, DEVICE_RULES)?;
+    rules.extend_from_slice(rule)?;
+    Ok(rules)
+}
 
 /// `activity` has a label of its own.
 pub const DEVICE_LABELS: &[u8] = b"# labels

@@ -1,5 +1,5 @@
 -- The reply lines.
-use Rattle.std.specs.Prelude.{ℕ, List, [], ◌∷◌, ◌++◌, length, codes, Bool, true, false, ◌&&◌, ◌==◌, if◌then◌else◌, Option, Some, None}
+use Rattle.std.specs.Prelude.{ℕ, List, [], ◌∷◌, ◌++◌, length, codes, if◌then◌else◌, Option, Some, None}
 use Rattle.std.specs.List.{flat_map}
 use Rattle.hex.specs.Hex.{encode_lower}
 use Rattle.sm_kinds.specs.declared.class.Class.{Class}
@@ -13,6 +13,7 @@ use Rattle.sm_history.specs.declared.delivery.Message.{Message}
 use Rattle.sm_history.specs.declared.delivery.Message.TheVariants.{Called, Registered}
 use Rattle.sm_history.specs.declared.denial.Denial.{Denial}
 use Rattle.sm_history.specs.declared.denial.Denial.TheVariants.{Rule, App, Isolated}
+use Rattle.sm_history.specs.declared.event.Event.TheVariants as events
 use Rattle.sm_history.specs.declared.outcome.Outcome.{Outcome}
 use Rattle.sm_history.specs.declared.outcome.Outcome.TheVariants.{Opened, Connected, Added, Granted, Watched, Unwatched, Unregistered, Sent, Released, Taken, Died, Reloaded}
 use Rattle.sm_history.specs.declared.refusal.Exception.{Exception}
@@ -25,6 +26,7 @@ use Rattle.sm_history.specs.declared.reply.Answer.{Answer}
 use Rattle.sm_history.specs.declared.reply.Answer.TheVariants.{Names, Version, Why}
 use Rattle.sm_history.specs.declared.reply.Reply.{Reply}
 use Rattle.sm_history.specs.declared.reply.Reply.TheVariants.{Done, GotNull, GotOwn, Looked, Refused}
+use Rattle.sm_history.specs.Told.{told}
 use Rattle.sm_wire.specs.declared.request.Request.{Request}
 use Rattle.sm_wire.specs.declared.request.Request.TheVariants.{Hello, Add, Get, Look, Ask}
 
@@ -126,50 +128,37 @@ denial_text (Rule source target class perm) = rule_text source target class perm
 denial_text (App uid) = numbered (codes "exception -1 app ") uid
 denial_text (Isolated uid) = numbered (codes "exception -1 isolated ") uid
 
-abbrev pub is_service_manager : Class → Bool
-is_service_manager ServiceManager = true
-is_service_manager Binder = false
+unfoldable pub refusal_text : Refusal → List ℕ
+refusal_text (refusals.Denied denial) = denial_text denial
+refusal_text (refusals.Exception exception) = exception_text exception
+refusal_text (refusals.Failed failure) = failure_text failure
+refusal_text refusals.Dead = codes "dead"
+refusal_text refusals.Empty = codes "empty"
+refusal_text refusals.TooManyClients = codes "failed too-many-clients"
+refusal_text (refusals.VersionMoved now) = numbered (codes "moved ") now
+refusal_text refusals.JournalFull = codes "failed journal-full"
+refusal_text refusals.Memory = codes "failed memory"
+refusal_text refusals.NoSeat = codes "failed no-seat"
 
--- what a Get keeps to itself: that `find` is missing, or that the service isn't for isolated callers
-unfoldable pub is_hidden : Denial → Bool
-is_hidden (Rule source target class perm) = is_service_manager class && (perm.0 == 2)
-is_hidden (App uid) = false
-is_hidden (Isolated uid) = true
+unfoldable pub answered_text : Reply → List ℕ
+answered_text (Done outcome) = outcome_text outcome
+answered_text GotNull = codes "null"
+answered_text (GotOwn object) = numbered (codes "own ") object
+answered_text (Looked version count answer) = answer_text version count answer
+answered_text (Refused refusal) = refusal_text refusal
 
--- the answer to a Get that is denied so is the one where nothing is found
-unfoldable pub denied_text : Bool → Denial → List ℕ
-denied_text is_get denial = if is_get && is_hidden denial then codes "null" else denial_text denial
+-- the line of a reply, as it is told
+unfoldable pub told_text : Reply → List ℕ
+told_text reply = answered_text reply ++ codes "\n"
 
-unfoldable pub refusal_text : Bool → Refusal → List ℕ
-refusal_text is_get (refusals.Denied denial) = denied_text is_get denial
-refusal_text is_get (refusals.Exception exception) = exception_text exception
-refusal_text is_get (refusals.Failed failure) = failure_text failure
-refusal_text is_get refusals.Dead = codes "dead"
-refusal_text is_get refusals.Empty = codes "empty"
-refusal_text is_get refusals.TooManyClients = codes "failed too-many-clients"
-refusal_text is_get (refusals.VersionMoved now) = numbered (codes "moved ") now
-refusal_text is_get refusals.JournalFull = codes "failed journal-full"
-refusal_text is_get refusals.Memory = codes "failed memory"
-refusal_text is_get refusals.NoSeat = codes "failed no-seat"
-
-unfoldable pub answered_text : Bool → Reply → List ℕ
-answered_text is_get (Done outcome) = outcome_text outcome
-answered_text is_get GotNull = codes "null"
-answered_text is_get (GotOwn object) = numbered (codes "own ") object
-answered_text is_get (Looked version count answer) = answer_text version count answer
-answered_text is_get (Refused refusal) = refusal_text is_get refusal
-
--- the line of a reply, to a Get or to another request
-unfoldable pub reply_text_for : Bool → Reply → List ℕ
-reply_text_for is_get reply = answered_text is_get reply ++ codes "\n"
-
-unfoldable pub is_get_request : Request → Bool
-is_get_request (Hello who) = false
-is_get_request (Add client name obj allow_isolated dump) = false
-is_get_request (Get client name) = true
-is_get_request (Look client query) = false
-is_get_request (Ask query) = false
+-- what the one who asks is told of the reply
+abbrev pub told_of : Request → Reply → Reply
+told_of (Hello who) reply = told (events.Connect who) reply
+told_of (Add client name obj allow_isolated dump) reply = told (events.Add name obj allow_isolated dump) reply
+told_of (Get client name) reply = told (events.Get name) reply
+told_of (Look client query) reply = reply
+told_of (Ask query) reply = reply
 
 -- the line of a reply to a request
 abbrev pub reply_text : Request → Reply → List ℕ
-reply_text request reply = reply_text_for (is_get_request request) reply
+reply_text request reply = told_text (told_of request reply)

@@ -26,6 +26,6 @@ pub use item::Item;
 pub use laws::{any_cut, first_line, long_line, one_spelling, reload_line};
 pub use lines::{FeedError, Lines};
 pub use read_error::ReadError;
-pub use replies::{reply_line, reply_line_for};
+pub use replies::{reply_line, told_line};
 pub use request::Request;
 pub use texts::PolicyTexts;

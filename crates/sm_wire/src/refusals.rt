@@ -1,19 +1,19 @@
 //! Refusals, as reply lines have them.
 
 ghost use Rattle.std.specs.Prelude.{◌≡◌, ◌++◌, OnOk, codes};
-ghost use Rattle.sm_wire.specs.Replies.{exception_text, failure_text, denied_by, rule_text, denial_text, is_hidden, denied_text, refusal_text};
+ghost use Rattle.sm_wire.specs.Replies.{exception_text, failure_text, denied_by, rule_text, denial_text, refusal_text};
 
 use sm_history::{Denial, Exception, Failure, Refusal};
 use sm_kinds::{Class, Perms, push_access, push_numbered};
 use std::alloc::AllocError;
 
-/// Adds the words of a refusal, of a Get or of another request.
+/// Adds the words of a refusal.
 #[tactic(auto, unfolding(crate::specs::Replies::refusal_text))]
-pub fn push_refusal(out: &mut Vec<u8>, is_get: bool, refusal: &Refusal) -> Result<(), AllocError>
-    ensures { OnOk result (out.new.items ≡ out.old.items ++ refusal_text is_get refusal.now) }
+pub fn push_refusal(out: &mut Vec<u8>, refusal: &Refusal) -> Result<(), AllocError>
+    ensures { OnOk result (out.new.items ≡ out.old.items ++ refusal_text refusal.now) }
 {
     match refusal {
-        Refusal::Denied(denial) => push_denied(out, is_get, denial),
+        Refusal::Denied(denial) => push_denial(out, denial),
         Refusal::Exception(exception) => out.extend_from_slice(exception_words(*exception)),
         Refusal::Failed(failure) => push_failure(out, *failure),
         Refusal::Dead => out.extend_from_slice(b"dead"),
@@ -23,33 +23,6 @@ pub fn push_refusal(out: &mut Vec<u8>, is_get: bool, refusal: &Refusal) -> Resul
         Refusal::JournalFull => out.extend_from_slice(b"failed journal-full"),
         Refusal::Memory => out.extend_from_slice(b"failed memory"),
         Refusal::NoSeat => out.extend_from_slice(b"failed no-seat"),
-    }
-}
-
-// A Get that `find` or the isolated clause denies is answered as if nothing were there.
-#[tactic(auto, unfolding(crate::specs::Replies::denied_text))]
-fn push_denied(out: &mut Vec<u8>, is_get: bool, denial: &Denial) -> Result<(), AllocError>
-    ensures { OnOk result (out.new.items ≡ out.old.items ++ denied_text is_get denial.now) }
-{
-    if is_get && is_hidden(denial) {
-        return out.extend_from_slice(b"null");
-    }
-    push_denial(out, denial)
-}
-
-#[tactic(auto, unfolding(crate::specs::Replies::is_hidden))]
-fn is_hidden(denial: &Denial) -> bool
-    ensures { result ≡ is_hidden denial.now }
-{
-    match denial {
-        Denial::Rule {
-            source: _,
-            target: _,
-            class,
-            perm,
-        } => matches!(*class, Class::ServiceManager) && perm.0 == 2,
-        Denial::App(_) => false,
-        Denial::Isolated(_) => true,
     }
 }
 

@@ -1,43 +1,51 @@
 //! Reply lines.
 
 ghost use Rattle.std.specs.Prelude.{◌≡◌, ◌++◌, OnOk, IfOk};
-ghost use Rattle.sm_wire.specs.Replies.{names_text, why_text, answer_text, outcome_text, answered_text, reply_text_for, reply_text};
+ghost use Rattle.sm_wire.specs.Replies.{names_text, why_text, answer_text, outcome_text, answered_text, told_text, reply_text};
+ghost use Rattle.sm_history.specs.Told.{told_to_get};
 
 use crate::deliveries::push_delivery;
 use crate::names::push_names;
 use crate::refusals::push_refusal;
 use crate::request::Request;
-use sm_history::{Answer, Outcome, Reply};
+use sm_history::{Answer, Outcome, Reply, is_hidden};
 use sm_kinds::{Name, push_numbered};
 use std::alloc::{AllocError, Global};
 
-/// The line of a reply to a request, with its newline.
+/// The line of a reply to a request, with its newline: of what the one who asks is told of it.
 pub fn reply_line(alloc: Global, asked: &Request, reply: &Reply) -> Result<Vec<u8>, AllocError>
     ensures { IfOk result (λ line. line.items ≡ reply_text asked.now reply.now) }
 {
-    reply_line_for(alloc, asked.is_get(), reply)
+    match asked {
+        Request::Get { client: _, name: _ } => get_line(alloc, reply),
+        _ => told_line(alloc, reply),
+    }
 }
 
-/// The line of a reply to a Get, or to any other request. A Get isn't told that it was denied by `find` or by the
-/// isolated clause (`ServiceManager.cpp`, `tryGetService`).
-#[tactic(auto, unfolding(crate::specs::Replies::reply_text_for))]
-pub fn reply_line_for(alloc: Global, is_get: bool, reply: &Reply) -> Result<Vec<u8>, AllocError>
-    ensures { IfOk result (λ line. line.items ≡ reply_text_for is_get reply.now) }
+// The line of a reply to a Get.
+fn get_line(alloc: Global, reply: &Reply) -> Result<Vec<u8>, AllocError>
+    ensures { IfOk result (λ line. line.items ≡ told_text (told_to_get reply.now)) }
+{
+    if is_hidden(reply) {
+        return told_line(alloc, &Reply::GotNull);
+    }
+    told_line(alloc, reply)
+}
+
+/// The line of a reply that is told as it is, with its newline.
+#[tactic(auto, unfolding(crate::specs::Replies::told_text))]
+pub fn told_line(alloc: Global, reply: &Reply) -> Result<Vec<u8>, AllocError>
+    ensures { IfOk result (λ line. line.items ≡ told_text reply.now) }
 {
     let mut line = Vec::new(alloc);
-    push_answered(alloc, &mut line, is_get, reply)?;
+    push_answered(alloc, &mut line, reply)?;
     line.extend_from_slice(b"\n")?;
     Ok(line)
 }
 
 #[tactic(auto, unfolding(crate::specs::Replies::answered_text))]
-fn push_answered(
-    alloc: Global,
-    out: &mut Vec<u8>,
-    is_get: bool,
-    reply: &Reply,
-) -> Result<(), AllocError>
-    ensures { OnOk result (out.new.items ≡ out.old.items ++ answered_text is_get reply.now) }
+fn push_answered(alloc: Global, out: &mut Vec<u8>, reply: &Reply) -> Result<(), AllocError>
+    ensures { OnOk result (out.new.items ≡ out.old.items ++ answered_text reply.now) }
 {
     match reply {
         Reply::Done(outcome) => push_outcome(alloc, out, outcome),
@@ -48,7 +56,7 @@ fn push_answered(
             length,
             answer,
         } => push_answer(alloc, out, *version, *length, answer),
-        Reply::Refused(refusal) => push_refusal(out, is_get, refusal),
+        Reply::Refused(refusal) => push_refusal(out, refusal),
     }
 }
 

@@ -1,9 +1,7 @@
 //! What a request line asks for.
 
 ghost use Rattle.sm_wire.specs.Reading.{Reads};
-ghost use Rattle.std.specs.Prelude.{◌≡◌};
 ghost use Rattle.sm_wire.specs.Grammar.{request_of};
-ghost use Rattle.sm_wire.specs.Replies.{is_get_request};
 
 use crate::grammar::request;
 use crate::read_error::ReadError;
@@ -41,13 +39,5 @@ impl Request {
         ensures { Reads result (request_of line.now) }
     {
         request(alloc, line)
-    }
-
-    /// Whether it is `get` or `check`.
-    #[tactic(auto, unfolding(crate::specs::Replies::is_get_request))]
-    pub fn is_get(&self) -> bool
-        ensures { result ≡ is_get_request self.now }
-    {
-        matches!(self, Request::Get { client: _, name: _ })
     }
 }

@@ -10,19 +10,23 @@ use Rattle.sm_engine.specs.declared.fault.Fault.{Fault}
 use Rattle.sm_engine.specs.declared.fault.Fault.TheVariants as faults
 use Rattle.sm_script.specs.declared.script_fault.ScriptFault.{ScriptFault}
 use Rattle.sm_script.specs.declared.script_fault.ScriptFault.TheVariants.{Policy, Opening, Engine}
-use Rattle.sm_script.specs.Checking.{refused_line}
+use Rattle.sm_check.specs.Checking.{refused_line}
 use Rattle.svcmgr.specs.declared.ending.Ending.{Ending}
-use Rattle.svcmgr.specs.declared.ending.Ending.TheVariants.{File, Script}
+use Rattle.svcmgr.specs.declared.ending.Ending.TheVariants.{Memory, File, Script}
 
-abbrev pub faulted : List ℕ → List ℕ
-faulted words = codes "fault: " ++ words ++ codes "\n"
+-- the line for a file: its path, and the words of the operating system
+abbrev pub TellsOfFile : List ℕ → List ℕ → Type 0
+TellsOfFile path line = (words : List ℕ) × (line ≡ codes "fault: " ++ path ++ codes ": " ++ words ++ codes "\n")
+
+abbrev pub no_memory : List ℕ
+no_memory = codes "fault: no memory\n"
 
 abbrev pub fault_line : Fault → List ℕ
 fault_line faults.ReadFault = codes "fault: a read failed\n"
 fault_line faults.WriteFault = codes "fault: a write failed\n"
 fault_line faults.TooManyReads = codes "fault: too many reads\n"
 fault_line faults.LineTooLong = codes "fault: a line is too long\n"
-fault_line faults.Memory = codes "fault: no memory\n"
+fault_line faults.Memory = no_memory
 
 -- the rule that the manager lacks
 abbrev pub denied_line : List ℕ → List ℕ → Class → Perms → List ℕ
@@ -44,14 +48,15 @@ opening_line refusals.TooManyClients = unopened_line
 opening_line (refusals.VersionMoved now) = unopened_line
 opening_line refusals.JournalFull = unopened_line
 opening_line refusals.NoSeat = unopened_line
-opening_line refusals.Memory = codes "fault: no memory\n"
+opening_line refusals.Memory = no_memory
 
 abbrev pub script_line : ScriptFault → List ℕ
 script_line (Policy fault) = refused_line fault
 script_line (Opening refusal) = opening_line refusal
 script_line (Engine fault) = fault_line fault
 
--- the line says why; of a file it has the words of the operating system
+-- the line says why
 abbrev pub Tells : Ending → List ℕ → Type 0
-Tells (File error) line = (words : List ℕ) × (line ≡ faulted words)
+Tells Memory line = line ≡ no_memory
+Tells (File path error) line = TellsOfFile path.now line
 Tells (Script fault) line = line ≡ script_line fault

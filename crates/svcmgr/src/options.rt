@@ -5,7 +5,9 @@ ghost use Rattle.std.specs.Prelude.{◌≡◌, IfSome};
 use clap::error::ErrorKind;
 use clap::{Arg, ArgMatches, Command, Error, value_parser};
 use sm_kinds::Places;
-use std::alloc::Global;
+use std::alloc::{AllocError, Global};
+use std::rt::Env;
+use std::{env, io};
 
 /// What the program is to do.
 #[derive(Clone, Copy, Debug, PartialEq, Eq)]
@@ -79,6 +81,21 @@ fn in_mode<'a>(mode: Mode, matches: &ArgMatches<'a>) -> Option<Options<'a>>
         rules: matches.get_str("rules")?,
         contexts: matches.get_str("contexts")?,
     })
+}
+
+/// The words of the command line, with the program's name first.
+pub fn words_of<R: Env + AllocGlobal>(rt: &R) -> Result<Vec<String>, Error> {
+    match env::args(rt) {
+        Ok(words) => Ok(words.collect(rt.alloc())?),
+        Err(error) if error.kind() == io::ErrorKind::OutOfMemory => Err(Error::from(AllocError)),
+        Err(_) => Err(no_text(rt.alloc())?),
+    }
+}
+
+/// What the parser says of a word that isn't UTF-8.
+fn no_text(alloc: Global) -> Result<Error, Error> {
+    let words = "invalid UTF-8 was detected in one or more arguments";
+    Ok(command(alloc)?.error(ErrorKind::ValueValidation, words)?)
 }
 
 /// What the words ask for, or the text that the parser has for them.

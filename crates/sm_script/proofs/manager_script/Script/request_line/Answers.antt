@@ -9,4 +9,4 @@ on_err (Err e) p = p
 -- the reply was given, and its line was lost
 pub returns-clause-err : goal.returns-clause-err
 returns-clause-err c =
-    rw (← c.self.view_is) (on_err c.reply_line_for.result (inr (reply_text c.args.request c.judge-reply.result, [], ((c.judge-reply.result, c.judge-reply.ensures, refl), refl))))
+    rw (← c.self.view_is) (on_err c.reply_line.result (inr (reply_text c.args.request c.judge-reply.result, [], ((c.judge-reply.result, c.judge-reply.ensures, refl), refl))))

@@ -4,7 +4,7 @@ ghost use Rattle.std.specs.Prelude.{◌≡◌, ◌⊎◌, ◌<◌, ℕ, IfOk, On
 ghost use Rattle.std.specs.Io.KnownBytes.{Appends};
 ghost use Rattle.sm_engine.specs.Counts.{failures_of, inner_of, greatest};
 ghost use Rattle.sm_policy.specs.Preparing.{prepared};
-ghost use Rattle.sm_script.specs.Checking as spec;
+ghost use Rattle.sm_check.specs.Checking as spec;
 
 use sm_engine::{Counted, Fault, write_whole};
 use sm_kinds::push_numbered;

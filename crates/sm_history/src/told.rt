@@ -1,0 +1,44 @@
+//! What the actor of an event is told of its reply.
+
+ghost use Rattle.std.specs.Prelude.{◌≡◌};
+ghost use Rattle.sm_history.specs.Told.{is_hidden, is_hidden_refusal, is_hidden_denial};
+
+use crate::denial::Denial;
+use crate::refusal::Refusal;
+use crate::reply::Reply;
+use sm_kinds::{Class, Perms};
+
+/// Whether a Get is told, in place of this reply, that nothing was found: it was denied by `find`, or by the clause on
+/// isolated processes (`ServiceManager.cpp`, `tryGetService`). Any other event is told each reply as it is.
+pub fn is_hidden(reply: &Reply) -> bool
+    ensures { result ≡ is_hidden reply.now }
+{
+    match reply {
+        Reply::Refused(refusal) => is_hidden_refusal(refusal),
+        _ => false,
+    }
+}
+
+fn is_hidden_refusal(refusal: &Refusal) -> bool
+    ensures { result ≡ is_hidden_refusal refusal.now }
+{
+    match refusal {
+        Refusal::Denied(denial) => is_hidden_denial(denial),
+        _ => false,
+    }
+}
+
+fn is_hidden_denial(denial: &Denial) -> bool
+    ensures { result ≡ is_hidden_denial denial.now }
+{
+    match denial {
+        Denial::Rule {
+            source: _,
+            target: _,
+            class,
+            perm,
+        } => matches!(*class, Class::ServiceManager) && perm.0 == Perms::FIND.0,
+        Denial::App(_) => false,
+        Denial::Isolated(_) => true,
+    }
+}
