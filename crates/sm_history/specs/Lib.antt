@@ -18,6 +18,7 @@ pub mod Openings
 pub mod Following
 pub mod Sound
 pub mod Beginning
+pub mod Books
 pub mod Segments
 pub mod SegmentLaw
 pub mod LawStatements

@@ -38,9 +38,6 @@ pub use query::Query;
 pub use refusal::{Exception, Failure, Refusal};
 pub use reply::{Answer, NameList, Reply};
 pub use service::Service;
-<<<<<<< HEAD
 pub use stop::{Instead, Stop};
-pub use turn::TurnRow;
-=======
 pub use told::is_hidden;
->>>>>>> h_c
+pub use turn::TurnRow;

@@ -13,7 +13,8 @@ use Rattle.sm_history.specs.declared.event.Event.TheVariants.{Connect, Add, Get,
 use Rattle.sm_history.specs.declared.reply.Reply.{Reply}
 use Rattle.sm_history.specs.Histories.{turn_of}
 use Rattle.sm_history.specs.Told.{told}
-use Rattle.sm_core.specs.Managed.{Managed, Answers, LooksAs}
+use Rattle.sm_history.specs.Books.{Book}
+use Rattle.sm_core.specs.Managed.{Answers, LooksAs}
 use Rattle.sm_wire.specs.declared.request.Request.{Request}
 use Rattle.sm_wire.specs.declared.request.Request.TheVariants.{Hello, Add as AddRequest, Get as GetRequest, Look, Ask}
 use Rattle.sm_wire.specs.declared.item.Item.{Item}
@@ -22,7 +23,7 @@ use Rattle.sm_wire.specs.Replies.{reply_text, told_text}
 use Rattle.sm_wire.specs.Texts.{Texts}
 
 -- an actor's event is answered by the verdict at the turn that the actor has, or memory was refused and nothing changed
-unfoldable pub AnswersNow : Managed → By → Event → Reply → Managed → Type 0
+unfoldable pub AnswersNow : Book → By → Event → Reply → Book → Type 0
 AnswersNow old by event reply new = Answers old by (turn_of old.history by) event reply new
 
 -- the administrator of a script
@@ -30,7 +31,7 @@ abbrev pub the_administrator : AdminId
 the_administrator = record { 0 = 1 }
 
 -- a request is judged on the history that the requests before it left
-abbrev pub Judges : Managed → Request → Reply → Managed → Type 0
+abbrev pub Judges : Book → Request → Reply → Book → Type 0
 Judges old (Hello who) reply new = AnswersNow old Manager (Connect who) reply new
 Judges old (AddRequest client name obj allow_isolated dump) reply new = AnswersNow old (Client client) (Add name obj allow_isolated dump) reply new
 Judges old (GetRequest client name) reply new = AnswersNow old (Client client) (Get name) reply new
@@ -42,7 +43,7 @@ abbrev pub refused_policy_line : PolicyFault → List ℕ
 refused_policy_line fault = codes "refused " ++ refused_words fault ++ codes "\n"
 
 -- the texts are those of a policy, and this is the answer to the administrator who replaces the one in force by it
-pub record Reloads (old : Managed) (texts : Texts) (line : List ℕ) (new : Managed) : Type 0 where
+pub record Reloads (old : Book) (texts : Texts) (line : List ℕ) (new : Book) : Type 0 where
   pub policy : Policy
   pub reads : prepared texts.rules texts.contexts ≡ Ok policy
   pub reply : Reply
@@ -50,18 +51,18 @@ pub record Reloads (old : Managed) (texts : Texts) (line : List ℕ) (new : Mana
   pub written : line ≡ told_text (told (Reload texts.expected policy) reply)
 
 -- the texts are refused, and nothing changed
-pub record Refuses (old : Managed) (texts : Texts) (line : List ℕ) (new : Managed) : Type 0 where
+pub record Refuses (old : Book) (texts : Texts) (line : List ℕ) (new : Book) : Type 0 where
   pub fault : PolicyFault
   pub fails : Fails is_memory fault (prepared texts.rules texts.contexts)
   pub unchanged : new ≡ old
   pub written : line ≡ refused_policy_line fault
 
 -- the line that a `reload` is answered, and the state that it leaves
-abbrev pub AnswersTexts : Managed → Texts → List ℕ → Managed → Type 0
+abbrev pub AnswersTexts : Book → Texts → List ℕ → Book → Type 0
 AnswersTexts old texts line new = Reloads old texts line new ⊎ Refuses old texts line new
 
 -- the line that an item is answered, and the state that it leaves
-abbrev pub AnswersLine : Managed → Item → List ℕ → Managed → Type 0
+abbrev pub AnswersLine : Book → Item → List ℕ → Book → Type 0
 AnswersLine old (items.Asked request) line new =
     (reply : Reply) × Judges old request reply new × (line ≡ reply_text request reply)
 AnswersLine old (items.Policy texts) line new = AnswersTexts old texts line new
@@ -69,5 +70,5 @@ AnswersLine old items.Malformed line new = (line ≡ codes "malformed\n") × (ne
 AnswersLine old items.LineTooLong line new = (line ≡ codes "fault long\n") × (new ≡ old)
 
 -- an item's line is all that is written for it: audit lines aren't written yet
-abbrev pub AnswersItem : Managed → Item → List ℕ → List ℕ → Managed → Type 0
+abbrev pub AnswersItem : Book → Item → List ℕ → List ℕ → Book → Type 0
 AnswersItem old item line audit new = AnswersLine old item line new × (audit ≡ [])

@@ -10,7 +10,7 @@ use Rattle.sm_history.specs.declared.refusal.Refusal.{Refusal}
 use Rattle.sm_history.specs.declared.refusal.Refusal.TheVariants.{Memory}
 use Rattle.sm_history.specs.Checks.{managing}
 use Rattle.sm_history.specs.Lawful.{MayOpen}
-use Rattle.sm_core.specs.Managed.{Managed}
+use Rattle.sm_history.specs.Books.{Book}
 use Rattle.sm_core.specs.Opening.{opened, opening_denial}
 use Rattle.sm_engine.specs.declared.fault.Fault.{Fault}
 use Rattle.sm_engine.specs.Running.{Served}
@@ -23,11 +23,11 @@ abbrev pub the_manager : Identity
 the_manager = record { pid = 1; uid = 1000; context = codes "u:r:servicemanager:s0" }
 
 -- a manager that was just opened
-abbrev pub opened_manager : ℕ → Policy → Managed
-opened_manager places policy = record { places = places; history = opened the_manager policy }
+abbrev pub opened_manager : ℕ → Policy → Book
+opened_manager places policy = opened places the_manager policy
 
 -- the texts are those of a policy under which the manager may be opened, and this is it
-pub record Opens (rules contexts : List ℕ) (places : ℕ) (manager : Managed) : Type 0 where
+pub record Opens (rules contexts : List ℕ) (places : ℕ) (manager : Book) : Type 0 where
   pub policy : Policy
   pub reads : prepared rules contexts ≡ Ok policy
   pub may_open : MayOpen the_manager policy
@@ -53,9 +53,9 @@ NotRun rules contexts (Engine fault) = ⊥
 
 -- what the engine read and wrote, from a manager that was just opened to the last one
 pub record Ran (rules contexts : List ℕ) (places bound : ℕ) (result : Result (Unit {0}) Fault) (r r_new w w_new a a_new : Option (List ℕ)) : Type 0 where
-  pub first : Managed
+  pub first : Book
   pub opened_first : Opens rules contexts places first
-  pub last : Managed
+  pub last : Book
   pub served : Served AnswersItem result bound first r r_new w w_new a a_new last
 
 -- how a script ended

@@ -7,7 +7,7 @@ ghost use Rattle.sm_core.specs.Managed.{LooksAs};
 ghost use Rattle.sm_script.specs.Answering.{AnswersNow, Judges, the_administrator};
 
 use sm_core::Manager;
-use sm_history::{By, Query, Refusal, Reply};
+use sm_history::{By, Event, Query, Refusal, Reply};
 use sm_kinds::{AdminId, ClientId, Identity, Name, ObjRef};
 use sm_policy::Prepared;
 use sm_wire::Request;
@@ -18,7 +18,7 @@ const ADMINISTRATOR: AdminId = AdminId(1);
 
 /// The reply to a request.
 pub fn judge(manager: &mut Manager, request: &Request) -> Reply
-    ensures { Judges manager.old request.now result manager.new }
+    ensures { Judges manager.old.book request.now result manager.new.book }
 {
     match request {
         Request::Hello(who) => connect(manager, who),
@@ -37,13 +37,13 @@ pub fn judge(manager: &mut Manager, request: &Request) -> Reply
 
 #[tactic(auto, unfolding(crate::specs::Answering::AnswersNow))]
 fn connect(manager: &mut Manager, who: &Identity) -> Reply
-    ensures { AnswersNow manager.old TheManager (Connect who.now) result manager.new }
+    ensures { AnswersNow manager.old.book TheManager (Connect who.now) result manager.new.book }
 {
     let Ok(who) = who.clone() else {
         return Reply::Refused(Refusal::Memory);
     };
     let turn = manager.turn(By::Manager);
-    manager.connect(turn, who)
+    manager.step(By::Manager, turn, Event::Connect(who))
 }
 
 #[tactic(auto, unfolding(crate::specs::Answering::AnswersNow))]
@@ -55,28 +55,34 @@ fn add(
     allow_isolated: bool,
     dump: u32,
 ) -> Reply
-    ensures { AnswersNow manager.old (Client client) (Add name.now obj allow_isolated dump) result manager.new }
+    ensures { AnswersNow manager.old.book (Client client) (Add name.now obj allow_isolated dump) result manager.new.book }
 {
     let Ok(name) = name.clone() else {
         return Reply::Refused(Refusal::Memory);
     };
     let turn = manager.turn(By::Client(client));
-    manager.add(client, turn, name, obj, allow_isolated, dump)
+    let event = Event::Add {
+        name,
+        obj,
+        allow_isolated,
+        dump,
+    };
+    manager.step(By::Client(client), turn, event)
 }
 
 #[tactic(auto, unfolding(crate::specs::Answering::AnswersNow))]
 fn get(manager: &mut Manager, client: ClientId, name: &Name) -> Reply
-    ensures { AnswersNow manager.old (Client client) (Get name.now) result manager.new }
+    ensures { AnswersNow manager.old.book (Client client) (Get name.now) result manager.new.book }
 {
     let Ok(name) = name.clone() else {
         return Reply::Refused(Refusal::Memory);
     };
     let turn = manager.turn(By::Client(client));
-    manager.get(client, turn, name)
+    manager.step(By::Client(client), turn, Event::Get { name })
 }
 
 fn look(manager: &Manager, by: By, query: &Query) -> Reply
-    ensures { LooksAs manager.now by query.now result }
+    ensures { LooksAs manager.now.book by query.now result }
 {
     match copied(query) {
         Ok(query) => manager.look(by, query),
@@ -112,8 +118,10 @@ fn copied(query: &Query) -> Result<Query, AllocError>
 /// The reply to the administrator who replaces the policy.
 #[tactic(auto, unfolding(crate::specs::Answering::AnswersNow))]
 pub fn reload(manager: &mut Manager, expected: u64, policy: Prepared) -> Reply
-    ensures { AnswersNow manager.old (Admin the_administrator) (Reload expected policy) result manager.new }
+    ensures { AnswersNow manager.old.book (Admin the_administrator) (Reload expected policy) result manager.new.book }
 {
-    let turn = manager.turn(By::Admin(ADMINISTRATOR));
-    manager.reload(ADMINISTRATOR, turn, expected, policy)
+    let by = By::Admin(ADMINISTRATOR);
+    let turn = manager.turn(by);
+    let prepared = policy;
+    manager.step(by, turn, Event::Reload { expected, prepared })
 }

@@ -22,11 +22,11 @@ pub struct Script {
 }
 
 impl Model for Script {
-    ghost use Rattle.sm_core.specs.Managed.{Managed};
+    ghost use Rattle.sm_history.specs.Books.{Book};
 
-    ghost Value = { Managed };
+    ghost Value = { Book };
 
-    ghost view = { λ s. s.manager };
+    ghost view = { λ s. s.manager.book };
 }
 
 impl Machine for Script {
@@ -46,7 +46,7 @@ impl Machine for Script {
 impl Script {
     /// A manager behind an engine.
     pub fn new(alloc: Global, manager: Manager) -> Script
-        ensures { result ≡ manager }
+        ensures { result ≡ manager.book }
     {
         Script { alloc, manager }
     }

@@ -68,7 +68,7 @@ fn opened_script(
 // The manager that was just opened under a policy.
 fn opened_manager(alloc: Global, policy: Prepared, places: Places) -> Result<Manager, Refusal>
     ensures { MatchResult result
-        (λ m. MayOpen the_manager policy × (m ≡ opened_manager places policy))
+        (λ m. MayOpen the_manager policy × (m.book ≡ opened_manager places policy))
         (λ r. MayNotOpen policy r) }
 {
     match manager_identity(alloc) {

@@ -1,9 +1,11 @@
-//! A manager that is called directly: whose turn it is, and who may ask what.
+//! A manager that is called directly: whose turn it is, and who may do and ask what.
 
 use crate::texts::{DEVICE_LABELS, DEVICE_RULES};
 use sm_core::Manager;
-use sm_history::{By, Failure, Outcome, Query, Refusal, Reply};
-use sm_kinds::{AdminId, Class, ClientId, Context, Identity, Name, ObjRef, Perms, Places};
+use sm_history::{By, Event, Failure, Outcome, Query, Refusal, Reply};
+use sm_kinds::{
+    AdminId, Class, ClientId, Context, Identity, Name, ObjRef, Payload, Perms, Places, Refs,
+};
 use sm_policy::Prepared;
 use std::alloc::Global;
 use std::process::Abort;
@@ -46,35 +48,144 @@ fn is_not_yours(reply: &Reply) -> bool {
     matches!(reply, Reply::Refused(Refusal::Failed(Failure::NotYours)))
 }
 
+fn is_not_connected(reply: &Reply) -> bool {
+    matches!(reply, Reply::Refused(Refusal::Failed(Failure::NotConnected)))
+}
+
+fn activity(alloc: Global) -> Result<Name, Fail> {
+    Ok(Name::new(alloc, b"activity")?)
+}
+
+fn add(alloc: Global) -> Result<Event, Fail> {
+    Ok(Event::Add {
+        name: activity(alloc)?,
+        obj: ObjRef::Own(1),
+        allow_isolated: false,
+        dump: 8,
+    })
+}
+
+fn connected(rt: &impl Abort, alloc: Global) -> Manager {
+    let mut manager = opened(rt, alloc);
+    let reply = manager.step(By::Manager, 1, Event::Connect(server(rt, alloc)));
+    assert!(rt; matches!(&reply, Reply::Done(Outcome::Connected(ClientId(1)))));
+    manager
+}
+
 #[test]
 fn changes_out_of_turn(rt: HostRuntime) -> Result<(), Fail> {
     let alloc = rt.alloc();
     let mut manager = opened(&rt, alloc);
     assert_eq!(rt; manager.turn(By::Manager), 1);
-    assert!(rt; is_out_of_turn(&manager.connect(0, server(&rt, alloc)), 1));
-    let reply = manager.connect(1, server(&rt, alloc));
+    let reply = manager.step(By::Manager, 0, Event::Connect(server(&rt, alloc)));
+    assert!(rt; is_out_of_turn(&reply, 1));
+    let reply = manager.step(By::Manager, 1, Event::Connect(server(&rt, alloc)));
     assert!(rt; matches!(&reply, Reply::Done(Outcome::Connected(ClientId(1)))));
     assert_eq!(rt; manager.turn(By::Manager), 2);
-    let client = ClientId(1);
-    let name = Name::new(alloc, b"activity")?;
-    assert!(rt; is_out_of_turn(&manager.get(client, 5, name), 0));
-    let name = Name::new(alloc, b"activity")?;
-    let reply = manager.add(client, 1, name, ObjRef::Own(1), false, 8);
-    assert!(rt; is_out_of_turn(&reply, 0));
-    let name = Name::new(alloc, b"activity")?;
-    let reply = manager.add(client, 0, name, ObjRef::Own(1), false, 8);
+    let by = By::Client(ClientId(1));
+    assert!(rt; is_out_of_turn(&manager.step(by, 5, Event::Take), 0));
+    let get = Event::Get {
+        name: activity(alloc)?,
+    };
+    assert!(rt; is_out_of_turn(&manager.step(by, 5, get), 0));
+    assert!(rt; is_out_of_turn(&manager.step(by, 1, add(alloc)?), 0));
+    let reply = manager.step(by, 0, add(alloc)?);
     assert!(rt; matches!(&reply, Reply::Done(Outcome::Added(_))));
-    assert_eq!(rt; manager.turn(By::Client(client)), 1);
+    assert_eq!(rt; manager.turn(by), 1);
     assert_eq!(rt; manager.turn(By::Client(ClientId(2))), 0);
+    Ok(())
+}
+
+#[test]
+fn changes_of_others(rt: HostRuntime) -> Result<(), Fail> {
+    let alloc = rt.alloc();
+    let mut manager = connected(&rt, alloc);
+    let client = By::Client(ClientId(1));
+    let admin = By::Admin(AdminId(1));
+    for by in [By::Manager, client, admin] {
+        let open = Event::Open(server(&rt, alloc), policy(&rt, alloc));
+        assert!(rt; is_not_yours(&manager.step(by, 0, open)));
+    }
+    for by in [client, admin] {
+        let connect = Event::Connect(server(&rt, alloc));
+        assert!(rt; is_not_yours(&manager.step(by, 0, connect)));
+    }
+    for by in [By::Manager, client] {
+        let reload = Event::Reload {
+            expected: 1,
+            prepared: policy(&rt, alloc),
+        };
+        assert!(rt; is_not_yours(&manager.step(by, 0, reload)));
+    }
+    for by in [By::Manager, admin] {
+        assert!(rt; is_not_yours(&manager.step(by, 0, add(alloc)?)));
+        let name = activity(alloc)?;
+        assert!(rt; is_not_yours(&manager.step(by, 0, Event::Get { name })));
+        let name = activity(alloc)?;
+        assert!(rt; is_not_yours(&manager.step(by, 0, Event::Watch { name, object: 7 })));
+        let name = activity(alloc)?;
+        assert!(rt; is_not_yours(&manager.step(by, 0, Event::Unwatch { name, object: 7 })));
+        let unregister = Event::Unregister {
+            name: activity(alloc)?,
+            obj: ObjRef::Own(1),
+        };
+        assert!(rt; is_not_yours(&manager.step(by, 0, unregister)));
+        let call = Event::Call {
+            handle: 1,
+            payload: Payload::new(alloc, b"").ok().expect(&rt, "a payload"),
+            refs: Refs::new(alloc, &[]).ok().expect(&rt, "references"),
+        };
+        assert!(rt; is_not_yours(&manager.step(by, 0, call)));
+        assert!(rt; is_not_yours(&manager.step(by, 0, Event::Release { handle: 1 })));
+        assert!(rt; is_not_yours(&manager.step(by, 0, Event::Take)));
+        assert!(rt; is_not_yours(&manager.step(by, 0, Event::Die)));
+    }
+    assert_eq!(rt; manager.turn(By::Manager), 2);
+    Ok(())
+}
+
+#[test]
+fn a_client_that_has_died(rt: HostRuntime) -> Result<(), Fail> {
+    let alloc = rt.alloc();
+    let mut manager = connected(&rt, alloc);
+    let client = By::Client(ClientId(1));
+    let reply = manager.step(client, 0, add(alloc)?);
+    assert!(rt; matches!(&reply, Reply::Done(Outcome::Added(_))));
+    let reply = manager.step(client, 1, Event::Die);
+    assert!(rt; matches!(&reply, Reply::Done(Outcome::Died)));
+    assert!(rt; is_not_connected(&manager.step(client, 2, add(alloc)?)));
+    assert_eq!(rt; manager.turn(client), 2);
+    let reply = manager.step(By::Manager, 2, Event::Connect(server(&rt, alloc)));
+    assert!(rt; matches!(&reply, Reply::Done(Outcome::Connected(ClientId(2)))));
+    let name = activity(alloc)?;
+    let reply = manager.step(By::Client(ClientId(2)), 0, Event::Get { name });
+    assert!(rt; matches!(&reply, Reply::GotNull));
+    Ok(())
+}
+
+#[test]
+fn a_journal_of_a_hundred_thousand(rt: HostRuntime) -> Result<(), Fail> {
+    let alloc = rt.alloc();
+    let places = Places::new(1_048_576).expect(&rt, "places");
+    let who = process(&rt, alloc, b"u:r:servicemanager:s0");
+    let opened = Manager::open(alloc, who, policy(&rt, alloc), places);
+    let mut manager = opened.ok().expect(&rt, "a manager");
+    let reply = manager.step(By::Manager, 1, Event::Connect(server(&rt, alloc)));
+    assert!(rt; matches!(&reply, Reply::Done(Outcome::Connected(ClientId(1)))));
+    let client = By::Client(ClientId(1));
+    for turn in 0..100_000 {
+        let reply = manager.step(client, turn, add(alloc)?);
+        assert!(rt; matches!(&reply, Reply::Done(Outcome::Added(_))));
+    }
+    let looked = manager.look(client, Query::Version);
+    assert!(rt; matches!(&looked, Reply::Looked { version: 1, length: 100_002, answer: _ }));
     Ok(())
 }
 
 #[test]
 fn queries_of_others(rt: HostRuntime) -> Result<(), Fail> {
     let alloc = rt.alloc();
-    let mut manager = opened(&rt, alloc);
-    let reply = manager.connect(1, server(&rt, alloc));
-    assert!(rt; matches!(&reply, Reply::Done(Outcome::Connected(ClientId(1)))));
+    let manager = connected(&rt, alloc);
     assert!(rt; is_not_yours(&manager.look(By::Manager, Query::Version)));
     assert!(rt; is_not_yours(&manager.look(By::Admin(AdminId(1)), Query::List(15))));
     let explain = Query::Explain {
@@ -87,19 +198,26 @@ fn queries_of_others(rt: HostRuntime) -> Result<(), Fail> {
     Ok(())
 }
 
+fn reload(rt: &impl Abort, alloc: Global, expected: u64) -> Event {
+    Event::Reload {
+        expected,
+        prepared: policy(rt, alloc),
+    }
+}
+
 #[test]
 fn two_administrators(rt: HostRuntime) -> Result<(), Fail> {
     let alloc = rt.alloc();
     let mut manager = opened(&rt, alloc);
-    let (first, second) = (AdminId(1), AdminId(2));
-    let reply = manager.reload(first, 0, 1, policy(&rt, alloc));
+    let (first, second) = (By::Admin(AdminId(1)), By::Admin(AdminId(2)));
+    let reply = manager.step(first, 0, reload(&rt, alloc, 1));
     assert!(rt; matches!(&reply, Reply::Done(Outcome::Reloaded(2))));
-    let reply = manager.reload(second, 0, 1, policy(&rt, alloc));
+    let reply = manager.step(second, 0, reload(&rt, alloc, 1));
     assert!(rt; matches!(&reply, Reply::Refused(Refusal::VersionMoved(2))));
-    let reply = manager.reload(first, 0, 2, policy(&rt, alloc));
+    let reply = manager.step(first, 0, reload(&rt, alloc, 2));
     assert!(rt; is_out_of_turn(&reply, 1));
-    let reply = manager.reload(second, 0, 2, policy(&rt, alloc));
+    let reply = manager.step(second, 0, reload(&rt, alloc, 2));
     assert!(rt; matches!(&reply, Reply::Done(Outcome::Reloaded(3))));
-    assert_eq!(rt; manager.turn(By::Admin(second)), 1);
+    assert_eq!(rt; manager.turn(second), 1);
     Ok(())
 }

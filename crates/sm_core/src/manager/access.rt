@@ -14,7 +14,7 @@ use sm_kinds::{Class, Context, Identity, Name, Perms};
 impl Manager {
     /// A process may send a transaction to the manager.
     pub fn can_call_manager(&self, who: &Identity) -> Result<(), Stop>
-        ensures { IsRuled (policy_at (effects_of self.now.history)) Binder calling who.now (manager_at (effects_of self.now.history)).context None result }
+        ensures { IsRuled (policy_at (effects_of self.now.book.history)) Binder calling who.now (manager_at (effects_of self.now.book.history)).context None result }
     {
         let manager = &self.state.manager.context;
         self.needs(who, manager, None, Class::Binder, Perms::CALL)
@@ -22,7 +22,7 @@ impl Manager {
 
     /// A process may pass a reference to the manager.
     pub fn can_transfer_to_manager(&self, who: &Identity) -> Result<(), Stop>
-        ensures { IsRuled (policy_at (effects_of self.now.history)) Binder transferring who.now (manager_at (effects_of self.now.history)).context None result }
+        ensures { IsRuled (policy_at (effects_of self.now.book.history)) Binder transferring who.now (manager_at (effects_of self.now.book.history)).context None result }
     {
         let manager = &self.state.manager.context;
         self.needs(who, manager, None, Class::Binder, Perms::TRANSFER)
@@ -30,7 +30,7 @@ impl Manager {
 
     /// The manager may pass a reference to a process.
     pub fn can_transfer_from_manager(&self, who: &Identity) -> Result<(), Stop>
-        ensures { IsRuled (policy_at (effects_of self.now.history)) Binder transferring (manager_at (effects_of self.now.history)) who.now.context None result }
+        ensures { IsRuled (policy_at (effects_of self.now.book.history)) Binder transferring (manager_at (effects_of self.now.book.history)) who.now.context None result }
     {
         let manager = &self.state.manager;
         self.needs(manager, &who.context, None, Class::Binder, Perms::TRANSFER)
@@ -38,7 +38,7 @@ impl Manager {
 
     /// A process may add a service under a name, whose label is the target.
     pub fn can_add(&self, who: &Identity, name: &Name) -> Result<(), Stop>
-        ensures { IsRuled (policy_at (effects_of self.now.history)) ServiceManager adding who.now (label_at (effects_of self.now.history) name.now) (Some name.now) result }
+        ensures { IsRuled (policy_at (effects_of self.now.book.history)) ServiceManager adding who.now (label_at (effects_of self.now.book.history) name.now) (Some name.now) result }
     {
         let label = self.state.policy.label(name.bytes());
         self.needs(who, label, Some(name), Class::ServiceManager, Perms::ADD)
@@ -46,7 +46,7 @@ impl Manager {
 
     /// A process may find the service under a name, whose label is the target.
     pub fn can_find(&self, who: &Identity, name: &Name) -> Result<(), Stop>
-        ensures { IsRuled (policy_at (effects_of self.now.history)) ServiceManager finding who.now (label_at (effects_of self.now.history) name.now) (Some name.now) result }
+        ensures { IsRuled (policy_at (effects_of self.now.book.history)) ServiceManager finding who.now (label_at (effects_of self.now.book.history) name.now) (Some name.now) result }
     {
         let label = self.state.policy.label(name.bytes());
         self.needs(who, label, Some(name), Class::ServiceManager, Perms::FIND)
@@ -54,7 +54,7 @@ impl Manager {
 
     /// A process may list the names; the manager's own context is the target.
     pub fn can_list(&self, who: &Identity) -> Result<(), Stop>
-        ensures { IsRuled (policy_at (effects_of self.now.history)) ServiceManager listing who.now (manager_at (effects_of self.now.history)).context None result }
+        ensures { IsRuled (policy_at (effects_of self.now.book.history)) ServiceManager listing who.now (manager_at (effects_of self.now.book.history)).context None result }
     {
         let manager = &self.state.manager.context;
         self.needs(who, manager, None, Class::ServiceManager, Perms::LIST)
@@ -69,7 +69,7 @@ impl Manager {
         class: Class,
         perm: Perms,
     ) -> Result<(), Stop>
-        ensures { IsRuled (policy_at (effects_of self.now.history)) class perm who.now target.now (option_map (λ n. n.now) name.entry) result }
+        ensures { IsRuled (policy_at (effects_of self.now.book.history)) class perm who.now target.now (option_map (λ n. n.now) name.entry) result }
     {
         let source = who.context.type_name();
         if self

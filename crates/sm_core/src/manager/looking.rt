@@ -31,7 +31,7 @@ fn may_ask(by: By, query: &Query) -> bool
 impl Manager {
     /// The answer to a query, on the history as it stands.
     pub fn look(&self, by: By, query: Query) -> Reply
-        ensures { LooksAs self.now by query result }
+        ensures { LooksAs self.now.book by query result }
     {
         match self.judge_query(by, &query) {
             Ok(found) => Reply::Looked {
@@ -46,9 +46,9 @@ impl Manager {
     /// What stops a query, or what it finds out.
     fn judge_query(&self, by: By, query: &Query) -> Result<Answer, Stop>
         ensures { MatchResult result
-            (λ found. AllPass (policy_at (effects_of self.now.history)) (checks_of_query self.now.history by query.now)
-            × (found ≡ found_out (effects_of self.now.history) query.now))
-            (Halts (policy_at (effects_of self.now.history)) (checks_of_query self.now.history by query.now)) }
+            (λ found. AllPass (policy_at (effects_of self.now.book.history)) (checks_of_query self.now.book.history by query.now)
+            × (found ≡ found_out (effects_of self.now.book.history) query.now))
+            (Halts (policy_at (effects_of self.now.book.history)) (checks_of_query self.now.book.history by query.now)) }
     {
         if !may_ask(by, query) {
             return Err(Stop::Unmet(Instead::Refused(Refusal::Failed(Failure::NotYours))));
@@ -77,11 +77,11 @@ impl Manager {
 
     /// `listServices`: `list` is checked against the manager's own context.
     fn list(&self, client: u32, mask: u32) -> Result<Answer, Stop>
-        requires { is_live (effects_of self.now.history) client ≡ true }
+        requires { is_live (effects_of self.now.book.history) client ≡ true }
         ensures { MatchResult result
-            (λ found. AllPass (policy_at (effects_of self.now.history)) (query_checks (effects_of self.now.history) client (ListNames mask))
-            × (found ≡ found_out (effects_of self.now.history) (ListNames mask)))
-            (Halts (policy_at (effects_of self.now.history)) (query_checks (effects_of self.now.history) client (ListNames mask))) }
+            (λ found. AllPass (policy_at (effects_of self.now.book.history)) (query_checks (effects_of self.now.book.history) client (ListNames mask))
+            × (found ≡ found_out (effects_of self.now.book.history) (ListNames mask)))
+            (Halts (policy_at (effects_of self.now.book.history)) (query_checks (effects_of self.now.book.history) client (ListNames mask))) }
     {
         let Some(row) = self.caller(client) else {
             unreachable!();
@@ -96,7 +96,7 @@ impl Manager {
 
     /// The names whose dump flags share a bit with the mask, in rising byte order.
     fn names_by_mask(&self, mask: u32) -> Result<Vec<Name>, AllocError>
-        ensures { IfOk result (λ v. v.items ≡ names_by_mask (effects_of self.now.history) mask) }
+        ensures { IfOk result (λ v. v.items ≡ names_by_mask (effects_of self.now.book.history) mask) }
     {
         matching(self.alloc, &self.state.names, mask)
     }

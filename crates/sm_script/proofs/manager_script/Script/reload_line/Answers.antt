@@ -12,7 +12,7 @@ on_err (Err e) p = p
 -- the reply was given, and its line was lost
 pub returns-clause-err : goal.returns-clause-err
 returns-clause-err c =
-    let judged = subst (λ (e : ℕ). AnswersNow c.self.inside.manager (Admin the_administrator) (Reload e c.args.policy) c.reload-reply.result c.reload-reply.new.manager) c.expected.ensures c.reload-reply.ensures in
-    let reloads : Reloads c.self.inside.manager c.args.texts.now (told_text c.reload-reply.result) c.reload-reply.new.manager =
+    let judged = subst (λ (e : ℕ). AnswersNow c.self.inside.manager.book (Admin the_administrator) (Reload e c.args.policy) c.reload-reply.result c.reload-reply.new.manager.book) c.expected.ensures c.reload-reply.ensures in
+    let reloads : Reloads c.self.inside.manager.book c.args.texts.now (told_text c.reload-reply.result) c.reload-reply.new.manager.book =
     record { policy = c.args.policy; reads = c.requires; reply = c.reload-reply.result; judged = judged; written = refl } in
     rw (← c.self.view_is) (on_err c.told_line.result (inr (told_text c.reload-reply.result, [], (inl reloads, refl))))
