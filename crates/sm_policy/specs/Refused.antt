@@ -11,7 +11,8 @@ use Rattle.sm_contexts.specs.declared.fault.ContextsFault.{ContextsFault}
 use Rattle.sm_contexts.specs.declared.fault.ContextsFault.TheVariants as labels
 use Rattle.sm_policy.specs.declared.violation.Violation.{Violation}
 use Rattle.sm_policy.specs.declared.fault.PolicyFault.{PolicyFault}
-use Rattle.sm_policy.specs.declared.fault.PolicyFault.TheVariants.{Rules, Types, Access, Contexts, UndeclaredLabel, Neverallow, Memory}
+use Rattle.sm_policy.specs.declared.fault.PolicyFault.TheVariants.{Rules, Types, Access, Contexts, UndeclaredLabel,
+  Neverallow, Memory}
 
 abbrev pub text_words : RuleTextFault → List ℕ
 text_words text.TooLarge = codes "rules: too large"
@@ -35,13 +36,15 @@ rules_words access.Memory = codes "memory"
 abbrev pub contexts_words : ContextsFault → List ℕ
 contexts_words labels.TooLarge = codes "contexts: too large"
 contexts_words (labels.BadLine n) = numbered (codes "contexts: bad line ") n
-contexts_words (labels.Conflict n m) = numbered (codes "contexts: line ") m ++ numbered (codes " gives another context than line ") n
+contexts_words (labels.Conflict n m) =
+    numbered (codes "contexts: line ") m ++ numbered (codes " gives another context than line ") n
 contexts_words (labels.TwoDefaults n) = numbered (codes "contexts: second default at line ") n
 contexts_words labels.NoDefault = codes "contexts: no default"
 contexts_words labels.Memory = codes "memory"
 
 abbrev pub broken_words : ℕ → ℕ → List ℕ
-broken_words never allow = numbered (codes "neverallow at line ") never ++ numbered (codes " by allow at line ") allow ++ codes ": "
+broken_words never allow =
+    numbered (codes "neverallow at line ") never ++ numbered (codes " by allow at line ") allow ++ codes ": "
 
 -- The two lines, and the source, the target, the class and the permission.
 abbrev pub violation_words : Violation → List ℕ
