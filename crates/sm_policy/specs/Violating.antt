@@ -1,5 +1,6 @@
 -- The first neverallow rule that is broken, and by what.
 use Rattle.std.specs.Prelude.{ℕ, ◌&&◌, if◌then◌else◌, List, [], ◌∷◌, Option, Some, None}
+use Rattle.std.specs.Option.{option_or}
 use Rattle.sm_ruletext.specs.declared.rule.Rule.{Rule}
 use Rattle.sm_ruletext.specs.declared.statement.Statement.{Statement}
 use Rattle.sm_types.specs.Denoting.{types}
@@ -10,13 +11,9 @@ use Rattle.sm_rules.specs.declared.violation.Violation.{Violation as Numbered}
 use Rattle.sm_policy.specs.declared.violation.Violation.{Violation}
 
 -- The first that f gives of the items, in their order.
-abbrev pub or_else : {B : Type 0} → Option B → Option B → Option B
-or_else (Some y) other = Some y
-or_else None other = other
-
 abbrev pub first_some : {A B : Type 0} → (A → Option B) → List A → Option B
 first_some f [] = None
-first_some f (x ∷ xs) = or_else (f x) (first_some f xs)
+first_some f (x ∷ xs) = option_or (f x) (first_some f xs)
 
 -- The numbers of the permissions.
 abbrev pub perm_numbers : List ℕ
