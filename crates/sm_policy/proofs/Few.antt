@@ -1,6 +1,5 @@
 -- A rule text has no more statements than bytes.
-use Rattle.std.proofs.Common.{◌≡◌, ℕ, zero, suc, ◌+◌, ◌≤◌, Bool, true, false, ◌&&◌, cond, List, [], ◌∷◌, ◌++◌, length,
-  length-append, Option, None, Some, Ok, Err, refl, ap, arith}
+use Rattle.std.proofs.Common.{◌≡◌, ℕ, zero, suc, ◌+◌, ◌≤◌, Bool, true, false, ◌&&◌, cond, List, [], ◌∷◌, ◌++◌, length, length-append, Option, None, Some, Ok, Err, refl, ap, arith}
 use Rattle.std.specs.Prelude.{nat_lt, nat_le}
 use Rattle.std.proofs.lemmas.Bool.{ltb-false}
 use Rattle.sm_kinds.specs.Reading.{◌>>=◌}
@@ -11,12 +10,10 @@ use Rattle.sm_ruletext.specs.declared.fault.RuleTextFault.TheVariants.{TooLarge,
 use Rattle.sm_ruletext.specs.declared.statement.What.{What}
 use Rattle.sm_ruletext.specs.declared.statement.Statement.{Statement}
 use Rattle.sm_ruletext.specs.declared.token.Kind.{Kind}
-use Rattle.sm_ruletext.specs.declared.token.Kind.TheVariants.{Word, Semicolon, Comma, Colon, Open, Close, Star, Tilde,
-  Dash, Other}
+use Rattle.sm_ruletext.specs.declared.token.Kind.TheVariants.{Word, Semicolon, Comma, Colon, Open, Close, Star, Tilde, Dash, Other}
 use Rattle.sm_ruletext.specs.Lexing.{Tokens, tokens}
 use Rattle.sm_ruletext.specs.Words.{keyword_of}
-use Rattle.sm_ruletext.specs.Statements.{what_at, with_statement, statement_from, statements_within, statements_of,
-  read, is_rule, rule_count}
+use Rattle.sm_ruletext.specs.Statements.{what_at, with_statement, statement_from, statements_within, statements_of, read, is_rule, rule_count}
 use Rattle.sm_ruletext.proofs.Cuts.{length-tokens}
 
 one_more : (line : ℕ) (sts more : List Statement) (w : Option What) → with_statement line sts w ≡ Ok more
@@ -36,7 +33,7 @@ unfolding statement_from
 one_statement line Semicolon sts ts next h = let is : sts ≡ next.0 = cc in omega (arith, ap (length {A = Statement}) is)
 one_statement line (Word w) sts ts next h =
     let what = went_well (what_at line (keyword_of w) ts) (λ x. with_statement line sts x.0 >>= λ more. Ok (more, x.1))
-        next h in
+    next h in
     let more = went_well (with_statement line sts what.0.0) (λ more. Ok (more, what.0.1)) next what.2 in
     let is : more.0 ≡ next.0 = cc in
     omega (arith, one_more line sts more.0 what.0.0 more.1, ap (length {A = Statement}) is)
@@ -65,5 +62,9 @@ few text all h = by (nat_lt MOST_TEXT_BYTES (length text)) refl h where
       → cond b (Err TooLarge) (statements_within (length (tokens 0 1 text)) [] (tokens 0 1 text)) ≡ Ok all
       → length all ≤ MOST_TEXT_BYTES
   by true long g = absurd cc
-  by false short g = omega (arith, ltb-false MOST_TEXT_BYTES (length text) short,
-      few_within (length (tokens 0 1 text)) [] all (tokens 0 1 text) g, length-tokens 0 1 text)
+  by false short g = omega (
+    arith,
+    ltb-false MOST_TEXT_BYTES (length text) short,
+    few_within (length (tokens 0 1 text)) [] all (tokens 0 1 text) g,
+    length-tokens 0 1 text,
+  )

@@ -1,6 +1,5 @@
 -- The first violation by number is the first violation by name.
-use Rattle.std.proofs.Common.{◌≡◌, ℕ, zero, suc, ◌<◌, Bool, true, false, ◌&&◌, ◌||◌, List, [], ◌∷◌, length, Option,
-  None, Some, refl, sym, ◌∙◌, arith, slice_get}
+use Rattle.std.proofs.Common.{◌≡◌, ℕ, zero, suc, ◌<◌, Bool, true, false, ◌&&◌, ◌||◌, List, [], ◌∷◌, length, Option, None, Some, refl, sym, ◌∙◌, arith, slice_get}
 use Rattle.std.specs.List.{list_any}
 use Rattle.std.proofs.lemmas.Option.{get_or_from_slice_get, slice_get_within, slice_get-get_or}
 use Rattle.sm_kinds.specs.declared.class.Class.{Class}
@@ -15,8 +14,7 @@ use Rattle.sm_rules.specs.Keeping.{allow_rules, neverallow_rules, class_at, perm
 use Rattle.sm_rules.specs.Violating.{breaks, IsFirstViolation}
 use Rattle.sm_rules.specs.declared.violation.Violation.{Violation as Numbered}
 use Rattle.sm_policy.specs.declared.violation.Violation.{Violation}
-use Rattle.sm_policy.specs.Violating.{first_some, perm_numbers, clash, clash_of_pair, clash_of_source, first_clash,
-  clash_of_never, first_violation, named_violation}
+use Rattle.sm_policy.specs.Violating.{first_some, perm_numbers, clash, clash_of_pair, clash_of_source, first_clash, clash_of_never, first_violation, named_violation}
 
 -- ---- the first that is given
 
@@ -91,7 +89,7 @@ module _ (policy : List Statement) (never allow : ℕ × Rule) where
   unfolding first_clash
   no_first none = none_at (clash_of_source policy never allow) (types policy)
       (λ j z h. rw (named j z h)
-          (no_source j (λ b t low inside. none b j t low (slice_get_within (types policy) j z h) inside)))
+      (no_source j (λ b t low inside. none b j t low (slice_get_within (types policy) j z h) inside)))
 
 module _ (policy : List Statement) (v : Numbered) (is : IsFirstViolation policy (types policy) v) where
   names : List Name
@@ -116,18 +114,18 @@ module _ (policy : List Statement) (v : Numbered) (is : IsFirstViolation policy 
   unfolding clash_of_pair
   at_pair =
       first_at (clash policy is.never is.allow (at (types policy) v.source) (at (types policy) v.target)) perm_numbers
-          is.bit is.bit found (number_there is.bit is.low) at_perm
+      is.bit is.bit found (number_there is.bit is.low) at_perm
       (λ j z less h. rw (number_is j z h)
-          (no_clash policy is.never is.allow j v.source v.target (is.no_lesser_perm j less)))
+      (no_clash policy is.never is.allow j v.source v.target (is.no_lesser_perm j less)))
 
   at_source : clash_of_source policy is.never is.allow (at (types policy) v.source) ≡ Some found
   unfolding clash_of_source
   at_source =
       first_at (clash_of_pair policy is.never is.allow (at (types policy) v.source)) (types policy) v.target
-          (at (types policy) v.target) found
+      (at (types policy) v.target) found
       (slice_get-get_or (types policy) v.target [] is.target) at_pair
       (λ j z less h. rw (named policy is.never is.allow j z h)
-          (no_pair policy is.never is.allow v.source j (λ b low. is.no_lesser_target b j less low)))
+      (no_pair policy is.never is.allow v.source j (λ b low. is.no_lesser_target b j less low)))
 
   at_rules : first_clash policy is.never is.allow ≡ Some found
   unfolding first_clash
@@ -135,14 +133,14 @@ module _ (policy : List Statement) (v : Numbered) (is : IsFirstViolation policy 
       first_at (clash_of_source policy is.never is.allow) (types policy) v.source (at (types policy) v.source) found
       (slice_get-get_or (types policy) v.source [] is.source) at_source
       (λ j z less h. rw (named policy is.never is.allow j z h)
-          (no_source policy is.never is.allow j (λ b t low inside. is.no_lesser_source b j t less low inside)))
+      (no_source policy is.never is.allow j (λ b t low inside. is.no_lesser_source b j t less low inside)))
 
   at_never : clash_of_never policy is.never ≡ Some found
   unfolding clash_of_never
   at_never =
       first_at (first_clash policy is.never) (allow_rules policy) is.allow_place is.allow found is.allow_found at_rules
       (λ j z less h. no_first policy is.never z
-          (λ b s t low source target. is.no_earlier_allow j b s t z less h low source target))
+      (λ b s t low source target. is.no_earlier_allow j b s t z less h low source target))
 
   found_first : first_violation policy ≡ Some found
   unfolding first_violation clash_of_never
@@ -150,7 +148,7 @@ module _ (policy : List Statement) (v : Numbered) (is : IsFirstViolation policy 
       first_at (clash_of_never policy) (neverallow_rules policy) is.never_place is.never found is.never_found at_never
       (λ j z less h. none_at (first_clash policy z) (allow_rules policy)
       (λ i w g. no_first policy z w
-          (λ b s t low source target. is.no_earlier_never j i b s t z w less h g low source target)))
+      (λ b s t low source target. is.no_earlier_never j i b s t z w less h g low source target)))
 
   pub violation_is : first_violation policy ≡ Some (named_violation (types policy) v)
   unfolding found
@@ -163,24 +161,24 @@ no_violation policy consistent =
     none_at (clash_of_never policy) (neverallow_rules policy)
     (λ j z h. none_at (first_clash policy z) (allow_rules policy)
     (λ i w g. no_first policy z w
-        (λ b s t low source target.
-        apart i j w z (at (types policy) s) (at (types policy) t) (class_at b) (perm_at b) g h)))
+    (λ b s t low source target.
+    apart i j w z (at (types policy) s) (at (types policy) t) (class_at b) (perm_at b) g h)))
   where
     apart : (i j : ℕ) (allow never : ℕ × Rule) (s t : Name) (class : Class) (perm : Perms)
         → slice_get (allow_rules policy) i ≡ Some allow → slice_get (neverallow_rules policy) j ≡ Some never
         → (covers policy s t class perm allow.1 && covers policy s t class perm never.1) ≡ false
     apart i j allow never s t class perm found_allow found_never =
         by (covers policy s t class perm allow.1) (covers policy s t class perm never.1) refl refl where
-      by : (a n : Bool) → covers policy s t class perm allow.1 ≡ a → covers policy s t class perm never.1 ≡ n
-          → (a && n) ≡ false
-      by false n ha hn = refl
-      by true false ha hn = refl
-      by true true ha hn =
-          let w = written_any policy s t class perm
+          by : (a n : Bool) → covers policy s t class perm allow.1 ≡ a → covers policy s t class perm never.1 ≡ n
+              → (a && n) ≡ false
+          by false n ha hn = refl
+          by true false ha hn = refl
+          by true true ha hn =
+              let w = written_any policy s t class perm
               ∙ any_at (λ (r : ℕ × Rule). covers policy s t class perm r.1) (allow_rules policy) i allow found_allow
               ha in
-          let f = forbidden_any policy s t class perm
+              let f = forbidden_any policy s t class perm
               ∙ any_at (λ (r : ℕ × Rule). covers policy s t class perm r.1) (neverallow_rules policy) j never
               found_never hn in
-          let both : (written policy s t class perm && forbidden policy s t class perm) ≡ true = rw (w, f) refl in
-          sym both ∙ consistent s t class perm
+              let both : (written policy s t class perm && forbidden policy s t class perm) ≡ true = rw (w, f) refl in
+              sym both ∙ consistent s t class perm

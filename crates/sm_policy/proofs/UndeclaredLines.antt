@@ -1,6 +1,5 @@
 -- The first entry with an undeclared type stands on the first entry line with an undeclared type.
-use Rattle.std.proofs.Common.{◌≡◌, ℕ, ◌+◌, Bool, true, false, not, ◌&&◌, cond, if◌then◌else◌, List, [], ◌∷◌, ◌++◌,
-  length, Option, None, Some, Ok, Err, refl, sym, ap, ◌∙◌}
+use Rattle.std.proofs.Common.{◌≡◌, ℕ, ◌+◌, Bool, true, false, not, ◌&&◌, cond, if◌then◌else◌, List, [], ◌∷◌, ◌++◌, length, Option, None, Some, Ok, Err, refl, sym, ap, ◌∙◌}
 use Rattle.std.specs.Prelude.{find, option_map, nat_lt, count_by}
 use Rattle.std.specs.List.{list_any}
 use Rattle.std.specs.Option.{option_or}
@@ -11,12 +10,10 @@ use Rattle.sm_kinds.specs.Reading.{◌>>=◌}
 use Rattle.sm_kinds.specs.declared.limits.TheConstants.{MOST_TEXT_BYTES}
 use Rattle.sm_ruletext.specs.declared.statement.Statement.{Statement}
 use Rattle.sm_types.specs.Denoting.{declares}
-use Rattle.sm_contexts.specs.declared.fault.ContextsFault.TheVariants.{TooLarge, BadLine, Conflict, TwoDefaults,
-  NoDefault}
+use Rattle.sm_contexts.specs.declared.fault.ContextsFault.TheVariants.{TooLarge, BadLine, Conflict, TwoDefaults, NoDefault}
 use Rattle.sm_contexts.specs.Lines.{lines, first_word, after_word}
 use Rattle.sm_contexts.specs.declared.limits.TheConstants.{MOST_ENTRY_LINES}
-use Rattle.sm_contexts.specs.Reading.{Entry, Read, has_key, default_key, is_entry, placed, with_entry, with_line,
-  entries_from, read}
+use Rattle.sm_contexts.specs.Reading.{Entry, Read, has_key, default_key, is_entry, placed, with_entry, with_line, entries_from, read}
 use Rattle.sm_policy.specs.Preparing.{is_undeclared_line, undeclared_from}
 use Rattle.sm_policy.specs.Undeclared.{first_undeclared, is_undeclared}
 
@@ -53,16 +50,16 @@ there_first sts key context [] e m there same bad = absurd cc
 there_first sts key context (x ∷ xs) e m there same bad =
     by (bytes_eq key x.key) (not (declares sts (type_of x.context))) refl there
     (λ h. there_first sts key context xs e m h same bad) where
-  by : (a b : Bool) → not (declares sts (type_of x.context)) ≡ b → cond a (Some x) (find (has_key key) xs) ≡ Some e
-      → (find (has_key key) xs ≡ Some e → option_or (first_undeclared sts xs) m ≡ first_undeclared sts xs)
-      → option_or (option_map (λ y. y.line) (cond b (Some x) (find (is_undeclared sts) xs))) m
-      ≡ option_map (λ y. y.line) (cond b (Some x) (find (is_undeclared sts) xs))
-  by a true is h rest = refl
-  by true false is h rest =
-      let same_entry : x ≡ e = cc in
-      let good : not (declares sts (type_of x.context)) ≡ true = rw (same_entry, same, bad) refl in
-      absurd cc
-  by false false is h rest = rest h
+      by : (a b : Bool) → not (declares sts (type_of x.context)) ≡ b → cond a (Some x) (find (has_key key) xs) ≡ Some e
+          → (find (has_key key) xs ≡ Some e → option_or (first_undeclared sts xs) m ≡ first_undeclared sts xs)
+          → option_or (option_map (λ y. y.line) (cond b (Some x) (find (is_undeclared sts) xs))) m
+          ≡ option_map (λ y. y.line) (cond b (Some x) (find (is_undeclared sts) xs))
+      by a true is h rest = refl
+      by true false is h rest =
+          let same_entry : x ≡ e = cc in
+          let good : not (declares sts (type_of x.context)) ≡ true = rw (same_entry, same, bad) refl in
+          absurd cc
+      by false false is h rest = rest h
 
 -- so a repeated line says nothing new
 said_before : (sts : List Statement) (n : ℕ) (key context : List ℕ) (es : List Entry) (e : Entry)
@@ -116,16 +113,16 @@ unfolding with_line line_said said
 with_line_said sts n entries more line done =
     by (is_entry line) (is_context (first_word (after_word line))) (first_word line) (first_word (after_word line))
     done where
-  by : (a b : Bool) (key word : List ℕ)
-      → cond a ((cond b (Ok word) (Err (BadLine n))) >>= λ context. with_entry n entries key context) (Ok entries)
-      ≡ Ok more
-      → first_undeclared sts more
-      ≡ option_or (first_undeclared sts entries) (cond (a && not (declares sts (type_of word))) (Some n) None)
-  by true true key word h =
-      placed_said sts n entries more key word h
-      ∙ ap (option_or (first_undeclared sts entries)) (turned (declares sts (type_of word)) n)
-  by true false key word h = absurd cc
-  by false b key word h = let is : entries ≡ more = cc in rw (← is) (sym (or_none (first_undeclared sts entries)))
+      by : (a b : Bool) (key word : List ℕ)
+          → cond a ((cond b (Ok word) (Err (BadLine n))) >>= λ context. with_entry n entries key context) (Ok entries)
+          ≡ Ok more
+          → first_undeclared sts more
+          ≡ option_or (first_undeclared sts entries) (cond (a && not (declares sts (type_of word))) (Some n) None)
+      by true true key word h =
+          placed_said sts n entries more key word h
+          ∙ ap (option_or (first_undeclared sts entries)) (turned (declares sts (type_of word)) n)
+      by true false key word h = absurd cc
+      by false b key word h = let is : entries ≡ more = cc in rw (← is) (sym (or_none (first_undeclared sts entries)))
 
 in_turn : (a b : Option ℕ) (is : Bool) (n : ℕ)
     → option_or (option_or a (cond is (Some n) None)) b ≡ option_or a (cond is (Some n) b)
@@ -144,22 +141,22 @@ lines_said sts n entries all [] done = by (list_any (has_key default_key) entrie
   by false h = absurd cc
 lines_said sts n entries all (line ∷ more) done =
     by (with_line n entries line) refl done (λ e. lines_said sts (n + 1) e all more) where
-  by : (r : Read (List Entry)) → with_line n entries line ≡ r → (r >>= λ e. entries_from (n + 1) e more) ≡ Ok all
-      → ((e : List Entry) → entries_from (n + 1) e more ≡ Ok all
-      → first_undeclared sts all ≡ option_or (first_undeclared sts e) (undeclared_from sts (n + 1) more))
-      → first_undeclared sts all ≡ option_or (first_undeclared sts entries) (undeclared_from sts n (line ∷ more))
-  by (Ok e) step h rest =
-      rest e h ∙ (ap (λ o. option_or o (undeclared_from sts (n + 1) more)) (with_line_said sts n entries e line step)
-      ∙ in_turn (first_undeclared sts entries) (undeclared_from sts (n + 1) more) (is_undeclared_line sts line) n)
-  by (Err f) step h rest = absurd cc
+      by : (r : Read (List Entry)) → with_line n entries line ≡ r → (r >>= λ e. entries_from (n + 1) e more) ≡ Ok all
+          → ((e : List Entry) → entries_from (n + 1) e more ≡ Ok all
+          → first_undeclared sts all ≡ option_or (first_undeclared sts e) (undeclared_from sts (n + 1) more))
+          → first_undeclared sts all ≡ option_or (first_undeclared sts entries) (undeclared_from sts n (line ∷ more))
+      by (Ok e) step h rest =
+          rest e h ∙ (ap (λ o. option_or o (undeclared_from sts (n + 1) more)) (with_line_said sts n entries e line step)
+          ∙ in_turn (first_undeclared sts entries) (undeclared_from sts (n + 1) more) (is_undeclared_line sts line) n)
+      by (Err f) step h rest = absurd cc
 
 pub first_line : (sts : List Statement) (text : List ℕ) (entries : List Entry) → read text ≡ Ok entries
     → first_undeclared sts entries ≡ undeclared_from sts 1 (lines text)
 unfolding read
 first_line sts text entries done =
     by (nat_lt MOST_TEXT_BYTES (length text)) (nat_lt MOST_ENTRY_LINES (count_by is_entry (lines text))) done where
-  by : (a b : Bool) → cond a (Err TooLarge) (cond b (Err TooLarge) (entries_from 1 [] (lines text))) ≡ Ok entries
-      → first_undeclared sts entries ≡ undeclared_from sts 1 (lines text)
-  by true b h = absurd cc
-  by false true h = absurd cc
-  by false false h = lines_said sts 1 [] entries (lines text) h
+      by : (a b : Bool) → cond a (Err TooLarge) (cond b (Err TooLarge) (entries_from 1 [] (lines text))) ≡ Ok entries
+          → first_undeclared sts entries ≡ undeclared_from sts 1 (lines text)
+      by true b h = absurd cc
+      by false true h = absurd cc
+      by false false h = lines_said sts 1 [] entries (lines text) h

@@ -23,8 +23,14 @@ perm_numbers = 0 ∷ 1 ∷ 2 ∷ 3 ∷ 4 ∷ 5 ∷ 6 ∷ []
 unfoldable pub clash : List Statement → ℕ × Rule → ℕ × Rule → List ℕ → List ℕ → ℕ → Option Violation
 clash policy never allow s t b =
     if covers policy s t (class_at b) (perm_at b) allow.1 && covers policy s t (class_at b) (perm_at b) never.1
-    then Some (record { never_line = never.0; allow_line = allow.0; source = s; target = t; class = class_at b;
-        perm = perm_at b })
+    then Some (record {
+      never_line = never.0;
+      allow_line = allow.0;
+      source = s;
+      target = t;
+      class = class_at b;
+      perm = perm_at b;
+    })
     else None
 
 unfoldable pub clash_of_pair : List Statement → ℕ × Rule → ℕ × Rule → List ℕ → List ℕ → Option Violation

@@ -8,12 +8,12 @@ pub returns-in-Some : goal.returns-in-Some
 returns-in-Some c = λ policy typed.
     let es = c.args.contexts.now in
     sym (undeclared_step policy es c.loop-i.i
-        ∙ ap (λ o. option_or o (first_undeclared policy (drop (c.loop-i.i + 1) es)))
-        (sym (c.in-Some.ensures policy typed))) ∙ c.loop-i.invariant policy typed
+    ∙ ap (λ o. option_or o (first_undeclared policy (drop (c.loop-i.i + 1) es)))
+    (sym (c.in-Some.ensures policy typed))) ∙ c.loop-i.invariant policy typed
 
 pub loop-i-preserved : goal.loop-i-preserved
 loop-i-preserved c = λ policy typed.
     let es = c.args.contexts.now in
     sym (undeclared_step policy es c.loop-i.i
-        ∙ ap (λ o. option_or o (first_undeclared policy (drop (c.loop-i.i + 1) es)))
-        (sym (c.in_default.ensures policy typed))) ∙ c.loop-i.invariant policy typed
+    ∙ ap (λ o. option_or o (first_undeclared policy (drop (c.loop-i.i + 1) es)))
+    (sym (c.in_default.ensures policy typed))) ∙ c.loop-i.invariant policy typed
