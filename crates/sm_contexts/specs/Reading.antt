@@ -58,7 +58,9 @@ context_at n word = if is_context word then Ok word else Err (BadLine n)
 -- Line n, behind the entries of the lines before it.
 unfoldable pub with_line : ℕ → List Entry → List ℕ → Read (List Entry)
 with_line n entries line =
-    if is_entry line then (context_at n (first_word (after_word line)) >>= λ context. with_entry n entries (first_word line) context) else Ok entries
+    if is_entry line then (context_at n (first_word (after_word line))
+    >>= λ context. with_entry n entries (first_word line) context)
+    else Ok entries
 
 -- The lines from line n on, behind the entries of those before.
 unfoldable pub entries_from : ℕ → List Entry → List (List ℕ) → Read (List Entry)
@@ -104,8 +106,10 @@ is_line_of name line = is_entry line && bytes_eq name (first_word line)
 -- The first line with this key, from line n on, and the context on it.
 abbrev pub line_of : List ℕ → ℕ → List (List ℕ) → Option (ℕ × List ℕ)
 line_of name n [] = None
-line_of name n (line ∷ more) = if is_line_of name line then Some (n, first_word (after_word line)) else line_of name (n + 1) more
+line_of name n (line ∷ more) =
+    if is_line_of name line then Some (n, first_word (after_word line)) else line_of name (n + 1) more
 
 -- The entries have for each key the first line of the text with this key, and the context on it.
 abbrev pub AreFirstLines : List ℕ → List Entry → Type 0
-AreFirstLines text entries = (name : List ℕ) → option_map line_and_context (find (has_key name) entries) ≡ line_of name 1 (lines text)
+AreFirstLines text entries = (name : List ℕ)
+    → option_map line_and_context (find (has_key name) entries) ≡ line_of name 1 (lines text)

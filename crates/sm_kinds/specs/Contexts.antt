@@ -34,7 +34,8 @@ after_part bytes =
 
 -- A type that isn't empty, and no colon, or a colon and a range that isn't empty.
 abbrev pub is_type_and_range : List ℕ → Bool
-is_type_and_range bytes = not (prefix_len is_in_part bytes == 0) && not (prefix_len is_in_part bytes + 1 == length bytes)
+is_type_and_range bytes =
+    not (prefix_len is_in_part bytes == 0) && not (prefix_len is_in_part bytes + 1 == length bytes)
 
 abbrev pub ends_well : Option (List ℕ) → Bool
 ends_well None = false

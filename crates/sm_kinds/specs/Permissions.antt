@@ -41,7 +41,8 @@ is_permission class word = is_some (perm_read class word)
 -- The word of a single permission of `service_manager`, of `binder`.
 abbrev pub service_manager_word : ℕ → Option (List ℕ)
 service_manager_word b =
-    if b == 1 then Some (codes "add") else if b == 2 then Some (codes "find") else if b == 4 then Some (codes "list") else None
+    if b == 1 then Some (codes "add")
+    else if b == 2 then Some (codes "find") else if b == 4 then Some (codes "list") else None
 
 abbrev pub binder_word : ℕ → Option (List ℕ)
 binder_word b =

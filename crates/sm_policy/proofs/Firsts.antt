@@ -18,11 +18,13 @@ use Rattle.sm_policy.specs.Violating.{first_some, perm_numbers, clash, clash_of_
 
 -- ---- the first that is given
 
-none_at : {A B : Type 0} (f : A → Option B) (xs : List A) → ((j : ℕ) (z : A) → slice_get xs j ≡ Some z → f z ≡ None) → first_some f xs ≡ None
+none_at : {A B : Type 0} (f : A → Option B) (xs : List A) → ((j : ℕ) (z : A) → slice_get xs j ≡ Some z → f z ≡ None)
+    → first_some f xs ≡ None
 none_at f [] none = refl
 none_at f (x ∷ xs) none = rw (none 0 x refl) (none_at f xs (λ j z h. none (suc j) z h))
 
-first_at : {A B : Type 0} (f : A → Option B) (xs : List A) (i : ℕ) (x : A) (y : B) → slice_get xs i ≡ Some x → f x ≡ Some y
+first_at : {A B : Type 0} (f : A → Option B) (xs : List A) (i : ℕ) (x : A) (y : B) → slice_get xs i ≡ Some x
+    → f x ≡ Some y
     → ((j : ℕ) (z : A) → j < i → slice_get xs j ≡ Some z → f z ≡ None) → first_some f xs ≡ Some y
 first_at f [] i x y found gives before = absurd cc
 first_at f (z ∷ xs) zero x y found gives before = let is : z ≡ x = cc in rw (is, gives) refl
@@ -48,7 +50,8 @@ number_is : (j z : ℕ) → slice_get perm_numbers j ≡ Some z → z ≡ j
 number_is j z h = let e = number_there j (number_low j z h) in cc
 
 -- what is at a place is there
-any_at : {A : Type 0} (p : A → Bool) (xs : List A) (i : ℕ) (x : A) → slice_get xs i ≡ Some x → p x ≡ true → list_any p xs ≡ true
+any_at : {A : Type 0} (p : A → Bool) (xs : List A) (i : ℕ) (x : A) → slice_get xs i ≡ Some x → p x ≡ true
+    → list_any p xs ≡ true
 any_at p [] i x found h = absurd cc
 any_at p (y ∷ ys) zero x found h = let is : y ≡ x = cc in rw (is, h) refl
 any_at p (y ∷ ys) (suc i) x found h = by (p y) (any_at p ys i x found h) where
@@ -59,7 +62,8 @@ any_at p (y ∷ ys) (suc i) x found h = by (p y) (any_at p ys i x found h) where
 -- ---- what two rules have in common
 
 module _ (policy : List Statement) (never allow : ℕ × Rule) where
-  no_clash : (b s t : ℕ) → breaks policy (types policy) b s t allow.1 never.1 ≡ false → clash policy never allow (at (types policy) s) (at (types policy) t) b ≡ None
+  no_clash : (b s t : ℕ) → breaks policy (types policy) b s t allow.1 never.1 ≡ false
+      → clash policy never allow (at (types policy) s) (at (types policy) t) b ≡ None
   unfolding clash
   no_clash b s t h = rw h refl
 
@@ -72,17 +76,20 @@ module _ (policy : List Statement) (never allow : ℕ × Rule) where
   named : (i : ℕ) (z : Name) → slice_get (types policy) i ≡ Some z → z ≡ at (types policy) i
   named i z h = sym (get_or_from_slice_get (types policy) i z [] h)
 
-  no_source : (s : ℕ) → ((b t : ℕ) → b < 7 → t < length (types policy) → breaks policy (types policy) b s t allow.1 never.1 ≡ false)
+  no_source : (s : ℕ) → ((b t : ℕ) → b < 7 → t < length (types policy)
+      → breaks policy (types policy) b s t allow.1 never.1 ≡ false)
       → clash_of_source policy never allow (at (types policy) s) ≡ None
   unfolding clash_of_source
   no_source s none = none_at (clash_of_pair policy never allow (at (types policy) s)) (types policy)
       (λ j z h. rw (named j z h) (no_pair s j (λ b low. none b j low (slice_get_within (types policy) j z h))))
 
-  no_first : ((b s t : ℕ) → b < 7 → s < length (types policy) → t < length (types policy) → breaks policy (types policy) b s t allow.1 never.1 ≡ false)
+  no_first : ((b s t : ℕ) → b < 7 → s < length (types policy) → t < length (types policy)
+      → breaks policy (types policy) b s t allow.1 never.1 ≡ false)
       → first_clash policy never allow ≡ None
   unfolding first_clash
   no_first none = none_at (clash_of_source policy never allow) (types policy)
-      (λ j z h. rw (named j z h) (no_source j (λ b t low inside. none b j t low (slice_get_within (types policy) j z h) inside)))
+      (λ j z h. rw (named j z h)
+      (no_source j (λ b t low inside. none b j t low (slice_get_within (types policy) j z h) inside)))
 
 module _ (policy : List Statement) (v : Numbered) (is : IsFirstViolation policy (types policy) v) where
   names : List Name
@@ -102,38 +109,46 @@ module _ (policy : List Statement) (v : Numbered) (is : IsFirstViolation policy 
   unfolding clash found
   at_perm = rw is.broken refl
 
-  at_pair : clash_of_pair policy is.never is.allow (at (types policy) v.source) (at (types policy) v.target) ≡ Some found
+  at_pair : clash_of_pair policy is.never is.allow (at (types policy) v.source) (at (types policy) v.target)
+      ≡ Some found
   unfolding clash_of_pair
   at_pair =
-      first_at (clash policy is.never is.allow (at (types policy) v.source) (at (types policy) v.target)) perm_numbers is.bit is.bit found (number_there is.bit is.low) at_perm
-      (λ j z less h. rw (number_is j z h) (no_clash policy is.never is.allow j v.source v.target (is.no_lesser_perm j less)))
+      first_at (clash policy is.never is.allow (at (types policy) v.source) (at (types policy) v.target)) perm_numbers
+      is.bit is.bit found (number_there is.bit is.low) at_perm
+      (λ j z less h. rw (number_is j z h)
+      (no_clash policy is.never is.allow j v.source v.target (is.no_lesser_perm j less)))
 
   at_source : clash_of_source policy is.never is.allow (at (types policy) v.source) ≡ Some found
   unfolding clash_of_source
   at_source =
-      first_at (clash_of_pair policy is.never is.allow (at (types policy) v.source)) (types policy) v.target (at (types policy) v.target) found
+      first_at (clash_of_pair policy is.never is.allow (at (types policy) v.source)) (types policy) v.target
+      (at (types policy) v.target) found
       (slice_get-get_or (types policy) v.target [] is.target) at_pair
-      (λ j z less h. rw (named policy is.never is.allow j z h) (no_pair policy is.never is.allow v.source j (λ b low. is.no_lesser_target b j less low)))
+      (λ j z less h. rw (named policy is.never is.allow j z h)
+      (no_pair policy is.never is.allow v.source j (λ b low. is.no_lesser_target b j less low)))
 
   at_rules : first_clash policy is.never is.allow ≡ Some found
   unfolding first_clash
   at_rules =
       first_at (clash_of_source policy is.never is.allow) (types policy) v.source (at (types policy) v.source) found
       (slice_get-get_or (types policy) v.source [] is.source) at_source
-      (λ j z less h. rw (named policy is.never is.allow j z h) (no_source policy is.never is.allow j (λ b t low inside. is.no_lesser_source b j t less low inside)))
+      (λ j z less h. rw (named policy is.never is.allow j z h)
+      (no_source policy is.never is.allow j (λ b t low inside. is.no_lesser_source b j t less low inside)))
 
   at_never : clash_of_never policy is.never ≡ Some found
   unfolding clash_of_never
   at_never =
       first_at (first_clash policy is.never) (allow_rules policy) is.allow_place is.allow found is.allow_found at_rules
-      (λ j z less h. no_first policy is.never z (λ b s t low source target. is.no_earlier_allow j b s t z less h low source target))
+      (λ j z less h. no_first policy is.never z
+      (λ b s t low source target. is.no_earlier_allow j b s t z less h low source target))
 
   found_first : first_violation policy ≡ Some found
   unfolding first_violation clash_of_never
   found_first =
       first_at (clash_of_never policy) (neverallow_rules policy) is.never_place is.never found is.never_found at_never
       (λ j z less h. none_at (first_clash policy z) (allow_rules policy)
-      (λ i w g. no_first policy z w (λ b s t low source target. is.no_earlier_never j i b s t z w less h g low source target)))
+      (λ i w g. no_first policy z w
+      (λ b s t low source target. is.no_earlier_never j i b s t z w less h g low source target)))
 
   pub violation_is : first_violation policy ≡ Some (named_violation (types policy) v)
   unfolding found
@@ -145,16 +160,25 @@ unfolding first_violation clash_of_never
 no_violation policy consistent =
     none_at (clash_of_never policy) (neverallow_rules policy)
     (λ j z h. none_at (first_clash policy z) (allow_rules policy)
-    (λ i w g. no_first policy z w (λ b s t low source target. apart i j w z (at (types policy) s) (at (types policy) t) (class_at b) (perm_at b) g h)))
+    (λ i w g. no_first policy z w
+    (λ b s t low source target.
+    apart i j w z (at (types policy) s) (at (types policy) t) (class_at b) (perm_at b) g h)))
   where
-    apart : (i j : ℕ) (allow never : ℕ × Rule) (s t : Name) (class : Class) (perm : Perms) → slice_get (allow_rules policy) i ≡ Some allow → slice_get (neverallow_rules policy) j ≡ Some never
+    apart : (i j : ℕ) (allow never : ℕ × Rule) (s t : Name) (class : Class) (perm : Perms)
+        → slice_get (allow_rules policy) i ≡ Some allow → slice_get (neverallow_rules policy) j ≡ Some never
         → (covers policy s t class perm allow.1 && covers policy s t class perm never.1) ≡ false
-    apart i j allow never s t class perm found_allow found_never = by (covers policy s t class perm allow.1) (covers policy s t class perm never.1) refl refl where
-      by : (a n : Bool) → covers policy s t class perm allow.1 ≡ a → covers policy s t class perm never.1 ≡ n → (a && n) ≡ false
-      by false n ha hn = refl
-      by true false ha hn = refl
-      by true true ha hn =
-          let w = written_any policy s t class perm ∙ any_at (λ (r : ℕ × Rule). covers policy s t class perm r.1) (allow_rules policy) i allow found_allow ha in
-          let f = forbidden_any policy s t class perm ∙ any_at (λ (r : ℕ × Rule). covers policy s t class perm r.1) (neverallow_rules policy) j never found_never hn in
-          let both : (written policy s t class perm && forbidden policy s t class perm) ≡ true = rw (w, f) refl in
-          sym both ∙ consistent s t class perm
+    apart i j allow never s t class perm found_allow found_never =
+        by (covers policy s t class perm allow.1) (covers policy s t class perm never.1) refl refl where
+          by : (a n : Bool) → covers policy s t class perm allow.1 ≡ a → covers policy s t class perm never.1 ≡ n
+              → (a && n) ≡ false
+          by false n ha hn = refl
+          by true false ha hn = refl
+          by true true ha hn =
+              let w = written_any policy s t class perm
+              ∙ any_at (λ (r : ℕ × Rule). covers policy s t class perm r.1) (allow_rules policy) i allow found_allow
+              ha in
+              let f = forbidden_any policy s t class perm
+              ∙ any_at (λ (r : ℕ × Rule). covers policy s t class perm r.1) (neverallow_rules policy) j never
+              found_never hn in
+              let both : (written policy s t class perm && forbidden policy s t class perm) ≡ true = rw (w, f) refl in
+              sym both ∙ consistent s t class perm

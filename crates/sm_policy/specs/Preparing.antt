@@ -93,15 +93,16 @@ is_undeclared_line statements line = is_entry line && not (declares statements (
 -- The first such line, from line n on. A line that repeats a key counts too.
 abbrev pub undeclared_from : List Statement → ℕ → List (List ℕ) → Option ℕ
 undeclared_from statements n [] = None
-undeclared_from statements n (line ∷ more) = if is_undeclared_line statements line then Some n else undeclared_from statements (n + 1) more
+undeclared_from statements n (line ∷ more) =
+    if is_undeclared_line statements line then Some n else undeclared_from statements (n + 1) more
 
 unfoldable pub labels_of : List Statement → List ℕ → Step (List Entry)
 labels_of statements text =
     through of_contexts (contexts.read text)
     >>= λ entries. refused_by UndeclaredLabel (undeclared_from statements 1 (lines text)) entries
 
--- The policy of a rule text and a contexts text, or the first refusal: the grammar of the rule text, its declarations, its
--- rules, then the contexts text and its types, then the neverallow rules.
+-- The policy of a rule text and a contexts text, or the first refusal: the grammar of the rule text, its declarations,
+-- its rules, then the contexts text and its types, then the neverallow rules.
 unfoldable pub prepared : List ℕ → List ℕ → Step Policy
 prepared rules contexts = do
   statements ← rules_of rules

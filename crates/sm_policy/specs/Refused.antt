@@ -35,13 +35,15 @@ rules_words access.Memory = codes "memory"
 abbrev pub contexts_words : ContextsFault → List ℕ
 contexts_words labels.TooLarge = codes "contexts: too large"
 contexts_words (labels.BadLine n) = numbered (codes "contexts: bad line ") n
-contexts_words (labels.Conflict n m) = numbered (codes "contexts: line ") m ++ numbered (codes " gives another context than line ") n
+contexts_words (labels.Conflict n m) =
+    numbered (codes "contexts: line ") m ++ numbered (codes " gives another context than line ") n
 contexts_words (labels.TwoDefaults n) = numbered (codes "contexts: second default at line ") n
 contexts_words labels.NoDefault = codes "contexts: no default"
 contexts_words labels.Memory = codes "memory"
 
 abbrev pub broken_words : ℕ → ℕ → List ℕ
-broken_words never allow = numbered (codes "neverallow at line ") never ++ numbered (codes " by allow at line ") allow ++ codes ": "
+broken_words never allow =
+    numbered (codes "neverallow at line ") never ++ numbered (codes " by allow at line ") allow ++ codes ": "
 
 -- The two lines, and the source, the target, the class and the permission.
 abbrev pub violation_words : Violation → List ℕ

@@ -1,5 +1,6 @@
 -- The first neverallow rule that is broken, and by what.
 use Rattle.std.specs.Prelude.{ℕ, ◌&&◌, if◌then◌else◌, List, [], ◌∷◌, Option, Some, None}
+use Rattle.std.specs.Option.{option_or}
 use Rattle.sm_ruletext.specs.declared.rule.Rule.{Rule}
 use Rattle.sm_ruletext.specs.declared.statement.Statement.{Statement}
 use Rattle.sm_types.specs.Denoting.{types}
@@ -10,13 +11,9 @@ use Rattle.sm_neverallow.specs.declared.violation.Violation.{Violation as Number
 use Rattle.sm_policy.specs.declared.violation.Violation.{Violation}
 
 -- The first that f gives of the items, in their order.
-abbrev pub or_else : {B : Type 0} → Option B → Option B → Option B
-or_else (Some y) other = Some y
-or_else None other = other
-
 abbrev pub first_some : {A B : Type 0} → (A → Option B) → List A → Option B
 first_some f [] = None
-first_some f (x ∷ xs) = or_else (f x) (first_some f xs)
+first_some f (x ∷ xs) = option_or (f x) (first_some f xs)
 
 -- The numbers of the permissions.
 abbrev pub perm_numbers : List ℕ
@@ -26,7 +23,14 @@ perm_numbers = 0 ∷ 1 ∷ 2 ∷ 3 ∷ 4 ∷ 5 ∷ 6 ∷ []
 unfoldable pub clash : List Statement → ℕ × Rule → ℕ × Rule → List ℕ → List ℕ → ℕ → Option Violation
 clash policy never allow s t b =
     if covers policy s t (class_at b) (perm_at b) allow.1 && covers policy s t (class_at b) (perm_at b) never.1
-    then Some (record { never_line = never.0; allow_line = allow.0; source = s; target = t; class = class_at b; perm = perm_at b })
+    then Some (record {
+      never_line = never.0;
+      allow_line = allow.0;
+      source = s;
+      target = t;
+      class = class_at b;
+      perm = perm_at b;
+    })
     else None
 
 unfoldable pub clash_of_pair : List Statement → ℕ × Rule → ℕ × Rule → List ℕ → List ℕ → Option Violation
@@ -35,16 +39,16 @@ clash_of_pair policy never allow s t = first_some (clash policy never allow s t)
 unfoldable pub clash_of_source : List Statement → ℕ × Rule → ℕ × Rule → List ℕ → Option Violation
 clash_of_source policy never allow s = first_some (clash_of_pair policy never allow s) (types policy)
 
--- What two rules have in common first: the least source, then the least target, then the first permission. Types are in the
--- order of their declaration.
+-- What two rules have in common first: the least source, then the least target, then the first permission. Types are in
+-- the order of their declaration.
 unfoldable pub first_clash : List Statement → ℕ × Rule → ℕ × Rule → Option Violation
 first_clash policy never allow = first_some (clash_of_source policy never allow) (types policy)
 
 unfoldable pub clash_of_never : List Statement → ℕ × Rule → Option Violation
 clash_of_never policy never = first_some (first_clash policy never) (allow_rules policy)
 
--- The first neverallow rule in the order of the text that is broken, then the first allow rule that breaks it, then what
--- they have in common first.
+-- The first neverallow rule in the order of the text that is broken, then the first allow rule that breaks it, then
+-- what they have in common first.
 unfoldable pub first_violation : List Statement → Option Violation
 first_violation policy = first_some (clash_of_never policy) (neverallow_rules policy)
 

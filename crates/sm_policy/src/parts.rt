@@ -12,6 +12,7 @@ use std::alloc::Global;
 use std::marker::Model;
 
 /// A policy's statements, with its types and rules as tables, and its labels.
+#[derive(Drop)]
 pub struct Parts {
     statements: Vec<Statement>,
     types: Types,
@@ -28,17 +29,6 @@ impl Model for Parts {
     ghost view = { λ p. record { statements = p.statements.items; entries = p.contexts } };
 
     ghost invariant = { λ p. AreOneText p.statements.items p.types p.rules };
-}
-
-impl Drop for Parts {
-    fn drop(self) {
-        let Parts {
-            statements: _,
-            types: _,
-            rules: _,
-            contexts: _,
-        } = self;
-    }
 }
 
 impl Parts {

@@ -28,6 +28,7 @@ impl Model for Prepared {
     ghost invariant = { λ p. IsConsistent (arc_value p.parts) };
 }
 
+// By hand: where a policy is let go, a caller's proof has one step, and not those of its parts.
 impl Drop for Prepared {
     fn drop(self) {
         let Prepared { parts: _ } = self;

@@ -5,6 +5,7 @@ use sm_kinds::{Class, Context, Perms};
 use std::marker::Model;
 
 /// A policy with its version: the number of the `Open` and `Reload` entries up to the one that brought it.
+#[derive(Drop)]
 pub struct Snapshot {
     prepared: Prepared,
     version: u64,
@@ -16,15 +17,6 @@ impl Model for Snapshot {
     ghost Value = { Versioned };
 
     ghost view = { λ s. record { policy = s.prepared; number = s.version } };
-}
-
-impl Drop for Snapshot {
-    fn drop(self) {
-        let Snapshot {
-            prepared: _,
-            version: _,
-        } = self;
-    }
 }
 
 impl Snapshot {

@@ -21,11 +21,13 @@ ok_parts {A} {B} a c b d e =
     (ap (λ (p : A × B). p.0) h, ap (λ (p : A × B). p.1) h)
 
 -- a name that was read is the word in front, and is not `self`
-pub name_taken : (line : ℕ) (ts us : Tokens) (name : List ℕ) → name_at line ts ≡ Ok (name, us) → (l : ℕ) × (ts ≡ (l, Word name) ∷ us) × (is_self name ≡ false)
+pub name_taken : (line : ℕ) (ts us : Tokens) (name : List ℕ) → name_at line ts ≡ Ok (name, us)
+    → (l : ℕ) × (ts ≡ (l, Word name) ∷ us) × (is_self name ≡ false)
 unfolding name_at
 name_taken line [] us name e = absurd cc
 name_taken line ((l, Word w) ∷ ts) us name e = word_taken (is_self w) refl e where
-  word_taken : (b : Bool) → is_self w ≡ b → cond {A = Read (List ℕ)} b (Err (Syntax line)) (Ok (w, ts)) ≡ Ok (name, us) → (k : ℕ) × ((l, Word w) ∷ ts ≡ (k, Word name) ∷ us) × (is_self name ≡ false)
+  word_taken : (b : Bool) → is_self w ≡ b → cond {A = Read (List ℕ)} b (Err (Syntax line)) (Ok (w, ts)) ≡ Ok (name, us)
+      → (k : ℕ) × ((l, Word w) ∷ ts ≡ (k, Word name) ∷ us) × (is_self name ≡ false)
   word_taken true h f = absurd cc
   word_taken false h f = let p = ok_parts w name ts us f in (l, cc, rw p.0 at h)
 name_taken line ((l, Semicolon) ∷ ts) us name e = absurd cc
@@ -43,28 +45,39 @@ unfolding kind_at
 kind_taken line [] us k e = absurd cc
 kind_taken line ((l, m) ∷ ts) us k e = let p = ok_parts m k ts us e in (l, cc)
 
-names_comma : (line l : ℕ) (names : List (List ℕ)) (ts us : Tokens) (name : List ℕ) → name_at line ts ≡ Ok (name, us) → names_at line names ((l, Comma) ∷ ts) ≡ names_at line (names ++ name ∷ []) us
+names_comma : (line l : ℕ) (names : List (List ℕ)) (ts us : Tokens) (name : List ℕ) → name_at line ts ≡ Ok (name, us)
+    → names_at line names ((l, Comma) ∷ ts) ≡ names_at line (names ++ name ∷ []) us
 unfolding names_at
 names_comma line l names ts us name e =
     let t = name_taken line ts us name e in
     rw (t.1, t.2) refl
 
-pub names_turn : (line : ℕ) (names more : List (List ℕ)) (ts us vs : Tokens) (k : Kind) (name : List ℕ) (total : Read (List (List ℕ)))
-    → kind_at line ts ≡ Ok (k, us) → k ≡ Comma → name_at line us ≡ Ok (name, vs) → more ≡ names ++ name ∷ [] → names_at line names ts ≡ total → names_at line more vs ≡ total
+pub names_turn : (line : ℕ) (names more : List (List ℕ)) (ts us vs : Tokens) (k : Kind) (name : List ℕ)
+    (total : Read (List (List ℕ)))
+    → kind_at line ts ≡ Ok (k, us) → k ≡ Comma → name_at line us ≡ Ok (name, vs) → more ≡ names ++ name ∷ []
+    → names_at line names ts ≡ total → names_at line more vs ≡ total
 names_turn line names more ts us vs k name total kind-is comma-is name-is more-is so_far =
     let t = kind_taken line ts us k kind-is in
-    rw more-is (sym (names_comma line t.0 names us vs name name-is) ∙ (ap (λ (x : Kind). names_at line names ((t.0, x) ∷ us)) (sym comma-is) ∙ (ap (λ (x : Tokens). names_at line names x) (sym t.1) ∙ so_far)))
+    rw more-is (sym (names_comma line t.0 names us vs name name-is)
+    ∙ (ap (λ (x : Kind). names_at line names ((t.0, x) ∷ us)) (sym comma-is)
+    ∙ (ap (λ (x : Tokens). names_at line names x) (sym t.1) ∙ so_far)))
 
-group_dash : (line l depth : ℕ) (may_self fresh : Bool) (items : Items) (ts us : Tokens) (name : List ℕ) → name_at line ts ≡ Ok (name, us)
-    → group_at line may_self depth fresh items ((l, Dash) ∷ ts) ≡ group_at line may_self depth false (record items { minus = items.minus ++ name ∷ [] }) us
+group_dash : (line l depth : ℕ) (may_self fresh : Bool) (items : Items) (ts us : Tokens) (name : List ℕ)
+    → name_at line ts ≡ Ok (name, us)
+    → group_at line may_self depth fresh items ((l, Dash) ∷ ts)
+    ≡ group_at line may_self depth false (record items { minus = items.minus ++ name ∷ [] }) us
 unfolding group_at
 group_dash line l depth may_self fresh items ts us name e =
     let t = name_taken line ts us name e in
     rw (t.1, t.2) refl
 
-pub group_turn : (line depth : ℕ) (may_self fresh : Bool) (items : Items) (more : List (List ℕ)) (ts us vs : Tokens) (k : Kind) (name : List ℕ) (total : Read Items)
-    → kind_at line ts ≡ Ok (k, us) → k ≡ Dash → name_at line us ≡ Ok (name, vs) → more ≡ items.minus ++ name ∷ [] → group_at line may_self depth fresh items ts ≡ total
+pub group_turn : (line depth : ℕ) (may_self fresh : Bool) (items : Items) (more : List (List ℕ)) (ts us vs : Tokens)
+    (k : Kind) (name : List ℕ) (total : Read Items)
+    → kind_at line ts ≡ Ok (k, us) → k ≡ Dash → name_at line us ≡ Ok (name, vs) → more ≡ items.minus ++ name ∷ []
+    → group_at line may_self depth fresh items ts ≡ total
     → group_at line may_self depth false (record items { minus = more }) vs ≡ total
 group_turn line depth may_self fresh items more ts us vs k name total kind-is dash-is name-is more-is so_far =
     let t = kind_taken line ts us k kind-is in
-    rw more-is (sym (group_dash line t.0 depth may_self fresh items us vs name name-is) ∙ (ap (λ (x : Kind). group_at line may_self depth fresh items ((t.0, x) ∷ us)) (sym dash-is) ∙ (ap (λ (x : Tokens). group_at line may_self depth fresh items x) (sym t.1) ∙ so_far)))
+    rw more-is (sym (group_dash line t.0 depth may_self fresh items us vs name name-is)
+    ∙ (ap (λ (x : Kind). group_at line may_self depth fresh items ((t.0, x) ∷ us)) (sym dash-is)
+    ∙ (ap (λ (x : Tokens). group_at line may_self depth fresh items x) (sym t.1) ∙ so_far)))

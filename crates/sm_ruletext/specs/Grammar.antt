@@ -53,7 +53,8 @@ name_at line ts = Err (Syntax line)
 -- a comma before each further name, and the semicolon
 unfoldable pub names_at : ℕ → List (List ℕ) → Tokens → Read (List (List ℕ))
 names_at line names ((l, Semicolon) ∷ ts) = Ok (names, ts)
-names_at line names ((l, Comma) ∷ (m, Word w) ∷ ts) = if is_self w then Err (Syntax line) else names_at line (names ++ w ∷ []) ts
+names_at line names ((l, Comma) ∷ (m, Word w) ∷ ts) =
+    if is_self w then Err (Syntax line) else names_at line (names ++ w ∷ []) ts
 names_at line names ts = Err (Syntax line)
 
 -- ---- sets
@@ -67,12 +68,16 @@ with_word line may_self items w =
     if is_self w then (if may_self then Ok (record items { to_self = true }) else Err (Syntax line))
     else Ok (record items { plus = items.plus ++ w ∷ [] })
 
--- The items up to the `}` of the group. `depth` groups stand open inside it; `fresh` says that a `{` stands just before.
+-- The items up to the `}` of the group. `depth` groups stand open inside it;
+-- `fresh` says that a `{` stands just before.
 unfoldable pub group_at : ℕ → Bool → ℕ → Bool → Items → Tokens → Read Items
-group_at line may_self depth fresh items ((l, Word w) ∷ ts) = with_word line may_self items w >>= λ i. group_at line may_self depth false i ts
+group_at line may_self depth fresh items ((l, Word w) ∷ ts) =
+    with_word line may_self items w >>= λ i. group_at line may_self depth false i ts
 group_at line may_self depth fresh items ((l, Dash) ∷ (m, Word w) ∷ ts) =
-    if is_self w then Err (Syntax line) else group_at line may_self depth false (record items { minus = items.minus ++ w ∷ [] }) ts
-group_at line may_self depth fresh items ((l, Star) ∷ ts) = group_at line may_self depth false (record items { all = true }) ts
+    if is_self w then Err (Syntax line)
+    else group_at line may_self depth false (record items { minus = items.minus ++ w ∷ [] }) ts
+group_at line may_self depth fresh items ((l, Star) ∷ ts) =
+    group_at line may_self depth false (record items { all = true }) ts
 group_at line may_self depth fresh items ((l, Open) ∷ ts) = group_at line may_self (suc depth) true items ts
 group_at line may_self zero false items ((l, Close) ∷ ts) = Ok (items, ts)
 group_at line may_self (suc depth) false items ((l, Close) ∷ ts) = group_at line may_self depth false items ts
@@ -86,8 +91,10 @@ items_from line may_self k ts = Err (Syntax line)
 
 -- the set of these items, and whether `self` is among them
 abbrev pub set_of : ℕ → Bool → Items → Set × Bool
-set_of line complement items =
-    (record { line = line; all = items.all; complement = complement; plus = items.plus; minus = items.minus }, items.to_self)
+set_of line complement items = (
+  record { line = line; all = items.all; complement = complement; plus = items.plus; minus = items.minus },
+  items.to_self,
+)
 
 unfoldable pub set_from : ℕ → Bool → Kind → Tokens → Read (Set × Bool)
 set_from line may_self Star ts = Ok (set_of line false (record no_items { all = true }), ts)
@@ -112,4 +119,7 @@ rule_at line ts = do
   class ← set_at line false colon.1
   perm ← set_at line false class.1
   end ← semicolon_at line perm.1
-  Ok (record { source = source.0.0; target = target.0.0; class = class.0.0; perm = perm.0.0; to_self = target.0.1 }, end.1)
+  Ok (
+    record { source = source.0.0; target = target.0.0; class = class.0.0; perm = perm.0.0; to_self = target.0.1 },
+    end.1,
+  )

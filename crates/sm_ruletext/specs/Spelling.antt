@@ -21,35 +21,47 @@ use Rattle.sm_ruletext.specs.Grammar.{no_items, set_of}
 
 -- item, or item item ..: one item or more, which add to the items before them
 pub data SpellsItems (may_self : Bool) : Tokens → Items → Items → Type 0 where
-  name : (l : ℕ) (w : List ℕ) (i : Items) → is_self w ≡ false → SpellsItems may_self ((l, Word w) ∷ []) i (record i { plus = i.plus ++ w ∷ [] })
-  own : (l : ℕ) (w : List ℕ) (i : Items) → is_self w ≡ true → may_self ≡ true → SpellsItems may_self ((l, Word w) ∷ []) i (record i { to_self = true })
-  less : (l m : ℕ) (w : List ℕ) (i : Items) → is_self w ≡ false → SpellsItems may_self ((l, Dash) ∷ (m, Word w) ∷ []) i (record i { minus = i.minus ++ w ∷ [] })
+  name : (l : ℕ) (w : List ℕ) (i : Items) → is_self w ≡ false
+      → SpellsItems may_self ((l, Word w) ∷ []) i (record i { plus = i.plus ++ w ∷ [] })
+  own : (l : ℕ) (w : List ℕ) (i : Items) → is_self w ≡ true → may_self ≡ true
+      → SpellsItems may_self ((l, Word w) ∷ []) i (record i { to_self = true })
+  less : (l m : ℕ) (w : List ℕ) (i : Items) → is_self w ≡ false
+      → SpellsItems may_self ((l, Dash) ∷ (m, Word w) ∷ []) i (record i { minus = i.minus ++ w ∷ [] })
   star : (l : ℕ) (i : Items) → SpellsItems may_self ((l, Star) ∷ []) i (record i { all = true })
-  group : (l m : ℕ) (ts : Tokens) (i j : Items) → SpellsItems may_self ts i j → SpellsItems may_self ((l, Open) ∷ (ts ++ (m, Close) ∷ [])) i j
-  more : (ts us : Tokens) (i j k : Items) → SpellsItems may_self ts i j → SpellsItems may_self us j k → SpellsItems may_self (ts ++ us) i k
+  group : (l m : ℕ) (ts : Tokens) (i j : Items) → SpellsItems may_self ts i j
+      → SpellsItems may_self ((l, Open) ∷ (ts ++ (m, Close) ∷ [])) i j
+  more : (ts us : Tokens) (i j k : Items) → SpellsItems may_self ts i j → SpellsItems may_self us j k
+      → SpellsItems may_self (ts ++ us) i k
 
 -- word or group
 pub data SpellsSimple (may_self : Bool) : Tokens → Items → Type 0 where
-  name : (l : ℕ) (w : List ℕ) → is_self w ≡ false → SpellsSimple may_self ((l, Word w) ∷ []) (record no_items { plus = w ∷ [] })
-  own : (l : ℕ) (w : List ℕ) → is_self w ≡ true → may_self ≡ true → SpellsSimple may_self ((l, Word w) ∷ []) (record no_items { to_self = true })
-  group : (l m : ℕ) (ts : Tokens) (i : Items) → SpellsItems may_self ts no_items i → SpellsSimple may_self ((l, Open) ∷ (ts ++ (m, Close) ∷ [])) i
+  name : (l : ℕ) (w : List ℕ) → is_self w ≡ false
+      → SpellsSimple may_self ((l, Word w) ∷ []) (record no_items { plus = w ∷ [] })
+  own : (l : ℕ) (w : List ℕ) → is_self w ≡ true → may_self ≡ true
+      → SpellsSimple may_self ((l, Word w) ∷ []) (record no_items { to_self = true })
+  group : (l m : ℕ) (ts : Tokens) (i : Items) → SpellsItems may_self ts no_items i
+      → SpellsSimple may_self ((l, Open) ∷ (ts ++ (m, Close) ∷ [])) i
 
 -- set = * | ~ word | ~ group | word | group
 pub data SpellsSet (line : ℕ) (may_self : Bool) : Tokens → Set × Bool → Type 0 where
   all : (l : ℕ) → SpellsSet line may_self ((l, Star) ∷ []) (set_of line false (record no_items { all = true }))
-  complement : (l : ℕ) (ts : Tokens) (i : Items) → SpellsSimple false ts i → SpellsSet line may_self ((l, Tilde) ∷ ts) (set_of line true i)
+  complement : (l : ℕ) (ts : Tokens) (i : Items) → SpellsSimple false ts i
+      → SpellsSet line may_self ((l, Tilde) ∷ ts) (set_of line true i)
   simple : (ts : Tokens) (i : Items) → SpellsSimple may_self ts i → SpellsSet line may_self ts (set_of line false i)
 
 -- SOURCE TARGET : CLASS PERM
 pub data SpellsRule (line : ℕ) : Tokens → Rule → Type 0 where
   rule : (l : ℕ) (a b c d : Tokens) (source target class perm : Set × Bool)
-      → SpellsSet line false a source → SpellsSet line true b target → SpellsSet line false c class → SpellsSet line false d perm
-      → SpellsRule line (a ++ (b ++ ((l, Colon) ∷ (c ++ d)))) (record { source = source.0; target = target.0; class = class.0; perm = perm.0; to_self = target.1 })
+      → SpellsSet line false a source → SpellsSet line true b target → SpellsSet line false c class
+      → SpellsSet line false d perm
+      → SpellsRule line (a ++ (b ++ ((l, Colon) ∷ (c ++ d))))
+      (record { source = source.0; target = target.0; class = class.0; perm = perm.0; to_self = target.1 })
 
 -- , A , ..
 pub data SpellsNames : Tokens → List (List ℕ) → Type 0 where
   none : SpellsNames [] []
-  more : (l m : ℕ) (w : List ℕ) (ts : Tokens) (names : List (List ℕ)) → is_self w ≡ false → SpellsNames ts names → SpellsNames ((l, Comma) ∷ (m, Word w) ∷ ts) (w ∷ names)
+  more : (l m : ℕ) (w : List ℕ) (ts : Tokens) (names : List (List ℕ)) → is_self w ≡ false → SpellsNames ts names
+      → SpellsNames ((l, Comma) ∷ (m, Word w) ∷ ts) (w ∷ names)
 
 abbrev pub HasNoSemicolon : Tokens → Type 0
 HasNoSemicolon [] = Unit {0}
@@ -58,20 +70,28 @@ HasNoSemicolon ((l, k) ∷ ts) = HasNoSemicolon ts
 
 -- what stands between the first word of a statement and its semicolon
 pub data SpellsStatement (line : ℕ) : Keyword → Tokens → Option What → Type 0 where
-  attribute : (l : ℕ) (w : List ℕ) → is_self w ≡ false → SpellsStatement line word.Attribute ((l, Word w) ∷ []) (Some (what.Attribute w))
-  types : (l : ℕ) (w : List ℕ) (ts : Tokens) (names : List (List ℕ)) → is_self w ≡ false → SpellsNames ts names → SpellsStatement line word.Types ((l, Word w) ∷ ts) (Some (what.Declared w names))
-  member : (l m : ℕ) (w a : List ℕ) (ts : Tokens) (names : List (List ℕ)) → is_self w ≡ false → is_self a ≡ false → SpellsNames ts names
+  attribute : (l : ℕ) (w : List ℕ) → is_self w ≡ false
+      → SpellsStatement line word.Attribute ((l, Word w) ∷ []) (Some (what.Attribute w))
+  types : (l : ℕ) (w : List ℕ) (ts : Tokens) (names : List (List ℕ)) → is_self w ≡ false → SpellsNames ts names
+      → SpellsStatement line word.Types ((l, Word w) ∷ ts) (Some (what.Declared w names))
+  member : (l m : ℕ) (w a : List ℕ) (ts : Tokens) (names : List (List ℕ)) → is_self w ≡ false → is_self a ≡ false
+      → SpellsNames ts names
       → SpellsStatement line word.Typeattribute ((l, Word w) ∷ (m, Word a) ∷ ts) (Some (what.Member w (a ∷ names)))
-  allow : (ts : Tokens) (r : Rule) → SpellsRule line ts r → SpellsStatement line word.Allow ts (if is_kept r then Some (what.Allow r) else None)
-  neverallow : (ts : Tokens) (r : Rule) → SpellsRule line ts r → SpellsStatement line word.Neverallow ts (if is_kept r then Some (what.Neverallow r) else None)
+  allow : (ts : Tokens) (r : Rule) → SpellsRule line ts r
+      → SpellsStatement line word.Allow ts (if is_kept r then Some (what.Allow r) else None)
+  neverallow : (ts : Tokens) (r : Rule) → SpellsRule line ts r
+      → SpellsStatement line word.Neverallow ts (if is_kept r then Some (what.Neverallow r) else None)
   skipped : (ts : Tokens) → HasNoSemicolon ts → SpellsStatement line word.Skipped ts None
 
 -- The tokens are statements, which add to those before them.
 pub data SpellsText : List Statement → Tokens → List Statement → Type 0 where
   end : (sts : List Statement) → SpellsText sts [] sts
-  empty : (l : ℕ) (ts : Tokens) (sts all : List Statement) → SpellsText sts ts all → SpellsText sts ((l, Semicolon) ∷ ts) all
-  stated : (line l : ℕ) (w : List ℕ) (vs ts : Tokens) (what : Option What) (sts more all : List Statement) → SpellsStatement line (keyword_of w) vs what
-      → with_statement line sts what ≡ Ok more → SpellsText more ts all → SpellsText sts ((line, Word w) ∷ (vs ++ (l, Semicolon) ∷ ts)) all
+  empty : (l : ℕ) (ts : Tokens) (sts all : List Statement) → SpellsText sts ts all
+      → SpellsText sts ((l, Semicolon) ∷ ts) all
+  stated : (line l : ℕ) (w : List ℕ) (vs ts : Tokens) (what : Option What) (sts more all : List Statement)
+      → SpellsStatement line (keyword_of w) vs what
+      → with_statement line sts what ≡ Ok more → SpellsText more ts all
+      → SpellsText sts ((line, Word w) ∷ (vs ++ (l, Semicolon) ∷ ts)) all
 
 -- neither a word nor a semicolon
 abbrev pub BeginsNoStatement : Kind → Type 0
@@ -81,18 +101,26 @@ BeginsNoStatement k = Unit {0}
 
 -- no statement of the grammar stands in front, behind its first word
 abbrev pub SpellsNone : ℕ → Keyword → Tokens → Type 0
-SpellsNone line k ts = (vs us : Tokens) (l : ℕ) (what : Option What) → ts ≡ vs ++ (l, Semicolon) ∷ us → SpellsStatement line k vs what → ⊥
+SpellsNone line k ts = (vs us : Tokens) (l : ℕ) (what : Option What) → ts ≡ vs ++ (l, Semicolon) ∷ us
+    → SpellsStatement line k vs what → ⊥
 
 -- The tokens are statements, and then the first fault.
 pub data HasFault : List Statement → Tokens → RuleTextFault → Type 0 where
-  empty : (l : ℕ) (ts : Tokens) (sts : List Statement) (e : RuleTextFault) → HasFault sts ts e → HasFault sts ((l, Semicolon) ∷ ts) e
-  stated : (line l : ℕ) (w : List ℕ) (vs ts : Tokens) (what : Option What) (sts more : List Statement) (e : RuleTextFault) → SpellsStatement line (keyword_of w) vs what
-      → with_statement line sts what ≡ Ok more → HasFault more ts e → HasFault sts ((line, Word w) ∷ (vs ++ (l, Semicolon) ∷ ts)) e
-  too_many : (line l : ℕ) (w : List ℕ) (vs ts : Tokens) (what : Option What) (sts : List Statement) → SpellsStatement line (keyword_of w) vs what
+  empty : (l : ℕ) (ts : Tokens) (sts : List Statement) (e : RuleTextFault) → HasFault sts ts e
+      → HasFault sts ((l, Semicolon) ∷ ts) e
+  stated : (line l : ℕ) (w : List ℕ) (vs ts : Tokens) (what : Option What) (sts more : List Statement)
+      (e : RuleTextFault) → SpellsStatement line (keyword_of w) vs what
+      → with_statement line sts what ≡ Ok more → HasFault more ts e
+      → HasFault sts ((line, Word w) ∷ (vs ++ (l, Semicolon) ∷ ts)) e
+  too_many : (line l : ℕ) (w : List ℕ) (vs ts : Tokens) (what : Option What) (sts : List Statement)
+      → SpellsStatement line (keyword_of w) vs what
       → with_statement line sts what ≡ Err TooMany → HasFault sts ((line, Word w) ∷ (vs ++ (l, Semicolon) ∷ ts)) TooMany
-  unsupported : (line : ℕ) (w : List ℕ) (ts : Tokens) (sts : List Statement) → keyword_of w ≡ word.Unknown → HasFault sts ((line, Word w) ∷ ts) (Unsupported line)
-  begins : (line : ℕ) (k : Kind) (ts : Tokens) (sts : List Statement) → BeginsNoStatement k → HasFault sts ((line, k) ∷ ts) (Syntax line)
-  syntax : (line : ℕ) (w : List ℕ) (ts : Tokens) (sts : List Statement) → (keyword_of w ≡ word.Unknown → ⊥) → SpellsNone line (keyword_of w) ts → HasFault sts ((line, Word w) ∷ ts) (Syntax line)
+  unsupported : (line : ℕ) (w : List ℕ) (ts : Tokens) (sts : List Statement) → keyword_of w ≡ word.Unknown
+      → HasFault sts ((line, Word w) ∷ ts) (Unsupported line)
+  begins : (line : ℕ) (k : Kind) (ts : Tokens) (sts : List Statement) → BeginsNoStatement k
+      → HasFault sts ((line, k) ∷ ts) (Syntax line)
+  syntax : (line : ℕ) (w : List ℕ) (ts : Tokens) (sts : List Statement) → (keyword_of w ≡ word.Unknown → ⊥)
+      → SpellsNone line (keyword_of w) ts → HasFault sts ((line, Word w) ∷ ts) (Syntax line)
 
 -- what each error says of the text
 abbrev pub IsFaultOf : RuleTextFault → List ℕ → Type 0

@@ -61,7 +61,8 @@ rule_count sts = count_by (λ s. is_rule s.what) sts
 unfoldable pub with_statement : ℕ → List Statement → Option What → Step (List Statement)
 with_statement line sts None = Ok sts
 with_statement line sts (Some w) =
-    if is_rule w && nat_le MOST_RULES (rule_count sts) then Err TooMany else Ok (sts ++ record { line = line; what = w } ∷ [])
+    if is_rule w && nat_le MOST_RULES (rule_count sts) then Err TooMany
+    else Ok (sts ++ record { line = line; what = w } ∷ [])
 
 -- one statement, whose first token is k
 unfoldable pub statement_from : ℕ → Kind → List Statement → Tokens → Read (List Statement)

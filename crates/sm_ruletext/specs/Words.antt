@@ -10,7 +10,8 @@ is_self w = bytes_eq w (codes "self")
 unfoldable pub is_skipped : List ℕ → Bool
 is_skipped w =
     bytes_eq w (codes "auditallow") || (bytes_eq w (codes "dontaudit") || (bytes_eq w (codes "type_transition")
-    || (bytes_eq w (codes "expandattribute") || (bytes_eq w (codes "allowxperm") || (bytes_eq w (codes "auditallowxperm")
+    || (bytes_eq w (codes "expandattribute")
+    || (bytes_eq w (codes "allowxperm") || (bytes_eq w (codes "auditallowxperm")
     || (bytes_eq w (codes "dontauditxperm") || bytes_eq w (codes "neverallowxperm")))))))
 
 unfoldable pub keyword_of : List ℕ → Keyword

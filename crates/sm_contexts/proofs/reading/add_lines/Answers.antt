@@ -8,21 +8,27 @@ use Rattle.sm_contexts.proofs.reading.add_lines.Goals as goal
 pub returns-in_err-entries-clause-read : goal.returns-in_err-entries-clause-read
 returns-in_err-entries-clause-read c =
     let p = err_from_is_err_and c.from_residual.result c.from_residual.ensures.1 in
-    rw (p.1, p.2) (runs_to_fault c.in_err-entries.field-0.0 c.lines.number c.lines.entries c.in-Some.line.now c.lines.lines c.take.new.self (entries_from 1 no_entries c.args.lines) c.in-Some.ensures.taken c.in_err-entries.ensures.read c.lines.invariant.same)
+    rw (p.1, p.2) (runs_to_fault c.in_err-entries.field-0.0 c.lines.number c.lines.entries c.in-Some.line.now
+    c.lines.lines c.take.new.self (entries_from 1 no_entries c.args.lines) c.in-Some.ensures.taken
+    c.in_err-entries.ensures.read c.lines.invariant.same)
 
 pub lines-preserved : goal.lines-preserved
 lines-preserved c = record {
-  same = runs_on c.lines.number c.lines.entries c.in_ok-entries.entries c.in-Some.line.now c.lines.lines c.take.new.self (entries_from 1 no_entries c.args.lines) c.in-Some.ensures.taken c.in_ok-entries.ensures.read c.lines.invariant.same;
+  same = runs_on c.lines.number c.lines.entries c.in_ok-entries.entries c.in-Some.line.now c.lines.lines c.take.new.self
+      (entries_from 1 no_entries c.args.lines) c.in-Some.ensures.taken c.in_ok-entries.ensures.read
+      c.lines.invariant.same;
   few = omega (arith, c.lines.invariant.few, ap length c.in-Some.ensures.taken);
   short = omega (arith, c.lines.invariant.short, c.in_ok-entries.ensures.few);
 }
 
 pub returns-then-has_default-clause-read : goal.returns-then-has_default-clause-read
 returns-then-has_default-clause-read c = (
-    runs_out c.lines.number c.lines.entries c.lines.lines (entries_from 1 no_entries c.args.lines) c.in_default.ensures.none c.lines.invariant.same
+    runs_out c.lines.number c.lines.entries c.lines.lines (entries_from 1 no_entries c.args.lines)
+    c.in_default.ensures.none c.lines.invariant.same
     ∙ cond-true _ _ _ (sym c.has_default.ensures ∙ c.if-has_default.true))
 
 pub returns-else-has_default-clause-read : goal.returns-else-has_default-clause-read
 returns-else-has_default-clause-read c =
-    runs_out c.lines.number c.lines.entries c.lines.lines (entries_from 1 no_entries c.args.lines) c.in_default.ensures.none c.lines.invariant.same
+    runs_out c.lines.number c.lines.entries c.lines.lines (entries_from 1 no_entries c.args.lines)
+    c.in_default.ensures.none c.lines.invariant.same
     ∙ cond-false _ _ _ (sym c.has_default.ensures ∙ c.if-has_default.false)

@@ -5,4 +5,10 @@ use Rattle.sm_policy.proofs.counts.counted.Goals as goal
 
 pub overflow_cast-result-2 : goal.overflow_cast-result-2
 overflow_cast-result-2 c =
-    omega (arith, c.attribute_count.ensures, ap (length {A = List ℕ}) c.requires.typed.attributes, length-filter_map (λ s. attribute_of s.what) c.args.statements.now, c.requires.few)
+    omega (
+      arith,
+      c.attribute_count.ensures,
+      ap (length {A = List ℕ}) c.requires.typed.attributes,
+      length-filter_map (λ s. attribute_of s.what) c.args.statements.now,
+      c.requires.few,
+    )

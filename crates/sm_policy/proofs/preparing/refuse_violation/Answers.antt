@@ -10,8 +10,10 @@ pub returns-in_ok-named-in-Some-clause-exact : goal.returns-in_ok-named-in-Some-
 unfolding unbroken
 returns-in_ok-named-in-Some-clause-exact c = λ policy typed ruled.
     let first = rw c.in-Some.is at c.in_ok-violation.ensures.some in
-    let is : IsFirstViolation policy (types policy) c.in-Some.violation = rw (← typed.types) (first policy c.args.types.now.symbols.types ruled) in
-    let e : first_violation policy ≡ Some (named_violation (types policy) c.in-Some.violation) = violation_is policy c.in-Some.violation is in
+    let is : IsFirstViolation policy (types policy) c.in-Some.violation =
+    rw (← typed.types) (first policy c.args.types.now.symbols.types ruled) in
+    let e : first_violation policy ≡ Some (named_violation (types policy) c.in-Some.violation) =
+    violation_is policy c.in-Some.violation is in
     rw (e, ← typed.types, ← c.in_ok-named-in-Some.ensures) refl
 
 pub returns-in-None-clause-exact : goal.returns-in-None-clause-exact

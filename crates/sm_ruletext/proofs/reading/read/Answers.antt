@@ -9,7 +9,8 @@ pub returns-clause-found : goal.returns-clause-found
 returns-clause-found c = found_result (λ v. v.items) c.exactly.result c.args.text.now c.exactly.ensures
 
 pub returns-clause-only : goal.returns-clause-only
-returns-clause-only c = λ sts short s. subst (λ x. Gives is_memory (λ v. v.items) c.exactly.result x) (only c.args.text.now sts short s) c.exactly.ensures
+returns-clause-only c = λ sts short s.
+    subst (λ x. Gives is_memory (λ v. v.items) c.exactly.result x) (only c.args.text.now sts short s) c.exactly.ensures
 
 pub returns-clause-faults : goal.returns-clause-faults
 returns-clause-faults c = fault_result (λ v. v.items) c.exactly.result c.args.text.now c.exactly.ensures

@@ -5,4 +5,5 @@ use Rattle.sm_contexts.proofs.Keys.{any_lookup}
 use Rattle.sm_contexts.proofs.entries.Entries.has_default.Goals as goal
 
 pub returns : goal.returns
-returns c = rw c.as_slice.ensures at c.contains_key.ensures ∙ (any_lookup default_key c.self.inside.by_key.entries ∙ ap (list_any (has_key default_key)) c.self.view_is)
+returns c = rw c.as_slice.ensures at c.contains_key.ensures
+    ∙ (any_lookup default_key c.self.inside.by_key.entries ∙ ap (list_any (has_key default_key)) c.self.view_is)

@@ -10,4 +10,5 @@ returns-then-is_empty-clause-none c =
 pub returns-clause-taken : goal.returns-clause-taken
 returns-clause-taken c =
     let some : 0 < length c.self.inside.rest.now = grind arith in
-    rw (← c.self.view_is, c.behind_newline-self-inside.ensures, c.split_at.ensures.front, c.line_len-len.ensures.value) (first_line c.self.inside.rest.now some)
+    rw (← c.self.view_is, c.behind_newline-self-inside.ensures, c.split_at.ensures.front, c.line_len-len.ensures.value)
+    (first_line c.self.inside.rest.now some)
