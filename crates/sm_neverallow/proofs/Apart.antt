@@ -1,6 +1,6 @@
 -- Neverallow rules against all allow rules, by number.
 use Rattle.std.proofs.Common.{inl, inr, ◌≡◌, ℕ, ◌<◌, Bool, true, false, ◌&&◌, ◌||◌, List, Option, Some, None, refl, sym, ◌∙◌, arith, slice_get, true≢false}
-use Rattle.std.specs.Option.{IfNone, IfSome}
+use Rattle.std.specs.Option.{IfNone}
 use Rattle.std.proofs.lemmas.Bool.{cases_lt, ne_eqb, false_from_ne_true, and_parts, and_from}
 use Rattle.sm_bits.specs.Bits.{has, has_bit}
 use Rattle.sm_rules.specs.declared.kept.Kept.{Kept}
@@ -45,7 +45,3 @@ apart_from_each allows never allow count i b s t is found low inside =
 pub none_map : {X : Type 0} (r : Option X) (P Q : Type 0) → (P → Q) → IfNone r P → IfNone r Q
 none_map None P Q f h = f h
 none_map (Some x) P Q f h = tt
-
-pub some_map : {X : Type 0} (r : Option X) (P Q : X → Type 0) → ((x : X) → P x → Q x) → IfSome r P → IfSome r Q
-some_map None P Q f h = tt
-some_map (Some x) P Q f h = f x h

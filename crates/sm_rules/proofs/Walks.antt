@@ -1,13 +1,10 @@
 -- The walk over the statements of a text.
-use Rattle.std.proofs.Common.{◌≡◌, ℕ, ◌+◌, ◌<◌, List, [], ◌∷◌, length, get_or, drop, Option, Some, None, refl, sym, ◌∙◌, add-one, drop-cons}
+use Rattle.std.proofs.Common.{◌≡◌, List, [], ◌∷◌, Option, Some, None, refl, sym, ◌∙◌}
 use Rattle.sm_ruletext.specs.declared.statement.Statement.{Statement}
 use Rattle.sm_types.specs.Denoting.{Policy}
 use Rattle.sm_rules.specs.declared.fault.RulesFault.{RulesFault}
 use Rattle.sm_rules.specs.declared.fault.RulesFault.TheVariants.{Unknown, UnknownPermission, Memory}
 use Rattle.sm_rules.specs.Faults.{fault_of, fault_among, or_else, UnlessMemory}
-
-pub front : (sts : List Statement) (i : ℕ) (st : Statement) → i < length sts → st ≡ get_or sts i st → drop i sts ≡ st ∷ drop (i + 1) sts
-front sts i st h e = rw (add-one i, drop-cons sts i st h, ← e) refl
 
 one_more : (policy : Policy) (st : Statement) (sts : List Statement) → fault_among policy (st ∷ sts) ≡ or_else (fault_of policy st.line st.what) (fault_among policy sts)
 unfolding fault_among

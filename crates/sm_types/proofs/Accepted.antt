@@ -1,5 +1,5 @@
 -- What is known of a policy in which nothing is refused.
-use Rattle.std.proofs.Common.{◌≡◌, ℕ, Bool, true, false, not, ◌||◌, ◌&&◌, List, [], ◌∷◌, ◌++◌, find, option_map, Option, Some, None, Ok, Err, refl, sym, ap, ◌∙◌, append_assoc, true≢false, cond, length, ◌<◌, nat_le}
+use Rattle.std.proofs.Common.{◌≡◌, ℕ, Bool, true, false, not, ◌||◌, List, [], ◌∷◌, ◌++◌, find, option_map, Option, Some, None, Ok, Err, refl, sym, ap, ◌∙◌, append_assoc, true≢false, cond, length, ◌<◌, nat_le}
 use Rattle.std.specs.List.{list_any, cons_option}
 use Rattle.std.specs.Str.{bytes_eq}
 use Rattle.std.proofs.lemmas.Bool.{and_parts, and_right, false_from_ne_true}

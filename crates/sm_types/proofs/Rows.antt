@@ -1,6 +1,8 @@
 -- Rows of attributes as types are added to them.
 use Rattle.std.proofs.Common.{◌≡◌, ℕ, ◌+◌, ◌<◌, Bool, true, false, ◌||◌, ◌&&◌, List, [], length, get_or, take, refl, sym, ap, ◌∙◌, eqb}
 use Rattle.std.specs.Str.{bytes_eq}
+use Rattle.std.proofs.Math.Bool.{or-false}
+use Rattle.std.proofs.lemmas.Bool.{and_right}
 use Rattle.std.proofs.lemmas.List.Folds.{list_any_more}
 use Rattle.sm_bits.specs.Bits.{has, row}
 use Rattle.sm_types.specs.Names.{Name, at}
@@ -10,13 +12,8 @@ use Rattle.sm_kinds.specs.Names.{contains}
 use Rattle.sm_types.specs.declared.symbols.Symbols.{Symbols}
 use Rattle.sm_ruletext.specs.declared.statement.Statement.{Statement}
 
-not_or : (x y : Bool) → x ≡ (x || (y && false))
-not_or true y = refl
-not_or false true = refl
-not_or false false = refl
-
 pub given_none : (old : List (List ℕ)) (attributes : List Name) (t : ℕ) → Given old old attributes [] t
-given_none old attributes t = record { count = refl; room = λ a. refl; given = λ a i h. not_or (has (row old a) i) (eqb i t) }
+given_none old attributes t = record { count = refl; room = λ a. refl; given = λ a i h. sym (rw (and_right (eqb i t) false refl) (or-false (has (row old a) i))) }
 
 or_more : (x y c d : Bool) → ((x || (y && c)) || (y && d)) ≡ (x || (y && (c || d)))
 or_more true y c d = refl

@@ -1,5 +1,5 @@
 -- The pass over the declarations.
-use Rattle.std.proofs.Common.{◌≡◌, ℕ, ◌+◌, ◌<◌, List, [], ◌∷◌, length, drop, get_or, Ok, Err, refl, sym, ◌∙◌, drop-cons, add-one}
+use Rattle.std.proofs.Common.{◌≡◌, List, [], ◌∷◌, Ok, Err, refl, sym, ◌∙◌}
 use Rattle.sm_ruletext.specs.declared.statement.Statement.{Statement}
 use Rattle.sm_types.specs.declared.symbols.Symbols.{Symbols}
 use Rattle.sm_types.specs.declared.fault.TypesFault.{TypesFault}
@@ -31,6 +31,3 @@ declared_fault e total symbols st sts so_far step = by e step where
 pub declared_all : (symbols : Symbols) (sts : List Statement) → sts ≡ [] → declared symbols sts ≡ Ok symbols
 unfolding declared
 declared_all symbols sts none = rw none refl
-
-pub front : (sts : List Statement) (i : ℕ) (st : Statement) → i < length sts → st ≡ get_or sts i st → drop i sts ≡ st ∷ drop (i + 1) sts
-front sts i st h e = rw (add-one i, drop-cons sts i st h, ← e) refl
