@@ -128,21 +128,27 @@ pub record AreSaid (policy : Policy) (names : List Name) (rules : KeptRules) : T
   pub forbidding : (b s t : ℕ) → b < 7 → s < length names → t < length names
       → covered rules.neverallows b s t ≡ forbidden policy (at names s) (at names t) (class_at b) (perm_at b)
 
+-- a tuple of the types by number that is both written and forbidden is covered by an allow rule and by a neverallow rule
+none_both : (policy : Policy) (names : List Name) (rules : KeptRules) (b i j : ℕ) → RulesOf policy names rules → AreSaid policy names rules
+    → AllApart rules.allows rules.neverallows rules.count → b < 7 → i < length names → j < length names
+    → written policy (at names i) (at names j) (class_at b) (perm_at b) ≡ true
+    → forbidden policy (at names i) (at names j) (class_at b) (perm_at b) ≡ true → ⊥
+none_both policy names rules b i j is said apart low hi hj given denied =
+    let never = some_at (covers b i j) rules.neverallows (said.forbidding b i j low hi hj ∙ denied) in
+    let inside : i < rules.count = rw is.count hi in
+    let both : (covered rules.allows b i j && covers b i j never.1) ≡ true =
+        and_from (covered rules.allows b i j) (covers b i j never.1) (said.writing b i j low hi hj ∙ given) never.3 in
+    let none : (covered rules.allows b i j && covers b i j never.1) ≡ false =
+        (apart.apart never.0 never.1 never.2).apart b i j low inside in
+    true≢false (sym both ∙ none)
+
 pub consistent : (policy : Policy) (names : List Name) (rules : KeptRules) → RulesOf policy names rules → AreSaid policy names rules
     → AllApart rules.allows rules.neverallows rules.count → IsConsistent policy
 consistent policy names rules is said apart s t class perm =
     false_from_ne_true (written policy s t class perm && forbidden policy s t class perm) (λ h.
     let parts = and_parts (written policy s t class perm) (forbidden policy s t class perm) h in
     let n = written_numbered policy s t class perm parts.0 in
-    let hs : n.source.0 < length names = rw is.types n.source.1 in
-    let ht : n.target.0 < length names = rw is.types n.target.1 in
     let s_is : at names n.source.0 ≡ s = rw is.types n.source.2 in
     let t_is : at names n.target.0 ≡ t = rw is.types n.target.2 in
-    let given : covered rules.allows n.number.b n.source.0 n.target.0 ≡ true =
-    said.writing n.number.b n.source.0 n.target.0 n.number.low hs ht ∙ (rw (s_is, t_is, n.number.of_class, n.number.is_perm) parts.0) in
-    let denied : covered rules.neverallows n.number.b n.source.0 n.target.0 ≡ true =
-    said.forbidding n.number.b n.source.0 n.target.0 n.number.low hs ht ∙ (rw (s_is, t_is, n.number.of_class, n.number.is_perm) parts.1) in
-    let never = some_at (covers n.number.b n.source.0 n.target.0) rules.neverallows denied in
-    let inside : n.source.0 < rules.count = rw is.count hs in
-    true≢false (sym (and_from (covered rules.allows n.number.b n.source.0 n.target.0) (covers n.number.b n.source.0 n.target.0 never.1) given never.3)
-    ∙ (apart.apart never.0 never.1 never.2).apart n.number.b n.source.0 n.target.0 n.number.low inside))
+    none_both policy names rules n.number.b n.source.0 n.target.0 is said apart n.number.low (rw is.types n.source.1) (rw is.types n.target.1)
+    (rw (s_is, t_is, n.number.of_class, n.number.is_perm) parts.0) (rw (s_is, t_is, n.number.of_class, n.number.is_perm) parts.1))
