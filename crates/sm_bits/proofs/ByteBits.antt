@@ -25,11 +25,13 @@ pub record Told (byte : ℕ) (g : ℕ → Bool) (i : ℕ) : Type 0 where
 pub told_none : (g : ℕ → Bool) → Told 0 g 0
 told_none g = record { below = λ b h. absurd (omega arith); above = λ b h. no_bits b }
 
-pub told_more : (byte more : ℕ) (g : ℕ → Bool) (i : ℕ) → ((b : ℕ) → has_bit more b ≡ (has_bit byte b || (eqb b i && g i))) → Told byte g i → Told more g (i + 1)
+pub told_more : (byte more : ℕ) (g : ℕ → Bool) (i : ℕ)
+    → ((b : ℕ) → has_bit more b ≡ (has_bit byte b || (eqb b i && g i))) → Told byte g i → Told more g (i + 1)
 told_more byte more g i step before = record {
   below = λ b h. elim (cases_eq b i) [
     | inl same ↦ rw (same, step i, before.above i (omega arith), eq-eqb i i refl) refl
     | inr other ↦ rw (step b, before.below b (omega arith), ne_eqb b i other) (or-false (g b))
   ];
-  above = λ b h. (let other : b ≡ i → ⊥ = omega arith in rw (step b, before.above b (omega arith), ne_eqb b i other) refl);
+  above = λ b h. (let other : b ≡ i → ⊥ = omega arith in
+      rw (step b, before.above b (omega arith), ne_eqb b i other) refl);
 }

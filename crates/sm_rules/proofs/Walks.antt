@@ -6,15 +6,18 @@ use Rattle.sm_rules.specs.declared.fault.RulesFault.{RulesFault}
 use Rattle.sm_rules.specs.declared.fault.RulesFault.TheVariants.{Unknown, UnknownPermission, Memory}
 use Rattle.sm_rules.specs.Faults.{fault_of, fault_among, or_else, UnlessMemory}
 
-one_more : (policy : Policy) (st : Statement) (sts : List Statement) → fault_among policy (st ∷ sts) ≡ or_else (fault_of policy st.line st.what) (fault_among policy sts)
+one_more : (policy : Policy) (st : Statement) (sts : List Statement)
+    → fault_among policy (st ∷ sts) ≡ or_else (fault_of policy st.line st.what) (fault_among policy sts)
 unfolding fault_among
 one_more policy st sts = refl
 
-pub passed : (policy : Policy) (st : Statement) (sts : List Statement) (total : Option RulesFault) → fault_among policy (st ∷ sts) ≡ total
+pub passed : (policy : Policy) (st : Statement) (sts : List Statement) (total : Option RulesFault)
+    → fault_among policy (st ∷ sts) ≡ total
     → fault_of policy st.line st.what ≡ None → fault_among policy sts ≡ total
 passed policy st sts total on none = rw none at (sym (one_more policy st sts) ∙ on)
 
-pub stopped : (policy : Policy) (st : Statement) (sts : List Statement) (total : Option RulesFault) (e : RulesFault) → fault_among policy (st ∷ sts) ≡ total
+pub stopped : (policy : Policy) (st : Statement) (sts : List Statement) (total : Option RulesFault) (e : RulesFault)
+    → fault_among policy (st ∷ sts) ≡ total
     → UnlessMemory e (fault_of policy st.line st.what ≡ Some e) → UnlessMemory e (total ≡ Some e)
 stopped policy st sts total e on fault = by e fault where
   found : (f : RulesFault) → fault_of policy st.line st.what ≡ Some f → total ≡ Some f

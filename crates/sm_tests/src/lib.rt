@@ -8,11 +8,15 @@ pub use failing::{FailAt, OneByte};
 #[cfg(test)]
 mod checks;
 #[cfg(test)]
+mod declarations;
+#[cfg(test)]
 mod faults;
 #[cfg(test)]
 mod limits;
 #[cfg(test)]
 mod reloads;
+#[cfg(test)]
+mod rule_texts;
 #[cfg(test)]
 mod scripts;
 #[cfg(test)]

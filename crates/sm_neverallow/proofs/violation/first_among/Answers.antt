@@ -13,28 +13,38 @@ pub returns-in-Some-clause-none : goal.returns-in-Some-clause-none
 returns-in-Some-clause-none c =
     let never = c.index-neverallows-n.result in
     let inside = rw c.in-Some.is at c.in_ok-n.ensures.inside in
-    let found = slice_get_read c.args.neverallows.now (length c.args.neverallows.now) c.in-Some.n never refl inside c.index-neverallows-n.is in
-    let broken : IsBroken c.in_ok-matrices.matrices.items c.args.count never = (rw (c.in-Some.is, c.deref.ensures.value) at c.in_ok-n.ensures.broken) never found in
-    let meets = broken_meets c.args.allows.now c.in_ok-matrices.matrices.items c.args.count never c.in_ok-matrices.ensures broken in
-    let fits = subst (λ (k : Kept). FitsRule c.args.count k) (sym c.index-neverallows-n.is) (All-get_or (FitsRule c.args.count) c.args.neverallows.now c.in-Some.n never inside c.requires.neverallows) in
-    none_map c.first_of.result ((i : ℕ) (allow : Kept) → slice_get c.args.allows.now i ≡ Some allow → AreApart allow never c.args.count) (AllApart c.args.allows.now c.args.neverallows.now c.args.count)
+    let found = slice_get_read c.args.neverallows.now (length c.args.neverallows.now) c.in-Some.n never refl inside
+    c.index-neverallows-n.is in
+    let broken : IsBroken c.in_ok-matrices.matrices.items c.args.count never =
+    (rw (c.in-Some.is, c.deref.ensures.value) at c.in_ok-n.ensures.broken) never found in
+    let meets = broken_meets c.args.allows.now c.in_ok-matrices.matrices.items c.args.count never
+    c.in_ok-matrices.ensures broken in
+    let fits = subst (λ (k : Kept). FitsRule c.args.count k) (sym c.index-neverallows-n.is)
+    (All-get_or (FitsRule c.args.count) c.args.neverallows.now c.in-Some.n never inside c.requires.neverallows) in
+    none_map c.first_of.result ((i : ℕ) (allow : Kept) → slice_get c.args.allows.now i ≡ Some allow
+    → AreApart allow never c.args.count) (AllApart c.args.allows.now c.args.neverallows.now c.args.count)
     (λ apart. absurd (not_all_apart c.args.allows.now never c.args.count fits meets apart)) c.first_of.ensures.none
 
 pub returns-in-Some-clause-some : goal.returns-in-Some-clause-some
 returns-in-Some-clause-some c =
     let never = c.index-neverallows-n.result in
     let inside = rw c.in-Some.is at c.in_ok-n.ensures.inside in
-    let found = slice_get_read c.args.neverallows.now (length c.args.neverallows.now) c.in-Some.n never refl inside c.index-neverallows-n.is in
+    let found = slice_get_read c.args.neverallows.now (length c.args.neverallows.now) c.in-Some.n never refl inside
+    c.index-neverallows-n.is in
     let earlier = rw (c.in-Some.is, c.deref.ensures.value) at c.in_ok-n.ensures.first in
     IfSome_then c.first_of.result c.first_of.ensures.some (λ v first. record {
       place = c.in-Some.n;
       never = never;
       found = found;
       first = first;
-      no_earlier = λ n other h at. clear_apart c.args.allows.now c.in_ok-matrices.matrices.items c.args.count other c.in_ok-matrices.ensures (earlier n other h at);
+      no_earlier = λ n other h at. clear_apart c.args.allows.now c.in_ok-matrices.matrices.items c.args.count other
+          c.in_ok-matrices.ensures (earlier n other h at);
     })
 
 pub returns-clause-none : goal.returns-clause-none
 returns-clause-none c =
     let clear = rw (c.in-None.is, c.deref.ensures.value) at c.in_ok-n.ensures.none in
-    record { apart = λ n never found. clear_apart c.args.allows.now c.in_ok-matrices.matrices.items c.args.count never c.in_ok-matrices.ensures (clear n never found) }
+    record {
+      apart = λ n never found. clear_apart c.args.allows.now c.in_ok-matrices.matrices.items c.args.count never
+          c.in_ok-matrices.ensures (clear n never found);
+    }

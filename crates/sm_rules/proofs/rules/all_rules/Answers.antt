@@ -16,12 +16,19 @@ loop-statement-preserved c =
     let i : ℕ = c.loop-statement.statement-index in
     let f = rw (← c.statement-item.is) at (drop_more sts i c.statement-item.result (omega arith)) in
     record {
-      on = passed sts c.statement-item.result (drop (i + 1) sts) (first_fault sts) (rw f at c.loop-statement.invariant.on) (c.in_ok-draft.ensures.accepted sts c.requires);
-      allowing = rw (picked_more (λ st. allow_in st.line st.what) sts i c.statement-item.result (omega arith) c.statement-item.is)
-          (extended sts names (allow_rules (take i sts)) (allow_in c.statement-item.result.line c.statement-item.result.what) c.loop-statement.draft.allows.items c.in_ok-draft.draft.allows.items
+      on = passed sts c.statement-item.result (drop (i + 1) sts) (first_fault sts)
+          (rw f at c.loop-statement.invariant.on) (c.in_ok-draft.ensures.accepted sts c.requires);
+      allowing = rw (picked_more (λ st. allow_in st.line st.what) sts i c.statement-item.result (omega arith)
+          c.statement-item.is)
+          (extended sts names (allow_rules (take i sts))
+          (allow_in c.statement-item.result.line c.statement-item.result.what) c.loop-statement.draft.allows.items
+          c.in_ok-draft.draft.allows.items
           c.loop-statement.invariant.allowing (c.in_ok-draft.ensures.allows sts c.requires));
-      forbidding = rw (picked_more (λ st. neverallow_in st.line st.what) sts i c.statement-item.result (omega arith) c.statement-item.is)
-          (extended sts names (neverallow_rules (take i sts)) (neverallow_in c.statement-item.result.line c.statement-item.result.what) c.loop-statement.draft.neverallows.items c.in_ok-draft.draft.neverallows.items
+      forbidding = rw (picked_more (λ st. neverallow_in st.line st.what) sts i c.statement-item.result (omega arith)
+          c.statement-item.is)
+          (extended sts names (neverallow_rules (take i sts))
+          (neverallow_in c.statement-item.result.line c.statement-item.result.what)
+          c.loop-statement.draft.neverallows.items c.in_ok-draft.draft.neverallows.items
           c.loop-statement.invariant.forbidding (c.in_ok-draft.ensures.neverallows sts c.requires));
       few = omega (arith, c.loop-statement.invariant.few, c.in_ok-draft.ensures.few);
       fits = c.in_ok-draft.ensures.fits c.loop-statement.invariant.fits;
@@ -34,10 +41,15 @@ returns-in_err-draft-clause-refused c =
     let f = rw (← c.statement-item.is) at (drop_more sts i c.statement-item.result (omega arith)) in
     let p = err_from_is_err_and c.from_residual.result c.from_residual.ensures.1 in
     let e = c.in_err-draft.field-0.0 in
-    let fault = unless_map e ((policy : List Statement) → IsOf policy c.args.types.now → fault_of policy c.statement-item.result.line c.statement-item.result.what ≡ Some e)
-    (fault_of sts c.statement-item.result.line c.statement-item.result.what ≡ Some e) (λ h. h sts c.requires) c.in_err-draft.ensures.refused in
-    rw (p.1, p.2) (stopped sts c.statement-item.result (drop (i + 1) sts) (first_fault sts) e (rw f at c.loop-statement.invariant.on) fault)
+    let fault = unless_map e ((policy : List Statement) → IsOf policy c.args.types.now
+    → fault_of policy c.statement-item.result.line c.statement-item.result.what ≡ Some e)
+    (fault_of sts c.statement-item.result.line c.statement-item.result.what ≡ Some e) (λ h. h sts c.requires)
+    c.in_err-draft.ensures.refused in
+    rw (p.1, p.2) (stopped sts c.statement-item.result (drop (i + 1) sts) (first_fault sts) e
+    (rw f at c.loop-statement.invariant.on) fault)
 
 pub returns-clause-accepted : goal.returns-clause-accepted
 returns-clause-accepted c =
-    sym c.loop-statement.invariant.on ∙ none_left c.args.statements.now (drop c.loop-statement.statement-index c.args.statements.now) (drop_all c.loop-statement.statement-index c.args.statements.now (omega arith))
+    sym c.loop-statement.invariant.on ∙ none_left c.args.statements.now
+    (drop c.loop-statement.statement-index c.args.statements.now)
+    (drop_all c.loop-statement.statement-index c.args.statements.now (omega arith))
