@@ -1,23 +1,16 @@
 -- Bits of a byte.
-use Rattle.std.proofs.Common.{inl, inr, ◌≡◌, ℕ, ◌+◌, ◌*◌, ◌^◌, ◌%◌, ◌<◌, ◌≤◌, Bool, true, false, ◌&&◌, ◌||◌, eqb, refl, w8, arith}
+use Rattle.std.proofs.Common.{inl, inr, ◌≡◌, ℕ, ◌+◌, ◌*◌, ◌^◌, ◌%◌, ◌<◌, ◌≤◌, Bool, false, ◌&&◌, ◌||◌, eqb, refl, sym, w8, arith}
 use Rattle.std.specs.Prelude.{bit_or}
+use Rattle.std.proofs.Math.Bool.{or-false, or-true}
 use Rattle.std.proofs.lemmas.Bool.{cases_eq, eq-eqb, ne_eqb}
 use Rattle.std.proofs.lemmas.Nat.Bits.{bit_at_set_same, bit_at_set_other, bit_at-zero}
 use Rattle.sm_bits.specs.Bits.{has_bit}
 
-or_true : (x : Bool) → true ≡ (x || true)
-or_true true = refl
-or_true false = refl
-
-or_false : (x : Bool) → x ≡ (x || false)
-or_false true = refl
-or_false false = refl
-
 pub bit_added : (n k b : ℕ) → k < 8 → has_bit (bit_or n (1 * 2 ^ k % 2 ^ 8)) b ≡ (has_bit n b || eqb b k)
 unfolding has_bit
 bit_added n k b h = elim (cases_eq b k) [
-  | inl same ↦ rw (same, bit_at_set_same w8 n k h, eq-eqb k k refl) (or_true _)
-  | inr other ↦ rw (bit_at_set_other w8 n k h b other, ne_eqb b k other) (or_false _)
+  | inl same ↦ rw (same, bit_at_set_same w8 n k h, eq-eqb k k refl) (sym (or-true _))
+  | inr other ↦ rw (bit_at_set_other w8 n k h b other, ne_eqb b k other) (sym (or-false _))
 ]
 
 pub no_bits : (b : ℕ) → has_bit 0 b ≡ false
@@ -32,15 +25,13 @@ pub record Told (byte : ℕ) (g : ℕ → Bool) (i : ℕ) : Type 0 where
 pub told_none : (g : ℕ → Bool) → Told 0 g 0
 told_none g = record { below = λ b h. absurd (omega arith); above = λ b h. no_bits b }
 
-pub told_more : (byte more : ℕ) (g : ℕ → Bool) (i : ℕ) → ((b : ℕ) → has_bit more b ≡ (has_bit byte b || (eqb b i && g i))) → Told byte g i → Told more g (i + 1)
+pub told_more : (byte more : ℕ) (g : ℕ → Bool) (i : ℕ)
+    → ((b : ℕ) → has_bit more b ≡ (has_bit byte b || (eqb b i && g i))) → Told byte g i → Told more g (i + 1)
 told_more byte more g i step before = record {
   below = λ b h. elim (cases_eq b i) [
     | inl same ↦ rw (same, step i, before.above i (omega arith), eq-eqb i i refl) refl
-    | inr other ↦ rw (step b, before.below b (omega arith), ne_eqb b i other) (back (g b))
+    | inr other ↦ rw (step b, before.below b (omega arith), ne_eqb b i other) (or-false (g b))
   ];
-  above = λ b h. (let other : b ≡ i → ⊥ = omega arith in rw (step b, before.above b (omega arith), ne_eqb b i other) refl);
+  above = λ b h. (let other : b ≡ i → ⊥ = omega arith in
+      rw (step b, before.above b (omega arith), ne_eqb b i other) refl);
 }
-  where
-    back : (x : Bool) → (x || false) ≡ x
-    back true = refl
-    back false = refl

@@ -15,7 +15,8 @@ row_old : (rows : List (List ℕ)) (r : List ℕ) (a : ℕ) → a < length rows 
 row_old rows r a h = get_or_append_left rows (r ∷ []) [] a h
 
 row_new : (rows : List (List ℕ)) (r : List ℕ) (a : ℕ) → a ≡ length rows → row (rows ++ r ∷ []) a ≡ r
-row_new rows r a h = get_or-append_right rows (r ∷ []) (length rows) a [] refl (omega arith) ∙ (let z : a - length rows ≡ 0 = omega arith in rw z refl)
+row_new rows r a h = get_or-append_right rows (r ∷ []) (length rows) a [] refl (omega arith)
+    ∙ (let z : a - length rows ≡ 0 = omega arith in rw z refl)
 
 pub row_past : (rows : List (List ℕ)) (a i : ℕ) → length rows ≤ a → has (row rows a) i ≡ false
 row_past rows a i h = rw (get_or_past rows a [] h) (has_past [] i (omega arith))
@@ -23,7 +24,8 @@ row_past rows a i h = rw (get_or_past rows a [] h) (has_past [] i (omega arith))
 pub empty_none : (w : ℕ) → Empty [] 0 w
 empty_none w = record { count = refl; room = λ a h. absurd (omega arith); none = λ a i. row_past [] a i (omega arith) }
 
-pub empty_more : (rows new : List (List ℕ)) (r : List ℕ) (n w : ℕ) → new ≡ rows ++ r ∷ [] → length r ≡ w → ((i : ℕ) → has r i ≡ false) → Empty rows n w → Empty new (n + 1) w
+pub empty_more : (rows new : List (List ℕ)) (r : List ℕ) (n w : ℕ) → new ≡ rows ++ r ∷ [] → length r ≡ w
+    → ((i : ℕ) → has r i ≡ false) → Empty rows n w → Empty new (n + 1) w
 empty_more rows new r n w is wide nothing before = rw is (record {
   count = length-append rows (r ∷ []) ∙ (omega (arith, before.count));
   room = λ a h. elim (cases_lt a (length rows)) [

@@ -38,20 +38,31 @@ same_place : (i j : ℕ) → j / 64 ≡ i / 64 → j % 64 ≡ i % 64 → j ≡ i
 same_place i j h g = omega arith
 
 pub has_added : (words : List ℕ) (i j : ℕ) → i / 64 < length words
-    → has (set words (i / 64) (bit_or (get_or words (i / 64) 0) (1 * 2 ^ (i % 64) % 2 ^ 64))) j ≡ (eqb j i || has words j)
+    → has (set words (i / 64) (bit_or (get_or words (i / 64) 0) (1 * 2 ^ (i % 64) % 2 ^ 64))) j
+    ≡ (eqb j i || has words j)
 has_added words i j inside =
     let small : i % 64 < 64 = omega arith in
     let v : ℕ = bit_or (get_or words (i / 64) 0) (1 * 2 ^ (i % 64) % 2 ^ 64) in
     elim (cases_eq (j / 64) (i / 64)) [
-      | inl same ↦ (let read : get_or (set words (i / 64) v) (j / 64) 0 ≡ v = rw same (get_or-set_same words (i / 64) v 0 inside) in
+      | inl same ↦ (let read : get_or (set words (i / 64) v) (j / 64) 0 ≡ v =
+          rw same (get_or-set_same words (i / 64) v 0 inside) in
           elim (cases_eq (j % 64) (i % 64)) [
             | inl at ↦ (let e : eqb j i ≡ true = eq-eqb j i (same_place i j same at) in
-                has_is (set words (i / 64) v) j ∙ (rw (read, at, bit_at_set_same w64 (get_or words (i / 64) 0) (i % 64) small, e) refl))
+                has_is (set words (i / 64) v) j ∙ (rw
+                (read, at, bit_at_set_same w64 (get_or words (i / 64) 0) (i % 64) small, e) refl))
             | inr off ↦ (let e : eqb j i ≡ false = ne_eqb j i (λ q. off (ap (λ (n : ℕ). n % 64) q)) in
-                has_is (set words (i / 64) v) j ∙ (rw (read, bit_at_set_other w64 (get_or words (i / 64) 0) (i % 64) small (j % 64) off, e, has_is words j, same) refl))
+                has_is (set words (i / 64) v) j ∙ (rw (
+                  read,
+                  bit_at_set_other w64 (get_or words (i / 64) 0) (i % 64) small (j % 64) off,
+                  e,
+                  has_is words
+                      j,
+                  same,
+                ) refl))
           ])
       | inr other ↦ (let e : eqb j i ≡ false = ne_eqb j i (λ q. other (ap (λ (n : ℕ). n / 64) q)) in
-          has_is (set words (i / 64) v) j ∙ (rw (get_or-set_other words (i / 64) (j / 64) v 0 other, e, has_is words j) refl))
+          has_is (set words (i / 64) v) j ∙ (rw (get_or-set_other words (i / 64) (j / 64) v 0 other, e, has_is words j)
+          refl))
     ]
 
 -- ---- a change of all words in turn, by f on bits; the words below i are done
@@ -65,16 +76,20 @@ pub turned : (f : Bool → Bool → Bool) (old new other : List ℕ) (i v : ℕ)
 turned f old new other i v inside by t = record {
   below = λ j h. elim (cases_eq (j / 64) i) [
     | inl same ↦ (let read : get_or (set new i v) (j / 64) 0 ≡ v = rw same (get_or-set_same new i v 0 inside) in
-        let was : bit_is (get_or new i 0) (j % 64) ≡ has old j = sym (rw same at (has_is new j)) ∙ t.above j (omega arith) in
+        let was : bit_is (get_or new i 0) (j % 64) ≡ has old j = sym (rw same at (has_is new j))
+        ∙ t.above j (omega arith) in
         let with : bit_is (get_or other i 0) (j % 64) ≡ has other j = sym (rw same at (has_is other j)) in
         has_is (set new i v) j ∙ (rw (read, by (j % 64) (omega arith), was, with) refl))
-    | inr diff ↦ has_is (set new i v) j ∙ (rw (get_or-set_other new i (j / 64) v 0 diff, ← has_is new j) (t.below j (omega arith)))
+    | inr diff ↦ has_is (set new i v) j ∙
+        (rw (get_or-set_other new i (j / 64) v 0 diff, ← has_is new j) (t.below j (omega arith)))
   ];
-  above = λ j h. let diff : j / 64 ≢ i = omega arith in has_is (set new i v) j ∙ (rw (get_or-set_other new i (j / 64) v 0 diff, ← has_is new j) (t.above j (omega arith)));
+  above = λ j h. let diff : j / 64 ≢ i = omega arith in has_is (set new i v) j
+      ∙ (rw (get_or-set_other new i (j / 64) v 0 diff, ← has_is new j) (t.above j (omega arith)));
 }
 
 -- past the end, nothing was to be done
-pub turned_all : (f : Bool → Bool → Bool) (old new other : List ℕ) → f false false ≡ false → length new ≡ length old → length old ≡ length other
+pub turned_all : (f : Bool → Bool → Bool) (old new other : List ℕ) → f false false ≡ false → length new ≡ length old
+    → length old ≡ length other
     → (i : ℕ) → length new ≤ i → Turned f old new other i → (j : ℕ) → has new j ≡ f (has old j) (has other j)
 turned_all f old new other none e g i end t j = elim (cases_lt (j / 64) (length new)) [
   | inl h ↦ t.below j (omega arith)
@@ -99,34 +114,44 @@ and_bits x y b = rw (bit_at_and x y b) (elim (bit_cases x b) [
 ])
 
 pub not_bits : (y b : ℕ) → y < 2 ^ 64 → b < 64 → bit_is (bit_not w64 y) b ≡ not (bit_is y b)
-not_bits y b fits small = rw (bit_at_not w64 y b fits small) (elim (bit_cases y b) [ inl e ↦ rw e refl | inr e ↦ rw e refl ])
+not_bits y b fits small = rw (bit_at_not w64 y b fits small)
+    (elim (bit_cases y b) [ inl e ↦ rw e refl | inr e ↦ rw e refl ])
 
-pub without_bits : (x y b : ℕ) → y < 2 ^ 64 → b < 64 → bit_is (bit_and x (bit_not w64 y)) b ≡ (bit_is x b && not (bit_is y b))
-without_bits x y b fits small = and_bits x (bit_not w64 y) b ∙ ap (λ (c : Bool). bit_is x b && c) (not_bits y b fits small)
+pub without_bits : (x y b : ℕ) → y < 2 ^ 64 → b < 64
+    → bit_is (bit_and x (bit_not w64 y)) b ≡ (bit_is x b && not (bit_is y b))
+without_bits x y b fits small = and_bits x (bit_not w64 y) b
+    ∙ ap (λ (c : Bool). bit_is x b && c) (not_bits y b fits small)
 
 -- ---- two rows that meet nowhere below word i
-pub apart : (xs ys : List ℕ) (i : ℕ) → ((j : ℕ) → j / 64 < i → (has xs j && has ys j) ≡ false) → bit_and (get_or xs i 0) (get_or ys i 0) ≡ 0
+pub apart : (xs ys : List ℕ) (i : ℕ) → ((j : ℕ) → j / 64 < i → (has xs j && has ys j) ≡ false)
+    → bit_and (get_or xs i 0) (get_or ys i 0) ≡ 0
     → (j : ℕ) → j / 64 < i + 1 → (has xs j && has ys j) ≡ false
 apart xs ys i before here j h = elim (cases_eq (j / 64) i) [
-  | inl same ↦ rw (has_is xs j, has_is ys j, same) (sym (and_bits (get_or xs i 0) (get_or ys i 0) (j % 64)) ∙ (rw (here, bit_at-zero (j % 64)) refl))
+  | inl same ↦ rw (has_is xs j, has_is ys j, same)
+      (sym (and_bits (get_or xs i 0) (get_or ys i 0) (j % 64)) ∙ (rw (here, bit_at-zero (j % 64)) refl))
   | inr diff ↦ before j (omega arith)
 ]
 
-pub apart_all : (xs ys : List ℕ) (i : ℕ) → length xs ≤ i → ((j : ℕ) → j / 64 < i → (has xs j && has ys j) ≡ false) → (j : ℕ) → (has xs j && has ys j) ≡ false
+pub apart_all : (xs ys : List ℕ) (i : ℕ) → length xs ≤ i → ((j : ℕ) → j / 64 < i → (has xs j && has ys j) ≡ false)
+    → (j : ℕ) → (has xs j && has ys j) ≡ false
 apart_all xs ys i end before j = elim (cases_lt (j / 64) (length xs)) [
   | inl h ↦ before j (omega arith)
   | inr h ↦ rw (has_past xs j h) refl
 ]
 
-pub together : (xs ys : List ℕ) (i : ℕ) → 0 < bit_and (get_or xs i 0) (get_or ys i 0) → bit_and (get_or xs i 0) (get_or ys i 0) < 2 ^ 64
+pub together : (xs ys : List ℕ) (i : ℕ) → 0 < bit_and (get_or xs i 0) (get_or ys i 0)
+    → bit_and (get_or xs i 0) (get_or ys i 0) < 2 ^ 64
     → (j : ℕ) × ((has xs j && has ys j) ≡ true)
 together xs ys i some fits =
     let w : ℕ = bit_and (get_or xs i 0) (get_or ys i 0) in
     let b : ℕ = trailing_zeros w64 w in
     let found = bit_at-trailing_zeros w64 w some fits in
     let word : (64 * i + b) / 64 ≡ i = omega (arith, found.0) in
-    let place : (64 * i + b) % 64 ≡ b = omega (arith, found.0) in
-    (64 * i + b, rw (has_is xs (64 * i + b), has_is ys (64 * i + b), word, place) (sym (and_bits (get_or xs i 0) (get_or ys i 0) b) ∙ (rw found.1 refl)))
+    let place : (64 * i + b) % 64 ≡ b = omega (arith, found.0) in (
+      64 * i + b,
+      rw (has_is xs (64 * i + b), has_is ys (64 * i + b), word, place)
+          (sym (and_bits (get_or xs i 0) (get_or ys i 0) b) ∙ (rw found.1 refl)),
+    )
 
 -- what two rows have in common below word i, gathered in one word
 pub record Gathered (xs ys : List ℕ) (common i : ℕ) : Type 0 where
@@ -136,7 +161,8 @@ pub record Gathered (xs ys : List ℕ) (common i : ℕ) : Type 0 where
 pub gathered_none : (xs ys : List ℕ) → Gathered xs ys 0 0
 gathered_none xs ys = record { none = λ e j h. absurd (omega arith); some = λ h. absurd (omega arith) }
 
-pub gathered_more : (xs ys : List ℕ) (common i : ℕ) → bit_and (get_or xs i 0) (get_or ys i 0) < 2 ^ 64 → Gathered xs ys common i
+pub gathered_more : (xs ys : List ℕ) (common i : ℕ) → bit_and (get_or xs i 0) (get_or ys i 0) < 2 ^ 64
+    → Gathered xs ys common i
     → Gathered xs ys (bit_or common (bit_and (get_or xs i 0) (get_or ys i 0))) (i + 1)
 gathered_more xs ys common i fits before =
     let here : ℕ = bit_and (get_or xs i 0) (get_or ys i 0) in
@@ -149,7 +175,8 @@ gathered_more xs ys common i fits before =
           record { none = λ e. absurd (omega arith); some = λ h. before.some (omega arith) })
     ]
 
-pub gathered_all : (xs ys : List ℕ) (common i : ℕ) → length xs ≤ i → not (eqb common 0) ≡ false → Gathered xs ys common i → (j : ℕ) → (has xs j && has ys j) ≡ false
+pub gathered_all : (xs ys : List ℕ) (common i : ℕ) → length xs ≤ i → not (eqb common 0) ≡ false
+    → Gathered xs ys common i → (j : ℕ) → (has xs j && has ys j) ≡ false
 gathered_all xs ys common i end nothing g = elim (cases_eq common 0) [
   | inl zero ↦ apart_all xs ys i end (g.none zero)
   | inr some ↦ absurd (true≢false (rw (ne_eqb common 0 some) at nothing))

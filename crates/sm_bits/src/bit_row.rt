@@ -18,6 +18,7 @@ impl Model for BitRow {
     ghost view = { λ row. row.words.items };
 }
 
+// Written by hand, so that a row that is dropped behind a loop is one step for its callers.
 impl Drop for BitRow {
     fn drop(self) {
         let BitRow { words: _ } = self;

@@ -12,7 +12,8 @@ some_at p xs h =
     (found.0, found.1, slice_get_read xs (length xs) found.0 found.1 refl found.2 (sym found.3), found.4)
 
 -- the item at some place passes: some item does
-pub any_at : {X : Type 0} (p : X → Bool) (xs : List X) (i : ℕ) (x : X) → slice_get xs i ≡ Some x → p x ≡ true → list_any p xs ≡ true
+pub any_at : {X : Type 0} (p : X → Bool) (xs : List X) (i : ℕ) (x : X) → slice_get xs i ≡ Some x → p x ≡ true
+    → list_any p xs ≡ true
 any_at p xs i x found h =
     list_any_at p xs i x (slice_get_within xs i x found) (rw (get_or_from_slice_get xs i x x found) h)
 

@@ -38,7 +38,8 @@ pub record UnionHits (unions : List (List ℕ)) (group : ℕ) (rule : Kept) : Ty
 
 -- The rule joins no source of the group to a target of its row, but maybe by `self`.
 pub record MissesGroup (rows : List (List ℕ)) (group : ℕ) (rule : Kept) : Type 0 where
-  pub misses : (k t : ℕ) → k < 8 → (has (row rows (8 * group + k)) t && (has rule.sources (8 * group + k) && has rule.targets t)) ≡ false
+  pub misses : (k t : ℕ) → k < 8 → (has (row rows (8 * group + k)) t
+      && (has rule.sources (8 * group + k) && has rule.targets t)) ≡ false
 
 -- ---- several groups that follow each other
 
@@ -93,7 +94,8 @@ rule_at rules places k = slice_get rules (get_or places k 0)
 pub record Chosen (rules : List Kept) (set n : ℕ) (places : List ℕ) : Type 0 where
   pub below : (k : ℕ) → k < length places → get_or places k 0 < n
   pub of_set : (k : ℕ) (rule : Kept) → k < length places → rule_at rules places k ≡ Some rule → perm_set rule ≡ set
-  pub all : (m : ℕ) (rule : Kept) → m < n → slice_get rules m ≡ Some rule → perm_set rule ≡ set → (k : ℕ) × (k < length places) × (get_or places k 0 ≡ m)
+  pub all : (m : ℕ) (rule : Kept) → m < n → slice_get rules m ≡ Some rule → perm_set rule ≡ set
+      → (k : ℕ) × (k < length places) × (get_or places k 0 ≡ m)
   pub rising : (j k : ℕ) → j < k → k < length places → get_or places j 0 < get_or places k 0
 
 -- The first of the places below the end whose rule hits, if one does: no rule before it does.

@@ -51,13 +51,16 @@ pub record Grouped (rules : List Kept) (count set : ℕ) (rows : List (List ℕ)
 pub record Joined (old new : List (List (List ℕ))) (count set : ℕ) (pairs : ℕ → ℕ → Bool) : Type 0 where
   pub number : length new ≡ 7
   pub square : AllSquare new count
-  pub says : (b s t : ℕ) → b < 7 → s < count → has (row (matrix new b) s) t ≡ (has (row (matrix old b) s) t || (has_bit set b && pairs s t))
+  pub says : (b s t : ℕ) → b < 7 → s < count → has (row (matrix new b) s) t
+      ≡ (has (row (matrix old b) s) t || (has_bit set b && pairs s t))
 
 -- The rows have the pairs that the matrices have for the permissions of a set below n, and no others.
 pub record IsUnion (matrices : List (List (List ℕ))) (count set n : ℕ) (rows : List (List ℕ)) : Type 0 where
   pub square : Square rows count
-  pub all : (b s t : ℕ) → b < n → s < count → has_bit set b ≡ true → has (row (matrix matrices b) s) t ≡ true → has (row rows s) t ≡ true
-  pub only : (s t : ℕ) → s < count → has (row rows s) t ≡ true → (b : ℕ) × (b < n) × (has_bit set b ≡ true) × (has (row (matrix matrices b) s) t ≡ true)
+  pub all : (b s t : ℕ) → b < n → s < count → has_bit set b ≡ true → has (row (matrix matrices b) s) t ≡ true
+      → has (row rows s) t ≡ true
+  pub only : (s t : ℕ) → s < count → has (row rows s) t ≡ true
+      → (b : ℕ) × (b < n) × (has_bit set b ≡ true) × (has (row (matrix matrices b) s) t ≡ true)
 
 -- ---- rules against matrices
 

@@ -32,7 +32,8 @@ pub record FitsBatch (count : ℕ) (batch : Batch) : Type 0 where
 
 -- The pair is in the rows, in the batch, or of a source that is its own target.
 abbrev pub in_gathered : Gathered → ℕ → ℕ → Bool
-in_gathered gathered s t = has (row gathered.rows.items s) t || in_batch gathered.batch s t || (has gathered.own s && nat_eq s t)
+in_gathered gathered s t = has (row gathered.rows.items s) t || in_batch gathered.batch s t
+    || (has gathered.own s && nat_eq s t)
 
 pub record FitsGathered (count : ℕ) (gathered : Gathered) : Type 0 where
   pub square : Square gathered.rows.items count

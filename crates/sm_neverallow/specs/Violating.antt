@@ -63,7 +63,8 @@ pub record IsFirstAmong (allows neverallows : List Kept) (count : ℕ) (v : Viol
   pub never : Kept
   pub found : slice_get neverallows place ≡ Some never
   pub first : IsFirstOf allows never count v
-  pub no_earlier : (n : ℕ) (other : Kept) → n < place → slice_get neverallows n ≡ Some other → IsApart allows count other
+  pub no_earlier : (n : ℕ) (other : Kept) → n < place → slice_get neverallows n ≡ Some other
+      → IsApart allows count other
 
 -- No allow rule has anything in common with a neverallow rule.
 pub record AllApart (allows neverallows : List Kept) (count : ℕ) : Type 0 where
@@ -96,10 +97,14 @@ pub record IsFirstViolation (policy : Policy) (names : List Name) (v : Violation
   pub source : v.source < length names
   pub target : v.target < length names
   pub broken : breaks policy names bit v.source v.target allow.1 never.1 ≡ true
-  pub no_earlier_never : (n a b s t : ℕ) (other from : ℕ × Rule) → n < never_place → slice_get (neverallow_rules policy) n ≡ Some other
-      → slice_get (allow_rules policy) a ≡ Some from → b < 7 → s < length names → t < length names → breaks policy names b s t from.1 other.1 ≡ false
-  pub no_earlier_allow : (a b s t : ℕ) (other : ℕ × Rule) → a < allow_place → slice_get (allow_rules policy) a ≡ Some other
+  pub no_earlier_never : (n a b s t : ℕ) (other from : ℕ × Rule) → n < never_place
+      → slice_get (neverallow_rules policy) n ≡ Some other
+      → slice_get (allow_rules policy) a ≡ Some from → b < 7 → s < length names → t < length names
+      → breaks policy names b s t from.1 other.1 ≡ false
+  pub no_earlier_allow : (a b s t : ℕ) (other : ℕ × Rule) → a < allow_place
+      → slice_get (allow_rules policy) a ≡ Some other
       → b < 7 → s < length names → t < length names → breaks policy names b s t other.1 never.1 ≡ false
-  pub no_lesser_source : (b s t : ℕ) → s < v.source → b < 7 → t < length names → breaks policy names b s t allow.1 never.1 ≡ false
+  pub no_lesser_source : (b s t : ℕ) → s < v.source → b < 7 → t < length names
+      → breaks policy names b s t allow.1 never.1 ≡ false
   pub no_lesser_target : (b t : ℕ) → t < v.target → b < 7 → breaks policy names b v.source t allow.1 never.1 ≡ false
   pub no_lesser_perm : (b : ℕ) → b < bit → breaks policy names b v.source v.target allow.1 never.1 ≡ false

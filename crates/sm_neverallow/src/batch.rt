@@ -44,20 +44,12 @@ fn move_places(places: &mut [usize], sources: &BitRow, weight: usize)
 /// Rules whose targets are not yet in the rows of their sources.
 ///
 /// A row takes one union for all rules of the batch, in place of the targets of each.
+#[derive(Drop)]
 pub struct Batch {
     /// The unions of the targets of these rules.
     unions: Unions,
     /// For each source, the place of the union for those rules that have it.
     places: Vec<usize>,
-}
-
-impl Drop for Batch {
-    fn drop(self) {
-        let Batch {
-            unions: _,
-            places: _,
-        } = self;
-    }
 }
 
 impl Batch {

@@ -6,8 +6,6 @@ mod gathered;
 mod hits;
 mod matrix;
 mod perm_sets;
-#[cfg(test)]
-mod tests;
 mod unions;
 mod violation;
 

@@ -137,6 +137,7 @@ fn own_sources(alloc: Global, rows: &[BitRow], count: TypeCount) -> Result<BitRo
 }
 
 /// A matrix of bits, a row for each source; contracts see it as the list of its rows.
+#[derive(Drop)]
 pub struct Matrix {
     rows: Vec<BitRow>,
 }
@@ -147,12 +148,6 @@ impl Model for Matrix {
     ghost Value = { List (List ℕ) };
 
     ghost view = { λ m. m.rows.items };
-}
-
-impl Drop for Matrix {
-    fn drop(self) {
-        let Matrix { rows: _ } = self;
-    }
 }
 
 impl Matrix {

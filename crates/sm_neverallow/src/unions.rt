@@ -50,6 +50,7 @@ fn double(
 }
 
 /// The unions of all subsets of some rows; contracts see the list of these unions.
+#[derive(Drop)]
 pub struct Unions {
     rows: Vec<BitRow>,
 }
@@ -60,12 +61,6 @@ impl Model for Unions {
     ghost Value = { List (List ℕ) };
 
     ghost view = { λ unions. unions.rows.items };
-}
-
-impl Drop for Unions {
-    fn drop(self) {
-        let Unions { rows: _ } = self;
-    }
 }
 
 impl Unions {

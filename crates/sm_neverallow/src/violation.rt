@@ -262,12 +262,9 @@ pub fn first_violation(alloc: Global, rules: &Rules) -> Result<Option<Violation>
         → (written policy (at names v.source) (at names v.target) v.class v.perm
         && forbidden policy (at names v.source) (at names v.target) v.class v.perm) ≡ true)) }
 {
-    match first_among(
-        alloc,
-        rules.allows(),
-        rules.neverallows(),
-        rules.type_count(),
-    )? {
+    let allows = rules.allows();
+    let neverallows = rules.neverallows();
+    match first_among(alloc, allows, neverallows, rules.type_count())? {
         Some(violation) => Ok(Some(violation)),
         None => Ok(None),
     }

@@ -25,14 +25,17 @@ one_rule : (policy : Policy) (s t : Name) (class : Class) (perm : Perms) (line :
     ≡ list_any (λ (q : ℕ × Rule). access.covers policy s t class perm q.1) (cons_option (kept_only line r) rs)
 one_rule policy s t class perm line r rs = by (is_kept r) refl where
   by : (k : Bool) → is_kept r ≡ k
-      → (access.covers policy s t class perm r || list_any (λ (q : ℕ × Rule). access.covers policy s t class perm q.1) rs)
-      ≡ list_any (λ (q : ℕ × Rule). access.covers policy s t class perm q.1) (cons_option (cond k (Some (line, r)) None) rs)
+      → (access.covers policy s t class perm r || list_any (λ (q : ℕ × Rule). access.covers policy s t class perm q.1)
+      rs)
+      ≡ list_any (λ (q : ℕ × Rule). access.covers policy s t class perm q.1)
+      (cons_option (cond k (Some (line, r)) None) rs)
   by true e = refl
   by false e = rw (and_right (access.joins policy s t r) (gives class perm r) (unkept r class perm e)) refl
 
 -- a tuple is written where some allow rule of the list covers it, and forbidden where some neverallow rule does
 pub written_any : (policy : Policy) (s t : Name) (class : Class) (perm : Perms)
-    → written policy s t class perm ≡ list_any (λ (r : ℕ × Rule). access.covers policy s t class perm r.1) (allow_rules policy)
+    → written policy s t class perm ≡ list_any (λ (r : ℕ × Rule). access.covers policy s t class perm r.1)
+    (allow_rules policy)
 written_any policy s t class perm = among policy where
   among : (sts : List Statement) → list_any (access.allows policy s t class perm) sts
       ≡ list_any (λ (r : ℕ × Rule). access.covers policy s t class perm r.1) (allow_rules sts)
@@ -41,7 +44,8 @@ written_any policy s t class perm = among policy where
     by : (what : What) → list_any (access.allows policy s t class perm) sts
         ≡ list_any (λ (r : ℕ × Rule). access.covers policy s t class perm r.1) (allow_rules sts)
         → (access.allowed_by policy s t class perm what || list_any (access.allows policy s t class perm) sts)
-        ≡ list_any (λ (r : ℕ × Rule). access.covers policy s t class perm r.1) (cons_option (allow_in st.line what) (allow_rules sts))
+        ≡ list_any (λ (r : ℕ × Rule). access.covers policy s t class perm r.1)
+        (cons_option (allow_in st.line what) (allow_rules sts))
     by (Allow r) e = rw e (one_rule policy s t class perm st.line r (allow_rules sts))
     by (Neverallow r) e = e
     by (Attribute n) e = e
@@ -49,7 +53,8 @@ written_any policy s t class perm = among policy where
     by (Member n names) e = e
 
 pub forbidden_any : (policy : Policy) (s t : Name) (class : Class) (perm : Perms)
-    → forbidden policy s t class perm ≡ list_any (λ (r : ℕ × Rule). access.covers policy s t class perm r.1) (neverallow_rules policy)
+    → forbidden policy s t class perm ≡ list_any (λ (r : ℕ × Rule). access.covers policy s t class perm r.1)
+    (neverallow_rules policy)
 forbidden_any policy s t class perm = among policy where
   among : (sts : List Statement) → list_any (access.forbids policy s t class perm) sts
       ≡ list_any (λ (r : ℕ × Rule). access.covers policy s t class perm r.1) (neverallow_rules sts)
@@ -58,7 +63,8 @@ forbidden_any policy s t class perm = among policy where
     by : (what : What) → list_any (access.forbids policy s t class perm) sts
         ≡ list_any (λ (r : ℕ × Rule). access.covers policy s t class perm r.1) (neverallow_rules sts)
         → (access.forbidden_by policy s t class perm what || list_any (access.forbids policy s t class perm) sts)
-        ≡ list_any (λ (r : ℕ × Rule). access.covers policy s t class perm r.1) (cons_option (neverallow_in st.line what) (neverallow_rules sts))
+        ≡ list_any (λ (r : ℕ × Rule). access.covers policy s t class perm r.1)
+        (cons_option (neverallow_in st.line what) (neverallow_rules sts))
     by (Neverallow r) e = rw e (one_rule policy s t class perm st.line r (neverallow_rules sts))
     by (Allow r) e = e
     by (Attribute n) e = e
@@ -67,7 +73,8 @@ forbidden_any policy s t class perm = among policy where
 
 -- ---- kept rules and the rules that they stand for, place by place
 
-stands_at : (policy : Policy) (names : List Name) (rs : List (ℕ × Rule)) (ks : List Kept) (n : ℕ) (k : Kept) → AllStandFor policy names rs ks → slice_get ks n ≡ Some k
+stands_at : (policy : Policy) (names : List Name) (rs : List (ℕ × Rule)) (ks : List Kept) (n : ℕ) (k : Kept)
+    → AllStandFor policy names rs ks → slice_get ks n ≡ Some k
     → (r : ℕ × Rule) × (slice_get rs n ≡ Some r) × StandsFor policy names r k
 stands_at policy names [] [] n k all found = absurd (cc found)
 stands_at policy names [] (j ∷ ks) n k all found = absurd all
@@ -75,7 +82,8 @@ stands_at policy names (r ∷ rs) [] n k all found = absurd all
 stands_at policy names (r ∷ rs) (j ∷ ks) zero k all found = (let e : j ≡ k = cc found in (r, refl, rw (← e) all.0))
 stands_at policy names (r ∷ rs) (j ∷ ks) (suc n) k all found = stands_at policy names rs ks n k all.1 found
 
-kept_at : (policy : Policy) (names : List Name) (rs : List (ℕ × Rule)) (ks : List Kept) (n : ℕ) (r : ℕ × Rule) → AllStandFor policy names rs ks → slice_get rs n ≡ Some r
+kept_at : (policy : Policy) (names : List Name) (rs : List (ℕ × Rule)) (ks : List Kept) (n : ℕ) (r : ℕ × Rule)
+    → AllStandFor policy names rs ks → slice_get rs n ≡ Some r
     → (k : Kept) × (slice_get ks n ≡ Some k) × StandsFor policy names r k
 kept_at policy names [] [] n r all found = absurd (cc found)
 kept_at policy names [] (j ∷ ks) n r all found = absurd all
@@ -85,7 +93,8 @@ kept_at policy names (q ∷ rs) (j ∷ ks) (suc n) r all found = kept_at policy 
 
 -- ---- kept rules by number
 
-says : (policy : Policy) (names : List Name) (r : ℕ × Rule) (k : Kept) → Distinct names → StandsFor policy names r k → Says policy names r k
+says : (policy : Policy) (names : List Name) (r : ℕ × Rule) (k : Kept) → Distinct names → StandsFor policy names r k
+    → Says policy names r k
 says policy names r k distinct stands = record {
   line = stands.line;
   covers = λ b s t low hs ht. stands_covers policy names r k b s t distinct hs ht low stands;
@@ -94,27 +103,36 @@ says policy names r k distinct stands = record {
 pub all_say : (policy : Policy) (names : List Name) (rs : List (ℕ × Rule)) (ks : List Kept) → Distinct names
     → AllStandFor policy names rs ks → AllSay policy names rs ks
 all_say policy names rs ks distinct all = record {
-  of_kept = λ n k found. (let r = stands_at policy names rs ks n k all found in (r.0, r.1, says policy names r.0 k distinct r.2));
-  of_rule = λ n r found. (let k = kept_at policy names rs ks n r all found in (k.0, k.1, says policy names r k.0 distinct k.2));
+  of_kept = λ n k found. (let r = stands_at policy names rs ks n k all found in
+      (r.0, r.1, says policy names r.0 k distinct r.2));
+  of_rule = λ n r found. (let k = kept_at policy names rs ks n r all found in
+      (k.0, k.1, says policy names r k.0 distinct k.2));
 }
 
 covered_any : (policy : Policy) (names : List Name) (rs : List (ℕ × Rule)) (ks : List Kept) (b s t : ℕ) → Distinct names
     → s < length names → t < length names → b < 7 → AllStandFor policy names rs ks
-    → covered ks b s t ≡ list_any (λ (r : ℕ × Rule). access.covers policy (at names s) (at names t) (class_at b) (perm_at b) r.1) rs
+    → covered ks b s t ≡ list_any (λ (r : ℕ × Rule). access.covers policy (at names s) (at names t) (class_at b)
+    (perm_at b) r.1) rs
 covered_any policy names [] [] b s t distinct hs ht low all = refl
 covered_any policy names [] (k ∷ ks) b s t distinct hs ht low all = absurd all
 covered_any policy names (r ∷ rs) [] b s t distinct hs ht low all = absurd all
 covered_any policy names (r ∷ rs) (k ∷ ks) b s t distinct hs ht low all =
-    rw (stands_covers policy names r k b s t distinct hs ht low all.0, covered_any policy names rs ks b s t distinct hs ht low all.1) refl
+    rw (
+      stands_covers policy names r k b s t distinct hs ht low all.0,
+      covered_any policy names rs ks b s t distinct hs
+          ht low all.1,
+    ) refl
 
-pub covered_is_written : (policy : Policy) (names : List Name) (rules : KeptRules) (b s t : ℕ) → RulesOf policy names rules
+pub covered_is_written : (policy : Policy) (names : List Name) (rules : KeptRules) (b s t : ℕ)
+    → RulesOf policy names rules
     → b < 7 → s < length names → t < length names
     → covered rules.allows b s t ≡ written policy (at names s) (at names t) (class_at b) (perm_at b)
 covered_is_written policy names rules b s t is low hs ht =
     covered_any policy names (allow_rules policy) rules.allows b s t is.distinct hs ht low is.allows
     ∙ sym (written_any policy (at names s) (at names t) (class_at b) (perm_at b))
 
-pub covered_is_forbidden : (policy : Policy) (names : List Name) (rules : KeptRules) (b s t : ℕ) → RulesOf policy names rules
+pub covered_is_forbidden : (policy : Policy) (names : List Name) (rules : KeptRules) (b s t : ℕ)
+    → RulesOf policy names rules
     → b < 7 → s < length names → t < length names
     → covered rules.neverallows b s t ≡ forbidden policy (at names s) (at names t) (class_at b) (perm_at b)
 covered_is_forbidden policy names rules b s t is low hs ht =

@@ -23,47 +23,67 @@ use Rattle.sm_rules.specs.declared.kept.Kept.{Kept}
 -- a rule that isn't kept gives nothing
 pub unkept : (rule : Rule) (class : Class) (perm : Perms) → is_kept rule ≡ false → gives class perm rule ≡ false
 unfolding is_kept gives
-unkept rule ServiceManager perm h = rw (or_parts (selects rule.class (class_word ServiceManager)) (selects rule.class (class_word Binder)) h).0 refl
-unkept rule Binder perm h = rw (or_parts (selects rule.class (class_word ServiceManager)) (selects rule.class (class_word Binder)) h).1 refl
+unkept rule ServiceManager perm h = rw
+    (or_parts (selects rule.class (class_word ServiceManager)) (selects rule.class (class_word Binder)) h).0 refl
+unkept rule Binder perm h = rw (or_parts (selects rule.class (class_word ServiceManager))
+    (selects rule.class (class_word Binder)) h).1 refl
 
 -- nor does a rule give what is no single permission of the class
 unnamed : (rule : Rule) (class : Class) (perm : Perms) → perm_of class perm ≡ None → gives class perm rule ≡ false
 unfolding gives
 unnamed rule class perm h = rw h (and_right (selects rule.class (class_word class)) false refl)
 
-same_place : (names : List Name) (s t : ℕ) → Distinct names → s < length names → t < length names → eqb s t ≡ bytes_eq (at names s) (at names t)
+same_place : (names : List Name) (s t : ℕ) → Distinct names → s < length names → t < length names
+    → eqb s t ≡ bytes_eq (at names s) (at names t)
 same_place names s t distinct hs ht = elim (cases_eq s t) [
   | inl same ↦ eq-eqb s t same ∙ sym ((bytes_eq-Decides (at names s) (at names t)).1 (ap (at names) same))
-  | inr other ↦ ne_eqb s t other ∙ sym (false_from_ne_true (bytes_eq (at names s) (at names t)) (λ e. other (distinct s t hs ht e)))
+  | inr other ↦ ne_eqb s t other ∙ sym
+      (false_from_ne_true (bytes_eq (at names s) (at names t)) (λ e. other (distinct s t hs ht e)))
 ]
 
 -- a kept rule covers by number what its rule covers by name
-pub stands_covers : (policy : Policy) (names : List Name) (r : ℕ × Rule) (k : Kept) (b s t : ℕ) → Distinct names → s < length names → t < length names → b < 7
-    → StandsFor policy names r k → covers b s t k ≡ access.covers policy (at names s) (at names t) (class_at b) (perm_at b) r.1
+pub stands_covers : (policy : Policy) (names : List Name) (r : ℕ × Rule) (k : Kept) (b s t : ℕ) → Distinct names
+    → s < length names → t < length names → b < 7
+    → StandsFor policy names r k → covers b s t k
+    ≡ access.covers policy (at names s) (at names t) (class_at b) (perm_at b) r.1
 unfolding access.joins
 stands_covers policy names r k b s t distinct hs ht hb stands =
-    rw (stands.sources s hs, stands.targets t ht, stands.to_self, stands.perms b hb, same_place names s t distinct hs ht) refl
+    rw (
+      stands.sources s hs,
+      stands.targets t ht,
+      stands.to_self,
+      stands.perms b hb,
+      same_place names s t distinct hs
+          ht,
+    ) refl
 
-lines_stand : (policy : Policy) (names : List Name) (rs : List (ℕ × Rule)) (ks : List Kept) (b s t : ℕ) → Distinct names → s < length names → t < length names → b < 7
+lines_stand : (policy : Policy) (names : List Name) (rs : List (ℕ × Rule)) (ks : List Kept) (b s t : ℕ) → Distinct names
+    → s < length names → t < length names → b < 7
     → AllStandFor policy names rs ks
-    → covered_line ks b s t ≡ option_map (λ (r : ℕ × Rule). r.0) (find (λ r. access.covers policy (at names s) (at names t) (class_at b) (perm_at b) r.1) rs)
+    → covered_line ks b s t ≡ option_map (λ (r : ℕ × Rule). r.0)
+    (find (λ r. access.covers policy (at names s) (at names t) (class_at b) (perm_at b) r.1) rs)
 lines_stand policy names [] [] b s t distinct hs ht hb all = refl
 lines_stand policy names [] (k ∷ ks) b s t distinct hs ht hb all = absurd all
 lines_stand policy names (r ∷ rs) [] b s t distinct hs ht hb all = absurd all
 lines_stand policy names (r ∷ rs) (k ∷ ks) b s t distinct hs ht hb all =
     rw (stands_covers policy names r k b s t distinct hs ht hb all.0)
-    (by (access.covers policy (at names s) (at names t) (class_at b) (perm_at b) r.1) all.0.line (lines_stand policy names rs ks b s t distinct hs ht hb all.1))
+    (by (access.covers policy (at names s) (at names t) (class_at b) (perm_at b) r.1) all.0.line
+    (lines_stand policy names rs ks b s t distinct hs ht hb all.1))
   where
     by : (c : Bool) → k.line ≡ r.0
-        → covered_line ks b s t ≡ option_map (λ (q : ℕ × Rule). q.0) (find (λ q. access.covers policy (at names s) (at names t) (class_at b) (perm_at b) q.1) rs)
+        → covered_line ks b s t ≡ option_map (λ (q : ℕ × Rule). q.0)
+        (find (λ q. access.covers policy (at names s) (at names t) (class_at b) (perm_at b) q.1) rs)
         → option_map (λ (j : Kept). j.line) (cond c (Some k) (find (covers b s t) ks))
-        ≡ option_map (λ (q : ℕ × Rule). q.0) (cond c (Some r) (find (λ q. access.covers policy (at names s) (at names t) (class_at b) (perm_at b) q.1) rs))
+        ≡ option_map (λ (q : ℕ × Rule). q.0)
+        (cond c (Some r) (find (λ q. access.covers policy (at names s) (at names t) (class_at b) (perm_at b) q.1) rs))
     by true line rest = ap (λ (n : ℕ). Some n) line
     by false line rest = rest
 
-allow_step : (c k : Bool) (st : Statement) (r : Rule) (p : ℕ × Rule → Bool) (rs : List (ℕ × Rule)) (o : Option Statement) → p (st.line, r) ≡ c → (k ≡ false → c ≡ false)
+allow_step : (c k : Bool) (st : Statement) (r : Rule) (p : ℕ × Rule → Bool) (rs : List (ℕ × Rule))
+    (o : Option Statement) → p (st.line, r) ≡ c → (k ≡ false → c ≡ false)
     → option_map (λ (q : Statement). q.line) o ≡ option_map (λ (q : ℕ × Rule). q.0) (find p rs)
-    → option_map (λ (q : Statement). q.line) (cond c (Some st) o) ≡ option_map (λ (q : ℕ × Rule). q.0) (find p (cons_option (cond k (Some (st.line, r)) None) rs))
+    → option_map (λ (q : Statement). q.line) (cond c (Some st) o)
+    ≡ option_map (λ (q : ℕ × Rule). q.0) (find p (cons_option (cond k (Some (st.line, r)) None) rs))
 allow_step true true st r p rs o here none rest = rw here refl
 allow_step false true st r p rs o here none rest = rw here rest
 allow_step true false st r p rs o here none rest = absurd (true≢false (none refl))
@@ -76,26 +96,33 @@ pub lines_of : (policy : Policy) (s t : Name) (class : Class) (perm : Perms) (st
 lines_of policy s t class perm [] = refl
 lines_of policy s t class perm (st ∷ sts) = by st.what refl (lines_of policy s t class perm sts) where
   Same : What → Type 0
-  Same what = option_map (λ (q : Statement). q.line) (cond (access.allowed_by policy s t class perm what) (Some st) (find (allows policy s t class perm) sts))
-      ≡ option_map (λ (r : ℕ × Rule). r.0) (find (λ r. access.covers policy s t class perm r.1) (cons_option (allow_in st.line what) (allow_rules sts)))
+  Same what = option_map (λ (q : Statement). q.line)
+      (cond (access.allowed_by policy s t class perm what) (Some st) (find (allows policy s t class perm) sts))
+      ≡ option_map (λ (r : ℕ × Rule). r.0)
+      (find (λ r. access.covers policy s t class perm r.1) (cons_option (allow_in st.line what) (allow_rules sts)))
 
   by : (what : What) → st.what ≡ what
-      → option_map (λ (q : Statement). q.line) (find (allows policy s t class perm) sts) ≡ option_map (λ (r : ℕ × Rule). r.0) (find (λ r. access.covers policy s t class perm r.1) (allow_rules sts))
+      → option_map (λ (q : Statement). q.line) (find (allows policy s t class perm) sts)
+      ≡ option_map (λ (r : ℕ × Rule). r.0) (find (λ r. access.covers policy s t class perm r.1) (allow_rules sts))
       → Same what
   by (Attribute n) e rest = rest
   by (Declared n names) e rest = rest
   by (Member n names) e rest = rest
   by (Neverallow r) e rest = rest
   by (Allow r) e rest =
-      allow_step (access.covers policy s t class perm r) (is_kept r) st r (λ q. access.covers policy s t class perm q.1) (allow_rules sts)
-      (find (allows policy s t class perm) sts) refl (λ h. and_right (access.joins policy s t r) (gives class perm r) (unkept r class perm h)) rest
+      allow_step (access.covers policy s t class perm r) (is_kept r) st r (λ q. access.covers policy s t class perm q.1)
+      (allow_rules sts)
+      (find (allows policy s t class perm) sts) refl
+      (λ h. and_right (access.joins policy s t r) (gives class perm r) (unkept r class perm h)) rest
 
 -- what the kept allow rules say by number is what the text says by name
-pub written_is : (policy : Policy) (names : List Name) (rules : KeptRules) (b s t : ℕ) (class : Class) (perm : Perms) → RulesOf policy names rules
+pub written_is : (policy : Policy) (names : List Name) (rules : KeptRules) (b s t : ℕ) (class : Class) (perm : Perms)
+    → RulesOf policy names rules
     → s < length names → t < length names → (b < 7) × (class_at b ≡ class) × (perm_at b ≡ perm)
     → covered_line rules.allows b s t ≡ written_line policy (at names s) (at names t) class perm
 written_is policy names rules b s t class perm is hs ht hb =
-    rw (← hb.1, ← hb.2) (lines_stand policy names (allow_rules policy) rules.allows b s t is.distinct hs ht hb.0 is.allows
+    rw (← hb.1, ← hb.2) (lines_stand policy names (allow_rules policy) rules.allows b s t is.distinct hs ht hb.0
+    is.allows
     ∙ sym (lines_of policy (at names s) (at names t) (class_at b) (perm_at b) policy))
 
 pub none_found : {X : Type 0} (p : X → Bool) (xs : List X) → ((x : X) → p x ≡ false) → find p xs ≡ None
@@ -103,7 +130,8 @@ none_found p [] fails = refl
 none_found p (x ∷ xs) fails = rw (fails x) (none_found p xs fails)
 
 -- nothing is written of what is no single permission of the class
-pub unwritten : (policy : Policy) (s t : Name) (class : Class) (perm : Perms) → perm_of class perm ≡ None → None ≡ written_line policy s t class perm
+pub unwritten : (policy : Policy) (s t : Name) (class : Class) (perm : Perms) → perm_of class perm ≡ None
+    → None ≡ written_line policy s t class perm
 unwritten policy s t class perm h =
     rw (
       lines_of policy s t class perm policy,

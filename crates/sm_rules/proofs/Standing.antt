@@ -18,13 +18,16 @@ picked_more f xs i x h is =
     rw (e, filter_map-append f (take i xs) (x ∷ [])) refl
 
 stands_more : (policy : Policy) (names : List Name) (rs : List (ℕ × Rule)) (ks : List Kept) (r : ℕ × Rule) (k : Kept)
-    → AllStandFor policy names rs ks → StandsFor policy names r k → AllStandFor policy names (rs ++ r ∷ []) (ks ++ k ∷ [])
+    → AllStandFor policy names rs ks → StandsFor policy names r k
+    → AllStandFor policy names (rs ++ r ∷ []) (ks ++ k ∷ [])
 stands_more policy names [] [] r k all here = (here, tt)
 stands_more policy names (q ∷ rs) (j ∷ ks) r k all here = (all.0, stands_more policy names rs ks r k all.1 here)
 stands_more policy names [] (j ∷ ks) r k all here = absurd all
 stands_more policy names (q ∷ rs) [] r k all here = absurd all
 
-pub extended : (policy : Policy) (names : List Name) (rs : List (ℕ × Rule)) (o : Option (ℕ × Rule)) (old new : List Kept)
-    → AllStandFor policy names rs old → Extends policy names o old new → AllStandFor policy names (rs ++ cons_option o []) new
+pub extended : (policy : Policy) (names : List Name) (rs : List (ℕ × Rule)) (o : Option (ℕ × Rule))
+    (old new : List Kept)
+    → AllStandFor policy names rs old → Extends policy names o old new
+    → AllStandFor policy names (rs ++ cons_option o []) new
 extended policy names rs None old new all step = rw (append-nil rs, step) all
 extended policy names rs (Some r) old new all step = rw step.2 (stands_more policy names rs old r step.0 all step.1)

@@ -28,12 +28,14 @@ no_target policy s t r h = by (bytes_eq s t) refl where
   nothing true false = refl
   nothing false y = refl
 
-  by : (b : Bool) → bytes_eq s t ≡ b → (in_set policy r.source s && (in_set policy r.target t || (r.to_self && bytes_eq s t))) ≡ false
+  by : (b : Bool) → bytes_eq s t ≡ b →
+      (in_set policy r.source s && (in_set policy r.target t || (r.to_self && bytes_eq s t))) ≡ false
   by true e = (let same : s ≡ t = (bytes_eq-Decides s t).0 e in
       let none : in_set policy r.source s ≡ false = rw same (not_in policy r.source t h) in rw none refl)
   by false e = rw (not_in policy r.target t h, e) (nothing (in_set policy r.source s) r.to_self)
 
-pub no_line_of_source : (policy : Policy) (s t : Name) (class : Class) (perm : Perms) → declares policy s ≡ false → None ≡ written_line policy s t class perm
+pub no_line_of_source : (policy : Policy) (s t : Name) (class : Class) (perm : Perms) → declares policy s ≡ false
+    → None ≡ written_line policy s t class perm
 no_line_of_source policy s t class perm h =
     rw (
       lines_of policy s t class perm policy,
@@ -41,7 +43,8 @@ no_line_of_source policy s t class perm h =
           (λ r. rw (no_source policy s t r.1 h) refl),
     ) refl
 
-pub no_line_of_target : (policy : Policy) (s t : Name) (class : Class) (perm : Perms) → declares policy t ≡ false → None ≡ written_line policy s t class perm
+pub no_line_of_target : (policy : Policy) (s t : Name) (class : Class) (perm : Perms) → declares policy t ≡ false
+    → None ≡ written_line policy s t class perm
 no_line_of_target policy s t class perm h =
     rw (
       lines_of policy s t class perm policy,

@@ -1,23 +1,23 @@
 -- The walk over the statements of a text.
-use Rattle.std.proofs.Common.{◌≡◌, ℕ, ◌+◌, ◌<◌, List, [], ◌∷◌, length, get_or, drop, Option, Some, None, refl, sym, ◌∙◌, add-one, drop-cons}
+use Rattle.std.proofs.Common.{◌≡◌, List, [], ◌∷◌, Option, Some, None, refl, sym, ◌∙◌}
 use Rattle.sm_ruletext.specs.declared.statement.Statement.{Statement}
 use Rattle.sm_types.specs.Denoting.{Policy}
 use Rattle.sm_rules.specs.declared.fault.RulesFault.{RulesFault}
 use Rattle.sm_rules.specs.declared.fault.RulesFault.TheVariants.{Unknown, UnknownPermission, Memory}
 use Rattle.sm_rules.specs.Faults.{fault_of, fault_among, or_else, UnlessMemory}
 
-pub front : (sts : List Statement) (i : ℕ) (st : Statement) → i < length sts → st ≡ get_or sts i st → drop i sts ≡ st ∷ drop (i + 1) sts
-front sts i st h e = rw (add-one i, drop-cons sts i st h, ← e) refl
-
-one_more : (policy : Policy) (st : Statement) (sts : List Statement) → fault_among policy (st ∷ sts) ≡ or_else (fault_of policy st.line st.what) (fault_among policy sts)
+one_more : (policy : Policy) (st : Statement) (sts : List Statement)
+    → fault_among policy (st ∷ sts) ≡ or_else (fault_of policy st.line st.what) (fault_among policy sts)
 unfolding fault_among
 one_more policy st sts = refl
 
-pub passed : (policy : Policy) (st : Statement) (sts : List Statement) (total : Option RulesFault) → fault_among policy (st ∷ sts) ≡ total
+pub passed : (policy : Policy) (st : Statement) (sts : List Statement) (total : Option RulesFault)
+    → fault_among policy (st ∷ sts) ≡ total
     → fault_of policy st.line st.what ≡ None → fault_among policy sts ≡ total
 passed policy st sts total on none = rw none at (sym (one_more policy st sts) ∙ on)
 
-pub stopped : (policy : Policy) (st : Statement) (sts : List Statement) (total : Option RulesFault) (e : RulesFault) → fault_among policy (st ∷ sts) ≡ total
+pub stopped : (policy : Policy) (st : Statement) (sts : List Statement) (total : Option RulesFault) (e : RulesFault)
+    → fault_among policy (st ∷ sts) ≡ total
     → UnlessMemory e (fault_of policy st.line st.what ≡ Some e) → UnlessMemory e (total ≡ Some e)
 stopped policy st sts total e on fault = by e fault where
   found : (f : RulesFault) → fault_of policy st.line st.what ≡ Some f → total ≡ Some f

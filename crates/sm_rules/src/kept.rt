@@ -21,6 +21,7 @@ use sm_types::{Types, TypesFault};
 use std::alloc::Global;
 
 /// A kept rule: its types as bits by their numbers, its permissions as bits.
+#[derive(Drop)]
 pub struct Kept {
     /// The line of its statement.
     pub line: u32,
@@ -30,18 +31,6 @@ pub struct Kept {
     pub to_self: bool,
     /// The permissions that it gives, each of a class that it selects.
     pub perms: Perms,
-}
-
-impl Drop for Kept {
-    fn drop(self) {
-        let Kept {
-            line: _,
-            sources: _,
-            targets: _,
-            to_self: _,
-            perms: _,
-        } = self;
-    }
 }
 
 impl Kept {

@@ -6,8 +6,6 @@ mod kept;
 mod perm_bits;
 mod plain;
 mod rules;
-#[cfg(test)]
-mod tests;
 
 pub use fault::RulesFault;
 pub use kept::Kept;

@@ -126,6 +126,7 @@ fn all_rules(alloc: Global, statements: &[Statement], types: &Types) -> Result<D
 /// The rules of a rule text, with their sets expanded.
 ///
 /// Contracts see them as the lists of kept rules; `RulesOf` says that they are those of a text.
+#[derive(Drop)]
 pub struct Rules {
     count: TypeCount,
     allows: Vec<Kept>,
@@ -141,16 +142,6 @@ impl Model for Rules {
     ghost view = { λ r. record { count = r.count; allows = r.allows.items; neverallows = r.neverallows.items } };
 
     ghost invariant = { λ r. IsSound r.count r.allows.items r.neverallows.items };
-}
-
-impl Drop for Rules {
-    fn drop(self) {
-        let Rules {
-            count: _,
-            allows: _,
-            neverallows: _,
-        } = self;
-    }
 }
 
 /// The line of the first rule that gives permission `bit` on the two types.

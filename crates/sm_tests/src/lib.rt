@@ -8,6 +8,8 @@ pub use failing::{FailAt, OneByte};
 #[cfg(test)]
 mod checks;
 #[cfg(test)]
+mod declarations;
+#[cfg(test)]
 mod faults;
 #[cfg(test)]
 mod fixture;
@@ -15,6 +17,8 @@ mod fixture;
 mod limits;
 #[cfg(test)]
 mod reloads;
+#[cfg(test)]
+mod rule_texts;
 #[cfg(test)]
 mod scripts;
 #[cfg(test)]

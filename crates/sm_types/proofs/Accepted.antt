@@ -1,5 +1,5 @@
 -- What is known of a policy in which nothing is refused.
-use Rattle.std.proofs.Common.{◌≡◌, ℕ, Bool, true, false, not, ◌||◌, ◌&&◌, List, [], ◌∷◌, ◌++◌, find, option_map, Option, Some, None, Ok, Err, refl, sym, ap, ◌∙◌, append_assoc, true≢false, cond, length, ◌<◌, nat_le}
+use Rattle.std.proofs.Common.{◌≡◌, ℕ, Bool, true, false, not, ◌||◌, List, [], ◌∷◌, ◌++◌, find, option_map, Option, Some, None, Ok, Err, refl, sym, ap, ◌∙◌, append_assoc, true≢false, cond, length, ◌<◌, nat_le}
 use Rattle.std.specs.List.{list_any, cons_option}
 use Rattle.std.specs.Str.{bytes_eq}
 use Rattle.std.proofs.lemmas.Bool.{and_parts, and_right, false_from_ne_true}
@@ -20,64 +20,89 @@ use Rattle.sm_kinds.specs.Names.{contains}
 use Rattle.sm_types.specs.declared.table.Table.{Table}
 use Rattle.sm_types.proofs.NameLemmas.{same_name, name_same}
 
-unlisted_names : (symbols : Symbols) (word : Name) → list_any (bytes_eq word) symbols.attributes ≡ false → (names : List Name) → all_attributes symbols names ≡ true → contains names word ≡ false
+unlisted_names : (symbols : Symbols) (word : Name) → list_any (bytes_eq word) symbols.attributes ≡ false
+    → (names : List Name) → all_attributes symbols names ≡ true → contains names word ≡ false
 unlisted_names symbols word none [] known = refl
 unlisted_names symbols word none (n ∷ names) known =
-    let here : list_any (bytes_eq n) symbols.attributes ≡ true = (and_parts (list_any (bytes_eq n) symbols.attributes) (all_attributes symbols names) known).0 in
-    let e : bytes_eq n word ≡ false = false_from_ne_true (bytes_eq n word) (λ t. true≢false (sym (rw (same_name n word t) at here) ∙ none)) in
-    rw e (unlisted_names symbols word none names (and_parts (list_any (bytes_eq n) symbols.attributes) (all_attributes symbols names) known).1)
+    let here : list_any (bytes_eq n) symbols.attributes ≡ true =
+    (and_parts (list_any (bytes_eq n) symbols.attributes) (all_attributes symbols names) known).0 in
+    let e : bytes_eq n word ≡ false = false_from_ne_true (bytes_eq n word)
+    (λ t. true≢false (sym (rw (same_name n word t) at here) ∙ none)) in
+    rw e (unlisted_names symbols word none names
+    (and_parts (list_any (bytes_eq n) symbols.attributes) (all_attributes symbols names) known).1)
 
-unlisted_what : (symbols : Symbols) (word t : Name) → list_any (bytes_eq word) symbols.attributes ≡ false → (what : What) → members_known symbols what ≡ true → gives_attribute t word what ≡ false
+unlisted_what : (symbols : Symbols) (word t : Name) → list_any (bytes_eq word) symbols.attributes ≡ false
+    → (what : What) → members_known symbols what ≡ true → gives_attribute t word what ≡ false
 unlisted_what symbols word t none (Attribute n) known = refl
-unlisted_what symbols word t none (Declared n names) known = and_right (bytes_eq n t) (contains names word) (unlisted_names symbols word none names known)
+unlisted_what symbols word t none (Declared n names) known =
+    and_right (bytes_eq n t) (contains names word) (unlisted_names symbols word none names known)
 unlisted_what symbols word t none (Member n names) known =
-    and_right (bytes_eq n t) (contains names word) (unlisted_names symbols word none names (and_parts (list_any (bytes_eq n) symbols.types) (all_attributes symbols names) known).1)
+    and_right (bytes_eq n t) (contains names word)
+    (unlisted_names symbols word none names
+    (and_parts (list_any (bytes_eq n) symbols.types) (all_attributes symbols names) known).1)
 unlisted_what symbols word t none (Allow r) known = refl
 unlisted_what symbols word t none (Neverallow r) known = refl
 
-unlisted_in : (symbols : Symbols) (word t : Name) → list_any (bytes_eq word) symbols.attributes ≡ false → (sts : List Statement)
-    → option_map (λ (st : Statement). st.line) (find (λ st. not (members_known symbols st.what)) sts) ≡ None → has_attribute sts t word ≡ false
+unlisted_in : (symbols : Symbols) (word t : Name) → list_any (bytes_eq word) symbols.attributes ≡ false
+    → (sts : List Statement)
+    → option_map (λ (st : Statement). st.line) (find (λ st. not (members_known symbols st.what)) sts) ≡ None
+    → has_attribute sts t word ≡ false
 unlisted_in symbols word t none [] known = refl
-unlisted_in symbols word t none (st ∷ sts) known = by (members_known symbols st.what) refl known (λ h. unlisted_in symbols word t none sts h) where
-  by : (b : Bool) → members_known symbols st.what ≡ b → option_map (λ (s : Statement). s.line) (cond (not b) (Some st) (find (λ s. not (members_known symbols s.what)) sts)) ≡ None
-      → (option_map (λ (s : Statement). s.line) (find (λ s. not (members_known symbols s.what)) sts) ≡ None → has_attribute sts t word ≡ false) → has_attribute (st ∷ sts) t word ≡ false
-  by true e h rest = rw (unlisted_what symbols word t none st.what e) (rest h)
-  by false e h rest = absurd (cc h)
+unlisted_in symbols word t none (st ∷ sts) known =
+    by (members_known symbols st.what) refl known (λ h. unlisted_in symbols word t none sts h) where
+      by : (b : Bool) → members_known symbols st.what ≡ b
+          → option_map (λ (s : Statement). s.line)
+          (cond (not b) (Some st) (find (λ s. not (members_known symbols s.what)) sts)) ≡ None
+          → (option_map (λ (s : Statement). s.line) (find (λ s. not (members_known symbols s.what)) sts) ≡ None
+          → has_attribute sts t word ≡ false) → has_attribute (st ∷ sts) t word ≡ false
+      by true e h rest = rw (unlisted_what symbols word t none st.what e) (rest h)
+      by false e h rest = absurd (cc h)
 
-accepted : (policy : List Statement) (s : Symbols) → symbols_of policy ≡ Ok s → (declared nothing policy ≡ Ok s) × (first_unknown s policy ≡ None)
+accepted : (policy : List Statement) (s : Symbols) → symbols_of policy ≡ Ok s
+    → (declared nothing policy ≡ Ok s) × (first_unknown s policy ≡ None)
 unfolding symbols_of
 accepted policy s h = by (declared nothing policy) refl h where
   last : (x : Symbols) (o : Option ℕ) → first_unknown x policy ≡ o → unless o x ≡ Ok s → (x ≡ s) × (o ≡ None)
   last x None e h = (cc h, refl)
   last x (Some line) e h = absurd (cc h)
 
-  by : (r : Step Symbols) → declared nothing policy ≡ r → (r >>= λ x. unless (first_unknown x policy) x) ≡ Ok s → (declared nothing policy ≡ Ok s) × (first_unknown s policy ≡ None)
+  by : (r : Step Symbols) → declared nothing policy ≡ r → (r >>= λ x. unless (first_unknown x policy) x) ≡ Ok s
+      → (declared nothing policy ≡ Ok s) × (first_unknown s policy ≡ None)
   by (Ok x) e h = let p = last x (first_unknown x policy) refl h in (e ∙ ap (λ (y : Symbols). Ok y) p.0, rw p.0 at p.1)
   by (Err f) e h = absurd (cc h)
 
 -- a word that is no attribute is none of any type
-pub unlisted : (policy : List Statement) (table : Table) (word t : Name) → IsOf policy table → list_any (bytes_eq word) table.symbols.attributes ≡ false → has_attribute policy t word ≡ false
-unlisted policy table word t is none = unlisted_in table.symbols word t none policy (accepted policy table.symbols is.accepted).1
+pub unlisted : (policy : List Statement) (table : Table) (word t : Name) → IsOf policy table
+    → list_any (bytes_eq word) table.symbols.attributes ≡ false → has_attribute policy t word ≡ false
+unlisted policy table word t is none = unlisted_in table.symbols word t none policy
+    (accepted policy table.symbols is.accepted).1
 
 -- ---- the names that were declared are those of the statements, in their order
 
-taken : (symbols next : Symbols) (b d : Bool) (f g : TypesFault) (x : Symbols) → cond b (Err f) (cond d (Err g) (Ok x)) ≡ Ok next → x ≡ next
+taken : (symbols next : Symbols) (b d : Bool) (f g : TypesFault) (x : Symbols)
+    → cond b (Err f) (cond d (Err g) (Ok x)) ≡ Ok next → x ≡ next
 taken symbols next true d f g x h = absurd (cc h)
 taken symbols next false true f g x h = absurd (cc h)
 taken symbols next false false f g x h = cc h
 
 step_names : (symbols next : Symbols) (line : ℕ) (what : What) → with_declaration symbols line what ≡ Ok next
-    → (next.types ≡ symbols.types ++ cons_option (type_of what) []) × (next.attributes ≡ symbols.attributes ++ cons_option (attribute_of what) [])
+    → (next.types ≡ symbols.types ++ cons_option (type_of what) [])
+    × (next.attributes ≡ symbols.attributes ++ cons_option (attribute_of what) [])
 unfolding with_declaration with_type with_attribute
 step_names symbols next line (Attribute n) h =
-    let e = taken symbols next (is_declared symbols n) (nat_le MOST_ATTRIBUTES (length symbols.attributes)) (Twice line) TooMany (record { types = symbols.types; attributes = symbols.attributes ++ n ∷ [] }) h in
+    let e = taken symbols next (is_declared symbols n) (nat_le MOST_ATTRIBUTES (length symbols.attributes)) (Twice line)
+    TooMany (record { types = symbols.types; attributes = symbols.attributes ++ n ∷ [] }) h in
     (rw (← e) (sym (append-nil symbols.types)), rw (← e) refl)
 step_names symbols next line (Declared n names) h =
-    let e = taken symbols next (is_declared symbols n) (nat_le MOST_TYPES (length symbols.types)) (Twice line) TooMany (record { types = symbols.types ++ n ∷ []; attributes = symbols.attributes }) h in
+    let e = taken symbols next (is_declared symbols n) (nat_le MOST_TYPES (length symbols.types)) (Twice line) TooMany
+    (record { types = symbols.types ++ n ∷ []; attributes = symbols.attributes }) h in
     (rw (← e) refl, rw (← e) (sym (append-nil symbols.attributes)))
-step_names symbols next line (Member n names) h = let e : symbols ≡ next = cc h in (rw (← e) (sym (append-nil symbols.types)), rw (← e) (sym (append-nil symbols.attributes)))
-step_names symbols next line (Allow r) h = let e : symbols ≡ next = cc h in (rw (← e) (sym (append-nil symbols.types)), rw (← e) (sym (append-nil symbols.attributes)))
-step_names symbols next line (Neverallow r) h = let e : symbols ≡ next = cc h in (rw (← e) (sym (append-nil symbols.types)), rw (← e) (sym (append-nil symbols.attributes)))
+step_names symbols next line (Member n names) h = let e : symbols ≡ next = cc h in
+    (rw (← e) (sym (append-nil symbols.types)), rw (← e) (sym (append-nil symbols.attributes)))
+step_names symbols next line (Allow r) h = let e : symbols ≡ next = cc h in
+    (rw (← e) (sym (append-nil symbols.types)), rw (← e) (sym (append-nil symbols.attributes)))
+step_names symbols next line (Neverallow r) h = let e : symbols ≡ next = cc h in
+    (rw (← e) (sym (append-nil symbols.types)), rw (← e) (sym (append-nil symbols.attributes)))
 
 behind : (xs : List Name) (o : Option Name) (ys : List Name) → (xs ++ cons_option o []) ++ ys ≡ xs ++ cons_option o ys
 behind xs None ys = ap (λ (zs : List Name). zs ++ ys) (append-nil xs)
@@ -86,28 +111,35 @@ behind xs (Some n) ys = append_assoc xs (n ∷ []) ys
 in_order : (sts : List Statement) (symbols last : Symbols) → declared symbols sts ≡ Ok last
     → (last.types ≡ symbols.types ++ types sts) × (last.attributes ≡ symbols.attributes ++ attributes sts)
 unfolding declared
-in_order [] symbols last h = let e : symbols ≡ last = cc h in (rw (← e) (sym (append-nil symbols.types)), rw (← e) (sym (append-nil symbols.attributes)))
-in_order (st ∷ sts) symbols last h = by (with_declaration symbols st.line st.what) refl h (λ next g. in_order sts next last g) where
-  by : (r : Step Symbols) → with_declaration symbols st.line st.what ≡ r → (r >>= λ next. declared next sts) ≡ Ok last
-      → ((next : Symbols) → declared next sts ≡ Ok last → (last.types ≡ next.types ++ types sts) × (last.attributes ≡ next.attributes ++ attributes sts))
-      → (last.types ≡ symbols.types ++ types (st ∷ sts)) × (last.attributes ≡ symbols.attributes ++ attributes (st ∷ sts))
-  by (Ok next) e h rest =
-      let p = rest next h in
-      let q = step_names symbols next st.line st.what e in (
-        p.0 ∙ (ap (λ (xs : List Name). xs ++ types sts) q.0 ∙ behind symbols.types (type_of st.what) (types sts)),
-        p.1 ∙ (ap (λ (xs : List Name). xs ++ attributes sts) q.1 ∙ behind symbols.attributes (attribute_of st.what) (attributes sts)),
-      )
-  by (Err f) e h rest = absurd (cc h)
+in_order [] symbols last h = let e : symbols ≡ last = cc h in
+    (rw (← e) (sym (append-nil symbols.types)), rw (← e) (sym (append-nil symbols.attributes)))
+in_order (st ∷ sts) symbols last h = by (with_declaration symbols st.line st.what) refl h
+    (λ next g. in_order sts next last g) where
+      by : (r : Step Symbols) → with_declaration symbols st.line st.what ≡ r → (r >>= λ next. declared next sts) ≡ Ok last
+          → ((next : Symbols) → declared next sts ≡ Ok last
+          → (last.types ≡ next.types ++ types sts) × (last.attributes ≡ next.attributes ++ attributes sts))
+          → (last.types ≡ symbols.types ++ types (st ∷ sts))
+          × (last.attributes ≡ symbols.attributes ++ attributes (st ∷ sts))
+      by (Ok next) e h rest =
+          let p = rest next h in
+          let q = step_names symbols next st.line st.what e in (
+            p.0 ∙ (ap (λ (xs : List Name). xs ++ types sts) q.0 ∙ behind symbols.types (type_of st.what) (types sts)),
+            p.1 ∙ (ap (λ (xs : List Name). xs ++ attributes sts) q.1
+                ∙ behind symbols.attributes (attribute_of st.what) (attributes sts)),
+          )
+      by (Err f) e h rest = absurd (cc h)
 
 -- the symbols of an accepted policy are its types and its attributes
-pub names_in_order : (policy : List Statement) (s : Symbols) → symbols_of policy ≡ Ok s → (s.types ≡ types policy) × (s.attributes ≡ attributes policy)
+pub names_in_order : (policy : List Statement) (s : Symbols) → symbols_of policy ≡ Ok s
+    → (s.types ≡ types policy) × (s.attributes ≡ attributes policy)
 names_in_order policy s h = in_order policy nothing s (accepted policy s h).0
 
 same_eq : (a b : Name) → bytes_eq a b ≡ bytes_eq b a
 same_eq a b = by (bytes_eq a b) refl where
   by : (r : Bool) → bytes_eq a b ≡ r → bytes_eq a b ≡ bytes_eq b a
   by true h = h ∙ sym (name_same b a (sym (same_name a b h)))
-  by false h = h ∙ sym (false_from_ne_true (bytes_eq b a) (λ t. true≢false (sym (name_same a b (sym (same_name b a t))) ∙ h)))
+  by false h = h ∙ sym (false_from_ne_true (bytes_eq b a)
+      (λ t. true≢false (sym (name_same a b (sym (same_name b a t))) ∙ h)))
 
 -- a type is declared where it is among the types
 pub declares_type : (t : Name) (policy : List Statement) → list_any (bytes_eq t) (types policy) ≡ declares policy t
@@ -122,7 +154,9 @@ declares_type t (st ∷ sts) = by st.what (declares_type t sts) where
   by (Neverallow r) h = h
 
 -- each type stands in a declaration
-pub declared_type : (policy : List Statement) (table : Table) (i : ℕ) → IsOf policy table → i < length table.symbols.types → declares policy (at table.symbols.types i) ≡ true
+pub declared_type : (policy : List Statement) (table : Table) (i : ℕ) → IsOf policy table
+    → i < length table.symbols.types → declares policy (at table.symbols.types i) ≡ true
 declared_type policy table i is h =
     let t : Name = at table.symbols.types i in
-    sym (declares_type t policy) ∙ (rw (← is.types) (list_any_at (bytes_eq t) table.symbols.types i [] h (name_same t t refl)))
+    sym (declares_type t policy) ∙ (rw (← is.types)
+    (list_any_at (bytes_eq t) table.symbols.types i [] h (name_same t t refl)))

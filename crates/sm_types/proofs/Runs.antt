@@ -1,26 +1,30 @@
 -- The pass over the declarations.
-use Rattle.std.proofs.Common.{◌≡◌, ℕ, ◌+◌, ◌<◌, List, [], ◌∷◌, length, drop, get_or, Ok, Err, refl, sym, ◌∙◌, drop-cons, add-one}
+use Rattle.std.proofs.Common.{◌≡◌, List, [], ◌∷◌, Ok, Err, refl, sym, ◌∙◌}
 use Rattle.sm_ruletext.specs.declared.statement.Statement.{Statement}
 use Rattle.sm_types.specs.declared.symbols.Symbols.{Symbols}
 use Rattle.sm_types.specs.declared.fault.TypesFault.{TypesFault}
 use Rattle.sm_types.specs.declared.fault.TypesFault.TheVariants.{Twice, Unknown, TooMany, Memory}
 use Rattle.sm_types.specs.Declaring.{Step, ◌>>=◌, Fails, with_declaration, declared}
 
-one_more : (symbols : Symbols) (st : Statement) (sts : List Statement) → declared symbols (st ∷ sts) ≡ (with_declaration symbols st.line st.what >>= λ next. declared next sts)
+one_more : (symbols : Symbols) (st : Statement) (sts : List Statement)
+    → declared symbols (st ∷ sts) ≡ (with_declaration symbols st.line st.what >>= λ next. declared next sts)
 unfolding declared
 one_more symbols st sts = refl
 
-pub declared_on : (total : Step Symbols) (symbols next : Symbols) (st : Statement) (sts : List Statement) → declared symbols (st ∷ sts) ≡ total
+pub declared_on : (total : Step Symbols) (symbols next : Symbols) (st : Statement) (sts : List Statement)
+    → declared symbols (st ∷ sts) ≡ total
     → with_declaration symbols st.line st.what ≡ Ok next → declared next sts ≡ total
 declared_on total symbols next st sts so_far step =
     let u : (with_declaration symbols st.line st.what >>= λ n. declared n sts) ≡ declared next sts = rw step refl in
     sym u ∙ (sym (one_more symbols st sts) ∙ so_far)
 
-pub declared_fault : (e : TypesFault) (total : Step Symbols) (symbols : Symbols) (st : Statement) (sts : List Statement) → declared symbols (st ∷ sts) ≡ total
+pub declared_fault : (e : TypesFault) (total : Step Symbols) (symbols : Symbols) (st : Statement) (sts : List Statement)
+    → declared symbols (st ∷ sts) ≡ total
     → Fails e (with_declaration symbols st.line st.what) → Fails e total
 declared_fault e total symbols st sts so_far step = by e step where
   fails : (f : TypesFault) → with_declaration symbols st.line st.what ≡ Err f → total ≡ Err f
-  fails f h = let u : (with_declaration symbols st.line st.what >>= λ n. declared n sts) ≡ Err f = rw h refl in sym so_far ∙ (one_more symbols st sts ∙ u)
+  fails f h = let u : (with_declaration symbols st.line st.what >>= λ n. declared n sts) ≡ Err f = rw h refl in
+      sym so_far ∙ (one_more symbols st sts ∙ u)
 
   by : (e : TypesFault) → Fails e (with_declaration symbols st.line st.what) → Fails e total
   by Memory h = tt
@@ -31,6 +35,3 @@ declared_fault e total symbols st sts so_far step = by e step where
 pub declared_all : (symbols : Symbols) (sts : List Statement) → sts ≡ [] → declared symbols sts ≡ Ok symbols
 unfolding declared
 declared_all symbols sts none = rw none refl
-
-pub front : (sts : List Statement) (i : ℕ) (st : Statement) → i < length sts → st ≡ get_or sts i st → drop i sts ≡ st ∷ drop (i + 1) sts
-front sts i st h e = rw (add-one i, drop-cons sts i st h, ← e) refl

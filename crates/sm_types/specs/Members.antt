@@ -13,7 +13,8 @@ use Rattle.sm_types.specs.declared.table.Table.{Table}
 pub record Given (old new : List (List ℕ)) (attributes names : List Name) (t : ℕ) : Type 0 where
   pub count : length new ≡ length old
   pub room : (a : ℕ) → length (row new a) ≡ length (row old a)
-  pub given : (a i : ℕ) → a < length attributes → has (row new a) i ≡ (has (row old a) i || (nat_eq i t && contains names (at attributes a)))
+  pub given : (a i : ℕ) → a < length attributes
+      → has (row new a) i ≡ (has (row old a) i || (nat_eq i t && contains names (at attributes a)))
 
 -- No type stands twice, and each attribute has a row, with room for each type and no number past the types.
 pub record Fits (members : List (List ℕ)) (symbols : Symbols) : Type 0 where

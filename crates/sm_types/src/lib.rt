@@ -7,8 +7,6 @@ mod members;
 mod name_set;
 mod symbols;
 mod table;
-#[cfg(test)]
-mod tests;
 mod type_count;
 mod types;
 

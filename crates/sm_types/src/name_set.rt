@@ -5,6 +5,7 @@ use std::alloc::{AllocError, Global};
 use std::marker::Model;
 
 /// Distinct names, which contracts see as the list of their bytes.
+#[derive(Drop)]
 pub struct NameSet {
     names: IndexSet<Vec<u8>>,
 }
@@ -18,12 +19,6 @@ impl Model for NameSet {
     ghost view = { λ d. map (λ k. k.items) d.names.keys };
 
     ghost invariant = { λ d. Distinct (map (λ k. k.items) d.names.keys) };
-}
-
-impl Drop for NameSet {
-    fn drop(self) {
-        let NameSet { names: _ } = self;
-    }
 }
 
 impl NameSet {

@@ -21,18 +21,10 @@ use sm_ruletext::{Set, Statement};
 use std::alloc::{AllocError, Global};
 
 /// The types of a rule text, and for each attribute the row of those that have it.
+#[derive(Drop)]
 pub struct Table {
     pub symbols: Symbols,
     pub members: Vec<BitRow>,
-}
-
-impl Drop for Table {
-    fn drop(self) {
-        let Table {
-            symbols: _,
-            members: _,
-        } = self;
-    }
 }
 
 /// The table of a rule text, or the first refusal.

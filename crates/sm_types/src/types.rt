@@ -22,6 +22,7 @@ use std::marker::Model;
 /// which of them have which attribute.
 ///
 /// Contracts see it as a table of names and rows; `IsOf` says that the table is that of a text.
+#[derive(Drop)]
 pub struct Types {
     table: Table,
 }
@@ -35,12 +36,6 @@ impl Model for Types {
     ghost view = { λ t. t.table };
 
     ghost invariant = { λ t. IsSound t.table };
-}
-
-impl Drop for Types {
-    fn drop(self) {
-        let Types { table: _ } = self;
-    }
 }
 
 impl Types {

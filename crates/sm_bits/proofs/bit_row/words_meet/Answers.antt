@@ -8,7 +8,11 @@ loop-i-init c = gathered_none c.args.words.now c.args.others.now
 
 pub loop-i-preserved : goal.loop-i-preserved
 loop-i-preserved c =
-    gathered_more c.args.words.now c.args.others.now c.loop-i.common c.loop-i.i (and_lt 64 (get_or c.args.words.now c.loop-i.i 0) (get_or c.args.others.now c.loop-i.i 0) (omega (arith, c.type_inv.words c.loop-i.i)) (omega (arith, c.type_inv.others c.loop-i.i))) c.loop-i.invariant
+    gathered_more c.args.words.now c.args.others.now c.loop-i.common c.loop-i.i
+    (and_lt 64 (get_or c.args.words.now c.loop-i.i 0) (get_or c.args.others.now c.loop-i.i 0)
+    (omega (arith, c.type_inv.words c.loop-i.i)) (omega (arith, c.type_inv.others c.loop-i.i)))
+    c.loop-i.invariant
 
 pub returns-clause-none : goal.returns-clause-none
-returns-clause-none c h = gathered_all c.args.words.now c.args.others.now c.loop-i.common c.loop-i.i (omega arith) h c.loop-i.invariant
+returns-clause-none c h = gathered_all c.args.words.now c.args.others.now c.loop-i.common c.loop-i.i (omega arith) h
+    c.loop-i.invariant

@@ -5,4 +5,5 @@ use Rattle.sm_neverallow.specs.Hitting.{rule_at}
 use Rattle.sm_neverallow.proofs.hits.first_by_rules.Given as goal
 
 abbrev pub invariant-loop-k : goal.invariant-loop-k
-invariant-loop-k l = (k : ℕ) (rule : Kept) → k < l.k → rule_at l.rules l.places k ≡ Some rule → Misses l.matrix l.count rule
+invariant-loop-k l = (k : ℕ) (rule : Kept) → k < l.k → rule_at l.rules l.places k ≡ Some rule
+    → Misses l.matrix l.count rule

@@ -6,5 +6,7 @@ use Rattle.sm_neverallow.proofs.hits.first_hit.Goals as goal
 pub returns-then-found-len-clause-first : goal.returns-then-found-len-clause-first
 returns-then-found-len-clause-first c =
     let inside : c.in_ok-found.found < length c.in_ok-places.places.items = omega (arith, c.in_ok-places.places.ok.0) in
-    all_before c.args.rules.now c.args.set c.args.end c.in_ok-places.places.items c.in_ok-found.found c.index.result.now (Hits c.args.matrix.now c.args.count) (Misses c.args.matrix.now c.args.count) c.in_ok-places.ensures inside c.index.ensures
+    all_before c.args.rules.now c.args.set c.args.end c.in_ok-places.places.items c.in_ok-found.found c.index.result.now
+    (Hits c.args.matrix.now c.args.count) (Misses c.args.matrix.now c.args.count) c.in_ok-places.ensures inside
+    c.index.ensures
     (rw c.deref.ensures.value at c.in_ok-found.ensures)

@@ -4,4 +4,5 @@ use Rattle.sm_neverallow.specs.Hitting.{AllMiss, rule_at}
 use Rattle.sm_neverallow.proofs.hits.first_in_groups.Given as goal
 
 abbrev pub invariant-loop-k : goal.invariant-loop-k
-invariant-loop-k l = (k : ℕ) (rule : Kept) → k < l.k → rule_at l.rules l.places k ≡ Some rule → AllMiss l.all l.first rule
+invariant-loop-k l = (k : ℕ) (rule : Kept) → k < l.k → rule_at l.rules l.places k ≡ Some rule
+    → AllMiss l.all l.first rule

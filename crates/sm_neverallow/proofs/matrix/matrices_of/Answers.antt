@@ -7,7 +7,8 @@ loop-set-init c = through_none c.args.rules.now c.args.count c.in_ok-matrices.ma
 
 pub loop-set-preserved : goal.loop-set-preserved
 loop-set-preserved c =
-    through_more c.args.rules.now c.args.count c.loop-set.set c.loop-set.matrices.items c.add_set.new.matrices.items c.in_ok-add_set.ensures c.loop-set.invariant
+    through_more c.args.rules.now c.args.count c.loop-set.set c.loop-set.matrices.items c.add_set.new.matrices.items
+    c.in_ok-add_set.ensures c.loop-set.invariant
 
 pub returns : goal.returns
 returns c =

@@ -9,13 +9,16 @@ loop-set-init c = sought_none c.args.matrices.now c.args.neverallows.now c.args.
 pub loop-set-preserved : goal.loop-set-preserved
 loop-set-preserved c =
     let found = c.in_ok-place.ensures in
-    sought_more c.args.matrices.now c.args.neverallows.now c.args.count c.loop-set.set c.loop-set.place c.in_ok-place.place found.end found.broken found.first c.loop-set.invariant
+    sought_more c.args.matrices.now c.args.neverallows.now c.args.count c.loop-set.set c.loop-set.place
+    c.in_ok-place.place found.end found.broken found.first c.loop-set.invariant
 
 pub returns-then-place-neverallows-clause-first : goal.returns-then-place-neverallows-clause-first
 returns-then-place-neverallows-clause-first c n never h found =
-    sought_all c.args.matrices.now c.args.neverallows.now c.args.count c.loop-set.set c.loop-set.place c.loop-set-test.false c.loop-set.invariant n never h found
+    sought_all c.args.matrices.now c.args.neverallows.now c.args.count c.loop-set.set c.loop-set.place
+    c.loop-set-test.false c.loop-set.invariant n never h found
 
 pub returns-else-place-neverallows-clause-none : goal.returns-else-place-neverallows-clause-none
 returns-else-place-neverallows-clause-none c n never found =
     let inside : n < length c.args.neverallows.now = slice_get_within c.args.neverallows.now n never found in
-    sought_all c.args.matrices.now c.args.neverallows.now c.args.count c.loop-set.set c.loop-set.place c.loop-set-test.false c.loop-set.invariant n never (omega arith) found
+    sought_all c.args.matrices.now c.args.neverallows.now c.args.count c.loop-set.set c.loop-set.place
+    c.loop-set-test.false c.loop-set.invariant n never (omega arith) found

@@ -4,4 +4,5 @@ use Rattle.sm_neverallow.specs.Violating.{AreApart}
 use Rattle.sm_neverallow.proofs.violation.first_of.Given as goal
 
 abbrev pub invariant-loop-i : goal.invariant-loop-i
-invariant-loop-i l = (i : ℕ) (allow : Kept) → i < l.i → slice_get l.allows i ≡ Some allow → AreApart allow l.never l.count
+invariant-loop-i l = (i : ℕ) (allow : Kept) → i < l.i → slice_get l.allows i ≡ Some allow
+    → AreApart allow l.never l.count

@@ -18,7 +18,9 @@ returns-clause-some c =
       source = pair.0;
       target = pair.1;
       both = both_given bit s t c.args.allow.now c.args.never.now pair.2 c.in_ok-bit.ensures.some.1;
-      no_lesser_source = λ b i j h low inside. not_joined b i j c.args.allow.now c.args.never.now (c.in_ok-source.ensures.source i j h inside);
-      no_lesser_target = λ b j h low. not_joined b s j c.args.allow.now c.args.never.now (c.in_ok-source.ensures.target j h);
+      no_lesser_source = λ b i j h low inside. not_joined b i j c.args.allow.now c.args.never.now
+          (c.in_ok-source.ensures.source i j h inside);
+      no_lesser_target = λ b j h low. not_joined b s j c.args.allow.now c.args.never.now
+          (c.in_ok-source.ensures.target j h);
       no_lesser_perm = λ b h. not_given b s t c.args.allow.now c.args.never.now (c.in_ok-bit.ensures.lowest b h);
     }

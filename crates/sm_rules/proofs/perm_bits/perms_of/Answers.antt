@@ -7,4 +7,5 @@ pub loop-bit-init : goal.loop-bit-init
 loop-bit-init c = told_none (λ b. gives (class_at b) (perm_at b) c.args.rule.now)
 
 pub loop-bit-preserved : goal.loop-bit-preserved
-loop-bit-preserved c = told_more c.loop-bit.perms c.with_perm-perms.result (λ b. gives (class_at b) (perm_at b) c.args.rule.now) c.loop-bit.bit c.with_perm-perms.ensures c.loop-bit.invariant
+loop-bit-preserved c = told_more c.loop-bit.perms c.with_perm-perms.result
+    (λ b. gives (class_at b) (perm_at b) c.args.rule.now) c.loop-bit.bit c.with_perm-perms.ensures c.loop-bit.invariant

@@ -6,8 +6,10 @@ use Rattle.sm_rules.proofs.rules.all_rules.Given as goal
 abbrev pub invariant-loop-statement : goal.invariant-loop-statement
 invariant-loop-statement l = record {
   on : fault_among l.statements (drop l.statement-index l.statements) ≡ fault_among l.statements l.statements;
-  allowing : AllStandFor l.statements l.types.symbols.types (allow_rules (take l.statement-index l.statements)) l.draft.allows.items;
-  forbidding : AllStandFor l.statements l.types.symbols.types (neverallow_rules (take l.statement-index l.statements)) l.draft.neverallows.items;
+  allowing : AllStandFor l.statements l.types.symbols.types (allow_rules (take l.statement-index l.statements))
+      l.draft.allows.items;
+  forbidding : AllStandFor l.statements l.types.symbols.types (neverallow_rules (take l.statement-index l.statements))
+      l.draft.neverallows.items;
   few : length l.draft.allows.items + length l.draft.neverallows.items ≤ l.statement-index;
   fits : FitsRules (length l.types.symbols.types) l.draft.allows.items l.draft.neverallows.items;
 }

@@ -16,10 +16,14 @@ give_one-requires c = record {
 
 pub loop-name-preserved : goal.loop-name-preserved
 loop-name-preserved c =
-    given_more c.args.members.now.items c.loop-name.members.items c.give_one.new.members.items c.args.attributes.now c.list-name-items.result.now c.args.t c.loop-name.name-index c.name-item.result
-    (omega arith) c.name-item.is c.give_one.ensures.count c.give_one.ensures.room (rw c.bytes.ensures at c.give_one.ensures.given) c.loop-name.invariant
+    given_more c.args.members.now.items c.loop-name.members.items c.give_one.new.members.items c.args.attributes.now
+    c.list-name-items.result.now c.args.t c.loop-name.name-index c.name-item.result
+    (omega arith) c.name-item.is c.give_one.ensures.count c.give_one.ensures.room
+    (rw c.bytes.ensures at c.give_one.ensures.given) c.loop-name.invariant
 
 pub returns : goal.returns
 returns c =
-    let all : take c.loop-name.name-index c.list-name-items.result.now ≡ c.args.names.now = take_all c.loop-name.name-index c.list-name-items.result.now (omega arith) ∙ c.list-name-items.ensures in
-    subst (λ (names : List Name). Given c.args.members.now.items c.loop-name.members.items c.args.attributes.now names c.args.t) all c.loop-name.invariant
+    let all : take c.loop-name.name-index c.list-name-items.result.now ≡ c.args.names.now =
+    take_all c.loop-name.name-index c.list-name-items.result.now (omega arith) ∙ c.list-name-items.ensures in
+    subst (λ (names : List Name). Given c.args.members.now.items c.loop-name.members.items c.args.attributes.now names
+    c.args.t) all c.loop-name.invariant

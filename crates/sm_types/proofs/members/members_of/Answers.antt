@@ -6,14 +6,19 @@ use Rattle.sm_types.proofs.Rows.{members_none, members_more}
 use Rattle.sm_types.proofs.members.members_of.Goals as goal
 
 pub loop-statement-init : goal.loop-statement-init
-loop-statement-init c = members_none c.args.symbols.now c.in_ok-members.members.items c.in_ok-members.ensures.0 c.in_ok-members.ensures.1
+loop-statement-init c = members_none c.args.symbols.now c.in_ok-members.members.items c.in_ok-members.ensures.0
+    c.in_ok-members.ensures.1
 
 pub loop-statement-preserved : goal.loop-statement-preserved
 loop-statement-preserved c =
-    members_more c.args.statements.now c.args.symbols.now c.loop-statement.members.items c.with_members.new.members.items c.loop-statement.statement-index c.statement-item.result
-    (omega arith) c.statement-item.is c.with_members.ensures.fits c.with_members.ensures.given c.loop-statement.invariant
+    members_more c.args.statements.now c.args.symbols.now c.loop-statement.members.items
+    c.with_members.new.members.items c.loop-statement.statement-index c.statement-item.result
+    (omega arith) c.statement-item.is c.with_members.ensures.fits c.with_members.ensures.given
+    c.loop-statement.invariant
 
 pub returns : goal.returns
 returns c =
-    let all : take c.loop-statement.statement-index c.args.statements.now ≡ c.args.statements.now = take_all c.loop-statement.statement-index c.args.statements.now (omega arith) in
-    subst (λ (sts : List Statement). MembersOf sts c.args.symbols.now c.loop-statement.members.items) all c.loop-statement.invariant
+    let all : take c.loop-statement.statement-index c.args.statements.now ≡ c.args.statements.now =
+    take_all c.loop-statement.statement-index c.args.statements.now (omega arith) in
+    subst (λ (sts : List Statement). MembersOf sts c.args.symbols.now c.loop-statement.members.items) all
+    c.loop-statement.invariant

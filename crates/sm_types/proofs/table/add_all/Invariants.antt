@@ -13,6 +13,7 @@ invariant-loop-word l = record {
   room : length l.set ≡ length l.initial.set;
   known : all_declared l.table.symbols (take l.word-index l.word-items) ≡ true;
   added : (policy : List Statement) → IsOf policy l.table → (i : ℕ) → i < length l.table.symbols.types
-      → has l.set i ≡ (has l.initial.set i || list_any (is_named policy (at l.table.symbols.types i)) (take l.word-index l.word-items));
+      → has l.set i ≡ (has l.initial.set i || list_any (is_named policy (at l.table.symbols.types i))
+      (take l.word-index l.word-items));
   past : (i : ℕ) → length l.table.symbols.types ≤ i → has l.set i ≡ has l.initial.set i;
 }

@@ -4,4 +4,5 @@ use Rattle.sm_bits.proofs.Words.{has_none}
 use Rattle.sm_bits.proofs.bit_row.BitRow.empty.Goals as goal
 
 pub returns-clause-none : goal.returns-clause-none
-returns-clause-none c j = ap (λ (xs : List ℕ). has xs j) (c.in_ok-words.ensures.items_if_clones_equal (λ y e. e)) ∙ has_none c.args.words j
+returns-clause-none c j = ap (λ (xs : List ℕ). has xs j) (c.in_ok-words.ensures.items_if_clones_equal (λ y e. e))
+    ∙ has_none c.args.words j

@@ -4,7 +4,8 @@ use Rattle.sm_types.proofs.NameLemmas.{named_at}
 use Rattle.sm_types.proofs.types.Types.index.Goals as goal
 
 pub returns-in-Some-clause-named : goal.returns-in-Some-clause-named
-returns-in-Some-clause-named c = rw (← c.self.view_is) (named_at c.self.inside.table.symbols.types c.args.name.now c.in-Some.i (cc))
+returns-in-Some-clause-named c = rw (← c.self.view_is)
+    (named_at c.self.inside.table.symbols.types c.args.name.now c.in-Some.i (cc))
 
 pub returns-in-Some-clause-declared : goal.returns-in-Some-clause-declared
 returns-in-Some-clause-declared c policy is =

@@ -1,5 +1,7 @@
-use super::*;
+//! The declarations of rule texts: which are refused, and the types that sets denote.
+
 use sm_ruletext::{Statement, What, read};
+use sm_types::{Types, TypesFault};
 use std::alloc::{AllocError, Global};
 use std::test::*;
 
@@ -65,7 +67,7 @@ fn faults(rt: HostRuntime) -> Result<(), Fail> {
 }
 
 /// Declarations of different names: `count` of them, each with its keyword.
-fn declarations(alloc: Global, keyword: &[u8], count: u32) -> Result<Vec<u8>, AllocError> {
+fn names_declared(alloc: Global, keyword: &[u8], count: u32) -> Result<Vec<u8>, AllocError> {
     let mut text = Vec::new(alloc);
     for i in 0..count {
         text.extend_from_slice(keyword)?;
@@ -83,12 +85,12 @@ fn most_names(rt: HostRuntime) -> Result<(), Fail> {
         (b"type t".as_slice(), 4096),
         (b"attribute t".as_slice(), 1024),
     ] {
-        let text = declarations(rt.alloc(), keyword, most)?;
+        let text = names_declared(rt.alloc(), keyword, most)?;
         let types = Types::build(rt.alloc(), &statements(rt.alloc(), &text)?)
             .ok()
             .ok_or("built")?;
         assert_eq!(rt; types.count() + types.attribute_count(), most as usize);
-        let text = declarations(rt.alloc(), keyword, most + 1)?;
+        let text = names_declared(rt.alloc(), keyword, most + 1)?;
         let refused = Types::build(rt.alloc(), &statements(rt.alloc(), &text)?).err();
         assert_eq!(rt; refused, Some(TypesFault::TooMany));
     }
