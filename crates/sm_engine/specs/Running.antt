@@ -7,7 +7,8 @@ use Rattle.sm_wire.specs.Items.{Scan, IsAlive, IsDead, has_rest, items_of, rest_
 use Rattle.sm_engine.specs.declared.fault.Fault.{Fault}
 use Rattle.sm_engine.specs.declared.fault.Fault.TheVariants.{ReadFault, WriteFault, TooManyReads, LineTooLong, Memory}
 
--- these items, in order, are answered by this text and these audit lines, and the machine goes from the first state to the last
+-- these items, in order, are answered by this text and these audit lines, and the machine goes from the first state
+-- to the last
 abbrev pub Runs : {S : Type 0} → (S → Item → List ℕ → List ℕ → S → Type 0) → S → List Item → List ℕ → List ℕ → S
     → Type 0
 Runs answers s [] replies audit t = (s ≡ t) × (replies ≡ []) × (audit ≡ [])
