@@ -1,5 +1,6 @@
 -- One read or write after another, on the bytes that are known.
-use Rattle.std.proofs.Common.{◌≡◌, ℕ, ◌+◌, ◌-◌, ◌≤◌, List, [], ◌++◌, length, take, drop, Option, Some, None, refl, sym, ◌∙◌, append_assoc}
+use Rattle.std.proofs.Common.{◌≡◌, ℕ, ◌+◌, ◌-◌, ◌≤◌, List, [], ◌++◌, length, take, drop, Option, Some, None, refl, sym}
+use Rattle.std.proofs.Common.{◌∙◌, append_assoc}
 use Rattle.std.proofs.lemmas.List.{append-nil, take-take, take-append-drop}
 use Rattle.std.proofs.Math.Seq.{take-add}
 use Rattle.std.specs.Io.KnownBytes.{Appends, Consumes, Keeps}
@@ -26,8 +27,11 @@ Consumes-nothing None = tt
 Consumes-nothing (Some xs) = refl
 
 -- one more write of a text, of which `at` bytes are written
-pub Appends-more : (a b c : Option (List ℕ)) (text : List ℕ) (at n : ℕ) → n ≤ length text - at → Appends a b (take at text) → Appends b c (take n (take (length text - at) (drop at text))) → Appends a c (take (at + n) text)
-Appends-more a b c text at n le p q = rw (take-add at n text) (Appends-then a b c _ _ p (rw (take-take n (length text - at) (drop at text) le) at q))
+pub Appends-more : (a b c : Option (List ℕ)) (text : List ℕ) (at n : ℕ) → n ≤ length text - at
+    → Appends a b (take at text) → Appends b c (take n (take (length text - at) (drop at text)))
+    → Appends a c (take (at + n) text)
+Appends-more a b c text at n le p q = rw (take-add at n text) (Appends-then a b c _ _ p
+    (rw (take-take n (length text - at) (drop at text) le) at q))
 
 pub Spilled-none : (a : Option (List ℕ)) (held : List ℕ) → Spilled a a held held
 Spilled-none a held = record { written = []; appended = Appends-nothing a; joined = refl }
@@ -39,14 +43,16 @@ Spilled-all a b held rest e p = record { written = held; appended = p; joined = 
 pub Pending-start : (a : Option (List ℕ)) (held : List ℕ) → held ≡ [] → Pending a a held []
 Pending-start a held e = record { written = []; appended = Appends-nothing a; joined = sym e }
 
-pub Pending-spill : {a b c : Option (List ℕ)} {held rest whole : List ℕ} → Pending a b held whole → Spilled b c held rest → Pending a c rest whole
+pub Pending-spill : {a b c : Option (List ℕ)} {held rest whole : List ℕ} → Pending a b held whole
+    → Spilled b c held rest → Pending a c rest whole
 Pending-spill {a} {b} {c} {held} {rest} {whole} p s = record {
   written = p.written ++ s.written;
   appended = Appends-then a b c _ _ p.appended s.appended;
   joined = p.joined ∙ rw (s.joined, append_assoc) refl;
 }
 
-pub Pending-more : {a b : Option (List ℕ)} {held held' whole : List ℕ} (more : List ℕ) → Pending a b held whole → held' ≡ held ++ more → Pending a b held' (whole ++ more)
+pub Pending-more : {a b : Option (List ℕ)} {held held' whole : List ℕ} (more : List ℕ) → Pending a b held whole
+    → held' ≡ held ++ more → Pending a b held' (whole ++ more)
 Pending-more {a} {b} {held} {held'} {whole} more p e = record {
   written = p.written;
   appended = p.appended;
@@ -54,9 +60,15 @@ Pending-more {a} {b} {held} {held'} {whole} more p e = record {
 }
 
 pub Partly-pending : {a b : Option (List ℕ)} {held whole : List ℕ} → Pending a b held whole → Partly a b whole
-Partly-pending {a} {b} {held} {whole} p = record { written = p.written; missing = held; appended = p.appended; joined = p.joined }
+Partly-pending {a} {b} {held} {whole} p = record {
+  written = p.written;
+  missing = held;
+  appended = p.appended;
+  joined = p.joined;
+}
 
-pub Partly-front : {a b : Option (List ℕ)} (c : Option (List ℕ)) {held whole : List ℕ} (n : ℕ) → Pending a b held whole → Appends b c (take n held) → Partly a c whole
+pub Partly-front : {a b : Option (List ℕ)} (c : Option (List ℕ)) {held whole : List ℕ} (n : ℕ) → Pending a b held whole
+    → Appends b c (take n held) → Partly a c whole
 Partly-front {a} {b} c {held} {whole} n p q = record {
   written = p.written ++ take n held;
   missing = drop n held;
@@ -64,7 +76,8 @@ Partly-front {a} {b} c {held} {whole} n p q = record {
   joined = p.joined ∙ rw (append_assoc, take-append-drop n held) refl;
 }
 
-pub Appends-pending : {a b : Option (List ℕ)} (c : Option (List ℕ)) {held whole : List ℕ} → Pending a b held whole → Appends b c held → Appends a c whole
+pub Appends-pending : {a b : Option (List ℕ)} (c : Option (List ℕ)) {held whole : List ℕ} → Pending a b held whole
+    → Appends b c held → Appends a c whole
 Appends-pending {a} {b} c {held} {whole} p q = rw p.joined (Appends-then a b c _ _ p.appended q)
 
 pub Consumes-keeps : (a b c : Option (List ℕ)) (x : List ℕ) → Consumes a b x → Keeps b c → Consumes a c x
@@ -73,5 +86,11 @@ Consumes-keeps (Some xs) None c x p q = absurd p
 Consumes-keeps (Some xs) (Some ys) None x p q = absurd q
 Consumes-keeps (Some xs) (Some ys) (Some zs) x p q = rw q p
 
-pub Partly-more : {a b : Option (List ℕ)} {whole : List ℕ} (more : List ℕ) → Partly a b whole → Partly a b (whole ++ more)
-Partly-more {a} {b} {whole} more p = record { written = p.written; missing = p.missing ++ more; appended = p.appended; joined = rw (p.joined, append_assoc) refl }
+pub Partly-more : {a b : Option (List ℕ)} {whole : List ℕ} (more : List ℕ) → Partly a b whole
+    → Partly a b (whole ++ more)
+Partly-more {a} {b} {whole} more p = record {
+  written = p.written;
+  missing = p.missing ++ more;
+  appended = p.appended;
+  joined = rw (p.joined, append_assoc) refl;
+}

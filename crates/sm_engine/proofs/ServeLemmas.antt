@@ -1,26 +1,22 @@
 -- How an engine's promise follows from read to read.
-use Rattle.std.proofs.Common.{◌≡◌, ℕ, ◌+◌, ◌<◌, ◌≤◌, length, length-append, arith, List, [], ◌∷◌, ◌++◌, take, Option, Result, Ok, Err, OnOk, OnErr, refl, sym, append_assoc, subst, inl, inr, ◌⊎◌, drop}
+use Rattle.std.proofs.Common.{◌≡◌, ℕ, ◌+◌, ◌<◌, ◌≤◌, length, length-append, arith, List, [], ◌++◌, take, Option}
+use Rattle.std.proofs.Common.{Result, Ok, Err, OnOk, OnErr, refl, sym, append_assoc, subst, inl, inr, ◌⊎◌, drop}
 use Rattle.std.proofs.lemmas.List.{append-nil, take-append-drop}
 use Rattle.std.specs.Io.KnownBytes.{Appends, Consumes, Keeps}
 use Rattle.sm_wire.specs.declared.item.Item.{Item}
-use Rattle.sm_wire.specs.Items.{Scan, IsAlive, IsDead, scan_start, byte_step, items_after, scan_after, items_of, rest_of}
+use Rattle.sm_wire.specs.Items.{Scan, IsAlive, IsDead, scan_start, items_after, scan_after, items_of}
+use Rattle.sm_wire.specs.Items.{rest_of}
+use Rattle.sm_wire.proofs.ItemLemmas.{items_after-append, scan_after-append}
 use Rattle.sm_engine.specs.declared.fault.Fault.{Fault}
 use Rattle.sm_engine.specs.declared.fault.Fault.TheVariants.{ReadFault, WriteFault, TooManyReads, LineTooLong, Memory}
 use Rattle.sm_engine.specs.Running.{Wrote, Stopped, Partly, Sofar, Served, ending_of}
 use Rattle.sm_engine.proofs.KnownLemmas.{Appends-then, Appends-nothing, Consumes-then, Consumes-nothing, Consumes-keeps}
 use Rattle.sm_engine.proofs.RunLemmas.{Runs-append}
 
--- the items of two pieces, one after another
-items_after-append : (s : Scan) (xs ys : List ℕ) → items_after s (xs ++ ys) ≡ items_after s xs ++ items_after (scan_after s xs) ys
-items_after-append s [] ys = refl
-items_after-append s (x ∷ xs) ys = rw (items_after-append (byte_step s x).0 xs ys, append_assoc) refl
-
-scan_after-append : (s : Scan) (xs ys : List ℕ) → scan_after s (xs ++ ys) ≡ scan_after (scan_after s xs) ys
-scan_after-append s [] ys = refl
-scan_after-append s (x ∷ xs) ys = scan_after-append (byte_step s x).0 xs ys
-
 -- items that were answered one list after another
-pub Wrote-then : {S : Type 0} {answers : S → Item → List ℕ → List ℕ → S → Type 0} {old m t : S} {is js : List Item} {w w' w'' a a' a'' : Option (List ℕ)} → Wrote answers old is w w' a a' m → Wrote answers m js w' w'' a' a'' t → Wrote answers old (is ++ js) w w'' a a'' t
+pub Wrote-then : {S : Type 0} {answers : S → Item → List ℕ → List ℕ → S → Type 0} {old m t : S} {is js : List Item}
+    {w w' w'' a a' a'' : Option (List ℕ)} → Wrote answers old is w w' a a' m → Wrote answers m js w' w'' a' a'' t
+    → Wrote answers old (is ++ js) w w'' a a'' t
 Wrote-then {S} {answers} {old} {m} {t} {is} {js} {w} {w'} {w''} {a} {a'} {a''} p q = record {
   replies = p.replies ++ q.replies;
   lines = p.lines ++ q.lines;
@@ -37,7 +33,9 @@ Partly-after a b c x whole p q = record {
   joined = rw (q.joined, append_assoc) refl;
 }
 
-pub Stopped-then : {S : Type 0} {answers : S → Item → List ℕ → List ℕ → S → Type 0} {old m t : S} {is js : List Item} {w w' w'' a a' a'' : Option (List ℕ)} → Wrote answers old is w w' a a' m → Stopped answers m js w' w'' a' a'' t → Stopped answers old (is ++ js) w w'' a a'' t
+pub Stopped-then : {S : Type 0} {answers : S → Item → List ℕ → List ℕ → S → Type 0} {old m t : S} {is js : List Item}
+    {w w' w'' a a' a'' : Option (List ℕ)} → Wrote answers old is w w' a a' m → Stopped answers m js w' w'' a' a'' t
+    → Stopped answers old (is ++ js) w w'' a a'' t
 Stopped-then {S} {answers} {old} {m} {t} {is} {js} {w} {w'} {w''} {a} {a'} {a''} p q = record {
   answered = is ++ q.answered;
   others = q.others;
@@ -50,26 +48,44 @@ Stopped-then {S} {answers} {old} {m} {t} {is} {js} {w} {w'} {w''} {a} {a'} {a''}
 }
 
 -- before the first read
-pub sofar_start : {S : Type 0} (answers : S → Item → List ℕ → List ℕ → S → Type 0) (s : S) (scan : Scan) (r w a : Option (List ℕ)) → scan ≡ scan_start → Sofar answers 0 s scan r r w w a a s
+pub sofar_start : {S : Type 0} (answers : S → Item → List ℕ → List ℕ → S → Type 0) (s : S) (scan : Scan)
+    (r w a : Option (List ℕ)) → scan ≡ scan_start → Sofar answers 0 s scan r r w w a a s
 sofar_start answers s scan r w a e = record {
   bytes = [];
   consumed = Consumes-nothing r;
   scanned = e;
   alive = λ h. cc;
   enough = omega arith;
-  wrote = record { replies = []; lines = []; runs = (refl, refl, refl); wrote = Appends-nothing w; audited = Appends-nothing a };
+  wrote = record {
+    replies = [];
+    lines = [];
+    runs = (refl, refl, refl);
+    wrote = Appends-nothing w;
+    audited = Appends-nothing a;
+  };
 }
 
 -- one more piece
-pub sofar_wrote : {S : Type 0} {n : ℕ} {answers : S → Item → List ℕ → List ℕ → S → Type 0} {old m t : S} {scan : Scan} {r r' w w' w'' a a' a'' : Option (List ℕ)} (r'' : Option (List ℕ)) (piece : List ℕ) → (p : Sofar answers n old scan r r' w w' a a' m) → Consumes r' r'' piece → Wrote answers m (items_after scan piece) w' w'' a' a'' t → Wrote answers old (items_of (p.bytes ++ piece)) w w'' a a'' t
+pub sofar_wrote : {S : Type 0} {n : ℕ} {answers : S → Item → List ℕ → List ℕ → S → Type 0} {old m t : S} {scan : Scan}
+    {r r' w w' w'' a a' a'' : Option (List ℕ)} (r'' : Option (List ℕ)) (piece : List ℕ)
+    → (p : Sofar answers n old scan r r' w w' a a' m) → Consumes r' r'' piece
+    → Wrote answers m (items_after scan piece) w' w'' a' a'' t → Wrote answers old (items_of (p.bytes ++ piece)) w w'' a
+    a'' t
 sofar_wrote {answers = answers} {m = m} {t = t} {w' = w'} {w'' = w''} {a' = a'} {a'' = a''} r'' piece p c q =
-    rw (items_after-append scan_start p.bytes piece) (Wrote-then p.wrote (subst (λ (l : Scan). Wrote answers m (items_after l piece) w' w'' a' a'' t) p.scanned q))
+    rw (items_after-append scan_start p.bytes piece) (Wrote-then p.wrote
+    (subst (λ (l : Scan). Wrote answers m (items_after l piece) w' w'' a' a'' t) p.scanned q))
 
-pub sofar_scanned : {S : Type 0} {n : ℕ} {answers : S → Item → List ℕ → List ℕ → S → Type 0} {old m : S} {scan : Scan} {r r' w w' a a' : Option (List ℕ)} (piece : List ℕ) (next : Scan) → (p : Sofar answers n old scan r r' w w' a a' m) → next ≡ scan_after scan piece → next ≡ rest_of (p.bytes ++ piece)
+pub sofar_scanned : {S : Type 0} {n : ℕ} {answers : S → Item → List ℕ → List ℕ → S → Type 0} {old m : S} {scan : Scan}
+    {r r' w w' a a' : Option (List ℕ)} (piece : List ℕ) (next : Scan) → (p : Sofar answers n old scan r r' w w' a a' m)
+    → next ≡ scan_after scan piece → next ≡ rest_of (p.bytes ++ piece)
 sofar_scanned {scan = scan} piece next p e =
     rw (scan_after-append scan_start p.bytes piece) (subst (λ (l : Scan). next ≡ scan_after l piece) p.scanned e)
 
-pub sofar_next : {S : Type 0} {n : ℕ} {answers : S → Item → List ℕ → List ℕ → S → Type 0} {old m t : S} {scan : Scan} {r r' w w' w'' a a' a'' : Option (List ℕ)} (r'' : Option (List ℕ)) (piece : List ℕ) → (p : Sofar answers n old scan r r' w w' a a' m) → Consumes r' r'' piece → Wrote answers m (items_after scan piece) w' w'' a' a'' t → (next : Scan) → next ≡ scan_after scan piece → IsAlive next → 0 < length piece → Sofar answers (n + 1) old next r r'' w w'' a a'' t
+pub sofar_next : {S : Type 0} {n : ℕ} {answers : S → Item → List ℕ → List ℕ → S → Type 0} {old m t : S} {scan : Scan}
+    {r r' w w' w'' a a' a'' : Option (List ℕ)} (r'' : Option (List ℕ)) (piece : List ℕ)
+    → (p : Sofar answers n old scan r r' w w' a a' m) → Consumes r' r'' piece
+    → Wrote answers m (items_after scan piece) w' w'' a' a'' t → (next : Scan) → next ≡ scan_after scan piece
+    → IsAlive next → 0 < length piece → Sofar answers (n + 1) old next r r'' w w'' a a'' t
 sofar_next {r = r} {r' = r'} r'' piece p c q next e alive some =
     let s = sofar_scanned piece next p e in
     record {
@@ -82,7 +98,11 @@ sofar_next {r = r} {r' = r'} r'' piece p c q next e alive some =
     }
 
 -- a line is too long in this piece
-pub served_long : {S : Type 0} {n bound : ℕ} {answers : S → Item → List ℕ → List ℕ → S → Type 0} {old m t : S} {scan : Scan} {r r' w w' w'' a a' a'' : Option (List ℕ)} (r'' : Option (List ℕ)) (piece : List ℕ) → (p : Sofar answers n old scan r r' w w' a a' m) → Consumes r' r'' piece → Wrote answers m (items_after scan piece) w' w'' a' a'' t → (next : Scan) → next ≡ scan_after scan piece → IsDead next → Served answers (Err LineTooLong) bound old r r'' w w'' a a'' t
+pub served_long : {S : Type 0} {n bound : ℕ} {answers : S → Item → List ℕ → List ℕ → S → Type 0} {old m t : S}
+    {scan : Scan} {r r' w w' w'' a a' a'' : Option (List ℕ)} (r'' : Option (List ℕ)) (piece : List ℕ)
+    → (p : Sofar answers n old scan r r' w w' a a' m) → Consumes r' r'' piece
+    → Wrote answers m (items_after scan piece) w' w'' a' a'' t → (next : Scan) → next ≡ scan_after scan piece
+    → IsDead next → Served answers (Err LineTooLong) bound old r r'' w w'' a a'' t
 served_long {r = r} {r' = r'} r'' piece p c q next e dead =
     let s = sofar_scanned piece next p e in
     record {
@@ -92,23 +112,58 @@ served_long {r = r} {r' = r'} r'' piece p c q next e dead =
     }
 
 -- memory or a writer fails in this piece
-pub served_stop : {S : Type 0} {n bound : ℕ} {answers : S → Item → List ℕ → List ℕ → S → Type 0} {old m t : S} {scan : Scan} {r r' w w' w'' a a' a'' : Option (List ℕ)} (r'' : Option (List ℕ)) (piece : List ℕ) → (p : Sofar answers n old scan r r' w w' a a' m) → Consumes r' r'' piece → Stopped answers m (items_after scan piece) w' w'' a' a'' t → (f : Fault) → (f ≡ WriteFault) ⊎ (f ≡ Memory) → Served answers (Err f) bound old r r'' w w'' a a'' t
-served_stop {answers = answers} {old = old} {m = m} {t = t} {r = r} {r' = r'} {w = w} {w' = w'} {w'' = w''} {a = a} {a' = a'} {a'' = a''} r'' piece p c q f which =
-    let stopped : Stopped answers old (items_of (p.bytes ++ piece)) w w'' a a'' t = rw (items_after-append scan_start p.bytes piece) (Stopped-then p.wrote (subst (λ (l : Scan). Stopped answers m (items_after l piece) w' w'' a' a'' t) p.scanned q)) in
+pub served_stop : {S : Type 0} {n bound : ℕ} {answers : S → Item → List ℕ → List ℕ → S → Type 0} {old m t : S}
+    {scan : Scan} {r r' w w' w'' a a' a'' : Option (List ℕ)} (r'' : Option (List ℕ)) (piece : List ℕ)
+    → (p : Sofar answers n old scan r r' w w' a a' m) → Consumes r' r'' piece
+    → Stopped answers m (items_after scan piece) w' w'' a' a'' t → (f : Fault) → (f ≡ WriteFault) ⊎ (f ≡ Memory)
+    → Served answers (Err f) bound old r r'' w w'' a a'' t
+served_stop {answers = answers} {old = old} {m = m} {t = t} {r = r} {r' = r'} {w = w} {w' = w'} {w'' = w''} {a = a}
+    {a' = a'} {a'' = a''} r'' piece p c q f which =
+    let stopped : Stopped answers old (items_of (p.bytes ++ piece)) w w'' a a'' t =
+    rw (items_after-append scan_start p.bytes piece) (Stopped-then p.wrote
+    (subst (λ (l : Scan). Stopped answers m (items_after l piece) w' w'' a' a'' t) p.scanned q)) in
     elim which [
-      | inl e ↦ rw e (record { bytes = p.bytes ++ piece; consumed = Consumes-then r r' r'' _ _ p.consumed c; written = inl stopped })
-      | inr e ↦ rw e (record { bytes = p.bytes ++ piece; consumed = Consumes-then r r' r'' _ _ p.consumed c; written = inl stopped })
+      | inl e ↦ rw e (record {
+        bytes = p.bytes ++ piece;
+        consumed = Consumes-then r r' r'' _ _ p.consumed c;
+        written = inl stopped;
+      })
+      | inr e ↦ rw e (record {
+        bytes = p.bytes ++ piece;
+        consumed = Consumes-then r r' r'' _ _ p.consumed c;
+        written = inl stopped;
+      })
     ]
 
 -- a read fails, or there were enough of them
-pub served_read_fault : {S : Type 0} {n bound : ℕ} {answers : S → Item → List ℕ → List ℕ → S → Type 0} {old m : S} {scan : Scan} {r r' w w' a a' : Option (List ℕ)} → (p : Sofar answers n old scan r r' w w' a a' m) → (r'' : Option (List ℕ)) → Keeps r' r'' → Served answers (Err ReadFault) bound old r r'' w w' a a' m
-served_read_fault {r = r} {r' = r'} p r'' q = record { bytes = p.bytes; consumed = Consumes-keeps r r' r'' _ p.consumed q; written = (p.wrote, p.alive) }
+pub served_read_fault : {S : Type 0} {n bound : ℕ} {answers : S → Item → List ℕ → List ℕ → S → Type 0} {old m : S}
+    {scan : Scan} {r r' w w' a a' : Option (List ℕ)} → (p : Sofar answers n old scan r r' w w' a a' m)
+    → (r'' : Option (List ℕ)) → Keeps r' r'' → Served answers (Err ReadFault) bound old r r'' w w' a a' m
+served_read_fault {r = r} {r' = r'} p r'' q = record {
+  bytes = p.bytes;
+  consumed = Consumes-keeps r r' r'' _ p.consumed q;
+  written = (p.wrote, p.alive);
+}
 
-pub served_enough : {S : Type 0} {n bound : ℕ} {answers : S → Item → List ℕ → List ℕ → S → Type 0} {old m : S} {scan : Scan} {r r' w w' a a' : Option (List ℕ)} → (p : Sofar answers n old scan r r' w w' a a' m) → bound ≤ n → Served answers (Err TooManyReads) bound old r r' w w' a a' m
-served_enough p le = record { bytes = p.bytes; consumed = p.consumed; written = (p.wrote, p.alive, omega (arith, p.enough)) }
+pub served_enough : {S : Type 0} {n bound : ℕ} {answers : S → Item → List ℕ → List ℕ → S → Type 0} {old m : S}
+    {scan : Scan} {r r' w w' a a' : Option (List ℕ)} → (p : Sofar answers n old scan r r' w w' a a' m) → bound ≤ n
+    → Served answers (Err TooManyReads) bound old r r' w w' a a' m
+served_enough p le = record {
+  bytes = p.bytes;
+  consumed = p.consumed;
+  written = (
+    p.wrote,
+    p.alive,
+    omega
+        (arith, p.enough),
+  );
+}
 
 -- the input ends
-pub served_end : {S : Type 0} {n bound : ℕ} {answers : S → Item → List ℕ → List ℕ → S → Type 0} {old m : S} {scan : Scan} {r r' w w' a a' : Option (List ℕ)} → (p : Sofar answers n old scan r r' w w' a a' m) → (r'' : Option (List ℕ)) → Consumes r' r'' [] → (w'' : Option (List ℕ)) → Appends w' w'' (ending_of scan) → Served answers (Ok tt) bound old r r'' w w'' a a' m
+pub served_end : {S : Type 0} {n bound : ℕ} {answers : S → Item → List ℕ → List ℕ → S → Type 0} {old m : S}
+    {scan : Scan} {r r' w w' a a' : Option (List ℕ)} → (p : Sofar answers n old scan r r' w w' a a' m)
+    → (r'' : Option (List ℕ)) → Consumes r' r'' [] → (w'' : Option (List ℕ)) → Appends w' w'' (ending_of scan)
+    → Served answers (Ok tt) bound old r r'' w w'' a a' m
 served_end {r = r} {r' = r'} {w = w} {w' = w'} p r'' c w'' q = record {
   bytes = p.bytes;
   consumed = rw (append-nil p.bytes) at (Consumes-then r r' r'' _ _ p.consumed c);
@@ -122,14 +177,33 @@ served_end {r = r} {r' = r'} {w = w} {w' = w'} p r'' c w'' q = record {
   };
 }
 
-pub served_end_fault : {S : Type 0} {n bound : ℕ} {answers : S → Item → List ℕ → List ℕ → S → Type 0} {old m : S} {scan : Scan} {r r' w w' a a' : Option (List ℕ)} → (p : Sofar answers n old scan r r' w w' a a' m) → (r'' : Option (List ℕ)) → Consumes r' r'' [] → (w'' : Option (List ℕ)) (n : ℕ) → Appends w' w'' (take n (ending_of scan)) → Served answers (Err WriteFault) bound old r r'' w w'' a a' m
+pub served_end_fault : {S : Type 0} {n bound : ℕ} {answers : S → Item → List ℕ → List ℕ → S → Type 0} {old m : S}
+    {scan : Scan} {r r' w w' a a' : Option (List ℕ)} → (p : Sofar answers n old scan r r' w w' a a' m)
+    → (r'' : Option (List ℕ)) → Consumes r' r'' [] → (w'' : Option (List ℕ)) (n : ℕ)
+    → Appends w' w'' (take n (ending_of scan)) → Served answers (Err WriteFault) bound old r r'' w w'' a a' m
 served_end_fault {scan = scan} {r = r} {r' = r'} {w = w} {w' = w'} p r'' c w'' n q = record {
   bytes = p.bytes;
   consumed = rw (append-nil p.bytes) at (Consumes-then r r' r'' _ _ p.consumed c);
-  written = inr (p.wrote.replies, p.wrote.lines, p.wrote.runs, Partly-after w w' w'' _ _ p.wrote.wrote (subst (λ (l : Scan). Partly w' w'' (ending_of l)) p.scanned (record { written = take n (ending_of scan); missing = drop n (ending_of scan); appended = q; joined = sym (take-append-drop n (ending_of scan)) })), p.wrote.audited);
+  written = inr (
+    p.wrote.replies,
+    p.wrote.lines,
+    p.wrote.runs,
+    Partly-after w w' w'' _ _ p.wrote.wrote
+        (subst (λ (l : Scan). Partly w' w'' (ending_of l)) p.scanned (record {
+          written = take n (ending_of scan);
+          missing = drop n (ending_of scan);
+          appended = q;
+          joined = sym (take-append-drop n (ending_of scan));
+        })),
+    p.wrote.audited,
+  );
 }
 
 -- the input ends, whether or not the ending is written
-pub served_at_end : {S : Type 0} {n bound : ℕ} {answers : S → Item → List ℕ → List ℕ → S → Type 0} {old m : S} {scan : Scan} {r r' w w' a a' : Option (List ℕ)} → (p : Sofar answers n old scan r r' w w' a a' m) → (r'' : Option (List ℕ)) → Consumes r' r'' [] → (w'' : Option (List ℕ)) (result : Result (Unit {0}) Fault) → OnOk result (Appends w' w'' (ending_of scan)) → OnErr result ((n : ℕ) × Appends w' w'' (take n (ending_of scan))) → OnErr result (result ≡ Err WriteFault) → Served answers result bound old r r'' w w'' a a' m
+pub served_at_end : {S : Type 0} {n bound : ℕ} {answers : S → Item → List ℕ → List ℕ → S → Type 0} {old m : S}
+    {scan : Scan} {r r' w w' a a' : Option (List ℕ)} → (p : Sofar answers n old scan r r' w w' a a' m)
+    → (r'' : Option (List ℕ)) → Consumes r' r'' [] → (w'' : Option (List ℕ)) (result : Result (Unit {0}) Fault)
+    → OnOk result (Appends w' w'' (ending_of scan)) → OnErr result ((n : ℕ) × Appends w' w'' (take n (ending_of scan)))
+    → OnErr result (result ≡ Err WriteFault) → Served answers result bound old r r'' w w'' a a' m
 served_at_end p r'' c w'' (Ok tt) good bad which = served_end p r'' c w'' good
 served_at_end p r'' c w'' (Err f) good bad which = rw which (served_end_fault p r'' c w'' bad.0 bad.1)

@@ -1,18 +1,24 @@
 -- What an engine writes for the bytes that it read.
-use Rattle.std.specs.Prelude.{◌≡◌, ◌⊎◌, ℕ, ◌≤◌, length, List, [], ◌∷◌, ◌++◌, Option, Result, Ok, Err, codes, if◌then◌else◌}
+use Rattle.std.specs.Prelude.{◌≡◌, ◌⊎◌, ℕ, ◌≤◌, length, List, [], ◌∷◌, ◌++◌, Option, Result, Ok, Err, codes}
+use Rattle.std.specs.Prelude.{if◌then◌else◌}
 use Rattle.std.specs.Io.KnownBytes.{Appends, Consumes}
 use Rattle.sm_wire.specs.declared.item.Item.{Item}
 use Rattle.sm_wire.specs.Items.{Scan, IsAlive, IsDead, has_rest, items_of, rest_of}
 use Rattle.sm_engine.specs.declared.fault.Fault.{Fault}
 use Rattle.sm_engine.specs.declared.fault.Fault.TheVariants.{ReadFault, WriteFault, TooManyReads, LineTooLong, Memory}
 
--- these items, in order, are answered by this text and these audit lines, and the machine goes from the first state to the last
-abbrev pub Runs : {S : Type 0} → (S → Item → List ℕ → List ℕ → S → Type 0) → S → List Item → List ℕ → List ℕ → S → Type 0
+-- these items, in order, are answered by this text and these audit lines, and the machine goes from the first state
+-- to the last
+abbrev pub Runs : {S : Type 0} → (S → Item → List ℕ → List ℕ → S → Type 0) → S → List Item → List ℕ → List ℕ → S
+    → Type 0
 Runs answers s [] replies audit t = (s ≡ t) × (replies ≡ []) × (audit ≡ [])
-Runs {S} answers s (item ∷ items) replies audit t = (m : S) × (r : List ℕ) × (a : List ℕ) × (rs : List ℕ) × (more : List ℕ) × answers s item r a m × Runs answers m items rs more t × (replies ≡ r ++ rs) × (audit ≡ a ++ more)
+Runs {S} answers s (item ∷ items) replies audit t = (m : S) × (r : List ℕ) × (a : List ℕ) × (rs : List ℕ)
+    × (more : List ℕ) × answers s item r a m × Runs answers m items rs more t × (replies ≡ r ++ rs)
+    × (audit ≡ a ++ more)
 
 -- one item's answer stands at the end of the two texts
-pub record Answered {S : Type 0} (answers : S → Item → List ℕ → List ℕ → S → Type 0) (old : S) (item : Item) (replies replies_new audit audit_new : List ℕ) (new : S) : Type 0 where
+pub record Answered {S : Type 0} (answers : S → Item → List ℕ → List ℕ → S → Type 0) (old : S) (item : Item)
+    (replies replies_new audit audit_new : List ℕ) (new : S) : Type 0 where
   pub reply : List ℕ
   pub lines : List ℕ
   pub step : answers old item reply lines new
@@ -40,7 +46,8 @@ pub record Spilled (old new : Option (List ℕ)) (held rest : List ℕ) : Type 0
   pub joined : held ≡ written ++ rest
 
 -- the items so far were answered, and of their texts some is held back
-pub record Going {S : Type 0} (answers : S → Item → List ℕ → List ℕ → S → Type 0) (old : S) (items : List Item) (w w_new a a_new : Option (List ℕ)) (held held_lines : List ℕ) (new : S) : Type 0 where
+pub record Going {S : Type 0} (answers : S → Item → List ℕ → List ℕ → S → Type 0) (old : S) (items : List Item)
+    (w w_new a a_new : Option (List ℕ)) (held held_lines : List ℕ) (new : S) : Type 0 where
   pub replies : List ℕ
   pub lines : List ℕ
   pub runs : Runs answers old items replies lines new
@@ -55,7 +62,8 @@ pub record Partly (old new : Option (List ℕ)) (whole : List ℕ) : Type 0 wher
   pub joined : whole ≡ written ++ missing
 
 -- all the items were answered and their texts written
-pub record Wrote {S : Type 0} (answers : S → Item → List ℕ → List ℕ → S → Type 0) (old : S) (items : List Item) (w w_new a a_new : Option (List ℕ)) (new : S) : Type 0 where
+pub record Wrote {S : Type 0} (answers : S → Item → List ℕ → List ℕ → S → Type 0) (old : S) (items : List Item)
+    (w w_new a a_new : Option (List ℕ)) (new : S) : Type 0 where
   pub replies : List ℕ
   pub lines : List ℕ
   pub runs : Runs answers old items replies lines new
@@ -63,7 +71,8 @@ pub record Wrote {S : Type 0} (answers : S → Item → List ℕ → List ℕ �
   pub audited : Appends a a_new lines
 
 -- the first of the items were answered, and fronts of their texts written
-pub record Stopped {S : Type 0} (answers : S → Item → List ℕ → List ℕ → S → Type 0) (old : S) (items : List Item) (w w_new a a_new : Option (List ℕ)) (new : S) : Type 0 where
+pub record Stopped {S : Type 0} (answers : S → Item → List ℕ → List ℕ → S → Type 0) (old : S) (items : List Item)
+    (w w_new a a_new : Option (List ℕ)) (new : S) : Type 0 where
   pub answered : List Item
   pub others : List Item
   pub all : items ≡ answered ++ others
@@ -74,7 +83,8 @@ pub record Stopped {S : Type 0} (answers : S → Item → List ℕ → List ℕ 
   pub audited : Partly a a_new lines
 
 -- at the end of the input: all is answered and written, and then what the engine says of a rest
-pub record Ended {S : Type 0} (answers : S → Item → List ℕ → List ℕ → S → Type 0) (old : S) (bytes : List ℕ) (w w_new a a_new : Option (List ℕ)) (new : S) : Type 0 where
+pub record Ended {S : Type 0} (answers : S → Item → List ℕ → List ℕ → S → Type 0) (old : S) (bytes : List ℕ)
+    (w w_new a a_new : Option (List ℕ)) (new : S) : Type 0 where
   pub replies : List ℕ
   pub lines : List ℕ
   pub runs : Runs answers old (items_of bytes) replies lines new
@@ -83,27 +93,35 @@ pub record Ended {S : Type 0} (answers : S → Item → List ℕ → List ℕ �
   pub alive : IsAlive (rest_of bytes)
 
 -- fronts of the two texts are written, or all but some of the ending
-abbrev pub Fronts : {S : Type 0} → (S → Item → List ℕ → List ℕ → S → Type 0) → S → List ℕ → Option (List ℕ) → Option (List ℕ) → Option (List ℕ) → Option (List ℕ) → S → Type 0
+abbrev pub Fronts : {S : Type 0} → (S → Item → List ℕ → List ℕ → S → Type 0) → S → List ℕ → Option (List ℕ)
+    → Option (List ℕ) → Option (List ℕ) → Option (List ℕ) → S → Type 0
 Fronts answers old bytes w w_new a a_new new = Stopped answers old (items_of bytes) w w_new a a_new new
-    ⊎ ((replies : List ℕ) × (lines : List ℕ) × Runs answers old (items_of bytes) replies lines new × Partly w w_new (replies ++ ending_of (rest_of bytes)) × Appends a a_new lines)
+    ⊎ ((replies : List ℕ) × (lines : List ℕ) × Runs answers old (items_of bytes) replies lines new
+    × Partly w w_new (replies ++ ending_of (rest_of bytes)) × Appends a a_new lines)
 
 -- what an engine that read these bytes has written, by its result
-abbrev pub ByResult : {S : Type 0} → Result (Unit {0}) Fault → ℕ → (S → Item → List ℕ → List ℕ → S → Type 0) → S → List ℕ → Option (List ℕ) → Option (List ℕ) → Option (List ℕ) → Option (List ℕ) → S → Type 0
+abbrev pub ByResult : {S : Type 0} → Result (Unit {0}) Fault → ℕ → (S → Item → List ℕ → List ℕ → S → Type 0) → S
+    → List ℕ → Option (List ℕ) → Option (List ℕ) → Option (List ℕ) → Option (List ℕ) → S → Type 0
 ByResult (Ok x) bound answers old bytes w w_new a a_new new = Ended answers old bytes w w_new a a_new new
-ByResult (Err ReadFault) bound answers old bytes w w_new a a_new new = Wrote answers old (items_of bytes) w w_new a a_new new × IsAlive (rest_of bytes)
-ByResult (Err TooManyReads) bound answers old bytes w w_new a a_new new = Wrote answers old (items_of bytes) w w_new a a_new new × IsAlive (rest_of bytes) × (bound ≤ length bytes)
-ByResult (Err LineTooLong) bound answers old bytes w w_new a a_new new = Wrote answers old (items_of bytes) w w_new a a_new new × IsDead (rest_of bytes)
+ByResult (Err ReadFault) bound answers old bytes w w_new a a_new new =
+    Wrote answers old (items_of bytes) w w_new a a_new new × IsAlive (rest_of bytes)
+ByResult (Err TooManyReads) bound answers old bytes w w_new a a_new new =
+    Wrote answers old (items_of bytes) w w_new a a_new new × IsAlive (rest_of bytes) × (bound ≤ length bytes)
+ByResult (Err LineTooLong) bound answers old bytes w w_new a a_new new =
+    Wrote answers old (items_of bytes) w w_new a a_new new × IsDead (rest_of bytes)
 ByResult (Err WriteFault) bound answers old bytes w w_new a a_new new = Fronts answers old bytes w w_new a a_new new
 ByResult (Err Memory) bound answers old bytes w w_new a a_new new = Fronts answers old bytes w w_new a a_new new
 
 -- an engine that may make `bound` reads read these bytes, at least one a read, and wrote for them
-pub record Served {S : Type 0} (answers : S → Item → List ℕ → List ℕ → S → Type 0) (result : Result (Unit {0}) Fault) (bound : ℕ) (old : S) (r r_new w w_new a a_new : Option (List ℕ)) (new : S) : Type 0 where
+pub record Served {S : Type 0} (answers : S → Item → List ℕ → List ℕ → S → Type 0) (result : Result (Unit {0}) Fault)
+    (bound : ℕ) (old : S) (r r_new w w_new a a_new : Option (List ℕ)) (new : S) : Type 0 where
   pub bytes : List ℕ
   pub consumed : Consumes r r_new bytes
   pub written : ByResult result bound answers old bytes w w_new a a_new new
 
 -- what holds after so many reads
-pub record Sofar {S : Type 0} (answers : S → Item → List ℕ → List ℕ → S → Type 0) (reads : ℕ) (old : S) (scan : Scan) (r r_new w w_new a a_new : Option (List ℕ)) (new : S) : Type 0 where
+pub record Sofar {S : Type 0} (answers : S → Item → List ℕ → List ℕ → S → Type 0) (reads : ℕ) (old : S) (scan : Scan)
+    (r r_new w w_new a a_new : Option (List ℕ)) (new : S) : Type 0 where
   pub bytes : List ℕ
   pub consumed : Consumes r r_new bytes
   pub scanned : scan ≡ rest_of bytes

@@ -11,7 +11,7 @@ use thiserror::Error;
 
 /// A security context, `user:role:type` or `user:role:type:range`, which contracts see as its text.
 /// The range is kept as text and never compared.
-#[derive(Debug, Drop)]
+#[derive(Debug)]
 pub struct Context {
     text: Bytes,
     kind: Bytes,
@@ -36,6 +36,13 @@ impl Model for Context {
     ghost view = { λ n. n.text };
 
     ghost invariant = { λ n. n.kind ≡ type_of n.text };
+}
+
+// By hand: where one is let go, a caller's proof has one step, and not those of its parts.
+impl Drop for Context {
+    fn drop(self) {
+        let Context { text: _, kind: _ } = self;
+    }
 }
 
 impl Clone for Context {

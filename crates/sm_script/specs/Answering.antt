@@ -33,7 +33,8 @@ the_administrator = record { 0 = 1 }
 -- a request is judged on the history that the requests before it left
 abbrev pub Judges : Book → Request → Reply → Book → Type 0
 Judges old (Hello who) reply new = AnswersNow old Manager (Connect who) reply new
-Judges old (AddRequest client name obj allow_isolated dump) reply new = AnswersNow old (Client client) (Add name obj allow_isolated dump) reply new
+Judges old (AddRequest client name obj allow_isolated dump) reply new =
+    AnswersNow old (Client client) (Add name obj allow_isolated dump) reply new
 Judges old (GetRequest client name) reply new = AnswersNow old (Client client) (Get name) reply new
 Judges old (Look client query) reply new = LooksAs old (Client client) query reply × (new ≡ old)
 Judges old (Ask query) reply new = LooksAs old (Admin the_administrator) query reply × (new ≡ old)

@@ -37,7 +37,8 @@ pub record Opens (rules contexts : List ℕ) (places : ℕ) (manager : Book) : T
 abbrev pub MayNotOpen : Policy → Refusal → Type 0
 MayNotOpen policy refusal =
     (refusal ≡ Memory)
-    ⊎ ((allowed policy (type_of the_manager.context) (type_of the_manager.context) Binder managing ≡ false) × (refusal ≡ opening_denial the_manager))
+    ⊎ ((allowed policy (type_of the_manager.context) (type_of the_manager.context) Binder managing ≡ false)
+    × (refusal ≡ opening_denial the_manager))
 
 -- the texts are those of a policy under which the manager wasn't opened
 pub record OpeningFails (rules contexts : List ℕ) (refusal : Refusal) : Type 0 where
@@ -52,18 +53,24 @@ NotRun rules contexts (Opening refusal) = OpeningFails rules contexts refusal
 NotRun rules contexts (Engine fault) = ⊥
 
 -- what the engine read and wrote, from a manager that was just opened to the last one
-pub record Ran (rules contexts : List ℕ) (places bound : ℕ) (result : Result (Unit {0}) Fault) (r r_new w w_new a a_new : Option (List ℕ)) : Type 0 where
+pub record Ran (rules contexts : List ℕ) (places bound : ℕ) (result : Result (Unit {0}) Fault)
+    (r r_new w w_new a a_new : Option (List ℕ)) : Type 0 where
   pub first : Book
   pub opened_first : Opens rules contexts places first
   pub last : Book
   pub served : Served AnswersItem result bound first r r_new w w_new a a_new last
 
 -- how a script ended
-abbrev pub RunsScript : Result (Unit {0}) ScriptFault → List ℕ → List ℕ → ℕ → ℕ → Option (List ℕ) → Option (List ℕ) → Option (List ℕ) → Option (List ℕ) → Option (List ℕ) → Option (List ℕ) → Type 0
-RunsScript (Ok x) rules contexts places bound r r_new w w_new a a_new = Ran rules contexts places bound (Ok x) r r_new w w_new a a_new
-RunsScript (Err (Engine fault)) rules contexts places bound r r_new w w_new a a_new = Ran rules contexts places bound (Err fault) r r_new w w_new a a_new
-RunsScript (Err (PolicyRefused fault)) rules contexts places bound r r_new w w_new a a_new = NotRun rules contexts (PolicyRefused fault)
-RunsScript (Err (Opening refusal)) rules contexts places bound r r_new w w_new a a_new = NotRun rules contexts (Opening refusal)
+abbrev pub RunsScript : Result (Unit {0}) ScriptFault → List ℕ → List ℕ → ℕ → ℕ → Option (List ℕ) → Option (List ℕ)
+    → Option (List ℕ) → Option (List ℕ) → Option (List ℕ) → Option (List ℕ) → Type 0
+RunsScript (Ok x) rules contexts places bound r r_new w w_new a a_new =
+    Ran rules contexts places bound (Ok x) r r_new w w_new a a_new
+RunsScript (Err (Engine fault)) rules contexts places bound r r_new w w_new a a_new =
+    Ran rules contexts places bound (Err fault) r r_new w w_new a a_new
+RunsScript (Err (PolicyRefused fault)) rules contexts places bound r r_new w w_new a a_new =
+    NotRun rules contexts (PolicyRefused fault)
+RunsScript (Err (Opening refusal)) rules contexts places bound r r_new w w_new a a_new =
+    NotRun rules contexts (Opening refusal)
 
 -- a fact, if nothing was run
 abbrev pub IfNotRun : Result (Unit {0}) ScriptFault → Type 0 → Type 0

@@ -11,7 +11,8 @@ fields_of-plain : (x : ℕ) (xs : List ℕ) → x ≢ 32 → fields_of (x ∷ xs
 fields_of-plain x xs n = grind (arith, nat_tests)
 
 -- the first field ends at the first space
-pub first_field : (rest : List ℕ) (n : ℕ) → n < length rest → ((k : ℕ) → k < n → get_or rest k 0 ≢ 32) → get_or rest n 0 ≡ 32 → fields_of rest ≡ take n rest ∷ fields_of (drop (suc n) rest)
+pub first_field : (rest : List ℕ) (n : ℕ) → n < length rest → ((k : ℕ) → k < n → get_or rest k 0 ≢ 32)
+    → get_or rest n 0 ≡ 32 → fields_of rest ≡ take n rest ∷ fields_of (drop (suc n) rest)
 first_field [] n l plain e = absurd (omega arith)
 first_field (x ∷ xs) zero l plain e = fields_of-space x xs e
 first_field (x ∷ xs) (suc n) l plain e =

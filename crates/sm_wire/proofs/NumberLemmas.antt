@@ -1,5 +1,7 @@
 -- Numbers and their decimal texts.
-use Rattle.std.proofs.Common.{◌≡◌, ◌≢◌, ℕ, suc, ◌+◌, ◌-◌, ◌*◌, ◌^◌, ◌<◌, ◌≤◌, Bool, true, false, ◌&&◌, if◌then◌else◌, nat_le, ◌==◌, zero, List, [], ◌∷◌, length, get_or, Option, Some, None, refl, sym, ◌∙◌, ap, subst, arith, inl, inr}
+use Rattle.std.proofs.Common.{◌≡◌, ◌≢◌, ℕ, suc, ◌+◌, ◌-◌, ◌*◌, ◌^◌, ◌<◌, ◌≤◌, Bool, true, false, ◌&&◌, if◌then◌else◌}
+use Rattle.std.proofs.Common.{nat_le, ◌==◌, zero, List, [], ◌∷◌, length, get_or, Option, Some, None, refl, sym, ◌∙◌, ap}
+use Rattle.std.proofs.Common.{subst, arith, inl, inr}
 use Rattle.std.proofs.lemmas.Bool.Decides.{nat_tests}
 use Rattle.std.proofs.lemmas.Bool.{cases_eq}
 use Rattle.std.proofs.lemmas.Str.{digit_value_digit}
@@ -22,10 +24,12 @@ tests : (b v max : ℕ) → IsInRange 48 57 b → v ≤ max → (is_ascii_digit 
 tests b v max r le = grind (arith, nat_tests)
 
 -- what is read are digits, and the number that they write
-said : (max n m : ℕ) (bs : List ℕ) → n ≤ max → digits_after max n bs ≡ Some m → AllDigits 10 bs × (digits_value_after 10 n bs ≡ m) × (m ≤ max)
+said : (max n m : ℕ) (bs : List ℕ) → n ≤ max → digits_after max n bs ≡ Some m → AllDigits 10 bs
+    × (digits_value_after 10 n bs ≡ m) × (m ≤ max)
 said max n m [] le e = let same : n ≡ m = cc in (tt, same, omega arith)
 said max n m (b ∷ bs) le e =
-    let t = if_some (is_ascii_digit b && nat_le (10 * n + (b - 48)) max) (digits_after max (10 * n + (b - 48)) bs) m e in
+    let t = if_some (is_ascii_digit b && nat_le (10 * n + (b - 48)) max)
+    (digits_after max (10 * n + (b - 48)) bs) m e in
     let d = tested b (10 * n + (b - 48)) max t.0 in
     let rest = said max (10 * n + (b - 48)) m bs d.1 t.1 in
     let next : 10 * n + (b - 48) ≡ n * 10 + digit_value b = omega (arith, digit_value_digit b d.0) in
@@ -37,7 +41,8 @@ grows n [] = omega arith
 grows n (b ∷ bs) = omega (arith, grows (n * 10 + digit_value b) bs)
 
 -- digits whose number is at most max are read
-heard : (max n : ℕ) (bs : List ℕ) → AllDigits 10 bs → digits_value_after 10 n bs ≤ max → digits_after max n bs ≡ Some (digits_value_after 10 n bs)
+heard : (max n : ℕ) (bs : List ℕ) → AllDigits 10 bs → digits_value_after 10 n bs ≤ max
+    → digits_after max n bs ≡ Some (digits_value_after 10 n bs)
 heard max n [] d le = refl
 heard max n (b ∷ bs) d le =
     let k = digit_from_value b d.0 in
@@ -47,11 +52,13 @@ heard max n (b ∷ bs) d le =
     rw (t, ← next) rest
 
 -- digits without a leading zero that write n, at most max
-whole : (max n b : ℕ) (bs : List ℕ) → max < 2 ^ 64 → b ≢ 48 → digits_after max 0 (b ∷ bs) ≡ Some n → (b ∷ bs ≡ decimal n) × (n ≤ max)
+whole : (max n b : ℕ) (bs : List ℕ) → max < 2 ^ 64 → b ≢ 48 → digits_after max 0 (b ∷ bs) ≡ Some n
+    → (b ∷ bs ≡ decimal n) × (n ≤ max)
 whole max n b bs small ne e =
     let s = said max 0 n (b ∷ bs) (omega arith) e in
     let v : digits_value 10 (b ∷ bs) ≡ n = s.1 in
-    let t = decimal-digits_value (numerals_by_value _ tells_digits) (b ∷ bs) s.0 (omega arith) (λ h. absurd (ne h)) (omega (arith, v)) in
+    let t = decimal-digits_value (numerals_by_value _ tells_digits) (b ∷ bs) s.0 (omega arith) (λ h. absurd (ne h))
+    (omega (arith, v)) in
     (sym (subst (λ m. decimal m ≡ b ∷ bs) v t), s.2)
 
 is_zero : {A : Type 0} (b : ℕ) (x y : A) → b ≡ 48 → (if b == 48 then x else y) ≡ x
@@ -61,12 +68,15 @@ is_no_zero : {A : Type 0} (b : ℕ) (x y : A) → b ≢ 48 → (if b == 48 then 
 is_no_zero b x y ne = grind (arith, nat_tests)
 
 decimal_zero : decimal 0 ≡ 48 ∷ []
-decimal_zero = decimal-digits_value (numerals_by_value _ tells_digits) (48 ∷ []) (omega arith, tt) (omega arith) (λ h. refl) (omega arith)
+decimal_zero = decimal-digits_value (numerals_by_value _ tells_digits) (48 ∷ []) (omega arith, tt) (omega arith)
+    (λ h. refl) (omega arith)
 
-pub one_number : (max n : ℕ) (text : List ℕ) → max < 2 ^ 64 → number_of max text ≡ Some n → (text ≡ decimal n) × (n ≤ max)
+pub one_number : (max n : ℕ) (text : List ℕ) → max < 2 ^ 64 → number_of max text ≡ Some n → (text ≡ decimal n)
+    × (n ≤ max)
 one_number max n [] small e = cc
 one_number max n (b ∷ []) small e = elim (cases_eq b 48) [
-  | inl z ↦ let k : 0 ≡ n = cc (is_zero b (Some 0) (digits_after max 0 (b ∷ [])) z, e) in rw (z, ← k) (sym decimal_zero, omega arith)
+  | inl z ↦ let k : 0 ≡ n = cc (is_zero b (Some 0) (digits_after max 0 (b ∷ [])) z, e) in
+      rw (z, ← k) (sym decimal_zero, omega arith)
   | inr ne ↦ whole max n b [] small ne (sym (is_no_zero b (Some 0) (digits_after max 0 (b ∷ [])) ne) ∙ e)
 ]
 one_number max n (b ∷ c ∷ bs) small e = elim (cases_eq b 48) [
@@ -75,7 +85,8 @@ one_number max n (b ∷ c ∷ bs) small e = elim (cases_eq b 48) [
 ]
 
 -- digits without a leading zero that write at most max are read
-unread : (max : ℕ) (ds : List ℕ) → AllDigits 10 ds → 0 < length ds → (get_or ds 0 0 ≡ 48 → length ds ≡ 1) → digits_value 10 ds ≤ max → number_of max ds ≡ Some (digits_value 10 ds)
+unread : (max : ℕ) (ds : List ℕ) → AllDigits 10 ds → 0 < length ds → (get_or ds 0 0 ≡ 48 → length ds ≡ 1)
+    → digits_value 10 ds ≤ max → number_of max ds ≡ Some (digits_value 10 ds)
 unread max [] d some lead le = absurd (omega arith)
 unread max (b ∷ []) d some lead le = elim (cases_eq b 48) [
   | inl z ↦ rw z refl

@@ -78,9 +78,11 @@ one_field_of client word field =
 
 -- what a client asks: one of those, `version`, or `add NAME REF ALLOW DUMP`
 unfoldable pub client_request_of : ClientId → List (List ℕ) → Option Request
-client_request_of client (word ∷ []) = if bytes_eq word (codes "version") then Some (Look client queries.Version) else None
+client_request_of client (word ∷ []) = if bytes_eq word (codes "version") then Some (Look client queries.Version)
+    else None
 client_request_of client (word ∷ a ∷ []) = one_field_of client word a
-client_request_of client (word ∷ a ∷ b ∷ c ∷ d ∷ []) = if bytes_eq word (codes "add") then add_of client a b c d else None
+client_request_of client (word ∷ a ∷ b ∷ c ∷ d ∷ []) = if bytes_eq word (codes "add") then add_of client a b c d
+    else None
 client_request_of client _ = None
 
 -- `N REQUEST`

@@ -1,5 +1,6 @@
 -- The items of a stream of bytes.
-use Rattle.std.specs.Prelude.{◌≡◌, ◌≢◌, ℕ, ◌+◌, List, [], ◌∷◌, ◌++◌, length, take, drop, Option, Some, None, Bool, true, false, ◌||◌, ◌&&◌, nat_le, ◌==◌, if◌then◌else◌}
+use Rattle.std.specs.Prelude.{◌≡◌, ◌≢◌, ℕ, ◌+◌, List, [], ◌∷◌, ◌++◌, length, take, drop, Option, Some, None, Bool, true}
+use Rattle.std.specs.Prelude.{false, ◌||◌, ◌&&◌, nat_le, ◌==◌, if◌then◌else◌}
 use Rattle.sm_wire.specs.declared.request.Request.{Request}
 use Rattle.sm_wire.specs.declared.item.Item.{Item}
 use Rattle.sm_wire.specs.declared.item.Item.TheVariants.{Asked, Policy, Malformed, LineTooLong}
@@ -49,13 +50,18 @@ item_of line = asked (request_of line)
 
 -- the item of a `reload` line and of the bytes behind it
 abbrev pub policy_item : Announced → List ℕ → Item
-policy_item a bytes = Policy (record { expected = a.expected; rules = take a.rules bytes; contexts = drop a.rules bytes })
+policy_item a bytes = Policy (record {
+  expected = a.expected;
+  rules = take a.rules bytes;
+  contexts = drop a.rules bytes;
+})
 
 -- the end of a `reload` line: its texts come, if it announces any
 unfoldable pub text_start : Announced → Step
 text_start a =
     if nat_le a.rules text_limit && nat_le a.contexts text_limit
-    then (if a.rules + a.contexts == 0 then (scan_start, policy_item a [] ∷ []) else (record { mode = TextsMode a; held = [] }, []))
+    then (if a.rules + a.contexts == 0 then (scan_start, policy_item a [] ∷ [])
+    else (record { mode = TextsMode a; held = [] }, []))
     else (scan_dead, LineTooLong ∷ [])
 
 -- the end of a line

@@ -15,11 +15,15 @@ use Rattle.sm_history.specs.declared.denial.Denial.{Denial}
 use Rattle.sm_history.specs.declared.denial.Denial.TheVariants.{Rule, App, Isolated}
 use Rattle.sm_history.specs.declared.event.Event.TheVariants as events
 use Rattle.sm_history.specs.declared.outcome.Outcome.{Outcome}
-use Rattle.sm_history.specs.declared.outcome.Outcome.TheVariants.{Opened, Connected, Added, Granted, Watched, Unwatched, Unregistered, Sent, Released, Taken, Died, Reloaded}
+use Rattle.sm_history.specs.declared.outcome.Outcome.TheVariants.{Opened, Connected, Added, Granted, Watched, Unwatched}
+use Rattle.sm_history.specs.declared.outcome.Outcome.TheVariants.{Unregistered, Sent, Released, Taken, Died, Reloaded}
 use Rattle.sm_history.specs.declared.refusal.Exception.{Exception}
-use Rattle.sm_history.specs.declared.refusal.Exception.TheVariants.{NotAdder, InvalidName, NullService, NullBinder, DeadOwner, TableFull, NothingToUnregister, NotRegistered, OtherObject, InUse}
+use Rattle.sm_history.specs.declared.refusal.Exception.TheVariants.{NotAdder, InvalidName, NullService, NullBinder}
+use Rattle.sm_history.specs.declared.refusal.Exception.TheVariants.{DeadOwner, TableFull, NothingToUnregister}
+use Rattle.sm_history.specs.declared.refusal.Exception.TheVariants.{NotRegistered, OtherObject, InUse}
 use Rattle.sm_history.specs.declared.refusal.Failure.{Failure}
-use Rattle.sm_history.specs.declared.refusal.Failure.TheVariants.{NotYours, NotConnected, OutOfTurn, BadHandle, TargetFull}
+use Rattle.sm_history.specs.declared.refusal.Failure.TheVariants.{NotYours, NotConnected, OutOfTurn, BadHandle}
+use Rattle.sm_history.specs.declared.refusal.Failure.TheVariants.{TargetFull}
 use Rattle.sm_history.specs.declared.refusal.Refusal.{Refusal}
 use Rattle.sm_history.specs.declared.refusal.Refusal.TheVariants as refusals
 use Rattle.sm_history.specs.declared.reply.Answer.{Answer}
@@ -40,7 +44,8 @@ spaced_name name = codes " " ++ name_text name
 -- `names VERSION LENGTH COUNT` and the names
 unfoldable pub names_text : ℕ → ℕ → List (List ℕ) → List ℕ
 names_text version count names =
-    numbered (codes "names ") version ++ numbered (codes " ") count ++ numbered (codes " ") (length names) ++ flat_map spaced_name names
+    numbered (codes "names ") version ++ numbered (codes " ") count ++ numbered (codes " ") (length names)
+    ++ flat_map spaced_name names
 
 -- `allowed VERSION LINE` or `unwritten VERSION`
 unfoldable pub why_text : ℕ → Option ℕ → List ℕ
@@ -78,7 +83,8 @@ registered_text object name given =
 
 -- `call oO PID UID PAYLOAD` and the references, or `registered oO NAME REF`
 unfoldable pub message_text : ℕ → Message → List ℕ
-message_text object (Called pid uid payload refs) = caller_text object pid uid ++ payload_text payload ++ flat_map spaced_given refs
+message_text object (Called pid uid payload refs) = caller_text object pid uid ++ payload_text payload
+    ++ flat_map spaced_given refs
 message_text object (Registered name given) = registered_text object name given
 
 unfoldable pub outcome_text : Outcome → List ℕ

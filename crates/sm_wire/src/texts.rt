@@ -3,6 +3,7 @@
 use std::marker::Model;
 
 /// A `reload` line with the texts that follow it.
+#[derive(Drop)]
 pub struct PolicyTexts {
     expected: u64,
     rules: Vec<u8>,
@@ -15,16 +16,6 @@ impl Model for PolicyTexts {
     ghost Value = { Texts };
 
     ghost view = { λ t. record { expected = t.expected; rules = t.rules.items; contexts = t.contexts.items } };
-}
-
-impl Drop for PolicyTexts {
-    fn drop(self) {
-        let PolicyTexts {
-            expected: _,
-            rules: _,
-            contexts: _,
-        } = self;
-    }
 }
 
 impl PolicyTexts {

@@ -4,6 +4,8 @@
 mod ending;
 mod files;
 mod options;
+#[cfg(test)]
+mod tests;
 
 use clap::error::ErrorKind;
 use ending::{Ending, NO_MEMORY};

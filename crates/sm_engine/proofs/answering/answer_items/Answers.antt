@@ -1,16 +1,16 @@
-use Rattle.std.proofs.Common.{◌≡◌, OnOk, OnErr, Result, Ok, Err, List, length, ◌++◌, ◌∷◌, [], sym, ◌∙◌, append_assoc, refl, arith}
+use Rattle.std.proofs.Common.{◌≡◌, List, length, ◌++◌, ◌∷◌, [], sym, ◌∙◌, append_assoc}
+use Rattle.std.proofs.Common.{refl, arith}
 use Rattle.std.proofs.lemmas.List.{append-nil}
+use Rattle.std.proofs.lemmas.Result.{on_ok_weaker, on_err_weaker}
 use Rattle.std.specs.Vec.Iter.{into_iter_items}
+use Rattle.sm_engine.proofs.Results.{on_err}
 use Rattle.sm_engine.proofs.KnownLemmas.{Spilled-all}
 use Rattle.sm_engine.proofs.RunLemmas.{going_answer, going_lost, going_spill, going_fail, going_fail_audit, going_end}
 use Rattle.sm_engine.proofs.answering.answer_items.Goals as goal
 
-on_err : {T E P : Type 0} (r : Result T E) → P → OnErr r P
-on_err (Ok x) p = tt
-on_err (Err e) p = p
-
 -- the items so far, with the next one, and those that are left
-joined : {X : Type 0} (before after done all : List X) (x : X) → done ++ before ≡ all → before ≡ x ∷ after → all ≡ (done ++ x ∷ []) ++ after
+joined : {X : Type 0} (before after done all : List X) (x : X) → done ++ before ≡ all → before ≡ x ∷ after
+    → all ≡ (done ++ x ∷ []) ++ after
 joined before after done all x e s = rw append_assoc (sym e ∙ rw s refl)
 
 -- none is left
@@ -20,20 +20,23 @@ none (x ∷ xs) done all e n = absurd (omega arith)
 
 pub returns-in_err-answer-clause-err : goal.returns-in_err-answer-clause-err
 returns-in_err-answer-clause-err g c =
-    on_err c.from_residual.result (going_lost c.loop-item.invariant.going c.in-Some.item _ c.in_err-answer.ensures.err _ _ (joined _ _ _ _ _ c.loop-item.invariant.left c.in-Some.ensures.steps.0))
+    on_err c.from_residual.result (going_lost c.loop-item.invariant.going c.in-Some.item _ c.in_err-answer.ensures.err _
+    _ (joined _ _ _ _ _ c.loop-item.invariant.left c.in-Some.ensures.steps.0))
 
 pub returns-in_err-spill-clause-err : goal.returns-in_err-spill-clause-err
 returns-in_err-spill-clause-err g c =
     let f = c.in_err-spill.ensures.front in
     let going = going_answer c.loop-item.invariant.going c.in_ok-answer.ensures.ok in
-    on_err c.from_residual-in_err-spill.result (going_fail going _ f.0 f.1 _ _ (joined _ _ _ _ _ c.loop-item.invariant.left c.in-Some.ensures.steps.0))
+    on_err c.from_residual-in_err-spill.result (going_fail going _ f.0 f.1 _ _
+    (joined _ _ _ _ _ c.loop-item.invariant.left c.in-Some.ensures.steps.0))
 
 pub loop-item-preserved : goal.loop-item-preserved
 loop-item-preserved g c = record {
   can = tt;
   finite = tt;
   left = sym (joined _ _ _ _ _ c.loop-item.invariant.left c.in-Some.ensures.steps.0);
-  going = going_spill (going_answer c.loop-item.invariant.going c.in_ok-answer.ensures.ok) c.in_ok-spill.ensures.ok c.in_ok-spill-2.ensures.ok;
+  going = going_spill (going_answer c.loop-item.invariant.going c.in_ok-answer.ensures.ok) c.in_ok-spill.ensures.ok
+      c.in_ok-spill-2.ensures.ok;
   writer_count = c.in_ok-spill.ensures.count ∙ c.loop-item.invariant.writer_count;
   audit_count = c.in_ok-spill-2.ensures.count ∙ c.loop-item.invariant.audit_count;
 }
@@ -42,27 +45,24 @@ pub returns-in_err-spill-2-clause-err : goal.returns-in_err-spill-2-clause-err
 returns-in_err-spill-2-clause-err g c =
     let f = c.in_err-spill-2.ensures.front in
     let going = going_answer c.loop-item.invariant.going c.in_ok-answer.ensures.ok in
-    on_err c.from_residual-in_err-spill-2.result (going_fail_audit going _ _ c.in_ok-spill.ensures.ok _ f.0 f.1 _ _ (joined _ _ _ _ _ c.loop-item.invariant.left c.in-Some.ensures.steps.0))
+    on_err c.from_residual-in_err-spill-2.result (going_fail_audit going _ _ c.in_ok-spill.ensures.ok _ f.0 f.1 _ _
+    (joined _ _ _ _ _ c.loop-item.invariant.left c.in-Some.ensures.steps.0))
 
 pub returns-in_err-write_held-clause-err : goal.returns-in_err-write_held-clause-err
 returns-in_err-write_held-clause-err g c =
     let f = c.in_err-write_held.ensures.front in
-    on_err c.from_residual-in_err-write_held.result (going_fail c.loop-item.invariant.going _ f.0 f.1 _ _ (sym c.loop-item.invariant.left))
-
-ok_case : {T E P Q : Type 0} (r : Result T E) → OnOk r P → (P → Q) → OnOk r Q
-ok_case (Ok x) p f = f p
-ok_case (Err e) p f = tt
-
-err_case : {T E P Q : Type 0} (r : Result T E) → OnErr r P → (P → Q) → OnErr r Q
-err_case (Ok x) p f = tt
-err_case (Err e) p f = f p
+    on_err c.from_residual-in_err-write_held.result (going_fail c.loop-item.invariant.going _ f.0 f.1 _ _
+    (sym c.loop-item.invariant.left))
 
 pub returns-clause-ok : goal.returns-clause-ok
 returns-clause-ok g c =
     let it = c.loop-item.item-iterator in
     let empty : length (into_iter_items it) ≡ 0 = omega (arith, it.rest.ok.0, c.in-None.ensures.steps.0) in
-    ok_case c.write_held-2.result c.write_held-2.ensures.ok (λ p. going_end c.loop-item.invariant.going _ _ c.in_ok-write_held.ensures.ok p _ (none _ _ _ c.loop-item.invariant.left empty))
+    on_ok_weaker c.write_held-2.result (λ p. going_end c.loop-item.invariant.going _ _
+    c.in_ok-write_held.ensures.ok p _ (none _ _ _ c.loop-item.invariant.left empty)) c.write_held-2.ensures.ok
 
 pub returns-clause-err : goal.returns-clause-err
 returns-clause-err g c =
-    err_case c.write_held-2.result c.write_held-2.ensures.front (λ f. going_fail_audit c.loop-item.invariant.going _ _ (Spilled-all _ _ _ _ c.in_ok-write_held.ensures.held c.in_ok-write_held.ensures.ok) _ f.0 f.1 _ _ (sym c.loop-item.invariant.left))
+    on_err_weaker c.write_held-2.result (λ f. going_fail_audit c.loop-item.invariant.going _ _
+    (Spilled-all _ _ _ _ c.in_ok-write_held.ensures.held c.in_ok-write_held.ensures.ok) _ f.0 f.1 _ _
+    (sym c.loop-item.invariant.left)) c.write_held-2.ensures.front

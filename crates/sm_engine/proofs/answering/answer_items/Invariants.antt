@@ -9,7 +9,9 @@ invariant-loop-item g l = record {
   can : (goal.iterator-loop-item g).can_next l.item-iterator;
   finite : (goal.iterator-loop-item g).is_finite l.item-iterator;
   left : l.yielded ++ into_iter_items l.item-iterator ≡ l.fn.items.items;
-  going : Going g.M.Machine.answers l.fn.machine l.yielded (g.W.Write.contents (inner_of l.fn.writer)) (g.W.Write.contents (inner_of l.writer)) (g.A.Write.contents (inner_of l.fn.audit)) (g.A.Write.contents (inner_of l.audit)) l.replies.items l.lines.items l.machine;
+  going : Going g.M.Machine.answers l.fn.machine l.yielded (g.W.Write.contents (inner_of l.fn.writer))
+      (g.W.Write.contents (inner_of l.writer)) (g.A.Write.contents (inner_of l.fn.audit))
+      (g.A.Write.contents (inner_of l.audit)) l.replies.items l.lines.items l.machine;
   writer_count : failures_of l.writer ≡ failures_of l.fn.writer;
   audit_count : failures_of l.audit ≡ failures_of l.fn.audit;
 }

@@ -1,15 +1,13 @@
-use Rattle.std.proofs.Common.{◌≡◌, ◌≢◌, ◌≤◌, ◌<◌, ℕ, List, length, take, OnErr, Result, Ok, Err, arith, refl, sym, ◌∙◌, inl, inr, true, false, ap, ◌⊎◌, []}
+use Rattle.std.proofs.Common.{◌≡◌, ◌≢◌, ◌≤◌, ◌<◌, ℕ, List, length, take, Err, arith, refl, sym, ◌∙◌}
+use Rattle.std.proofs.Common.{inl, inr, true, false, ap, ◌⊎◌, []}
 use Rattle.std.proofs.lemmas.List.{length-take-le}
-use Rattle.std.proofs.lemmas.Result.{err_from_is_err_and}
+use Rattle.std.proofs.lemmas.Result.{IfErr-at_err, err_from_is_err_and}
 use Rattle.std.specs.Io.KnownBytes.{Consumes}
 use Rattle.sm_engine.specs.declared.fault.Fault.{Fault}
 use Rattle.sm_engine.specs.declared.fault.Fault.TheVariants.{WriteFault, ReadFault, Memory}
-use Rattle.sm_engine.proofs.ServeLemmas.{sofar_start, sofar_next, served_long, served_stop, served_read_fault, served_enough, served_at_end}
+use Rattle.sm_engine.proofs.ServeLemmas.{sofar_start, sofar_next, served_long, served_stop, served_read_fault}
+use Rattle.sm_engine.proofs.ServeLemmas.{served_enough, served_at_end}
 use Rattle.sm_engine.proofs.running.run.Goals as goal
-
-err_case : {T E P : Type 0} {e : E} (r : Result T E) → r ≡ Err e → OnErr r P → P
-err_case (Ok x) h p = cc h
-err_case (Err e) h p = p
 
 -- a read that gave something
 some : (n : ℕ) (buffer : List ℕ) → n ≤ length buffer → n ≢ 0 → 0 < length (take n buffer)
@@ -30,7 +28,8 @@ pub returns-in_err-n-clause-served : goal.returns-in_err-n-clause-served
 returns-in_err-n-clause-served g c =
     let p = err_from_is_err_and c.from_residual.result c.from_residual.ensures.1 in
     let e = c.in_err-n.ensures.fault in
-    let f : c.from_residual.result ≡ Err ReadFault = p.1 ∙ ap (λ (f : Fault). Err f) (let g : p.0 ≡ ReadFault = cc (p.2, e) in g) in
+    let f : c.from_residual.result ≡ Err ReadFault = p.1 ∙ ap (λ (f : Fault). Err f)
+    (let g : p.0 ≡ ReadFault = cc (p.2, e) in g) in
     rw f (served_read_fault c.loop-reads.invariant.sofar _ c.in_err-n.ensures.keeps)
 
 pub returns-in_err-n-clause-read_fault : goal.returns-in_err-n-clause-read_fault
@@ -42,11 +41,12 @@ write_ending-requires g c = rw c.loop-reads.invariant.writer_count c.requires.wr
 pub returns-then-n-eq0-clause-served : goal.returns-then-n-eq0-clause-served
 returns-then-n-eq0-clause-served g c =
     let none : Consumes _ _ [] = rw c.if-n-eq0.true at c.in_ok-n.ensures.bytes in
-    served_at_end c.loop-reads.invariant.sofar _ none _ c.write_ending.result c.write_ending.ensures.ok c.write_ending.ensures.front c.write_ending.ensures.fault
+    served_at_end c.loop-reads.invariant.sofar _ none _ c.write_ending.result c.write_ending.ensures.ok
+    c.write_ending.ensures.front c.write_ending.ensures.fault
 
 pub returns-then-n-eq0-clause-write_fault : goal.returns-then-n-eq0-clause-write_fault
 returns-then-n-eq0-clause-write_fault g c = λ h.
-    let f = err_case c.write_ending.result h c.write_ending.ensures.failed in
+    let f = IfErr-at_err _ h c.write_ending.ensures.failed in
     omega (arith, c.loop-reads.invariant.writer_count, c.loop-reads.invariant.audit_count)
 
 pub take_piece-requires-clause-alive : goal.take_piece-requires-clause-alive
@@ -61,8 +61,10 @@ take_piece-requires-clause-audit g c = rw c.loop-reads.invariant.audit_count c.r
 pub returns-in_err-take_piece-clause-served : goal.returns-in_err-take_piece-clause-served
 returns-in_err-take_piece-clause-served g c =
     let p = err_from_is_err_and c.from_residual-in_err-take_piece.result c.from_residual-in_err-take_piece.ensures.1 in
-    let which : (c.in_err-take_piece.field-0.0 ≡ WriteFault) ⊎ (c.in_err-take_piece.field-0.0 ≡ Memory) = elim c.in_err-take_piece.ensures.fault [ inl e ↦ inl (cc e) | inr e ↦ inr (cc e) ] in
-    rw (p.1, p.2) (served_stop _ _ c.loop-reads.invariant.sofar c.in_ok-n.ensures.bytes c.in_err-take_piece.ensures.err _ which)
+    let which : (c.in_err-take_piece.field-0.0 ≡ WriteFault) ⊎ (c.in_err-take_piece.field-0.0 ≡ Memory) =
+    elim c.in_err-take_piece.ensures.fault [ inl e ↦ inl (cc e) | inr e ↦ inr (cc e) ] in
+    rw (p.1, p.2) (served_stop _ _ c.loop-reads.invariant.sofar c.in_ok-n.ensures.bytes c.in_err-take_piece.ensures.err
+    _ which)
 
 pub returns-in_err-take_piece-clause-write_fault : goal.returns-in_err-take_piece-clause-write_fault
 returns-in_err-take_piece-clause-write_fault g c = λ h.
@@ -72,11 +74,14 @@ returns-in_err-take_piece-clause-write_fault g c = λ h.
     omega (arith, f, c.loop-reads.invariant.writer_count, c.loop-reads.invariant.audit_count)
 
 pub returns-then-is_dead-clause-served : goal.returns-then-is_dead-clause-served
-returns-then-is_dead-clause-served g c = served_long _ _ c.loop-reads.invariant.sofar c.in_ok-n.ensures.bytes c.in_ok-take_piece.ensures.ok _ c.in_ok-take_piece.ensures.lines (c.if-is_dead.ensures.0 refl)
+returns-then-is_dead-clause-served g c = served_long _ _ c.loop-reads.invariant.sofar c.in_ok-n.ensures.bytes
+    c.in_ok-take_piece.ensures.ok _ c.in_ok-take_piece.ensures.lines (c.if-is_dead.ensures.0 refl)
 
 pub loop-reads-preserved : goal.loop-reads-preserved
 loop-reads-preserved g c = record {
-  sofar = sofar_next _ _ c.loop-reads.invariant.sofar c.in_ok-n.ensures.bytes c.in_ok-take_piece.ensures.ok _ c.in_ok-take_piece.ensures.lines (λ h. let no : false ≡ true = c.if-is_dead.ensures.1 h in cc) (some _ _ c.in_ok-n.ensures.within c.if-n-eq0.false);
+  sofar = sofar_next _ _ c.loop-reads.invariant.sofar c.in_ok-n.ensures.bytes c.in_ok-take_piece.ensures.ok _
+      c.in_ok-take_piece.ensures.lines (λ h. let no : false ≡ true = c.if-is_dead.ensures.1 h in cc)
+      (some _ _ c.in_ok-n.ensures.within c.if-n-eq0.false);
   reader_count = c.in_ok-n.ensures.count ∙ c.loop-reads.invariant.reader_count;
   writer_count = c.in_ok-take_piece.ensures.writer_count ∙ c.loop-reads.invariant.writer_count;
   audit_count = c.in_ok-take_piece.ensures.audit_count ∙ c.loop-reads.invariant.audit_count;

@@ -5,7 +5,10 @@ use Rattle.sm_engine.proofs.running.run.Given as goal
 
 abbrev pub invariant-loop-reads : goal.invariant-loop-reads
 invariant-loop-reads g l = record {
-  sofar : Sofar g.M.Machine.answers l.reads l.fn.machine l.lines (g.R.Read.remaining (inner_of l.fn.reader)) (g.R.Read.remaining (inner_of l.reader)) (g.W.Write.contents (inner_of l.fn.writer)) (g.W.Write.contents (inner_of l.writer)) (g.A.Write.contents (inner_of l.fn.audit)) (g.A.Write.contents (inner_of l.audit)) l.machine;
+  sofar : Sofar g.M.Machine.answers l.reads l.fn.machine l.lines (g.R.Read.remaining (inner_of l.fn.reader))
+      (g.R.Read.remaining (inner_of l.reader)) (g.W.Write.contents (inner_of l.fn.writer))
+      (g.W.Write.contents (inner_of l.writer)) (g.A.Write.contents (inner_of l.fn.audit))
+      (g.A.Write.contents (inner_of l.audit)) l.machine;
   reader_count : failures_of l.reader ≡ failures_of l.fn.reader;
   writer_count : failures_of l.writer ≡ failures_of l.fn.writer;
   audit_count : failures_of l.audit ≡ failures_of l.fn.audit;

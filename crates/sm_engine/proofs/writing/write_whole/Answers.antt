@@ -9,6 +9,7 @@ loop-at-preserved g c =
     let le : c.in-Ok.n ≤ length c.args.text.now - c.loop-at.at = grind (arith, common_steps) in
     record {
       within = omega arith;
-      written = Appends-more _ _ _ c.args.text.now c.loop-at.at c.in-Ok.n le c.loop-at.invariant.written c.in-Ok.ensures.bytes;
+      written = Appends-more _ _ _ c.args.text.now c.loop-at.at c.in-Ok.n le c.loop-at.invariant.written
+          c.in-Ok.ensures.bytes;
       count = grind (arith, nat_tests, c.in-Ok.ensures.count);
     }

@@ -6,7 +6,8 @@ use Rattle.sm_engine.proofs.writing.write_whole.Given as goal
 abbrev pub invariant-loop-at : goal.invariant-loop-at
 invariant-loop-at g l = record {
   within : l.at ≤ length l.text;
-  written : Appends (g.W.Write.contents (inner_of l.initial.writer)) (g.W.Write.contents (inner_of l.writer)) (take l.at l.text);
+  written : Appends (g.W.Write.contents (inner_of l.initial.writer)) (g.W.Write.contents (inner_of l.writer))
+      (take l.at l.text);
   count : failures_of l.writer ≡ failures_of l.initial.writer;
 }
 

@@ -14,5 +14,6 @@ pub returns-in-Ok : goal.returns-in-Ok
 returns-in-Ok c =
     subst (λ (who : Identity). MatchResult c.open.result
     (λ m. MayOpen who c.args.policy × (m.book ≡ opened c.args.places who c.args.policy))
-    (λ r. (r ≡ Memory) ⊎ ((allowed c.args.policy (type_of who.context) (type_of who.context) Binder managing ≡ false) × (r ≡ opening_denial who))))
+    (λ r. (r ≡ Memory) ⊎ ((allowed c.args.policy (type_of who.context) (type_of who.context) Binder managing ≡ false)
+    × (r ≡ opening_denial who))))
     c.in-Ok.ensures c.open.ensures

@@ -12,7 +12,10 @@ returns c =
     let number = numbered (codes "registered o") c.args.object in
     let name = spaced_name c.args.name.now in
     let given = spaced_given c.args.given in
-    let numbers = c.in_ok-push_numbered.ensures ∙ ap (λ (n : ℕ). start ++ numbered (codes "registered o") n) c.from.ensures in
-    let names = c.in_ok-push_spaced_name.ensures ∙ ap (λ (text : List ℕ). text ++ name) numbers ∙ append_assoc start number name in
+    let numbers = c.in_ok-push_numbered.ensures ∙ ap (λ (n : ℕ). start
+    ++ numbered (codes "registered o") n) c.from.ensures in
+    let names = c.in_ok-push_spaced_name.ensures ∙ ap (λ (text : List ℕ). text ++ name) numbers
+    ∙ append_assoc start number name in
     subst (λ (text : List ℕ). OnOk c.push_spaced_given.result (c.push_spaced_given.new.out.items ≡ text))
-    (ap (λ (text : List ℕ). text ++ given) names ∙ append_assoc start (number ++ name) given) c.push_spaced_given.ensures
+    (ap (λ (text : List ℕ). text ++ given) names ∙ append_assoc start (number ++ name) given)
+    c.push_spaced_given.ensures

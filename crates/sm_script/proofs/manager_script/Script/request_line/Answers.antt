@@ -1,12 +1,13 @@
-use Rattle.std.proofs.Common.{[], OnErr, Result, Ok, Err, inr, refl}
+use Rattle.std.proofs.Common.{[], inr, refl}
 use Rattle.sm_wire.specs.Replies.{reply_text}
+use Rattle.sm_engine.proofs.Results.{on_err}
 use Rattle.sm_script.proofs.manager_script.Script.request_line.Goals as goal
-
-on_err : {T E P : Type 0} (r : Result T E) → P → OnErr r P
-on_err (Ok x) p = tt
-on_err (Err e) p = p
 
 -- the reply was given, and its line was lost
 pub returns-clause-err : goal.returns-clause-err
 returns-clause-err c =
-    rw (← c.self.view_is) (on_err c.reply_line.result (inr (reply_text c.args.request c.judge-reply.result, [], ((c.judge-reply.result, c.judge-reply.ensures, refl), refl))))
+    rw (← c.self.view_is) (on_err c.reply_line.result (inr (
+      reply_text c.args.request c.judge-reply.result,
+      [],
+      ((c.judge-reply.result, c.judge-reply.ensures, refl), refl),
+    )))

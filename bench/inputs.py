@@ -1,0 +1,242 @@
+"""The inputs of the benchmark: policies and scripts of growing size, each from a seed."""
+
+import random
+from dataclasses import dataclass
+from typing import Callable, Iterator
+
+Lines = Iterator[str]
+
+SERVER = "u:r:system_server:s0"
+APPLICATION = "u:r:untrusted_app:s0"
+
+
+@dataclass(frozen=True)
+class Input:
+    """One input: `size` is what grows, and `requests` how many lines a script asks (0: a policy to be checked)."""
+
+    name: str
+    size: int
+    rules: Callable[[], Lines]
+    contexts: Callable[[], Lines]
+    script: Callable[[], Lines] | None = None
+    requests: int = 0
+
+
+# ---- policies
+
+
+def types_of(count: int, draw: random.Random) -> Lines:
+    """Domains and services in equal parts, each with two attributes of its kind; each eighth service is a core one."""
+    attributes = count // 20
+    yield "attribute domain;"
+    yield "attribute service;"
+    yield "attribute core;"
+    for n in range(attributes):
+        yield f"attribute d{n};"
+        yield f"attribute s{n};"
+    for n in range(count // 2):
+        a, b = draw.sample(range(attributes), 2)
+        yield f"type dom{n}, domain, d{a}, d{b};"
+        a, b = draw.sample(range(attributes), 2)
+        yield f"type svc{n}, service, core;" if n % 8 == 0 else f"type svc{n}, service, s{a}, s{b};"
+
+
+def source(count: int, draw: random.Random) -> str:
+    chance = draw.random()
+    if chance < 0.2:
+        return f"d{draw.randrange(count // 20)}"
+    if chance < 0.22:
+        return f"{{ domain -dom{draw.randrange(count // 2)} }}"
+    return f"dom{draw.randrange(count // 2)}"
+
+
+def target(count: int, draw: random.Random) -> str:
+    chance = draw.random()
+    if chance < 0.2:
+        return f"s{draw.randrange(count // 20)}"
+    if chance < 0.22:
+        return f"{{ service -core -svc{draw.randrange(count // 2)} }}"
+    return f"{{ svc{draw.randrange(count // 2)} -core }}"
+
+
+def policy(count: int, seed: int) -> Lines:
+    """So many types, fifteen times as many allow rules, and a neverallow rule to each four types. None is broken: a
+    core service is never the target of an allow rule, and `impersonate` and `set_context_mgr` are never given."""
+    draw = random.Random(seed)
+    yield from types_of(count, draw)
+    for _ in range(15 * count):
+        if draw.random() < 0.5:
+            perms = draw.choice(["find", "find", "{ add find }"])
+            yield f"allow {source(count, draw)} {target(count, draw)}:service_manager {perms};"
+        else:
+            yield f"allow {source(count, draw)} dom{draw.randrange(count // 2)}:binder {{ call transfer }};"
+    for _ in range(count // 4):
+        a, b = draw.randrange(count // 2), draw.randrange(count // 2)
+        yield draw.choice([
+            f"neverallow {{ domain -dom{a} }} {{ core -svc{b} }}:service_manager {{ add find }};",
+            f"neverallow ~dom{a} svc{b}:binder impersonate;",
+            f"neverallow {{ service -svc{a} }} {{ domain -dom{b} }}:binder set_context_mgr;",
+        ])
+
+
+def policy_contexts(count: int) -> Lines:
+    for n in range(count // 2):
+        yield f"name{n} u:object_r:svc{n}:s0"
+    yield "* u:object_r:svc0:s0"
+
+
+def wide_policy(allows: int, neverallows: int, seed: int) -> Lines:
+    """4,096 types, and rules of all permissions for nearly all sources and nearly half of the targets: those that may
+    be given in the allow rules, the others in the neverallow rules."""
+    draw = random.Random(seed)
+    for attribute in ("a", "g", "n"):
+        yield f"attribute {attribute};"
+    for k in range(4096):
+        yield f"type w{k}, a, {'gn'[k % 2]};"
+    for word, attribute, count in (("allow", "g", allows), ("neverallow", "n", neverallows)):
+        for _ in range(count):
+            source, target = draw.randrange(4096), draw.randrange(4096)
+            yield f"{word} {{ a -w{source} }} {{ {attribute} -w{target} }}:{{ binder service_manager }} *;"
+
+
+def wide_contexts() -> Lines:
+    yield "* u:object_r:w0:s0"
+
+
+def manager_policy() -> Lines:
+    """What the scripts run under: servers and applications may do all that is asked of them."""
+    yield "attribute client;"
+    yield "type servicemanager;"
+    yield "type system_server, client;"
+    yield "type untrusted_app, client;"
+    yield "type some_service;"
+    yield "allow servicemanager self:binder set_context_mgr;"
+    yield "allow client servicemanager:binder { call transfer };"
+    yield "allow servicemanager client:binder { call transfer };"
+    yield "allow client some_service:service_manager { add find };"
+    yield "allow client servicemanager:service_manager list;"
+
+
+def manager_contexts() -> Lines:
+    yield "* u:object_r:some_service:s0"
+
+
+def late_policy(rules: int) -> Lines:
+    """Rules that give nothing that is asked, and behind them what the scripts need: each decision comes late."""
+    yield "type other;"
+    for _ in range(rules):
+        yield "allow other other:binder call;"
+    yield from manager_policy()
+
+
+# ---- scripts
+
+
+def versions(requests: int) -> Lines:
+    """The simplest request, which changes nothing and asks no rule."""
+    yield f"hello 100 1000 {SERVER}"
+    for _ in range(requests):
+        yield "1 version"
+
+
+def clients(count: int) -> Lines:
+    for n in range(count):
+        yield f"hello {100 + n} {1000 + n} {SERVER if n == 0 else APPLICATION}"
+
+
+def services(count: int) -> Lines:
+    for n in range(count):
+        yield f"1 add service.n{n} o{n % 500 + 1} {n % 2} {1 << n % 4}"
+
+
+def mixed(requests: int, seed: int) -> Lines:
+    """Gets, adds, lists and versions of 8 clients over 100 names."""
+    draw = random.Random(seed)
+    yield from clients(8)
+    yield from services(100)
+    for _ in range(requests):
+        chance = draw.random()
+        name = f"service.n{int(100 * draw.random() * draw.random())}"
+        if chance < 0.70:
+            yield f"{draw.randint(1, 8)} get {name}"
+        elif chance < 0.80:
+            yield f"{draw.randint(1, 8)} check none.n{draw.randrange(100)}"
+        elif chance < 0.90:
+            yield f"1 add {name} o{draw.randint(1, 100)} 0 8"
+        elif chance < 0.95:
+            yield f"{draw.randint(1, 8)} list {draw.randint(1, 15)}"
+        else:
+            yield f"{draw.randint(1, 8)} version"
+
+
+def many_names(names: int, requests: int, seed: int) -> Lines:
+    draw = random.Random(seed)
+    yield from clients(2)
+    yield from services(names)
+    for _ in range(requests):
+        yield f"2 get service.n{draw.randrange(names)}"
+
+
+def many_clients(count: int, requests: int, seed: int) -> Lines:
+    draw = random.Random(seed)
+    yield from clients(count)
+    yield from services(100)
+    for _ in range(requests):
+        yield f"{draw.randint(1, count)} get service.n{draw.randrange(100)}"
+
+
+def many_objects(objects: int) -> Lines:
+    """A client that gets so many different objects, each added before."""
+    yield from clients(2)
+    for n in range(objects):
+        yield f"1 add service o{n + 1} 0 8"
+        yield "2 get service"
+
+
+def lists(requests: int) -> Lines:
+    """Two decisions each."""
+    yield f"hello 100 1000 {SERVER}"
+    for _ in range(requests):
+        yield "1 list 15"
+
+
+def text(lines: Lines) -> str:
+    return "".join(line + "\n" for line in lines)
+
+
+def reloads(count: int, types: int, seed: int) -> Lines:
+    rules, contexts = text(policy(types, seed)), text(policy_contexts(types))
+    for n in range(count):
+        yield f"reload {n + 1} {len(rules)} {len(contexts)}\n{rules}{contexts}".removesuffix("\n")
+
+
+# ---- all of them
+
+
+def run_input(name: str, size: int, requests: int, script: Callable[[], Lines]) -> Input:
+    return Input(name, size, manager_policy, manager_contexts, script, requests)
+
+
+def all_inputs(seed: int) -> Iterator[Input]:
+    for n in (1000, 2000, 4000):
+        yield Input("check: types", n, lambda n=n: policy(n, seed), lambda n=n: policy_contexts(n))
+    for n in (13_000, 26_000, 52_000):
+        yield Input("check: wide allow rules", n, lambda n=n: wide_policy(n, 1, seed), wide_contexts)
+    for n in (13_000, 26_000, 52_000):
+        yield Input("check: wide neverallow rules", n, lambda n=n: wide_policy(1, n, seed), wide_contexts)
+    for n in (200_000, 400_000, 800_000):
+        yield run_input("run: versions", n, n, lambda n=n: versions(n))
+    for n in (200_000, 400_000, 800_000):
+        yield run_input("run: mixed requests", n, n, lambda n=n: mixed(n, seed))
+    for n in (1000, 2000, 4000):
+        yield run_input("run: names", n, 50_000, lambda n=n: many_names(n, 50_000, seed))
+    for n in (16, 32, 64):
+        yield run_input("run: clients", n, 50_000, lambda n=n: many_clients(n, 50_000, seed))
+    for n in (5000, 10_000, 20_000):
+        yield run_input("run: objects", n, 2 * n, lambda n=n: many_objects(n))
+    for n in (10, 20, 40):
+        yield run_input("run: reloads", n, n, lambda n=n: reloads(n, 1000, seed))
+    for n in (7500, 15_000, 30_000):
+        yield Input(
+            "run: rules before the one", n, lambda n=n: late_policy(n), manager_contexts, lambda: lists(5000), 5000
+        )

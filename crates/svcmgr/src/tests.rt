@@ -1,0 +1,114 @@
+//! Command lines, and what is told of a file that isn't read.
+
+ghost use Rattle.std.specs.Prelude.{◌≡◌};
+
+use crate::ending::Ending;
+use crate::options::{Mode, options_of, words_of};
+use clap::error::ErrorKind;
+use std::alloc::Global;
+use std::env::{Env, FillError};
+use std::io;
+use std::process::Abort;
+use std::test::Fail;
+
+fn words(alloc: Global, line: &str) -> Result<Vec<String>, Fail> {
+    let mut words = Vec::new(alloc);
+    for word in line.split(' ') {
+        words.push(String::from_str(alloc, word)?)?;
+    }
+    Ok(words)
+}
+
+#[test]
+fn accepted_command_lines(rt: HostRuntime) -> Result<(), Fail> {
+    let lines = [
+        ("svcmgr run r c", Mode::Run, 1_048_576),
+        ("svcmgr run --journal 2 r c", Mode::Run, 2),
+        ("svcmgr run r c --journal 1048576", Mode::Run, 1_048_576),
+        ("svcmgr check r c", Mode::Check, 1_048_576),
+    ];
+    for (line, mode, places) in lines {
+        let words = words(rt.alloc(), line)?;
+        let options = options_of(rt.alloc(), &words)?;
+        assert!(rt; options.mode == mode);
+        assert_eq!(rt; options.places.entries(), places);
+        assert_eq!(rt; options.rules, "r");
+        assert_eq!(rt; options.contexts, "c");
+    }
+    Ok(())
+}
+
+fn refusal(rt: &impl Abort, alloc: Global, line: &str) -> Result<ErrorKind, Fail> {
+    let words = words(alloc, line)?;
+    let error = options_of(alloc, &words).err().expect(rt, "a refusal");
+    Ok(error.kind())
+}
+
+#[test]
+fn other_command_lines(rt: HostRuntime) -> Result<(), Fail> {
+    let lines = [
+        ("svcmgr", ErrorKind::MissingSubcommand),
+        ("svcmgr walk r c", ErrorKind::InvalidSubcommand),
+        ("svcmgr run r", ErrorKind::MissingRequiredArgument),
+        ("svcmgr run r c s", ErrorKind::UnknownArgument),
+        ("svcmgr run --journal 1 r c", ErrorKind::ValueValidation),
+        (
+            "svcmgr run --journal 1048577 r c",
+            ErrorKind::ValueValidation,
+        ),
+        ("svcmgr check --journal 2 r c", ErrorKind::UnknownArgument),
+        ("svcmgr --help", ErrorKind::DisplayHelp),
+    ];
+    for (line, kind) in lines {
+        assert!(rt; refusal(&rt, rt.alloc(), line)? == kind);
+    }
+    Ok(())
+}
+
+/// A command line whose one word isn't UTF-8.
+#[derive(Drop)]
+struct NoText;
+
+impl Env for NoText {
+    fn arg(&self, i: usize, buf: &mut [u8]) -> Result<usize, FillError> {
+        if i > 0 {
+            return Err(FillError::NotPresent);
+        }
+        match buf {
+            [] => Err(FillError::TooLong),
+            [first, ..] => {
+                *first = 0xff;
+                Ok(1)
+            }
+        }
+    }
+
+    fn var(&self, _name: &str, _buf: &mut [u8]) -> Result<usize, FillError> {
+        Err(FillError::NotPresent)
+    }
+
+    fn var_at(&self, _i: usize, _buf: &mut [u8]) -> Result<usize, FillError> {
+        Err(FillError::NotPresent)
+    }
+}
+
+#[test]
+fn a_word_that_is_no_text(rt: HostRuntime) -> Result<(), Fail> {
+    let error = words_of(&(NoText, rt.alloc()))
+        .err()
+        .expect(&rt, "a refusal");
+    assert!(rt; error.kind() == ErrorKind::ValueValidation);
+    Ok(())
+}
+
+#[test]
+fn a_file_fault_names_the_file(rt: HostRuntime) -> Result<(), Fail> {
+    let ending = Ending::of_file("a.rules", io::Error::from_raw_os_error(2));
+    let line = ending.line(rt.alloc())?;
+    let wanted = b"fault: a.rules: No such file or directory (os error 2)\n";
+    assert_eq!(rt; line.as_slice(), wanted.as_slice());
+    let ending = Ending::of_file("a.rules", io::Error::from(io::ErrorKind::OutOfMemory));
+    let line = ending.line(rt.alloc())?;
+    assert_eq!(rt; line.as_slice(), b"fault: no memory\n".as_slice());
+    Ok(())
+}
