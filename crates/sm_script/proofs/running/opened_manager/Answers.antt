@@ -1,4 +1,4 @@
-use Rattle.std.proofs.Common.{◌≡◌, ◌⊎◌, MatchResult, false, subst}
+use Rattle.std.proofs.Common.{◌≡◌, ◌⊎◌, MatchResult, Result, Ok, Err, IfOk, IfErr, false, subst}
 use Rattle.sm_kinds.specs.declared.class.Class.TheVariants.{Binder}
 use Rattle.sm_kinds.specs.declared.identity.Identity.{Identity}
 use Rattle.sm_kinds.specs.Contexts.{type_of}
@@ -9,6 +9,10 @@ use Rattle.sm_history.specs.Lawful.{MayOpen}
 use Rattle.sm_core.specs.Opening.{opened, opening_denial}
 use Rattle.sm_script.proofs.running.opened_manager.Goals as goal
 
+matched : {T E : Type 0} (P : T → Type 0) (Q : E → Type 0) (r : Result T E) → IfOk r P → IfErr r Q → MatchResult r P Q
+matched P Q (Ok x) p q = p
+matched P Q (Err e) p q = q
+
 -- the identity is the manager's
 pub returns-in-Ok : goal.returns-in-Ok
 returns-in-Ok c =
@@ -16,4 +20,4 @@ returns-in-Ok c =
     (λ m. MayOpen who c.args.policy × (m.book ≡ opened c.args.places who c.args.policy))
     (λ r. (r ≡ Memory) ⊎ ((allowed c.args.policy (type_of who.context) (type_of who.context) Binder managing ≡ false)
     × (r ≡ opening_denial who))))
-    c.in-Ok.ensures c.open.ensures
+    c.in-Ok.ensures (matched _ _ c.open.result c.open.ensures.opened c.open.ensures.refused)
