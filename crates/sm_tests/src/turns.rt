@@ -49,7 +49,10 @@ fn is_not_yours(reply: &Reply) -> bool {
 }
 
 fn is_not_connected(reply: &Reply) -> bool {
-    matches!(reply, Reply::Refused(Refusal::Failed(Failure::NotConnected)))
+    matches!(
+        reply,
+        Reply::Refused(Refusal::Failed(Failure::NotConnected))
+    )
 }
 
 fn activity(alloc: Global) -> Result<Name, Fail> {
@@ -178,7 +181,16 @@ fn a_journal_of_a_hundred_thousand(rt: HostRuntime) -> Result<(), Fail> {
         assert!(rt; matches!(&reply, Reply::Done(Outcome::Added(_))));
     }
     let looked = manager.look(client, Query::Version);
-    assert!(rt; matches!(&looked, Reply::Looked { version: 1, length: 100_002, answer: _ }));
+    assert!(rt;
+        matches!(
+            &looked,
+            Reply::Looked {
+                version: 1,
+                length: 100_002,
+                answer: _
+            }
+        )
+    );
     Ok(())
 }
 
