@@ -99,51 +99,76 @@ fn changes_out_of_turn(rt: HostRuntime) -> Result<(), Fail> {
     Ok(())
 }
 
+fn is_refused_as_another(manager: &mut Manager, by: By, event: Event) -> bool {
+    is_not_yours(&manager.step(by, 0, event))
+}
+
 #[test]
-fn changes_of_others(rt: HostRuntime) -> Result<(), Fail> {
+fn openings_and_connects_of_others(rt: HostRuntime) -> Result<(), Fail> {
     let alloc = rt.alloc();
     let mut manager = connected(&rt, alloc);
     let client = By::Client(ClientId(1));
     let admin = By::Admin(AdminId(1));
     for by in [By::Manager, client, admin] {
         let open = Event::Open(server(&rt, alloc), policy(&rt, alloc));
-        assert!(rt; is_not_yours(&manager.step(by, 0, open)));
+        assert!(rt; is_refused_as_another(&mut manager, by, open));
     }
     for by in [client, admin] {
         let connect = Event::Connect(server(&rt, alloc));
-        assert!(rt; is_not_yours(&manager.step(by, 0, connect)));
+        assert!(rt; is_refused_as_another(&mut manager, by, connect));
     }
-    for by in [By::Manager, client] {
-        let reload = Event::Reload {
-            expected: 1,
-            prepared: policy(&rt, alloc),
-        };
-        assert!(rt; is_not_yours(&manager.step(by, 0, reload)));
+    assert_eq!(rt; manager.turn(By::Manager), 2);
+    Ok(())
+}
+
+#[test]
+fn reloads_of_others(rt: HostRuntime) -> Result<(), Fail> {
+    let alloc = rt.alloc();
+    let mut manager = connected(&rt, alloc);
+    for by in [By::Manager, By::Client(ClientId(1))] {
+        let event = reload(&rt, alloc, 1);
+        assert!(rt; is_refused_as_another(&mut manager, by, event));
     }
-    for by in [By::Manager, admin] {
-        assert!(rt; is_not_yours(&manager.step(by, 0, add(alloc)?)));
+    Ok(())
+}
+
+#[test]
+fn services_and_watches_of_others(rt: HostRuntime) -> Result<(), Fail> {
+    let alloc = rt.alloc();
+    let mut manager = connected(&rt, alloc);
+    for by in [By::Manager, By::Admin(AdminId(1))] {
+        assert!(rt; is_refused_as_another(&mut manager, by, add(alloc)?));
         let name = activity(alloc)?;
-        assert!(rt; is_not_yours(&manager.step(by, 0, Event::Get { name })));
+        assert!(rt; is_refused_as_another(&mut manager, by, Event::Get { name }));
         let name = activity(alloc)?;
-        assert!(rt; is_not_yours(&manager.step(by, 0, Event::Watch { name, object: 7 })));
+        assert!(rt; is_refused_as_another(&mut manager, by, Event::Watch { name, object: 7 }));
         let name = activity(alloc)?;
-        assert!(rt; is_not_yours(&manager.step(by, 0, Event::Unwatch { name, object: 7 })));
+        assert!(rt; is_refused_as_another(&mut manager, by, Event::Unwatch { name, object: 7 }));
         let unregister = Event::Unregister {
             name: activity(alloc)?,
             obj: ObjRef::Own(1),
         };
-        assert!(rt; is_not_yours(&manager.step(by, 0, unregister)));
+        assert!(rt; is_refused_as_another(&mut manager, by, unregister));
+    }
+    Ok(())
+}
+
+#[test]
+fn handles_and_deaths_of_others(rt: HostRuntime) -> Result<(), Fail> {
+    let alloc = rt.alloc();
+    let mut manager = connected(&rt, alloc);
+    for by in [By::Manager, By::Admin(AdminId(1))] {
         let call = Event::Call {
             handle: 1,
             payload: Payload::new(alloc, b"").ok().expect(&rt, "a payload"),
             refs: Refs::new(alloc, &[]).ok().expect(&rt, "references"),
         };
-        assert!(rt; is_not_yours(&manager.step(by, 0, call)));
-        assert!(rt; is_not_yours(&manager.step(by, 0, Event::Release { handle: 1 })));
-        assert!(rt; is_not_yours(&manager.step(by, 0, Event::Take)));
-        assert!(rt; is_not_yours(&manager.step(by, 0, Event::Die)));
+        assert!(rt; is_refused_as_another(&mut manager, by, call));
+        let release = Event::Release { handle: 1 };
+        assert!(rt; is_refused_as_another(&mut manager, by, release));
+        assert!(rt; is_refused_as_another(&mut manager, by, Event::Take));
+        assert!(rt; is_refused_as_another(&mut manager, by, Event::Die));
     }
-    assert_eq!(rt; manager.turn(By::Manager), 2);
     Ok(())
 }
 
