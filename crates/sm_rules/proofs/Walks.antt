@@ -1,13 +1,14 @@
 -- The walk over the statements of a text.
 use Rattle.std.proofs.Common.{◌≡◌, List, [], ◌∷◌, Option, Some, None, refl, sym, ◌∙◌}
+use Rattle.std.specs.Option.{option_or}
 use Rattle.sm_ruletext.specs.declared.statement.Statement.{Statement}
 use Rattle.sm_types.specs.Denoting.{Policy}
 use Rattle.sm_rules.specs.declared.fault.RulesFault.{RulesFault}
 use Rattle.sm_rules.specs.declared.fault.RulesFault.TheVariants.{Unknown, UnknownPermission, Memory}
-use Rattle.sm_rules.specs.Faults.{fault_of, fault_among, or_else, UnlessMemory}
+use Rattle.sm_rules.specs.Faults.{fault_of, fault_among, UnlessMemory}
 
 one_more : (policy : Policy) (st : Statement) (sts : List Statement)
-    → fault_among policy (st ∷ sts) ≡ or_else (fault_of policy st.line st.what) (fault_among policy sts)
+    → fault_among policy (st ∷ sts) ≡ option_or (fault_of policy st.line st.what) (fault_among policy sts)
 unfolding fault_among
 one_more policy st sts = refl
 

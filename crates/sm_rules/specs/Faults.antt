@@ -1,6 +1,7 @@
 -- What makes a rule be refused.
 use Rattle.std.specs.Prelude.{ℕ, Bool, not, ◌&&◌, ◌||◌, if◌then◌else◌, List, [], ◌∷◌, Option, Some, None, is_some}
 use Rattle.std.specs.List.{list_all}
+use Rattle.std.specs.Option.{option_or}
 use Rattle.sm_kinds.specs.Permissions.{class_word, class_read, is_permission}
 use Rattle.sm_kinds.specs.declared.class.Class.TheVariants.{ServiceManager, Binder}
 use Rattle.sm_ruletext.specs.Sets.{selects, is_kept}
@@ -51,14 +52,10 @@ fault_of policy line (Attribute n) = None
 fault_of policy line (Declared n names) = None
 fault_of policy line (Member n names) = None
 
-abbrev pub or_else : Option RulesFault → Option RulesFault → Option RulesFault
-or_else (Some e) other = Some e
-or_else None other = other
-
 -- The first fault of these statements of the policy, in their order.
 unfoldable pub fault_among : Policy → List Statement → Option RulesFault
 fault_among policy [] = None
-fault_among policy (st ∷ sts) = or_else (fault_of policy st.line st.what) (fault_among policy sts)
+fault_among policy (st ∷ sts) = option_or (fault_of policy st.line st.what) (fault_among policy sts)
 
 -- The first fault of the policy's rules, in the order of the text.
 abbrev pub first_fault : Policy → Option RulesFault

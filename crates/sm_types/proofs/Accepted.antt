@@ -13,10 +13,11 @@ use Rattle.sm_types.specs.declared.symbols.Symbols.{Symbols}
 use Rattle.sm_types.specs.declared.fault.TypesFault.{TypesFault}
 use Rattle.sm_types.specs.declared.fault.TypesFault.TheVariants.{Twice, TooMany}
 use Rattle.sm_types.specs.Names.{Name, at}
-use Rattle.sm_types.specs.Declaring.{Step, ◌>>=◌, nothing, declared, symbols_of, first_unknown, unless, members_known, all_attributes, is_declared, with_declaration, with_type, with_attribute}
+use Rattle.sm_types.specs.Declaring.{Step, nothing, declared, symbols_of, first_unknown, unless, members_known, all_attributes, is_declared, with_declaration, with_type, with_attribute}
 use Rattle.sm_types.specs.Denoting.{gives_attribute, has_attribute, declares, is_type_named, type_of, attribute_of, types, attributes}
 use Rattle.sm_types.specs.Members.{IsOf}
 use Rattle.sm_kinds.specs.Names.{contains}
+use Rattle.sm_kinds.specs.Reading.{◌>>=◌}
 use Rattle.sm_types.specs.declared.table.Table.{Table}
 use Rattle.sm_types.proofs.NameLemmas.{same_name, name_same}
 
@@ -115,7 +116,8 @@ in_order [] symbols last h = let e : symbols ≡ last = cc h in
     (rw (← e) (sym (append-nil symbols.types)), rw (← e) (sym (append-nil symbols.attributes)))
 in_order (st ∷ sts) symbols last h = by (with_declaration symbols st.line st.what) refl h
     (λ next g. in_order sts next last g) where
-      by : (r : Step Symbols) → with_declaration symbols st.line st.what ≡ r → (r >>= λ next. declared next sts) ≡ Ok last
+      by : (r : Step Symbols) → with_declaration symbols st.line st.what ≡ r
+          → (r >>= λ next. declared next sts) ≡ Ok last
           → ((next : Symbols) → declared next sts ≡ Ok last
           → (last.types ≡ next.types ++ types sts) × (last.attributes ≡ next.attributes ++ attributes sts))
           → (last.types ≡ symbols.types ++ types (st ∷ sts))

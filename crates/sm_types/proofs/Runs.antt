@@ -1,10 +1,11 @@
 -- The pass over the declarations.
 use Rattle.std.proofs.Common.{◌≡◌, List, [], ◌∷◌, Ok, Err, refl, sym, ◌∙◌}
+use Rattle.sm_kinds.specs.Reading.{◌>>=◌, Fails}
+use Rattle.sm_kinds.proofs.Readers.{fails_along}
 use Rattle.sm_ruletext.specs.declared.statement.Statement.{Statement}
 use Rattle.sm_types.specs.declared.symbols.Symbols.{Symbols}
 use Rattle.sm_types.specs.declared.fault.TypesFault.{TypesFault}
-use Rattle.sm_types.specs.declared.fault.TypesFault.TheVariants.{Twice, Unknown, TooMany, Memory}
-use Rattle.sm_types.specs.Declaring.{Step, ◌>>=◌, Fails, with_declaration, declared}
+use Rattle.sm_types.specs.Declaring.{Step, is_memory, with_declaration, declared}
 
 one_more : (symbols : Symbols) (st : Statement) (sts : List Statement)
     → declared symbols (st ∷ sts) ≡ (with_declaration symbols st.line st.what >>= λ next. declared next sts)
@@ -20,17 +21,12 @@ declared_on total symbols next st sts so_far step =
 
 pub declared_fault : (e : TypesFault) (total : Step Symbols) (symbols : Symbols) (st : Statement) (sts : List Statement)
     → declared symbols (st ∷ sts) ≡ total
-    → Fails e (with_declaration symbols st.line st.what) → Fails e total
-declared_fault e total symbols st sts so_far step = by e step where
-  fails : (f : TypesFault) → with_declaration symbols st.line st.what ≡ Err f → total ≡ Err f
-  fails f h = let u : (with_declaration symbols st.line st.what >>= λ n. declared n sts) ≡ Err f = rw h refl in
-      sym so_far ∙ (one_more symbols st sts ∙ u)
-
-  by : (e : TypesFault) → Fails e (with_declaration symbols st.line st.what) → Fails e total
-  by Memory h = tt
-  by (Twice n) h = fails (Twice n) h
-  by (Unknown n) h = fails (Unknown n) h
-  by TooMany h = fails TooMany h
+    → Fails is_memory e (with_declaration symbols st.line st.what) → Fails is_memory e total
+declared_fault e total symbols st sts so_far step =
+    fails_along is_memory e (with_declaration symbols st.line st.what) total fails step where
+      fails : with_declaration symbols st.line st.what ≡ Err e → total ≡ Err e
+      fails h = let u : (with_declaration symbols st.line st.what >>= λ n. declared n sts) ≡ Err e = rw h refl in
+          sym so_far ∙ (one_more symbols st sts ∙ u)
 
 pub declared_all : (symbols : Symbols) (sts : List Statement) → sts ≡ [] → declared symbols sts ≡ Ok symbols
 unfolding declared

@@ -1,7 +1,9 @@
 -- What declarations are refused, in the order of the text.
-use Rattle.std.specs.Prelude.{◌≡◌, ℕ, Bool, true, not, ◌&&◌, ◌||◌, nat_le, if◌then◌else◌, List, [], ◌∷◌, ◌++◌, length, find, option_map, Option, Some, None, Result, Ok, Err}
+use Rattle.std.specs.Prelude.{ℕ, Bool, true, false, not, ◌&&◌, ◌||◌, nat_le, if◌then◌else◌, List, [], ◌∷◌, ◌++◌, length, find, option_map, Option, Some, None, Result, Ok, Err}
+use Rattle.std.specs.Bool.{OnFalse}
 use Rattle.std.specs.List.{list_any, list_all}
 use Rattle.std.specs.Str.{bytes_eq}
+use Rattle.sm_kinds.specs.Reading.{◌>>=◌}
 use Rattle.sm_ruletext.specs.declared.statement.What.{What}
 use Rattle.sm_ruletext.specs.declared.statement.What.TheVariants.{Attribute, Declared, Member, Allow, Neverallow}
 use Rattle.sm_ruletext.specs.declared.statement.Statement.{Statement}
@@ -14,21 +16,12 @@ use Rattle.sm_types.specs.Names.{Name}
 abbrev pub Step : Type 0 → Type 0
 Step A = Result A TypesFault
 
-infixl 10 ◌>>=◌
-abbrev pub ◌>>=◌ : {A B : Type 0} → Step A → (A → Step B) → Step B
-(Ok x) >>= f = f x
-(Err e) >>= f = Err e
-
--- The error is the fault that was expected, unless memory ran out.
-abbrev pub Fails : {B : Type 0} → TypesFault → Step B → Type 0
-Fails Memory expected = Unit {0}
-Fails (Twice line) expected = expected ≡ Err (Twice line)
-Fails (Unknown line) expected = expected ≡ Err (Unknown line)
-Fails TooMany expected = expected ≡ Err TooMany
-
-abbrev pub Gives : {A B : Type 0} → (A → B) → Step A → Step B → Type 0
-Gives view (Ok x) expected = expected ≡ Ok (view x)
-Gives view (Err e) expected = Fails e expected
+-- want of memory
+abbrev pub is_memory : TypesFault → Bool
+is_memory Memory = true
+is_memory (Twice line) = false
+is_memory (Unknown line) = false
+is_memory TooMany = false
 
 -- ---- declarations
 
@@ -87,10 +80,7 @@ symbols_of policy = declared nothing policy >>= λ symbols. unless (first_unknow
 
 -- A claim on a refusal other than for want of memory.
 abbrev pub UnlessMemory : TypesFault → Type 0 → Type 0
-UnlessMemory Memory P = Unit {0}
-UnlessMemory (Twice line) P = P
-UnlessMemory (Unknown line) P = P
-UnlessMemory TooMany P = P
+UnlessMemory e P = OnFalse (is_memory e) P
 
 -- Each of these names is declared.
 abbrev pub all_declared : Symbols → List Name → Bool

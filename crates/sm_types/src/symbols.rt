@@ -3,8 +3,9 @@
 ghost use Rattle.std.specs.Prelude.{◌≡◌, ◌≤◌, length, IfOk, not, find, option_map};
 ghost use Rattle.std.specs.List.{list_any, list_all};
 ghost use Rattle.std.specs.Str.{bytes_eq};
+ghost use Rattle.sm_kinds.specs.Reading.{Gives};
 ghost use Rattle.sm_types.specs.Declaring as spec;
-ghost use Rattle.sm_types.specs.Declaring.{Gives};
+ghost use Rattle.sm_types.specs.Declaring.{is_memory};
 ghost use Rattle.sm_types.specs.declared.TheConstants.{MOST_TYPES};
 
 use crate::name_set::NameSet;
@@ -29,7 +30,7 @@ fn is_declared(symbols: &Symbols, name: &[u8]) -> bool
 #[tactic(auto, unfolding(crate::specs::Declaring::with_type))]
 fn with_type(alloc: Global, symbols: Symbols, line: u32, name: &[u8]) -> Result<Symbols, TypesFault>
     ensures few { IfOk result (λ s. length s.types ≤ MOST_TYPES) }
-    ensures exact { Gives (λ s. s) result (spec.with_type symbols line name.now) }
+    ensures exact { Gives is_memory (λ s. s) result (spec.with_type symbols line name.now) }
 {
     if is_declared(&symbols, name) {
         return Err(TypesFault::Twice(line));
@@ -53,7 +54,7 @@ fn with_attribute(
     name: &[u8],
 ) -> Result<Symbols, TypesFault>
     ensures same { IfOk result (λ s. s.types ≡ symbols.types) }
-    ensures exact { Gives (λ s. s) result (spec.with_attribute symbols line name.now) }
+    ensures exact { Gives is_memory (λ s. s) result (spec.with_attribute symbols line name.now) }
 {
     if is_declared(&symbols, name) {
         return Err(TypesFault::Twice(line));
@@ -76,7 +77,7 @@ fn with_declaration(
     statement: &Statement,
 ) -> Result<Symbols, TypesFault>
     ensures few { length symbols.types ≤ MOST_TYPES → IfOk result (λ s. length s.types ≤ MOST_TYPES) }
-    ensures exact { Gives
+    ensures exact { Gives is_memory
         (λ s. s) result (spec.with_declaration symbols statement.now.line statement.now.what) }
 {
     match &statement.what {
@@ -89,7 +90,7 @@ fn with_declaration(
 /// All declarations, in the order of the text.
 fn declared(alloc: Global, statements: &[Statement]) -> Result<Symbols, TypesFault>
     ensures few { IfOk result (λ s. length s.types ≤ MOST_TYPES) }
-    ensures exact { Gives (λ s. s) result (spec.declared spec.nothing statements.now) }
+    ensures exact { Gives is_memory (λ s. s) result (spec.declared spec.nothing statements.now) }
 {
     let mut symbols = Symbols {
         types: NameSet::new(alloc),
@@ -137,7 +138,7 @@ fn first_unknown(symbols: &Symbols, statements: &[Statement]) -> Option<u32>
 #[tactic(auto, unfolding(crate::specs::Declaring::symbols_of))]
 pub fn symbols_of(alloc: Global, statements: &[Statement]) -> Result<Symbols, TypesFault>
     ensures few { IfOk result (λ s. length s.types ≤ MOST_TYPES) }
-    ensures exact { Gives (λ s. s) result (spec.symbols_of statements.now) }
+    ensures exact { Gives is_memory (λ s. s) result (spec.symbols_of statements.now) }
 {
     let symbols = declared(alloc, statements)?;
     match first_unknown(&symbols, statements) {

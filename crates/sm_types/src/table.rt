@@ -4,9 +4,10 @@ ghost use Rattle.std.specs.Prelude.{◌≡◌, ◌||◌, ◌&&◌, ◌<◌, ◌�
 ghost use Rattle.std.specs.List.{list_any};
 ghost use Rattle.std.specs.Str.{bytes_eq};
 ghost use Rattle.sm_bits.specs.Bits.{has};
+ghost use Rattle.sm_kinds.specs.Reading.{Fails};
 ghost use Rattle.sm_ruletext.specs.declared.statement.Statement.{Statement as TheStatement};
 ghost use Rattle.sm_types.specs.Names.{at};
-ghost use Rattle.sm_types.specs.Declaring.{Fails, symbols_of, is_declared, all_declared, UnlessMemory};
+ghost use Rattle.sm_types.specs.Declaring.{is_memory, symbols_of, is_declared, all_declared, UnlessMemory};
 ghost use Rattle.sm_types.specs.Denoting.{is_named, has_attribute, chosen, in_set};
 ghost use Rattle.sm_types.specs.Members.{Fits, IsOf};
 ghost use Rattle.sm_types.specs.declared.TheConstants.{MOST_TYPES};
@@ -29,7 +30,7 @@ pub struct Table {
 
 /// The table of a rule text, or the first refusal.
 pub fn table_of(alloc: Global, statements: &[Statement]) -> Result<Table, TypesFault>
-    ensures refused { IfErr result (λ e. Fails e (symbols_of statements.now)) }
+    ensures refused { IfErr result (λ e. Fails is_memory e (symbols_of statements.now)) }
     ensures built { IfOk result (λ t. IsOf statements.now t) }
     ensures few { IfOk result (λ t. length t.symbols.types ≤ MOST_TYPES) }
 {

@@ -3,9 +3,10 @@
 ghost use Rattle.std.specs.Prelude.{◌≡◌, ◌<◌, ◌≤◌, ◌+◌, ◌/◌, ℕ, List, length, position, slice_get, option_map, IfOk, IfErr, IfSome, Some, is_some, false, true};
 ghost use Rattle.std.specs.Str.{bytes_eq};
 ghost use Rattle.sm_bits.specs.Bits.{has};
+ghost use Rattle.sm_kinds.specs.Reading.{Fails};
 ghost use Rattle.sm_ruletext.specs.declared.statement.Statement.{Statement as TheStatement};
 ghost use Rattle.sm_types.specs.Names.{at, is_at};
-ghost use Rattle.sm_types.specs.Declaring.{Fails, symbols_of, UnlessMemory};
+ghost use Rattle.sm_types.specs.Declaring.{is_memory, symbols_of, UnlessMemory};
 ghost use Rattle.sm_types.specs.Denoting.{in_set, declares, all_known};
 ghost use Rattle.sm_types.specs.Members.{IsOf};
 ghost use Rattle.sm_types.specs.declared.TheConstants.{MOST_TYPES};
@@ -49,7 +50,7 @@ impl Types {
     /// a name that is no attribute, or a `typeattribute` statement has a name that is no type,
     /// or no attribute. `Memory` where memory was refused.
     pub fn build(alloc: Global, statements: &[Statement]) -> Result<Types, TypesFault>
-        ensures refused { IfErr result (λ e. Fails e (symbols_of statements.now)) }
+        ensures refused { IfErr result (λ e. Fails is_memory e (symbols_of statements.now)) }
         ensures built { IfOk result (λ types. IsOf statements.now types) }
     {
         let table = table_of(alloc, statements)?;
