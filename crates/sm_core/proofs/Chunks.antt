@@ -17,14 +17,16 @@ moved_on cs c = append-nil (joined (cs ++ c ∷ [])) ∙ joined_more cs c
 pub pushed : (xs ys : List Entry) (e : Entry) → xs ++ (ys ++ e ∷ []) ≡ (xs ++ ys) ++ e ∷ []
 pushed xs ys e = sym (append_assoc xs ys (e ∷ []))
 
-pub written_more : (xs ys : List Entry) (e : Entry) → whole (reverse (xs ++ (ys ++ e ∷ []))) ≡ entered e (whole (reverse (xs ++ ys)))
+pub written_more : (xs ys : List Entry) (e : Entry)
+    → whole (reverse (xs ++ (ys ++ e ∷ []))) ≡ entered e (whole (reverse (xs ++ ys)))
 written_more xs ys e = ap (λ (l : List Entry). whole (reverse l)) (pushed xs ys e) ∙ ap (λ (l : List Entry). whole l) (reverse-append (xs ++ ys) (e ∷ []))
 
 pub length_more : (xs ys : List Entry) (e : Entry) → length (xs ++ (ys ++ e ∷ [])) ≡ length (xs ++ ys) + 1
 length_more xs ys e = ap (length {A = Entry}) (pushed xs ys e) ∙ length-append (xs ++ ys) (e ∷ [])
 
 -- The full ones with the last behind them, and an empty one for what comes.
-pub moved : (full reserved full' : List (List Entry)) (last chunk fresh : List Entry) → reserved ≡ full → full' ≡ reserved ++ chunk ∷ [] → chunk ≡ last → fresh ≡ []
+pub moved : (full reserved full' : List (List Entry)) (last chunk fresh : List Entry) → reserved ≡ full
+    → full' ≡ reserved ++ chunk ∷ [] → chunk ≡ last → fresh ≡ []
     → joined full' ++ fresh ≡ joined full ++ last
 moved full reserved full' last chunk fresh same pushed is none =
     ap (λ (l : List Entry). joined full' ++ l) none ∙ ap (λ (cs : List (List Entry)). joined cs ++ []) pushed

@@ -24,7 +24,8 @@ pub not_dead : (d : Effects) (k : ℕ) → list_any (names k) d ≡ false → li
 not_dead [] k h = refl
 not_dead (x ∷ d) k h = or_from (is_death_of k x) (list_any (is_death_of k) d) (not_death x k (or_parts (names k x) (list_any (names k) d) h).0) (not_dead d k (or_parts (names k x) (list_any (names k) d) h).1)
 
-not_among : (d : Effects) (n : ℕ) → list_any (is_connect_of n) d ≡ false → list_any (λ x. x == n) (filter_map connected d) ≡ false
+not_among : (d : Effects) (n : ℕ) → list_any (is_connect_of n) d ≡ false
+    → list_any (λ x. x == n) (filter_map connected d) ≡ false
 not_among [] n h = refl
 not_among (Connects c who ∷ d) n h = or_from (c == n) (list_any (λ x. x == n) (filter_map connected d)) (or_parts (c == n) (list_any (is_connect_of n) d) h).0 (not_among d n (or_parts (c == n) (list_any (is_connect_of n) d) h).1)
 not_among (x ∷ d) n h = not_among d n (or_parts (is_connect_of n x) (list_any (is_connect_of n) d) h).1
@@ -32,7 +33,8 @@ not_among (x ∷ d) n h = not_among d n (or_parts (is_connect_of n x) (list_any 
 pub other_way : (n x : ℕ) → (x == n) ≡ false → (n == x) ≡ false
 other_way n x h = grind (arith, nat_tests)
 
-pub live_other : (d : Effects) (n : ℕ) (who : Identity) (x : ℕ) → (n == x) ≡ false → is_live (Connects n who ∷ d) x ≡ is_live d x
+pub live_other : (d : Effects) (n : ℕ) (who : Identity) (x : ℕ) → (n == x) ≡ false
+    → is_live (Connects n who ∷ d) x ≡ is_live d x
 live_other d n who x h = rw h refl
 
 -- No one is called n yet.
@@ -48,7 +50,8 @@ was_not_live d n new = rw (not_connected d n new) refl
 number_is : (n c : ℕ) → (n == c) ≡ true → n ≡ c
 number_is n c e = grind (arith, nat_tests)
 
-pub live_connects : (d : Effects) (n : ℕ) (who : Identity) (c : ℕ) → IsNew d n → is_live (Connects n who ∷ d) c ≡ (if n == c then true else is_live d c)
+pub live_connects : (d : Effects) (n : ℕ) (who : Identity) (c : ℕ) → IsNew d n
+    → is_live (Connects n who ∷ d) c ≡ (if n == c then true else is_live d c)
 live_connects d n who c new =
     elim (n == c) as (λ b. (n == c) ≡ b → is_live (Connects n who ∷ d) c ≡ (if b then true else is_live d c)) [
       | true ↦ λ e. subst (λ v. is_live (Connects n who ∷ d) v ≡ true) (number_is n c e) (live_new d n who new)
@@ -58,7 +61,8 @@ live_connects d n who c new =
 pub none_new : (d : Effects) (n : ℕ) → IsNew d n → list_any (λ x. x == n) (reverse (filter_map connected d)) ≡ false
 none_new d n new = any_reversed (λ x. x == n) (filter_map connected d) ∙ not_among d n (not_connected d n new)
 
-pub list_connects : (d : Effects) (n : ℕ) (who : Identity) → IsNew d n → live_clients (Connects n who ∷ d) ≡ live_clients d ++ n ∷ []
+pub list_connects : (d : Effects) (n : ℕ) (who : Identity) → IsNew d n
+    → live_clients (Connects n who ∷ d) ≡ live_clients d ++ n ∷ []
 list_connects d n who new =
     let d' = Connects n who ∷ d in
     let old = reverse (filter_map connected d) in
@@ -79,7 +83,8 @@ dies_case false b t = refl
 pub live_dies : (d : Effects) (c k : ℕ) → is_live (Dies c ∷ d) k ≡ (is_live d k && not (c == k))
 live_dies d c k = dies_case (list_any (is_connect_of k) d) (list_any (is_death_of k) d) (c == k)
 
-pub filter_both : {X : Type 0} (p q r : X → Bool) (xs : List X) → ((x : X) → r x ≡ (p x && q x)) → filter r xs ≡ filter q (filter p xs)
+pub filter_both : {X : Type 0} (p q r : X → Bool) (xs : List X) → ((x : X) → r x ≡ (p x && q x))
+    → filter r xs ≡ filter q (filter p xs)
 filter_both p q r [] is = refl
 filter_both {X} p q r (x ∷ xs) is =
     let i = filter_both p q r xs is in

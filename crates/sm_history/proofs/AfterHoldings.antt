@@ -25,11 +25,13 @@ none_granted (x ∷ d) c m h =
     let z = ap (λ (b : Bool). let n : ℕ = cond b 1 0 in n) (not_given x c m (or_parts (names c x) (list_any (names c) d) h).0) in
     omega (arith, cons, i, z)
 
-connects_case : (t live live' : Bool) (g s : ℕ) → live' ≡ (if t then true else live) → (t ≡ true → (live ≡ false) × (g ≡ 0)) → (if live' then g - s else 0) ≡ (if live then g - s else 0)
+connects_case : (t live live' : Bool) (g s : ℕ) → live' ≡ (if t then true else live)
+    → (t ≡ true → (live ≡ false) × (g ≡ 0)) → (if live' then g - s else 0) ≡ (if live then g - s else 0)
 connects_case true live live' g s e new = let z = new refl in rw (e, z.0) (omega (arith, z.1))
 connects_case false live live' g s e new = rw e refl
 
-pub refs_connects : (d : Effects) (n : ℕ) (who : Identity) (c : ℕ) (m : Node) → IsNew d n → refs_at (Connects n who ∷ d) c m ≡ refs_at d c m
+pub refs_connects : (d : Effects) (n : ℕ) (who : Identity) (c : ℕ) (m : Node) → IsNew d n
+    → refs_at (Connects n who ∷ d) c m ≡ refs_at d c m
 refs_connects d n who c m new =
     connects_case (n == c) (is_live d c) (is_live (Connects n who ∷ d) c) (granted d c m) (released d c m) (live_connects d n who c new)
     (λ e.
@@ -58,7 +60,8 @@ refs_gives d c n r k m bal =
     gives_case ((c == k) && same_node n m) (is_live d k) r (granted d k m) (released d k m) (granted (Gives c n r ∷ d) k m)
     (sum_by-cons (λ (y : Effect). cond (is_some (number_given k m y)) 1 0) (Gives c n r) d) (bal k m)
 
-releases_case : (b live : Bool) (g s s' : ℕ) → s' ≡ cond b 1 0 + s → (if live then g - s' else 0) ≡ (if b then (if live then g - s else 0) - 1 else (if live then g - s else 0))
+releases_case : (b live : Bool) (g s s' : ℕ) → s' ≡ cond b 1 0 + s
+    → (if live then g - s' else 0) ≡ (if b then (if live then g - s else 0) - 1 else (if live then g - s else 0))
 releases_case true true g s s' e = omega (arith, e)
 releases_case true false g s s' e = refl
 releases_case false true g s s' e = omega (arith, e)
@@ -70,5 +73,6 @@ refs_releases d c n k m =
     releases_case ((c == k) && same_node n m) (is_live d k) (granted d k m) (released d k m) (released (Releases c n ∷ d) k m)
     (sum_by-cons (λ (y : Effect). cond (is_release_of k m y) 1 0) (Releases c n) d)
 
-pub number_gives : (d : Effects) (c : ℕ) (n : Node) (r k : ℕ) (m : Node) → number_at (Gives c n r ∷ d) k m ≡ (if (c == k) && same_node n m then r else number_at d k m)
+pub number_gives : (d : Effects) (c : ℕ) (n : Node) (r k : ℕ) (m : Node)
+    → number_at (Gives c n r ∷ d) k m ≡ (if (c == k) && same_node n m then r else number_at d k m)
 number_gives d c n r k m = elim ((c == k) && same_node n m) as (λ b. unwrap_or (let o : Option ℕ = if b then Some r else None in o) (number_at d k m) ≡ (if b then r else number_at d k m)) [ true ↦ refl | false ↦ refl ]

@@ -13,13 +13,15 @@ use Rattle.sm_history.specs.Sound.{IsOwned}
 apart : (o n : ℕ) → o < n → (n == o) ≡ false
 apart o n lt = grind (arith, nat_tests)
 
-said_lives : (d : Effects) (n : ℕ) (who : Identity) (name : List ℕ) (o : Option Service) → n ≡ next_client d → IsOwned d → last_said d name ≡ o → if_owner_lives (Connects n who ∷ d) o ≡ if_owner_lives d o
+said_lives : (d : Effects) (n : ℕ) (who : Identity) (name : List ℕ) (o : Option Service) → n ≡ next_client d
+    → IsOwned d → last_said d name ≡ o → if_owner_lives (Connects n who ∷ d) o ≡ if_owner_lives d o
 said_lives d n who name None is owned e = refl
 said_lives d n who name (Some s) is owned e =
     let lt : s.node.owner.0 < n = rw is (owned name s e) in
     ap (λ (b : Bool). let r : Option Service = if b then Some s else None in r) (live_other d n who s.node.owner.0 (apart s.node.owner.0 n lt))
 
-pub service_connects : (d : Effects) (n : ℕ) (who : Identity) (name : List ℕ) → n ≡ next_client d → IsOwned d → service_at (Connects n who ∷ d) name ≡ service_at d name
+pub service_connects : (d : Effects) (n : ℕ) (who : Identity) (name : List ℕ) → n ≡ next_client d → IsOwned d
+    → service_at (Connects n who ∷ d) name ≡ service_at d name
 service_connects d n who name is owned = said_lives d n who name (last_said d name) is owned refl
 
 -- What is left of a service where a client dies.
@@ -27,7 +29,8 @@ abbrev pub unless_owned : ℕ → Option Service → Option Service
 unless_owned c None = None
 unless_owned c (Some s) = if c == s.node.owner.0 then None else Some s
 
-said_dies : (d : Effects) (c : ℕ) (o : Option Service) → if_owner_lives (Dies c ∷ d) o ≡ unless_owned c (if_owner_lives d o)
+said_dies : (d : Effects) (c : ℕ) (o : Option Service)
+    → if_owner_lives (Dies c ∷ d) o ≡ unless_owned c (if_owner_lives d o)
 said_dies d c None = refl
 said_dies d c (Some s) =
     rw (live_dies d c s.node.owner.0)
@@ -36,11 +39,14 @@ said_dies d c (Some s) =
       | false ↦ refl
     ])
 
-pub service_dies : (d : Effects) (c : ℕ) (name : List ℕ) → service_at (Dies c ∷ d) name ≡ unless_owned c (service_at d name)
+pub service_dies : (d : Effects) (c : ℕ) (name : List ℕ)
+    → service_at (Dies c ∷ d) name ≡ unless_owned c (service_at d name)
 service_dies d c name = said_dies d c (last_said d name)
 
-pub service_adds : (d : Effects) (added : List ℕ) (s : Service) (name : List ℕ) → service_at (Adds added s ∷ d) name ≡ (if bytes_eq added name then if_owner_lives d (Some s) else service_at d name)
+pub service_adds : (d : Effects) (added : List ℕ) (s : Service) (name : List ℕ)
+    → service_at (Adds added s ∷ d) name ≡ (if bytes_eq added name then if_owner_lives d (Some s) else service_at d name)
 service_adds d added s name = elim (bytes_eq added name) as (λ b. if_owner_lives d (said_or (if b then Here s else Silent) (last_said d name)) ≡ (if b then if_owner_lives d (Some s) else service_at d name)) [ true ↦ refl | false ↦ refl ]
 
-pub service_removes : (d : Effects) (removed name : List ℕ) → service_at (Removes removed ∷ d) name ≡ (if bytes_eq removed name then None else service_at d name)
+pub service_removes : (d : Effects) (removed name : List ℕ)
+    → service_at (Removes removed ∷ d) name ≡ (if bytes_eq removed name then None else service_at d name)
 service_removes d removed name = elim (bytes_eq removed name) as (λ b. if_owner_lives d (said_or (if b then Gone else Silent) (last_said d name)) ≡ (if b then None else service_at d name)) [ true ↦ refl | false ↦ refl ]

@@ -36,29 +36,35 @@ append_alike {xs} {ys} {us} {vs} p q = both (λ (a b : List Check). a ++ b) p q
 
 -- ---- parts
 
-pub not_barred_alike : (d e : Effects) (c : ℕ) (name : List ℕ) → Sim d e → is_live d c ≡ true → not_barred d c name ≡ not_barred e c name
+pub not_barred_alike : (d e : Effects) (c : ℕ) (name : List ℕ) → Sim d e → is_live d c ≡ true
+    → not_barred d c name ≡ not_barred e c name
 not_barred_alike d e c name s live = ap (λ (who : Identity). Spares (not (is_barred who.uid)) (App who.uid) who name) (s.agree.who c live)
 
-pub not_isolated_alike : (d e : Effects) (c : ℕ) (name : List ℕ) {a b : Bool} → Sim d e → is_live d c ≡ true → a ≡ b → not_isolated d c name a ≡ not_isolated e c name b
+pub not_isolated_alike : (d e : Effects) (c : ℕ) (name : List ℕ) {a b : Bool} → Sim d e → is_live d c ≡ true → a ≡ b
+    → not_isolated d c name a ≡ not_isolated e c name b
 not_isolated_alike d e c name s live m = both (λ (who : Identity) (t : Bool). Spares (not (is_isolated_user who.uid && t)) (Isolated who.uid) who name) (s.agree.who c live) m
 
-passes_manager_alike : (d e : Effects) (c : ℕ) (r : ObjRef) → Sim d e → is_live d c ≡ true → passes_to_manager d c r ≡ passes_to_manager e c r
+passes_manager_alike : (d e : Effects) (c : ℕ) (r : ObjRef) → Sim d e → is_live d c ≡ true
+    → passes_to_manager d c r ≡ passes_to_manager e c r
 passes_manager_alike d e c NullRef s live = refl
 passes_manager_alike d e c (OwnRef o) s live = cons_alike refl (cons_alike (to_manager_alike d e c transferring s live) refl)
 passes_manager_alike d e c (HandleRef r) s live =
     cons_alike (wants_alike (Refused (Failed BadHandle)) (ap (λ (o : Option Node). is_some o) (sim_nodes d e c r s))) (cons_alike (to_manager_alike d e c transferring s live) refl)
 
-passes_client_alike : (d e : Effects) (c k : ℕ) (r : ObjRef) → Sim d e → is_live d c ≡ true → is_live d k ≡ true → passes_to_client d c k r ≡ passes_to_client e c k r
+passes_client_alike : (d e : Effects) (c k : ℕ) (r : ObjRef) → Sim d e → is_live d c ≡ true → is_live d k ≡ true
+    → passes_to_client d c k r ≡ passes_to_client e c k r
 passes_client_alike d e c k NullRef s live there = refl
 passes_client_alike d e c k (OwnRef o) s live there = cons_alike refl (cons_alike (to_client_alike d e c k transferring s live there) refl)
 passes_client_alike d e c k (HandleRef r) s live there =
     cons_alike (wants_alike (Refused (Failed BadHandle)) (ap (λ (o : Option Node). is_some o) (sim_nodes d e c r s))) (cons_alike (to_client_alike d e c k transferring s live there) refl)
 
-all_pass_alike : (d e : Effects) (c k : ℕ) (rs : List ObjRef) → Sim d e → is_live d c ≡ true → is_live d k ≡ true → all_pass_to_client d c k rs ≡ all_pass_to_client e c k rs
+all_pass_alike : (d e : Effects) (c k : ℕ) (rs : List ObjRef) → Sim d e → is_live d c ≡ true → is_live d k ≡ true
+    → all_pass_to_client d c k rs ≡ all_pass_to_client e c k rs
 all_pass_alike d e c k [] s live there = refl
 all_pass_alike d e c k (r ∷ rs) s live there = append_alike (passes_client_alike d e c k r s live there) (all_pass_alike d e c k rs s live there)
 
-owner_alike : (d e : Effects) (c : ℕ) (r : ObjRef) → Sim d e → owner_lives d (found (resolve_at d c r)) ≡ owner_lives e (found (resolve_at e c r))
+owner_alike : (d e : Effects) (c : ℕ) (r : ObjRef) → Sim d e
+    → owner_lives d (found (resolve_at d c r)) ≡ owner_lives e (found (resolve_at e c r))
 owner_alike d e c r s = ap (λ (o : Option Node). owner_lives d (found o)) (resolve_alike d e c r s) ∙ s.agree.lives (found (resolve_at e c r)).owner.0
 
 name_room_alike : (d e : Effects) (name : List ℕ) → Sim d e → has_name_room d name ≡ has_name_room e name
@@ -76,7 +82,8 @@ in_use_alike d e c n s =
 
 -- ---- the checks of each event
 
-naming_alike : (d e : Effects) (c : ℕ) (name : List ℕ) (obj : ObjRef) → Sim d e → is_live d c ≡ true → naming_checks d c name obj ≡ naming_checks e c name obj
+naming_alike : (d e : Effects) (c : ℕ) (name : List ℕ) (obj : ObjRef) → Sim d e → is_live d c ≡ true
+    → naming_checks d c name obj ≡ naming_checks e c name obj
 naming_alike d e c name obj s live =
     cons_alike (not_barred_alike d e c name s live)
     (cons_alike (to_label_alike d e c name adding s live)
@@ -85,14 +92,17 @@ naming_alike d e c name obj s live =
     (cons_alike (wants_alike (Refused (Exception DeadOwner)) (owner_alike d e c obj s))
     (cons_alike (wants_alike (Refused (Exception TableFull)) (name_room_alike d e name s)) refl)))))
 
-add_alike : (d e : Effects) (c : ℕ) (name : List ℕ) (obj : ObjRef) → Sim d e → is_live d c ≡ true → add_checks d c name obj ≡ add_checks e c name obj
+add_alike : (d e : Effects) (c : ℕ) (name : List ℕ) (obj : ObjRef) → Sim d e → is_live d c ≡ true
+    → add_checks d c name obj ≡ add_checks e c name obj
 add_alike d e c name obj s live = cons_alike (to_manager_alike d e c calling s live) (append_alike (passes_manager_alike d e c obj s live) (naming_alike d e c name obj s live))
 
-handing_alike : (d e : Effects) (c : ℕ) (o : Option Service) → Sim d e → is_live d c ≡ true → handing_checks d c o ≡ handing_checks e c o
+handing_alike : (d e : Effects) (c : ℕ) (o : Option Service) → Sim d e → is_live d c ≡ true
+    → handing_checks d c o ≡ handing_checks e c o
 handing_alike d e c None s live = refl
 handing_alike d e c (Some t) s live = cons_alike refl (cons_alike (wants_alike (Refused (Failed TargetFull)) (fits_alike (handed d c t.node) (handed e c t.node) c (sim_handed d e c t.node live s))) refl)
 
-get_alike : (d e : Effects) (c : ℕ) (name : List ℕ) → Sim d e → is_live d c ≡ true → get_checks d c name ≡ get_checks e c name
+get_alike : (d e : Effects) (c : ℕ) (name : List ℕ) → Sim d e → is_live d c ≡ true
+    → get_checks d c name ≡ get_checks e c name
 get_alike d e c name s live =
     let o = s.agree.services name in
     cons_alike (to_manager_alike d e c calling s live)
@@ -102,7 +112,8 @@ get_alike d e c name s live =
     (cons_alike (from_manager_alike d e c transferring s live)
     (ap (handing_checks d c) o ∙ handing_alike d e c (service_at e name) s live)))))
 
-watch_alike : (d e : Effects) (c : ℕ) (name : List ℕ) → Sim d e → is_live d c ≡ true → watch_checks d c name ≡ watch_checks e c name
+watch_alike : (d e : Effects) (c : ℕ) (name : List ℕ) → Sim d e → is_live d c ≡ true
+    → watch_checks d c name ≡ watch_checks e c name
 watch_alike d e c name s live =
     cons_alike (to_manager_alike d e c calling s live)
     (cons_alike (to_manager_alike d e c transferring s live)
@@ -111,14 +122,16 @@ watch_alike d e c name s live =
     (cons_alike refl
     (cons_alike (wants_alike (Refused (Exception TableFull)) (ap (λ (ws : List Watch). nat_lt (length ws) MOST_WATCHES) s.agree.watches)) refl)))))
 
-unwatch_alike : (d e : Effects) (c : ℕ) (name : List ℕ) (object : ℕ) → Sim d e → is_live d c ≡ true → unwatch_checks d c name object ≡ unwatch_checks e c name object
+unwatch_alike : (d e : Effects) (c : ℕ) (name : List ℕ) (object : ℕ) → Sim d e → is_live d c ≡ true
+    → unwatch_checks d c name object ≡ unwatch_checks e c name object
 unwatch_alike d e c name object s live =
     cons_alike (to_manager_alike d e c calling s live)
     (cons_alike (to_manager_alike d e c transferring s live)
     (cons_alike (to_label_alike d e c name finding s live)
     (cons_alike (wants_alike (Refused (Exception NothingToUnregister)) (ap (list_any (same_watch (watch c name object))) s.agree.watches)) refl)))
 
-unregister_alike : (d e : Effects) (c : ℕ) (name : List ℕ) (obj : ObjRef) → Sim d e → is_live d c ≡ true → unregister_checks d c name obj ≡ unregister_checks e c name obj
+unregister_alike : (d e : Effects) (c : ℕ) (name : List ℕ) (obj : ObjRef) → Sim d e → is_live d c ≡ true
+    → unregister_checks d c name obj ≡ unregister_checks e c name obj
 unregister_alike d e c name obj s live =
     let o = s.agree.services name in
     let r = resolve_alike d e c obj s in
@@ -134,7 +147,9 @@ unregister_alike d e c name obj s live =
 -- ---- the first that fails
 
 -- What stands behind a condition matters only where it holds.
-pub behind_alike : (p : Policy) (r : Instead) (a b : Bool) (xs ys : List Check) → a ≡ b → (a ≡ true → first_failing p xs ≡ first_failing p ys) → first_failing p (Wants a r ∷ xs) ≡ first_failing p (Wants b r ∷ ys)
+pub behind_alike : (p : Policy) (r : Instead) (a b : Bool) (xs ys : List Check) → a ≡ b
+    → (a ≡ true → first_failing p xs ≡ first_failing p ys)
+    → first_failing p (Wants a r ∷ xs) ≡ first_failing p (Wants b r ∷ ys)
 behind_alike p r true true xs ys is more = more refl
 behind_alike p r true false xs ys is more = absurd (true≢false is)
 behind_alike p r false true xs ys is more = absurd (true≢false (sym is))
@@ -148,19 +163,22 @@ served_checks d c refs n =
     ++ Wants (has_inbox_room d n.owner.0 && fits_handles (handed_refs d c n.owner.0 refs) n.owner.0) (Refused (Failed TargetFull))
     ∷ []
 
-served_alike : (d e : Effects) (c : ℕ) (refs : List ObjRef) (n : Node) → Sim d e → is_live d c ≡ true → is_live d n.owner.0 ≡ true → served_checks d c refs n ≡ served_checks e c refs n
+served_alike : (d e : Effects) (c : ℕ) (refs : List ObjRef) (n : Node) → Sim d e → is_live d c ≡ true
+    → is_live d n.owner.0 ≡ true → served_checks d c refs n ≡ served_checks e c refs n
 served_alike d e c refs n s live there =
     cons_alike (to_client_alike d e c n.owner.0 calling s live there)
     (append_alike (all_pass_alike d e c n.owner.0 refs s live there)
     (cons_alike (wants_alike (Refused (Failed TargetFull)) (both (λ a b. a && b) (room_alike d e n.owner.0 s) (fits_alike (handed_refs d c n.owner.0 refs) (handed_refs e c n.owner.0 refs) n.owner.0 (sim_refs d e c n.owner.0 refs there s)))) refl))
 
-object_alike : (d e : Effects) (c : ℕ) (refs : List ObjRef) (n : Node) (p : Policy) (rest : List Check) → Sim d e → is_live d c ≡ true
+object_alike : (d e : Effects) (c : ℕ) (refs : List ObjRef) (n : Node) (p : Policy) (rest : List Check) → Sim d e
+    → is_live d c ≡ true
     → first_failing p (object_checks d c refs n ++ rest) ≡ first_failing p (object_checks e c refs n ++ rest)
 object_alike d e c refs n p rest s live =
     behind_alike p (Refused Dead) (owner_lives d n) (owner_lives e n) (served_checks d c refs n ++ rest) (served_checks e c refs n ++ rest) (s.agree.lives n.owner.0)
     (λ there. ap (λ xs. first_failing p (xs ++ rest)) (served_alike d e c refs n s live there))
 
-call_alike : (d e : Effects) (c handle : ℕ) (refs : List ObjRef) (p : Policy) (rest : List Check) → Sim d e → is_live d c ≡ true
+call_alike : (d e : Effects) (c handle : ℕ) (refs : List ObjRef) (p : Policy) (rest : List Check) → Sim d e
+    → is_live d c ≡ true
     → first_failing p (call_checks d c handle refs ++ rest) ≡ first_failing p (call_checks e c handle refs ++ rest)
 call_alike d e c handle refs p rest s live =
     let n = node_at e c handle in

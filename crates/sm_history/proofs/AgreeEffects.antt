@@ -42,11 +42,13 @@ agree_sets d e p a = record { policy = refl; version = ap (λ v. v + 1) a.versio
 
 -- ---- clients
 
-identity_case : (t : Bool) (who x y : Identity) → (t ≡ false → x ≡ y) → unwrap_or (let o : Option Identity = if t then Some who else None in o) x ≡ unwrap_or (let o : Option Identity = if t then Some who else None in o) y
+identity_case : (t : Bool) (who x y : Identity) → (t ≡ false → x ≡ y)
+    → unwrap_or (let o : Option Identity = if t then Some who else None in o) x ≡ unwrap_or (let o : Option Identity = if t then Some who else None in o) y
 identity_case true who x y same = refl
 identity_case false who x y same = same refl
 
-agree_connects : (d e : Effects) (n : ℕ) (who : Identity) → n ≡ next_client d → n ≡ next_client e → Sound d → Sound e → Agree d e → Agree (Connects n who ∷ d) (Connects n who ∷ e)
+agree_connects : (d e : Effects) (n : ℕ) (who : Identity) → n ≡ next_client d → n ≡ next_client e → Sound d → Sound e
+    → Agree d e → Agree (Connects n who ∷ d) (Connects n who ∷ e)
 agree_connects d e n who is is' s t a =
     let new = is_new d n is s.fresh in
     let new' = is_new e n is' t.fresh in
@@ -124,7 +126,8 @@ number_case : (b : Bool) (r x y : ℕ) → (b ≡ false → x ≡ y) → (if b t
 number_case true r x y same = refl
 number_case false r x y same = same refl
 
-agree_gives : (d e : Effects) (c : ℕ) (n : Node) (r : ℕ) → Sound d → Sound e → Agree d e → Agree (Gives c n r ∷ d) (Gives c n r ∷ e)
+agree_gives : (d e : Effects) (c : ℕ) (n : Node) (r : ℕ) → Sound d → Sound e → Agree d e
+    → Agree (Gives c n r ∷ d) (Gives c n r ∷ e)
 agree_gives d e c n r s t a = record {
   policy = a.policy;
   version = a.version;
@@ -198,7 +201,8 @@ agree_unwatches d e w a = record {
   inboxes = a.inboxes;
 }
 
-agree_delivers : (d e : Effects) (c : ℕ) (x : Delivery) → Sound d → Sound e → Agree d e → Agree (Delivers c x ∷ d) (Delivers c x ∷ e)
+agree_delivers : (d e : Effects) (c : ℕ) (x : Delivery) → Sound d → Sound e → Agree d e
+    → Agree (Delivers c x ∷ d) (Delivers c x ∷ e)
 agree_delivers d e c x s t a = record {
   policy = a.policy;
   version = a.version;
@@ -241,7 +245,8 @@ sim_opens d e who s = record { agree = agree_opens d e who s.agree; left = sound
 pub sim_sets : (d e : Effects) (p : Policy) → Sim d e → Sim (Sets p ∷ d) (Sets p ∷ e)
 sim_sets d e p s = record { agree = agree_sets d e p s.agree; left = sound_sets d p s.left; right = sound_sets e p s.right }
 
-pub sim_connects : (d e : Effects) (n : ℕ) (who : Identity) → n ≡ next_client d → Sim d e → Sim (Connects n who ∷ d) (Connects n who ∷ e)
+pub sim_connects : (d e : Effects) (n : ℕ) (who : Identity) → n ≡ next_client d → Sim d e
+    → Sim (Connects n who ∷ d) (Connects n who ∷ e)
 sim_connects d e n who is s =
     let is' : n ≡ next_client e = is ∙ ap (λ v. v + 1) s.agree.clients in
     record { agree = agree_connects d e n who is is' s.left s.right s.agree; left = sound_connects d n who is s.left; right = sound_connects e n who is' s.right }
@@ -249,7 +254,8 @@ sim_connects d e n who is s =
 pub sim_dies : (d e : Effects) (c : ℕ) → is_live d c ≡ true → Sim d e → Sim (Dies c ∷ d) (Dies c ∷ e)
 sim_dies d e c live s = record { agree = agree_dies d e c s.agree; left = sound_dies d c live s.left; right = sound_dies e c (sym (s.agree.lives c) ∙ live) s.right }
 
-pub sim_adds : (d e : Effects) (name : List ℕ) (t : Service) → is_live d t.node.owner.0 ≡ true → Sim d e → Sim (Adds name t ∷ d) (Adds name t ∷ e)
+pub sim_adds : (d e : Effects) (name : List ℕ) (t : Service) → is_live d t.node.owner.0 ≡ true → Sim d e
+    → Sim (Adds name t ∷ d) (Adds name t ∷ e)
 sim_adds d e name t live s = record { agree = agree_adds d e name t s.agree; left = sound_adds d name t live s.left; right = sound_adds e name t (sym (s.agree.lives t.node.owner.0) ∙ live) s.right }
 
 pub sim_removes : (d e : Effects) (name : List ℕ) → Sim d e → Sim (Removes name ∷ d) (Removes name ∷ e)
@@ -272,19 +278,24 @@ numbers_alike d e c n r s num = record {
   free = λ h. sym (sim_nodes d e c r s) ∙ num.free (sim_held d e c n s ∙ h);
 }
 
-pub sim_gives : (d e : Effects) (c : ℕ) (n : Node) (r : ℕ) → is_live d c ≡ true → Numbers d c n r → Sim d e → Sim (Gives c n r ∷ d) (Gives c n r ∷ e)
+pub sim_gives : (d e : Effects) (c : ℕ) (n : Node) (r : ℕ) → is_live d c ≡ true → Numbers d c n r → Sim d e
+    → Sim (Gives c n r ∷ d) (Gives c n r ∷ e)
 sim_gives d e c n r live num s = record { agree = agree_gives d e c n r s.left s.right s.agree; left = sound_gives d c n r live num s.left; right = sound_gives e c n r (sym (s.agree.lives c) ∙ live) (numbers_alike d e c n r s num) s.right }
 
-pub sim_releases : (d e : Effects) (c : ℕ) (n : Node) → is_live d c ≡ true → is_held d c n ≡ true → Sim d e → Sim (Releases c n ∷ d) (Releases c n ∷ e)
+pub sim_releases : (d e : Effects) (c : ℕ) (n : Node) → is_live d c ≡ true → is_held d c n ≡ true → Sim d e
+    → Sim (Releases c n ∷ d) (Releases c n ∷ e)
 sim_releases d e c n live held s = record { agree = agree_releases d e c n s.agree; left = sound_releases d c n live held s.left; right = sound_releases e c n (sym (s.agree.lives c) ∙ live) (sym (sim_held d e c n s) ∙ held) s.right }
 
-pub sim_watches : (d e : Effects) (w : Watch) → is_live d w.client ≡ true → Sim d e → Sim (Watches w ∷ d) (Watches w ∷ e)
+pub sim_watches : (d e : Effects) (w : Watch) → is_live d w.client ≡ true → Sim d e
+    → Sim (Watches w ∷ d) (Watches w ∷ e)
 sim_watches d e w live s = record { agree = agree_watches d e w s.agree; left = sound_watches d w live s.left; right = sound_watches e w (sym (s.agree.lives w.client) ∙ live) s.right }
 
-pub sim_unwatches : (d e : Effects) (w : Watch) → is_live d w.client ≡ true → Sim d e → Sim (Unwatches w ∷ d) (Unwatches w ∷ e)
+pub sim_unwatches : (d e : Effects) (w : Watch) → is_live d w.client ≡ true → Sim d e
+    → Sim (Unwatches w ∷ d) (Unwatches w ∷ e)
 sim_unwatches d e w live s = record { agree = agree_unwatches d e w s.agree; left = sound_unwatches d w live s.left; right = sound_unwatches e w (sym (s.agree.lives w.client) ∙ live) s.right }
 
-pub sim_delivers : (d e : Effects) (c : ℕ) (x : Delivery) → is_live d c ≡ true → Sim d e → Sim (Delivers c x ∷ d) (Delivers c x ∷ e)
+pub sim_delivers : (d e : Effects) (c : ℕ) (x : Delivery) → is_live d c ≡ true → Sim d e
+    → Sim (Delivers c x ∷ d) (Delivers c x ∷ e)
 sim_delivers d e c x live s = record { agree = agree_delivers d e c x s.left s.right s.agree; left = sound_delivers d c x live s.left; right = sound_delivers e c x (sym (s.agree.lives c) ∙ live) s.right }
 
 pub sim_takes : (d e : Effects) (c : ℕ) → Waits d c → Sim d e → Sim (Takes c ∷ d) (Takes c ∷ e)

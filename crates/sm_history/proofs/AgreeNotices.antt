@@ -48,16 +48,20 @@ cons_alike {x} {y} {xs} {ys} p q = ap (λ (v : Check). let l : List Check = v �
 
 -- ---- rules
 
-pub to_manager_alike : (d e : Effects) (c : ℕ) (p : Perms) → Sim d e → is_live d c ≡ true → to_manager d c p ≡ to_manager e c p
+pub to_manager_alike : (d e : Effects) (c : ℕ) (p : Perms) → Sim d e → is_live d c ≡ true
+    → to_manager d c p ≡ to_manager e c p
 to_manager_alike d e c p s live = both (λ (w m : Identity). Needs Binder p w m.context None) (s.agree.who c live) s.agree.manager
 
-pub from_manager_alike : (d e : Effects) (c : ℕ) (p : Perms) → Sim d e → is_live d c ≡ true → from_manager d c p ≡ from_manager e c p
+pub from_manager_alike : (d e : Effects) (c : ℕ) (p : Perms) → Sim d e → is_live d c ≡ true
+    → from_manager d c p ≡ from_manager e c p
 from_manager_alike d e c p s live = both (λ (w m : Identity). Needs Binder p m w.context None) (s.agree.who c live) s.agree.manager
 
-pub to_client_alike : (d e : Effects) (c k : ℕ) (p : Perms) → Sim d e → is_live d c ≡ true → is_live d k ≡ true → to_client d c k p ≡ to_client e c k p
+pub to_client_alike : (d e : Effects) (c k : ℕ) (p : Perms) → Sim d e → is_live d c ≡ true → is_live d k ≡ true
+    → to_client d c k p ≡ to_client e c k p
 to_client_alike d e c k p s live there = both (λ (w t : Identity). Needs Binder p w t.context None) (s.agree.who c live) (s.agree.who k there)
 
-pub to_label_alike : (d e : Effects) (c : ℕ) (name : List ℕ) (p : Perms) → Sim d e → is_live d c ≡ true → to_label d c name p ≡ to_label e c name p
+pub to_label_alike : (d e : Effects) (c : ℕ) (name : List ℕ) (p : Perms) → Sim d e → is_live d c ≡ true
+    → to_label d c name p ≡ to_label e c name p
 to_label_alike d e c name p s live = both (λ (w : Identity) (q : Policy). Needs ServiceManager p w (label_of q name) (Some name)) (s.agree.who c live) s.agree.policy
 
 -- ---- handing out
@@ -99,7 +103,8 @@ room_alike d e c s = ap (λ (xs : List Delivery). nat_lt (length xs) MOST_DELIVE
 
 -- ---- notices
 
-notice_checks_alike : (d e : Effects) (n : Node) (w : Watch) → Sim d e → is_live d w.client ≡ true → notice_checks d n w ≡ notice_checks e n w
+notice_checks_alike : (d e : Effects) (n : Node) (w : Watch) → Sim d e → is_live d w.client ≡ true
+    → notice_checks d n w ≡ notice_checks e n w
 notice_checks_alike d e n w s live =
     cons_alike (to_label_alike d e w.client w.name finding s live)
     (cons_alike (from_manager_alike d e w.client calling s live)
@@ -107,7 +112,8 @@ notice_checks_alike d e n w s live =
     (cons_alike (wants_alike (Refused (Failed FailsFull)) (both (λ a b. a && b) (room_alike d e w.client s) (fits_alike (handed d w.client n) (handed e w.client n) w.client (sim_handed d e w.client n live s))))
     refl)))
 
-pub missing_alike : (d e : Effects) (n : Node) (w : Watch) → Sim d e → is_live d w.client ≡ true → first_missing d n w ≡ first_missing e n w
+pub missing_alike : (d e : Effects) (n : Node) (w : Watch) → Sim d e → is_live d w.client ≡ true
+    → first_missing d n w ≡ first_missing e n w
 missing_alike d e n w s live = both first_failing s.agree.policy (notice_checks_alike d e n w s live)
 
 pub registration_alike : (d e : Effects) (n : Node) (w : Watch) → Sim d e → registration d n w ≡ registration e n w
@@ -117,22 +123,26 @@ told_alike : (d e : Effects) (n : Node) (w : Watch) (o : Option Stop) → Sim d 
 told_alike d e n w None s = ap (λ (x : Delivery). IsTold x) (registration_alike d e n w s)
 told_alike d e n w (Some failing) s = refl
 
-pub notice_alike : (d e : Effects) (n : Node) (w : Watch) → Sim d e → is_live d w.client ≡ true → notice_at d n w ≡ notice_at e n w
+pub notice_alike : (d e : Effects) (n : Node) (w : Watch) → Sim d e → is_live d w.client ≡ true
+    → notice_at d n w ≡ notice_at e n w
 notice_alike d e n w s live =
     ap (λ (t : Told). let v : Notice = record { client = record { 0 = w.client }; object = w.object; result = t } in v)
     (ap (told_of d n w) (missing_alike d e n w s live) ∙ told_alike d e n w (first_missing e n w) s)
 
-sim_told : (d e : Effects) (n : Node) (w : Watch) (o : Option Stop) → Sim d e → is_live d w.client ≡ true → Sim (after_told d n w o) (after_told e n w o)
+sim_told : (d e : Effects) (n : Node) (w : Watch) (o : Option Stop) → Sim d e → is_live d w.client ≡ true
+    → Sim (after_told d n w o) (after_told e n w o)
 sim_told d e n w None s live =
     let h = sim_handed d e w.client n live s in
     subst (λ (x : Delivery). Sim (Delivers w.client (registration d n w) ∷ handed d w.client n) (Delivers w.client x ∷ handed e w.client n)) (registration_alike d e n w s)
     (sim_delivers (handed d w.client n) (handed e w.client n) w.client (registration d n w) (live_handed d w.client n w.client ∙ live) h)
 sim_told d e n w (Some failing) s live = s
 
-pub sim_notice : (d e : Effects) (n : Node) (w : Watch) → Sim d e → is_live d w.client ≡ true → Sim (after_notice d n w) (after_notice e n w)
+pub sim_notice : (d e : Effects) (n : Node) (w : Watch) → Sim d e → is_live d w.client ≡ true
+    → Sim (after_notice d n w) (after_notice e n w)
 sim_notice d e n w s live = subst (λ (o : Option Stop). Sim (after_notice d n w) (after_told e n w o)) (missing_alike d e n w s live) (sim_told d e n w (first_missing d n w) s live)
 
-live_told : (d : Effects) (n : Node) (w : Watch) (o : Option Stop) (k : ℕ) → is_live (after_told d n w o) k ≡ is_live d k
+live_told : (d : Effects) (n : Node) (w : Watch) (o : Option Stop) (k : ℕ)
+    → is_live (after_told d n w o) k ≡ is_live d k
 live_told d n w None k = live_handed d w.client n k
 live_told d n w (Some failing) k = refl
 
@@ -143,17 +153,20 @@ live_notice d n w k = live_told d n w (first_missing d n w) k
 abbrev pub AllLive : Effects → List Watch → Type 0
 AllLive d ws = list_all (λ w. is_live d w.client) ws ≡ true
 
-pub all_same : (p q : ℕ → Bool) (ws : List Watch) → ((k : ℕ) → q k ≡ p k) → list_all (λ w. p w.client) ws ≡ true → list_all (λ w. q w.client) ws ≡ true
+pub all_same : (p q : ℕ → Bool) (ws : List Watch) → ((k : ℕ) → q k ≡ p k) → list_all (λ w. p w.client) ws ≡ true
+    → list_all (λ w. q w.client) ws ≡ true
 all_same p q [] same h = refl
 all_same p q (w ∷ ws) same h = rw (same w.client ∙ (and_parts (p w.client) (list_all (λ (v : Watch). p v.client) ws) h).0) (all_same p q ws same (and_parts (p w.client) (list_all (λ (v : Watch). p v.client) ws) h).1)
 
-pub sim_notices : (d e : Effects) (n : Node) (ws : List Watch) → Sim d e → AllLive d ws → Sim (after_notices d n ws) (after_notices e n ws)
+pub sim_notices : (d e : Effects) (n : Node) (ws : List Watch) → Sim d e → AllLive d ws
+    → Sim (after_notices d n ws) (after_notices e n ws)
 sim_notices d e n [] s live = s
 sim_notices d e n (w ∷ ws) s live =
     sim_notices (after_notice d n w) (after_notice e n w) n ws (sim_notice d e n w s (and_parts (is_live d w.client) (list_all (λ (v : Watch). is_live d v.client) ws) live).0)
     (all_same (is_live d) (is_live (after_notice d n w)) ws (λ k. live_notice d n w k) (and_parts (is_live d w.client) (list_all (λ (v : Watch). is_live d v.client) ws) live).1)
 
-pub notices_alike : (d e : Effects) (n : Node) (ws : List Watch) → Sim d e → AllLive d ws → notices_at d n ws ≡ notices_at e n ws
+pub notices_alike : (d e : Effects) (n : Node) (ws : List Watch) → Sim d e → AllLive d ws
+    → notices_at d n ws ≡ notices_at e n ws
 notices_alike d e n [] s live = refl
 notices_alike d e n (w ∷ ws) s live =
     let here = (and_parts (is_live d w.client) (list_all (λ (v : Watch). is_live d v.client) ws) live).0 in
@@ -178,7 +191,8 @@ given_ref_alike : (d e : Effects) (to : ℕ) (o : Option Node) → Sim d e → g
 given_ref_alike d e to None s = refl
 given_ref_alike d e to (Some n) s = given_alike d e to n s
 
-sim_ref : (d e : Effects) (to : ℕ) (o : Option Node) → is_live d to ≡ true → Sim d e → Sim (handed_ref d to o) (handed_ref e to o)
+sim_ref : (d e : Effects) (to : ℕ) (o : Option Node) → is_live d to ≡ true → Sim d e
+    → Sim (handed_ref d to o) (handed_ref e to o)
 sim_ref d e to None live s = s
 sim_ref d e to (Some n) live s = sim_handed d e to n live s
 
@@ -186,19 +200,23 @@ live_ref : (d : Effects) (to : ℕ) (o : Option Node) (k : ℕ) → is_live (han
 live_ref d to None k = refl
 live_ref d to (Some n) k = live_handed d to n k
 
-sim_resolved : (d e : Effects) (from to : ℕ) (r : ObjRef) → is_live d to ≡ true → Sim d e → Sim (handed_ref d to (resolve_at d from r)) (handed_ref e to (resolve_at e from r))
+sim_resolved : (d e : Effects) (from to : ℕ) (r : ObjRef) → is_live d to ≡ true → Sim d e
+    → Sim (handed_ref d to (resolve_at d from r)) (handed_ref e to (resolve_at e from r))
 sim_resolved d e from to r live s = subst (λ (o : Option Node). Sim (handed_ref d to (resolve_at d from r)) (handed_ref e to o)) (resolve_alike d e from r s) (sim_ref d e to (resolve_at d from r) live s)
 
-pub sim_refs : (d e : Effects) (from to : ℕ) (rs : List ObjRef) → is_live d to ≡ true → Sim d e → Sim (handed_refs d from to rs) (handed_refs e from to rs)
+pub sim_refs : (d e : Effects) (from to : ℕ) (rs : List ObjRef) → is_live d to ≡ true → Sim d e
+    → Sim (handed_refs d from to rs) (handed_refs e from to rs)
 sim_refs d e from to [] live s = s
 sim_refs d e from to (r ∷ rs) live s =
     sim_refs (handed_ref d to (resolve_at d from r)) (handed_ref e to (resolve_at e from r)) from to rs (live_ref d to (resolve_at d from r) to ∙ live) (sim_resolved d e from to r live s)
 
-pub live_refs : (d : Effects) (from to : ℕ) (rs : List ObjRef) (k : ℕ) → is_live (handed_refs d from to rs) k ≡ is_live d k
+pub live_refs : (d : Effects) (from to : ℕ) (rs : List ObjRef) (k : ℕ)
+    → is_live (handed_refs d from to rs) k ≡ is_live d k
 live_refs d from to [] k = refl
 live_refs d from to (r ∷ rs) k = live_refs (handed_ref d to (resolve_at d from r)) from to rs k ∙ live_ref d to (resolve_at d from r) k
 
-pub given_refs_alike : (d e : Effects) (from to : ℕ) (rs : List ObjRef) → is_live d to ≡ true → Sim d e → given_refs d from to rs ≡ given_refs e from to rs
+pub given_refs_alike : (d e : Effects) (from to : ℕ) (rs : List ObjRef) → is_live d to ≡ true → Sim d e
+    → given_refs d from to rs ≡ given_refs e from to rs
 given_refs_alike d e from to [] live s = refl
 given_refs_alike d e from to (r ∷ rs) live s =
     both (λ (g : Given) (gs : List Given). let l : List Given = g ∷ gs in l)

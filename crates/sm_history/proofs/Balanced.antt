@@ -13,7 +13,8 @@ use Rattle.sm_history.specs.Histories.{found}
 use Rattle.sm_history.proofs.Keeps.{Lasts}
 use Rattle.sm_history.specs.Sound.{IsBalanced, granted, released}
 
-pub step : (x : Effect) (d : Effects) → ((c : ℕ) (n : Node) → is_release_of c n x ≡ false) → IsBalanced d → IsBalanced (x ∷ d)
+pub step : (x : Effect) (d : Effects) → ((c : ℕ) (n : Node) → is_release_of c n x ≡ false) → IsBalanced d
+    → IsBalanced (x ∷ d)
 step x d none h c n =
     let g = sum_by-cons (λ (y : Effect). cond (is_some (number_given c n y)) 1 0) x d in
     let s = sum_by-cons (λ (y : Effect). cond (is_release_of c n y) 1 0) x d in
@@ -77,6 +78,7 @@ found_kept {X} p q (y ∷ ys) x h =
       | false ↦ λ e s. found_kept p q ys x s
     ] refl h
 
-pub found_held : (d : Effects) (c r : ℕ) (o : Option Node) → node_at d c r ≡ o → is_some o ≡ true → is_held d c (found o) ≡ true
+pub found_held : (d : Effects) (c r : ℕ) (o : Option Node) → node_at d c r ≡ o → is_some o ≡ true
+    → is_held d c (found o) ≡ true
 found_held d c r None e h = absurd (true≢false (sym h))
 found_held d c r (Some n) e h = found_kept (λ m. number_at d c m == r) (is_held d c) (given_nodes d c) n e

@@ -25,7 +25,8 @@ less : (c : ℕ) (xs : List ℕ) → length (filter (λ k. not (c == k)) xs) ≤
 less c [] = omega arith
 less c (x ∷ xs) = let i = less c xs in elim (c == x) as (λ b. length (if not b then x ∷ filter (λ k. not (c == k)) xs else filter (λ k. not (c == k)) xs) ≤ length (x ∷ xs)) [ true ↦ omega (arith, i) | false ↦ omega (arith, i) ]
 
-fewer : (c : ℕ) (xs : List ℕ) → list_any (λ x. x == c) xs ≡ true → length (filter (λ k. not (c == k)) xs) + 1 ≤ length xs
+fewer : (c : ℕ) (xs : List ℕ) → list_any (λ x. x == c) xs ≡ true
+    → length (filter (λ k. not (c == k)) xs) + 1 ≤ length xs
 fewer c [] h = cc
 fewer c (x ∷ xs) h =
     let l = less c xs in
@@ -37,7 +38,8 @@ fewer c (x ∷ xs) h =
           omega (arith, i)
     ] refl
 
-pub fits_any : (places : ℕ) (h : History) (by : By) (turn : ℕ) (event : Event) (outcome : Outcome) → Sound (effects_of h) → FitsPlaces places h → verdict places h by turn event ≡ Done outcome
+pub fits_any : (places : ℕ) (h : History) (by : By) (turn : ℕ) (event : Event) (outcome : Outcome)
+    → Sound (effects_of h) → FitsPlaces places h → verdict places h by turn event ≡ Done outcome
     → FitsPlaces places (entered (record { by = by; turn = turn; event = event; outcome = outcome }) h)
 fits_any places h by turn Die outcome s fits done =
     let d = effects_of h in

@@ -41,7 +41,8 @@ lives_last n (Unwatches w) d plain h = h
 lives_last n (Delivers c x) d plain h = h
 lives_last n (Takes c) d plain h = h
 
-lives_left : (d : Effects) (c : ℕ) (event : Event) → is_die event ≡ false → Sound d → LeftToKeep (LivesIn (length (live_clients d) + (places_needed event - 1))) d c event
+lives_left : (d : Effects) (c : ℕ) (event : Event) → is_die event ≡ false → Sound d
+    → LeftToKeep (LivesIn (length (live_clients d) + (places_needed event - 1))) d c event
 lives_left d c (Open who policy) a s = tt
 lives_left d c (Connect who) a s = let e = ap (length {A = ℕ}) (list_connects d (next_client d) who (is_new d (next_client d) refl s.fresh)) ∙ length-append (live_clients d) (next_client d ∷ []) in omega (arith, e)
 lives_left d c (Add name obj allow dump) a s = omega arith
@@ -59,7 +60,8 @@ hold_right : (p : Policy) (xs ys : List Check) → AllHold p (xs ++ ys) → AllH
 hold_right p [] ys h = h
 hold_right p (x ∷ xs) ys h = hold_right p xs ys h.1
 
-pub place_done : (places : ℕ) (h : History) (e : Entry) → verdict places h e.by e.turn e.event ≡ Done e.outcome → has_place places h e.event ≡ true
+pub place_done : (places : ℕ) (h : History) (e : Entry) → verdict places h e.by e.turn e.event ≡ Done e.outcome
+    → has_place places h e.event ≡ true
 place_done places h e done =
     let d = effects_of h in
     let a = all_hold (policy_at d) (checks places h e.by e.turn e.event) (outcome_of d (client_of e.by) e.event) e.outcome done in
@@ -79,7 +81,8 @@ needs_one Take = omega arith
 needs_one Die = omega arith
 needs_one (Reload expected policy) = omega arith
 
-pub fits_more : (places : ℕ) (h : History) (e : Entry) → Sound (effects_of h) → is_die e.event ≡ false → verdict places h e.by e.turn e.event ≡ Done e.outcome → FitsPlaces places (entered e h)
+pub fits_more : (places : ℕ) (h : History) (e : Entry) → Sound (effects_of h) → is_die e.event ≡ false
+    → verdict places h e.by e.turn e.event ≡ Done e.outcome → FitsPlaces places (entered e h)
 fits_more places h e s alive done =
     let d = effects_of h in
     let c = client_of e.by in

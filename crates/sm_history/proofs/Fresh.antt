@@ -24,7 +24,8 @@ pub below : (c n k : ℕ) → c < n → n ≤ k → (c == k) ≡ false
 below c n k lt le = grind (arith, nat_tests)
 
 -- One more effect, of a client that has connected.
-pub fresh_more : (x : Effect) (d : Effects) → IsFresh d → next_client (x ∷ d) ≡ next_client d → ((k : ℕ) → next_client d ≤ k → names k x ≡ false) → IsFresh (x ∷ d)
+pub fresh_more : (x : Effect) (d : Effects) → IsFresh d → next_client (x ∷ d) ≡ next_client d
+    → ((k : ℕ) → next_client d ≤ k → names k x ≡ false) → IsFresh (x ∷ d)
 fresh_more x d fresh same new k le = let le' : next_client d ≤ k = subst (λ (n : ℕ). n ≤ k) same le in or_from (names k x) (list_any (names k) d) (new k le') (fresh k le')
 
 pub fresh_handed : (d : Effects) (c : ℕ) (n : Node) → IsFresh d → c < next_client d → IsFresh (handed d c n)
@@ -56,7 +57,8 @@ abbrev pub AllBelow : ℕ → List Watch → Type 0
 AllBelow n ws = list_all (λ w. nat_lt w.client n) ws ≡ true
 
 -- What holds of each element that a filter keeps.
-pub all_filtered : {X : Type 0} → (p q : X → Bool) (xs : List X) → ((x : X) → p x ≡ true → q x ≡ true) → list_all q (filter p xs) ≡ true
+pub all_filtered : {X : Type 0} → (p q : X → Bool) (xs : List X) → ((x : X) → p x ≡ true → q x ≡ true)
+    → list_all q (filter p xs) ≡ true
 all_filtered p q [] imp = refl
 all_filtered {X} p q (x ∷ xs) imp =
     elim (p x) as (λ b. p x ≡ b → list_all q (if b then x ∷ filter p xs else filter p xs) ≡ true) [
@@ -64,7 +66,8 @@ all_filtered {X} p q (x ∷ xs) imp =
       | false ↦ λ e. all_filtered p q xs imp
     ] refl
 
-pub all_filtered_again : {X : Type 0} → (p q : X → Bool) (xs : List X) → list_all q xs ≡ true → list_all q (filter p xs) ≡ true
+pub all_filtered_again : {X : Type 0} → (p q : X → Bool) (xs : List X) → list_all q xs ≡ true
+    → list_all q (filter p xs) ≡ true
 all_filtered_again p q [] h = refl
 all_filtered_again p q (x ∷ xs) h =
     elim (p x) as (λ b. list_all q (if b then x ∷ filter p xs else filter p xs) ≡ true) [
@@ -85,13 +88,15 @@ next-told : (d : Effects) (n : Node) (w : Watch) (o : Option Stop) → next_clie
 next-told d n w None = next-handed d w.client n
 next-told d n w (Some failing) = refl
 
-fresh_told : (d : Effects) (n : Node) (w : Watch) (o : Option Stop) → IsFresh d → w.client < next_client d → IsFresh (after_told d n w o)
+fresh_told : (d : Effects) (n : Node) (w : Watch) (o : Option Stop) → IsFresh d → w.client < next_client d
+    → IsFresh (after_told d n w o)
 fresh_told d n w None fresh lt =
     fresh_more (Delivers w.client (registration d n w)) (handed d w.client n) (fresh_handed d w.client n fresh lt) refl
     (λ k le. below w.client (next_client d) k lt (subst (λ (m : ℕ). m ≤ k) (next-handed d w.client n) le))
 fresh_told d n w (Some failing) fresh lt = fresh
 
-pub fresh_notices : (d : Effects) (n : Node) (ws : List Watch) → IsFresh d → AllBelow (next_client d) ws → IsFresh (after_notices d n ws)
+pub fresh_notices : (d : Effects) (n : Node) (ws : List Watch) → IsFresh d → AllBelow (next_client d) ws
+    → IsFresh (after_notices d n ws)
 fresh_notices d n [] fresh below = fresh
 fresh_notices d n (w ∷ ws) fresh below =
     let here : w.client < next_client d = let e = (and_parts (nat_lt w.client (next_client d)) (list_all (λ (v : Watch). nat_lt v.client (next_client d)) ws) below).0 in grind (arith, nat_tests) in
@@ -107,7 +112,8 @@ next-ref : (d : Effects) (to : ℕ) (o : Option Node) → next_client (handed_re
 next-ref d to None = refl
 next-ref d to (Some n) = next-handed d to n
 
-pub fresh_refs : (d : Effects) (from to : ℕ) (rs : List ObjRef) → IsFresh d → to < next_client d → IsFresh (handed_refs d from to rs)
+pub fresh_refs : (d : Effects) (from to : ℕ) (rs : List ObjRef) → IsFresh d → to < next_client d
+    → IsFresh (handed_refs d from to rs)
 fresh_refs d from to [] fresh lt = fresh
 fresh_refs d from to (r ∷ rs) fresh lt = let o = resolve_at d from r in
     fresh_refs (handed_ref d to o) from to rs (fresh_ref d to o fresh lt) (subst (λ (m : ℕ). to < m) (sym (next-ref d to o)) lt)
@@ -120,12 +126,14 @@ fresh_get : (d : Effects) (c : ℕ) (o : Option Service) → IsFresh d → c < n
 fresh_get d c None fresh lt = fresh
 fresh_get d c (Some s) fresh lt = fresh_handed d c s.node fresh lt
 
-fresh_watch : (d : Effects) (w : Watch) (o : Option Service) → IsFresh d → w.client < next_client d → IsFresh (after_watch d w o)
+fresh_watch : (d : Effects) (w : Watch) (o : Option Service) → IsFresh d → w.client < next_client d
+    → IsFresh (after_watch d w o)
 fresh_watch d w None fresh lt = fresh
 fresh_watch d w (Some s) fresh lt = fresh_told d s.node w (first_missing d s.node w) fresh lt
 
 -- An effect that names a connected client alone, and connects none.
-own : (x : Effect) (d : Effects) (c : ℕ) → IsFresh d → c < next_client d → next_client (x ∷ d) ≡ next_client d → ((k : ℕ) → (c == k) ≡ false → names k x ≡ false) → IsFresh (x ∷ d)
+own : (x : Effect) (d : Effects) (c : ℕ) → IsFresh d → c < next_client d → next_client (x ∷ d) ≡ next_client d
+    → ((k : ℕ) → (c == k) ≡ false → names k x ≡ false) → IsFresh (x ∷ d)
 own x d c fresh lt same only = fresh_more x d fresh same (λ k le. only k (below c (next_client d) k lt le))
 
 -- In a call, the object's owner is connected.

@@ -19,7 +19,8 @@ gives_case true true r g s g' s' eg es le = let more : 0 < g' - s' = omega (arit
 gives_case true false r g s g' s' eg es le = refl
 gives_case false live r g s g' s' eg es le = let e : g' ≡ g = omega (arith, eg) in rw (e, es) refl
 
-pub held_gives : (d : Effects) (c : ℕ) (n : Node) (r k : ℕ) (m : Node) → IsBalanced d → is_held (Gives c n r ∷ d) k m ≡ (if (c == k) && same_node n m then is_live d k else is_held d k m)
+pub held_gives : (d : Effects) (c : ℕ) (n : Node) (r k : ℕ) (m : Node) → IsBalanced d
+    → is_held (Gives c n r ∷ d) k m ≡ (if (c == k) && same_node n m then is_live d k else is_held d k m)
 held_gives d c n r k m bal =
     gives_case ((c == k) && same_node n m) (is_live d k) r (granted d k m) (released d k m) (granted (Gives c n r ∷ d) k m) (released (Gives c n r ∷ d) k m)
     (sum_by-cons (λ (y : Effect). cond (is_some (number_given k m y)) 1 0) (Gives c n r) d)
@@ -41,14 +42,16 @@ given_distinct (x ∷ d) c = with_distinct (node_given c x) (given_nodes d c) (g
 abbrev pub Adds1 : (Node → Bool) → (Node → Bool) → Node → Type 0
 Adds1 p q n = (m : Node) → q m ≡ (if same_node n m then true else p m)
 
-filter_apart : (p q : Node → Bool) (n : Node) → Adds1 p q n → (xs : List Node) → list_any (same_node n) xs ≡ false → filter q xs ≡ filter p xs
+filter_apart : (p q : Node → Bool) (n : Node) → Adds1 p q n → (xs : List Node) → list_any (same_node n) xs ≡ false
+    → filter q xs ≡ filter p xs
 filter_apart p q n adds [] h = refl
 filter_apart p q n adds (x ∷ xs) h =
     let other : same_node n x ≡ false = (or_parts (same_node n x) (list_any (same_node n) xs) h).0 in
     let e : q x ≡ p x = adds x ∙ rw other refl in
     rw (e, filter_apart p q n adds xs (or_parts (same_node n x) (list_any (same_node n) xs) h).1) refl
 
-new_among : (p q : Node → Bool) (n : Node) → Adds1 p q n → p n ≡ false → (xs : List Node) → IsDistinct xs → list_any (same_node n) xs ≡ true → length (filter q xs) ≡ length (filter p xs) + 1
+new_among : (p q : Node → Bool) (n : Node) → Adds1 p q n → p n ≡ false → (xs : List Node) → IsDistinct xs
+    → list_any (same_node n) xs ≡ true → length (filter q xs) ≡ length (filter p xs) + 1
 new_among p q n adds none [] dist h = cc
 new_among p q n adds none (x ∷ xs) dist h =
     elim (same_node n x) as (λ b. same_node n x ≡ b → (b || list_any (same_node n) xs) ≡ true → length (filter q (x ∷ xs)) ≡ length (filter p (x ∷ xs)) + 1) [
@@ -67,7 +70,8 @@ new_among p q n adds none (x ∷ xs) dist h =
 pub same_self : (n : Node) → same_node n n ≡ true
 same_self n = let a : (n.owner.0 == n.owner.0) ≡ true = grind (arith, nat_tests) in let b : (n.object == n.object) ≡ true = grind (arith, nat_tests) in rw (a, b) refl
 
-count_new : (p q : Node → Bool) (n : Node) → Adds1 p q n → p n ≡ false → (ns : List Node) → IsDistinct ns → length (filter q (with_node (Some n) ns)) ≡ length (filter p ns) + 1
+count_new : (p q : Node → Bool) (n : Node) → Adds1 p q n → p n ≡ false → (ns : List Node) → IsDistinct ns
+    → length (filter q (with_node (Some n) ns)) ≡ length (filter p ns) + 1
 count_new p q n adds none ns dist =
     elim (list_any (same_node n) ns) as (λ b. list_any (same_node n) ns ≡ b → length (filter q (if b then ns else n ∷ ns)) ≡ length (filter p ns) + 1) [
       | true ↦ λ e. new_among p q n adds none ns dist e
@@ -75,7 +79,8 @@ count_new p q n adds none ns dist =
     ] refl
 
 -- What was never given was never granted.
-with_apart : (o : Option Node) (n : Node) (ns : List Node) → list_any (same_node n) (with_node o ns) ≡ false → list_any (same_node n) ns ≡ false
+with_apart : (o : Option Node) (n : Node) (ns : List Node) → list_any (same_node n) (with_node o ns) ≡ false
+    → list_any (same_node n) ns ≡ false
 with_apart None n ns h = h
 with_apart (Some m) n ns h =
     elim (list_any (same_node m) ns) as (λ b. list_any (same_node n) (if b then ns else m ∷ ns) ≡ false → list_any (same_node n) ns ≡ false) [
@@ -83,7 +88,8 @@ with_apart (Some m) n ns h =
       | false ↦ λ e. (or_parts (same_node n m) (list_any (same_node n) ns) e).1
     ] h
 
-with_other : (m n : Node) (ns : List Node) → list_any (same_node n) (with_node (Some m) ns) ≡ false → same_node m n ≡ false
+with_other : (m n : Node) (ns : List Node) → list_any (same_node n) (with_node (Some m) ns) ≡ false
+    → same_node m n ≡ false
 with_other m n ns h =
     elim (same_node m n) as (λ b. same_node m n ≡ b → b ≡ false) [
       | false ↦ λ e. refl
@@ -96,14 +102,17 @@ with_other m n ns h =
           ] refl h'
     ] refl
 
-gives_none : (k c r : ℕ) (m n : Node) (ns : List Node) → list_any (same_node n) (with_node (if k == c then Some m else None) ns) ≡ false → ((k == c) && same_node m n) ≡ false
+gives_none : (k c r : ℕ) (m n : Node) (ns : List Node)
+    → list_any (same_node n) (with_node (if k == c then Some m else None) ns) ≡ false
+    → ((k == c) && same_node m n) ≡ false
 gives_none k c r m n ns h =
     elim (k == c) as (λ b. list_any (same_node n) (with_node (if b then Some m else None) ns) ≡ false → (b && same_node m n) ≡ false) [
       | true ↦ λ f. with_other m n ns f
       | false ↦ λ f. refl
     ] h
 
-quiet : (x : Effect) (d : Effects) (c : ℕ) (n : Node) → is_some (number_given c n x) ≡ false → granted d c n ≡ 0 → granted (x ∷ d) c n ≡ 0
+quiet : (x : Effect) (d : Effects) (c : ℕ) (n : Node) → is_some (number_given c n x) ≡ false → granted d c n ≡ 0
+    → granted (x ∷ d) c n ≡ 0
 quiet x d c n e z =
     let g = sum_by-cons (λ (y : Effect). cond (is_some (number_given c n y)) 1 0) x d in
     let b = ap (λ (t : Bool). let k : ℕ = cond t 1 0 in k) e in
@@ -120,14 +129,16 @@ held_some : (live : Bool) (g s : ℕ) → g ≡ 0 → nat_lt 0 (if live then g -
 held_some true g s z = let e : g - s ≡ 0 = omega (arith, z) in rw e refl
 held_some false g s z = refl
 
-pub held_given : (d : Effects) (c : ℕ) (n : Node) → is_held d c n ≡ true → list_any (same_node n) (given_nodes d c) ≡ true
+pub held_given : (d : Effects) (c : ℕ) (n : Node) → is_held d c n ≡ true
+    → list_any (same_node n) (given_nodes d c) ≡ true
 held_given d c n held =
     elim (list_any (same_node n) (given_nodes d c)) as (λ b. list_any (same_node n) (given_nodes d c) ≡ b → b ≡ true) [
       | true ↦ λ e. refl
       | false ↦ λ e. absurd (true≢false (sym held ∙ held_some (is_live d c) (granted d c n) (released d c n) (never_granted d c n e)))
     ] refl
 
-pub stays : (d : Effects) (c : ℕ) (n : Node) → is_held d c n ≡ true → (m : Node) → (if same_node n m then true else is_held d c m) ≡ is_held d c m
+pub stays : (d : Effects) (c : ℕ) (n : Node) → is_held d c n ≡ true → (m : Node)
+    → (if same_node n m then true else is_held d c m) ≡ is_held d c m
 stays d c n held m =
     elim (same_node n m) as (λ b. same_node n m ≡ b → (if b then true else is_held d c m) ≡ is_held d c m) [
       | true ↦ λ e. sym held ∙ ap (is_held d c) (node_same n m e)

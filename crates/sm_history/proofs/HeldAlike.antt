@@ -25,7 +25,8 @@ any_kept p (x ∷ xs) n h =
       | false ↦ λ e h'. any_kept p xs n h'
     ] refl h
 
-any_stays : (p : Node → Bool) (xs : List Node) (n : Node) → p n ≡ true → list_any (same_node n) xs ≡ true → list_any (same_node n) (filter p xs) ≡ true
+any_stays : (p : Node → Bool) (xs : List Node) (n : Node) → p n ≡ true → list_any (same_node n) xs ≡ true
+    → list_any (same_node n) (filter p xs) ≡ true
 any_stays p [] n pn h = h
 any_stays p (x ∷ xs) n pn h =
     elim (same_node n x) as (λ t. same_node n x ≡ t → (t || list_any (same_node n) xs) ≡ true → list_any (same_node n) (if p x then x ∷ filter p xs else filter p xs) ≡ true) [
@@ -50,7 +51,8 @@ shorter : (p : Node → Bool) (xs : List Node) → length (filter p xs) ≤ leng
 shorter p [] = omega arith
 shorter p (x ∷ xs) = let i = shorter p xs in elim (p x) as (λ b. length (if b then x ∷ filter p xs else filter p xs) ≤ length (x ∷ xs)) [ true ↦ omega (arith, i) | false ↦ omega (arith, i) ]
 
-shorter_by_one : (a : Node) (xs : List Node) → list_any (same_node a) xs ≡ true → length (filter (λ m. not (same_node a m)) xs) + 1 ≤ length xs
+shorter_by_one : (a : Node) (xs : List Node) → list_any (same_node a) xs ≡ true
+    → length (filter (λ m. not (same_node a m)) xs) + 1 ≤ length xs
 shorter_by_one a [] h = absurd (true≢false (sym h))
 shorter_by_one a (x ∷ xs) h =
     let p = λ (m : Node). not (same_node a m) in
@@ -59,7 +61,8 @@ shorter_by_one a (x ∷ xs) h =
       | false ↦ λ e. let i = shorter_by_one a xs e in omega (arith, i)
     ] h
 
-fewer : (xs ys : List Node) → IsDistinct xs → ((n : Node) → list_any (same_node n) xs ≡ true → list_any (same_node n) ys ≡ true) → length xs ≤ length ys
+fewer : (xs ys : List Node) → IsDistinct xs
+    → ((n : Node) → list_any (same_node n) xs ≡ true → list_any (same_node n) ys ≡ true) → length xs ≤ length ys
 fewer [] ys dist in_ys = omega arith
 fewer (x ∷ xs) ys dist in_ys =
     let here = in_ys x (rw (same_self x) refl) in
@@ -73,7 +76,8 @@ fewer (x ∷ xs) ys dist in_ys =
     let s = shorter_by_one x ys here in
     omega (arith, i, s)
 
-find_some : (p : Node → Bool) (xs : List Node) (x : Node) → find p xs ≡ Some x → (p x ≡ true) × (list_any (same_node x) xs ≡ true)
+find_some : (p : Node → Bool) (xs : List Node) (x : Node) → find p xs ≡ Some x
+    → (p x ≡ true) × (list_any (same_node x) xs ≡ true)
 find_some p [] x h = cc
 find_some p (y ∷ ys) x h =
     elim (p y) as (λ b. p y ≡ b → (let o : Option Node = if b then Some y else find p ys in o ≡ Some x) → (p x ≡ true) × (list_any (same_node x) (y ∷ ys) ≡ true)) [
@@ -81,7 +85,8 @@ find_some p (y ∷ ys) x h =
       | false ↦ λ e s. let i = find_some p ys x s in (i.0, elim (same_node x y) as (λ b. (b || list_any (same_node x) ys) ≡ true) [ true ↦ refl | false ↦ i.1 ])
     ] refl h
 
-find_none : (p : Node → Bool) (xs : List Node) (x : Node) → find p xs ≡ None → list_any (same_node x) xs ≡ true → p x ≡ false
+find_none : (p : Node → Bool) (xs : List Node) (x : Node) → find p xs ≡ None → list_any (same_node x) xs ≡ true
+    → p x ≡ false
 find_none p [] x h i = absurd (true≢false (sym i))
 find_none p (y ∷ ys) x h i =
     elim (p y) as (λ b. p y ≡ b → (let o : Option Node = if b then Some y else find p ys in o ≡ None) → p x ≡ false) [
@@ -94,10 +99,12 @@ find_none p (y ∷ ys) x h i =
 
 -- ---- what is held
 
-pub held_among : (d : Effects) (c : ℕ) (n : Node) → is_held d c n ≡ true → list_any (same_node n) (held_nodes d c) ≡ true
+pub held_among : (d : Effects) (c : ℕ) (n : Node) → is_held d c n ≡ true
+    → list_any (same_node n) (held_nodes d c) ≡ true
 held_among d c n h = any_stays (is_held d c) (given_nodes d c) n h (held_given d c n h)
 
-pub among_held : (d : Effects) (c : ℕ) (n : Node) → list_any (same_node n) (held_nodes d c) ≡ true → is_held d c n ≡ true
+pub among_held : (d : Effects) (c : ℕ) (n : Node) → list_any (same_node n) (held_nodes d c) ≡ true
+    → is_held d c n ≡ true
 among_held d c n h = any_kept (is_held d c) (given_nodes d c) n h
 
 abbrev pub HoldAlike : Effects → Effects → ℕ → Type 0
@@ -118,20 +125,24 @@ is_number d c r n h = grind (arith, nat_tests)
 number_is : (a r : ℕ) → a ≡ r → (a == r) ≡ true
 number_is a r e = grind (arith, nat_tests)
 
-pub node_held : (d : Effects) (c r : ℕ) (n : Node) → node_at d c r ≡ Some n → (is_held d c n ≡ true) × (number_at d c n ≡ r)
+pub node_held : (d : Effects) (c r : ℕ) (n : Node) → node_at d c r ≡ Some n
+    → (is_held d c n ≡ true) × (number_at d c n ≡ r)
 node_held d c r n h = let f = find_some (λ m. number_at d c m == r) (held_nodes d c) n h in (among_held d c n f.1, is_number d c r n f.0)
 
-pub node_not_held : (d : Effects) (c r : ℕ) (n : Node) → node_at d c r ≡ None → is_held d c n ≡ true → (number_at d c n == r) ≡ false
+pub node_not_held : (d : Effects) (c r : ℕ) (n : Node) → node_at d c r ≡ None → is_held d c n ≡ true
+    → (number_at d c n == r) ≡ false
 node_not_held d c r n h held = find_none (λ m. number_at d c m == r) (held_nodes d c) n h (held_among d c n held)
 
-pub node_is : (d : Effects) (c r : ℕ) (n : Node) → HasOneEach d c → is_held d c n ≡ true → number_at d c n ≡ r → node_at d c r ≡ Some n
+pub node_is : (d : Effects) (c r : ℕ) (n : Node) → HasOneEach d c → is_held d c n ≡ true → number_at d c n ≡ r
+    → node_at d c r ≡ Some n
 node_is d c r n one held is =
     elim (node_at d c r) as (λ o. node_at d c r ≡ o → o ≡ Some n) [
       | None ↦ λ e. absurd (true≢false (sym (number_is (number_at d c n) r is) ∙ node_not_held d c r n e held))
       | Some m ↦ λ e. let h = node_held d c r m e in ap (λ (v : Node). Some v) (one m n h.0 held (h.1 ∙ sym is))
     ] refl
 
-pub nodes_alike : (d e : Effects) (c r : ℕ) → HoldAlike d e c → NumbersAlike d e c → HasOneEach e c → node_at d c r ≡ node_at e c r
+pub nodes_alike : (d e : Effects) (c r : ℕ) → HoldAlike d e c → NumbersAlike d e c → HasOneEach e c
+    → node_at d c r ≡ node_at e c r
 nodes_alike d e c r same numbers one =
     elim (node_at d c r) as (λ o. node_at d c r ≡ o → o ≡ node_at e c r) [
       | Some n ↦ λ s. let h = node_held d c r n s in sym (node_is e c r n one (sym (same n) ∙ h.0) (sym (numbers n h.0) ∙ h.1))
@@ -148,7 +159,8 @@ find_alike : (p q : ℕ → Bool) (xs : List ℕ) → ((x : ℕ) → p x ≡ q x
 find_alike p q [] same = refl
 find_alike p q (x ∷ xs) same = rw (same x, find_alike p q xs same) refl
 
-pub free_alike : (d e : Effects) (c : ℕ) → HoldAlike d e c → NumbersAlike d e c → HasOneEach e c → free_number d c ≡ free_number e c
+pub free_alike : (d e : Effects) (c : ℕ) → HoldAlike d e c → NumbersAlike d e c → HasOneEach e c
+    → free_number d c ≡ free_number e c
 free_alike d e c same numbers one =
     ap (λ (o : Option ℕ). unwrap_or o 0)
     (find_alike (λ r. is_none (node_at d c r)) (λ r. is_none (node_at e c r)) (range_with_len 1 (length (held_nodes d c) + 1)) (λ r. ap (λ (o : Option Node). is_none o) (nodes_alike d e c r same numbers one))

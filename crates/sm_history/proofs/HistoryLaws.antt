@@ -59,10 +59,12 @@ holds_none = record {
   resumes = λ a l i. record { sound = holds_sound.resumes a l i.sound; none = λ k le. none_rows a k (turn_of (whole a) (client k)) (i.none k le) refl };
 }
 
-pub no_turns : (places : ℕ) (h : History) → IsLawful places h → (k : ℕ) → next_client (effects_of h) ≤ k → turn_of h (client k) ≡ 0
+pub no_turns : (places : ℕ) (h : History) → IsLawful places h → (k : ℕ) → next_client (effects_of h) ≤ k
+    → turn_of h (client k) ≡ 0
 no_turns places h l = (holds_lawful HasNoTurns holds_none places h l).none
 
-pub no_turns_apart : (a : List Entry) → AreLawfulApart a → (k : ℕ) → next_client (effects_of (whole a)) ≤ k → turn_of (whole a) (client k) ≡ 0
+pub no_turns_apart : (a : List Entry) → AreLawfulApart a → (k : ℕ) → next_client (effects_of (whole a)) ≤ k
+    → turn_of (whole a) (client k) ≡ 0
 no_turns_apart a l = (holds_apart HasNoTurns holds_none a l).none
 
 -- No actor made more changes than there are.

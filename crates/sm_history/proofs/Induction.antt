@@ -29,7 +29,8 @@ holds_apart P holds (e ∷ f ∷ es) (before, done, ok) =
     let h = whole (f ∷ es) in
     holds.goes_on e h (met (effects_of h) (turn_of h e.by) e.by e.turn e.event [] e.outcome done) (holds_apart P holds (f ∷ es) before)
 
-holds_after : (P : History → Type 0) → Holds P → (places : ℕ) (o : Opening) (es : List Entry) → AreLawful places o es → P (record { opening = o; entries = es })
+holds_after : (P : History → Type 0) → Holds P → (places : ℕ) (o : Opening) (es : List Entry) → AreLawful places o es
+    → P (record { opening = o; entries = es })
 holds_after P holds places o [] (a, l, is) = subst (λ (v : Opening). P (record { opening = v; entries = [] })) (sym is) (holds.resumes a l (holds_apart P holds a l))
 holds_after P holds places o (e ∷ es) (inl (is, none, opens)) =
     subst (λ (v : Opening). P (record { opening = v; entries = e ∷ es })) (sym is) (subst (λ (v : List Entry). P (whole (e ∷ v))) (sym none) (holds.opens e opens))

@@ -27,11 +27,13 @@ Lasts P = (x : Effect) (d : Effects) → is_plain x ≡ true → P d → P (x �
 pub handed_keeps : (P : Effects → Type 0) → Lasts P → (d : Effects) (c : ℕ) (n : Node) → P d → P (handed d c n)
 handed_keeps P lasts d c n h = elim (n.owner.0 == c) as (λ b. P (if b then d else Gives c n (number_for d c n) ∷ d)) [ true ↦ h | false ↦ lasts (Gives c n (number_for d c n)) d refl h ]
 
-told_keeps : (P : Effects → Type 0) → Lasts P → (d : Effects) (n : Node) (w : Watch) (o : Option Stop) → P d → P (after_told d n w o)
+told_keeps : (P : Effects → Type 0) → Lasts P → (d : Effects) (n : Node) (w : Watch) (o : Option Stop) → P d
+    → P (after_told d n w o)
 told_keeps P lasts d n w None h = lasts (Delivers w.client (registration d n w)) (handed d w.client n) refl (handed_keeps P lasts d w.client n h)
 told_keeps P lasts d n w (Some failing) h = h
 
-pub notices_keep : (P : Effects → Type 0) → Lasts P → (d : Effects) (n : Node) (ws : List Watch) → P d → P (after_notices d n ws)
+pub notices_keep : (P : Effects → Type 0) → Lasts P → (d : Effects) (n : Node) (ws : List Watch) → P d
+    → P (after_notices d n ws)
 notices_keep P lasts d n [] h = h
 notices_keep P lasts d n (w ∷ ws) h = notices_keep P lasts (after_notice d n w) n ws (told_keeps P lasts d n w (first_missing d n w) h)
 
@@ -39,7 +41,8 @@ ref_keeps : (P : Effects → Type 0) → Lasts P → (d : Effects) (to : ℕ) (o
 ref_keeps P lasts d to None h = h
 ref_keeps P lasts d to (Some n) h = handed_keeps P lasts d to n h
 
-pub refs_keep : (P : Effects → Type 0) → Lasts P → (d : Effects) (from to : ℕ) (rs : List ObjRef) → P d → P (handed_refs d from to rs)
+pub refs_keep : (P : Effects → Type 0) → Lasts P → (d : Effects) (from to : ℕ) (rs : List ObjRef) → P d
+    → P (handed_refs d from to rs)
 refs_keep P lasts d from to [] h = h
 refs_keep P lasts d from to (r ∷ rs) h = let o = resolve_at d from r in refs_keep P lasts (handed_ref d to o) from to rs (ref_keeps P lasts d to o h)
 
@@ -47,7 +50,8 @@ get_keeps : (P : Effects → Type 0) → Lasts P → (d : Effects) (c : ℕ) (o 
 get_keeps P lasts d c None h = h
 get_keeps P lasts d c (Some s) h = handed_keeps P lasts d c s.node h
 
-watch_keeps : (P : Effects → Type 0) → Lasts P → (d : Effects) (w : Watch) (o : Option Service) → P d → P (after_watch d w o)
+watch_keeps : (P : Effects → Type 0) → Lasts P → (d : Effects) (w : Watch) (o : Option Service) → P d
+    → P (after_watch d w o)
 watch_keeps P lasts d w None h = h
 watch_keeps P lasts d w (Some s) h = told_keeps P lasts d s.node w (first_missing d s.node w) h
 
@@ -59,7 +63,8 @@ LeftToKeep P d c (Release handle) = P (Releases c (found (node_at d c handle)) �
 LeftToKeep P d c (Add name obj allow dump) = P (Adds name (service c (found (resolve_at d c obj)) allow dump) ∷ d)
 LeftToKeep P d c _ = Unit {0}
 
-pub event_keeps : (P : Effects → Type 0) → Lasts P → (d : Effects) (c : ℕ) (event : Event) → LeftToKeep P d c event → P d → P (after_event d c event)
+pub event_keeps : (P : Effects → Type 0) → Lasts P → (d : Effects) (c : ℕ) (event : Event) → LeftToKeep P d c event
+    → P d → P (after_event d c event)
 event_keeps P lasts d c (Open who policy) left h = lasts (Sets policy) (Opens who ∷ d) refl (lasts (Opens who) d refl h)
 event_keeps P lasts d c (Connect who) left h = left
 event_keeps P lasts d c (Add name obj allow dump) left h = let n = found (resolve_at d c obj) in

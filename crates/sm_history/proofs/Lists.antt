@@ -13,14 +13,16 @@ any_filter {X} p q (x ∷ xs) h =
     ]
 
 -- Two tests that agree but on n keep the same of a list without n.
-pub filter_but : (p q : ℕ → Bool) (n : ℕ) (xs : List ℕ) → list_any (λ x. x == n) xs ≡ false → ((x : ℕ) → (x == n) ≡ false → p x ≡ q x) → filter p xs ≡ filter q xs
+pub filter_but : (p q : ℕ → Bool) (n : ℕ) (xs : List ℕ) → list_any (λ x. x == n) xs ≡ false
+    → ((x : ℕ) → (x == n) ≡ false → p x ≡ q x) → filter p xs ≡ filter q xs
 filter_but p q n [] h same = refl
 filter_but p q n (x ∷ xs) h same =
     let i = filter_but p q n xs (or_parts (x == n) (list_any (λ x. x == n) xs) h).1 same in
     rw (same x (or_parts (x == n) (list_any (λ x. x == n) xs) h).0)
     (elim (q x) as (λ b. (if b then x ∷ filter p xs else filter p xs) ≡ (if b then x ∷ filter q xs else filter q xs)) [ true ↦ ap (λ t. x ∷ t) i | false ↦ i ])
 
-pub map_but : {Y : Type 0} (f g : ℕ → Y) (n : ℕ) (xs : List ℕ) → list_any (λ x. x == n) xs ≡ false → ((x : ℕ) → (x == n) ≡ false → f x ≡ g x) → map f xs ≡ map g xs
+pub map_but : {Y : Type 0} (f g : ℕ → Y) (n : ℕ) (xs : List ℕ) → list_any (λ x. x == n) xs ≡ false
+    → ((x : ℕ) → (x == n) ≡ false → f x ≡ g x) → map f xs ≡ map g xs
 map_but f g n [] h same = refl
 map_but f g n (x ∷ xs) h same =
     rw (same x (or_parts (x == n) (list_any (λ x. x == n) xs) h).0) (ap (λ t. g x ∷ t) (map_but f g n xs (or_parts (x == n) (list_any (λ x. x == n) xs) h).1 same))

@@ -29,7 +29,8 @@ not_done (Unmet (IsOwn o)) outcome h = cc
 not_done (Unmet (IsRefused r)) outcome h = cc
 
 -- What is answered Done met every check.
-pub all_hold : (p : Policy) (xs : List Check) (o outcome : Outcome) → answered (first_failing p xs) o ≡ Done outcome → AllHold p xs
+pub all_hold : (p : Policy) (xs : List Check) (o outcome : Outcome) → answered (first_failing p xs) o ≡ Done outcome
+    → AllHold p xs
 all_hold p [] o outcome h = tt
 all_hold p (x ∷ xs) o outcome h =
     elim (holds p x) as (λ b. holds p x ≡ b → answered (if b then first_failing p xs else Some (stop_of x)) o ≡ Done outcome → (holds p x ≡ true) × AllHold p xs) [
@@ -53,7 +54,8 @@ owned_lasts (Delivers c x) d plain h = h
 owned_lasts (Takes c) d plain h = h
 owned_lasts (Resumes v n) d plain h = absurd (true≢false (sym plain))
 
-pub add_owned : (d : Effects) (added : List ℕ) (t : Service) → t.node.owner.0 < next_client d → IsOwned d → IsOwned (Adds added t ∷ d)
+pub add_owned : (d : Effects) (added : List ℕ) (t : Service) → t.node.owner.0 < next_client d → IsOwned d
+    → IsOwned (Adds added t ∷ d)
 add_owned d added t lt h name s =
     elim (bytes_eq added name) as (λ b. said_or (if b then Here t else Silent) (last_said d name) ≡ Some s → s.node.owner.0 < next_client d) [
       | true ↦ λ e. let same : t ≡ s = cc in subst (λ (v : Service). v.node.owner.0 < next_client d) same lt

@@ -19,24 +19,30 @@ use Rattle.sm_history.specs.Sound.{deliveries, granted}
 
 -- ---- what they leave alone
 
-pub quiet : {X T : Type 0} (F : Effects → T) (put : X → Effects → Effects) → ((x : X) (d : Effects) → F (put x d) ≡ F d) → (xs : List X) (d : Effects) → F (put_all put xs d) ≡ F d
+pub quiet : {X T : Type 0} (F : Effects → T) (put : X → Effects → Effects)
+    → ((x : X) (d : Effects) → F (put x d) ≡ F d) → (xs : List X) (d : Effects) → F (put_all put xs d) ≡ F d
 quiet F put same [] d = refl
 quiet F put same (x ∷ xs) d = quiet F put same xs (put x d) ∙ same x d
 
-quiet_times : {T : Type 0} (F : Effects → T) (x : Effect) → ((d : Effects) → F (x ∷ d) ≡ F d) → (n : ℕ) (d : Effects) → F (times n x d) ≡ F d
+quiet_times : {T : Type 0} (F : Effects → T) (x : Effect) → ((d : Effects) → F (x ∷ d) ≡ F d) → (n : ℕ) (d : Effects)
+    → F (times n x d) ≡ F d
 quiet_times F x same zero d = refl
 quiet_times F x same (suc n) d = same (times n x d) ∙ quiet_times F x same n d
 
-pub past_waiting : {T : Type 0} (F : Effects → T) (r : Rows) → ((c : ℕ) (x : Delivery) (d : Effects) → F (Delivers c x ∷ d) ≡ F d) → F (waiting_put r) ≡ F (watches_put r)
+pub past_waiting : {T : Type 0} (F : Effects → T) (r : Rows)
+    → ((c : ℕ) (x : Delivery) (d : Effects) → F (Delivers c x ∷ d) ≡ F d) → F (waiting_put r) ≡ F (watches_put r)
 past_waiting F r same = quiet F put_waiting (λ x d. same x.client x.delivery d) r.waiting (watches_put r)
 
-pub past_watches : {T : Type 0} (F : Effects → T) (r : Rows) → ((w : Watch) (d : Effects) → F (Watches w ∷ d) ≡ F d) → F (watches_put r) ≡ F (held_put r)
+pub past_watches : {T : Type 0} (F : Effects → T) (r : Rows) → ((w : Watch) (d : Effects) → F (Watches w ∷ d) ≡ F d)
+    → F (watches_put r) ≡ F (held_put r)
 past_watches F r same = quiet F put_watch same r.watches (held_put r)
 
-pub past_held : {T : Type 0} (F : Effects → T) (r : Rows) → ((c : ℕ) (n : Node) (k : ℕ) (d : Effects) → F (Gives c n k ∷ d) ≡ F d) → F (held_put r) ≡ F (names_put r)
+pub past_held : {T : Type 0} (F : Effects → T) (r : Rows)
+    → ((c : ℕ) (n : Node) (k : ℕ) (d : Effects) → F (Gives c n k ∷ d) ≡ F d) → F (held_put r) ≡ F (names_put r)
 past_held F r same = quiet F put_held (λ x d. quiet_times F (Gives x.client x.node x.number) (same x.client x.node x.number) x.count d) r.held (names_put r)
 
-pub past_names : {T : Type 0} (F : Effects → T) (r : Rows) → ((name : List ℕ) (s : Service) (d : Effects) → F (Adds name s ∷ d) ≡ F d) → F (names_put r) ≡ F (live_put r)
+pub past_names : {T : Type 0} (F : Effects → T) (r : Rows)
+    → ((name : List ℕ) (s : Service) (d : Effects) → F (Adds name s ∷ d) ≡ F d) → F (names_put r) ≡ F (live_put r)
 past_names F r same = quiet F put_named (λ x d. same x.name x.service d) r.names (live_put r)
 
 -- ---- lists of which each element has a property
@@ -57,7 +63,8 @@ pub all_map : {A X : Type 0} (Q : X → Type 0) (f : A → X) (xs : List A) → 
 all_map Q f [] h = tt
 all_map Q f (x ∷ xs) h = (h.0, all_map Q f xs h.1)
 
-pub all_flat : {A X : Type 0} (Q : X → Type 0) (f : A → List X) (xs : List A) → AllOf (λ a. AllOf Q (f a)) xs → AllOf Q (flat_map f xs)
+pub all_flat : {A X : Type 0} (Q : X → Type 0) (f : A → List X) (xs : List A) → AllOf (λ a. AllOf Q (f a)) xs
+    → AllOf Q (flat_map f xs)
 all_flat Q f [] h = tt
 all_flat Q f (x ∷ xs) h = all_append Q (f x) (flat_map f xs) h.0 (all_flat Q f xs h.1)
 
@@ -66,20 +73,25 @@ abbrev pub IfSomeOf : {X : Type 0} → (X → Type 0) → Option X → Type 0
 IfSomeOf Q None = Unit {0}
 IfSomeOf Q (Some x) = Q x
 
-all_option : {X : Type 0} (Q : X → Type 0) (o : Option X) (xs : List X) → IfSomeOf Q o → AllOf Q xs → AllOf Q (cons_option o xs)
+all_option : {X : Type 0} (Q : X → Type 0) (o : Option X) (xs : List X) → IfSomeOf Q o → AllOf Q xs
+    → AllOf Q (cons_option o xs)
 all_option Q None xs h k = k
 all_option Q (Some x) xs h k = (h, k)
 
-pub all_filter_map : {A X : Type 0} (Q : X → Type 0) (f : A → Option X) (xs : List A) → ((a : A) → IfSomeOf Q (f a)) → AllOf Q (filter_map f xs)
+pub all_filter_map : {A X : Type 0} (Q : X → Type 0) (f : A → Option X) (xs : List A) → ((a : A) → IfSomeOf Q (f a))
+    → AllOf Q (filter_map f xs)
 all_filter_map Q f [] h = tt
 all_filter_map Q f (x ∷ xs) h = all_option Q (f x) (filter_map f xs) (h x) (all_filter_map Q f xs h)
 
 -- What each element's effects keep.
-pub kept_all : {X : Type 0} (P : Effects → Type 0) (Q : X → Type 0) (put : X → Effects → Effects) → ((x : X) (d : Effects) → Q x → P d → P (put x d)) → (xs : List X) (d : Effects) → AllOf Q xs → P d → P (put_all put xs d)
+pub kept_all : {X : Type 0} (P : Effects → Type 0) (Q : X → Type 0) (put : X → Effects → Effects)
+    → ((x : X) (d : Effects) → Q x → P d → P (put x d)) → (xs : List X) (d : Effects) → AllOf Q xs → P d
+    → P (put_all put xs d)
 kept_all P Q put keeps [] d all h = h
 kept_all P Q put keeps (x ∷ xs) d all h = kept_all P Q put keeps xs (put x d) all.1 (keeps x d all.0 h)
 
-pub kept_times : (P : Effects → Type 0) (x : Effect) → ((d : Effects) → P d → P (x ∷ d)) → (n : ℕ) (d : Effects) → P d → P (times n x d)
+pub kept_times : (P : Effects → Type 0) (x : Effect) → ((d : Effects) → P d → P (x ∷ d)) → (n : ℕ) (d : Effects) → P d
+    → P (times n x d)
 kept_times P x keeps zero d h = h
 kept_times P x keeps (suc n) d h = keeps (times n x d) (kept_times P x keeps n d h)
 
@@ -91,11 +103,13 @@ or_turn true false c = refl
 or_turn false true c = refl
 or_turn false false c = refl
 
-pub connects_put : (c : ℕ) (xs : List LiveRow) (d : Effects) → list_any (is_connect_of c) (put_all put_live xs d) ≡ (list_any (λ x. x.client == c) xs || list_any (is_connect_of c) d)
+pub connects_put : (c : ℕ) (xs : List LiveRow) (d : Effects)
+    → list_any (is_connect_of c) (put_all put_live xs d) ≡ (list_any (λ x. x.client == c) xs || list_any (is_connect_of c) d)
 connects_put c [] d = refl
 connects_put c (x ∷ xs) d = connects_put c xs (put_live x d) ∙ or_turn (list_any (λ (y : LiveRow). y.client == c) xs) (x.client == c) (list_any (is_connect_of c) d)
 
-pub connected_put : (xs : List LiveRow) (d : Effects) → filter_map connected (put_all put_live xs d) ≡ reverse (map (λ x. x.client) xs) ++ filter_map connected d
+pub connected_put : (xs : List LiveRow) (d : Effects)
+    → filter_map connected (put_all put_live xs d) ≡ reverse (map (λ x. x.client) xs) ++ filter_map connected d
 connected_put [] d = refl
 connected_put (x ∷ xs) d =
     let ids = map (λ (y : LiveRow). y.client) xs in
@@ -104,13 +118,15 @@ connected_put (x ∷ xs) d =
 abbrev pub among : ℕ → List ℕ → Bool
 among c ks = list_any (λ k. k == c) ks
 
-identity_case : (t any : Bool) (w v z : Identity) → (t ≡ true → w ≡ v) → (if any then v else unwrap_or (let o : Option Identity = if t then Some w else None in o) z) ≡ (if t || any then v else z)
+identity_case : (t any : Bool) (w v z : Identity) → (t ≡ true → w ≡ v)
+    → (if any then v else unwrap_or (let o : Option Identity = if t then Some w else None in o) z) ≡ (if t || any then v else z)
 identity_case true true w v z is = refl
 identity_case true false w v z is = is refl
 identity_case false true w v z is = refl
 identity_case false false w v z is = refl
 
-pub identity_put : (d : Effects) (c : ℕ) (ks : List ℕ) (b : Effects) → identity_at (put_all put_live (map (live_row d) ks) b) c ≡ (if among c ks then identity_at d c else identity_at b c)
+pub identity_put : (d : Effects) (c : ℕ) (ks : List ℕ) (b : Effects)
+    → identity_at (put_all put_live (map (live_row d) ks) b) c ≡ (if among c ks then identity_at d c else identity_at b c)
 identity_put d c [] b = refl
 identity_put d c (k ∷ ks) b =
     identity_put d c ks (put_live (live_row d k) b)
@@ -124,7 +140,8 @@ said_case true false o z s is = let e = is refl in rw e refl
 said_case false true o z s is = refl
 said_case false false o z s is = refl
 
-none_case : (t any : Bool) (o z : Option Service) → (t ≡ true → o ≡ None) → (if any && is_some o then o else z) ≡ (if (t || any) && is_some o then o else z)
+none_case : (t any : Bool) (o z : Option Service) → (t ≡ true → o ≡ None)
+    → (if any && is_some o then o else z) ≡ (if (t || any) && is_some o then o else z)
 none_case true true o z is = refl
 none_case true false o z is = let e = is refl in rw e refl
 none_case false any o z is = refl
@@ -149,15 +166,18 @@ watches_made_put (w ∷ ws) d = watches_made_put ws (put_watch w d) ∙ append_a
 abbrev pub for_client : ℕ → WaitingRow → Option Delivery
 for_client c x = if x.client == c then Some x.delivery else None
 
-put_option : (o : Option Delivery) (xs ys : List Delivery) → reverse xs ++ cons_option o ys ≡ reverse (cons_option o xs) ++ ys
+put_option : (o : Option Delivery) (xs ys : List Delivery)
+    → reverse xs ++ cons_option o ys ≡ reverse (cons_option o xs) ++ ys
 put_option None xs ys = refl
 put_option (Some x) xs ys = sym (append_assoc (reverse xs) (x ∷ []) ys) ∙ ap (λ l. l ++ ys) (sym (reverse-append (x ∷ []) xs))
 
-pub deliveries_put : (c : ℕ) (xs : List WaitingRow) (d : Effects) → deliveries (put_all put_waiting xs d) c ≡ reverse (filter_map (for_client c) xs) ++ deliveries d c
+pub deliveries_put : (c : ℕ) (xs : List WaitingRow) (d : Effects)
+    → deliveries (put_all put_waiting xs d) c ≡ reverse (filter_map (for_client c) xs) ++ deliveries d c
 deliveries_put c [] d = refl
 deliveries_put c (x ∷ xs) d = deliveries_put c xs (put_waiting x d) ∙ put_option (for_client c x) (filter_map (for_client c) xs) (deliveries d c)
 
-pub for_one : (c k : ℕ) (ys : List Delivery) → filter_map (for_client c) (map (waiting_row k) ys) ≡ (if k == c then ys else [])
+pub for_one : (c k : ℕ) (ys : List Delivery)
+    → filter_map (for_client c) (map (waiting_row k) ys) ≡ (if k == c then ys else [])
 for_one c k [] = elim (k == c) as (λ b. (let v : List Delivery = [] in v) ≡ (if b then [] else [])) [ true ↦ refl | false ↦ refl ]
 for_one c k (y ∷ ys) =
     let i = for_one c k ys in
@@ -172,23 +192,27 @@ for_one c k (y ∷ ys) =
 abbrev pub weight : ℕ → Node → HeldRow → ℕ
 weight c n x = if (x.client == c) && same_node x.node n then x.count else 0
 
-given_more : (c : ℕ) (n : Node) (k : ℕ) (m : Node) (r : ℕ) (d : Effects) → granted (Gives k m r ∷ d) c n ≡ cond ((k == c) && same_node m n) 1 0 + granted d c n
+given_more : (c : ℕ) (n : Node) (k : ℕ) (m : Node) (r : ℕ) (d : Effects)
+    → granted (Gives k m r ∷ d) c n ≡ cond ((k == c) && same_node m n) 1 0 + granted d c n
 given_more c n k m r d =
     let g = sum_by-cons (λ (y : Effect). cond (is_some (number_given c n y)) 1 0) (Gives k m r) d in
     let e : is_some (number_given c n (Gives k m r)) ≡ ((k == c) && same_node m n) = elim ((k == c) && same_node m n) as (λ b. is_some (let o : Option ℕ = if b then Some r else None in o) ≡ b) [ true ↦ refl | false ↦ refl ] in
     g ∙ ap (λ (b : Bool). cond b 1 0 + granted d c n) e
 
-times_case : (b : Bool) (n g g' h : ℕ) → g' ≡ cond b 1 0 + h → h ≡ (if b then n else 0) + g → g' ≡ (if b then suc n else 0) + g
+times_case : (b : Bool) (n g g' h : ℕ) → g' ≡ cond b 1 0 + h → h ≡ (if b then n else 0) + g
+    → g' ≡ (if b then suc n else 0) + g
 times_case true n g g' h e i = omega (arith, e, i)
 times_case false n g g' h e i = omega (arith, e, i)
 
-granted_times : (c : ℕ) (n : Node) (k : ℕ) (m : Node) (r j : ℕ) (d : Effects) → granted (times j (Gives k m r) d) c n ≡ (if (k == c) && same_node m n then j else 0) + granted d c n
+granted_times : (c : ℕ) (n : Node) (k : ℕ) (m : Node) (r j : ℕ) (d : Effects)
+    → granted (times j (Gives k m r) d) c n ≡ (if (k == c) && same_node m n then j else 0) + granted d c n
 granted_times c n k m r zero d = elim ((k == c) && same_node m n) as (λ b. granted d c n ≡ (if b then 0 else 0) + granted d c n) [ true ↦ omega arith | false ↦ omega arith ]
 granted_times c n k m r (suc j) d =
     times_case ((k == c) && same_node m n) j (granted d c n) (granted (Gives k m r ∷ times j (Gives k m r) d) c n) (granted (times j (Gives k m r) d) c n)
     (given_more c n k m r (times j (Gives k m r) d)) (granted_times c n k m r j d)
 
-pub granted_put : (c : ℕ) (n : Node) (xs : List HeldRow) (d : Effects) → granted (put_all put_held xs d) c n ≡ sum_by (weight c n) xs + granted d c n
+pub granted_put : (c : ℕ) (n : Node) (xs : List HeldRow) (d : Effects)
+    → granted (put_all put_held xs d) c n ≡ sum_by (weight c n) xs + granted d c n
 granted_put c n [] d = omega arith
 granted_put c n (x ∷ xs) d =
     let i = granted_put c n xs (put_held x d) in
@@ -196,7 +220,8 @@ granted_put c n (x ∷ xs) d =
     let s = sum_by-cons (weight c n) x xs in
     omega (arith, i, t, s)
 
-number_more : (c : ℕ) (n : Node) (k : ℕ) (m : Node) (r j : ℕ) (d : Effects) → number_at (times j (Gives k m r) d) c n ≡ (if nat_lt 0 (if (k == c) && same_node m n then j else 0) then r else number_at d c n)
+number_more : (c : ℕ) (n : Node) (k : ℕ) (m : Node) (r j : ℕ) (d : Effects)
+    → number_at (times j (Gives k m r) d) c n ≡ (if nat_lt 0 (if (k == c) && same_node m n then j else 0) then r else number_at d c n)
 number_more c n k m r zero d = elim ((k == c) && same_node m n) as (λ b. number_at d c n ≡ (if nat_lt 0 (if b then 0 else 0) then r else number_at d c n)) [ true ↦ refl | false ↦ refl ]
 number_more c n k m r (suc j) d =
     let i = number_more c n k m r j d in
@@ -211,7 +236,8 @@ number_more c n k m r (suc j) d =
 abbrev pub HasNumber : ℕ → Node → ℕ → HeldRow → Type 0
 HasNumber c n v x = ((x.client == c) && same_node x.node n) ≡ true → x.number ≡ v
 
-number_case : (t : Bool) (j s s' v r z : ℕ) → s' ≡ (if t then j else 0) + s → (t ≡ true → r ≡ v) → (if nat_lt 0 s then v else (if nat_lt 0 (if t then j else 0) then r else z)) ≡ (if nat_lt 0 s' then v else z)
+number_case : (t : Bool) (j s s' v r z : ℕ) → s' ≡ (if t then j else 0) + s → (t ≡ true → r ≡ v)
+    → (if nat_lt 0 s then v else (if nat_lt 0 (if t then j else 0) then r else z)) ≡ (if nat_lt 0 s' then v else z)
 number_case true j s s' v r z e is =
     let q = is refl in
     rw q (elim (nat_lt 0 s) as (λ b. nat_lt 0 s ≡ b → (if b then v else (if nat_lt 0 j then v else z)) ≡ (if nat_lt 0 s' then v else z)) [
@@ -220,7 +246,8 @@ number_case true j s s' v r z e is =
     ] refl)
 number_case false j s s' v r z e is = let g : s' ≡ s = omega (arith, e) in rw g refl
 
-pub number_put : (c : ℕ) (n : Node) (v : ℕ) (xs : List HeldRow) (d : Effects) → AllOf (HasNumber c n v) xs → number_at (put_all put_held xs d) c n ≡ (if nat_lt 0 (sum_by (weight c n) xs) then v else number_at d c n)
+pub number_put : (c : ℕ) (n : Node) (v : ℕ) (xs : List HeldRow) (d : Effects) → AllOf (HasNumber c n v) xs
+    → number_at (put_all put_held xs d) c n ≡ (if nat_lt 0 (sum_by (weight c n) xs) then v else number_at d c n)
 number_put c n v [] d all = refl
 number_put c n v (x ∷ xs) d all =
     number_put c n v xs (put_held x d) all.1

@@ -36,7 +36,8 @@ record_alike h g (Some (Barred denial who name)) s =
     both (λ (n v : ℕ). let l : List Recorded = record { at = n; version = v; denial = denial; who = who; target = []; name = Some name } ∷ [] in l) s.length s.sim.agree.version
 record_alike h g (Some (Unmet instead)) s = refl
 
-notice_records_alike : (h g : History) (d e : Effects) (n : Node) (ws : List Watch) → AtOneLength h g → Sim d e → AllLive d ws → notice_records h d n ws ≡ notice_records g e n ws
+notice_records_alike : (h g : History) (d e : Effects) (n : Node) (ws : List Watch) → AtOneLength h g → Sim d e
+    → AllLive d ws → notice_records h d n ws ≡ notice_records g e n ws
 notice_records_alike h g d e n [] s t live = refl
 notice_records_alike h g d e n (w ∷ ws) s t live =
     let here = (and_parts (is_live d w.client) (list_all (λ (v : Watch). is_live d v.client) ws) live).0 in
@@ -45,11 +46,13 @@ notice_records_alike h g d e n (w ∷ ws) s t live =
     (notice_records_alike h g (after_notice d n w) (after_notice e n w) n ws s (sim_notice d e n w t here)
     (all_same (is_live d) (is_live (after_notice d n w)) ws (λ k. live_notice d n w k) (and_parts (is_live d w.client) (list_all (λ (v : Watch). is_live d v.client) ws) live).1))
 
-watch_records_alike : (h g : History) (d e : Effects) (w : Watch) (o : Option Service) → AtOneLength h g → Sim d e → is_live d w.client ≡ true → watch_records h d w o ≡ watch_records g e w o
+watch_records_alike : (h g : History) (d e : Effects) (w : Watch) (o : Option Service) → AtOneLength h g → Sim d e
+    → is_live d w.client ≡ true → watch_records h d w o ≡ watch_records g e w o
 watch_records_alike h g d e w None s t live = refl
 watch_records_alike h g d e w (Some x) s t live = notice_records_alike h g d e x.node (w ∷ []) s t (ap (λ b. b && true) live)
 
-done_alike : (h g : History) (c : ℕ) (event : Event) → AtOneLength h g → Acts (effects_of h) c event → Passes (effects_of h) c event → done_records h c event ≡ done_records g c event
+done_alike : (h g : History) (c : ℕ) (event : Event) → AtOneLength h g → Acts (effects_of h) c event
+    → Passes (effects_of h) c event → done_records h c event ≡ done_records g c event
 done_alike h g c (Add name obj allow dump) s acts a =
     let d = effects_of h in
     let e = effects_of g in
@@ -75,7 +78,8 @@ done_alike h g c Take s acts a = refl
 done_alike h g c Die s acts a = refl
 done_alike h g c (Reload expected policy) s acts a = refl
 
-or_alike : (h g : History) (o : Option Stop) (xs ys : List Recorded) → AtOneLength h g → (o ≡ None → xs ≡ ys) → records_or h o xs ≡ records_or g o ys
+or_alike : (h g : History) (o : Option Stop) (xs ys : List Recorded) → AtOneLength h g → (o ≡ None → xs ≡ ys)
+    → records_or h o xs ≡ records_or g o ys
 or_alike h g None xs ys s same = same refl
 or_alike h g (Some failing) xs ys s same = record_alike h g (Some failing) s
 
@@ -83,7 +87,8 @@ or_alike h g (Some failing) xs ys s same = record_alike h g (Some failing) s
 abbrev pub recorded : History → By → ℕ → Event → List Check → List Recorded
 recorded h by turn event rest = records_or h (first_failing (policy_at (effects_of h)) (all_checks (effects_of h) (turn_of h by) by turn event rest)) (done_records h (client_of by) event)
 
-pub recorded_alike : (h g : History) (by : By) (turn : ℕ) (event : Event) (rest : List Check) → AtOneLength h g → (is_there (effects_of h) by ≡ true → turn_of h by ≡ turn_of g by)
+pub recorded_alike : (h g : History) (by : By) (turn : ℕ) (event : Event) (rest : List Check) → AtOneLength h g
+    → (is_there (effects_of h) by ≡ true → turn_of h by ≡ turn_of g by)
     → recorded h by turn event rest ≡ recorded g by turn event rest
 recorded_alike h g by turn event rest s turns =
     let d = effects_of h in

@@ -48,7 +48,8 @@ head_after name x xs h = less_is (slice_cmp nat_cmp name x) (and_parts (is_lt (s
 tail_after : (name x : List ℕ) (xs : List (List ℕ)) → AllAfter name (x ∷ xs) → AllAfter name xs
 tail_after name x xs h = (and_parts (is_lt (slice_cmp nat_cmp name x)) (list_all (λ y. is_lt (slice_cmp nat_cmp name y)) xs) h).1
 
-more_after : (name x : List ℕ) (xs : List (List ℕ)) → slice_cmp nat_cmp name x ≡ Less → AllAfter name xs → AllAfter name (x ∷ xs)
+more_after : (name x : List ℕ) (xs : List (List ℕ)) → slice_cmp nat_cmp name x ≡ Less → AllAfter name xs
+    → AllAfter name (x ∷ xs)
 more_after name x xs e h = rw (e, h) refl
 
 all_after : (name x : List ℕ) (xs : List (List ℕ)) → slice_cmp nat_cmp name x ≡ Less → AllAfter x xs → AllAfter name xs
@@ -56,7 +57,8 @@ all_after name x [] e h = refl
 all_after name x (y ∷ ys) e h =
     more_after name y ys (nat_list_cmp_total.trans name x y e (head_after x y ys h)) (all_after name x ys e (tail_after x y ys h))
 
-placed_after : (a name : List ℕ) (xs : List (List ℕ)) → slice_cmp nat_cmp a name ≡ Less → AllAfter a xs → AllAfter a (placed name xs)
+placed_after : (a name : List ℕ) (xs : List (List ℕ)) → slice_cmp nat_cmp a name ≡ Less → AllAfter a xs
+    → AllAfter a (placed name xs)
 placed_after a name [] e h = more_after a name [] e refl
 placed_after a name (x ∷ xs) e h =
     let i = placed_after a name xs e (tail_after a x xs h) in
@@ -80,7 +82,8 @@ rising_added [] = tt
 rising_added (Adds name s ∷ d) = rising_placed name (names_added d) (rising_added d)
 rising_added (x ∷ d) = rising_added d
 
-any_placed : (q name : List ℕ) (ns : List (List ℕ)) → list_any (λ x. bytes_eq x q) (placed name ns) ≡ false → (bytes_eq name q ≡ false) × (list_any (λ x. bytes_eq x q) ns ≡ false)
+any_placed : (q name : List ℕ) (ns : List (List ℕ)) → list_any (λ x. bytes_eq x q) (placed name ns) ≡ false
+    → (bytes_eq name q ≡ false) × (list_any (λ x. bytes_eq x q) ns ≡ false)
 any_placed q name [] h = ((or_parts (bytes_eq name q) false h).0, refl)
 any_placed q name (x ∷ xs) h =
     let p = λ (y : List ℕ). bytes_eq y q in
@@ -92,7 +95,8 @@ any_placed q name (x ∷ xs) h =
           (i.0, or_from (p x) (list_any p xs) (or_parts (p x) (list_any p (placed name xs)) h').0 i.1)
     ] refl h
 
-never_said : (d : Effects) (name : List ℕ) → list_any (λ x. bytes_eq x name) (names_added d) ≡ false → last_said d name ≡ None
+never_said : (d : Effects) (name : List ℕ) → list_any (λ x. bytes_eq x name) (names_added d) ≡ false
+    → last_said d name ≡ None
 never_said [] name h = refl
 never_said (Adds other s ∷ d) name h = let a = any_placed name other (names_added d) h in rw a.0 (never_said d name a.1)
 never_said (Removes other ∷ d) name h =
@@ -115,14 +119,16 @@ not_in : (a : List ℕ) (ns : List (List ℕ)) → AllAfter a ns → is_in a ns 
 not_in a [] h = refl
 not_in a (y ∷ ys) h = or_from (bytes_eq y a) (is_in a ys) (swapped a y (apart_names a y Less (head_after a y ys h) refl)) (not_in a ys (tail_after a y ys h))
 
-before_all : (a y : List ℕ) (ys : List (List ℕ)) → slice_cmp nat_cmp a y ≡ Less → AllAfter y ys → is_in a (y ∷ ys) ≡ false
+before_all : (a y : List ℕ) (ys : List (List ℕ)) → slice_cmp nat_cmp a y ≡ Less → AllAfter y ys
+    → is_in a (y ∷ ys) ≡ false
 before_all a y ys e h = not_in a (y ∷ ys) (more_after a y ys e (all_after a y ys e h))
 
 first_in : (x : List ℕ) (xs : List (List ℕ)) → is_in x (x ∷ xs) ≡ true
 first_in x xs = rw (own_bytes x) refl
 
 -- Two rising lists of the same names are one list.
-pub rising_same : (xs ys : List (List ℕ)) → IsRising xs → IsRising ys → ((q : List ℕ) → is_in q xs ≡ is_in q ys) → xs ≡ ys
+pub rising_same : (xs ys : List (List ℕ)) → IsRising xs → IsRising ys → ((q : List ℕ) → is_in q xs ≡ is_in q ys)
+    → xs ≡ ys
 rising_same [] [] hx hy same = refl
 rising_same [] (y ∷ ys) hx hy same = absurd (true≢false (sym (first_in y ys) ∙ sym (same y)))
 rising_same (x ∷ xs) [] hx hy same = absurd (true≢false (sym (first_in x xs) ∙ same x))
@@ -168,7 +174,8 @@ in_current d q =
     ] refl
 
 -- Where each name has the same service, the names that have one are the same.
-pub names_alike : (d e : Effects) → ((name : List ℕ) → service_at d name ≡ service_at e name) → current_names d ≡ current_names e
+pub names_alike : (d e : Effects) → ((name : List ℕ) → service_at d name ≡ service_at e name)
+    → current_names d ≡ current_names e
 names_alike d e same =
     rising_same (current_names d) (current_names e) (rising_filter (λ n. is_some (service_at d n)) (names_added d) (rising_added d)) (rising_filter (λ n. is_some (service_at e n)) (names_added e) (rising_added e))
     (λ q. in_current d q ∙ ap (λ (o : Option Service). is_some o) (same q) ∙ sym (in_current e q))

@@ -27,7 +27,8 @@ use Rattle.sm_history.proofs.Living.{any_live}
 
 -- ---- live clients
 
-any_rows : (d : Effects) (c : ℕ) (ks : List ℕ) → list_any (λ (x : LiveRow). x.client == c) (map (live_row d) ks) ≡ among c ks
+any_rows : (d : Effects) (c : ℕ) (ks : List ℕ)
+    → list_any (λ (x : LiveRow). x.client == c) (map (live_row d) ks) ≡ among c ks
 any_rows d c [] = refl
 any_rows d c (k ∷ ks) = ap (λ b. (k == c) || b) (any_rows d c ks)
 
@@ -95,18 +96,22 @@ who_back d c live =
 
 -- ---- holdings
 
-other_case : (c : ℕ) (n : Node) (k : ℕ) (d : Effects) (r : ℕ) (o : Option Node) (xs : List HeldRow) → (k == c) ≡ false → sum_by (weight c n) xs ≡ 0 → sum_by (weight c n) (cons_option (option_map (held_row d k r) o) xs) ≡ 0
+other_case : (c : ℕ) (n : Node) (k : ℕ) (d : Effects) (r : ℕ) (o : Option Node) (xs : List HeldRow) → (k == c) ≡ false
+    → sum_by (weight c n) xs ≡ 0 → sum_by (weight c n) (cons_option (option_map (held_row d k r) o) xs) ≡ 0
 other_case c n k d r None xs e z = z
 other_case c n k d r (Some m) xs e z =
     let s = sum_by-cons (weight c n) (held_row d k r m) xs in
     let w : weight c n (held_row d k r m) ≡ 0 = rw e refl in
     omega (arith, s, w, z)
 
-other_weight : (c : ℕ) (n : Node) (k : ℕ) (d : Effects) (rs : List ℕ) → (k == c) ≡ false → sum_by (weight c n) (filter_map (held_under d k) rs) ≡ 0
+other_weight : (c : ℕ) (n : Node) (k : ℕ) (d : Effects) (rs : List ℕ) → (k == c) ≡ false
+    → sum_by (weight c n) (filter_map (held_under d k) rs) ≡ 0
 other_weight c n k d [] e = refl
 other_weight c n k d (r ∷ rs) e = other_case c n k d r (node_at d k r) (filter_map (held_under d k) rs) e (other_weight c n k d rs e)
 
-flat_case : (c : ℕ) (n : Node) (d : Effects) (k : ℕ) (t any : Bool) (here rest : ℕ) → (k == c) ≡ t → (t ≡ true → any ≡ false) → here ≡ sum_by (weight c n) (held_rows d k) → rest ≡ (if any then sum_by (weight c n) (held_rows d c) else 0)
+flat_case : (c : ℕ) (n : Node) (d : Effects) (k : ℕ) (t any : Bool) (here rest : ℕ) → (k == c) ≡ t
+    → (t ≡ true → any ≡ false) → here ≡ sum_by (weight c n) (held_rows d k)
+    → rest ≡ (if any then sum_by (weight c n) (held_rows d c) else 0)
     → here + rest ≡ (if t || any then sum_by (weight c n) (held_rows d c) else 0)
 flat_case c n d k true any here rest e once h r =
     let a = once refl in
@@ -118,7 +123,8 @@ flat_case c n d k false any here rest e once h r =
     let s : here + rest ≡ rest = omega (arith, z) in
     s ∙ r
 
-sum_flat : (c : ℕ) (n : Node) (d : Effects) (ks : List ℕ) → IsOnce ks → sum_by (weight c n) (flat_map (held_rows d) ks) ≡ (if among c ks then sum_by (weight c n) (held_rows d c) else 0)
+sum_flat : (c : ℕ) (n : Node) (d : Effects) (ks : List ℕ) → IsOnce ks
+    → sum_by (weight c n) (flat_map (held_rows d) ks) ≡ (if among c ks then sum_by (weight c n) (held_rows d c) else 0)
 sum_flat c n d [] once = refl
 sum_flat c n d (k ∷ ks) once =
     sum_by-append (weight c n) (held_rows d k) (flat_map (held_rows d) ks)
@@ -127,7 +133,8 @@ sum_flat c n d (k ∷ ks) once =
 abbrev at_number : Bool → ℕ → ℕ → ℕ → ℕ
 at_number held a v r = if held && (a == r) then v else 0
 
-under_case : (d : Effects) (c : ℕ) (n : Node) (r : ℕ) (o : Option Node) (xs : List HeldRow) (z : ℕ) → HasOneEach d c → node_at d c r ≡ o → sum_by (weight c n) xs ≡ z
+under_case : (d : Effects) (c : ℕ) (n : Node) (r : ℕ) (o : Option Node) (xs : List HeldRow) (z : ℕ) → HasOneEach d c
+    → node_at d c r ≡ o → sum_by (weight c n) xs ≡ z
     → sum_by (weight c n) (cons_option (option_map (held_row d c r) o) xs) ≡ at_number (is_held d c n) (number_at d c n) (refs_at d c n) r + z
 under_case d c n r None xs z one e h =
     let none : at_number (is_held d c n) (number_at d c n) (refs_at d c n) r ≡ 0 =
@@ -159,7 +166,8 @@ under_case d c n r (Some m) xs z one e h =
     ] refl) in
     omega (arith, s, w, h)
 
-sum_under : (d : Effects) (c : ℕ) (n : Node) (rs : List ℕ) → HasOneEach d c → sum_by (weight c n) (filter_map (held_under d c) rs) ≡ sum_by (at_number (is_held d c n) (number_at d c n) (refs_at d c n)) rs
+sum_under : (d : Effects) (c : ℕ) (n : Node) (rs : List ℕ) → HasOneEach d c
+    → sum_by (weight c n) (filter_map (held_under d c) rs) ≡ sum_by (at_number (is_held d c n) (number_at d c n) (refs_at d c n)) rs
 sum_under d c n [] one = refl
 sum_under d c n (r ∷ rs) one =
     under_case d c n r (node_at d c r) (filter_map (held_under d c) rs) (sum_by (at_number (is_held d c n) (number_at d c n) (refs_at d c n)) rs) one refl (sum_under d c n rs one)
@@ -195,7 +203,8 @@ at_sum a v b (suc k) le lt =
           omega (arith, s, i, z)
     ] refl
 
-pub below_top : (f : Node → ℕ) (ns : List Node) (n : Node) → list_any (same_node n) ns ≡ true → f n ≤ greatest (map f ns)
+pub below_top : (f : Node → ℕ) (ns : List Node) (n : Node) → list_any (same_node n) ns ≡ true
+    → f n ≤ greatest (map f ns)
 below_top f [] n h = absurd (true≢false (sym h))
 below_top f (m ∷ ns) n h =
     elim (same_node n m) as (λ b. same_node n m ≡ b → (b || list_any (same_node n) ns) ≡ true → f n ≤ max (f m) (greatest (map f ns))) [
@@ -217,10 +226,12 @@ own_sum d c n one =
       | false ↦ λ e. none_sum a v rs ∙ sym (none_held v e)
     ] refl
 
-weight_all : (d : Effects) (c : ℕ) (n : Node) → Sound d → is_live d c ≡ true → sum_by (weight c n) (rows_at d).held ≡ refs_at d c n
+weight_all : (d : Effects) (c : ℕ) (n : Node) → Sound d → is_live d c ≡ true
+    → sum_by (weight c n) (rows_at d).held ≡ refs_at d c n
 weight_all d c n s live = sum_flat c n d (live_clients d) s.once ∙ rw (any_live d c ∙ live) (own_sum d c n (s.single c))
 
-granted_back : (d : Effects) (c : ℕ) (n : Node) → granted (resumed (rows_at d)) c n ≡ sum_by (weight c n) (rows_at d).held
+granted_back : (d : Effects) (c : ℕ) (n : Node)
+    → granted (resumed (rows_at d)) c n ≡ sum_by (weight c n) (rows_at d).held
 granted_back d c n =
     let r = rows_at d in
     let F = λ (b : Effects). granted b c n in
@@ -235,7 +246,8 @@ released_back d c n =
     past_waiting F r (λ k x b. refl) ∙ past_watches F r (λ w b. refl) ∙ past_held F r (λ k m j b. refl) ∙ past_names F r (λ x s b. refl)
     ∙ quiet F put_live (λ x b. refl) r.live (Sets r.policy ∷ Opens r.manager ∷ [])
 
-refs_case : (live live' : Bool) (v g s : ℕ) → live' ≡ live → s ≡ 0 → (live ≡ true → g ≡ v) → (live ≡ false → v ≡ 0) → v ≡ (if live' then g - s else 0)
+refs_case : (live live' : Bool) (v g s : ℕ) → live' ≡ live → s ≡ 0 → (live ≡ true → g ≡ v) → (live ≡ false → v ≡ 0)
+    → v ≡ (if live' then g - s else 0)
 refs_case true live' v g s e z is none = let q = is refl in rw e (omega (arith, q, z))
 refs_case false live' v g s e z is none = rw e (none refl)
 
@@ -244,7 +256,8 @@ refs_back d c n s =
     refs_case (is_live d c) (is_live (resumed (rows_at d)) c) (refs_at d c n) (granted (resumed (rows_at d)) c n) (released (resumed (rows_at d)) c n)
     (live_back d c) (released_back d c n) (λ live. granted_back d c n ∙ weight_all d c n s live) (λ e. rw e refl)
 
-held_number : (d : Effects) (c : ℕ) (n : Node) (k r : ℕ) (o : Option Node) → node_at d k r ≡ o → IfSomeOf (HasNumber c n (number_at d c n)) (option_map (held_row d k r) o)
+held_number : (d : Effects) (c : ℕ) (n : Node) (k r : ℕ) (o : Option Node) → node_at d k r ≡ o
+    → IfSomeOf (HasNumber c n (number_at d c n)) (option_map (held_row d k r) o)
 held_number d c n k r None e = tt
 held_number d c n k r (Some m) e = λ h.
     let f = node_held d k r m e in
@@ -254,7 +267,8 @@ held_live : (live : Bool) (v : ℕ) → nat_lt 0 (if live then v else 0) ≡ tru
 held_live true v h = refl
 held_live false v h = absurd (true≢false (sym h))
 
-number_back : (d : Effects) (c : ℕ) (n : Node) → Sound d → is_held d c n ≡ true → number_at d c n ≡ number_at (resumed (rows_at d)) c n
+number_back : (d : Effects) (c : ℕ) (n : Node) → Sound d → is_held d c n ≡ true
+    → number_at d c n ≡ number_at (resumed (rows_at d)) c n
 number_back d c n s held =
     let r = rows_at d in
     let F = λ (b : Effects). number_at b c n in
@@ -266,7 +280,8 @@ number_back d c n s held =
 
 -- ---- names
 
-owner_again : (d e : Effects) (o : Option Service) → ((c : ℕ) → is_live e c ≡ is_live d c) → if_owner_lives e (if_owner_lives d o) ≡ if_owner_lives d o
+owner_again : (d e : Effects) (o : Option Service) → ((c : ℕ) → is_live e c ≡ is_live d c)
+    → if_owner_lives e (if_owner_lives d o) ≡ if_owner_lives d o
 owner_again d e None same = refl
 owner_again d e (Some s) same =
     elim (is_live d s.node.owner.0) as (λ b. is_live d s.node.owner.0 ≡ b → if_owner_lives e (if b then Some s else None) ≡ (if b then Some s else None)) [
@@ -304,11 +319,14 @@ watches_back d =
     ∙ filter_agree (λ (w : Watch). is_live (resumed r) w.client) (λ w. is_live d w.client) (λ w. live_back d w.client) (watches_at d)
     ∙ filter_again (λ (w : Watch). is_live d w.client) (watches_made d))
 
-waits_case : (c k : ℕ) (d : Effects) (t any : Bool) (rest : List Delivery) → (k == c) ≡ t → (t ≡ true → any ≡ false) → rest ≡ (if any then inbox_at d c else []) → (if t then inbox_at d k else []) ++ rest ≡ (if t || any then inbox_at d c else [])
+waits_case : (c k : ℕ) (d : Effects) (t any : Bool) (rest : List Delivery) → (k == c) ≡ t → (t ≡ true → any ≡ false)
+    → rest ≡ (if any then inbox_at d c else [])
+    → (if t then inbox_at d k else []) ++ rest ≡ (if t || any then inbox_at d c else [])
 waits_case c k d true any rest e once h = let a = once refl in ap (λ xs. inbox_at d k ++ xs) (h ∙ rw a refl) ∙ append-nil (inbox_at d k) ∙ ap (inbox_at d) (number_same k c e)
 waits_case c k d false any rest e once h = h
 
-waits_flat : (c : ℕ) (d : Effects) (ks : List ℕ) → IsOnce ks → filter_map (for_client c) (flat_map (waiting_rows d) ks) ≡ (if among c ks then inbox_at d c else [])
+waits_flat : (c : ℕ) (d : Effects) (ks : List ℕ) → IsOnce ks
+    → filter_map (for_client c) (flat_map (waiting_rows d) ks) ≡ (if among c ks then inbox_at d c else [])
 waits_flat c d [] once = refl
 waits_flat c d (k ∷ ks) once =
     filter_map-append (for_client c) (waiting_rows d k) (flat_map (waiting_rows d) ks)
@@ -322,7 +340,8 @@ takes_back d c =
     past_waiting F r (λ k x b. refl) ∙ past_watches F r (λ w b. refl) ∙ past_held F r (λ k m j b. refl) ∙ past_names F r (λ x s b. refl)
     ∙ quiet F put_live (λ x b. refl) r.live (Sets r.policy ∷ Opens r.manager ∷ [])
 
-deliveries_back : (d : Effects) (c : ℕ) → reverse (deliveries (resumed (rows_at d)) c) ≡ filter_map (for_client c) (rows_at d).waiting
+deliveries_back : (d : Effects) (c : ℕ)
+    → reverse (deliveries (resumed (rows_at d)) c) ≡ filter_map (for_client c) (rows_at d).waiting
 deliveries_back d c =
     let r = rows_at d in
     let F = λ (b : Effects). deliveries b c in
@@ -330,7 +349,8 @@ deliveries_back d c =
     let none : deliveries (watches_put r) c ≡ [] = past_watches F r (λ w b. refl) ∙ past_held F r (λ k m j b. refl) ∙ past_names F r (λ x s b. refl) ∙ quiet F put_live (λ x b. refl) r.live (Sets r.policy ∷ Opens r.manager ∷ []) in
     ap (λ (ys : List Delivery). reverse ys) (deliveries_put c r.waiting (watches_put r) ∙ ap (λ ys. reverse xs ++ ys) none ∙ append-nil (reverse xs)) ∙ reverse-reverse xs
 
-inbox_case : (live live' : Bool) (v ys : List Delivery) (t : ℕ) → live' ≡ live → t ≡ 0 → ys ≡ (if live then v else []) → (live ≡ false → v ≡ []) → v ≡ (if live' then drop t ys else [])
+inbox_case : (live live' : Bool) (v ys : List Delivery) (t : ℕ) → live' ≡ live → t ≡ 0 → ys ≡ (if live then v else [])
+    → (live ≡ false → v ≡ []) → v ≡ (if live' then drop t ys else [])
 inbox_case true live' v ys t e z is none = rw (e, z, is) refl
 inbox_case false live' v ys t e z is none = rw e (none refl)
 

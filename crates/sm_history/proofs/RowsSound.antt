@@ -29,10 +29,12 @@ all_filter p (x ∷ xs) = elim (p x) as (λ b. p x ≡ b → AllOf (λ y. p y �
 
 -- ---- soundness
 
-one_more : (k : ℕ) (x : Effect) (d : Effects) → names k x ≡ false → list_any (names k) d ≡ false → list_any (names k) (x ∷ d) ≡ false
+one_more : (k : ℕ) (x : Effect) (d : Effects) → names k x ≡ false → list_any (names k) d ≡ false
+    → list_any (names k) (x ∷ d) ≡ false
 one_more k x d h i = or_from (names k x) (list_any (names k) d) h i
 
-some_of : (d : Effects) (c n k : ℕ) (o : Option Node) → (c == k) ≡ false → IfSomeOf (λ (x : HeldRow). (x.client == k) ≡ false) (option_map (held_row d c n) o)
+some_of : (d : Effects) (c n k : ℕ) (o : Option Node) → (c == k) ≡ false
+    → IfSomeOf (λ (x : HeldRow). (x.client == k) ≡ false) (option_map (held_row d c n) o)
 some_of d c n k None e = tt
 some_of d c n k (Some m) e = e
 
@@ -54,7 +56,8 @@ fresh_back d s k le =
     (kept_all P (λ (x : LiveRow). (x.client == k) ≡ false) put_live (λ x b h i. one_more k (Connects x.client x.who) b h i) r.live (Sets r.policy ∷ Opens r.manager ∷ [])
     (all_map (λ (x : LiveRow). (x.client == k) ≡ false) (live_row d) (live_clients d) (all_imply (λ c. is_live d c ≡ true) (λ c. (c == k) ≡ false) (live_clients d) (λ c live. not_k c live) lives)) refl))))
 
-owner_live : (d : Effects) (o : Option Service) (s : Service) → if_owner_lives d o ≡ Some s → is_live d s.node.owner.0 ≡ true
+owner_live : (d : Effects) (o : Option Service) (s : Service) → if_owner_lives d o ≡ Some s
+    → is_live d s.node.owner.0 ≡ true
 owner_live d None s h = cc
 owner_live d (Some t) s h =
     elim (is_live d t.node.owner.0) as (λ b. is_live d t.node.owner.0 ≡ b → (let o : Option Service = if b then Some t else None in o) ≡ Some s → is_live d s.node.owner.0 ≡ true) [
@@ -83,11 +86,13 @@ sim_rows d s = record { agree = agree_rows d s; left = s; right = sound_back d s
 
 -- ---- the same rows
 
-pub map_alike : {X Y : Type 0} (P : X → Type 0) (f g : X → Y) (xs : List X) → ((x : X) → P x → f x ≡ g x) → AllOf P xs → map f xs ≡ map g xs
+pub map_alike : {X Y : Type 0} (P : X → Type 0) (f g : X → Y) (xs : List X) → ((x : X) → P x → f x ≡ g x) → AllOf P xs
+    → map f xs ≡ map g xs
 map_alike P f g [] same all = refl
 map_alike P f g (x ∷ xs) same all = rw (same x all.0, map_alike P f g xs same all.1) refl
 
-filter_map_alike : {X Y : Type 0} (f g : X → Option Y) (xs : List X) → ((x : X) → f x ≡ g x) → filter_map f xs ≡ filter_map g xs
+filter_map_alike : {X Y : Type 0} (f g : X → Option Y) (xs : List X) → ((x : X) → f x ≡ g x)
+    → filter_map f xs ≡ filter_map g xs
 filter_map_alike f g [] same = refl
 filter_map_alike f g (x ∷ xs) same = rw (same x, filter_map_alike f g xs same) refl
 
@@ -99,7 +104,9 @@ most : (f : Node → ℕ) (b : ℕ) (ns : List Node) → AllOf (λ n. f n ≤ b)
 most f b [] all = omega arith
 most f b (n ∷ ns) all = let i = most f b ns all.1 in let j = all.0 in omega (arith, i, j)
 
-top_below : (d e : Effects) (c : ℕ) → ((n : Node) → is_held d c n ≡ true → (is_held e c n ≡ true) × (number_at d c n ≡ number_at e c n)) → top_number d c ≤ top_number e c
+top_below : (d e : Effects) (c : ℕ)
+    → ((n : Node) → is_held d c n ≡ true → (is_held e c n ≡ true) × (number_at d c n ≡ number_at e c n))
+    → top_number d c ≤ top_number e c
 top_below d e c same =
     most (number_at d c) (top_number e c) (held_nodes d c) (all_imply (λ n. is_held d c n ≡ true) (λ n. number_at d c n ≤ top_number e c) (held_nodes d c)
     (λ n h. let s = same n h in let le = below_top (number_at e c) (held_nodes e c) n (held_among e c n s.0) in let is = s.1 in omega (arith, le, is))
@@ -111,7 +118,8 @@ top_alike d e c s =
     let ge = top_below e d c (λ n h. let h' = sim_held d e c n s ∙ h in (h', sym (s.agree.numbers c n h'))) in
     omega (arith, le, ge)
 
-under_alike : (d e : Effects) (c r : ℕ) (o : Option Node) → Sim d e → option_map (held_row d c r) o ≡ option_map (held_row e c r) o
+under_alike : (d e : Effects) (c r : ℕ) (o : Option Node) → Sim d e
+    → option_map (held_row d c r) o ≡ option_map (held_row e c r) o
 under_alike d e c r None s = refl
 under_alike d e c r (Some n) s = ap (λ (k : ℕ). let v : Option HeldRow = Some (record { client = c; node = n; number = r; count = k }) in v) (s.agree.refs c n)
 

@@ -31,7 +31,8 @@ use Rattle.sm_history.proofs.SegmentReads.{Speaks, follows, segments_read}
 
 -- ---- the same rows
 
-more_admins : (b : By) (bs : List By) → AllOf (λ v. is_admin v ≡ true) bs → AllOf (λ v. is_admin v ≡ true) (with_admin b bs)
+more_admins : (b : By) (bs : List By) → AllOf (λ v. is_admin v ≡ true) bs
+    → AllOf (λ v. is_admin v ≡ true) (with_admin b bs)
 more_admins Manager bs all = all
 more_admins (Client c) bs all = all
 more_admins (Admin a) bs all =
@@ -76,7 +77,8 @@ all_speak es =
           (all_imply (λ b. is_admin b ≡ true) (Speaks d) (admins_of (whole es)) (λ b h. speaking d b h) (admins_only es)),
     )
 
-pub replayed : (a b : List Entry) → AreLawfulApart a → AreLawfulApart (b ++ a) → rows_of (segment_of a b) ≡ rows_of (whole (b ++ a))
+pub replayed : (a b : List Entry) → AreLawfulApart a → AreLawfulApart (b ++ a)
+    → rows_of (segment_of a b) ≡ rows_of (whole (b ++ a))
 replayed a b la l =
     let f = follows a b la l in
     let g = segment_of a b in
@@ -116,7 +118,8 @@ less_checked d have by turn event rest outcome done =
 
 -- ---- a lawful history goes on from lawful changes
 
-apart_more : (e : Entry) (es : List Entry) → AreLawfulApart es → verdict_apart (whole es) e.by e.turn e.event ≡ Done e.outcome → HasSoundPolicy e.event → AreLawfulApart (e ∷ es)
+apart_more : (e : Entry) (es : List Entry) → AreLawfulApart es
+    → verdict_apart (whole es) e.by e.turn e.event ≡ Done e.outcome → HasSoundPolicy e.event → AreLawfulApart (e ∷ es)
 apart_more e [] l done ok = absurd l
 apart_more e (f ∷ es) l done ok = (l, done, ok)
 
@@ -127,7 +130,9 @@ pub record Grown (o : Opening) (es : List Entry) : Type 0 where
   pub opens : o ≡ rows_of (whole before)
   pub grown : AreLawfulApart (es ++ before)
 
-goes_on : (o : Opening) (e : Entry) (es : List Entry) → verdict_apart (record { opening = o; entries = es }) e.by e.turn e.event ≡ Done e.outcome → HasSoundPolicy e.event
+goes_on : (o : Opening) (e : Entry) (es : List Entry)
+    → verdict_apart (record { opening = o; entries = es }) e.by e.turn e.event ≡ Done e.outcome
+    → HasSoundPolicy e.event
     → ((o ≡ nothing) × AreLawfulApart es) ⊎ Grown o es → ((o ≡ nothing) × AreLawfulApart (e ∷ es)) ⊎ Grown o (e ∷ es)
 goes_on o e es done ok (inl (is, l)) = inl (is, apart_more e es l (subst (λ (v : Opening). verdict_apart (record { opening = v; entries = es }) e.by e.turn e.event ≡ Done e.outcome) is done) ok)
 goes_on o e es done ok (inr g) =
@@ -140,7 +145,8 @@ goes_on o e es done ok (inr g) =
       grown = apart_more e (es ++ g.before) g.grown ((segments_read g.before es g.lawful g.grown).verdicts e.by e.turn e.event ∙ done') ok;
     })
 
-pub grown_from : (places : ℕ) (o : Opening) (es : List Entry) → AreLawful places o es → ((o ≡ nothing) × AreLawfulApart es) ⊎ Grown o es
+pub grown_from : (places : ℕ) (o : Opening) (es : List Entry) → AreLawful places o es
+    → ((o ≡ nothing) × AreLawfulApart es) ⊎ Grown o es
 grown_from places o [] (a, l, is) = inr (record { before = a; lawful = l; opens = is; grown = l })
 grown_from places o (e ∷ es) (inl (is, none, opens)) = inl (is, subst (λ (v : List Entry). AreLawfulApart (e ∷ v)) (sym none) opens)
 grown_from places o (e ∷ es) (inr (before, done, ok)) =
@@ -149,7 +155,8 @@ grown_from places o (e ∷ es) (inr (before, done, ok)) =
     less_checked (effects_of h) (turn_of h e.by) e.by e.turn e.event (Wants (has_place places h e.event) (Refused JournalFull) ∷ []) e.outcome done in
     goes_on o e es apart ok (grown_from places o es before)
 
-left_by : (h : History) → ((h.opening ≡ nothing) × AreLawfulApart h.entries) ⊎ Grown h.opening h.entries → IsLeft (rows_of h)
+left_by : (h : History) → ((h.opening ≡ nothing) × AreLawfulApart h.entries) ⊎ Grown h.opening h.entries
+    → IsLeft (rows_of h)
 left_by h (inl (is, l)) = (h.entries, l, ap (λ (o : Opening). rows_of (record { opening = o; entries = h.entries })) is)
 left_by h (inr g) = (h.entries ++ g.before, g.grown, ap (λ (o : Opening). rows_of (record { opening = o; entries = h.entries })) g.opens ∙ replayed g.before h.entries g.lawful g.grown)
 

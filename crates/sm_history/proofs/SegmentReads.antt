@@ -62,7 +62,8 @@ any_client : (k : ℕ) (ks : List ℕ) → list_any (is_same (client k)) (map cl
 any_client k [] = refl
 any_client k (j ∷ js) = both (λ a b. a || b) (turned k j) (any_client k js)
 
-with_more : (a b : By) (bys : List By) → list_any (is_same a) (with_admin b bys) ≡ false → list_any (is_same a) bys ≡ false
+with_more : (a b : By) (bys : List By) → list_any (is_same a) (with_admin b bys) ≡ false
+    → list_any (is_same a) bys ≡ false
 with_more a Manager bys h = h
 with_more a (Client c) bys h = h
 with_more a (Admin c) bys h =
@@ -71,7 +72,8 @@ with_more a (Admin c) bys h =
       | false ↦ λ e. (or_parts (list_any (is_same a) bys) (is_same a (Admin c) || false) (sym (list_any-append (is_same a) bys (Admin c ∷ [])) ∙ e)).0
     ] h
 
-with_own : (a : _) (b : By) (bys : List By) → list_any (is_same (Admin a)) (with_admin b bys) ≡ false → is_same (Admin a) b ≡ false
+with_own : (a : _) (b : By) (bys : List By) → list_any (is_same (Admin a)) (with_admin b bys) ≡ false
+    → is_same (Admin a) b ≡ false
 with_own a Manager bys h = refl
 with_own a (Client c) bys h = refl
 with_own a (Admin c) bys h =
@@ -89,7 +91,8 @@ count_case true k n e h z = absurd (true≢false h)
 count_case false k n e h z = omega (arith, e, z)
 
 -- An administrator that isn't among those that made a change made none.
-no_changes : (es : List Entry) (a : _) → list_any (is_same (Admin a)) (admins_after [] es) ≡ false → turn_of (whole es) (Admin a) ≡ 0
+no_changes : (es : List Entry) (a : _) → list_any (is_same (Admin a)) (admins_after [] es) ≡ false
+    → turn_of (whole es) (Admin a) ≡ 0
 no_changes [] a none = refl
 no_changes (e ∷ es) a none =
     count_case (is_same (Admin a) e.by) (turn_of (whole (e ∷ es)) (Admin a)) (turn_of (whole es) (Admin a))
@@ -106,7 +109,8 @@ rows_case : (t : Bool) (v : ℕ) → (t ≡ false → v ≡ 0) → (if t then v 
 rows_case true v z = refl
 rows_case false v z = sym (z refl)
 
-opening_turns : (es : List Entry) (by : By) → AreLawfulApart es → Speaks (effects_of (whole es)) by → turns_in (rows_of (whole es)).turns by ≡ turn_of (whole es) by
+opening_turns : (es : List Entry) (by : By) → AreLawfulApart es → Speaks (effects_of (whole es)) by
+    → turns_in (rows_of (whole es)).turns by ≡ turn_of (whole es) by
 opening_turns es Manager l speaks =
     let a = whole es in
     turn_rows a Manager (actors_of a) ∙ refl
@@ -140,7 +144,8 @@ spoke d c event (Client k) s (inl live) = live_or_new d c event s k.0 live
 spoke d c event (Client k) s (inr new) = let n = (next_after d c event).0 in inr (omega (arith, n, new))
 
 -- A change of a lawful history is the verdict on the one before.
-next_of : (e : Entry) (h : List Entry) → AreLawfulApart h → AreLawfulApart (e ∷ h) → verdict_apart (whole h) e.by e.turn e.event ≡ Done e.outcome
+next_of : (e : Entry) (h : List Entry) → AreLawfulApart h → AreLawfulApart (e ∷ h)
+    → verdict_apart (whole h) e.by e.turn e.event ≡ Done e.outcome
 next_of e [] l m = absurd l
 next_of e (f ∷ h) l m = m.1
 
@@ -190,7 +195,8 @@ found_alike d e (Explain x t class perm) s = ap (λ (p : Policy). Why (written_a
 list_alike : (d e : Effects) (c : ℕ) → Sim d e → is_live d c ≡ true → list_checks d c ≡ list_checks e c
 list_alike d e c s live = cons_alike (to_manager_alike d e c calling s live) (cons_alike (both (λ (w m : Identity). Needs ServiceManager listing w m.context None) (s.agree.who c live) s.agree.manager) refl)
 
-query_checks_alike : (d e : Effects) (by : By) (q : Query) → Sim d e → is_their_query by q ≡ true → is_there d by ≡ true → query_checks d (client_of by) q ≡ query_checks e (client_of by) q
+query_checks_alike : (d e : Effects) (by : By) (q : Query) → Sim d e → is_their_query by q ≡ true
+    → is_there d by ≡ true → query_checks d (client_of by) q ≡ query_checks e (client_of by) q
 query_checks_alike d e by AskVersion s theirs there = refl
 query_checks_alike d e by (Explain x t class perm) s theirs there = refl
 query_checks_alike d e Manager (ListNames mask) s theirs there = absurd (true≢false (sym theirs))
@@ -202,7 +208,8 @@ there_alike d e Manager s = refl
 there_alike d e (Client c) s = s.agree.lives c.0
 there_alike d e (Admin a) s = refl
 
-looked_alike : (d e : Effects) (len : ℕ) (q : Query) (o : Option Stop) → Sim d e → looked_at d len q o ≡ looked_at e len q o
+looked_alike : (d e : Effects) (len : ℕ) (q : Query) (o : Option Stop) → Sim d e
+    → looked_at d len q o ≡ looked_at e len q o
 looked_alike d e len q None s = both (λ (v : ℕ) (x : Answer). Looked v len x) s.agree.version (found_alike d e q s)
 looked_alike d e len q (Some failing) s = refl
 
@@ -218,7 +225,8 @@ asked_alike d e len by q s =
     ∙ looked_alike d e len q (first_failing (policy_at e) (Wants (is_their_query by q) (Refused (Failed NotYours)) ∷ rest e)) s
 
 -- The words above are those of the verdict.
-verdict_is : (places : ℕ) (h : History) (by : By) (turn : ℕ) (event : Event) → verdict places h by turn event ≡ judged (effects_of h) (turn_of h by) by turn event (Wants (has_place places h event) (Refused JournalFull) ∷ [])
+verdict_is : (places : ℕ) (h : History) (by : By) (turn : ℕ) (event : Event)
+    → verdict places h by turn event ≡ judged (effects_of h) (turn_of h by) by turn event (Wants (has_place places h event) (Refused JournalFull) ∷ [])
 verdict_is places h by turn event = refl
 
 looked_is : (h : History) (q : Query) (o : Option Stop) → looked h q o ≡ looked_at (effects_of h) (length_of h) q o
@@ -243,8 +251,10 @@ segments_read a b la l =
     }
 
 -- Where both have a place or neither has, the whole verdicts are the same.
-pub verdicts_read : (p q : ℕ) (a b : List Entry) (by : By) (turn : ℕ) (event : Event) → AreLawfulApart a → AreLawfulApart (b ++ a)
-    → has_place p (whole (b ++ a)) event ≡ has_place q (segment_of a b) event → verdict p (whole (b ++ a)) by turn event ≡ verdict q (segment_of a b) by turn event
+pub verdicts_read : (p q : ℕ) (a b : List Entry) (by : By) (turn : ℕ) (event : Event) → AreLawfulApart a
+    → AreLawfulApart (b ++ a)
+    → has_place p (whole (b ++ a)) event ≡ has_place q (segment_of a b) event
+    → verdict p (whole (b ++ a)) by turn event ≡ verdict q (segment_of a b) by turn event
 verdicts_read p q a b by turn event la l same =
     let f = follows a b la l in
     let h = whole (b ++ a) in

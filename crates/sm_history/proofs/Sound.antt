@@ -27,7 +27,8 @@ use Rattle.sm_history.specs.Sound.{HasOneEach, IsBalanced, IsFresh, IsOnce, Soun
 
 -- ---- held before, held after
 
-pub held_connects : (d : Effects) (n : ℕ) (who : Identity) (c : ℕ) (m : Node) → IsNew d n → is_held (Connects n who ∷ d) c m ≡ is_held d c m
+pub held_connects : (d : Effects) (n : ℕ) (who : Identity) (c : ℕ) (m : Node) → IsNew d n
+    → is_held (Connects n who ∷ d) c m ≡ is_held d c m
 held_connects d n who c m new = ap (nat_lt 0) (refs_connects d n who c m new)
 
 pub held_dies : (d : Effects) (c k : ℕ) (m : Node) → is_held (Dies c ∷ d) k m ≡ true → is_held d k m ≡ true
@@ -38,7 +39,8 @@ held_dies d c k m h =
 one_less : (r : ℕ) → nat_lt 0 (r - 1) ≡ true → nat_lt 0 r ≡ true
 one_less r h = grind (arith, nat_tests)
 
-pub held_releases : (d : Effects) (c : ℕ) (n : Node) (k : ℕ) (m : Node) → is_held (Releases c n ∷ d) k m ≡ true → is_held d k m ≡ true
+pub held_releases : (d : Effects) (c : ℕ) (n : Node) (k : ℕ) (m : Node) → is_held (Releases c n ∷ d) k m ≡ true
+    → is_held d k m ≡ true
 held_releases d c n k m h =
     let h' : nat_lt 0 (if (c == k) && same_node n m then refs_at d k m - 1 else refs_at d k m) ≡ true = ap (nat_lt 0) (sym (refs_releases d c n k m)) ∙ h in
     elim ((c == k) && same_node n m) as (λ b. nat_lt 0 (if b then refs_at d k m - 1 else refs_at d k m) ≡ true → is_held d k m ≡ true) [ true ↦ λ f. one_less (refs_at d k m) f | false ↦ λ f. f ] h'
@@ -52,7 +54,8 @@ number_is : (a r : ℕ) → a ≡ r → (a == r) ≡ true
 number_is a r e = grind (arith, nat_tests)
 
 -- A number that is given with n is no other object's.
-number_apart : (d : Effects) (c : ℕ) (n : Node) (r : ℕ) (m : Node) → HasOneEach d c → Numbers d c n r → is_held d c m ≡ true → r ≡ number_at d c m → n ≡ m
+number_apart : (d : Effects) (c : ℕ) (n : Node) (r : ℕ) (m : Node) → HasOneEach d c → Numbers d c n r
+    → is_held d c m ≡ true → r ≡ number_at d c m → n ≡ m
 number_apart d c n r m one num held is =
     elim (is_held d c n) as (λ b. is_held d c n ≡ b → n ≡ m) [
       | true ↦ λ h. one n m h held (sym (num.old h) ∙ is)
@@ -60,14 +63,18 @@ number_apart d c n r m one num held is =
     ] refl
 
 own_single : (d : Effects) (c : ℕ) (n : Node) (r : ℕ) (m p : Node) (t u : Bool) → HasOneEach d c → Numbers d c n r
-    → same_node n m ≡ t → same_node n p ≡ u → (if t then true else is_held d c m) ≡ true → (if u then true else is_held d c p) ≡ true → (if t then r else number_at d c m) ≡ (if u then r else number_at d c p) → m ≡ p
+    → same_node n m ≡ t → same_node n p ≡ u → (if t then true else is_held d c m) ≡ true
+    → (if u then true else is_held d c p) ≡ true
+    → (if t then r else number_at d c m) ≡ (if u then r else number_at d c p) → m ≡ p
 own_single d c n r m p true true one num em ep hm hp is = sym (node_same n m em) ∙ node_same n p ep
 own_single d c n r m p true false one num em ep hm hp is = sym (node_same n m em) ∙ number_apart d c n r p one num hp is
 own_single d c n r m p false true one num em ep hm hp is = sym (number_apart d c n r m one num hm (sym is)) ∙ node_same n p ep
 own_single d c n r m p false false one num em ep hm hp is = one m p hm hp is
 
-single_case : (d : Effects) (c : ℕ) (n : Node) (r k : ℕ) (m p : Node) (b : Bool) → (c == k) ≡ b → HasOneEach d k → is_live d c ≡ true → Numbers d c n r
-    → (if b && same_node n m then is_live d k else is_held d k m) ≡ true → (if b && same_node n p then is_live d k else is_held d k p) ≡ true
+single_case : (d : Effects) (c : ℕ) (n : Node) (r k : ℕ) (m p : Node) (b : Bool) → (c == k) ≡ b → HasOneEach d k
+    → is_live d c ≡ true → Numbers d c n r
+    → (if b && same_node n m then is_live d k else is_held d k m) ≡ true
+    → (if b && same_node n p then is_live d k else is_held d k p) ≡ true
     → (if b && same_node n m then r else number_at d k m) ≡ (if b && same_node n p then r else number_at d k p) → m ≡ p
 single_case d c n r k m p false e one live num hm hp is = one m p hm hp is
 single_case d c n r k m p true e one live num hm hp is =
@@ -77,7 +84,8 @@ single_case d c n r k m p true e one live num hm hp is =
     (subst (λ (l : Bool). (if same_node n m then l else is_held d k m) ≡ true) live' hm)
     (subst (λ (l : Bool). (if same_node n p then l else is_held d k p) ≡ true) live' hp) is
 
-single_gives : (d : Effects) (c : ℕ) (n : Node) (r k : ℕ) → IsBalanced d → HasOneEach d k → is_live d c ≡ true → Numbers d c n r → HasOneEach (Gives c n r ∷ d) k
+single_gives : (d : Effects) (c : ℕ) (n : Node) (r k : ℕ) → IsBalanced d → HasOneEach d k → is_live d c ≡ true
+    → Numbers d c n r → HasOneEach (Gives c n r ∷ d) k
 single_gives d c n r k bal one live num m p hm hp is =
     single_case d c n r k m p (c == k) refl one live num (sym (held_gives d c n r k m bal) ∙ hm) (sym (held_gives d c n r k p bal) ∙ hp) (sym (number_gives d c n r k m) ∙ is ∙ number_gives d c n r k p)
 
@@ -125,7 +133,8 @@ sound_connects d n who is s =
       once = subst IsOnce (sym (list_connects d n who new)) (once_more n (live_clients d) (none_live d n new) s.once);
     }
 
-fresh_own : (x : Effect) (d : Effects) (c : ℕ) → IsFresh d → is_live d c ≡ true → next_client (x ∷ d) ≡ next_client d → ((k : ℕ) → (c == k) ≡ false → names k x ≡ false) → IsFresh (x ∷ d)
+fresh_own : (x : Effect) (d : Effects) (c : ℕ) → IsFresh d → is_live d c ≡ true → next_client (x ∷ d) ≡ next_client d
+    → ((k : ℕ) → (c == k) ≡ false → names k x ≡ false) → IsFresh (x ∷ d)
 fresh_own x d c fresh live same only = let lt = live_below d c fresh live in fresh_more x d fresh same (λ k le. only k (below c (next_client d) k lt le))
 
 pub sound_dies : (d : Effects) (c : ℕ) → is_live d c ≡ true → Sound d → Sound (Dies c ∷ d)
@@ -138,7 +147,8 @@ sound_dies d c live s = record {
   once = subst IsOnce (sym (list_dies d c)) (once_filter (λ k. not (c == k)) (live_clients d) s.once);
 }
 
-pub sound_adds : (d : Effects) (name : List ℕ) (t : Service) → is_live d t.node.owner.0 ≡ true → Sound d → Sound (Adds name t ∷ d)
+pub sound_adds : (d : Effects) (name : List ℕ) (t : Service) → is_live d t.node.owner.0 ≡ true → Sound d
+    → Sound (Adds name t ∷ d)
 sound_adds d name t live s = record {
   fresh = s.fresh;
   owned = add_owned d name t (live_below d t.node.owner.0 s.fresh live) s.owned;
@@ -151,7 +161,8 @@ sound_adds d name t live s = record {
 pub sound_removes : (d : Effects) (name : List ℕ) → Sound d → Sound (Removes name ∷ d)
 sound_removes d name s = record { fresh = s.fresh; owned = owned_lasts (Removes name) d refl s.owned; balanced = balanced_lasts (Removes name) d refl s.balanced; single = s.single; taken = s.taken; once = s.once }
 
-pub sound_gives : (d : Effects) (c : ℕ) (n : Node) (r : ℕ) → is_live d c ≡ true → Numbers d c n r → Sound d → Sound (Gives c n r ∷ d)
+pub sound_gives : (d : Effects) (c : ℕ) (n : Node) (r : ℕ) → is_live d c ≡ true → Numbers d c n r → Sound d
+    → Sound (Gives c n r ∷ d)
 sound_gives d c n r live num s = record {
   fresh = fresh_own (Gives c n r) d c s.fresh live refl (λ k e. e);
   owned = s.owned;
@@ -161,7 +172,8 @@ sound_gives d c n r live num s = record {
   once = s.once;
 }
 
-pub sound_releases : (d : Effects) (c : ℕ) (n : Node) → is_live d c ≡ true → is_held d c n ≡ true → Sound d → Sound (Releases c n ∷ d)
+pub sound_releases : (d : Effects) (c : ℕ) (n : Node) → is_live d c ≡ true → is_held d c n ≡ true → Sound d
+    → Sound (Releases c n ∷ d)
 sound_releases d c n live held s = record {
   fresh = fresh_own (Releases c n) d c s.fresh live refl (λ k e. e);
   owned = s.owned;
@@ -177,7 +189,8 @@ sound_watches d w live s = record { fresh = fresh_own (Watches w) d w.client s.f
 pub sound_unwatches : (d : Effects) (w : Watch) → is_live d w.client ≡ true → Sound d → Sound (Unwatches w ∷ d)
 sound_unwatches d w live s = record { fresh = fresh_own (Unwatches w) d w.client s.fresh live refl (λ k e. e); owned = s.owned; balanced = balanced_lasts (Unwatches w) d refl s.balanced; single = s.single; taken = s.taken; once = s.once }
 
-delivers_case : (t : Bool) (n : ℕ) (x : Delivery) (xs : List Delivery) → n ≤ length xs → n ≤ length (cons_option (let o : Option Delivery = if t then Some x else None in o) xs)
+delivers_case : (t : Bool) (n : ℕ) (x : Delivery) (xs : List Delivery) → n ≤ length xs
+    → n ≤ length (cons_option (let o : Option Delivery = if t then Some x else None in o) xs)
 delivers_case true n x xs le = omega arith
 delivers_case false n x xs le = le
 
@@ -191,7 +204,8 @@ sound_delivers d c x live s = record {
   once = s.once;
 }
 
-waits_case : (live : Bool) (n : ℕ) (xs : List Delivery) → nat_lt 0 (length (if live then drop n (reverse xs) else [])) ≡ true → (live ≡ true) × (n < length xs)
+waits_case : (live : Bool) (n : ℕ) (xs : List Delivery)
+    → nat_lt 0 (length (if live then drop n (reverse xs) else [])) ≡ true → (live ≡ true) × (n < length xs)
 waits_case true n xs h =
     let a = length-drop n (reverse xs) in let b = length-reverse xs in
     let c : 0 < length (drop n (reverse xs)) = grind (arith, nat_tests) in

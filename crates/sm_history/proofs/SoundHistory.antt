@@ -33,7 +33,8 @@ pub record Met (d : Effects) (by : By) (event : Event) : Type 0 where
   pub acts : Acts d (client_of by) event
   pub passes : Passes d (client_of by) event
 
-pub met : (d : Effects) (have : ℕ) (by : By) (turn : ℕ) (event : Event) (rest : List Check) (outcome : Outcome) → judged d have by turn event rest ≡ Done outcome → Met d by event
+pub met : (d : Effects) (have : ℕ) (by : By) (turn : ℕ) (event : Event) (rest : List Check) (outcome : Outcome)
+    → judged d have by turn event rest ≡ Done outcome → Met d by event
 met d have by turn event rest outcome done =
     let xs = event_checks d (client_of by) event in
     let a = all_hold (policy_at d) (all_checks d have by turn event rest) (outcome_of d (client_of by) event) outcome done in
@@ -44,7 +45,8 @@ met d have by turn event rest outcome done =
 agree_self : (d : Effects) → Agree d d
 agree_self d = record { policy = refl; version = refl; manager = refl; clients = refl; lives = λ c. refl; live_list = refl; who = λ c h. refl; refs = λ c n. refl; numbers = λ c n h. refl; services = λ n. refl; watches = refl; inboxes = λ c. refl }
 
-pub sound_event : (d : Effects) (by : By) (event : Event) → Sound d → Met d by event → Sound (after_event d (client_of by) event)
+pub sound_event : (d : Effects) (by : By) (event : Event) → Sound d → Met d by event
+    → Sound (after_event d (client_of by) event)
 sound_event d by event s m = (sim_event d d (client_of by) event (record { agree = agree_self d; left = s; right = s }) m.acts m.passes).left
 
 pub sound_none : Sound []
