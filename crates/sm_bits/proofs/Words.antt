@@ -1,14 +1,15 @@
 -- Bits of a row of words, as they are read and written.
-use Rattle.std.proofs.Common.{inl, inr, ◌⊎◌, ◌≡◌, ◌≢◌, ℕ, ◌+◌, ◌*◌, ◌/◌, ◌%◌, ◌^◌, ◌<◌, ◌≤◌, Bool, true, false, not, ◌&&◌, ◌||◌, eqb, List, length, get_or, set, replicate, refl, sym, ap, ◌∙◌, arith, w64, true≢false}
+use Rattle.std.proofs.Common.{inl, inr, ◌⊎◌, ◌≡◌, ◌≢◌, ℕ, ◌+◌, ◌*◌, ◌/◌, ◌%◌, ◌^◌, ◌<◌, ◌≤◌, Bool, true, false, not, ◌&&◌, ◌||◌, eqb, List, length, get_or, set, replicate, length-set, refl, sym, ap, ◌∙◌, arith, w64, true≢false}
 use Rattle.std.specs.Int.{bit_at, bit_not, trailing_zeros}
 use Rattle.std.specs.Prelude.{bit_or, bit_and}
 use Rattle.std.specs.Int.Bits.{or_zero_l}
 use Rattle.std.proofs.lemmas.Nat.{le_or_l}
 use Rattle.std.proofs.lemmas.Bool.{cases_eq, cases_lt, eq-eqb, ne_eqb}
-use Rattle.std.proofs.lemmas.Nat.Bits.{bit_at-lt, bit_at-zero, shr_and_one, bit_at_or, bit_at_and, bit_at_not, bit_at_set_same, bit_at_set_other, bit_at-trailing_zeros}
-use Rattle.std.proofs.lemmas.List.{get_or-set_other, get_or-set_same, get_or_past, get_or-replicate, length-replicate}
+use Rattle.std.proofs.lemmas.Nat.Bits.{bit_at-lt, bit_at-zero, shr_and_one, bit_at_or, bit_at_and, bit_at_not, bit_at_set_same, bit_at_set_other, bit_at-trailing_zeros, bit_at-pow_same, bit_at-pow_other}
+use Rattle.std.proofs.lemmas.List.{get_or-set_other, get_or-set_same, get_or_past, get_or-replicate, length-replicate, set_past}
 use Rattle.std.proofs.lemmas.Grind.{get_or_default_zero}
 use Rattle.sm_bits.specs.Bits.{has}
+use Rattle.sm_bits.specs.Sharing.{one_row}
 
 abbrev pub bit_is : ℕ → ℕ → Bool
 bit_is w b = eqb (bit_at w b) 1
@@ -181,3 +182,41 @@ gathered_all xs ys common i end nothing g = elim (cases_eq common 0) [
   | inl zero ↦ apart_all xs ys i end (g.none zero)
   | inr some ↦ absurd (true≢false (rw (ne_eqb common 0 some) at nothing))
 ]
+
+-- a word that is 0 has no number in it
+pub has_zero : (words : List ℕ) (j i : ℕ) → j / 64 ≡ i → get_or words i 0 ≡ 0 → has words j ≡ false
+has_zero words j i at zero = has_is words j ∙ (rw (at, zero, bit_at-zero (j % 64)) refl)
+
+-- ---- the row of a single number
+
+pub one_has : (words i j : ℕ) → i / 64 < words → has (one_row words i) j ≡ eqb j i
+unfolding one_row
+one_has words i j inside =
+    let w : ℕ = 2 ^ (i % 64) in
+    let zeros : List ℕ = replicate words 0 in
+    let room : i / 64 < length zeros = omega (arith, length-replicate {A = ℕ} words 0, inside) in
+    has_is (set zeros (i / 64) w) j ∙ elim (cases_eq (j / 64) (i / 64)) [
+      | inl same ↦ (let read : get_or (set zeros (i / 64) w) (j / 64) 0 ≡ w =
+          rw same (get_or-set_same zeros (i / 64) w 0 room) in
+          elim (cases_eq (j % 64) (i % 64)) [
+            | inl at ↦ (let e : eqb j i ≡ true = eq-eqb j i (same_place i j same at) in
+                rw (read, at, bit_at-pow_same (i % 64), e) refl)
+            | inr off ↦ (let e : eqb j i ≡ false = ne_eqb j i (λ q. off (ap (λ (n : ℕ). n % 64) q)) in
+                rw (read, bit_at-pow_other (i % 64) (j % 64) off, e) refl)
+          ])
+      | inr other ↦ (let e : eqb j i ≡ false = ne_eqb j i (λ q. other (ap (λ (n : ℕ). n / 64) q)) in
+          let kept : get_or (set zeros (i / 64) w) (j / 64) 0 ≡ get_or zeros (j / 64) 0 =
+          get_or-set_other zeros (i / 64) (j / 64) w 0 other in
+          rw (kept, e) (sym (has_is zeros j) ∙ has_none words j))
+    ]
+
+pub one_none : (words i j : ℕ) → words ≤ i / 64 → has (one_row words i) j ≡ false
+unfolding one_row
+one_none words i j past =
+    let zeros : List ℕ = replicate words 0 in
+    let end : length zeros ≤ i / 64 = omega (arith, length-replicate {A = ℕ} words 0, past) in
+    ap (λ (xs : List ℕ). has xs j) (set_past zeros (i / 64) (2 ^ (i % 64)) end) ∙ has_none words j
+
+pub one_room : (words i : ℕ) → length (one_row words i) ≡ words
+unfolding one_row
+one_room words i = length-set (replicate words 0) (i / 64) (2 ^ (i % 64)) ∙ length-replicate {A = ℕ} words 0

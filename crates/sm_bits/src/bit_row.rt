@@ -1,5 +1,6 @@
 //! A row of bits.
 
+use crate::byte_bits::with_bit;
 use std::alloc::{AllocError, Global};
 use std::marker::Model;
 
@@ -25,9 +26,9 @@ impl Drop for BitRow {
     }
 }
 
-ghost use Rattle.std.specs.Prelude.{◌≡◌, ℕ, ◌*◌, ◌^◌, ◌<◌, ◌≤◌, ◌&&◌, ◌||◌, not, false, IsTrue, length, count_ones};
+ghost use Rattle.std.specs.Prelude.{◌≡◌, ℕ, ◌+◌, ◌*◌, ◌/◌, ◌^◌, ◌<◌, ◌≤◌, ◌&&◌, ◌||◌, nat_eq, not, false, true, IsTrue, IfSome, IfNone, length, slice_index, count_ones};
 ghost use Rattle.std.specs.List.{sum_by};
-ghost use Rattle.sm_bits.specs.Bits.{has};
+ghost use Rattle.sm_bits.specs.Bits.{has, has_bit};
 
 // The loops go over slices in place of the rows' vectors: a write through a slice cannot move
 // the words, so that they run as vector code. For its sake `words_meet` goes to the end, too,
@@ -75,10 +76,73 @@ fn count_words(words: &[u64]) -> usize
     count
 }
 
+/// The first number from that of word `first` on that isn't in the set.
+fn first_free_in(words: &[u64], first: usize) -> usize
+    requires { (first ≤ length words.now) × (length words.now < 2 ^ 32) }
+    ensures behind { 64 * first ≤ result }
+    ensures free { has words.now result ≡ false }
+    ensures least { (j : ℕ) → 64 * first ≤ j → j < result → has words.now j ≡ true }
+{
+    for i in first..words.len() {
+        let word = words[i];
+        if word != u64::MAX {
+            return 64 * i + word.trailing_ones() as usize;
+        }
+    }
+    64 * words.len()
+}
+
+/// Sets a bit in the bytes of those numbers of a set that are in one of its words.
+fn mark_word(bytes: &mut [u8], row: &BitRow, word: usize, bit: u32)
+    requires bit { bit < 8 }
+    requires room { length bytes.old ≤ 64 * length row.now }
+    requires few { length row.now < 2 ^ 32 }
+    requires word { word < length row.now }
+    ensures marked { (j b : ℕ) → j < length bytes.old → j / 64 ≡ word
+        → has_bit (slice_index bytes.new j) b
+        ≡ (has_bit (slice_index bytes.old j) b || (has row.now j && nat_eq b bit)) }
+    ensures same { (j : ℕ) → j < length bytes.old → (j / 64 ≡ word → ⊥)
+        → slice_index bytes.new j ≡ slice_index bytes.old j }
+{
+    if row.words[word] == 0 {
+        return;
+    }
+    let end = bytes.len().min(64 * word + 64);
+    for j in 64 * word..end {
+        if row.has(j) {
+            bytes[j] = with_bit(bytes[j], bit);
+        }
+    }
+}
+
+/// The least number from `from` on.
+fn next_in(row: &BitRow, from: usize) -> Option<usize>
+    requires { length row.now < 2 ^ 32 }
+    ensures none { IfNone result ((j : ℕ) → from ≤ j → has row.now j ≡ false) }
+    ensures some { IfSome result (λ i. (from ≤ i) × (i < 64 * length row.now)
+        × (has row.now i ≡ true)) }
+    ensures first { IfSome result (λ i. (j : ℕ) → from ≤ j → j < i → has row.now j ≡ false) }
+{
+    let end = 64 * row.words.len();
+    let mut i = from;
+    while i < end {
+        if row.has(i) {
+            return Some(i);
+        }
+        // Of a word that is 0, the other bits aren't looked at.
+        i = if row.words[i / 64] == 0 {
+            64 * (i / 64) + 64
+        } else {
+            i + 1
+        };
+    }
+    None
+}
+
 impl BitRow {
-    ghost use Rattle.std.specs.Prelude.{◌≡◌, ℕ, ◌*◌, ◌^◌, ◌<◌, ◌≤◌, ◌&&◌, ◌||◌, not, false, nat_eq, length, IfOk, IsTrue, count_ones};
+    ghost use Rattle.std.specs.Prelude.{◌≡◌, ℕ, ◌*◌, ◌^◌, ◌<◌, ◌≤◌, ◌&&◌, ◌||◌, not, false, true, nat_eq, length, slice_index, IfOk, IfSome, IfNone, IsTrue, count_ones};
     ghost use Rattle.std.specs.List.{sum_by};
-    ghost use Rattle.sm_bits.specs.Bits.{has};
+    ghost use Rattle.sm_bits.specs.Bits.{has, has_bit};
 
     /// The set of no number, with room for those below 64 times `words`.
     ///
@@ -91,6 +155,13 @@ impl BitRow {
     {
         let words = vec![in alloc; 0u64; words]?;
         Ok(BitRow { words })
+    }
+
+    /// How many words the row has.
+    pub fn len(&self) -> usize
+        ensures { result ≡ length self.now }
+    {
+        self.words.len()
     }
 
     /// How many numbers are in the set.
@@ -110,6 +181,34 @@ impl BitRow {
         self.words[i / 64] >> (i % 64) & 1 == 1
     }
 
+    /// The least number of the set from `from` on.
+    pub fn next(&self, from: usize) -> Option<usize>
+        requires { length self.now < 2 ^ 32 }
+        ensures none { IfNone result ((j : ℕ) → from ≤ j → has self.now j ≡ false) }
+        ensures some { IfSome result (λ i. (from ≤ i) × (i < 64 * length self.now)
+            × (has self.now i ≡ true)) }
+        ensures first { IfSome result (λ i. (j : ℕ) → from ≤ j → j < i → has self.now j ≡ false) }
+    {
+        next_in(self, from)
+    }
+
+    /// Whether both rows have the same words.
+    pub fn is_same(&self, other: &BitRow) -> bool
+        ensures same { result ≡ true → self.now ≡ other.now }
+        ensures other { result ≡ false → self.now ≡ other.now → ⊥ }
+    {
+        self.words == other.words
+    }
+
+    /// A number for the set, by which rows are found that may be the same. It says nothing else.
+    pub fn digest(&self) -> u64 {
+        let mut digest = 0u64;
+        for word in &self.words {
+            digest = (digest.rotate_left(5) ^ word).wrapping_mul(0x9e37_79b9_7f4a_7c15);
+        }
+        digest
+    }
+
     /// Adds number `i`.
     pub fn insert(&mut self, i: usize)
         requires { i < 64 * length self.old }
@@ -117,6 +216,59 @@ impl BitRow {
         ensures added { (j : ℕ) → has self.new j ≡ (nat_eq j i || has self.old j) }
     {
         self.words[i / 64] |= 1 << (i % 64);
+    }
+
+    /// Takes number `i` away.
+    pub fn remove(&mut self, i: usize)
+        requires { i < 64 * length self.old }
+        ensures room { length self.new ≡ length self.old }
+        ensures removed { (j : ℕ) → has self.new j ≡ (not (nat_eq j i) && has self.old j) }
+    {
+        self.words[i / 64] &= !(1 << (i % 64));
+    }
+
+    /// The least number from `from` on that isn't in the set, or `end` where all before it are.
+    fn first_free_before(&self, from: usize, end: usize) -> usize
+        requires { (from ≤ end) × (end ≤ 64 * length self.now) }
+        ensures between { (from ≤ result) × (result ≤ end) }
+        ensures free { result < end → has self.now result ≡ false }
+        ensures least { (j : ℕ) → from ≤ j → j < result → has self.now j ≡ true }
+    {
+        for i in from..end {
+            if !self.has(i) {
+                return i;
+            }
+        }
+        end
+    }
+
+    /// The least number from `from` on that isn't in the set; it may lie past the row's room.
+    ///
+    /// It goes over the words from that of `from` on, 64 numbers at a step.
+    pub fn first_free_from(&self, from: usize) -> usize
+        requires { length self.now < 2 ^ 32 }
+        ensures behind { from ≤ result }
+        ensures free { has self.now result ≡ false }
+        ensures least { (j : ℕ) → from ≤ j → j < result → has self.now j ≡ true }
+    {
+        if from >= 64 * self.words.len() {
+            return from;
+        }
+        let first = from.div_ceil(64);
+        let found = self.first_free_before(from, 64 * first);
+        if found < 64 * first {
+            return found;
+        }
+        first_free_in(&self.words, first)
+    }
+
+    /// The least number that isn't in the set.
+    pub fn first_free(&self) -> usize
+        requires { length self.now < 2 ^ 32 }
+        ensures free { has self.now result ≡ false }
+        ensures least { (j : ℕ) → j < result → has self.now j ≡ true }
+    {
+        self.first_free_from(0)
     }
 
     /// Adds every number of `other`.
@@ -144,5 +296,18 @@ impl BitRow {
         ensures some { IsTrue result → (j : ℕ) × (IsTrue (has self.now j && has other.now j)) }
     {
         words_meet(&self.words, &other.words)
+    }
+
+    /// Sets a bit in the byte of each number of the set, bytes being numbered from 0.
+    pub fn mark(&self, bytes: &mut [u8], bit: u32)
+        requires bit { bit < 8 }
+        requires room { length bytes.old ≤ 64 * length self.now }
+        requires few { length self.now < 2 ^ 32 }
+        ensures { (j b : ℕ) → j < length bytes.old → has_bit (slice_index bytes.new j) b
+            ≡ (has_bit (slice_index bytes.old j) b || (has self.now j && nat_eq b bit)) }
+    {
+        for word in 0..self.words.len() {
+            mark_word(bytes, self, word, bit);
+        }
     }
 }

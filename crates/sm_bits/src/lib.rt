@@ -6,9 +6,11 @@
 mod bit_row;
 mod byte_bits;
 mod rows;
+mod shared_set;
 #[cfg(test)]
 mod tests;
 
 pub use bit_row::BitRow;
 pub use byte_bits::{has_bit, with_bit};
 pub use rows::empty_rows;
+pub use shared_set::SharedSet;

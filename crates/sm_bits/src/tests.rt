@@ -26,6 +26,8 @@ fn sets_of_numbers(rt: HostRuntime) -> Result<(), Fail> {
     assert!(rt; row.count() == 1);
     row.union_with(&other);
     assert!(rt; row.has(3) && row.has(64) && row.has(127) && !row.has(126));
+    row.remove(64);
+    assert!(rt; row.has(3) && !row.has(64) && row.has(127));
     Ok(())
 }
 
@@ -35,5 +37,19 @@ fn several_rows(rt: HostRuntime) -> Result<(), Fail> {
     assert!(rt; rows.len() == 3);
     rows[1].insert(127);
     assert!(rt; rows[1].has(127) && !rows[0].has(127) && !rows[2].has(127));
+    Ok(())
+}
+
+#[test]
+fn free_numbers(rt: HostRuntime) -> Result<(), Fail> {
+    let mut row = row_of(rt.alloc(), 0, 1)?;
+    assert!(rt; row.first_free() == 2);
+    assert!(rt; row.first_free_from(1) == 2 && row.first_free_from(3) == 3);
+    assert!(rt; row.first_free_from(127) == 127 && row.first_free_from(200) == 200);
+    row.insert(63);
+    row.insert(64);
+    assert!(rt; row.first_free_from(63) == 65);
+    row.remove(0);
+    assert!(rt; row.first_free() == 0);
     Ok(())
 }
