@@ -14,8 +14,6 @@ mod payload;
 mod perms;
 mod places;
 mod refs;
-#[cfg(test)]
-mod tests;
 mod user;
 mod word;
 

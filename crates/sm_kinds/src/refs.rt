@@ -64,7 +64,8 @@ impl Refs {
 
     /// The references in their order.
     pub fn list(&self) -> &[ObjRef]
-        ensures { result.now ≡ self.now }
+        ensures value { result.now ≡ self.now }
+        ensures fits { length result.now ≤ MOST_REFS }
     {
         self.list.as_slice()
     }
