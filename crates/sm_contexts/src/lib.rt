@@ -7,8 +7,6 @@ mod fault;
 mod limits;
 mod lines;
 mod reading;
-#[cfg(test)]
-mod tests;
 
 pub use contexts::Contexts;
 pub use fault::ContextsFault;

@@ -61,7 +61,7 @@ pub fn name(alloc: Global, tokens: &mut Tokens, line: u32) -> Result<Name, RuleT
             if is_self(bytes) {
                 return Err(RuleTextFault::Syntax(line));
             }
-            Ok(Name::new(alloc, bytes)?)
+            Ok(tokens.name(alloc, bytes)?)
         }
         _ => Err(RuleTextFault::Syntax(line)),
     }
@@ -93,12 +93,14 @@ pub fn names(
 #[tactic(auto, unfolding(crate::specs::Grammar::with_word))]
 fn add_word(
     alloc: Global,
+    tokens: &mut Tokens,
     mut items: Items,
     line: u32,
     may_self: bool,
     word: &[u8],
 ) -> Result<Items, RuleTextFault>
-    ensures { Gives is_memory (λ i. i) result (spec.with_word line may_self items word.now) }
+    ensures exact { Gives is_memory (λ i. i) result (spec.with_word line may_self items word.now) }
+    ensures same { tokens.new ≡ tokens.old }
 {
     if is_self(word) {
         if !may_self {
@@ -106,7 +108,7 @@ fn add_word(
         }
         items.to_self = true;
     } else {
-        let name = Name::new(alloc, word)?;
+        let name = tokens.name(alloc, word)?;
         items.plus.push(name)?;
     }
     Ok(items)
@@ -131,7 +133,7 @@ fn group(
     'items: loop {
         match kind(tokens, line)? {
             Kind::Word(word) => {
-                items = add_word(alloc, items, line, may_self, word.bytes())?;
+                items = add_word(alloc, tokens, items, line, may_self, word.bytes())?;
                 fresh = false;
             }
             Kind::Dash => {
@@ -175,7 +177,10 @@ fn items_from(
     ensures fewer { OnOk result (length tokens.new ≤ length tokens.old) }
 {
     match first {
-        Kind::Word(word) => add_word(alloc, Items::none(alloc), line, may_self, word.bytes()),
+        Kind::Word(word) => {
+            let items = Items::none(alloc);
+            add_word(alloc, tokens, items, line, may_self, word.bytes())
+        }
         Kind::Open => group(alloc, tokens, line, may_self, Items::none(alloc)),
         _ => Err(RuleTextFault::Syntax(line)),
     }

@@ -12,11 +12,10 @@ mod rule;
 mod set;
 mod statement;
 mod statements;
-#[cfg(test)]
-mod tests;
 mod token;
 mod tokens;
 mod word;
+mod words;
 
 pub use fault::RuleTextFault;
 pub use limits::MOST_RULES;

@@ -104,7 +104,7 @@ fn exactly(alloc: Global, text: &[u8]) -> Result<Vec<Statement>, RuleTextFault>
     if text.len() > MOST_TEXT_BYTES {
         return Err(RuleTextFault::TooLarge);
     }
-    all(alloc, Tokens::new(text))
+    all(alloc, Tokens::new(alloc, text))
 }
 
 /// Reads one statement, whose first token is taken.

@@ -1,12 +1,14 @@
 //! Cuts a text into tokens, as they are asked for.
 
-ghost use Rattle.std.specs.Prelude.{◌≡◌, ◌≢◌, ◌<◌, ◌≤◌, ◌+◌, ◌^◌, ◌++◌, [], length, drop, slice_index, option_to_list, IfSome, IfNone};
+ghost use Rattle.std.specs.Prelude.{◌≡◌, ◌≢◌, ◌<◌, ◌≤◌, ◌+◌, ◌^◌, ◌++◌, [], length, drop, slice_index, option_to_list, IfSome, IfNone, IfOk};
 ghost use Rattle.std.specs.List.{prefix_len};
 ghost use Rattle.sm_ruletext.specs.Lexing as spec;
 
 use crate::token::{Kind, Token};
 use crate::word::is_word_byte;
-use sm_kinds::{MOST_TEXT_BYTES, Word};
+use crate::words::Words;
+use sm_kinds::{MOST_TEXT_BYTES, Name, Word};
+use std::alloc::{AllocError, Global};
 use std::marker::Model;
 
 /// The bytes behind the first ones.
@@ -122,11 +124,12 @@ fn skip_blanks(bytes: &[u8], start: u32) -> (u32, &[u8])
     (line, rest)
 }
 
-/// The tokens of a text that are left.
+/// The tokens of a text that are left, and the names of its words so far, which contracts don't see.
 #[derive(Drop)]
 pub struct Tokens<'a> {
     rest: &'a [u8],
     line: u32,
+    words: Words,
 }
 
 impl<'a> Model for Tokens<'a> {
@@ -142,13 +145,14 @@ impl<'a> Model for Tokens<'a> {
 
 impl<'a> Tokens<'a> {
     /// The tokens of a text, the first next.
-    pub fn new(text: &'a [u8]) -> Tokens<'a>
+    pub fn new(alloc: Global, text: &'a [u8]) -> Tokens<'a>
         requires { length text.now ≤ MOST_TEXT_BYTES }
         ensures { result ≡ spec.tokens 0 1 text.now }
     {
         Tokens {
             rest: text,
             line: 1,
+            words: Words::new(alloc),
         }
     }
 
@@ -167,5 +171,13 @@ impl<'a> Tokens<'a> {
         let (kind, len) = first(rest);
         self.rest = behind(rest, len);
         Some((line, kind))
+    }
+
+    /// The name of a word of the text.
+    pub fn name(&mut self, alloc: Global, bytes: &[u8]) -> Result<Name, AllocError>
+        ensures name { IfOk result (λ n. n ≡ bytes.now) }
+        ensures same { self.new ≡ self.old }
+    {
+        self.words.name(alloc, bytes)
     }
 }

@@ -1,0 +1,48 @@
+//! The words of a text, each kept once.
+
+use indexmap::IndexMap;
+use sm_kinds::Name;
+use std::alloc::{AllocError, Global};
+
+/// How many words are kept: more than a text has that declares as many types and attributes as it may.
+const MOST_WORDS: usize = 16_384;
+
+/// Names by their bytes. A name that stands in a text a thousand times is one text in memory.
+#[derive(Drop)]
+pub struct Words {
+    names: IndexMap<Vec<u8>, Name>,
+}
+
+impl Words {
+    ghost use Rattle.std.specs.Prelude.{◌≡◌, IfOk};
+
+    /// No word.
+    pub fn new(alloc: Global) -> Words {
+        Words {
+            names: IndexMap::new(alloc),
+        }
+    }
+
+    /// Keeps a new name.
+    fn keep(&mut self, alloc: Global, bytes: &[u8], name: &Name) -> Result<(), AllocError> {
+        if self.names.len() < MOST_WORDS {
+            let key = Vec::from_slice(alloc, bytes)?;
+            self.names.insert(key, name.clone()?)?;
+        }
+        Ok(())
+    }
+
+    /// The name of these bytes: one more owner of the same, if it was asked for before.
+    pub fn name(&mut self, alloc: Global, bytes: &[u8]) -> Result<Name, AllocError>
+        ensures { IfOk result (λ n. n ≡ bytes.now) }
+    {
+        if let Some(known) = self.names.get(bytes) {
+            if known.bytes() == bytes {
+                return known.clone();
+            }
+        }
+        let name = Name::new(alloc, bytes)?;
+        self.keep(alloc, bytes, &name)?;
+        Ok(name)
+    }
+}
