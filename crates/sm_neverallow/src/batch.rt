@@ -7,7 +7,7 @@ ghost use Rattle.sm_neverallow.specs.Matrices.{Square};
 ghost use Rattle.sm_neverallow.specs.Uniting.{FitsBatch, in_batch};
 
 use crate::unions::Unions;
-use sm_bits::BitRow;
+use sm_bits::{BitRow, SharedSet};
 use sm_rules::Kept;
 use sm_types::TypeCount;
 use std::alloc::{AllocError, Global};
@@ -29,7 +29,7 @@ fn moved(place: usize, joined: bool, weight: usize) -> usize
 }
 
 /// Moves the places for the sources of a rule on to the unions that have its targets.
-fn move_places(places: &mut [usize], sources: &BitRow, weight: usize)
+fn move_places(places: &mut [usize], sources: &SharedSet, weight: usize)
     requires sources { length places.old ≤ 64 * length sources.now }
     requires places { (s : ℕ) → s < length places.old → slice_index places.old s < weight }
     requires weight { weight ≤ 128 }
@@ -39,6 +39,17 @@ fn move_places(places: &mut [usize], sources: &BitRow, weight: usize)
     for s in 0..places.len() {
         places[s] = moved(places[s], sources.has(s), weight);
     }
+}
+
+/// The row of a set.
+fn row_of(alloc: Global, set: &SharedSet, words: usize) -> Result<BitRow, AllocError>
+    requires { length set.now ≡ words }
+    ensures room { IfOk result (λ row. length row ≡ words) }
+    ensures same { IfOk result (λ row. (t : ℕ) → has row t ≡ has set.now t) }
+{
+    let mut row = BitRow::empty(alloc, words)?;
+    set.add_to(&mut row);
+    Ok(row)
 }
 
 /// Rules whose targets are not yet in the rows of their sources.
@@ -81,7 +92,8 @@ impl Batch {
             ≡ (in_batch self.old s t || (has rule.now.sources s && has rule.now.targets t))) }
     {
         let weight = self.unions.len();
-        self.unions.add(alloc, &rule.targets, count.words())?;
+        let targets = row_of(alloc, &rule.targets, count.words())?;
+        self.unions.add(alloc, &targets, count.words())?;
         move_places(&mut self.places, &rule.sources, weight);
         Ok(())
     }

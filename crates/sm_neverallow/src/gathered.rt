@@ -32,7 +32,7 @@ fn add_source(row: &mut BitRow, rule: &Kept, s: usize)
     if !rule.sources.has(s) {
         return;
     }
-    row.union_with(&rule.targets);
+    rule.targets.add_to(row);
     if rule.to_self {
         row.insert(s);
     }
@@ -46,9 +46,14 @@ fn add_rule(rows: &mut Vec<BitRow>, rule: &Kept, count: TypeCount)
     ensures added { (s t : ℕ) → s < count → has (row rows.new.items s) t
         ≡ (has (row rows.old.items s) t || joins s t rule.now) }
 {
-    for s in 0..rows.len() {
+    let mut from = 0;
+    while let Some(s) = rule.sources.next(from) {
+        if s >= rows.len() {
+            return;
+        }
         let row = &mut rows[s];
         add_source(row, rule, s);
+        from = s + 1;
     }
 }
 
@@ -86,7 +91,7 @@ fn add_if_own(own: &mut BitRow, rule: &Kept)
         ≡ (has own.old s || (rule.now.to_self && has rule.now.sources s)) }
 {
     if rule.to_self {
-        own.union_with(&rule.sources);
+        rule.sources.add_to(own);
     }
 }
 
@@ -158,7 +163,7 @@ impl Gathered {
             → in_gathered self.new s t ≡ (in_gathered self.old s t || joins s t rule.now)) }
     {
         let many = count.get() / BATCH;
-        if rule.sources.count() >= many {
+        if rule.sources.weight() >= many {
             return self.add_to_batch(alloc, rule, count);
         }
         add_rule(&mut self.rows, rule, count);

@@ -77,7 +77,7 @@ fn is_own_hit(own: &BitRow, rule: &Kept) -> bool
     ensures none { result ≡ false → OwnMisses own.now rule.now }
     ensures some { IsTrue result → OwnHits own.now rule.now }
 {
-    rule.to_self && own.meets(&rule.sources)
+    rule.to_self && rule.sources.meets_row(own)
 }
 
 /// Whether a rule joins a source of one of the groups to a target of its row.
@@ -257,7 +257,7 @@ fn have_many_sources(rules: &[Kept], places: &[usize], count: TypeCount) -> bool
     let many = MANY * count.get();
     let mut sources = 0;
     for place in places {
-        sources += rules[*place].sources.count();
+        sources += rules[*place].sources.weight();
         if sources >= many {
             return true;
         }

@@ -1,12 +1,15 @@
-//! Which of the allow rules of a rule text a neverallow rule of it forbids.
+//! Which pairs of types the allow rules of a rule text join, and which of these a neverallow rule of it
+//! forbids.
 #![tactic(auto)]
 
 mod batch;
 mod gathered;
 mod hits;
+mod matrices;
 mod matrix;
 mod perm_sets;
 mod unions;
 mod violation;
 
+pub use matrices::Matrices;
 pub use violation::{Violation, first_violation};

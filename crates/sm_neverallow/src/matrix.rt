@@ -48,7 +48,7 @@ fn source_meets(row: &BitRow, rule: &Kept, s: usize) -> bool
     if !rule.sources.has(s) {
         return false;
     }
-    if row.meets(&rule.targets) {
+    if rule.targets.meets_row(row) {
         return true;
     }
     rule.to_self && row.has(s)
@@ -216,6 +216,14 @@ impl Matrix {
             × IsTrue (has (row self.now s) t && joins s t rule.now) }
     {
         rows_meet(&self.rows, rule, count)
+    }
+
+    /// The targets of a source.
+    pub fn targets(&self, source: usize) -> &BitRow
+        requires { source < length self.now }
+        ensures { result.now ≡ row self.now source }
+    {
+        &self.rows[source]
     }
 
     /// The unions of the rows of eight sources, from source 8 times `group` on.

@@ -8,7 +8,7 @@ ghost use Rattle.std.specs.Prelude.{◌≡◌, ◌<◌, ℕ, ◌&&◌, ◌||◌,
 ghost use Rattle.sm_bits.specs.Bits.{has, row};
 ghost use Rattle.sm_neverallow.specs.Uniting.{AreWide, Doubled};
 
-use sm_bits::BitRow;
+use sm_bits::{BitRow, SharedSet};
 use std::alloc::{AllocError, Global};
 use std::marker::Model;
 
@@ -105,13 +105,13 @@ impl Unions {
     }
 
     /// Whether the union at a place has something in common with a row.
-    pub fn meets(&self, place: usize, other: &BitRow, words: usize) -> bool
+    pub fn meets(&self, place: usize, other: &SharedSet, words: usize) -> bool
         requires wide { AreWide words self.now }
         requires place { place < length self.now }
         requires other { length other.now ≡ words }
         ensures none { result ≡ false → (t : ℕ) → (has (row self.now place) t && has other.now t) ≡ false }
         ensures some { IsTrue result → (t : ℕ) × IsTrue (has (row self.now place) t && has other.now t) }
     {
-        self.rows[place].meets(other)
+        other.meets_row(&self.rows[place])
     }
 }

@@ -6,12 +6,13 @@ ghost use Rattle.sm_ruletext.specs.declared.statement.Statement.{Statement as Th
 ghost use Rattle.sm_types.specs.Names.{at};
 ghost use Rattle.sm_rules.specs.Access.{written, forbidden, IsConsistent};
 ghost use Rattle.sm_rules.specs.Keeping.{FitsRule, RulesOf};
-ghost use Rattle.sm_neverallow.specs.Matrices.{perm_set, AllSquare, IsClear, IsBroken};
+ghost use Rattle.sm_neverallow.specs.Matrices.{perm_set, AllSquare, AllCompiled, IsClear, IsBroken};
 ghost use Rattle.sm_neverallow.specs.Violating.{both_join, AreApart, IsBetween, IsFirstOf, IsFirstAmong, AllApart, IsFirstViolation};
 ghost use Rattle.sm_rules.specs.declared.kept.Kept.{Kept as TheKept};
 
 use crate::hits::first_hit;
-use crate::matrix::{Matrix, matrices_of};
+use crate::matrices::Matrices;
+use crate::matrix::Matrix;
 use crate::perm_sets::{SET_COUNT, any_of_set};
 use sm_bits::has_bit;
 use sm_kinds::{Class, Perms};
@@ -222,18 +223,19 @@ fn first_broken(
 /// that breaks it.
 fn first_among(
     alloc: Global,
+    matrices: &[Matrix],
     allows: &[Kept],
     neverallows: &[Kept],
     count: TypeCount,
 ) -> Result<Option<Violation>, AllocError>
+    requires compiled { AllCompiled allows.now count 7 matrices.now }
     requires allows { All (FitsRule count) allows.now }
     requires neverallows { All (FitsRule count) neverallows.now }
     ensures none { IfOk result (λ o. IfNone o (AllApart allows.now neverallows.now count)) }
     ensures some { IfOk result (λ o. IfSome o
         (λ v. IsFirstAmong allows.now neverallows.now count v)) }
 {
-    let matrices = matrices_of(alloc, allows, count)?;
-    match first_broken(alloc, &matrices, neverallows, count)? {
+    match first_broken(alloc, matrices, neverallows, count)? {
         Some(n) => Ok(first_of(allows, &neverallows[n], count)),
         None => Ok(None),
     }
@@ -242,12 +244,18 @@ fn first_among(
 /// The first violation of the neverallow rules: of the first neverallow rule in the order of
 /// the text that is broken, by the first allow rule that breaks it; then of the least source
 /// and the least target by the order of declaration, and the lowest permission by the order
-/// of bits. `None`: no allow rule allows what a neverallow rule forbids.
+/// of bits. `None`: no allow rule allows what a neverallow rule forbids. The matrices are those of
+/// the rules.
 ///
 /// # Errors
 ///
 /// An error where memory was refused.
-pub fn first_violation(alloc: Global, rules: &Rules) -> Result<Option<Violation>, AllocError>
+pub fn first_violation(
+    alloc: Global,
+    rules: &Rules,
+    matrices: &Matrices,
+) -> Result<Option<Violation>, AllocError>
+    requires { AllCompiled rules.now.allows rules.now.count 7 matrices.now }
     ensures none { IfOk result
         (λ o. IfNone o ((policy : List TheStatement) (names : List (List ℕ))
         → RulesOf policy names rules.now
@@ -264,7 +272,8 @@ pub fn first_violation(alloc: Global, rules: &Rules) -> Result<Option<Violation>
 {
     let allows = rules.allows();
     let neverallows = rules.neverallows();
-    match first_among(alloc, allows, neverallows, rules.type_count())? {
+    let count = rules.type_count();
+    match first_among(alloc, matrices.list(), allows, neverallows, count)? {
         Some(violation) => Ok(Some(violation)),
         None => Ok(None),
     }

@@ -14,19 +14,20 @@ ghost use Rattle.sm_rules.specs.declared.fault.RulesFault.TheVariants.{Unknown};
 
 use crate::RulesFault;
 use crate::perm_bits::perms_of;
-use sm_bits::{BitRow, has_bit};
+use crate::row_pool::RowPool;
+use sm_bits::{SharedSet, has_bit};
 use sm_kinds::{Class, Names, Perms};
 use sm_ruletext::{Rule, Set};
 use sm_types::{Types, TypesFault};
 use std::alloc::Global;
 
-/// A kept rule: its types as bits by their numbers, its permissions as bits.
+/// A kept rule: its types by their numbers, its permissions as bits.
 #[derive(Drop)]
 pub struct Kept {
     /// The line of its statement.
     pub line: u32,
-    pub sources: BitRow,
-    pub targets: BitRow,
+    pub sources: SharedSet,
+    pub targets: SharedSet,
     /// `self` stands in its target: each source is a target of its own.
     pub to_self: bool,
     /// The permissions that it gives, each of a class that it selects.
@@ -92,7 +93,13 @@ fn perms_known(rule: &Rule) -> bool
 }
 
 /// The types of a set of the rule at a line.
-fn expand(alloc: Global, types: &Types, line: u32, set: &Set) -> Result<BitRow, RulesFault>
+fn expand(
+    alloc: Global,
+    types: &Types,
+    pool: &mut RowPool,
+    line: u32,
+    set: &Set,
+) -> Result<SharedSet, RulesFault>
     ensures room { IfOk result (λ row. length row ≡ length types.now.symbols.types / 64 + 1) }
     ensures denoted { IfOk result (λ row. (policy : List TheStatement) → IsOf policy types.now
         → (i : ℕ) → i < length types.now.symbols.types
@@ -105,8 +112,9 @@ fn expand(alloc: Global, types: &Types, line: u32, set: &Set) -> Result<BitRow, 
         × ((policy : List TheStatement) → IsOf policy types.now
         → all_known policy set.now ≡ false))) }
 {
+    prove!(types.type_count().words() < 100);
     match types.expand(alloc, set) {
-        Ok(row) => Ok(row),
+        Ok(row) => Ok(pool.share(alloc, row)?),
         Err(TypesFault::Memory) => Err(RulesFault::Memory),
         Err(_) => Err(RulesFault::Unknown(line)),
     }
@@ -114,7 +122,13 @@ fn expand(alloc: Global, types: &Types, line: u32, set: &Set) -> Result<BitRow, 
 
 /// The rule at a line, with its sets expanded: first its source, then its target, then its permissions.
 #[tactic(auto, unfolding(crate::specs::Faults::rule_fault))]
-pub fn keep(alloc: Global, types: &Types, line: u32, rule: &Rule) -> Result<Kept, RulesFault>
+pub fn keep(
+    alloc: Global,
+    types: &Types,
+    pool: &mut RowPool,
+    line: u32,
+    rule: &Rule,
+) -> Result<Kept, RulesFault>
     ensures refused { IfErr result (λ e. UnlessMemory e ((policy : List TheStatement)
         → IsOf policy types.now → rule_fault policy line rule.now ≡ Some e)) }
     ensures accepted { IfOk result (λ k. (policy : List TheStatement) → IsOf policy types.now
@@ -123,8 +137,8 @@ pub fn keep(alloc: Global, types: &Types, line: u32, rule: &Rule) -> Result<Kept
         → StandsFor policy types.now.symbols.types (line, rule.now) k) }
     ensures fits { IfOk result (λ k. FitsRule (length types.now.symbols.types) k) }
 {
-    let sources = expand(alloc, types, line, &rule.source)?;
-    let targets = expand(alloc, types, line, &rule.target)?;
+    let sources = expand(alloc, types, pool, line, &rule.source)?;
+    let targets = expand(alloc, types, pool, line, &rule.target)?;
     if !perms_known(rule) {
         return Err(RulesFault::UnknownPermission(line));
     }

@@ -11,6 +11,7 @@ ghost use Rattle.sm_rules.specs.Keeping.{FitsRule, FitsRules, Extends, kept_only
 use crate::RulesFault;
 use crate::kept::{Kept, keep};
 use crate::perm_bits::number_of;
+use crate::row_pool::RowPool;
 use sm_kinds::{Class, Perms};
 use sm_ruletext::{Rule, Statement, What};
 use sm_types::{TypeCount, Types};
@@ -21,6 +22,7 @@ use std::marker::Model;
 fn with_rule(
     alloc: Global,
     types: &Types,
+    pool: &mut RowPool,
     mut list: Vec<Kept>,
     line: u32,
     rule: &Rule,
@@ -38,7 +40,7 @@ fn with_rule(
     if !rule.is_kept() {
         return Ok(list);
     }
-    let kept = keep(alloc, types, line, rule)?;
+    let kept = keep(alloc, types, pool, line, rule)?;
     list.push(kept)?;
     Ok(list)
 }
@@ -54,6 +56,7 @@ struct Draft {
 fn with_statement(
     alloc: Global,
     types: &Types,
+    pool: &mut RowPool,
     draft: Draft,
     statement: &Statement,
 ) -> Result<Draft, RulesFault>
@@ -80,14 +83,14 @@ fn with_statement(
     } = draft;
     match &statement.what {
         What::Allow(rule) => {
-            allows = with_rule(alloc, types, allows, statement.line, rule)?;
+            allows = with_rule(alloc, types, pool, allows, statement.line, rule)?;
             Ok(Draft {
                 allows,
                 neverallows,
             })
         }
         What::Neverallow(rule) => {
-            neverallows = with_rule(alloc, types, neverallows, statement.line, rule)?;
+            neverallows = with_rule(alloc, types, pool, neverallows, statement.line, rule)?;
             Ok(Draft {
                 allows,
                 neverallows,
@@ -117,8 +120,9 @@ fn all_rules(alloc: Global, statements: &[Statement], types: &Types) -> Result<D
         allows: Vec::new(alloc),
         neverallows: Vec::new(alloc),
     };
+    let mut pool = RowPool::new(alloc);
     for statement in statements {
-        draft = with_statement(alloc, types, draft, statement)?;
+        draft = with_statement(alloc, types, &mut pool, draft, statement)?;
     }
     Ok(draft)
 }

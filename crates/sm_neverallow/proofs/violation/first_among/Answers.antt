@@ -15,10 +15,10 @@ returns-in-Some-clause-none c =
     let inside = rw c.in-Some.is at c.in_ok-n.ensures.inside in
     let found = slice_get_read c.args.neverallows.now (length c.args.neverallows.now) c.in-Some.n never refl inside
     c.index-neverallows-n.is in
-    let broken : IsBroken c.in_ok-matrices.matrices.items c.args.count never =
-    (rw (c.in-Some.is, c.deref.ensures.value) at c.in_ok-n.ensures.broken) never found in
-    let meets = broken_meets c.args.allows.now c.in_ok-matrices.matrices.items c.args.count never
-    c.in_ok-matrices.ensures broken in
+    let broken : IsBroken c.args.matrices.now c.args.count never =
+    (rw c.in-Some.is at c.in_ok-n.ensures.broken) never found in
+    let meets = broken_meets c.args.allows.now c.args.matrices.now c.args.count never
+    c.requires.compiled broken in
     let fits = subst (λ (k : Kept). FitsRule c.args.count k) (sym c.index-neverallows-n.is)
     (All-get_or (FitsRule c.args.count) c.args.neverallows.now c.in-Some.n never inside c.requires.neverallows) in
     none_map c.first_of.result ((i : ℕ) (allow : Kept) → slice_get c.args.allows.now i ≡ Some allow
@@ -31,20 +31,20 @@ returns-in-Some-clause-some c =
     let inside = rw c.in-Some.is at c.in_ok-n.ensures.inside in
     let found = slice_get_read c.args.neverallows.now (length c.args.neverallows.now) c.in-Some.n never refl inside
     c.index-neverallows-n.is in
-    let earlier = rw (c.in-Some.is, c.deref.ensures.value) at c.in_ok-n.ensures.first in
+    let earlier = rw c.in-Some.is at c.in_ok-n.ensures.first in
     IfSome_then c.first_of.result c.first_of.ensures.some (λ v first. record {
       place = c.in-Some.n;
       never = never;
       found = found;
       first = first;
-      no_earlier = λ n other h at. clear_apart c.args.allows.now c.in_ok-matrices.matrices.items c.args.count other
-          c.in_ok-matrices.ensures (earlier n other h at);
+      no_earlier = λ n other h at. clear_apart c.args.allows.now c.args.matrices.now c.args.count other
+          c.requires.compiled (earlier n other h at);
     })
 
-pub returns-clause-none : goal.returns-clause-none
-returns-clause-none c =
-    let clear = rw (c.in-None.is, c.deref.ensures.value) at c.in_ok-n.ensures.none in
+pub returns-in-None-clause-none : goal.returns-in-None-clause-none
+returns-in-None-clause-none c =
+    let clear = rw c.in-None.is at c.in_ok-n.ensures.none in
     record {
-      apart = λ n never found. clear_apart c.args.allows.now c.in_ok-matrices.matrices.items c.args.count never
-          c.in_ok-matrices.ensures (clear n never found);
+      apart = λ n never found. clear_apart c.args.allows.now c.args.matrices.now c.args.count never
+          c.requires.compiled (clear n never found);
     }

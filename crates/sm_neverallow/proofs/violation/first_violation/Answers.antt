@@ -14,7 +14,12 @@ returns-in-Some-clause-some c policy names is =
           (c.neverallows-neverallows.ensures.forbidden policy names is);
     } in
     let first : IsFirstAmong rules.allows rules.neverallows rules.count c.in-Some.violation =
-    rw (c.in-Some.is, c.allows-allows.ensures.kept, c.neverallows-neverallows.ensures.kept, c.type_count.ensures) at
+    rw (
+      c.in-Some.is,
+      c.allows-allows.ensures.kept,
+      c.neverallows-neverallows.ensures.kept,
+      c.type_count-count.ensures,
+    ) at
     c.in_ok-violation.ensures.some in
     first_is_first policy names rules c.in-Some.violation is said first
 
@@ -29,7 +34,12 @@ returns-in-Some-clause-both c policy names is =
           (c.neverallows-neverallows.ensures.forbidden policy names is);
     } in
     let first : IsFirstAmong rules.allows rules.neverallows rules.count c.in-Some.violation =
-    rw (c.in-Some.is, c.allows-allows.ensures.kept, c.neverallows-neverallows.ensures.kept, c.type_count.ensures) at
+    rw (
+      c.in-Some.is,
+      c.allows-allows.ensures.kept,
+      c.neverallows-neverallows.ensures.kept,
+      c.type_count-count.ensures,
+    ) at
     c.in_ok-violation.ensures.some in
     violation_is_both policy names rules c.in-Some.violation is said first
 
@@ -44,6 +54,11 @@ returns-in-None-clause-none c policy names is =
           (c.neverallows-neverallows.ensures.forbidden policy names is);
     } in
     let apart : AllApart rules.allows rules.neverallows rules.count =
-    rw (c.in-None.is, c.allows-allows.ensures.kept, c.neverallows-neverallows.ensures.kept, c.type_count.ensures) at
+    rw (
+      c.in-None.is,
+      c.allows-allows.ensures.kept,
+      c.neverallows-neverallows.ensures.kept,
+      c.type_count-count.ensures,
+    ) at
     c.in_ok-violation.ensures.none in
     consistent policy names rules is said apart

@@ -1,0 +1,60 @@
+//! The pairs of types that the allow rules of a rule text join, for each permission.
+
+use crate::matrix::{Matrix, matrices_of};
+use sm_bits::BitRow;
+use sm_rules::Rules;
+use std::alloc::{AllocError, Global};
+use std::marker::Model;
+
+/// A matrix of bits for each permission, by its place in the order of bits.
+#[derive(Drop)]
+pub struct Matrices {
+    list: Vec<Matrix>,
+}
+
+impl Model for Matrices {
+    ghost use Rattle.std.specs.Prelude.{List, ℕ};
+
+    ghost Value = { List (List (List ℕ)) };
+
+    ghost view = { λ m. m.list.items };
+}
+
+impl Matrices {
+    ghost use Rattle.std.specs.Prelude.{◌≡◌, ◌<◌, ℕ, List, length, IfOk};
+    ghost use Rattle.sm_bits.specs.Bits.{row};
+    ghost use Rattle.sm_ruletext.specs.declared.statement.Statement.{Statement as TheStatement};
+    ghost use Rattle.sm_rules.specs.Keeping.{RulesOf};
+    ghost use Rattle.sm_neverallow.specs.Matrices.{matrix, AllCompiled, SayWhatIsWritten};
+
+    /// The matrices of the allow rules.
+    ///
+    /// # Errors
+    ///
+    /// An error where memory was refused.
+    pub fn compile(alloc: Global, rules: &Rules) -> Result<Matrices, AllocError>
+        ensures compiled { IfOk result (λ m. AllCompiled rules.now.allows rules.now.count 7 m) }
+        ensures written { IfOk result (λ m. (policy : List TheStatement) (names : List (List ℕ))
+            → RulesOf policy names rules.now → SayWhatIsWritten policy names m) }
+    {
+        let allows = rules.allows();
+        let list = matrices_of(alloc, allows, rules.type_count())?;
+        Ok(Matrices { list })
+    }
+
+    /// The targets of a source for permission `bit`.
+    pub fn targets(&self, bit: u32, source: usize) -> &BitRow
+        requires bit { bit < length self.now }
+        requires source { source < length (matrix self.now bit) }
+        ensures { result.now ≡ row (matrix self.now bit) source }
+    {
+        self.list[bit as usize].targets(source)
+    }
+
+    /// The matrices by their places.
+    pub(crate) fn list(&self) -> &[Matrix]
+        ensures { result.now ≡ self.now }
+    {
+        &self.list
+    }
+}
