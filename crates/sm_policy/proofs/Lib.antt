@@ -1,4 +1,6 @@
 pub mod Few
 pub mod Finding
 pub mod Firsts
+pub mod Looking
+pub mod Others
 pub mod UndeclaredLines

@@ -146,7 +146,8 @@ lines_said sts n entries all (line ∷ more) done =
           → first_undeclared sts all ≡ option_or (first_undeclared sts e) (undeclared_from sts (n + 1) more))
           → first_undeclared sts all ≡ option_or (first_undeclared sts entries) (undeclared_from sts n (line ∷ more))
       by (Ok e) step h rest =
-          rest e h ∙ (ap (λ o. option_or o (undeclared_from sts (n + 1) more)) (with_line_said sts n entries e line step)
+          rest e h ∙ (ap (λ o. option_or o (undeclared_from sts (n + 1) more))
+          (with_line_said sts n entries e line step)
           ∙ in_turn (first_undeclared sts entries) (undeclared_from sts (n + 1) more) (is_undeclared_line sts line) n)
       by (Err f) step h rest = absurd cc
 

@@ -8,8 +8,6 @@ mod prepared;
 mod preparing;
 mod refused;
 mod snapshot;
-#[cfg(test)]
-mod tests;
 mod violation;
 
 pub use counts::Counts;

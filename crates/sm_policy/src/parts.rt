@@ -5,18 +5,24 @@ use crate::counts::{Counts, counted};
 use crate::preparing::{labels_of, refuse_violation, rules_of};
 use sm_contexts::Contexts;
 use sm_kinds::{Class, Context, Perms};
+use sm_neverallow::Matrices;
 use sm_rules::Rules;
 use sm_ruletext::Statement;
 use sm_types::Types;
+use sm_vectors::Vectors;
 use std::alloc::Global;
 use std::marker::Model;
+use std::snapshot;
 
-/// A policy's statements, with its types and rules as tables, and its labels.
+/// A policy's types and rules as tables, and its labels.
 #[derive(Drop)]
 pub struct Parts {
-    statements: Vec<Statement>,
+    /// What the rule text states, for contracts alone: it takes no memory.
+    statements: snapshot::Snapshot<Vec<Statement>>,
+    counts: Counts,
     types: Types,
     rules: Rules,
+    vectors: Vectors,
     contexts: Contexts,
 }
 
@@ -26,14 +32,24 @@ impl Model for Parts {
 
     ghost Value = { Policy };
 
-    ghost view = { λ p. record { statements = p.statements.items; entries = p.contexts } };
+    ghost view = { λ p. record { statements = p.statements.value.items; entries = p.contexts } };
 
-    ghost invariant = { λ p. AreOneText p.statements.items p.types p.rules };
+    ghost invariant = { λ p. AreOneText p.statements.value.items p.contexts p.types p.rules p.vectors p.counts };
 }
 
+/// The statements as contracts see them. They themselves are let go.
+fn seen(statements: Vec<Statement>) -> snapshot::Snapshot<Vec<Statement>>
+    ensures { result.value ≡ statements }
+{
+    snapshot::Snapshot::of(&statements)
+}
+
+ghost use Rattle.std.specs.Prelude.{◌≡◌};
+
 impl Parts {
-    ghost use Rattle.std.specs.Prelude.{◌≡◌, IfOk};
-    ghost use Rattle.sm_policy.specs.Policy.{IsConsistent, label_of, written_at};
+    ghost use Rattle.std.specs.Prelude.{◌≡◌, IfOk, IfErr};
+    ghost use Rattle.sm_policy.specs.Policy.{IsConsistent, label_of, written_at, allowed, allowed_at, type_index};
+    ghost use Rattle.sm_policy.specs.Breaking.{IfNeverallow, IsBrokenText};
     ghost use Rattle.sm_policy.specs.Counting.{counts_of};
     ghost use Rattle.sm_kinds.specs.Reading.{Gives};
     ghost use Rattle.sm_policy.specs.Preparing.{is_memory, prepared};
@@ -43,18 +59,52 @@ impl Parts {
     pub fn from_texts(alloc: Global, rules: &[u8], contexts: &[u8]) -> Result<Parts, PolicyFault>
         ensures exact { Gives is_memory (λ p. p) result (prepared rules.now contexts.now) }
         ensures consistent { IfOk result IsConsistent }
+        ensures broken { IfErr result (λ e. IfNeverallow e (IsBrokenText rules.now)) }
     {
         let statements = rules_of(alloc, rules)?;
         let types = Types::build(alloc, &statements)?;
         let rules = Rules::build(alloc, &statements, &types)?;
         let contexts = labels_of(alloc, &types, contexts)?;
-        refuse_violation(alloc, &types, &rules)?;
+        let counts = counted(&statements, &types, &contexts);
+        let statements = seen(statements);
+        let matrices = Matrices::compile(alloc, &rules)?;
+        refuse_violation(alloc, &types, &rules, &matrices)?;
+        let vectors = Vectors::compile(alloc, &rules, &matrices)?;
         Ok(Parts {
             statements,
+            counts,
             types,
             rules,
+            vectors,
             contexts,
         })
+    }
+
+    /// The number of a type.
+    pub fn type_index(&self, name: &[u8]) -> Option<u16>
+        ensures { result ≡ type_index self.now name.now }
+    {
+        self.types.index(name)
+    }
+
+    /// Whether some allow rule gives the permission on the types of these numbers.
+    pub fn allows_at(&self, source: u16, target: u16, class: Class, perm: Perms) -> bool
+        ensures { result ≡ allowed_at self.now source target class perm }
+    {
+        self.vectors.allows(source, target, class, perm)
+    }
+
+    /// Whether some allow rule gives the permission.
+    pub fn allows(&self, source: &[u8], target: &[u8], class: Class, perm: Perms) -> bool
+        ensures { result ≡ allowed self.now source.now target.now class perm }
+    {
+        let Some(s) = self.types.index(source) else {
+            return false;
+        };
+        let Some(t) = self.types.index(target) else {
+            return false;
+        };
+        self.vectors.allows(s, t, class, perm)
     }
 
     /// The line of the first allow rule that gives the permission, if there is one.
@@ -78,6 +128,6 @@ impl Parts {
     pub fn counts(&self) -> Counts
         ensures { result ≡ counts_of self.now }
     {
-        counted(&self.statements, &self.types, &self.contexts)
+        self.counts
     }
 }

@@ -36,8 +36,9 @@ impl Drop for Prepared {
 }
 
 impl Prepared {
-    ghost use Rattle.std.specs.Prelude.{◌≡◌, IfOk};
-    ghost use Rattle.sm_policy.specs.Policy.{allowed, label_of, written_at, IsConsistent};
+    ghost use Rattle.std.specs.Prelude.{◌≡◌, IfOk, IfErr};
+    ghost use Rattle.sm_policy.specs.Policy.{allowed, allowed_at, type_index, label_of, written_at, IsConsistent};
+    ghost use Rattle.sm_policy.specs.Breaking.{IfNeverallow, IsBrokenText};
     ghost use Rattle.sm_policy.specs.Counting.{counts_of};
     ghost use Rattle.sm_kinds.specs.Reading.{Gives};
     ghost use Rattle.sm_policy.specs.Preparing.{is_memory, prepared};
@@ -49,10 +50,12 @@ impl Prepared {
     /// The first refusal in this order: the grammar of the rule text (`Rules`); its declarations and memberships
     /// (`Types`); the names and permissions of its rules (`Access`); the contexts text (`Contexts`); the first entry
     /// line whose context has a type that the rule text doesn't declare (`UndeclaredLabel`); the first neverallow
-    /// rule that an allow rule breaks (`Neverallow`). `Memory` where memory was refused, in place of what would follow.
+    /// rule that an allow rule breaks (`Neverallow`): the rule text isn't consistent then. `Memory` where memory was
+    /// refused, in place of what would follow.
     pub fn from_texts(alloc: Global, rules: &[u8], contexts: &[u8]) -> Result<Prepared, PolicyFault>
         ensures exact { Gives is_memory (λ p. p) result (prepared rules.now contexts.now) }
         ensures consistent { IfOk result IsConsistent }
+        ensures broken { IfErr result (λ e. IfNeverallow e (IsBrokenText rules.now)) }
     {
         let parts = Parts::from_texts(alloc, rules, contexts)?;
         let parts = Arc::new(alloc, parts)?;
@@ -65,7 +68,23 @@ impl Prepared {
     pub fn allows(&self, source: &[u8], target: &[u8], class: Class, perm: Perms) -> bool
         ensures { result ≡ allowed self.now source.now target.now class perm }
     {
-        self.why(source, target, class, perm).is_some()
+        self.parts.allows(source, target, class, perm)
+    }
+
+    /// The number of a type, by which `allows_at` asks: 0 for the first that is declared. `None`: the rule text
+    /// declares no type of that name. Another policy may give the type another number.
+    pub fn type_index(&self, name: &[u8]) -> Option<u16>
+        ensures { result ≡ type_index self.now name.now }
+    {
+        self.parts.type_index(name)
+    }
+
+    /// The same as `allows` for the types of these numbers, in one look. `false` where there is no type of such a
+    /// number.
+    pub fn allows_at(&self, source: u16, target: u16, class: Class, perm: Perms) -> bool
+        ensures { result ≡ allowed_at self.now source target class perm }
+    {
+        self.parts.allows_at(source, target, class, perm)
     }
 
     /// The line of the first allow rule that gives it.

@@ -1,6 +1,6 @@
 //! Reads the two texts of a policy.
 
-ghost use Rattle.std.specs.Prelude.{◌≡◌, ◌≤◌, List, IfOk, OnOk, length, slice_get};
+ghost use Rattle.std.specs.Prelude.{◌≡◌, ◌≤◌, List, IfOk, IfErr, OnOk, length, slice_get};
 ghost use Rattle.sm_kinds.specs.Reading.{Gives};
 ghost use Rattle.sm_kinds.specs.declared.limits.TheConstants.{MOST_TEXT_BYTES};
 ghost use Rattle.sm_ruletext.specs.declared.statement.Statement.{Statement as TheStatement};
@@ -12,11 +12,13 @@ ghost use Rattle.sm_policy.specs.Preparing as spec;
 ghost use Rattle.sm_policy.specs.Preparing.{is_memory};
 ghost use Rattle.sm_policy.specs.Undeclared.{first_undeclared, undeclared_line};
 ghost use Rattle.sm_policy.specs.Violating.{named_violation};
+ghost use Rattle.sm_policy.specs.Breaking.{IfNeverallow, IsBroken};
+ghost use Rattle.sm_neverallow.specs.Matrices.{AllCompiled};
 
 use crate::{PolicyFault, Violation};
 use sm_contexts::Contexts;
 use sm_kinds::Name;
-use sm_neverallow::first_violation;
+use sm_neverallow::{Matrices, first_violation};
 use sm_rules::Rules;
 use sm_ruletext::Statement;
 use sm_types::Types;
@@ -27,6 +29,7 @@ use std::alloc::{AllocError, Global};
 pub fn rules_of(alloc: Global, text: &[u8]) -> Result<Vec<Statement>, PolicyFault>
     ensures exact { Gives is_memory (λ v. v.items) result (spec.rules_of text.now) }
     ensures few { IfOk result (λ v. length v.items ≤ MOST_TEXT_BYTES) }
+    ensures other { IfErr result (λ e. IfNeverallow e (λ _. ⊥)) }
 {
     let statements = sm_ruletext::read(alloc, text)?;
     Ok(statements)
@@ -60,8 +63,9 @@ fn first_undeclared(types: &Types, contexts: &Contexts) -> Option<u32>
 /// The labels of a contexts text.
 #[tactic(auto, unfolding(crate::specs::Preparing::labels_of))]
 pub fn labels_of(alloc: Global, types: &Types, text: &[u8]) -> Result<Contexts, PolicyFault>
-    ensures { (policy : List TheStatement) → IsOf policy types.now
+    ensures exact { (policy : List TheStatement) → IsOf policy types.now
         → Gives is_memory (λ c. c) result (spec.labels_of policy text.now) }
+    ensures other { IfErr result (λ e. IfNeverallow e (λ _. ⊥)) }
 {
     let contexts = Contexts::read(alloc, text)?;
     match first_undeclared(types, &contexts) {
@@ -101,13 +105,22 @@ fn named(
 }
 
 /// Refuses rules of which an allow rule allows what a neverallow rule forbids.
-pub fn refuse_violation(alloc: Global, types: &Types, rules: &Rules) -> Result<(), PolicyFault>
+pub fn refuse_violation(
+    alloc: Global,
+    types: &Types,
+    rules: &Rules,
+    matrices: &Matrices,
+) -> Result<(), PolicyFault>
+    requires { AllCompiled rules.now.allows rules.now.count 7 matrices.now }
     ensures exact { (policy : List TheStatement) → IsOf policy types.now → RulesOf policy types.now.symbols.types rules.now
         → Gives is_memory (λ _. policy) result (spec.unbroken policy) }
     ensures consistent { OnOk result ((policy : List TheStatement) → IsOf policy types.now
         → RulesOf policy types.now.symbols.types rules.now → IsConsistent policy) }
+    ensures broken { IfErr result (λ e. IfNeverallow e (λ v. (policy : List TheStatement)
+        → IsOf policy types.now → RulesOf policy types.now.symbols.types rules.now
+        → IsBroken policy v)) }
 {
-    match first_violation(alloc, rules)? {
+    match first_violation(alloc, rules, matrices)? {
         Some(violation) => Err(PolicyFault::Neverallow(named(alloc, types, &violation)?)),
         None => Ok(()),
     }

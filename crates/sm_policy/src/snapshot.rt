@@ -22,7 +22,7 @@ impl Model for Snapshot {
 impl Snapshot {
     ghost use Rattle.std.specs.Prelude.{◌≡◌};
     ghost use Rattle.sm_kinds.specs.Contexts.{type_of};
-    ghost use Rattle.sm_policy.specs.Policy.{allowed, label_of, written_at};
+    ghost use Rattle.sm_policy.specs.Policy.{allowed, allowed_at, type_index, label_of, written_at};
 
     /// A policy with its version.
     pub fn new(prepared: Prepared, version: u64) -> Snapshot
@@ -57,6 +57,21 @@ impl Snapshot {
         ensures { result ≡ allowed self.now.policy source.now target.now class perm }
     {
         self.prepared.allows(source, target, class, perm)
+    }
+
+    /// The number of a type in this policy, if it is declared.
+    pub fn type_index(&self, name: &[u8]) -> Option<u16>
+        ensures { result ≡ type_index self.now.policy name.now }
+    {
+        self.prepared.type_index(name)
+    }
+
+    /// Whether some allow rule gives the permission on the types of these numbers in this policy. `false` where
+    /// there is no type of such a number.
+    pub fn allows_at(&self, source: u16, target: u16, class: Class, perm: Perms) -> bool
+        ensures { result ≡ allowed_at self.now.policy source target class perm }
+    {
+        self.prepared.allows_at(source, target, class, perm)
     }
 
     /// The line of the first allow rule that gives it.

@@ -1,0 +1,30 @@
+-- A policy that is refused for a neverallow rule.
+use Rattle.std.specs.Prelude.{◌≡◌, ℕ, true, List, Ok}
+use Rattle.sm_ruletext.specs.declared.statement.Statement.{Statement}
+use Rattle.sm_rules.specs.Access.{written, forbidden, IsConsistent}
+use Rattle.sm_policy.specs.Preparing.{rules_of}
+use Rattle.sm_policy.specs.declared.violation.Violation.{Violation}
+use Rattle.sm_policy.specs.declared.fault.PolicyFault.{PolicyFault}
+use Rattle.sm_policy.specs.declared.fault.PolicyFault.TheVariants.{Rules, Types, Access, Contexts, UndeclaredLabel, Neverallow, Memory}
+
+-- A claim on a violation, where that is the fault.
+abbrev pub IfNeverallow : PolicyFault → (Violation → Type 0) → Type 0
+IfNeverallow (Neverallow v) P = P v
+IfNeverallow (Rules e) P = Unit {0}
+IfNeverallow (Types e) P = Unit {0}
+IfNeverallow (Access e) P = Unit {0}
+IfNeverallow (Contexts e) P = Unit {0}
+IfNeverallow (UndeclaredLabel n) P = Unit {0}
+IfNeverallow Memory P = Unit {0}
+
+-- What the violation names is both allowed and forbidden: so the statements aren't consistent.
+pub record IsBroken (statements : List Statement) (v : Violation) : Type 0 where
+  pub allowed : written statements v.source v.target v.class v.perm ≡ true
+  pub refused : forbidden statements v.source v.target v.class v.perm ≡ true
+  pub inconsistent : IsConsistent statements → ⊥
+
+-- The rule text says something that is so broken.
+pub record IsBrokenText (text : List ℕ) (v : Violation) : Type 0 where
+  pub statements : List Statement
+  pub read : rules_of text ≡ Ok statements
+  pub broken : IsBroken statements v
