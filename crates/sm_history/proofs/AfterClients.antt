@@ -22,12 +22,16 @@ not_death x k h = refl
 
 pub not_dead : (d : Effects) (k : ℕ) → list_any (names k) d ≡ false → list_any (is_death_of k) d ≡ false
 not_dead [] k h = refl
-not_dead (x ∷ d) k h = or_from (is_death_of k x) (list_any (is_death_of k) d) (not_death x k (or_parts (names k x) (list_any (names k) d) h).0) (not_dead d k (or_parts (names k x) (list_any (names k) d) h).1)
+not_dead (x ∷ d) k h = or_from (is_death_of k x) (list_any (is_death_of k) d)
+    (not_death x k (or_parts (names k x) (list_any (names k) d) h).0)
+    (not_dead d k (or_parts (names k x) (list_any (names k) d) h).1)
 
 not_among : (d : Effects) (n : ℕ) → list_any (is_connect_of n) d ≡ false
     → list_any (λ x. x == n) (filter_map connected d) ≡ false
 not_among [] n h = refl
-not_among (Connects c who ∷ d) n h = or_from (c == n) (list_any (λ x. x == n) (filter_map connected d)) (or_parts (c == n) (list_any (is_connect_of n) d) h).0 (not_among d n (or_parts (c == n) (list_any (is_connect_of n) d) h).1)
+not_among (Connects c who ∷ d) n h = or_from (c == n) (list_any (λ x. x == n) (filter_map connected d))
+    (or_parts (c == n) (list_any (is_connect_of n) d) h).0
+    (not_among d n (or_parts (c == n) (list_any (is_connect_of n) d) h).1)
 not_among (x ∷ d) n h = not_among d n (or_parts (is_connect_of n x) (list_any (is_connect_of n) d) h).1
 
 pub other_way : (n x : ℕ) → (x == n) ≡ false → (n == x) ≡ false
@@ -68,7 +72,8 @@ list_connects d n who new =
     let old = reverse (filter_map connected d) in
     ap (filter (is_live d')) (reverse-append (n ∷ []) (filter_map connected d))
     ∙ filter-append (is_live d') old (n ∷ [])
-    ∙ ap (λ xs. xs ++ filter (is_live d') (n ∷ [])) (filter_but (is_live d') (is_live d) n old (none_new d n new) (λ x h. live_other d n who x (other_way n x h)))
+    ∙ ap (λ xs. xs ++ filter (is_live d') (n ∷ []))
+    (filter_but (is_live d') (is_live d) n old (none_new d n new) (λ x h. live_other d n who x (other_way n x h)))
     ∙ rw (live_new d n who new) refl
 
 -- ---- a death
@@ -88,10 +93,13 @@ pub filter_both : {X : Type 0} (p q r : X → Bool) (xs : List X) → ((x : X) �
 filter_both p q r [] is = refl
 filter_both {X} p q r (x ∷ xs) is =
     let i = filter_both p q r xs is in
-    rw (is x) (elim (p x) as (λ a. (if a && q x then x ∷ filter r xs else filter r xs) ≡ filter q (if a then x ∷ filter p xs else filter p xs)) [
-      | true ↦ elim (q x) as (λ b. (if b then x ∷ filter r xs else filter r xs) ≡ (if b then x ∷ filter q (filter p xs) else filter q (filter p xs))) [ true ↦ ap (λ t. x ∷ t) i | false ↦ i ]
+    rw (is x) (elim (p x) as (λ a. (if a && q x then x ∷ filter r xs else filter r xs)
+    ≡ filter q (if a then x ∷ filter p xs else filter p xs)) [
+      | true ↦ elim (q x) as (λ b. (if b then x ∷ filter r xs else filter r xs)
+          ≡ (if b then x ∷ filter q (filter p xs) else filter q (filter p xs))) [ true ↦ ap (λ t. x ∷ t) i | false ↦ i ]
       | false ↦ i
     ])
 
 pub list_dies : (d : Effects) (c : ℕ) → live_clients (Dies c ∷ d) ≡ filter (λ k. not (c == k)) (live_clients d)
-list_dies d c = filter_both (is_live d) (λ k. not (c == k)) (is_live (Dies c ∷ d)) (reverse (filter_map connected d)) (λ k. live_dies d c k)
+list_dies d c = filter_both (is_live d) (λ k. not (c == k)) (is_live (Dies c ∷ d)) (reverse (filter_map connected d))
+    (λ k. live_dies d c k)

@@ -18,7 +18,8 @@ said_lives : (d : Effects) (n : ℕ) (who : Identity) (name : List ℕ) (o : Opt
 said_lives d n who name None is owned e = refl
 said_lives d n who name (Some s) is owned e =
     let lt : s.node.owner.0 < n = rw is (owned name s e) in
-    ap (λ (b : Bool). let r : Option Service = if b then Some s else None in r) (live_other d n who s.node.owner.0 (apart s.node.owner.0 n lt))
+    ap (λ (b : Bool). let r : Option Service = if b then Some s else None in r)
+    (live_other d n who s.node.owner.0 (apart s.node.owner.0 n lt))
 
 pub service_connects : (d : Effects) (n : ℕ) (who : Identity) (name : List ℕ) → n ≡ next_client d → IsOwned d
     → service_at (Connects n who ∷ d) name ≡ service_at d name
@@ -34,8 +35,10 @@ said_dies : (d : Effects) (c : ℕ) (o : Option Service)
 said_dies d c None = refl
 said_dies d c (Some s) =
     rw (live_dies d c s.node.owner.0)
-    (elim (is_live d s.node.owner.0) as (λ l. (let r : Option Service = if l && not (c == s.node.owner.0) then Some s else None in r) ≡ unless_owned c (if l then Some s else None)) [
-      | true ↦ elim (c == s.node.owner.0) as (λ t. (let r : Option Service = if not t then Some s else None in r) ≡ (if t then None else Some s)) [ true ↦ refl | false ↦ refl ]
+    (elim (is_live d s.node.owner.0) as (λ l. (let r : Option Service =
+    if l && not (c == s.node.owner.0) then Some s else None in r) ≡ unless_owned c (if l then Some s else None)) [
+      | true ↦ elim (c == s.node.owner.0) as (λ t. (let r : Option Service = if not t then Some s else None in r)
+          ≡ (if t then None else Some s)) [ true ↦ refl | false ↦ refl ]
       | false ↦ refl
     ])
 
@@ -44,9 +47,14 @@ pub service_dies : (d : Effects) (c : ℕ) (name : List ℕ)
 service_dies d c name = said_dies d c (last_said d name)
 
 pub service_adds : (d : Effects) (added : List ℕ) (s : Service) (name : List ℕ)
-    → service_at (Adds added s ∷ d) name ≡ (if bytes_eq added name then if_owner_lives d (Some s) else service_at d name)
-service_adds d added s name = elim (bytes_eq added name) as (λ b. if_owner_lives d (said_or (if b then Here s else Silent) (last_said d name)) ≡ (if b then if_owner_lives d (Some s) else service_at d name)) [ true ↦ refl | false ↦ refl ]
+    → service_at (Adds added s ∷ d) name
+    ≡ (if bytes_eq added name then if_owner_lives d (Some s) else service_at d name)
+service_adds d added s name =
+    elim (bytes_eq added name) as (λ b. if_owner_lives d (said_or (if b then Here s else Silent) (last_said d name))
+    ≡ (if b then if_owner_lives d (Some s) else service_at d name)) [ true ↦ refl | false ↦ refl ]
 
 pub service_removes : (d : Effects) (removed name : List ℕ)
     → service_at (Removes removed ∷ d) name ≡ (if bytes_eq removed name then None else service_at d name)
-service_removes d removed name = elim (bytes_eq removed name) as (λ b. if_owner_lives d (said_or (if b then Gone else Silent) (last_said d name)) ≡ (if b then None else service_at d name)) [ true ↦ refl | false ↦ refl ]
+service_removes d removed name =
+    elim (bytes_eq removed name) as (λ b. if_owner_lives d (said_or (if b then Gone else Silent) (last_said d name))
+    ≡ (if b then None else service_at d name)) [ true ↦ refl | false ↦ refl ]

@@ -38,38 +38,48 @@ append_alike {xs} {ys} {us} {vs} p q = both (λ (a b : List Check). a ++ b) p q
 
 pub not_barred_alike : (d e : Effects) (c : ℕ) (name : List ℕ) → Sim d e → is_live d c ≡ true
     → not_barred d c name ≡ not_barred e c name
-not_barred_alike d e c name s live = ap (λ (who : Identity). Spares (not (is_barred who.uid)) (App who.uid) who name) (s.agree.who c live)
+not_barred_alike d e c name s live = ap (λ (who : Identity). Spares (not (is_barred who.uid)) (App who.uid) who name)
+    (s.agree.who c live)
 
 pub not_isolated_alike : (d e : Effects) (c : ℕ) (name : List ℕ) {a b : Bool} → Sim d e → is_live d c ≡ true → a ≡ b
     → not_isolated d c name a ≡ not_isolated e c name b
-not_isolated_alike d e c name s live m = both (λ (who : Identity) (t : Bool). Spares (not (is_isolated_user who.uid && t)) (Isolated who.uid) who name) (s.agree.who c live) m
+not_isolated_alike d e c name s live m =
+    both (λ (who : Identity) (t : Bool). Spares (not (is_isolated_user who.uid && t)) (Isolated who.uid) who name)
+    (s.agree.who c live) m
 
 passes_manager_alike : (d e : Effects) (c : ℕ) (r : ObjRef) → Sim d e → is_live d c ≡ true
     → passes_to_manager d c r ≡ passes_to_manager e c r
 passes_manager_alike d e c NullRef s live = refl
-passes_manager_alike d e c (OwnRef o) s live = cons_alike refl (cons_alike (to_manager_alike d e c transferring s live) refl)
+passes_manager_alike d e c (OwnRef o) s live = cons_alike refl
+    (cons_alike (to_manager_alike d e c transferring s live) refl)
 passes_manager_alike d e c (HandleRef r) s live =
-    cons_alike (wants_alike (Refused (Failed BadHandle)) (ap (λ (o : Option Node). is_some o) (sim_nodes d e c r s))) (cons_alike (to_manager_alike d e c transferring s live) refl)
+    cons_alike (wants_alike (Refused (Failed BadHandle)) (ap (λ (o : Option Node). is_some o) (sim_nodes d e c r s)))
+    (cons_alike (to_manager_alike d e c transferring s live) refl)
 
 passes_client_alike : (d e : Effects) (c k : ℕ) (r : ObjRef) → Sim d e → is_live d c ≡ true → is_live d k ≡ true
     → passes_to_client d c k r ≡ passes_to_client e c k r
 passes_client_alike d e c k NullRef s live there = refl
-passes_client_alike d e c k (OwnRef o) s live there = cons_alike refl (cons_alike (to_client_alike d e c k transferring s live there) refl)
+passes_client_alike d e c k (OwnRef o) s live there =
+    cons_alike refl (cons_alike (to_client_alike d e c k transferring s live there) refl)
 passes_client_alike d e c k (HandleRef r) s live there =
-    cons_alike (wants_alike (Refused (Failed BadHandle)) (ap (λ (o : Option Node). is_some o) (sim_nodes d e c r s))) (cons_alike (to_client_alike d e c k transferring s live there) refl)
+    cons_alike (wants_alike (Refused (Failed BadHandle)) (ap (λ (o : Option Node). is_some o) (sim_nodes d e c r s)))
+    (cons_alike (to_client_alike d e c k transferring s live there) refl)
 
 all_pass_alike : (d e : Effects) (c k : ℕ) (rs : List ObjRef) → Sim d e → is_live d c ≡ true → is_live d k ≡ true
     → all_pass_to_client d c k rs ≡ all_pass_to_client e c k rs
 all_pass_alike d e c k [] s live there = refl
-all_pass_alike d e c k (r ∷ rs) s live there = append_alike (passes_client_alike d e c k r s live there) (all_pass_alike d e c k rs s live there)
+all_pass_alike d e c k (r ∷ rs) s live there = append_alike (passes_client_alike d e c k r s live there)
+    (all_pass_alike d e c k rs s live there)
 
 owner_alike : (d e : Effects) (c : ℕ) (r : ObjRef) → Sim d e
     → owner_lives d (found (resolve_at d c r)) ≡ owner_lives e (found (resolve_at e c r))
-owner_alike d e c r s = ap (λ (o : Option Node). owner_lives d (found o)) (resolve_alike d e c r s) ∙ s.agree.lives (found (resolve_at e c r)).owner.0
+owner_alike d e c r s = ap (λ (o : Option Node). owner_lives d (found o)) (resolve_alike d e c r s) ∙
+    s.agree.lives (found (resolve_at e c r)).owner.0
 
 name_room_alike : (d e : Effects) (name : List ℕ) → Sim d e → has_name_room d name ≡ has_name_room e name
 name_room_alike d e name s =
-    both (λ (o : Option Service) (ns : List (List ℕ)). is_some o || nat_lt (length ns) MOST_NAMES) (s.agree.services name) (names_alike d e s.agree.services)
+    both (λ (o : Option Service) (ns : List (List ℕ)). is_some o || nat_lt (length ns) MOST_NAMES)
+    (s.agree.services name) (names_alike d e s.agree.services)
 
 any_alike : (p q : ℕ → Bool) (xs : List ℕ) → ((k : ℕ) → p k ≡ q k) → list_any p xs ≡ list_any q xs
 any_alike p q [] same = refl
@@ -77,7 +87,8 @@ any_alike p q (x ∷ xs) same = both (λ a b. a || b) (same x) (any_alike p q xs
 
 in_use_alike : (d e : Effects) (c : ℕ) (n : Node) → Sim d e → is_in_use d c n ≡ is_in_use e c n
 in_use_alike d e c n s =
-    any_alike (λ k. not (k == c) && is_held d k n) (λ k. not (k == c) && is_held e k n) (live_clients d) (λ k. ap (λ t. not (k == c) && t) (sim_held d e k n s))
+    any_alike (λ k. not (k == c) && is_held d k n) (λ k. not (k == c) && is_held e k n) (live_clients d)
+    (λ k. ap (λ t. not (k == c) && t) (sim_held d e k n s))
     ∙ ap (list_any (λ k. not (k == c) && is_held e k n)) s.agree.live_list
 
 -- ---- the checks of each event
@@ -94,12 +105,15 @@ naming_alike d e c name obj s live =
 
 add_alike : (d e : Effects) (c : ℕ) (name : List ℕ) (obj : ObjRef) → Sim d e → is_live d c ≡ true
     → add_checks d c name obj ≡ add_checks e c name obj
-add_alike d e c name obj s live = cons_alike (to_manager_alike d e c calling s live) (append_alike (passes_manager_alike d e c obj s live) (naming_alike d e c name obj s live))
+add_alike d e c name obj s live = cons_alike (to_manager_alike d e c calling s live)
+    (append_alike (passes_manager_alike d e c obj s live) (naming_alike d e c name obj s live))
 
 handing_alike : (d e : Effects) (c : ℕ) (o : Option Service) → Sim d e → is_live d c ≡ true
     → handing_checks d c o ≡ handing_checks e c o
 handing_alike d e c None s live = refl
-handing_alike d e c (Some t) s live = cons_alike refl (cons_alike (wants_alike (Refused (Failed TargetFull)) (fits_alike (handed d c t.node) (handed e c t.node) c (sim_handed d e c t.node live s))) refl)
+handing_alike d e c (Some t) s live = cons_alike refl
+    (cons_alike (wants_alike (Refused (Failed TargetFull))
+    (fits_alike (handed d c t.node) (handed e c t.node) c (sim_handed d e c t.node live s))) refl)
 
 get_alike : (d e : Effects) (c : ℕ) (name : List ℕ) → Sim d e → is_live d c ≡ true
     → get_checks d c name ≡ get_checks e c name
@@ -120,7 +134,8 @@ watch_alike d e c name s live =
     (cons_alike (to_label_alike d e c name finding s live)
     (cons_alike (not_isolated_alike d e c name s live refl)
     (cons_alike refl
-    (cons_alike (wants_alike (Refused (Exception TableFull)) (ap (λ (ws : List Watch). nat_lt (length ws) MOST_WATCHES) s.agree.watches)) refl)))))
+    (cons_alike (wants_alike (Refused (Exception TableFull))
+    (ap (λ (ws : List Watch). nat_lt (length ws) MOST_WATCHES) s.agree.watches)) refl)))))
 
 unwatch_alike : (d e : Effects) (c : ℕ) (name : List ℕ) (object : ℕ) → Sim d e → is_live d c ≡ true
     → unwatch_checks d c name object ≡ unwatch_checks e c name object
@@ -128,7 +143,8 @@ unwatch_alike d e c name object s live =
     cons_alike (to_manager_alike d e c calling s live)
     (cons_alike (to_manager_alike d e c transferring s live)
     (cons_alike (to_label_alike d e c name finding s live)
-    (cons_alike (wants_alike (Refused (Exception NothingToUnregister)) (ap (list_any (same_watch (watch c name object))) s.agree.watches)) refl)))
+    (cons_alike (wants_alike (Refused (Exception NothingToUnregister))
+    (ap (list_any (same_watch (watch c name object))) s.agree.watches)) refl)))
 
 unregister_alike : (d e : Effects) (c : ℕ) (name : List ℕ) (obj : ObjRef) → Sim d e → is_live d c ≡ true
     → unregister_checks d c name obj ≡ unregister_checks e c name obj
@@ -141,8 +157,11 @@ unregister_alike d e c name obj s live =
     (cons_alike (to_label_alike d e c name adding s live)
     (cons_alike (wants_alike (Refused (Exception NotRegistered)) (ap (λ (v : Option Service). is_some v) o))
     (cons_alike (wants_alike (Refused (Exception NotAdder)) (ap (service_meets (λ t. t.adder == c)) o))
-    (cons_alike (wants_alike (Refused (Exception OtherObject)) (both (λ (n : Option Node) (v : Option Service). service_meets (λ t. same_node t.node (found n)) v) r o))
-    (cons_alike (wants_alike (Refused (Exception InUse)) (ap not (ap (λ (n : Option Node). is_in_use d c (found n)) r ∙ in_use_alike d e c (found (resolve_at e c obj)) s))) refl)))))))
+    (cons_alike (wants_alike (Refused (Exception OtherObject))
+    (both (λ (n : Option Node) (v : Option Service). service_meets (λ t. same_node t.node (found n)) v) r o))
+    (cons_alike (wants_alike (Refused (Exception InUse))
+    (ap not (ap (λ (n : Option Node). is_in_use d c (found n)) r ∙
+    in_use_alike d e c (found (resolve_at e c obj)) s))) refl)))))))
 
 -- ---- the first that fails
 
@@ -160,7 +179,8 @@ abbrev served_checks : Effects → ℕ → List ObjRef → Node → List Check
 served_checks d c refs n =
     to_client d c n.owner.0 calling
     ∷ all_pass_to_client d c n.owner.0 refs
-    ++ Wants (has_inbox_room d n.owner.0 && fits_handles (handed_refs d c n.owner.0 refs) n.owner.0) (Refused (Failed TargetFull))
+    ++ Wants (has_inbox_room d n.owner.0 && fits_handles (handed_refs d c n.owner.0 refs) n.owner.0)
+    (Refused (Failed TargetFull))
     ∷ []
 
 served_alike : (d e : Effects) (c : ℕ) (refs : List ObjRef) (n : Node) → Sim d e → is_live d c ≡ true
@@ -168,13 +188,17 @@ served_alike : (d e : Effects) (c : ℕ) (refs : List ObjRef) (n : Node) → Sim
 served_alike d e c refs n s live there =
     cons_alike (to_client_alike d e c n.owner.0 calling s live there)
     (append_alike (all_pass_alike d e c n.owner.0 refs s live there)
-    (cons_alike (wants_alike (Refused (Failed TargetFull)) (both (λ a b. a && b) (room_alike d e n.owner.0 s) (fits_alike (handed_refs d c n.owner.0 refs) (handed_refs e c n.owner.0 refs) n.owner.0 (sim_refs d e c n.owner.0 refs there s)))) refl))
+    (cons_alike (wants_alike (Refused (Failed TargetFull))
+    (both (λ a b. a && b) (room_alike d e n.owner.0 s)
+    (fits_alike (handed_refs d c n.owner.0 refs) (handed_refs e c n.owner.0 refs) n.owner.0
+    (sim_refs d e c n.owner.0 refs there s)))) refl))
 
 object_alike : (d e : Effects) (c : ℕ) (refs : List ObjRef) (n : Node) (p : Policy) (rest : List Check) → Sim d e
     → is_live d c ≡ true
     → first_failing p (object_checks d c refs n ++ rest) ≡ first_failing p (object_checks e c refs n ++ rest)
 object_alike d e c refs n p rest s live =
-    behind_alike p (Refused Dead) (owner_lives d n) (owner_lives e n) (served_checks d c refs n ++ rest) (served_checks e c refs n ++ rest) (s.agree.lives n.owner.0)
+    behind_alike p (Refused Dead) (owner_lives d n) (owner_lives e n) (served_checks d c refs n ++ rest)
+    (served_checks e c refs n ++ rest) (s.agree.lives n.owner.0)
     (λ there. ap (λ xs. first_failing p (xs ++ rest)) (served_alike d e c refs n s live there))
 
 call_alike : (d e : Effects) (c handle : ℕ) (refs : List ObjRef) (p : Policy) (rest : List Check) → Sim d e
@@ -182,8 +206,11 @@ call_alike : (d e : Effects) (c handle : ℕ) (refs : List ObjRef) (p : Policy) 
     → first_failing p (call_checks d c handle refs ++ rest) ≡ first_failing p (call_checks e c handle refs ++ rest)
 call_alike d e c handle refs p rest s live =
     let n = node_at e c handle in
-    ap (λ (o : Option Node). first_failing p (Wants (is_some o) (Refused (Failed BadHandle)) ∷ object_checks d c refs (found o) ++ rest)) (sim_nodes d e c handle s)
-    ∙ behind_alike p (Refused (Failed BadHandle)) (is_some n) (is_some n) (object_checks d c refs (found n) ++ rest) (object_checks e c refs (found n) ++ rest) refl (λ some. object_alike d e c refs (found n) p rest s live)
+    ap (λ (o : Option Node). first_failing p
+    (Wants (is_some o) (Refused (Failed BadHandle)) ∷ object_checks d c refs (found o) ++ rest))
+    (sim_nodes d e c handle s)
+    ∙ behind_alike p (Refused (Failed BadHandle)) (is_some n) (is_some n) (object_checks d c refs (found n) ++ rest)
+    (object_checks e c refs (found n) ++ rest) refl (λ some. object_alike d e c refs (found n) p rest s live)
 
 -- Who makes an event is live, where it is a client's.
 abbrev pub Acts : Effects → ℕ → Event → Type 0
@@ -196,14 +223,25 @@ pub checks_alike : (d e : Effects) (c : ℕ) (event : Event) (p : Policy) (rest 
     → first_failing p (event_checks d c event ++ rest) ≡ first_failing p (event_checks e c event ++ rest)
 checks_alike d e c (Open who policy) p rest s acts = refl
 checks_alike d e c (Connect who) p rest s acts =
-    ap (λ b. first_failing p (Wants b (Refused TooManyClients) ∷ rest)) (both (λ (ks : List ℕ) (n : ℕ). nat_lt (length ks) MOST_CLIENTS && nat_le (n + 1) LAST_CLIENT) s.agree.live_list s.agree.clients)
-checks_alike d e c (Add name obj allow dump) p rest s acts = ap (λ xs. first_failing p (xs ++ rest)) (add_alike d e c name obj s acts)
+    ap (λ b. first_failing p (Wants b (Refused TooManyClients) ∷ rest))
+    (both (λ (ks : List ℕ) (n : ℕ). nat_lt (length ks) MOST_CLIENTS && nat_le (n + 1) LAST_CLIENT)
+    s.agree.live_list s.agree.clients)
+checks_alike d e c (Add name obj allow dump) p rest s acts =
+    ap (λ xs. first_failing p (xs ++ rest)) (add_alike d e c name obj s acts)
 checks_alike d e c (Get name) p rest s acts = ap (λ xs. first_failing p (xs ++ rest)) (get_alike d e c name s acts)
-checks_alike d e c (WatchName name object) p rest s acts = ap (λ xs. first_failing p (xs ++ rest)) (watch_alike d e c name s acts)
-checks_alike d e c (Unwatch name object) p rest s acts = ap (λ xs. first_failing p (xs ++ rest)) (unwatch_alike d e c name object s acts)
-checks_alike d e c (Unregister name obj) p rest s acts = ap (λ xs. first_failing p (xs ++ rest)) (unregister_alike d e c name obj s acts)
+checks_alike d e c (WatchName name object) p rest s acts =
+    ap (λ xs. first_failing p (xs ++ rest)) (watch_alike d e c name s acts)
+checks_alike d e c (Unwatch name object) p rest s acts =
+    ap (λ xs. first_failing p (xs ++ rest)) (unwatch_alike d e c name object s acts)
+checks_alike d e c (Unregister name obj) p rest s acts =
+    ap (λ xs. first_failing p (xs ++ rest)) (unregister_alike d e c name obj s acts)
 checks_alike d e c (Call handle payload refs) p rest s acts = call_alike d e c handle refs p rest s acts
-checks_alike d e c (Release handle) p rest s acts = ap (λ (o : Option Node). first_failing p (Wants (is_some o) (Refused (Failed BadHandle)) ∷ rest)) (sim_nodes d e c handle s)
-checks_alike d e c Take p rest s acts = ap (λ (xs : List Delivery). first_failing p (Wants (nat_lt 0 (length xs)) (Refused Empty) ∷ rest)) (s.agree.inboxes c)
+checks_alike d e c (Release handle) p rest s acts =
+    ap (λ (o : Option Node). first_failing p (Wants (is_some o) (Refused (Failed BadHandle)) ∷ rest))
+    (sim_nodes d e c handle s)
+checks_alike d e c Take p rest s acts =
+    ap (λ (xs : List Delivery). first_failing p (Wants (nat_lt 0 (length xs)) (Refused Empty) ∷ rest))
+    (s.agree.inboxes c)
 checks_alike d e c Die p rest s acts = refl
-checks_alike d e c (Reload expected policy) p rest s acts = ap (λ (v : ℕ). first_failing p (Wants (v == expected) (Refused (VersionMoved v)) ∷ rest)) s.agree.version
+checks_alike d e c (Reload expected policy) p rest s acts =
+    ap (λ (v : ℕ). first_failing p (Wants (v == expected) (Refused (VersionMoved v)) ∷ rest)) s.agree.version

@@ -35,15 +35,45 @@ held_alike d e c n a = ap (nat_lt 0) (a.refs c n)
 -- ---- policies and the manager
 
 agree_opens : (d e : Effects) (who : Identity) → Agree d e → Agree (Opens who ∷ d) (Opens who ∷ e)
-agree_opens d e who a = record { policy = a.policy; version = a.version; manager = refl; clients = a.clients; lives = a.lives; live_list = a.live_list; who = a.who; refs = a.refs; numbers = a.numbers; services = a.services; watches = a.watches; inboxes = a.inboxes }
+agree_opens d e who a = record {
+  policy = a.policy;
+  version = a.version;
+  manager = refl;
+  clients = a.clients;
+  lives =
+      a.lives;
+  live_list = a.live_list;
+  who = a.who;
+  refs = a.refs;
+  numbers = a.numbers;
+  services = a.services;
+  watches = a.watches;
+  inboxes = a.inboxes;
+}
 
 agree_sets : (d e : Effects) (p : Policy) → Agree d e → Agree (Sets p ∷ d) (Sets p ∷ e)
-agree_sets d e p a = record { policy = refl; version = ap (λ v. v + 1) a.version; manager = a.manager; clients = a.clients; lives = a.lives; live_list = a.live_list; who = a.who; refs = a.refs; numbers = a.numbers; services = a.services; watches = a.watches; inboxes = a.inboxes }
+agree_sets d e p a = record {
+  policy = refl;
+  version = ap (λ v. v + 1) a.version;
+  manager = a.manager;
+  clients =
+      a.clients;
+  lives = a.lives;
+  live_list = a.live_list;
+  who = a.who;
+  refs = a.refs;
+  numbers = a.numbers;
+  services =
+      a.services;
+  watches = a.watches;
+  inboxes = a.inboxes;
+}
 
 -- ---- clients
 
 identity_case : (t : Bool) (who x y : Identity) → (t ≡ false → x ≡ y)
-    → unwrap_or (let o : Option Identity = if t then Some who else None in o) x ≡ unwrap_or (let o : Option Identity = if t then Some who else None in o) y
+    → unwrap_or (let o : Option Identity = if t then Some who else None in o) x
+    ≡ unwrap_or (let o : Option Identity = if t then Some who else None in o) y
 identity_case true who x y same = refl
 identity_case false who x y same = same refl
 
@@ -57,12 +87,15 @@ agree_connects d e n who is is' s t a =
       version = a.version;
       manager = a.manager;
       clients = ap (λ v. v + 1) a.clients;
-      lives = λ c. live_connects d n who c new ∙ ap (λ (l : Bool). let r : Bool = if n == c then true else l in r) (a.lives c) ∙ sym (live_connects e n who c new');
+      lives = λ c. live_connects d n who c new ∙ ap (λ (l : Bool). let r : Bool = if n == c then true else l in r)
+          (a.lives c) ∙ sym (live_connects e n who c new');
       live_list = list_connects d n who new ∙ ap (λ xs. xs ++ n ∷ []) a.live_list ∙ sym (list_connects e n who new');
-      who = λ c live. identity_case (n == c) who (identity_at d c) (identity_at e c) (λ f. a.who c (rw f at (sym (live_connects d n who c new) ∙ live)));
+      who = λ c live. identity_case (n == c) who (identity_at d c) (identity_at e c)
+          (λ f. a.who c (rw f at (sym (live_connects d n who c new) ∙ live)));
       refs = λ c m. refs_connects d n who c m new ∙ a.refs c m ∙ sym (refs_connects e n who c m new');
       numbers = λ c m held. a.numbers c m (sym (held_connects d n who c m new) ∙ held);
-      services = λ name. service_connects d n who name is s.owned ∙ a.services name ∙ sym (service_connects e n who name is' t.owned);
+      services = λ name. service_connects d n who name is s.owned ∙ a.services name ∙
+          sym (service_connects e n who name is' t.owned);
       watches = watches_connects d n who new ∙ a.watches ∙ sym (watches_connects e n who new');
       inboxes = λ c. inbox_connects d n who c new ∙ a.inboxes c ∙ sym (inbox_connects e n who c new');
     }
@@ -76,11 +109,14 @@ agree_dies d e c a = record {
   lives = λ k. live_dies d c k ∙ ap (λ l. l && not (c == k)) (a.lives k) ∙ sym (live_dies e c k);
   live_list = list_dies d c ∙ ap (filter (λ k. not (c == k))) a.live_list ∙ sym (list_dies e c);
   who = λ k live. a.who k (and_parts (is_live d k) (not (c == k)) (sym (live_dies d c k) ∙ live)).0;
-  refs = λ k n. refs_dies d c k n ∙ ap (λ (r : ℕ). let v : ℕ = if c == k then 0 else r in v) (a.refs k n) ∙ sym (refs_dies e c k n);
+  refs = λ k n. refs_dies d c k n ∙ ap (λ (r : ℕ). let v : ℕ = if c == k then 0 else r in v) (a.refs k n) ∙
+      sym (refs_dies e c k n);
   numbers = λ k m held. a.numbers k m (held_dies d c k m held);
   services = λ name. service_dies d c name ∙ ap (unless_owned c) (a.services name) ∙ sym (service_dies e c name);
   watches = watches_dies d c ∙ ap (filter (λ (w : Watch). not (c == w.client))) a.watches ∙ sym (watches_dies e c);
-  inboxes = λ k. inbox_dies d c k ∙ ap (λ (xs : List Delivery). let v : List Delivery = if c == k then [] else xs in v) (a.inboxes k) ∙ sym (inbox_dies e c k);
+  inboxes = λ k. inbox_dies d c k ∙
+      ap (λ (xs : List Delivery). let v : List Delivery = if c == k then [] else xs in v) (a.inboxes k) ∙
+      sym (inbox_dies e c k);
 }
 
 -- ---- names
@@ -97,8 +133,10 @@ agree_adds d e name s a = record {
   refs = a.refs;
   numbers = a.numbers;
   services = λ x. service_adds d name s x
-      ∙ ap (λ (l : Bool). let o : Option Service = if bytes_eq name x then (if l then Some s else None) else service_at d x in o) (a.lives s.node.owner.0)
-      ∙ ap (λ (v : Option Service). let o : Option Service = if bytes_eq name x then (if is_live e s.node.owner.0 then Some s else None) else v in o) (a.services x)
+      ∙ ap (λ (l : Bool). let o : Option Service = if bytes_eq name x then (if l then Some s else None)
+      else service_at d x in o) (a.lives s.node.owner.0)
+      ∙ ap (λ (v : Option Service). let o : Option Service =
+      if bytes_eq name x then (if is_live e s.node.owner.0 then Some s else None) else v in o) (a.services x)
       ∙ sym (service_adds e name s x);
   watches = a.watches;
   inboxes = a.inboxes;
@@ -115,7 +153,9 @@ agree_removes d e name a = record {
   who = a.who;
   refs = a.refs;
   numbers = a.numbers;
-  services = λ x. service_removes d name x ∙ ap (λ (v : Option Service). let o : Option Service = if bytes_eq name x then None else v in o) (a.services x) ∙ sym (service_removes e name x);
+  services = λ x. service_removes d name x ∙
+      ap (λ (v : Option Service). let o : Option Service = if bytes_eq name x then None else v in o) (a.services x) ∙
+      sym (service_removes e name x);
   watches = a.watches;
   inboxes = a.inboxes;
 }
@@ -137,11 +177,13 @@ agree_gives d e c n r s t a = record {
   live_list = a.live_list;
   who = a.who;
   refs = λ k m. refs_gives d c n r k m s.balanced
-      ∙ ap (λ (l : Bool). let v : ℕ = if ((c == k) && same_node n m) && l then refs_at d k m + 1 else refs_at d k m in v) (a.lives k)
+      ∙ ap (λ (l : Bool). let v : ℕ = if ((c == k) && same_node n m) && l then refs_at d k m + 1 else refs_at d k m in
+      v) (a.lives k)
       ∙ ap (λ (x : ℕ). let v : ℕ = if ((c == k) && same_node n m) && is_live e k then x + 1 else x in v) (a.refs k m)
       ∙ sym (refs_gives e c n r k m t.balanced);
   numbers = λ k m held. number_gives d c n r k m
-      ∙ number_case ((c == k) && same_node n m) r (number_at d k m) (number_at e k m) (λ f. a.numbers k m (rw f at (sym (held_gives d c n r k m s.balanced) ∙ held)))
+      ∙ number_case ((c == k) && same_node n m) r (number_at d k m) (number_at e k m)
+      (λ f. a.numbers k m (rw f at (sym (held_gives d c n r k m s.balanced) ∙ held)))
       ∙ sym (number_gives e c n r k m);
   services = a.services;
   watches = a.watches;
@@ -157,7 +199,9 @@ agree_releases d e c n a = record {
   lives = a.lives;
   live_list = a.live_list;
   who = a.who;
-  refs = λ k m. refs_releases d c n k m ∙ ap (λ (x : ℕ). let v : ℕ = if (c == k) && same_node n m then x - 1 else x in v) (a.refs k m) ∙ sym (refs_releases e c n k m);
+  refs = λ k m. refs_releases d c n k m ∙
+      ap (λ (x : ℕ). let v : ℕ = if (c == k) && same_node n m then x - 1 else x in v) (a.refs k m) ∙
+      sym (refs_releases e c n k m);
   numbers = λ k m held. a.numbers k m (held_releases d c n k m held);
   services = a.services;
   watches = a.watches;
@@ -180,7 +224,8 @@ agree_watches d e w a = record {
   services = a.services;
   watches = watches_watches d w
       ∙ ap (λ ws. ws ++ filter (λ (v : Watch). is_live d v.client) (w ∷ [])) a.watches
-      ∙ ap (λ ws. watches_at e ++ ws) (filter_agree (λ (v : Watch). is_live d v.client) (λ v. is_live e v.client) (λ v. a.lives v.client) (w ∷ []))
+      ∙ ap (λ ws. watches_at e ++ ws)
+      (filter_agree (λ (v : Watch). is_live d v.client) (λ v. is_live e v.client) (λ v. a.lives v.client) (w ∷ []))
       ∙ sym (watches_watches e w);
   inboxes = a.inboxes;
 }
@@ -216,8 +261,10 @@ agree_delivers d e c x s t a = record {
   services = a.services;
   watches = a.watches;
   inboxes = λ k. inbox_delivers d c x k s.taken
-      ∙ ap (λ (l : Bool). let v : List Delivery = if (c == k) && l then inbox_at d k ++ x ∷ [] else inbox_at d k in v) (a.lives k)
-      ∙ ap (λ (xs : List Delivery). let v : List Delivery = if (c == k) && is_live e k then xs ++ x ∷ [] else xs in v) (a.inboxes k)
+      ∙ ap (λ (l : Bool). let v : List Delivery = if (c == k) && l then inbox_at d k ++ x ∷ [] else inbox_at d k in v)
+      (a.lives k)
+      ∙ ap (λ (xs : List Delivery). let v : List Delivery = if (c == k) && is_live e k then xs ++ x ∷ [] else xs in v)
+      (a.inboxes k)
       ∙ sym (inbox_delivers e c x k t.taken);
 }
 
@@ -234,32 +281,64 @@ agree_takes d e c a = record {
   numbers = a.numbers;
   services = a.services;
   watches = a.watches;
-  inboxes = λ k. inbox_takes d c k ∙ ap (λ (xs : List Delivery). let v : List Delivery = if c == k then drop 1 xs else xs in v) (a.inboxes k) ∙ sym (inbox_takes e c k);
+  inboxes = λ k. inbox_takes d c k ∙
+      ap (λ (xs : List Delivery). let v : List Delivery = if c == k then drop 1 xs else xs in v) (a.inboxes k) ∙
+      sym (inbox_takes e c k);
 }
 
 -- ---- both at once
 
 pub sim_opens : (d e : Effects) (who : Identity) → Sim d e → Sim (Opens who ∷ d) (Opens who ∷ e)
-sim_opens d e who s = record { agree = agree_opens d e who s.agree; left = sound_opens d who s.left; right = sound_opens e who s.right }
+sim_opens d e who s = record {
+  agree = agree_opens d e who s.agree;
+  left = sound_opens d who s.left;
+  right =
+      sound_opens e who s.right;
+}
 
 pub sim_sets : (d e : Effects) (p : Policy) → Sim d e → Sim (Sets p ∷ d) (Sets p ∷ e)
-sim_sets d e p s = record { agree = agree_sets d e p s.agree; left = sound_sets d p s.left; right = sound_sets e p s.right }
+sim_sets d e p s = record {
+  agree = agree_sets d e p s.agree;
+  left = sound_sets d p s.left;
+  right =
+      sound_sets e p s.right;
+}
 
 pub sim_connects : (d e : Effects) (n : ℕ) (who : Identity) → n ≡ next_client d → Sim d e
     → Sim (Connects n who ∷ d) (Connects n who ∷ e)
 sim_connects d e n who is s =
     let is' : n ≡ next_client e = is ∙ ap (λ v. v + 1) s.agree.clients in
-    record { agree = agree_connects d e n who is is' s.left s.right s.agree; left = sound_connects d n who is s.left; right = sound_connects e n who is' s.right }
+    record {
+      agree = agree_connects d e n who is is' s.left s.right s.agree;
+      left = sound_connects d n who is s.left;
+      right = sound_connects e n who is' s.right;
+    }
 
 pub sim_dies : (d e : Effects) (c : ℕ) → is_live d c ≡ true → Sim d e → Sim (Dies c ∷ d) (Dies c ∷ e)
-sim_dies d e c live s = record { agree = agree_dies d e c s.agree; left = sound_dies d c live s.left; right = sound_dies e c (sym (s.agree.lives c) ∙ live) s.right }
+sim_dies d e c live s = record {
+  agree = agree_dies d e c s.agree;
+  left = sound_dies d c live s.left;
+  right =
+      sound_dies e c (sym (s.agree.lives c) ∙ live) s.right;
+}
 
 pub sim_adds : (d e : Effects) (name : List ℕ) (t : Service) → is_live d t.node.owner.0 ≡ true → Sim d e
     → Sim (Adds name t ∷ d) (Adds name t ∷ e)
-sim_adds d e name t live s = record { agree = agree_adds d e name t s.agree; left = sound_adds d name t live s.left; right = sound_adds e name t (sym (s.agree.lives t.node.owner.0) ∙ live) s.right }
+sim_adds d e name t live s =
+    record {
+      agree = agree_adds d e name t s.agree;
+      left = sound_adds d name t live s.left;
+      right =
+          sound_adds e name t (sym (s.agree.lives t.node.owner.0) ∙ live) s.right;
+    }
 
 pub sim_removes : (d e : Effects) (name : List ℕ) → Sim d e → Sim (Removes name ∷ d) (Removes name ∷ e)
-sim_removes d e name s = record { agree = agree_removes d e name s.agree; left = sound_removes d name s.left; right = sound_removes e name s.right }
+sim_removes d e name s = record {
+  agree = agree_removes d e name s.agree;
+  left = sound_removes d name s.left;
+  right =
+      sound_removes e name s.right;
+}
 
 -- ---- what is looked up
 
@@ -280,23 +359,59 @@ numbers_alike d e c n r s num = record {
 
 pub sim_gives : (d e : Effects) (c : ℕ) (n : Node) (r : ℕ) → is_live d c ≡ true → Numbers d c n r → Sim d e
     → Sim (Gives c n r ∷ d) (Gives c n r ∷ e)
-sim_gives d e c n r live num s = record { agree = agree_gives d e c n r s.left s.right s.agree; left = sound_gives d c n r live num s.left; right = sound_gives e c n r (sym (s.agree.lives c) ∙ live) (numbers_alike d e c n r s num) s.right }
+sim_gives d e c n r live num s =
+    record {
+      agree = agree_gives d e c n r s.left s.right s.agree;
+      left = sound_gives d c n r live num s.left;
+      right =
+          sound_gives e c n r (sym (s.agree.lives c) ∙ live) (numbers_alike d e c n r s num) s.right;
+    }
 
 pub sim_releases : (d e : Effects) (c : ℕ) (n : Node) → is_live d c ≡ true → is_held d c n ≡ true → Sim d e
     → Sim (Releases c n ∷ d) (Releases c n ∷ e)
-sim_releases d e c n live held s = record { agree = agree_releases d e c n s.agree; left = sound_releases d c n live held s.left; right = sound_releases e c n (sym (s.agree.lives c) ∙ live) (sym (sim_held d e c n s) ∙ held) s.right }
+sim_releases d e c n live held s =
+    record {
+      agree = agree_releases d e c n s.agree;
+      left = sound_releases d c n live held s.left;
+      right =
+          sound_releases e c n (sym (s.agree.lives c) ∙ live) (sym (sim_held d e c n s) ∙ held) s.right;
+    }
 
 pub sim_watches : (d e : Effects) (w : Watch) → is_live d w.client ≡ true → Sim d e
     → Sim (Watches w ∷ d) (Watches w ∷ e)
-sim_watches d e w live s = record { agree = agree_watches d e w s.agree; left = sound_watches d w live s.left; right = sound_watches e w (sym (s.agree.lives w.client) ∙ live) s.right }
+sim_watches d e w live s =
+    record {
+      agree = agree_watches d e w s.agree;
+      left = sound_watches d w live s.left;
+      right =
+          sound_watches e w (sym (s.agree.lives w.client) ∙ live) s.right;
+    }
 
 pub sim_unwatches : (d e : Effects) (w : Watch) → is_live d w.client ≡ true → Sim d e
     → Sim (Unwatches w ∷ d) (Unwatches w ∷ e)
-sim_unwatches d e w live s = record { agree = agree_unwatches d e w s.agree; left = sound_unwatches d w live s.left; right = sound_unwatches e w (sym (s.agree.lives w.client) ∙ live) s.right }
+sim_unwatches d e w live s =
+    record {
+      agree = agree_unwatches d e w s.agree;
+      left = sound_unwatches d w live s.left;
+      right =
+          sound_unwatches e w (sym (s.agree.lives w.client) ∙ live) s.right;
+    }
 
 pub sim_delivers : (d e : Effects) (c : ℕ) (x : Delivery) → is_live d c ≡ true → Sim d e
     → Sim (Delivers c x ∷ d) (Delivers c x ∷ e)
-sim_delivers d e c x live s = record { agree = agree_delivers d e c x s.left s.right s.agree; left = sound_delivers d c x live s.left; right = sound_delivers e c x (sym (s.agree.lives c) ∙ live) s.right }
+sim_delivers d e c x live s =
+    record {
+      agree = agree_delivers d e c x s.left s.right s.agree;
+      left = sound_delivers d c x live s.left;
+      right =
+          sound_delivers e c x (sym (s.agree.lives c) ∙ live) s.right;
+    }
 
 pub sim_takes : (d e : Effects) (c : ℕ) → Waits d c → Sim d e → Sim (Takes c ∷ d) (Takes c ∷ e)
-sim_takes d e c waits s = record { agree = agree_takes d e c s.agree; left = sound_takes d c waits s.left; right = sound_takes e c (ap (λ (xs : List Delivery). nat_lt 0 (length xs)) (sym (s.agree.inboxes c)) ∙ waits) s.right }
+sim_takes d e c waits s =
+    record {
+      agree = agree_takes d e c s.agree;
+      left = sound_takes d c waits s.left;
+      right =
+          sound_takes e c (ap (λ (xs : List Delivery). nat_lt 0 (length xs)) (sym (s.agree.inboxes c)) ∙ waits) s.right;
+    }

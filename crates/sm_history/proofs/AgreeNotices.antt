@@ -50,25 +50,31 @@ cons_alike {x} {y} {xs} {ys} p q = ap (λ (v : Check). let l : List Check = v �
 
 pub to_manager_alike : (d e : Effects) (c : ℕ) (p : Perms) → Sim d e → is_live d c ≡ true
     → to_manager d c p ≡ to_manager e c p
-to_manager_alike d e c p s live = both (λ (w m : Identity). Needs Binder p w m.context None) (s.agree.who c live) s.agree.manager
+to_manager_alike d e c p s live = both (λ (w m : Identity). Needs Binder p w m.context None) (s.agree.who c live)
+    s.agree.manager
 
 pub from_manager_alike : (d e : Effects) (c : ℕ) (p : Perms) → Sim d e → is_live d c ≡ true
     → from_manager d c p ≡ from_manager e c p
-from_manager_alike d e c p s live = both (λ (w m : Identity). Needs Binder p m w.context None) (s.agree.who c live) s.agree.manager
+from_manager_alike d e c p s live = both (λ (w m : Identity). Needs Binder p m w.context None) (s.agree.who c live)
+    s.agree.manager
 
 pub to_client_alike : (d e : Effects) (c k : ℕ) (p : Perms) → Sim d e → is_live d c ≡ true → is_live d k ≡ true
     → to_client d c k p ≡ to_client e c k p
-to_client_alike d e c k p s live there = both (λ (w t : Identity). Needs Binder p w t.context None) (s.agree.who c live) (s.agree.who k there)
+to_client_alike d e c k p s live there = both (λ (w t : Identity). Needs Binder p w t.context None)
+    (s.agree.who c live) (s.agree.who k there)
 
 pub to_label_alike : (d e : Effects) (c : ℕ) (name : List ℕ) (p : Perms) → Sim d e → is_live d c ≡ true
     → to_label d c name p ≡ to_label e c name p
-to_label_alike d e c name p s live = both (λ (w : Identity) (q : Policy). Needs ServiceManager p w (label_of q name) (Some name)) (s.agree.who c live) s.agree.policy
+to_label_alike d e c name p s live =
+    both (λ (w : Identity) (q : Policy). Needs ServiceManager p w (label_of q name) (Some name)) (s.agree.who c live)
+    s.agree.policy
 
 -- ---- handing out
 
 pub number_for_alike : (d e : Effects) (c : ℕ) (n : Node) → Sim d e → number_for d c n ≡ number_for e c n
 number_for_alike d e c n s =
-    elim (is_held d c n) as (λ b. is_held d c n ≡ b → (if b then number_at d c n else free_number d c) ≡ number_for e c n) [
+    elim (is_held d c n) as (λ b. is_held d c n ≡ b → (if b then number_at d c n else free_number d c)
+    ≡ number_for e c n) [
       | true ↦ λ h. s.agree.numbers c n h ∙ sym (rw (sym (sim_held d e c n s) ∙ h) refl)
       | false ↦ λ h. sim_free d e c s ∙ sym (rw (sym (sim_held d e c n s) ∙ h) refl)
     ] refl
@@ -84,16 +90,20 @@ number_for_is d c n = record {
 }
 
 pub given_alike : (d e : Effects) (c : ℕ) (n : Node) → Sim d e → given_to d c n ≡ given_to e c n
-given_alike d e c n s = ap (λ (r : ℕ). let g : Given = if n.owner.0 == c then Own n.object else Handle r in g) (number_for_alike d e c n s)
+given_alike d e c n s = ap (λ (r : ℕ). let g : Given = if n.owner.0 == c then Own n.object else Handle r in g)
+    (number_for_alike d e c n s)
 
 pub sim_handed : (d e : Effects) (c : ℕ) (n : Node) → is_live d c ≡ true → Sim d e → Sim (handed d c n) (handed e c n)
 sim_handed d e c n live s =
     let given : Sim (Gives c n (number_for d c n) ∷ d) (Gives c n (number_for e c n) ∷ e) =
-    subst (λ r. Sim (Gives c n (number_for d c n) ∷ d) (Gives c n r ∷ e)) (number_for_alike d e c n s) (sim_gives d e c n (number_for d c n) live (number_for_is d c n) s) in
-    elim (n.owner.0 == c) as (λ b. Sim (if b then d else Gives c n (number_for d c n) ∷ d) (if b then e else Gives c n (number_for e c n) ∷ e)) [ true ↦ s | false ↦ given ]
+    subst (λ r. Sim (Gives c n (number_for d c n) ∷ d) (Gives c n r ∷ e)) (number_for_alike d e c n s)
+    (sim_gives d e c n (number_for d c n) live (number_for_is d c n) s) in
+    elim (n.owner.0 == c) as (λ b. Sim (if b then d else Gives c n (number_for d c n) ∷ d)
+    (if b then e else Gives c n (number_for e c n) ∷ e)) [ true ↦ s | false ↦ given ]
 
 pub live_handed : (d : Effects) (c : ℕ) (n : Node) (k : ℕ) → is_live (handed d c n) k ≡ is_live d k
-live_handed d c n k = elim (n.owner.0 == c) as (λ b. is_live (if b then d else Gives c n (number_for d c n) ∷ d) k ≡ is_live d k) [ true ↦ refl | false ↦ refl ]
+live_handed d c n k = elim (n.owner.0 == c) as (λ b. is_live (if b then d else Gives c n (number_for d c n) ∷ d) k
+    ≡ is_live d k) [ true ↦ refl | false ↦ refl ]
 
 pub fits_alike : (d e : Effects) (c : ℕ) → Sim d e → fits_handles d c ≡ fits_handles e c
 fits_alike d e c s = ap (λ k. nat_le k MOST_HANDLES) (counts_alike d e c (λ n. sim_held d e c n s))
@@ -109,7 +119,9 @@ notice_checks_alike d e n w s live =
     cons_alike (to_label_alike d e w.client w.name finding s live)
     (cons_alike (from_manager_alike d e w.client calling s live)
     (cons_alike (from_manager_alike d e w.client transferring s live)
-    (cons_alike (wants_alike (Refused (Failed FailsFull)) (both (λ a b. a && b) (room_alike d e w.client s) (fits_alike (handed d w.client n) (handed e w.client n) w.client (sim_handed d e w.client n live s))))
+    (cons_alike (wants_alike (Refused (Failed FailsFull))
+    (both (λ a b. a && b) (room_alike d e w.client s)
+    (fits_alike (handed d w.client n) (handed e w.client n) w.client (sim_handed d e w.client n live s))))
     refl)))
 
 pub missing_alike : (d e : Effects) (n : Node) (w : Watch) → Sim d e → is_live d w.client ≡ true
@@ -117,7 +129,9 @@ pub missing_alike : (d e : Effects) (n : Node) (w : Watch) → Sim d e → is_li
 missing_alike d e n w s live = both first_failing s.agree.policy (notice_checks_alike d e n w s live)
 
 pub registration_alike : (d e : Effects) (n : Node) (w : Watch) → Sim d e → registration d n w ≡ registration e n w
-registration_alike d e n w s = ap (λ (g : Given). let v : Delivery = record { object = w.object; what = Registered w.name g } in v) (given_alike d e w.client n s)
+registration_alike d e n w s =
+    ap (λ (g : Given). let v : Delivery = record { object = w.object; what = Registered w.name g } in v)
+    (given_alike d e w.client n s)
 
 told_alike : (d e : Effects) (n : Node) (w : Watch) (o : Option Stop) → Sim d e → told_of d n w o ≡ told_of e n w o
 told_alike d e n w None s = ap (λ (x : Delivery). IsTold x) (registration_alike d e n w s)
@@ -133,13 +147,16 @@ sim_told : (d e : Effects) (n : Node) (w : Watch) (o : Option Stop) → Sim d e 
     → Sim (after_told d n w o) (after_told e n w o)
 sim_told d e n w None s live =
     let h = sim_handed d e w.client n live s in
-    subst (λ (x : Delivery). Sim (Delivers w.client (registration d n w) ∷ handed d w.client n) (Delivers w.client x ∷ handed e w.client n)) (registration_alike d e n w s)
-    (sim_delivers (handed d w.client n) (handed e w.client n) w.client (registration d n w) (live_handed d w.client n w.client ∙ live) h)
+    subst (λ (x : Delivery). Sim (Delivers w.client (registration d n w) ∷ handed d w.client n)
+    (Delivers w.client x ∷ handed e w.client n)) (registration_alike d e n w s)
+    (sim_delivers (handed d w.client n) (handed e w.client n) w.client (registration d n w)
+    (live_handed d w.client n w.client ∙ live) h)
 sim_told d e n w (Some failing) s live = s
 
 pub sim_notice : (d e : Effects) (n : Node) (w : Watch) → Sim d e → is_live d w.client ≡ true
     → Sim (after_notice d n w) (after_notice e n w)
-sim_notice d e n w s live = subst (λ (o : Option Stop). Sim (after_notice d n w) (after_told e n w o)) (missing_alike d e n w s live) (sim_told d e n w (first_missing d n w) s live)
+sim_notice d e n w s live = subst (λ (o : Option Stop). Sim (after_notice d n w) (after_told e n w o))
+    (missing_alike d e n w s live) (sim_told d e n w (first_missing d n w) s live)
 
 live_told : (d : Effects) (n : Node) (w : Watch) (o : Option Stop) (k : ℕ)
     → is_live (after_told d n w o) k ≡ is_live d k
@@ -156,14 +173,18 @@ AllLive d ws = list_all (λ w. is_live d w.client) ws ≡ true
 pub all_same : (p q : ℕ → Bool) (ws : List Watch) → ((k : ℕ) → q k ≡ p k) → list_all (λ w. p w.client) ws ≡ true
     → list_all (λ w. q w.client) ws ≡ true
 all_same p q [] same h = refl
-all_same p q (w ∷ ws) same h = rw (same w.client ∙ (and_parts (p w.client) (list_all (λ (v : Watch). p v.client) ws) h).0) (all_same p q ws same (and_parts (p w.client) (list_all (λ (v : Watch). p v.client) ws) h).1)
+all_same p q (w ∷ ws) same h =
+    rw (same w.client ∙ (and_parts (p w.client) (list_all (λ (v : Watch). p v.client) ws) h).0)
+    (all_same p q ws same (and_parts (p w.client) (list_all (λ (v : Watch). p v.client) ws) h).1)
 
 pub sim_notices : (d e : Effects) (n : Node) (ws : List Watch) → Sim d e → AllLive d ws
     → Sim (after_notices d n ws) (after_notices e n ws)
 sim_notices d e n [] s live = s
 sim_notices d e n (w ∷ ws) s live =
-    sim_notices (after_notice d n w) (after_notice e n w) n ws (sim_notice d e n w s (and_parts (is_live d w.client) (list_all (λ (v : Watch). is_live d v.client) ws) live).0)
-    (all_same (is_live d) (is_live (after_notice d n w)) ws (λ k. live_notice d n w k) (and_parts (is_live d w.client) (list_all (λ (v : Watch). is_live d v.client) ws) live).1)
+    sim_notices (after_notice d n w) (after_notice e n w) n ws
+    (sim_notice d e n w s (and_parts (is_live d w.client) (list_all (λ (v : Watch). is_live d v.client) ws) live).0)
+    (all_same (is_live d) (is_live (after_notice d n w)) ws (λ k. live_notice d n w k)
+    (and_parts (is_live d w.client) (list_all (λ (v : Watch). is_live d v.client) ws) live).1)
 
 pub notices_alike : (d e : Effects) (n : Node) (ws : List Watch) → Sim d e → AllLive d ws
     → notices_at d n ws ≡ notices_at e n ws
@@ -171,14 +192,18 @@ notices_alike d e n [] s live = refl
 notices_alike d e n (w ∷ ws) s live =
     let here = (and_parts (is_live d w.client) (list_all (λ (v : Watch). is_live d v.client) ws) live).0 in
     ap (λ (x : Notice). x ∷ notices_at (after_notice d n w) n ws) (notice_alike d e n w s here)
-    ∙ ap (λ (xs : List Notice). notice_at e n w ∷ xs) (notices_alike (after_notice d n w) (after_notice e n w) n ws (sim_notice d e n w s here)
-    (all_same (is_live d) (is_live (after_notice d n w)) ws (λ k. live_notice d n w k) (and_parts (is_live d w.client) (list_all (λ (v : Watch). is_live d v.client) ws) live).1))
+    ∙ ap (λ (xs : List Notice). notice_at e n w ∷ xs)
+    (notices_alike (after_notice d n w) (after_notice e n w) n ws (sim_notice d e n w s here)
+    (all_same (is_live d) (is_live (after_notice d n w)) ws (λ k. live_notice d n w k)
+    (and_parts (is_live d w.client) (list_all (λ (v : Watch). is_live d v.client) ws) live).1))
 
 pub watchers_alike : (d e : Effects) (name : List ℕ) → Sim d e → watchers_at d name ≡ watchers_at e name
 watchers_alike d e name s = ap (filter (λ (w : Watch). bytes_eq w.name name)) s.agree.watches
 
 pub watchers_live : (d : Effects) (name : List ℕ) → AllLive d (watchers_at d name)
-watchers_live d name = all_filtered_again (λ (w : Watch). bytes_eq w.name name) (λ (w : Watch). is_live d w.client) (watches_at d) (all_filtered (λ (w : Watch). is_live d w.client) (λ (w : Watch). is_live d w.client) (watches_made d) (λ w h. h))
+watchers_live d name = all_filtered_again (λ (w : Watch). bytes_eq w.name name) (λ (w : Watch). is_live d w.client)
+    (watches_at d) (all_filtered (λ (w : Watch). is_live d w.client) (λ (w : Watch). is_live d w.client)
+    (watches_made d) (λ w h. h))
 
 -- ---- references
 
@@ -202,18 +227,22 @@ live_ref d to (Some n) k = live_handed d to n k
 
 sim_resolved : (d e : Effects) (from to : ℕ) (r : ObjRef) → is_live d to ≡ true → Sim d e
     → Sim (handed_ref d to (resolve_at d from r)) (handed_ref e to (resolve_at e from r))
-sim_resolved d e from to r live s = subst (λ (o : Option Node). Sim (handed_ref d to (resolve_at d from r)) (handed_ref e to o)) (resolve_alike d e from r s) (sim_ref d e to (resolve_at d from r) live s)
+sim_resolved d e from to r live s =
+    subst (λ (o : Option Node). Sim (handed_ref d to (resolve_at d from r)) (handed_ref e to o))
+    (resolve_alike d e from r s) (sim_ref d e to (resolve_at d from r) live s)
 
 pub sim_refs : (d e : Effects) (from to : ℕ) (rs : List ObjRef) → is_live d to ≡ true → Sim d e
     → Sim (handed_refs d from to rs) (handed_refs e from to rs)
 sim_refs d e from to [] live s = s
 sim_refs d e from to (r ∷ rs) live s =
-    sim_refs (handed_ref d to (resolve_at d from r)) (handed_ref e to (resolve_at e from r)) from to rs (live_ref d to (resolve_at d from r) to ∙ live) (sim_resolved d e from to r live s)
+    sim_refs (handed_ref d to (resolve_at d from r)) (handed_ref e to (resolve_at e from r)) from to rs
+    (live_ref d to (resolve_at d from r) to ∙ live) (sim_resolved d e from to r live s)
 
 pub live_refs : (d : Effects) (from to : ℕ) (rs : List ObjRef) (k : ℕ)
     → is_live (handed_refs d from to rs) k ≡ is_live d k
 live_refs d from to [] k = refl
-live_refs d from to (r ∷ rs) k = live_refs (handed_ref d to (resolve_at d from r)) from to rs k ∙ live_ref d to (resolve_at d from r) k
+live_refs d from to (r ∷ rs) k = live_refs (handed_ref d to (resolve_at d from r)) from to rs k ∙
+    live_ref d to (resolve_at d from r) k
 
 pub given_refs_alike : (d e : Effects) (from to : ℕ) (rs : List ObjRef) → is_live d to ≡ true → Sim d e
     → given_refs d from to rs ≡ given_refs e from to rs
@@ -221,4 +250,5 @@ given_refs_alike d e from to [] live s = refl
 given_refs_alike d e from to (r ∷ rs) live s =
     both (λ (g : Given) (gs : List Given). let l : List Given = g ∷ gs in l)
     (ap (given_ref d to) (resolve_alike d e from r s) ∙ given_ref_alike d e to (resolve_at e from r) s)
-    (given_refs_alike (handed_ref d to (resolve_at d from r)) (handed_ref e to (resolve_at e from r)) from to rs (live_ref d to (resolve_at d from r) to ∙ live) (sim_resolved d e from to r live s))
+    (given_refs_alike (handed_ref d to (resolve_at d from r)) (handed_ref e to (resolve_at e from r)) from to rs
+    (live_ref d to (resolve_at d from r) to ∙ live) (sim_resolved d e from to r live s))

@@ -57,7 +57,8 @@ release_case false g s g' s' eg es le more = omega (arith, eg, es, le)
 
 pub release : (d : Effects) (c : ℕ) (n : Node) → is_held d c n ≡ true → IsBalanced d → IsBalanced (Releases c n ∷ d)
 release d c n held h k m =
-    release_case ((c == k) && same_node n m) (granted d k m) (released d k m) (granted (Releases c n ∷ d) k m) (released (Releases c n ∷ d) k m)
+    release_case ((c == k) && same_node n m) (granted d k m) (released d k m) (granted (Releases c n ∷ d) k m)
+    (released (Releases c n ∷ d) k m)
     (let g = sum_by-cons (λ (y : Effect). cond (is_some (number_given k m y)) 1 0) (Releases c n) d in omega (arith, g))
     (sum_by-cons (λ (y : Effect). cond (is_release_of k m y) 1 0) (Releases c n) d)
     (h k m)
@@ -65,7 +66,8 @@ release d c n held h k m =
     let who = number_same c k (and_parts (c == k) (same_node n m) e).0 in
     let what = node_same n m (and_parts (c == k) (same_node n m) e).1 in
     let own = held_more (is_live d c) (granted d c n) (released d c n) held in
-    subst (λ (x : ℕ). released d x m < granted d x m) who (subst (λ (x : Node). released d c x < granted d c x) what own))
+    subst (λ (x : ℕ). released d x m < granted d x m) who
+    (subst (λ (x : Node). released d c x < granted d c x) what own))
 
 found_kept : {X : Type 0} (p q : X → Bool) (xs : List X) (x : X) → find p (filter q xs) ≡ Some x → q x ≡ true
 found_kept p q [] x h = cc

@@ -23,14 +23,18 @@ use Rattle.sm_history.proofs.Living.{any_live}
 
 less : (c : ℕ) (xs : List ℕ) → length (filter (λ k. not (c == k)) xs) ≤ length xs
 less c [] = omega arith
-less c (x ∷ xs) = let i = less c xs in elim (c == x) as (λ b. length (if not b then x ∷ filter (λ k. not (c == k)) xs else filter (λ k. not (c == k)) xs) ≤ length (x ∷ xs)) [ true ↦ omega (arith, i) | false ↦ omega (arith, i) ]
+less c (x ∷ xs) = let i = less c xs in
+    elim (c == x) as (λ b. length (if not b then x ∷ filter (λ k. not (c == k)) xs else filter (λ k. not (c == k)) xs)
+    ≤ length (x ∷ xs)) [ true ↦ omega (arith, i) | false ↦ omega (arith, i) ]
 
 fewer : (c : ℕ) (xs : List ℕ) → list_any (λ x. x == c) xs ≡ true
     → length (filter (λ k. not (c == k)) xs) + 1 ≤ length xs
 fewer c [] h = cc
 fewer c (x ∷ xs) h =
     let l = less c xs in
-    elim (c == x) as (λ b. (c == x) ≡ b → length (if not b then x ∷ filter (λ k. not (c == k)) xs else filter (λ k. not (c == k)) xs) + 1 ≤ length (x ∷ xs)) [
+    elim (c == x) as (λ b. (c == x) ≡ b →
+    length (if not b then x ∷ filter (λ k. not (c == k)) xs else filter (λ k. not (c == k)) xs) + 1 ≤ length
+    (x ∷ xs)) [
       | true ↦ λ e. omega (arith, l)
       | false ↦ λ e.
           let other : (x == c) ≡ false = grind (arith, nat_tests) in
@@ -44,18 +48,32 @@ pub fits_any : (places : ℕ) (h : History) (by : By) (turn : ℕ) (event : Even
 fits_any places h by turn Die outcome s fits done =
     let d = effects_of h in
     let c = client_of by in
-    let live : is_live d c ≡ true = (met d (turn_of h by) by turn Die (Wants (has_place places h Die) (Refused JournalFull) ∷ []) outcome done).acts in
+    let live : is_live d c ≡ true =
+    (met d (turn_of h by) by turn Die (Wants (has_place places h Die) (Refused JournalFull) ∷ []) outcome
+    done).acts in
     let one = fewer c (live_clients d) (any_live d c ∙ live) in
     let now = ap (length {A = ℕ}) (list_dies d c) in
     omega (arith, one, now, fits)
-fits_any places h by turn (Open who policy) outcome s fits done = fits_more places h (record { by = by; turn = turn; event = Open who policy; outcome = outcome }) s refl done
-fits_any places h by turn (Connect who) outcome s fits done = fits_more places h (record { by = by; turn = turn; event = Connect who; outcome = outcome }) s refl done
-fits_any places h by turn (Add name obj allow dump) outcome s fits done = fits_more places h (record { by = by; turn = turn; event = Add name obj allow dump; outcome = outcome }) s refl done
-fits_any places h by turn (Get name) outcome s fits done = fits_more places h (record { by = by; turn = turn; event = Get name; outcome = outcome }) s refl done
-fits_any places h by turn (WatchName name object) outcome s fits done = fits_more places h (record { by = by; turn = turn; event = WatchName name object; outcome = outcome }) s refl done
-fits_any places h by turn (Unwatch name object) outcome s fits done = fits_more places h (record { by = by; turn = turn; event = Unwatch name object; outcome = outcome }) s refl done
-fits_any places h by turn (Unregister name obj) outcome s fits done = fits_more places h (record { by = by; turn = turn; event = Unregister name obj; outcome = outcome }) s refl done
-fits_any places h by turn (Call handle payload refs) outcome s fits done = fits_more places h (record { by = by; turn = turn; event = Call handle payload refs; outcome = outcome }) s refl done
-fits_any places h by turn (Release handle) outcome s fits done = fits_more places h (record { by = by; turn = turn; event = Release handle; outcome = outcome }) s refl done
-fits_any places h by turn Take outcome s fits done = fits_more places h (record { by = by; turn = turn; event = Take; outcome = outcome }) s refl done
-fits_any places h by turn (Reload expected policy) outcome s fits done = fits_more places h (record { by = by; turn = turn; event = Reload expected policy; outcome = outcome }) s refl done
+fits_any places h by turn (Open who policy) outcome s fits done =
+    fits_more places h (record { by = by; turn = turn; event = Open who policy; outcome = outcome }) s refl done
+fits_any places h by turn (Connect who) outcome s fits done =
+    fits_more places h (record { by = by; turn = turn; event = Connect who; outcome = outcome }) s refl done
+fits_any places h by turn (Add name obj allow dump) outcome s fits done =
+    fits_more places h (record { by = by; turn = turn; event = Add name obj allow dump; outcome = outcome }) s refl done
+fits_any places h by turn (Get name) outcome s fits done =
+    fits_more places h (record { by = by; turn = turn; event = Get name; outcome = outcome }) s refl done
+fits_any places h by turn (WatchName name object) outcome s fits done =
+    fits_more places h (record { by = by; turn = turn; event = WatchName name object; outcome = outcome }) s refl done
+fits_any places h by turn (Unwatch name object) outcome s fits done =
+    fits_more places h (record { by = by; turn = turn; event = Unwatch name object; outcome = outcome }) s refl done
+fits_any places h by turn (Unregister name obj) outcome s fits done =
+    fits_more places h (record { by = by; turn = turn; event = Unregister name obj; outcome = outcome }) s refl done
+fits_any places h by turn (Call handle payload refs) outcome s fits done =
+    fits_more places h (record { by = by; turn = turn; event = Call handle payload refs; outcome = outcome }) s refl
+    done
+fits_any places h by turn (Release handle) outcome s fits done =
+    fits_more places h (record { by = by; turn = turn; event = Release handle; outcome = outcome }) s refl done
+fits_any places h by turn Take outcome s fits done =
+    fits_more places h (record { by = by; turn = turn; event = Take; outcome = outcome }) s refl done
+fits_any places h by turn (Reload expected policy) outcome s fits done =
+    fits_more places h (record { by = by; turn = turn; event = Reload expected policy; outcome = outcome }) s refl done

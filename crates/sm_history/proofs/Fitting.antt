@@ -44,7 +44,9 @@ lives_last n (Takes c) d plain h = h
 lives_left : (d : Effects) (c : ℕ) (event : Event) → is_die event ≡ false → Sound d
     → LeftToKeep (LivesIn (length (live_clients d) + (places_needed event - 1))) d c event
 lives_left d c (Open who policy) a s = tt
-lives_left d c (Connect who) a s = let e = ap (length {A = ℕ}) (list_connects d (next_client d) who (is_new d (next_client d) refl s.fresh)) ∙ length-append (live_clients d) (next_client d ∷ []) in omega (arith, e)
+lives_left d c (Connect who) a s = let e = ap (length {A = ℕ})
+    (list_connects d (next_client d) who (is_new d (next_client d) refl s.fresh)) ∙
+    length-append (live_clients d) (next_client d ∷ []) in omega (arith, e)
 lives_left d c (Add name obj allow dump) a s = omega arith
 lives_left d c (Get name) a s = tt
 lives_left d c (WatchName name object) a s = tt
@@ -64,8 +66,10 @@ pub place_done : (places : ℕ) (h : History) (e : Entry) → verdict places h e
     → has_place places h e.event ≡ true
 place_done places h e done =
     let d = effects_of h in
-    let a = all_hold (policy_at d) (checks places h e.by e.turn e.event) (outcome_of d (client_of e.by) e.event) e.outcome done in
-    (hold_right (policy_at d) (actor_checks h e.by e.turn e.event ++ event_checks d (client_of e.by) e.event) (Wants (has_place places h e.event) (Refused JournalFull) ∷ []) a).0
+    let a = all_hold (policy_at d) (checks places h e.by e.turn e.event) (outcome_of d (client_of e.by) e.event)
+    e.outcome done in
+    (hold_right (policy_at d) (actor_checks h e.by e.turn e.event ++ event_checks d (client_of e.by) e.event)
+    (Wants (has_place places h e.event) (Refused JournalFull) ∷ []) a).0
 
 needs_one : (event : Event) → 1 ≤ places_needed event
 needs_one (Connect who) = omega arith
@@ -89,6 +93,7 @@ fits_more places h e s alive done =
     let n = length (live_clients d) + (places_needed e.event - 1) in
     let lives = event_keeps (LivesIn n) (lives_last n) d c e.event (lives_left d c e.event alive s) (omega arith) in
     let one = needs_one e.event in
-    let place : nat_le (length h.entries + length (live_clients d) + places_needed e.event) places ≡ true = sym (rw alive refl) ∙ place_done places h e done in
+    let place : nat_le (length h.entries + length (live_clients d) + places_needed e.event) places ≡ true =
+    sym (rw alive refl) ∙ place_done places h e done in
     let room : length h.entries + length (live_clients d) + places_needed e.event ≤ places = grind (arith, nat_tests) in
     omega (arith, lives, one, room)

@@ -26,7 +26,8 @@ below c n k lt le = grind (arith, nat_tests)
 -- One more effect, of a client that has connected.
 pub fresh_more : (x : Effect) (d : Effects) → IsFresh d → next_client (x ∷ d) ≡ next_client d
     → ((k : ℕ) → next_client d ≤ k → names k x ≡ false) → IsFresh (x ∷ d)
-fresh_more x d fresh same new k le = let le' : next_client d ≤ k = subst (λ (n : ℕ). n ≤ k) same le in or_from (names k x) (list_any (names k) d) (new k le') (fresh k le')
+fresh_more x d fresh same new k le = let le' : next_client d ≤ k = subst (λ (n : ℕ). n ≤ k) same le in
+    or_from (names k x) (list_any (names k) d) (new k le') (fresh k le')
 
 pub fresh_handed : (d : Effects) (c : ℕ) (n : Node) → IsFresh d → c < next_client d → IsFresh (handed d c n)
 fresh_handed d c n fresh lt =
@@ -36,12 +37,14 @@ fresh_handed d c n fresh lt =
     ]
 
 pub fresh_connect : (d : Effects) (who : _) → IsFresh d → IsFresh (Connects (next_client d) who ∷ d)
-fresh_connect d who fresh k le = or_from (next_client d == k) (list_any (names k) d) (grind (arith, nat_tests)) (fresh k (omega arith))
+fresh_connect d who fresh k le = or_from (next_client d == k) (list_any (names k) d) (grind (arith, nat_tests))
+    (fresh k (omega arith))
 
 -- A client that no effect names has not connected.
 pub not_connected : (d : Effects) (k : ℕ) → list_any (names k) d ≡ false → list_any (is_connect_of k) d ≡ false
 not_connected [] k h = refl
-not_connected (Connects c who ∷ d) k h = or_from (c == k) (list_any (is_connect_of k) d) (or_parts (c == k) (list_any (names k) d) h).0 (not_connected d k (or_parts (c == k) (list_any (names k) d) h).1)
+not_connected (Connects c who ∷ d) k h = or_from (c == k) (list_any (is_connect_of k) d)
+    (or_parts (c == k) (list_any (names k) d) h).0 (not_connected d k (or_parts (c == k) (list_any (names k) d) h).1)
 not_connected (x ∷ d) k h = not_connected d k (or_parts (names k x) (list_any (names k) d) h).1
 
 -- A live client's number was given out.
@@ -49,7 +52,8 @@ pub live_below : (d : Effects) (c : ℕ) → IsFresh d → is_live d c ≡ true 
 live_below d c fresh live =
     elim (nat_lt c (next_client d)) as (λ b. nat_lt c (next_client d) ≡ b → c < next_client d) [
       | true ↦ λ e. grind (arith, nat_tests)
-      | false ↦ λ e. absurd (let none : is_live d c ≡ false = rw (not_connected d c (fresh c (grind (arith, nat_tests)))) refl in grind (arith, none, live))
+      | false ↦ λ e. absurd (let none : is_live d c ≡ false =
+          rw (not_connected d c (fresh c (grind (arith, nat_tests)))) refl in grind (arith, none, live))
     ] refl
 
 -- Every watch is of a client below n.
@@ -71,18 +75,21 @@ pub all_filtered_again : {X : Type 0} → (p q : X → Bool) (xs : List X) → l
 all_filtered_again p q [] h = refl
 all_filtered_again p q (x ∷ xs) h =
     elim (p x) as (λ b. list_all q (if b then x ∷ filter p xs else filter p xs) ≡ true) [
-      | true ↦ rw (and_parts (q x) (list_all q xs) h).0 (all_filtered_again p q xs (and_parts (q x) (list_all q xs) h).1)
+      | true ↦ rw (and_parts (q x) (list_all q xs) h).0
+          (all_filtered_again p q xs (and_parts (q x) (list_all q xs) h).1)
       | false ↦ all_filtered_again p q xs (and_parts (q x) (list_all q xs) h).1
     ]
 
 pub watchers_below : (d : Effects) (name : List ℕ) → IsFresh d → AllBelow (next_client d) (watchers_at d name)
 watchers_below d name fresh =
-    all_filtered_again (λ (w : Watch). bytes_eq w.name name) (λ (w : Watch). nat_lt w.client (next_client d)) (watches_at d)
+    all_filtered_again (λ (w : Watch). bytes_eq w.name name) (λ (w : Watch). nat_lt w.client (next_client d))
+    (watches_at d)
     (all_filtered (λ (w : Watch). is_live d w.client) (λ (w : Watch). nat_lt w.client (next_client d)) (watches_made d)
     (λ w live. let lt = live_below d w.client fresh live in grind (arith, nat_tests)))
 
 next-handed : (d : Effects) (c : ℕ) (n : Node) → next_client (handed d c n) ≡ next_client d
-next-handed d c n = elim (n.owner.0 == c) as (λ b. next_client (if b then d else Gives c n (number_for d c n) ∷ d) ≡ next_client d) [ true ↦ refl | false ↦ refl ]
+next-handed d c n = elim (n.owner.0 == c) as (λ b. next_client (if b then d else Gives c n (number_for d c n) ∷ d)
+    ≡ next_client d) [ true ↦ refl | false ↦ refl ]
 
 next-told : (d : Effects) (n : Node) (w : Watch) (o : Option Stop) → next_client (after_told d n w o) ≡ next_client d
 next-told d n w None = next-handed d w.client n
@@ -99,10 +106,14 @@ pub fresh_notices : (d : Effects) (n : Node) (ws : List Watch) → IsFresh d →
     → IsFresh (after_notices d n ws)
 fresh_notices d n [] fresh below = fresh
 fresh_notices d n (w ∷ ws) fresh below =
-    let here : w.client < next_client d = let e = (and_parts (nat_lt w.client (next_client d)) (list_all (λ (v : Watch). nat_lt v.client (next_client d)) ws) below).0 in grind (arith, nat_tests) in
+    let here : w.client < next_client d = let e =
+    (and_parts (nat_lt w.client (next_client d)) (list_all (λ (v : Watch). nat_lt v.client (next_client d)) ws)
+    below).0 in grind (arith, nat_tests) in
     let same : next_client d ≡ next_client (after_notice d n w) = sym (next-told d n w (first_missing d n w)) in
     fresh_notices (after_notice d n w) n ws (fresh_told d n w (first_missing d n w) fresh here)
-    (subst (λ (m : ℕ). AllBelow m ws) same (and_parts (nat_lt w.client (next_client d)) (list_all (λ (v : Watch). nat_lt v.client (next_client d)) ws) below).1)
+    (subst (λ (m : ℕ). AllBelow m ws) same
+    (and_parts (nat_lt w.client (next_client d)) (list_all (λ (v : Watch). nat_lt v.client (next_client d)) ws)
+    below).1)
 
 fresh_ref : (d : Effects) (to : ℕ) (o : Option Node) → IsFresh d → to < next_client d → IsFresh (handed_ref d to o)
 fresh_ref d to None fresh lt = fresh
@@ -116,11 +127,13 @@ pub fresh_refs : (d : Effects) (from to : ℕ) (rs : List ObjRef) → IsFresh d 
     → IsFresh (handed_refs d from to rs)
 fresh_refs d from to [] fresh lt = fresh
 fresh_refs d from to (r ∷ rs) fresh lt = let o = resolve_at d from r in
-    fresh_refs (handed_ref d to o) from to rs (fresh_ref d to o fresh lt) (subst (λ (m : ℕ). to < m) (sym (next-ref d to o)) lt)
+    fresh_refs (handed_ref d to o) from to rs (fresh_ref d to o fresh lt)
+    (subst (λ (m : ℕ). to < m) (sym (next-ref d to o)) lt)
 
 pub next-refs : (d : Effects) (from to : ℕ) (rs : List ObjRef) → next_client (handed_refs d from to rs) ≡ next_client d
 next-refs d from to [] = refl
-next-refs d from to (r ∷ rs) = next-refs (handed_ref d to (resolve_at d from r)) from to rs ∙ next-ref d to (resolve_at d from r)
+next-refs d from to (r ∷ rs) = next-refs (handed_ref d to (resolve_at d from r)) from to rs ∙
+    next-ref d to (resolve_at d from r)
 
 fresh_get : (d : Effects) (c : ℕ) (o : Option Service) → IsFresh d → c < next_client d → IsFresh (after_get d c o)
 fresh_get d c None fresh lt = fresh
@@ -144,19 +157,24 @@ OwnerBelow d c _ = Unit {0}
 -- An accepted event of a connected client names no one who isn't. In a call the object's owner is connected.
 pub fresh_after : (d : Effects) (c : ℕ) (event : Event) → IsFresh d → c < next_client d
     → OwnerBelow d c event → IsFresh (after_event d c event)
-fresh_after d c (Open who policy) fresh lt owners = own (Sets policy) (Opens who ∷ d) c (own (Opens who) d c fresh lt refl (λ k e. refl)) lt refl (λ k e. refl)
+fresh_after d c (Open who policy) fresh lt owners =
+    own (Sets policy) (Opens who ∷ d) c (own (Opens who) d c fresh lt refl (λ k e. refl)) lt refl (λ k e. refl)
 fresh_after d c (Connect who) fresh lt owners = fresh_connect d who fresh
 fresh_after d c (Add name obj allow dump) fresh lt owners = let n = found (resolve_at d c obj) in
-    fresh_notices (Adds name (service c n allow dump) ∷ d) n (watchers_at d name) (own (Adds name (service c n allow dump)) d c fresh lt refl (λ k e. refl)) (watchers_below d name fresh)
+    fresh_notices (Adds name (service c n allow dump) ∷ d) n (watchers_at d name)
+    (own (Adds name (service c n allow dump)) d c fresh lt refl (λ k e. refl)) (watchers_below d name fresh)
 fresh_after d c (Get name) fresh lt owners = fresh_get d c (service_at d name) fresh lt
 fresh_after d c (WatchName name object) fresh lt owners = let w = watch c name object in
     fresh_watch (Watches w ∷ d) w (service_at d name) (own (Watches w) d c fresh lt refl (λ k e. e)) lt
-fresh_after d c (Unwatch name object) fresh lt owners = own (Unwatches (watch c name object)) d c fresh lt refl (λ k e. e)
+fresh_after d c (Unwatch name object) fresh lt owners =
+    own (Unwatches (watch c name object)) d c fresh lt refl (λ k e. e)
 fresh_after d c (Unregister name obj) fresh lt owners = own (Removes name) d c fresh lt refl (λ k e. refl)
 fresh_after d c (Call handle payload refs) fresh lt owners = let n = found (node_at d c handle) in
-    own (Delivers n.owner.0 (call_delivery d c n payload refs)) (handed_refs d c n.owner.0 refs) n.owner.0 (fresh_refs d c n.owner.0 refs fresh owners)
+    own (Delivers n.owner.0 (call_delivery d c n payload refs)) (handed_refs d c n.owner.0 refs) n.owner.0
+    (fresh_refs d c n.owner.0 refs fresh owners)
     (subst (λ (m : ℕ). n.owner.0 < m) (sym (next-refs d c n.owner.0 refs)) owners) refl (λ k e. e)
-fresh_after d c (Release handle) fresh lt owners = own (Releases c (found (node_at d c handle))) d c fresh lt refl (λ k e. e)
+fresh_after d c (Release handle) fresh lt owners =
+    own (Releases c (found (node_at d c handle))) d c fresh lt refl (λ k e. e)
 fresh_after d c Take fresh lt owners = own (Takes c) d c fresh lt refl (λ k e. e)
 fresh_after d c Die fresh lt owners = own (Dies c) d c fresh lt refl (λ k e. e)
 fresh_after d c (Reload expected policy) fresh lt owners = own (Sets policy) d c fresh lt refl (λ k e. refl)

@@ -36,14 +36,17 @@ pub record HasNoTurns (h : History) : Type 0 where
   pub none : (k : ℕ) → next_client (effects_of h) ≤ k → turn_of h (client k) ≡ 0
 
 none_opening : (e : Entry) (k : ℕ) → IsOpening e → turn_of (whole (e ∷ [])) (client k) ≡ 0
-none_opening e k (who, policy, is, may, ok) = subst (λ (x : Entry). turn_of (whole (x ∷ [])) (client k) ≡ 0) (sym is) (omega arith)
+none_opening e k (who, policy, is, may, ok) = subst (λ (x : Entry). turn_of (whole (x ∷ [])) (client k) ≡ 0) (sym is)
+    (omega arith)
 
-none_rows : (a : List Entry) (k n : ℕ) → n ≡ 0 → turn_of (whole a) (client k) ≡ n → turn_of (record { opening = rows_of (whole a); entries = [] }) (client k) ≡ 0
+none_rows : (a : List Entry) (k n : ℕ) → n ≡ 0 → turn_of (whole a) (client k) ≡ n →
+    turn_of (record { opening = rows_of (whole a); entries = [] }) (client k) ≡ 0
 none_rows a k n z is =
     let h = whole a in
     let r = turn_rows h (client k) (actors_of h) in
     let both : (if list_any (is_same (client k)) (actors_of h) then turn_of h (client k) else 0) ≡ 0 =
-    elim (list_any (is_same (client k)) (actors_of h)) as (λ b. (if b then turn_of h (client k) else 0) ≡ 0) [ true ↦ is ∙ z | false ↦ refl ] in
+    elim (list_any (is_same (client k)) (actors_of h)) as (λ b. (if b then turn_of h (client k) else 0) ≡ 0)
+    [ true ↦ is ∙ z | false ↦ refl ] in
     omega (arith, r, both)
 
 holds_none : Holds HasNoTurns
@@ -56,7 +59,11 @@ holds_none = record {
         let below = actor_below (effects_of h) e.by i.sound.fresh m.there in
         turn_more e h (client k) (not_same k e.by (omega (arith, n, below, le))) ∙ i.none k (omega (arith, n, le));
   };
-  resumes = λ a l i. record { sound = holds_sound.resumes a l i.sound; none = λ k le. none_rows a k (turn_of (whole a) (client k)) (i.none k le) refl };
+  resumes = λ a l i. record {
+    sound = holds_sound.resumes a l i.sound;
+    none =
+        λ k le. none_rows a k (turn_of (whole a) (client k)) (i.none k le) refl;
+  };
 }
 
 pub no_turns : (places : ℕ) (h : History) → IsLawful places h → (k : ℕ) → next_client (effects_of h) ≤ k
@@ -90,8 +97,10 @@ few_rows : (a : List Entry) → HasFewTurns (whole a) → HasFewTurns (record { 
 few_rows a i by =
     let h = whole a in
     let le = i by in
-    let l = few_case (list_any (is_same by) (actors_of h)) (turn_of h by) _ (length_of h) (turn_rows h by (actors_of h)) le in
+    let l = few_case (list_any (is_same by) (actors_of h)) (turn_of h by) _ (length_of h)
+    (turn_rows h by (actors_of h)) le in
     omega (arith, l)
 
 pub turns_small : (places : ℕ) (h : History) → IsLawful places h → (by : By) → turn_of h by ≤ length_of h
-turns_small places h l = holds_lawful HasFewTurns (record { opens = few_opening; goes_on = λ e g m i. few_more e g i; resumes = λ a la i. few_rows a i }) places h l
+turns_small places h l = holds_lawful HasFewTurns
+    (record { opens = few_opening; goes_on = λ e g m i. few_more e g i; resumes = λ a la i. few_rows a i }) places h l

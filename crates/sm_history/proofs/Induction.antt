@@ -1,4 +1,5 @@
--- Induction over lawful histories: over changes that were accepted, from the manager's opening or from the rows that lawful changes left.
+-- Induction over lawful histories: over changes that were accepted,
+-- from the manager's opening or from the rows that lawful changes left.
 use Rattle.std.proofs.Common.{inl, inr, ℕ, List, [], ◌∷◌, sym, subst}
 use Rattle.sm_history.specs.declared.entry.Entry.{Entry}
 use Rattle.sm_history.specs.Effects.{Opens}
@@ -20,23 +21,29 @@ use Rattle.sm_history.specs.Sound.{IsBalanced, IsFresh, IsOwned, Sound}
 pub record Holds (P : History → Type 0) : Type 0 where
   pub opens : (e : Entry) → IsOpening e → P (whole (e ∷ []))
   pub goes_on : (e : Entry) (h : History) → Met (effects_of h) e.by e.event → P h → P (entered e h)
-  pub resumes : (a : List Entry) → AreLawfulApart a → P (whole a) → P (record { opening = rows_of (whole a); entries = [] })
+  pub resumes : (a : List Entry) → AreLawfulApart a → P (whole a) →
+      P (record { opening = rows_of (whole a); entries = [] })
 
 pub holds_apart : (P : History → Type 0) → Holds P → (a : List Entry) → AreLawfulApart a → P (whole a)
 holds_apart P holds [] l = absurd l
 holds_apart P holds (e ∷ []) l = holds.opens e l
 holds_apart P holds (e ∷ f ∷ es) (before, done, ok) =
     let h = whole (f ∷ es) in
-    holds.goes_on e h (met (effects_of h) (turn_of h e.by) e.by e.turn e.event [] e.outcome done) (holds_apart P holds (f ∷ es) before)
+    holds.goes_on e h (met (effects_of h) (turn_of h e.by) e.by e.turn e.event [] e.outcome done)
+    (holds_apart P holds (f ∷ es) before)
 
 holds_after : (P : History → Type 0) → Holds P → (places : ℕ) (o : Opening) (es : List Entry) → AreLawful places o es
     → P (record { opening = o; entries = es })
-holds_after P holds places o [] (a, l, is) = subst (λ (v : Opening). P (record { opening = v; entries = [] })) (sym is) (holds.resumes a l (holds_apart P holds a l))
+holds_after P holds places o [] (a, l, is) = subst (λ (v : Opening). P (record { opening = v; entries = [] }))
+    (sym is) (holds.resumes a l (holds_apart P holds a l))
 holds_after P holds places o (e ∷ es) (inl (is, none, opens)) =
-    subst (λ (v : Opening). P (record { opening = v; entries = e ∷ es })) (sym is) (subst (λ (v : List Entry). P (whole (e ∷ v))) (sym none) (holds.opens e opens))
+    subst (λ (v : Opening). P (record { opening = v; entries = e ∷ es })) (sym is)
+    (subst (λ (v : List Entry). P (whole (e ∷ v))) (sym none) (holds.opens e opens))
 holds_after P holds places o (e ∷ es) (inr (before, done, ok)) =
     let h : History = record { opening = o; entries = es } in
-    holds.goes_on e h (met (effects_of h) (turn_of h e.by) e.by e.turn e.event (Wants (has_place places h e.event) (Refused JournalFull) ∷ []) e.outcome done) (holds_after P holds places o es before)
+    holds.goes_on e h (met (effects_of h) (turn_of h e.by) e.by e.turn e.event
+    (Wants (has_place places h e.event) (Refused JournalFull) ∷ []) e.outcome done)
+    (holds_after P holds places o es before)
 
 pub holds_lawful : (P : History → Type 0) → Holds P → (places : ℕ) (h : History) → IsLawful places h → P h
 holds_lawful P holds places h l = holds_after P holds places h.opening h.entries l
@@ -45,7 +52,9 @@ holds_lawful P holds places h l = holds_after P holds places h.opening h.entries
 
 sound_opening : (e : Entry) → IsOpening e → Sound (effects_of (whole (e ∷ [])))
 sound_opening e (who, policy, is, may, ok) =
-    subst (λ (x : Entry). Sound (effects_of (whole (x ∷ [])))) (sym is) (sound_sets (Opens who ∷ resumed nothing.tables) policy (sound_opens (resumed nothing.tables) who (sound_back [] sound_none)))
+    subst (λ (x : Entry). Sound (effects_of (whole (x ∷ [])))) (sym is)
+    (sound_sets (Opens who ∷ resumed nothing.tables) policy
+    (sound_opens (resumed nothing.tables) who (sound_back [] sound_none)))
 
 abbrev pub LeavesSound : History → Type 0
 LeavesSound h = Sound (effects_of h)

@@ -1,4 +1,5 @@
--- An induction over what an event does: a fact that no plain effect breaks is kept by every event but a Connect, a Die, a Release and an Add.
+-- An induction over what an event does: a fact that no plain effect breaks is kept by every event but a Connect,
+-- a Die, a Release and an Add.
 use Rattle.std.proofs.Common.{◌≡◌, ℕ, Bool, true, false, ◌==◌, List, [], ◌∷◌, refl, Option, Some, None, if◌then◌else◌}
 use Rattle.sm_kinds.specs.declared.number.Node.{Node}
 use Rattle.sm_kinds.specs.declared.number.ObjRef.{ObjRef}
@@ -25,17 +26,20 @@ abbrev pub Lasts : (Effects → Type 0) → Type 0
 Lasts P = (x : Effect) (d : Effects) → is_plain x ≡ true → P d → P (x ∷ d)
 
 pub handed_keeps : (P : Effects → Type 0) → Lasts P → (d : Effects) (c : ℕ) (n : Node) → P d → P (handed d c n)
-handed_keeps P lasts d c n h = elim (n.owner.0 == c) as (λ b. P (if b then d else Gives c n (number_for d c n) ∷ d)) [ true ↦ h | false ↦ lasts (Gives c n (number_for d c n)) d refl h ]
+handed_keeps P lasts d c n h = elim (n.owner.0 == c) as (λ b. P (if b then d else Gives c n (number_for d c n) ∷ d))
+    [ true ↦ h | false ↦ lasts (Gives c n (number_for d c n)) d refl h ]
 
 told_keeps : (P : Effects → Type 0) → Lasts P → (d : Effects) (n : Node) (w : Watch) (o : Option Stop) → P d
     → P (after_told d n w o)
-told_keeps P lasts d n w None h = lasts (Delivers w.client (registration d n w)) (handed d w.client n) refl (handed_keeps P lasts d w.client n h)
+told_keeps P lasts d n w None h = lasts (Delivers w.client (registration d n w)) (handed d w.client n) refl
+    (handed_keeps P lasts d w.client n h)
 told_keeps P lasts d n w (Some failing) h = h
 
 pub notices_keep : (P : Effects → Type 0) → Lasts P → (d : Effects) (n : Node) (ws : List Watch) → P d
     → P (after_notices d n ws)
 notices_keep P lasts d n [] h = h
-notices_keep P lasts d n (w ∷ ws) h = notices_keep P lasts (after_notice d n w) n ws (told_keeps P lasts d n w (first_missing d n w) h)
+notices_keep P lasts d n (w ∷ ws) h = notices_keep P lasts (after_notice d n w) n ws
+    (told_keeps P lasts d n w (first_missing d n w) h)
 
 ref_keeps : (P : Effects → Type 0) → Lasts P → (d : Effects) (to : ℕ) (o : Option Node) → P d → P (handed_ref d to o)
 ref_keeps P lasts d to None h = h
@@ -44,7 +48,8 @@ ref_keeps P lasts d to (Some n) h = handed_keeps P lasts d to n h
 pub refs_keep : (P : Effects → Type 0) → Lasts P → (d : Effects) (from to : ℕ) (rs : List ObjRef) → P d
     → P (handed_refs d from to rs)
 refs_keep P lasts d from to [] h = h
-refs_keep P lasts d from to (r ∷ rs) h = let o = resolve_at d from r in refs_keep P lasts (handed_ref d to o) from to rs (ref_keeps P lasts d to o h)
+refs_keep P lasts d from to (r ∷ rs) h = let o = resolve_at d from r in
+    refs_keep P lasts (handed_ref d to o) from to rs (ref_keeps P lasts d to o h)
 
 get_keeps : (P : Effects → Type 0) → Lasts P → (d : Effects) (c : ℕ) (o : Option Service) → P d → P (after_get d c o)
 get_keeps P lasts d c None h = h
@@ -75,7 +80,8 @@ event_keeps P lasts d c (WatchName name object) left h = let w = watch c name ob
 event_keeps P lasts d c (Unwatch name object) left h = lasts (Unwatches (watch c name object)) d refl h
 event_keeps P lasts d c (Unregister name obj) left h = lasts (Removes name) d refl h
 event_keeps P lasts d c (Call handle payload refs) left h = let n = found (node_at d c handle) in
-    lasts (Delivers n.owner.0 (call_delivery d c n payload refs)) (handed_refs d c n.owner.0 refs) refl (refs_keep P lasts d c n.owner.0 refs h)
+    lasts (Delivers n.owner.0 (call_delivery d c n payload refs)) (handed_refs d c n.owner.0 refs) refl
+    (refs_keep P lasts d c n.owner.0 refs h)
 event_keeps P lasts d c (Release handle) left h = left
 event_keeps P lasts d c Take left h = lasts (Takes c) d refl h
 event_keeps P lasts d c Die left h = left

@@ -35,3 +35,4 @@ pub mod Fitting
 pub mod Living
 pub mod Fits
 pub mod Beginnings
+pub mod Listing

@@ -8,7 +8,8 @@ pub any_filter : {X : Type 0} (p q : X → Bool) (xs : List X) → list_any p xs
 any_filter p q [] h = refl
 any_filter {X} p q (x ∷ xs) h =
     elim (q x) as (λ b. list_any p (if b then x ∷ filter q xs else filter q xs) ≡ false) [
-      | true ↦ or_from (p x) (list_any p (filter q xs)) (or_parts (p x) (list_any p xs) h).0 (any_filter p q xs (or_parts (p x) (list_any p xs) h).1)
+      | true ↦ or_from (p x) (list_any p (filter q xs)) (or_parts (p x) (list_any p xs) h).0
+          (any_filter p q xs (or_parts (p x) (list_any p xs) h).1)
       | false ↦ any_filter p q xs (or_parts (p x) (list_any p xs) h).1
     ]
 
@@ -19,10 +20,12 @@ filter_but p q n [] h same = refl
 filter_but p q n (x ∷ xs) h same =
     let i = filter_but p q n xs (or_parts (x == n) (list_any (λ x. x == n) xs) h).1 same in
     rw (same x (or_parts (x == n) (list_any (λ x. x == n) xs) h).0)
-    (elim (q x) as (λ b. (if b then x ∷ filter p xs else filter p xs) ≡ (if b then x ∷ filter q xs else filter q xs)) [ true ↦ ap (λ t. x ∷ t) i | false ↦ i ])
+    (elim (q x) as (λ b. (if b then x ∷ filter p xs else filter p xs) ≡ (if b then x ∷ filter q xs else filter q xs))
+    [ true ↦ ap (λ t. x ∷ t) i | false ↦ i ])
 
 pub map_but : {Y : Type 0} (f g : ℕ → Y) (n : ℕ) (xs : List ℕ) → list_any (λ x. x == n) xs ≡ false
     → ((x : ℕ) → (x == n) ≡ false → f x ≡ g x) → map f xs ≡ map g xs
 map_but f g n [] h same = refl
 map_but f g n (x ∷ xs) h same =
-    rw (same x (or_parts (x == n) (list_any (λ x. x == n) xs) h).0) (ap (λ t. g x ∷ t) (map_but f g n xs (or_parts (x == n) (list_any (λ x. x == n) xs) h).1 same))
+    rw (same x (or_parts (x == n) (list_any (λ x. x == n) xs) h).0)
+    (ap (λ t. g x ∷ t) (map_but f g n xs (or_parts (x == n) (list_any (λ x. x == n) xs) h).1 same))

@@ -23,6 +23,7 @@ and_again false b = refl
 
 pub any_live : (d : Effects) (c : ℕ) → list_any (λ x. x == c) (live_clients d) ≡ is_live d c
 any_live d c =
-    any-filter_same (λ x. x == c) (is_live d) (is_live d c) (λ k e. ap (is_live d) (number_same k c e)) (reverse (filter_map connected d))
+    any-filter_same (λ x. x == c) (is_live d) (is_live d c) (λ k e. ap (is_live d) (number_same k c e))
+    (reverse (filter_map connected d))
     ∙ ap (λ b. is_live d c && b) (any_reversed (λ x. x == c) (filter_map connected d) ∙ any_connected d c)
     ∙ and_again (list_any (is_connect_of c) d) (not (list_any (is_death_of c) d))

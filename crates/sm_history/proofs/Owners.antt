@@ -33,7 +33,8 @@ pub all_hold : (p : Policy) (xs : List Check) (o outcome : Outcome) → answered
     → AllHold p xs
 all_hold p [] o outcome h = tt
 all_hold p (x ∷ xs) o outcome h =
-    elim (holds p x) as (λ b. holds p x ≡ b → answered (if b then first_failing p xs else Some (stop_of x)) o ≡ Done outcome → (holds p x ≡ true) × AllHold p xs) [
+    elim (holds p x) as (λ b. holds p x ≡ b → answered (if b then first_failing p xs else Some (stop_of x)) o
+    ≡ Done outcome → (holds p x ≡ true) × AllHold p xs) [
       | true ↦ λ e h'. (e, all_hold p xs o outcome h')
       | false ↦ λ e h'. absurd (not_done (stop_of x) outcome h')
     ] refl h
@@ -46,7 +47,8 @@ owned_lasts (Adds name s) d plain h = absurd (true≢false (sym plain))
 owned_lasts (Opens who) d plain h = h
 owned_lasts (Sets p) d plain h = h
 owned_lasts (Removes other) d plain h = λ name s.
-    elim (bytes_eq other name) as (λ b. said_or (if b then Gone else Silent) (last_said d name) ≡ Some s → s.node.owner.0 < next_client d) [ true ↦ λ e. cc | false ↦ λ e. h name s e ]
+    elim (bytes_eq other name) as (λ b. said_or (if b then Gone else Silent) (last_said d name) ≡ Some s →
+    s.node.owner.0 < next_client d) [ true ↦ λ e. cc | false ↦ λ e. h name s e ]
 owned_lasts (Gives c m r) d plain h = h
 owned_lasts (Watches w) d plain h = h
 owned_lasts (Unwatches w) d plain h = h
@@ -57,7 +59,8 @@ owned_lasts (Resumes v n) d plain h = absurd (true≢false (sym plain))
 pub add_owned : (d : Effects) (added : List ℕ) (t : Service) → t.node.owner.0 < next_client d → IsOwned d
     → IsOwned (Adds added t ∷ d)
 add_owned d added t lt h name s =
-    elim (bytes_eq added name) as (λ b. said_or (if b then Here t else Silent) (last_said d name) ≡ Some s → s.node.owner.0 < next_client d) [
+    elim (bytes_eq added name) as (λ b. said_or (if b then Here t else Silent) (last_said d name) ≡ Some s →
+    s.node.owner.0 < next_client d) [
       | true ↦ λ e. let same : t ≡ s = cc in subst (λ (v : Service). v.node.owner.0 < next_client d) same lt
       | false ↦ λ e. h name s e
     ]

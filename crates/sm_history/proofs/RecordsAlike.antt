@@ -31,9 +31,20 @@ pub record AtOneLength (h g : History) : Type 0 where
 record_alike : (h g : History) (o : Option Stop) → AtOneLength h g → record_of h o ≡ record_of g o
 record_alike h g None s = refl
 record_alike h g (Some (Unruled class perm who target name)) s =
-    both (λ (n v : ℕ). let l : List Recorded = record { at = n; version = v; denial = rule_denial class perm who target; who = who; target = target; name = name } ∷ [] in l) s.length s.sim.agree.version
+    both (λ (n v : ℕ). let l : List Recorded =
+    record {
+      at = n;
+      version = v;
+      denial = rule_denial class perm who target;
+      who = who;
+      target = target;
+      name =
+          name;
+    } ∷ [] in l) s.length s.sim.agree.version
 record_alike h g (Some (Barred denial who name)) s =
-    both (λ (n v : ℕ). let l : List Recorded = record { at = n; version = v; denial = denial; who = who; target = []; name = Some name } ∷ [] in l) s.length s.sim.agree.version
+    both (λ (n v : ℕ). let l : List Recorded =
+    record { at = n; version = v; denial = denial; who = who; target = []; name = Some name } ∷ [] in l) s.length
+    s.sim.agree.version
 record_alike h g (Some (Unmet instead)) s = refl
 
 notice_records_alike : (h g : History) (d e : Effects) (n : Node) (ws : List Watch) → AtOneLength h g → Sim d e
@@ -44,12 +55,14 @@ notice_records_alike h g d e n (w ∷ ws) s t live =
     both (λ (xs ys : List Recorded). xs ++ ys)
     (record_alike h g (first_missing d n w) s ∙ ap (record_of g) (missing_alike d e n w t here))
     (notice_records_alike h g (after_notice d n w) (after_notice e n w) n ws s (sim_notice d e n w t here)
-    (all_same (is_live d) (is_live (after_notice d n w)) ws (λ k. live_notice d n w k) (and_parts (is_live d w.client) (list_all (λ (v : Watch). is_live d v.client) ws) live).1))
+    (all_same (is_live d) (is_live (after_notice d n w)) ws (λ k. live_notice d n w k)
+    (and_parts (is_live d w.client) (list_all (λ (v : Watch). is_live d v.client) ws) live).1))
 
 watch_records_alike : (h g : History) (d e : Effects) (w : Watch) (o : Option Service) → AtOneLength h g → Sim d e
     → is_live d w.client ≡ true → watch_records h d w o ≡ watch_records g e w o
 watch_records_alike h g d e w None s t live = refl
-watch_records_alike h g d e w (Some x) s t live = notice_records_alike h g d e x.node (w ∷ []) s t (ap (λ b. b && true) live)
+watch_records_alike h g d e w (Some x) s t live = notice_records_alike h g d e x.node (w ∷ []) s t
+    (ap (λ b. b && true) live)
 
 done_alike : (h g : History) (c : ℕ) (event : Event) → AtOneLength h g → Acts (effects_of h) c event
     → Passes (effects_of h) c event → done_records h c event ≡ done_records g c event
@@ -58,9 +71,11 @@ done_alike h g c (Add name obj allow dump) s acts a =
     let e = effects_of g in
     let n = found (resolve_at d c obj) in
     let t = service c n allow dump in
-    notice_records_alike h g (Adds name t ∷ d) (Adds name t ∷ e) n (watchers_at d name) s (sim_adds d e name t (add_owner d c name obj allow dump a) s.sim) (watchers_live d name)
+    notice_records_alike h g (Adds name t ∷ d) (Adds name t ∷ e) n (watchers_at d name) s
+    (sim_adds d e name t (add_owner d c name obj allow dump a) s.sim) (watchers_live d name)
     ∙ ap (notice_records g (Adds name t ∷ e) n) (watchers_alike d e name s.sim)
-    ∙ ap (λ (o : Option Node). notice_records g (Adds name (service c (found o) allow dump) ∷ e) (found o) (watchers_at e name)) (resolve_alike d e c obj s.sim)
+    ∙ ap (λ (o : Option Node). notice_records g (Adds name (service c (found o) allow dump) ∷ e) (found o)
+    (watchers_at e name)) (resolve_alike d e c obj s.sim)
 done_alike h g c (WatchName name object) s acts a =
     let d = effects_of h in
     let e = effects_of g in
@@ -85,7 +100,9 @@ or_alike h g (Some failing) xs ys s same = record_alike h g (Some failing) s
 
 -- The records of an event, where the checks behind its own are the same.
 abbrev pub recorded : History → By → ℕ → Event → List Check → List Recorded
-recorded h by turn event rest = records_or h (first_failing (policy_at (effects_of h)) (all_checks (effects_of h) (turn_of h by) by turn event rest)) (done_records h (client_of by) event)
+recorded h by turn event rest =
+    records_or h (first_failing (policy_at (effects_of h))
+    (all_checks (effects_of h) (turn_of h by) by turn event rest)) (done_records h (client_of by) event)
 
 pub recorded_alike : (h g : History) (by : By) (turn : ℕ) (event : Event) (rest : List Check) → AtOneLength h g
     → (is_there (effects_of h) by ≡ true → turn_of h by ≡ turn_of g by)
@@ -93,8 +110,10 @@ pub recorded_alike : (h g : History) (by : By) (turn : ℕ) (event : Event) (res
 recorded_alike h g by turn event rest s turns =
     let d = effects_of h in
     let e = effects_of g in
-    or_alike h g (first_failing (policy_at d) (all_checks d (turn_of h by) by turn event rest)) (done_records h (client_of by) event) (done_records g (client_of by) event) s
+    or_alike h g (first_failing (policy_at d) (all_checks d (turn_of h by) by turn event rest))
+    (done_records h (client_of by) event) (done_records g (client_of by) event) s
     (λ none.
     let a = none_hold (policy_at d) (all_checks d (turn_of h by) by turn event rest) none in
     done_alike h g (client_of by) event s (acts_of d by event a.0 a.1.0) (hold_left (policy_at d) _ rest a.1.1.1))
-    ∙ ap (λ (o : Option Stop). records_or g o (done_records g (client_of by) event)) (failing_alike d e (turn_of h by) (turn_of g by) by turn event rest s.sim turns)
+    ∙ ap (λ (o : Option Stop). records_or g o (done_records g (client_of by) event))
+    (failing_alike d e (turn_of h by) (turn_of g by) by turn event rest s.sim turns)

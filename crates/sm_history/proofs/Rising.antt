@@ -13,6 +13,7 @@ use Rattle.std.proofs.lemmas.Map.Views.{any-filter_same}
 use Rattle.std.proofs.lemmas.Slice.Eq.{bytes_eq-Decides}
 use Rattle.sm_history.specs.declared.service.Service.{Service}
 use Rattle.sm_history.specs.Effects.{Effects, Adds, Removes}
+use Rattle.sm_history.specs.Rising.{AllAfter, IsRising}
 use Rattle.sm_history.specs.Services.{service_at, last_said, names_added, current_names, placed, placed_by, said_or, Silent, Gone}
 
 pub same_bytes : (a b : List ℕ) → bytes_eq a b ≡ true → a ≡ b
@@ -21,13 +22,13 @@ same_bytes a b e = (bytes_eq-Decides a b).0 e
 pub own_bytes : (a : List ℕ) → bytes_eq a a ≡ true
 own_bytes a = (bytes_eq-Decides a a).1 refl
 
-equal_names : (a b : List ℕ) → slice_cmp nat_cmp a b ≡ Equal → a ≡ b
+pub equal_names : (a b : List ℕ) → slice_cmp nat_cmp a b ≡ Equal → a ≡ b
 equal_names a b e = same_bytes a b (sym (is_eq-slice_cmp a b) ∙ ap is_eq e)
 
-apart_names : (a b : List ℕ) (o : Ordering) → slice_cmp nat_cmp a b ≡ o → is_eq o ≡ false → bytes_eq a b ≡ false
+pub apart_names : (a b : List ℕ) (o : Ordering) → slice_cmp nat_cmp a b ≡ o → is_eq o ≡ false → bytes_eq a b ≡ false
 apart_names a b o e n = sym (is_eq-slice_cmp a b) ∙ ap is_eq e ∙ n
 
-turned : (a b : List ℕ) → slice_cmp nat_cmp a b ≡ Greater → slice_cmp nat_cmp b a ≡ Less
+pub turned : (a b : List ℕ) → slice_cmp nat_cmp a b ≡ Greater → slice_cmp nat_cmp b a ≡ Less
 turned a b e = nat_list_cmp_total.antisymm b a ∙ ap ordering_reverse e
 
 less_is : (o : Ordering) → is_lt o ≡ true → o ≡ Less
@@ -35,27 +36,24 @@ less_is Less h = refl
 less_is Equal h = absurd (true≢false (sym h))
 less_is Greater h = absurd (true≢false (sym h))
 
-abbrev AllAfter : List ℕ → List (List ℕ) → Type 0
-AllAfter name ns = list_all (λ y. is_lt (slice_cmp nat_cmp name y)) ns ≡ true
+pub head_after : (name x : List ℕ) (xs : List (List ℕ)) → AllAfter name (x ∷ xs) → slice_cmp nat_cmp name x ≡ Less
+head_after name x xs h = less_is (slice_cmp nat_cmp name x)
+    (and_parts (is_lt (slice_cmp nat_cmp name x)) (list_all (λ y. is_lt (slice_cmp nat_cmp name y)) xs) h).0
 
-abbrev IsRising : List (List ℕ) → Type 0
-IsRising [] = Unit {0}
-IsRising (x ∷ xs) = AllAfter x xs × IsRising xs
+pub tail_after : (name x : List ℕ) (xs : List (List ℕ)) → AllAfter name (x ∷ xs) → AllAfter name xs
+tail_after name x xs h = (and_parts (is_lt (slice_cmp nat_cmp name x))
+    (list_all (λ y. is_lt (slice_cmp nat_cmp name y)) xs) h).1
 
-head_after : (name x : List ℕ) (xs : List (List ℕ)) → AllAfter name (x ∷ xs) → slice_cmp nat_cmp name x ≡ Less
-head_after name x xs h = less_is (slice_cmp nat_cmp name x) (and_parts (is_lt (slice_cmp nat_cmp name x)) (list_all (λ y. is_lt (slice_cmp nat_cmp name y)) xs) h).0
-
-tail_after : (name x : List ℕ) (xs : List (List ℕ)) → AllAfter name (x ∷ xs) → AllAfter name xs
-tail_after name x xs h = (and_parts (is_lt (slice_cmp nat_cmp name x)) (list_all (λ y. is_lt (slice_cmp nat_cmp name y)) xs) h).1
-
-more_after : (name x : List ℕ) (xs : List (List ℕ)) → slice_cmp nat_cmp name x ≡ Less → AllAfter name xs
+pub more_after : (name x : List ℕ) (xs : List (List ℕ)) → slice_cmp nat_cmp name x ≡ Less → AllAfter name xs
     → AllAfter name (x ∷ xs)
 more_after name x xs e h = rw (e, h) refl
 
-all_after : (name x : List ℕ) (xs : List (List ℕ)) → slice_cmp nat_cmp name x ≡ Less → AllAfter x xs → AllAfter name xs
+pub all_after : (name x : List ℕ) (xs : List (List ℕ)) → slice_cmp nat_cmp name x ≡ Less → AllAfter x xs →
+    AllAfter name xs
 all_after name x [] e h = refl
 all_after name x (y ∷ ys) e h =
-    more_after name y ys (nat_list_cmp_total.trans name x y e (head_after x y ys h)) (all_after name x ys e (tail_after x y ys h))
+    more_after name y ys (nat_list_cmp_total.trans name x y e (head_after x y ys h))
+    (all_after name x ys e (tail_after x y ys h))
 
 placed_after : (a name : List ℕ) (xs : List (List ℕ)) → slice_cmp nat_cmp a name ≡ Less → AllAfter a xs
     → AllAfter a (placed name xs)
@@ -71,13 +69,14 @@ placed_after a name (x ∷ xs) e h =
 rising_placed : (name : List ℕ) (xs : List (List ℕ)) → IsRising xs → IsRising (placed name xs)
 rising_placed name [] h = (refl, tt)
 rising_placed name (x ∷ xs) h =
-    elim (slice_cmp nat_cmp name x) as (λ o. slice_cmp nat_cmp name x ≡ o → IsRising (placed_by o name x xs (placed name xs))) [
+    elim (slice_cmp nat_cmp name x) as (λ o. slice_cmp nat_cmp name x ≡ o →
+    IsRising (placed_by o name x xs (placed name xs))) [
       | Less ↦ λ e. (more_after name x xs e (all_after name x xs e h.0), h)
       | Equal ↦ λ e. h
       | Greater ↦ λ e. (placed_after x name xs (turned name x e) h.0, rising_placed name xs h.1)
     ] refl
 
-rising_added : (d : Effects) → IsRising (names_added d)
+pub rising_added : (d : Effects) → IsRising (names_added d)
 rising_added [] = tt
 rising_added (Adds name s ∷ d) = rising_placed name (names_added d) (rising_added d)
 rising_added (x ∷ d) = rising_added d
@@ -87,7 +86,9 @@ any_placed : (q name : List ℕ) (ns : List (List ℕ)) → list_any (λ x. byte
 any_placed q name [] h = ((or_parts (bytes_eq name q) false h).0, refl)
 any_placed q name (x ∷ xs) h =
     let p = λ (y : List ℕ). bytes_eq y q in
-    elim (slice_cmp nat_cmp name x) as (λ o. slice_cmp nat_cmp name x ≡ o → list_any p (placed_by o name x xs (placed name xs)) ≡ false → (p name ≡ false) × (list_any p (x ∷ xs) ≡ false)) [
+    elim (slice_cmp nat_cmp name x) as (λ o. slice_cmp nat_cmp name x ≡ o →
+    list_any p (placed_by o name x xs (placed name xs)) ≡ false →
+    (p name ≡ false) × (list_any p (x ∷ xs) ≡ false)) [
       | Less ↦ λ e h'. ((or_parts (p name) (list_any p (x ∷ xs)) h').0, (or_parts (p name) (list_any p (x ∷ xs)) h').1)
       | Equal ↦ λ e h'. (ap p (equal_names name x e) ∙ (or_parts (p x) (list_any p xs) h').0, h')
       | Greater ↦ λ e h'.
@@ -100,7 +101,8 @@ never_said : (d : Effects) (name : List ℕ) → list_any (λ x. bytes_eq x name
 never_said [] name h = refl
 never_said (Adds other s ∷ d) name h = let a = any_placed name other (names_added d) h in rw a.0 (never_said d name a.1)
 never_said (Removes other ∷ d) name h =
-    elim (bytes_eq other name) as (λ b. said_or (if b then Gone else Silent) (last_said d name) ≡ None) [ true ↦ refl | false ↦ never_said d name h ]
+    elim (bytes_eq other name) as (λ b. said_or (if b then Gone else Silent) (last_said d name) ≡ None)
+    [ true ↦ refl | false ↦ never_said d name h ]
 never_said (x ∷ d) name h = never_said d name h
 
 -- ---- rising lists
@@ -108,16 +110,17 @@ never_said (x ∷ d) name h = never_said d name h
 abbrev pub is_in : List ℕ → List (List ℕ) → Bool
 is_in q ns = list_any (λ x. bytes_eq x q) ns
 
-swapped : (a b : List ℕ) → bytes_eq a b ≡ false → bytes_eq b a ≡ false
+pub swapped : (a b : List ℕ) → bytes_eq a b ≡ false → bytes_eq b a ≡ false
 swapped a b h =
     elim (bytes_eq b a) as (λ t. bytes_eq b a ≡ t → t ≡ false) [
       | false ↦ λ f. refl
       | true ↦ λ f. sym (own_bytes a) ∙ subst (λ (v : List ℕ). bytes_eq a v ≡ false) (same_bytes b a f) h
     ] refl
 
-not_in : (a : List ℕ) (ns : List (List ℕ)) → AllAfter a ns → is_in a ns ≡ false
+pub not_in : (a : List ℕ) (ns : List (List ℕ)) → AllAfter a ns → is_in a ns ≡ false
 not_in a [] h = refl
-not_in a (y ∷ ys) h = or_from (bytes_eq y a) (is_in a ys) (swapped a y (apart_names a y Less (head_after a y ys h) refl)) (not_in a ys (tail_after a y ys h))
+not_in a (y ∷ ys) h = or_from (bytes_eq y a) (is_in a ys)
+    (swapped a y (apart_names a y Less (head_after a y ys h) refl)) (not_in a ys (tail_after a y ys h))
 
 before_all : (a y : List ℕ) (ys : List (List ℕ)) → slice_cmp nat_cmp a y ≡ Less → AllAfter y ys
     → is_in a (y ∷ ys) ≡ false
@@ -141,7 +144,8 @@ rising_same (x ∷ xs) (y ∷ ys) hx hy same =
           elim (bytes_eq x q) as (λ b. bytes_eq x q ≡ b → is_in q xs ≡ is_in q ys) [
             | true ↦ λ f.
                 let at : x ≡ q = same_bytes x q f in
-                subst (λ (v : List ℕ). is_in v xs ≡ is_in v ys) at (not_in x xs hx.0 ∙ sym (not_in x ys (subst (λ (v : List ℕ). AllAfter v ys) (sym is) hy.0)))
+                subst (λ (v : List ℕ). is_in v xs ≡ is_in v ys) at
+                (not_in x xs hx.0 ∙ sym (not_in x ys (subst (λ (v : List ℕ). AllAfter v ys) (sym is) hy.0)))
             | false ↦ λ f.
                 let g : bytes_eq y q ≡ false = subst (λ (v : List ℕ). bytes_eq v q ≡ false) is f in
                 let s : (bytes_eq x q || is_in q xs) ≡ (bytes_eq y q || is_in q ys) = same q in
@@ -151,24 +155,28 @@ rising_same (x ∷ xs) (y ∷ ys) hx hy same =
       | Greater ↦ λ e. absurd (true≢false (sym (first_in y ys) ∙ sym (same y) ∙ before_all y x xs (turned x y e) hx.0))
     ] refl
 
-after_filter : (p : List ℕ → Bool) (a : List ℕ) (ns : List (List ℕ)) → AllAfter a ns → AllAfter a (filter p ns)
+pub after_filter : (p : List ℕ → Bool) (a : List ℕ) (ns : List (List ℕ)) → AllAfter a ns → AllAfter a (filter p ns)
 after_filter p a [] h = refl
 after_filter p a (x ∷ xs) h =
     let i = after_filter p a xs (tail_after a x xs h) in
-    elim (p x) as (λ b. AllAfter a (if b then x ∷ filter p xs else filter p xs)) [ true ↦ more_after a x (filter p xs) (head_after a x xs h) i | false ↦ i ]
+    elim (p x) as (λ b. AllAfter a (if b then x ∷ filter p xs else filter p xs))
+    [ true ↦ more_after a x (filter p xs) (head_after a x xs h) i | false ↦ i ]
 
-rising_filter : (p : List ℕ → Bool) (ns : List (List ℕ)) → IsRising ns → IsRising (filter p ns)
+pub rising_filter : (p : List ℕ → Bool) (ns : List (List ℕ)) → IsRising ns → IsRising (filter p ns)
 rising_filter p [] h = tt
 rising_filter p (x ∷ xs) h =
     let i = rising_filter p xs h.1 in
-    elim (p x) as (λ b. IsRising (if b then x ∷ filter p xs else filter p xs)) [ true ↦ (after_filter p x xs h.0, i) | false ↦ i ]
+    elim (p x) as (λ b. IsRising (if b then x ∷ filter p xs else filter p xs))
+    [ true ↦ (after_filter p x xs h.0, i) | false ↦ i ]
 
 -- ---- the names that have a service
 
 pub in_current : (d : Effects) (q : List ℕ) → is_in q (current_names d) ≡ is_some (service_at d q)
 in_current d q =
-    any-filter_same (λ x. bytes_eq x q) (λ n. is_some (service_at d n)) (is_some (service_at d q)) (λ k e. ap (λ (n : List ℕ). is_some (service_at d n)) (same_bytes k q e)) (names_added d)
-    ∙ elim (is_in q (names_added d)) as (λ b. is_in q (names_added d) ≡ b → (is_some (service_at d q) && b) ≡ is_some (service_at d q)) [
+    any-filter_same (λ x. bytes_eq x q) (λ n. is_some (service_at d n)) (is_some (service_at d q))
+    (λ k e. ap (λ (n : List ℕ). is_some (service_at d n)) (same_bytes k q e)) (names_added d)
+    ∙ elim (is_in q (names_added d)) as (λ b. is_in q (names_added d) ≡ b →
+    (is_some (service_at d q) && b) ≡ is_some (service_at d q)) [
       | true ↦ λ e. elim (is_some (service_at d q)) as (λ t. (t && true) ≡ t) [ true ↦ refl | false ↦ refl ]
       | false ↦ λ e. rw (never_said d q e) refl
     ] refl
@@ -177,5 +185,7 @@ in_current d q =
 pub names_alike : (d e : Effects) → ((name : List ℕ) → service_at d name ≡ service_at e name)
     → current_names d ≡ current_names e
 names_alike d e same =
-    rising_same (current_names d) (current_names e) (rising_filter (λ n. is_some (service_at d n)) (names_added d) (rising_added d)) (rising_filter (λ n. is_some (service_at e n)) (names_added e) (rising_added e))
+    rising_same (current_names d) (current_names e)
+    (rising_filter (λ n. is_some (service_at d n)) (names_added d) (rising_added d))
+    (rising_filter (λ n. is_some (service_at e n)) (names_added e) (rising_added e))
     (λ q. in_current d q ∙ ap (λ (o : Option Service). is_some o) (same q) ∙ sym (in_current e q))

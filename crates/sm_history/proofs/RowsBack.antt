@@ -40,7 +40,8 @@ connect_back : (d : Effects) (c : ℕ) → list_any (is_connect_of c) (resumed (
 connect_back d c =
     let r = rows_at d in
     let F = λ (b : Effects). list_any (is_connect_of c) b in
-    past_waiting F r (λ k x b. refl) ∙ past_watches F r (λ w b. refl) ∙ past_held F r (λ k n j b. refl) ∙ past_names F r (λ n s b. refl)
+    past_waiting F r (λ k x b. refl) ∙ past_watches F r (λ w b. refl) ∙ past_held F r (λ k n j b. refl) ∙
+    past_names F r (λ n s b. refl)
     ∙ connects_put c r.live (Sets r.policy ∷ Opens r.manager ∷ [])
     ∙ or_none (list_any (λ (x : LiveRow). x.client == c) r.live)
     ∙ any_rows d c (live_clients d) ∙ any_live d c
@@ -49,7 +50,8 @@ death_back : (d : Effects) (c : ℕ) → list_any (is_death_of c) (resumed (rows
 death_back d c =
     let r = rows_at d in
     let F = λ (b : Effects). list_any (is_death_of c) b in
-    past_waiting F r (λ k x b. refl) ∙ past_watches F r (λ w b. refl) ∙ past_held F r (λ k n j b. refl) ∙ past_names F r (λ n s b. refl)
+    past_waiting F r (λ k x b. refl) ∙ past_watches F r (λ w b. refl) ∙ past_held F r (λ k n j b. refl) ∙
+    past_names F r (λ n s b. refl)
     ∙ quiet F put_live (λ x b. refl) r.live (Sets r.policy ∷ Opens r.manager ∷ [])
 
 and_true : (a : Bool) → (a && true) ≡ a
@@ -80,7 +82,8 @@ list_back d =
     let F = λ (b : Effects). filter_map connected b in
     let ids = map (λ (x : LiveRow). x.client) r.live in
     ap (λ xs. filter (is_live (resumed r)) (reverse xs))
-    (past_waiting F r (λ k x b. refl) ∙ past_watches F r (λ w b. refl) ∙ past_held F r (λ k n j b. refl) ∙ past_names F r (λ n s b. refl)
+    (past_waiting F r (λ k x b. refl) ∙ past_watches F r (λ w b. refl) ∙ past_held F r (λ k n j b. refl) ∙
+    past_names F r (λ n s b. refl)
     ∙ connected_put r.live (Sets r.policy ∷ Opens r.manager ∷ []) ∙ append-nil (reverse ids))
     ∙ ap (filter (is_live (resumed r))) (reverse-reverse ids ∙ ids_back d ks)
     ∙ filter_agree (is_live (resumed r)) (is_live d) (λ c. live_back d c) ks
@@ -90,7 +93,8 @@ who_back : (d : Effects) (c : ℕ) → is_live d c ≡ true → identity_at d c 
 who_back d c live =
     let r = rows_at d in
     let F = λ (b : Effects). identity_at b c in
-    sym (past_waiting F r (λ k x b. refl) ∙ past_watches F r (λ w b. refl) ∙ past_held F r (λ k n j b. refl) ∙ past_names F r (λ n s b. refl)
+    sym (past_waiting F r (λ k x b. refl) ∙ past_watches F r (λ w b. refl) ∙ past_held F r (λ k n j b. refl) ∙
+    past_names F r (λ n s b. refl)
     ∙ identity_put d c (live_clients d) (Sets r.policy ∷ Opens r.manager ∷ [])
     ∙ rw (any_live d c ∙ live) refl)
 
@@ -107,7 +111,8 @@ other_case c n k d r (Some m) xs e z =
 other_weight : (c : ℕ) (n : Node) (k : ℕ) (d : Effects) (rs : List ℕ) → (k == c) ≡ false
     → sum_by (weight c n) (filter_map (held_under d k) rs) ≡ 0
 other_weight c n k d [] e = refl
-other_weight c n k d (r ∷ rs) e = other_case c n k d r (node_at d k r) (filter_map (held_under d k) rs) e (other_weight c n k d rs e)
+other_weight c n k d (r ∷ rs) e = other_case c n k d r (node_at d k r) (filter_map (held_under d k) rs) e
+    (other_weight c n k d rs e)
 
 flat_case : (c : ℕ) (n : Node) (d : Effects) (k : ℕ) (t any : Bool) (here rest : ℕ) → (k == c) ≡ t
     → (t ≡ true → any ≡ false) → here ≡ sum_by (weight c n) (held_rows d k)
@@ -116,7 +121,8 @@ flat_case : (c : ℕ) (n : Node) (d : Effects) (k : ℕ) (t any : Bool) (here re
 flat_case c n d k true any here rest e once h r =
     let a = once refl in
     let z : rest ≡ 0 = r ∙ rw a refl in
-    let s : here ≡ sum_by (weight c n) (held_rows d c) = h ∙ ap (λ j. sum_by (weight c n) (held_rows d j)) (number_same k c e) in
+    let s : here ≡ sum_by (weight c n) (held_rows d c) = h ∙
+    ap (λ j. sum_by (weight c n) (held_rows d j)) (number_same k c e) in
     omega (arith, z, s)
 flat_case c n d k false any here rest e once h r =
     let z : here ≡ 0 = h ∙ other_weight c n k d (range_with_len 0 (top_number d k + 1)) e in
@@ -128,14 +134,17 @@ sum_flat : (c : ℕ) (n : Node) (d : Effects) (ks : List ℕ) → IsOnce ks
 sum_flat c n d [] once = refl
 sum_flat c n d (k ∷ ks) once =
     sum_by-append (weight c n) (held_rows d k) (flat_map (held_rows d) ks)
-    ∙ flat_case c n d k (k == c) (among c ks) (sum_by (weight c n) (held_rows d k)) (sum_by (weight c n) (flat_map (held_rows d) ks)) refl (λ e. ap (λ j. among j ks) (sym (number_same k c e)) ∙ once.0) refl (sum_flat c n d ks once.1)
+    ∙ flat_case c n d k (k == c) (among c ks) (sum_by (weight c n) (held_rows d k))
+    (sum_by (weight c n) (flat_map (held_rows d) ks)) refl
+    (λ e. ap (λ j. among j ks) (sym (number_same k c e)) ∙ once.0) refl (sum_flat c n d ks once.1)
 
 abbrev at_number : Bool → ℕ → ℕ → ℕ → ℕ
 at_number held a v r = if held && (a == r) then v else 0
 
 under_case : (d : Effects) (c : ℕ) (n : Node) (r : ℕ) (o : Option Node) (xs : List HeldRow) (z : ℕ) → HasOneEach d c
     → node_at d c r ≡ o → sum_by (weight c n) xs ≡ z
-    → sum_by (weight c n) (cons_option (option_map (held_row d c r) o) xs) ≡ at_number (is_held d c n) (number_at d c n) (refs_at d c n) r + z
+    → sum_by (weight c n) (cons_option (option_map (held_row d c r) o) xs)
+    ≡ at_number (is_held d c n) (number_at d c n) (refs_at d c n) r + z
 under_case d c n r None xs z one e h =
     let none : at_number (is_held d c n) (number_at d c n) (refs_at d c n) r ≡ 0 =
     elim (is_held d c n) as (λ b. is_held d c n ≡ b → at_number b (number_at d c n) (refs_at d c n) r ≡ 0) [
@@ -148,29 +157,35 @@ under_case d c n r (Some m) xs z one e h =
     let self : (c == c) ≡ true = grind (arith, nat_tests) in
     let f = node_held d c r m e in
     let w : weight c n (held_row d c r m) ≡ at_number (is_held d c n) (number_at d c n) (refs_at d c n) r =
-    rw self (elim (same_node m n) as (λ b. same_node m n ≡ b → (if b then refs_at d c m else 0) ≡ at_number (is_held d c n) (number_at d c n) (refs_at d c n) r) [
+    rw self (elim (same_node m n) as (λ b. same_node m n ≡ b →
+    (if b then refs_at d c m else 0) ≡ at_number (is_held d c n) (number_at d c n) (refs_at d c n) r) [
       | true ↦ λ t.
           let same = node_same m n t in
           let held : is_held d c n ≡ true = ap (is_held d c) (sym same) ∙ f.0 in
-          let at : (number_at d c n == r) ≡ true = let q : number_at d c n ≡ r = ap (number_at d c) (sym same) ∙ f.1 in grind (arith, nat_tests) in
+          let at : (number_at d c n == r) ≡ true = let q : number_at d c n ≡ r = ap (number_at d c) (sym same) ∙
+          f.1 in grind (arith, nat_tests) in
           rw (held, at) (ap (refs_at d c) same)
-      | false ↦ λ t. elim (is_held d c n) as (λ b. is_held d c n ≡ b → 0 ≡ at_number b (number_at d c n) (refs_at d c n) r) [
-        | true ↦ λ held. elim (number_at d c n == r) as (λ b. (number_at d c n == r) ≡ b → 0 ≡ (if b then refs_at d c n else 0)) [
-          | true ↦ λ at.
-              let same : m ≡ n = one m n f.0 held (f.1 ∙ sym (number_same (number_at d c n) r at)) in
-              absurd (true≢false (sym (ap (same_node m) (sym same) ∙ same_self m) ∙ t))
-          | false ↦ λ at. refl
-        ] refl
-        | false ↦ λ held. refl
-      ] refl
+      | false ↦ λ t. elim (is_held d c n) as (λ b. is_held d c n ≡ b →
+          0 ≡ at_number b (number_at d c n) (refs_at d c n) r) [
+            | true ↦ λ held. elim (number_at d c n == r) as (λ b. (number_at d c n == r) ≡ b →
+                0 ≡ (if b then refs_at d c n else 0)) [
+                  | true ↦ λ at.
+                      let same : m ≡ n = one m n f.0 held (f.1 ∙ sym (number_same (number_at d c n) r at)) in
+                      absurd (true≢false (sym (ap (same_node m) (sym same) ∙ same_self m) ∙ t))
+                  | false ↦ λ at. refl
+                ] refl
+            | false ↦ λ held. refl
+          ] refl
     ] refl) in
     omega (arith, s, w, h)
 
 sum_under : (d : Effects) (c : ℕ) (n : Node) (rs : List ℕ) → HasOneEach d c
-    → sum_by (weight c n) (filter_map (held_under d c) rs) ≡ sum_by (at_number (is_held d c n) (number_at d c n) (refs_at d c n)) rs
+    → sum_by (weight c n) (filter_map (held_under d c) rs)
+    ≡ sum_by (at_number (is_held d c n) (number_at d c n) (refs_at d c n)) rs
 sum_under d c n [] one = refl
 sum_under d c n (r ∷ rs) one =
-    under_case d c n r (node_at d c r) (filter_map (held_under d c) rs) (sum_by (at_number (is_held d c n) (number_at d c n) (refs_at d c n)) rs) one refl (sum_under d c n rs one)
+    under_case d c n r (node_at d c r) (filter_map (held_under d c) rs)
+    (sum_by (at_number (is_held d c n) (number_at d c n) (refs_at d c n)) rs) one refl (sum_under d c n rs one)
     ∙ sym (sum_by-cons (at_number (is_held d c n) (number_at d c n) (refs_at d c n)) r rs)
 
 none_sum : (a v : ℕ) (rs : List ℕ) → sum_by (at_number false a v) rs ≡ 0
@@ -207,7 +222,8 @@ pub below_top : (f : Node → ℕ) (ns : List Node) (n : Node) → list_any (sam
     → f n ≤ greatest (map f ns)
 below_top f [] n h = absurd (true≢false (sym h))
 below_top f (m ∷ ns) n h =
-    elim (same_node n m) as (λ b. same_node n m ≡ b → (b || list_any (same_node n) ns) ≡ true → f n ≤ max (f m) (greatest (map f ns))) [
+    elim (same_node n m) as (λ b. same_node n m ≡ b → (b || list_any (same_node n) ns) ≡ true →
+    f n ≤ max (f m) (greatest (map f ns))) [
       | true ↦ λ e i. let same = ap f (node_same n m e) in omega (arith, same)
       | false ↦ λ e i. let j = below_top f ns n i in omega (arith, j)
     ] refl h
@@ -222,7 +238,8 @@ own_sum d c n one =
     let rs = range_with_len 0 (top_number d c + 1) in
     sum_under d c n rs one
     ∙ elim (is_held d c n) as (λ b. is_held d c n ≡ b → sum_by (at_number b a v) rs ≡ v) [
-      | true ↦ λ e. let le = below_top (number_at d c) (held_nodes d c) n (held_among d c n e) in at_sum a v 0 (top_number d c + 1) (omega arith) (omega (arith, le))
+      | true ↦ λ e. let le = below_top (number_at d c) (held_nodes d c) n (held_among d c n e) in
+          at_sum a v 0 (top_number d c + 1) (omega arith) (omega (arith, le))
       | false ↦ λ e. none_sum a v rs ∙ sym (none_held v e)
     ] refl
 
@@ -235,7 +252,8 @@ granted_back : (d : Effects) (c : ℕ) (n : Node)
 granted_back d c n =
     let r = rows_at d in
     let F = λ (b : Effects). granted b c n in
-    let none : granted (names_put r) c n ≡ 0 = past_names F r (λ x s b. refl) ∙ quiet F put_live (λ x b. refl) r.live (Sets r.policy ∷ Opens r.manager ∷ []) in
+    let none : granted (names_put r) c n ≡ 0 = past_names F r (λ x s b. refl) ∙
+    quiet F put_live (λ x b. refl) r.live (Sets r.policy ∷ Opens r.manager ∷ []) in
     let g = granted_put c n r.held (names_put r) in
     past_waiting F r (λ k x b. refl) ∙ past_watches F r (λ w b. refl) ∙ (omega (arith, g, none))
 
@@ -243,7 +261,8 @@ pub released_back : (d : Effects) (c : ℕ) (n : Node) → released (resumed (ro
 released_back d c n =
     let r = rows_at d in
     let F = λ (b : Effects). released b c n in
-    past_waiting F r (λ k x b. refl) ∙ past_watches F r (λ w b. refl) ∙ past_held F r (λ k m j b. refl) ∙ past_names F r (λ x s b. refl)
+    past_waiting F r (λ k x b. refl) ∙ past_watches F r (λ w b. refl) ∙ past_held F r (λ k m j b. refl) ∙
+    past_names F r (λ x s b. refl)
     ∙ quiet F put_live (λ x b. refl) r.live (Sets r.policy ∷ Opens r.manager ∷ [])
 
 refs_case : (live live' : Bool) (v g s : ℕ) → live' ≡ live → s ≡ 0 → (live ≡ true → g ≡ v) → (live ≡ false → v ≡ 0)
@@ -253,7 +272,8 @@ refs_case false live' v g s e z is none = rw e (none refl)
 
 refs_back : (d : Effects) (c : ℕ) (n : Node) → Sound d → refs_at d c n ≡ refs_at (resumed (rows_at d)) c n
 refs_back d c n s =
-    refs_case (is_live d c) (is_live (resumed (rows_at d)) c) (refs_at d c n) (granted (resumed (rows_at d)) c n) (released (resumed (rows_at d)) c n)
+    refs_case (is_live d c) (is_live (resumed (rows_at d)) c) (refs_at d c n) (granted (resumed (rows_at d)) c n)
+    (released (resumed (rows_at d)) c n)
     (live_back d c) (released_back d c n) (λ live. granted_back d c n ∙ weight_all d c n s live) (λ e. rw e refl)
 
 held_number : (d : Effects) (c : ℕ) (n : Node) (k r : ℕ) (o : Option Node) → node_at d k r ≡ o
@@ -261,7 +281,8 @@ held_number : (d : Effects) (c : ℕ) (n : Node) (k r : ℕ) (o : Option Node) �
 held_number d c n k r None e = tt
 held_number d c n k r (Some m) e = λ h.
     let f = node_held d k r m e in
-    sym f.1 ∙ ap (λ j. number_at d j m) (number_same k c (and_parts (k == c) (same_node m n) h).0) ∙ ap (number_at d c) (node_same m n (and_parts (k == c) (same_node m n) h).1)
+    sym f.1 ∙ ap (λ j. number_at d j m) (number_same k c (and_parts (k == c) (same_node m n) h).0) ∙
+    ap (number_at d c) (node_same m n (and_parts (k == c) (same_node m n) h).1)
 
 held_live : (live : Bool) (v : ℕ) → nat_lt 0 (if live then v else 0) ≡ true → live ≡ true
 held_live true v h = refl
@@ -274,9 +295,13 @@ number_back d c n s held =
     let F = λ (b : Effects). number_at b c n in
     let v = number_at d c n in
     let all = all_flat (HasNumber c n v) (held_rows d) (live_clients d)
-    (all_each (λ k. AllOf (HasNumber c n v) (held_rows d k)) (live_clients d) (λ k. all_filter_map (HasNumber c n v) (held_under d k) (range_with_len 0 (top_number d k + 1)) (λ x. held_number d c n k x (node_at d k x) refl))) in
-    let some : nat_lt 0 (sum_by (weight c n) r.held) ≡ true = ap (nat_lt 0) (weight_all d c n s (held_live (is_live d c) _ held)) ∙ held in
-    sym (past_waiting F r (λ k x b. refl) ∙ past_watches F r (λ w b. refl) ∙ number_put c n v r.held (names_put r) all ∙ rw some refl)
+    (all_each (λ k. AllOf (HasNumber c n v) (held_rows d k)) (live_clients d)
+    (λ k. all_filter_map (HasNumber c n v) (held_under d k) (range_with_len 0 (top_number d k + 1))
+    (λ x. held_number d c n k x (node_at d k x) refl))) in
+    let some : nat_lt 0 (sum_by (weight c n) r.held) ≡ true =
+    ap (nat_lt 0) (weight_all d c n s (held_live (is_live d c) _ held)) ∙ held in
+    sym (past_waiting F r (λ k x b. refl) ∙ past_watches F r (λ w b. refl) ∙
+    number_put c n v r.held (names_put r) all ∙ rw some refl)
 
 -- ---- names
 
@@ -284,7 +309,8 @@ owner_again : (d e : Effects) (o : Option Service) → ((c : ℕ) → is_live e 
     → if_owner_lives e (if_owner_lives d o) ≡ if_owner_lives d o
 owner_again d e None same = refl
 owner_again d e (Some s) same =
-    elim (is_live d s.node.owner.0) as (λ b. is_live d s.node.owner.0 ≡ b → if_owner_lives e (if b then Some s else None) ≡ (if b then Some s else None)) [
+    elim (is_live d s.node.owner.0) as (λ b. is_live d s.node.owner.0 ≡ b →
+    if_owner_lives e (if b then Some s else None) ≡ (if b then Some s else None)) [
       | true ↦ λ h. rw (same s.node.owner.0 ∙ h) refl
       | false ↦ λ h. refl
     ] refl
@@ -300,12 +326,15 @@ said_back d name =
     let o = service_at d name in
     past_waiting F r (λ k x b. refl) ∙ past_watches F r (λ w b. refl) ∙ past_held F r (λ k m j b. refl)
     ∙ said_put d name (current_names d) (live_put r)
-    ∙ ap (λ (b : Bool). let v : Option Service = if b && is_some o then o else last_said (live_put r) name in v) (in_current d name)
-    ∙ ap (λ (z : Option Service). let v : Option Service = if is_some o && is_some o then o else z in v) (quiet F put_live (λ x b. refl) r.live (Sets r.policy ∷ Opens r.manager ∷ []))
+    ∙ ap (λ (b : Bool). let v : Option Service = if b && is_some o then o else last_said (live_put r) name in v)
+    (in_current d name)
+    ∙ ap (λ (z : Option Service). let v : Option Service = if is_some o && is_some o then o else z in v)
+    (quiet F put_live (λ x b. refl) r.live (Sets r.policy ∷ Opens r.manager ∷ []))
     ∙ said_is o
 
 service_back : (d : Effects) (name : List ℕ) → service_at d name ≡ service_at (resumed (rows_at d)) name
-service_back d name = sym (ap (if_owner_lives (resumed (rows_at d))) (said_back d name) ∙ owner_again d (resumed (rows_at d)) (last_said d name) (λ c. live_back d c))
+service_back d name = sym (ap (if_owner_lives (resumed (rows_at d))) (said_back d name) ∙
+    owner_again d (resumed (rows_at d)) (last_said d name) (λ c. live_back d c))
 
 -- ---- watches and inboxes
 
@@ -313,16 +342,20 @@ watches_back : (d : Effects) → watches_at d ≡ watches_at (resumed (rows_at d
 watches_back d =
     let r = rows_at d in
     let F = watches_made in
-    let none : watches_made (held_put r) ≡ [] = past_held F r (λ k m j b. refl) ∙ past_names F r (λ x s b. refl) ∙ quiet F put_live (λ x b. refl) r.live (Sets r.policy ∷ Opens r.manager ∷ []) in
-    let made : watches_made (resumed r) ≡ watches_at d = past_waiting F r (λ k x b. refl) ∙ watches_made_put r.watches (held_put r) ∙ ap (λ ws. ws ++ watches_at d) none in
+    let none : watches_made (held_put r) ≡ [] = past_held F r (λ k m j b. refl) ∙ past_names F r (λ x s b. refl) ∙
+    quiet F put_live (λ x b. refl) r.live (Sets r.policy ∷ Opens r.manager ∷ []) in
+    let made : watches_made (resumed r) ≡ watches_at d = past_waiting F r (λ k x b. refl) ∙
+    watches_made_put r.watches (held_put r) ∙ ap (λ ws. ws ++ watches_at d) none in
     sym (ap (filter (λ (w : Watch). is_live (resumed r) w.client)) made
-    ∙ filter_agree (λ (w : Watch). is_live (resumed r) w.client) (λ w. is_live d w.client) (λ w. live_back d w.client) (watches_at d)
+    ∙ filter_agree (λ (w : Watch). is_live (resumed r) w.client) (λ w. is_live d w.client) (λ w. live_back d w.client)
+    (watches_at d)
     ∙ filter_again (λ (w : Watch). is_live d w.client) (watches_made d))
 
 waits_case : (c k : ℕ) (d : Effects) (t any : Bool) (rest : List Delivery) → (k == c) ≡ t → (t ≡ true → any ≡ false)
     → rest ≡ (if any then inbox_at d c else [])
     → (if t then inbox_at d k else []) ++ rest ≡ (if t || any then inbox_at d c else [])
-waits_case c k d true any rest e once h = let a = once refl in ap (λ xs. inbox_at d k ++ xs) (h ∙ rw a refl) ∙ append-nil (inbox_at d k) ∙ ap (inbox_at d) (number_same k c e)
+waits_case c k d true any rest e once h = let a = once refl in ap (λ xs. inbox_at d k ++ xs) (h ∙ rw a refl) ∙
+    append-nil (inbox_at d k) ∙ ap (inbox_at d) (number_same k c e)
 waits_case c k d false any rest e once h = h
 
 waits_flat : (c : ℕ) (d : Effects) (ks : List ℕ) → IsOnce ks
@@ -331,13 +364,15 @@ waits_flat c d [] once = refl
 waits_flat c d (k ∷ ks) once =
     filter_map-append (for_client c) (waiting_rows d k) (flat_map (waiting_rows d) ks)
     ∙ ap (λ xs. xs ++ filter_map (for_client c) (flat_map (waiting_rows d) ks)) (for_one c k (inbox_at d k))
-    ∙ waits_case c k d (k == c) (among c ks) (filter_map (for_client c) (flat_map (waiting_rows d) ks)) refl (λ e. ap (λ j. among j ks) (sym (number_same k c e)) ∙ once.0) (waits_flat c d ks once.1)
+    ∙ waits_case c k d (k == c) (among c ks) (filter_map (for_client c) (flat_map (waiting_rows d) ks)) refl
+    (λ e. ap (λ j. among j ks) (sym (number_same k c e)) ∙ once.0) (waits_flat c d ks once.1)
 
 pub takes_back : (d : Effects) (c : ℕ) → takes (resumed (rows_at d)) c ≡ 0
 takes_back d c =
     let r = rows_at d in
     let F = λ (b : Effects). takes b c in
-    past_waiting F r (λ k x b. refl) ∙ past_watches F r (λ w b. refl) ∙ past_held F r (λ k m j b. refl) ∙ past_names F r (λ x s b. refl)
+    past_waiting F r (λ k x b. refl) ∙ past_watches F r (λ w b. refl) ∙ past_held F r (λ k m j b. refl) ∙
+    past_names F r (λ x s b. refl)
     ∙ quiet F put_live (λ x b. refl) r.live (Sets r.policy ∷ Opens r.manager ∷ [])
 
 deliveries_back : (d : Effects) (c : ℕ)
@@ -346,8 +381,10 @@ deliveries_back d c =
     let r = rows_at d in
     let F = λ (b : Effects). deliveries b c in
     let xs = filter_map (for_client c) r.waiting in
-    let none : deliveries (watches_put r) c ≡ [] = past_watches F r (λ w b. refl) ∙ past_held F r (λ k m j b. refl) ∙ past_names F r (λ x s b. refl) ∙ quiet F put_live (λ x b. refl) r.live (Sets r.policy ∷ Opens r.manager ∷ []) in
-    ap (λ (ys : List Delivery). reverse ys) (deliveries_put c r.waiting (watches_put r) ∙ ap (λ ys. reverse xs ++ ys) none ∙ append-nil (reverse xs)) ∙ reverse-reverse xs
+    let none : deliveries (watches_put r) c ≡ [] = past_watches F r (λ w b. refl) ∙ past_held F r (λ k m j b. refl) ∙
+    past_names F r (λ x s b. refl) ∙ quiet F put_live (λ x b. refl) r.live (Sets r.policy ∷ Opens r.manager ∷ []) in
+    ap (λ (ys : List Delivery). reverse ys) (deliveries_put c r.waiting (watches_put r) ∙
+    ap (λ ys. reverse xs ++ ys) none ∙ append-nil (reverse xs)) ∙ reverse-reverse xs
 
 inbox_case : (live live' : Bool) (v ys : List Delivery) (t : ℕ) → live' ≡ live → t ≡ 0 → ys ≡ (if live then v else [])
     → (live ≡ false → v ≡ []) → v ≡ (if live' then drop t ys else [])
@@ -356,8 +393,10 @@ inbox_case false live' v ys t e z is none = rw e (none refl)
 
 inbox_back : (d : Effects) (c : ℕ) → Sound d → inbox_at d c ≡ inbox_at (resumed (rows_at d)) c
 inbox_back d c s =
-    inbox_case (is_live d c) (is_live (resumed (rows_at d)) c) (inbox_at d c) (reverse (deliveries (resumed (rows_at d)) c)) (takes (resumed (rows_at d)) c) (live_back d c) (takes_back d c)
-    (deliveries_back d c ∙ waits_flat c d (live_clients d) s.once ∙ ap (λ (b : Bool). let v : List Delivery = if b then inbox_at d c else [] in v) (any_live d c))
+    inbox_case (is_live d c) (is_live (resumed (rows_at d)) c) (inbox_at d c)
+    (reverse (deliveries (resumed (rows_at d)) c)) (takes (resumed (rows_at d)) c) (live_back d c) (takes_back d c)
+    (deliveries_back d c ∙ waits_flat c d (live_clients d) s.once ∙
+    ap (λ (b : Bool). let v : List Delivery = if b then inbox_at d c else [] in v) (any_live d c))
     (λ e. rw e refl)
 
 -- ---- all of them
@@ -366,14 +405,16 @@ policy_back : (d : Effects) → policy_at d ≡ policy_at (resumed (rows_at d))
 policy_back d =
     let r = rows_at d in
     let F = policy_at in
-    sym (past_waiting F r (λ k x b. refl) ∙ past_watches F r (λ w b. refl) ∙ past_held F r (λ k m j b. refl) ∙ past_names F r (λ x s b. refl)
+    sym (past_waiting F r (λ k x b. refl) ∙ past_watches F r (λ w b. refl) ∙ past_held F r (λ k m j b. refl) ∙
+    past_names F r (λ x s b. refl)
     ∙ quiet F put_live (λ x b. refl) r.live (Sets r.policy ∷ Opens r.manager ∷ []))
 
 manager_back : (d : Effects) → manager_at d ≡ manager_at (resumed (rows_at d))
 manager_back d =
     let r = rows_at d in
     let F = manager_at in
-    sym (past_waiting F r (λ k x b. refl) ∙ past_watches F r (λ w b. refl) ∙ past_held F r (λ k m j b. refl) ∙ past_names F r (λ x s b. refl)
+    sym (past_waiting F r (λ k x b. refl) ∙ past_watches F r (λ w b. refl) ∙ past_held F r (λ k m j b. refl) ∙
+    past_names F r (λ x s b. refl)
     ∙ quiet F put_live (λ x b. refl) r.live (Sets r.policy ∷ Opens r.manager ∷ []))
 
 pub agree_rows : (d : Effects) → Sound d → Agree d (resumed (rows_at d))

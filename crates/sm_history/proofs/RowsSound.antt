@@ -25,7 +25,9 @@ all_imply P Q (x ∷ xs) imp h = (imp x h.0, all_imply P Q xs imp h.1)
 
 pub all_filter : {X : Type 0} (p : X → Bool) (xs : List X) → AllOf (λ x. p x ≡ true) (filter p xs)
 all_filter p [] = tt
-all_filter p (x ∷ xs) = elim (p x) as (λ b. p x ≡ b → AllOf (λ y. p y ≡ true) (if b then x ∷ filter p xs else filter p xs)) [ true ↦ λ e. (e, all_filter p xs) | false ↦ λ e. all_filter p xs ] refl
+all_filter p (x ∷ xs) = elim (p x) as (λ b. p x ≡ b →
+    AllOf (λ y. p y ≡ true) (if b then x ∷ filter p xs else filter p xs))
+    [ true ↦ λ e. (e, all_filter p xs) | false ↦ λ e. all_filter p xs ] refl
 
 -- ---- soundness
 
@@ -42,25 +44,43 @@ fresh_back : (d : Effects) → Sound d → IsFresh (resumed (rows_at d))
 fresh_back d s k le =
     let r = rows_at d in
     let P = λ (b : Effects). list_any (names k) b ≡ false in
-    let not_k : (c : ℕ) → is_live d c ≡ true → (c == k) ≡ false = λ c live. below c (next_client d) k (live_below d c s.fresh live) le in
-    let lives : AllOf (λ c. is_live d c ≡ true) (live_clients d) = all_filter (is_live d) (reverse (filter_map connected d)) in
-    kept_all P (λ (x : WaitingRow). (x.client == k) ≡ false) put_waiting (λ x b h i. one_more k (Delivers x.client x.delivery) b h i) r.waiting (watches_put r)
-    (all_flat (λ (x : WaitingRow). (x.client == k) ≡ false) (waiting_rows d) (live_clients d) (all_imply (λ c. is_live d c ≡ true) (λ c. AllOf (λ (x : WaitingRow). (x.client == k) ≡ false) (waiting_rows d c)) (live_clients d)
-    (λ c live. all_map (λ (x : WaitingRow). (x.client == k) ≡ false) (waiting_row c) (inbox_at d c) (all_each (λ x. (c == k) ≡ false) (inbox_at d c) (λ x. not_k c live))) lives))
-    (kept_all P (λ (w : Watch). (w.client == k) ≡ false) put_watch (λ w b h i. one_more k (Watches w) b h i) r.watches (held_put r)
-    (all_imply (λ (w : Watch). is_live d w.client ≡ true) (λ w. (w.client == k) ≡ false) (watches_at d) (λ w live. not_k w.client live) (all_filter (λ (w : Watch). is_live d w.client) (watches_made d)))
-    (kept_all P (λ (x : HeldRow). (x.client == k) ≡ false) put_held (λ x b h i. kept_times P (Gives x.client x.node x.number) (λ b' j. one_more k (Gives x.client x.node x.number) b' h j) x.count b i) r.held (names_put r)
-    (all_flat (λ (x : HeldRow). (x.client == k) ≡ false) (held_rows d) (live_clients d) (all_imply (λ c. is_live d c ≡ true) (λ c. AllOf (λ (x : HeldRow). (x.client == k) ≡ false) (held_rows d c)) (live_clients d)
-    (λ c live. all_filter_map (λ (x : HeldRow). (x.client == k) ≡ false) (held_under d c) (range_with_len 0 (top_number d c + 1)) (λ n. some_of d c n k (node_at d c n) (not_k c live))) lives))
-    (kept_all P (λ (x : NamedRow). Unit {0}) put_named (λ x b h i. one_more k (Adds x.name x.service) b refl i) r.names (live_put r) (all_each (λ (x : NamedRow). Unit {0}) r.names (λ x. tt))
-    (kept_all P (λ (x : LiveRow). (x.client == k) ≡ false) put_live (λ x b h i. one_more k (Connects x.client x.who) b h i) r.live (Sets r.policy ∷ Opens r.manager ∷ [])
-    (all_map (λ (x : LiveRow). (x.client == k) ≡ false) (live_row d) (live_clients d) (all_imply (λ c. is_live d c ≡ true) (λ c. (c == k) ≡ false) (live_clients d) (λ c live. not_k c live) lives)) refl))))
+    let not_k : (c : ℕ) → is_live d c ≡ true → (c == k) ≡ false =
+    λ c live. below c (next_client d) k (live_below d c s.fresh live) le in
+    let lives : AllOf (λ c. is_live d c ≡ true) (live_clients d) =
+    all_filter (is_live d) (reverse (filter_map connected d)) in
+    kept_all P (λ (x : WaitingRow). (x.client == k) ≡ false) put_waiting
+    (λ x b h i. one_more k (Delivers x.client x.delivery) b h i) r.waiting (watches_put r)
+    (all_flat (λ (x : WaitingRow). (x.client == k) ≡ false) (waiting_rows d) (live_clients d)
+    (all_imply (λ c. is_live d c ≡ true)
+    (λ c. AllOf (λ (x : WaitingRow). (x.client == k) ≡ false) (waiting_rows d c)) (live_clients d)
+    (λ c live. all_map (λ (x : WaitingRow). (x.client == k) ≡ false) (waiting_row c) (inbox_at d c)
+    (all_each (λ x. (c == k) ≡ false) (inbox_at d c) (λ x. not_k c live))) lives))
+    (kept_all P (λ (w : Watch). (w.client == k) ≡ false) put_watch (λ w b h i. one_more k (Watches w) b h i) r.watches
+    (held_put r)
+    (all_imply (λ (w : Watch). is_live d w.client ≡ true) (λ w. (w.client == k) ≡ false) (watches_at d)
+    (λ w live. not_k w.client live) (all_filter (λ (w : Watch). is_live d w.client) (watches_made d)))
+    (kept_all P (λ (x : HeldRow). (x.client == k) ≡ false) put_held
+    (λ x b h i. kept_times P (Gives x.client x.node x.number)
+    (λ b' j. one_more k (Gives x.client x.node x.number) b' h j) x.count b i) r.held (names_put r)
+    (all_flat (λ (x : HeldRow). (x.client == k) ≡ false) (held_rows d) (live_clients d)
+    (all_imply (λ c. is_live d c ≡ true) (λ c. AllOf (λ (x : HeldRow). (x.client == k) ≡ false) (held_rows d c))
+    (live_clients d)
+    (λ c live. all_filter_map (λ (x : HeldRow). (x.client == k) ≡ false) (held_under d c)
+    (range_with_len 0 (top_number d c + 1)) (λ n. some_of d c n k (node_at d c n) (not_k c live))) lives))
+    (kept_all P (λ (x : NamedRow). Unit {0}) put_named (λ x b h i. one_more k (Adds x.name x.service) b refl i)
+    r.names (live_put r) (all_each (λ (x : NamedRow). Unit {0}) r.names (λ x. tt))
+    (kept_all P (λ (x : LiveRow). (x.client == k) ≡ false) put_live
+    (λ x b h i. one_more k (Connects x.client x.who) b h i) r.live (Sets r.policy ∷ Opens r.manager ∷ [])
+    (all_map (λ (x : LiveRow). (x.client == k) ≡ false) (live_row d) (live_clients d)
+    (all_imply (λ c. is_live d c ≡ true) (λ c. (c == k) ≡ false) (live_clients d) (λ c live. not_k c live) lives))
+    refl))))
 
 owner_live : (d : Effects) (o : Option Service) (s : Service) → if_owner_lives d o ≡ Some s
     → is_live d s.node.owner.0 ≡ true
 owner_live d None s h = cc
 owner_live d (Some t) s h =
-    elim (is_live d t.node.owner.0) as (λ b. is_live d t.node.owner.0 ≡ b → (let o : Option Service = if b then Some t else None in o) ≡ Some s → is_live d s.node.owner.0 ≡ true) [
+    elim (is_live d t.node.owner.0) as (λ b. is_live d t.node.owner.0 ≡ b →
+    (let o : Option Service = if b then Some t else None in o) ≡ Some s → is_live d s.node.owner.0 ≡ true) [
       | true ↦ λ e f. let same : t ≡ s = cc in subst (λ (v : Service). is_live d v.node.owner.0 ≡ true) same e
       | false ↦ λ e f. cc
     ] refl h
@@ -71,7 +91,8 @@ sound_back d s =
     let a = agree_rows d s in
     record {
       fresh = fresh_back d s;
-      owned = λ name t h. live_below d t.node.owner.0 s.fresh (owner_live d (last_said d name) t (sym (said_back d name) ∙ h));
+      owned = λ name t h. live_below d t.node.owner.0 s.fresh
+          (owner_live d (last_said d name) t (sym (said_back d name) ∙ h));
       balanced = λ c n. let z = released_back d c n in omega (arith, z);
       single = λ c m p hm hp is.
           let hm' = held_alike d e c m a ∙ hm in
@@ -108,8 +129,10 @@ top_below : (d e : Effects) (c : ℕ)
     → ((n : Node) → is_held d c n ≡ true → (is_held e c n ≡ true) × (number_at d c n ≡ number_at e c n))
     → top_number d c ≤ top_number e c
 top_below d e c same =
-    most (number_at d c) (top_number e c) (held_nodes d c) (all_imply (λ n. is_held d c n ≡ true) (λ n. number_at d c n ≤ top_number e c) (held_nodes d c)
-    (λ n h. let s = same n h in let le = below_top (number_at e c) (held_nodes e c) n (held_among e c n s.0) in let is = s.1 in omega (arith, le, is))
+    most (number_at d c) (top_number e c) (held_nodes d c)
+    (all_imply (λ n. is_held d c n ≡ true) (λ n. number_at d c n ≤ top_number e c) (held_nodes d c)
+    (λ n h. let s = same n h in let le = below_top (number_at e c) (held_nodes e c) n (held_among e c n s.0) in
+    let is = s.1 in omega (arith, le, is))
     (all_filter (is_held d c) (given_nodes d c)))
 
 top_alike : (d e : Effects) (c : ℕ) → Sim d e → top_number d c ≡ top_number e c
@@ -121,22 +144,32 @@ top_alike d e c s =
 under_alike : (d e : Effects) (c r : ℕ) (o : Option Node) → Sim d e
     → option_map (held_row d c r) o ≡ option_map (held_row e c r) o
 under_alike d e c r None s = refl
-under_alike d e c r (Some n) s = ap (λ (k : ℕ). let v : Option HeldRow = Some (record { client = c; node = n; number = r; count = k }) in v) (s.agree.refs c n)
+under_alike d e c r (Some n) s =
+    ap (λ (k : ℕ). let v : Option HeldRow = Some (record { client = c; node = n; number = r; count = k }) in v)
+    (s.agree.refs c n)
 
 held_rows_alike : (d e : Effects) (c : ℕ) → Sim d e → held_rows d c ≡ held_rows e c
 held_rows_alike d e c s =
-    filter_map_alike (held_under d c) (held_under e c) (range_with_len 0 (top_number d c + 1)) (λ r. under_alike d e c r (node_at d c r) s ∙ ap (option_map (held_row e c r)) (sim_nodes d e c r s))
+    filter_map_alike (held_under d c) (held_under e c) (range_with_len 0 (top_number d c + 1))
+    (λ r. under_alike d e c r (node_at d c r) s ∙ ap (option_map (held_row e c r)) (sim_nodes d e c r s))
     ∙ ap (λ k. filter_map (held_under e c) (range_with_len 0 (k + 1))) (top_alike d e c s)
 
 pub rows_alike : (d e : Effects) → Sim d e → rows_at d ≡ rows_at e
 rows_alike d e s =
     let a = s.agree in
     let live : map (live_row d) (live_clients d) ≡ map (live_row e) (live_clients e) =
-    map_alike (λ c. is_live d c ≡ true) (live_row d) (live_row e) (live_clients d) (λ c l. ap (λ (w : Identity). let v : LiveRow = record { client = c; who = w } in v) (a.who c l)) (all_filter (is_live d) (reverse (filter_map connected d)))
+    map_alike (λ c. is_live d c ≡ true) (live_row d) (live_row e) (live_clients d)
+    (λ c l. ap (λ (w : Identity). let v : LiveRow = record { client = c; who = w } in v) (a.who c l))
+    (all_filter (is_live d) (reverse (filter_map connected d)))
     ∙ ap (map (live_row e)) a.live_list in
-    let held : flat_map (held_rows d) (live_clients d) ≡ flat_map (held_rows e) (live_clients e) = flat_map_alike (held_rows d) (held_rows e) (live_clients d) (λ c. held_rows_alike d e c s) ∙ ap (flat_map (held_rows e)) a.live_list in
+    let held : flat_map (held_rows d) (live_clients d) ≡ flat_map (held_rows e) (live_clients e) =
+    flat_map_alike (held_rows d) (held_rows e) (live_clients d) (λ c. held_rows_alike d e c s) ∙
+    ap (flat_map (held_rows e)) a.live_list in
     let named : filter_map (named_under d) (current_names d) ≡ filter_map (named_under e) (current_names e) =
-    filter_map_alike (named_under d) (named_under e) (current_names d) (λ n. ap (option_map (named_row n)) (a.services n)) ∙ ap (filter_map (named_under e)) (names_alike d e a.services) in
+    filter_map_alike (named_under d) (named_under e) (current_names d)
+    (λ n. ap (option_map (named_row n)) (a.services n)) ∙
+    ap (filter_map (named_under e)) (names_alike d e a.services) in
     let waiting : flat_map (waiting_rows d) (live_clients d) ≡ flat_map (waiting_rows e) (live_clients e) =
-    flat_map_alike (waiting_rows d) (waiting_rows e) (live_clients d) (λ c. ap (map (waiting_row c)) (a.inboxes c)) ∙ ap (flat_map (waiting_rows e)) a.live_list in
+    flat_map_alike (waiting_rows d) (waiting_rows e) (live_clients d) (λ c. ap (map (waiting_row c)) (a.inboxes c)) ∙
+    ap (flat_map (waiting_rows e)) a.live_list in
     rw (a.policy, a.version, a.manager, a.clients, live, held, named, a.watches, waiting) refl

@@ -1,4 +1,5 @@
--- The rows that a lawful history leaves are those that lawful changes left from the beginning: a sealed history may be gone on from.
+-- The rows that a lawful history leaves are those that lawful changes left from the beginning: a sealed history may
+-- be gone on from.
 use Rattle.std.proofs.Common.{inl, inr, ◌⊎◌, ◌≡◌, ℕ, Bool, true, false, List, [], ◌∷◌, ◌++◌, refl, ap, sym, ◌∙◌, subst, map, Option, None, if◌then◌else◌, arith}
 use Rattle.std.specs.Prelude.{filter}
 use Rattle.std.specs.List.{list_any}
@@ -36,7 +37,12 @@ more_admins : (b : By) (bs : List By) → AllOf (λ v. is_admin v ≡ true) bs
 more_admins Manager bs all = all
 more_admins (Client c) bs all = all
 more_admins (Admin a) bs all =
-    elim (list_any (is_same (Admin a)) bs) as (λ t. AllOf (λ v. is_admin v ≡ true) (if t then bs else bs ++ Admin a ∷ [])) [ true ↦ all | false ↦ all_append (λ v. is_admin v ≡ true) bs (Admin a ∷ []) all (refl, tt) ]
+    elim (list_any (is_same (Admin a)) bs) as (λ t. AllOf (λ v. is_admin v ≡ true)
+    (if t then bs else bs ++ Admin a ∷ [])) [
+      | true ↦ all
+      | false ↦
+          all_append (λ v. is_admin v ≡ true) bs (Admin a ∷ []) all (refl, tt)
+    ]
 
 admins_only : (es : List Entry) → AllOf (λ b. is_admin b ≡ true) (admins_after [] es)
 admins_only [] = tt
@@ -57,7 +63,8 @@ bys_back h (b ∷ bs) = ap (λ l. b ∷ l) (bys_back h bs)
 admins_back : (a : List Entry) → admins_of (segment_of a []) ≡ admins_of (whole a)
 admins_back a =
     let h = whole a in
-    ap (filter is_admin) (bys_back h (actors_of h)) ∙ no_clients (live_clients (effects_of h)) (admins_of h) ∙ keeps_all is_admin (admins_of h) (admins_only a)
+    ap (filter is_admin) (bys_back h (actors_of h)) ∙ no_clients (live_clients (effects_of h)) (admins_of h) ∙
+    keeps_all is_admin (admins_of h) (admins_only a)
 
 admins_alike : (a b : List Entry) → admins_of (segment_of a b) ≡ admins_of (whole (b ++ a))
 admins_alike a [] = admins_back a
@@ -73,8 +80,11 @@ all_speak es =
     let d = effects_of (whole es) in (
       tt,
       all_append (Speaks d) (map client (live_clients d)) (admins_of (whole es))
-          (all_map (Speaks d) client (live_clients d) (all_imply (λ c. is_live d c ≡ true) (λ c. Speaks d (client c)) (live_clients d) (λ c l. inl l) (all_filter (is_live d) (reverse (filter_map connected d)))))
-          (all_imply (λ b. is_admin b ≡ true) (Speaks d) (admins_of (whole es)) (λ b h. speaking d b h) (admins_only es)),
+          (all_map (Speaks d) client (live_clients d)
+          (all_imply (λ c. is_live d c ≡ true) (λ c. Speaks d (client c)) (live_clients d) (λ c l. inl l)
+          (all_filter (is_live d) (reverse (filter_map connected d)))))
+          (all_imply (λ b. is_admin b ≡ true) (Speaks d) (admins_of (whole es)) (λ b h. speaking d b h)
+          (admins_only es)),
     )
 
 pub replayed : (a b : List Entry) → AreLawfulApart a → AreLawfulApart (b ++ a)
@@ -85,15 +95,21 @@ replayed a b la l =
     let h = whole (b ++ a) in
     let actors : actors_of h ≡ actors_of g =
     ap (λ (ks : List ℕ). let l : List By = Manager ∷ map client ks ++ admins_of h in l) f.sim.agree.live_list
-    ∙ ap (λ (as' : List By). let l : List By = Manager ∷ map client (live_clients (effects_of g)) ++ as' in l) (sym (admins_alike a b)) in
+    ∙ ap (λ (as' : List By). let l : List By = Manager ∷ map client (live_clients (effects_of g)) ++ as' in l)
+    (sym (admins_alike a b)) in
     let turns : map (turn_row h) (actors_of h) ≡ map (turn_row g) (actors_of g) =
-    map_alike (Speaks (effects_of h)) (turn_row h) (turn_row g) (actors_of h) (λ by s. ap (λ (n : ℕ). let r : TurnRow = record { by = by; turns = n } in r) (f.turns by s)) (all_speak (b ++ a))
+    map_alike (Speaks (effects_of h)) (turn_row h) (turn_row g) (actors_of h)
+    (λ by s. ap (λ (n : ℕ). let r : TurnRow = record { by = by; turns = n } in r) (f.turns by s))
+    (all_speak (b ++ a))
     ∙ ap (map (turn_row g)) actors in
     let tables = rows_alike (effects_of h) (effects_of g) f.sim in
     let len : length_of h ≡ length_of g = let n = length-append b a in omega (arith, n) in
-    sym (ap (λ (t : Rows). let o : Opening = record { tables = t; length = length_of h; turns = map (turn_row h) (actors_of h) } in o) tables
-    ∙ ap (λ (n : ℕ). let o : Opening = record { tables = rows_at (effects_of g); length = n; turns = map (turn_row h) (actors_of h) } in o) len
-    ∙ ap (λ (ts : List TurnRow). let o : Opening = record { tables = rows_at (effects_of g); length = length_of g; turns = ts } in o) turns)
+    sym (ap (λ (t : Rows). let o : Opening =
+    record { tables = t; length = length_of h; turns = map (turn_row h) (actors_of h) } in o) tables
+    ∙ ap (λ (n : ℕ). let o : Opening =
+    record { tables = rows_at (effects_of g); length = n; turns = map (turn_row h) (actors_of h) } in o) len
+    ∙ ap (λ (ts : List TurnRow). let o : Opening = record
+    { tables = rows_at (effects_of g); length = length_of g; turns = ts } in o) turns)
 
 -- ---- the verdict without the place
 
@@ -113,7 +129,8 @@ less_checked d have by turn event rest outcome done =
     let xs = event_checks d (client_of by) event in
     let a = all_hold p (all_checks d have by turn event rest) o outcome done in
     let with_rest = hold_none p (all_checks d have by turn event rest) a in
-    let without : first_failing p (all_checks d have by turn event []) ≡ None = hold_none p (all_checks d have by turn event []) (a.0, (a.1.0, (a.1.1.0, hold_part p xs rest a.1.1.1))) in
+    let without : first_failing p (all_checks d have by turn event []) ≡ None =
+    hold_none p (all_checks d have by turn event []) (a.0, (a.1.0, (a.1.1.0, hold_part p xs rest a.1.1.1))) in
     ap (λ (x : Option Stop). answered x o) without ∙ sym (ap (λ (x : Option Stop). answered x o) with_rest) ∙ done
 
 -- ---- a lawful history goes on from lawful changes
@@ -134,31 +151,46 @@ goes_on : (o : Opening) (e : Entry) (es : List Entry)
     → verdict_apart (record { opening = o; entries = es }) e.by e.turn e.event ≡ Done e.outcome
     → HasSoundPolicy e.event
     → ((o ≡ nothing) × AreLawfulApart es) ⊎ Grown o es → ((o ≡ nothing) × AreLawfulApart (e ∷ es)) ⊎ Grown o (e ∷ es)
-goes_on o e es done ok (inl (is, l)) = inl (is, apart_more e es l (subst (λ (v : Opening). verdict_apart (record { opening = v; entries = es }) e.by e.turn e.event ≡ Done e.outcome) is done) ok)
+goes_on o e es done ok (inl (is, l)) =
+    inl (
+      is,
+      apart_more e es l
+          (subst (λ (v : Opening). verdict_apart (record { opening = v; entries = es }) e.by e.turn e.event
+          ≡ Done e.outcome) is done) ok,
+    )
 goes_on o e es done ok (inr g) =
     let done' : verdict_apart (segment_of g.before es) e.by e.turn e.event ≡ Done e.outcome =
-    subst (λ (v : Opening). verdict_apart (record { opening = v; entries = es }) e.by e.turn e.event ≡ Done e.outcome) g.opens done in
+    subst (λ (v : Opening). verdict_apart (record { opening = v; entries = es }) e.by e.turn e.event ≡ Done e.outcome)
+    g.opens done in
     inr (record {
       before = g.before;
       lawful = g.lawful;
       opens = g.opens;
-      grown = apart_more e (es ++ g.before) g.grown ((segments_read g.before es g.lawful g.grown).verdicts e.by e.turn e.event ∙ done') ok;
+      grown = apart_more e (es ++ g.before) g.grown
+          ((segments_read g.before es g.lawful g.grown).verdicts e.by e.turn e.event ∙ done') ok;
     })
 
 pub grown_from : (places : ℕ) (o : Opening) (es : List Entry) → AreLawful places o es
     → ((o ≡ nothing) × AreLawfulApart es) ⊎ Grown o es
 grown_from places o [] (a, l, is) = inr (record { before = a; lawful = l; opens = is; grown = l })
-grown_from places o (e ∷ es) (inl (is, none, opens)) = inl (is, subst (λ (v : List Entry). AreLawfulApart (e ∷ v)) (sym none) opens)
+grown_from places o (e ∷ es) (inl (is, none, opens)) =
+    inl (is, subst (λ (v : List Entry). AreLawfulApart (e ∷ v)) (sym none) opens)
 grown_from places o (e ∷ es) (inr (before, done, ok)) =
     let h : History = record { opening = o; entries = es } in
     let apart : verdict_apart h e.by e.turn e.event ≡ Done e.outcome =
-    less_checked (effects_of h) (turn_of h e.by) e.by e.turn e.event (Wants (has_place places h e.event) (Refused JournalFull) ∷ []) e.outcome done in
+    less_checked (effects_of h) (turn_of h e.by) e.by e.turn e.event
+    (Wants (has_place places h e.event) (Refused JournalFull) ∷ []) e.outcome done in
     goes_on o e es apart ok (grown_from places o es before)
 
 left_by : (h : History) → ((h.opening ≡ nothing) × AreLawfulApart h.entries) ⊎ Grown h.opening h.entries
     → IsLeft (rows_of h)
 left_by h (inl (is, l)) = (h.entries, l, ap (λ (o : Opening). rows_of (record { opening = o; entries = h.entries })) is)
-left_by h (inr g) = (h.entries ++ g.before, g.grown, ap (λ (o : Opening). rows_of (record { opening = o; entries = h.entries })) g.opens ∙ replayed g.before h.entries g.lawful g.grown)
+left_by h (inr g) = (
+  h.entries ++ g.before,
+  g.grown,
+  ap (λ (o : Opening). rows_of (record { opening = o; entries = h.entries })) g.opens ∙
+      replayed g.before h.entries g.lawful g.grown,
+)
 
 -- What a lawful history leaves may be gone on from.
 pub sealed_left : (places : ℕ) (h : History) → IsLawful places h → IsLeft (rows_of h)

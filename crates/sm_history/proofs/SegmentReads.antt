@@ -67,9 +67,11 @@ with_more : (a b : By) (bys : List By) → list_any (is_same a) (with_admin b by
 with_more a Manager bys h = h
 with_more a (Client c) bys h = h
 with_more a (Admin c) bys h =
-    elim (list_any (is_same (Admin c)) bys) as (λ t. list_any (is_same a) (if t then bys else bys ++ Admin c ∷ []) ≡ false → list_any (is_same a) bys ≡ false) [
+    elim (list_any (is_same (Admin c)) bys) as (λ t. list_any (is_same a) (if t then bys else bys ++ Admin c ∷ [])
+    ≡ false → list_any (is_same a) bys ≡ false) [
       | true ↦ λ e. e
-      | false ↦ λ e. (or_parts (list_any (is_same a) bys) (is_same a (Admin c) || false) (sym (list_any-append (is_same a) bys (Admin c ∷ [])) ∙ e)).0
+      | false ↦ λ e. (or_parts (list_any (is_same a) bys) (is_same a (Admin c) || false)
+          (sym (list_any-append (is_same a) bys (Admin c ∷ [])) ∙ e)).0
     ] h
 
 with_own : (a : _) (b : By) (bys : List By) → list_any (is_same (Admin a)) (with_admin b bys) ≡ false
@@ -81,9 +83,13 @@ with_own a (Admin c) bys h =
       | false ↦ λ e. refl
       | true ↦ λ e.
           let same = same_actor (Admin a) (Admin c) e in
-          let none : list_any (is_same (Admin c)) bys ≡ false = ap (λ (v : By). list_any (is_same v) bys) (sym same) ∙ with_more (Admin a) (Admin c) bys h in
-          let put : list_any (is_same (Admin a)) (bys ++ Admin c ∷ []) ≡ false = ap (λ (t : Bool). list_any (is_same (Admin a)) (if t then bys else bys ++ Admin c ∷ [])) (sym none) ∙ h in
-          sym e ∙ (or_parts (is_same (Admin a) (Admin c)) false (or_parts (list_any (is_same (Admin a)) bys) (is_same (Admin a) (Admin c) || false) (sym (list_any-append (is_same (Admin a)) bys (Admin c ∷ [])) ∙ put)).1).0
+          let none : list_any (is_same (Admin c)) bys ≡ false = ap (λ (v : By). list_any (is_same v) bys) (sym same) ∙
+          with_more (Admin a) (Admin c) bys h in
+          let put : list_any (is_same (Admin a)) (bys ++ Admin c ∷ []) ≡ false =
+          ap (λ (t : Bool). list_any (is_same (Admin a)) (if t then bys else bys ++ Admin c ∷ [])) (sym none) ∙ h in
+          sym e ∙ (or_parts (is_same (Admin a) (Admin c)) false
+          (or_parts (list_any (is_same (Admin a)) bys) (is_same (Admin a) (Admin c) || false)
+          (sym (list_any-append (is_same (Admin a)) bys (Admin c ∷ [])) ∙ put)).1).0
     ] refl
 
 count_case : (b : Bool) (k n : ℕ) → k ≡ cond b 1 0 + n → b ≡ false → n ≡ 0 → k ≡ 0
@@ -118,14 +124,17 @@ opening_turns es (Admin b) l speaks =
     let a = whole es in
     turn_rows a (Admin b) (actors_of a)
     ∙ rows_case (list_any (is_same (Admin b)) (actors_of a)) (turn_of a (Admin b)) (λ e.
-    no_changes es b (or_parts (list_any (is_same (Admin b)) (map client (live_clients (effects_of a)))) (list_any (is_same (Admin b)) (admins_of a)) (sym (list_any-append (is_same (Admin b)) (map client (live_clients (effects_of a))) (admins_of a)) ∙ e)).1)
+    no_changes es b (or_parts (list_any (is_same (Admin b)) (map client (live_clients (effects_of a))))
+    (list_any (is_same (Admin b)) (admins_of a))
+    (sym (list_any-append (is_same (Admin b)) (map client (live_clients (effects_of a))) (admins_of a)) ∙ e)).1)
 opening_turns es (Client c) l (inl live) =
     let a = whole es in
     let ks = live_clients (effects_of a) in
     turn_rows a (Client c) (actors_of a)
     ∙ rows_case (list_any (is_same (Client c)) (actors_of a)) (turn_of a (Client c)) (λ e.
     absurd (true≢false (sym (any_client c.0 ks ∙ any_live (effects_of a) c.0 ∙ live)
-    ∙ (or_parts (list_any (is_same (Client c)) (map client ks)) (list_any (is_same (Client c)) (admins_of a)) (sym (list_any-append (is_same (Client c)) (map client ks) (admins_of a)) ∙ e)).0)))
+    ∙ (or_parts (list_any (is_same (Client c)) (map client ks)) (list_any (is_same (Client c)) (admins_of a))
+    (sym (list_any-append (is_same (Client c)) (map client ks) (admins_of a)) ∙ e)).0)))
 opening_turns es (Client c) l (inr new) =
     let a = whole es in
     turn_rows a (Client c) (actors_of a)
@@ -135,7 +144,8 @@ opening_turns es (Client c) l (inr new) =
 
 pub record Follows (a b : List Entry) : Type 0 where
   pub sim : Sim (effects_of (whole (b ++ a))) (effects_of (segment_of a b))
-  pub turns : (by : By) → Speaks (effects_of (whole (b ++ a))) by → turn_of (whole (b ++ a)) by ≡ turn_of (segment_of a b) by
+  pub turns : (by : By) → Speaks (effects_of (whole (b ++ a))) by →
+      turn_of (whole (b ++ a)) by ≡ turn_of (segment_of a b) by
 
 spoke : (d : Effects) (c : ℕ) (event : Event) (by : By) → Sound d → Speaks (after_event d c event) by → Speaks d by
 spoke d c event Manager s speaks = tt
@@ -171,7 +181,8 @@ follows a (e ∷ b) la l =
       sim = sim_event d (effects_of (segment_of a b)) (client_of e.by) e.event f.sim m.acts m.passes;
       turns = λ by speaks.
           turn_case _ _ _ _ _ (turns_in (rows_of (whole a)).turns by)
-          (sum_by-cons (λ (x : Entry). cond (is_same by x.by) 1 0) e (b ++ a)) (sum_by-cons (λ (x : Entry). cond (is_same by x.by) 1 0) e b)
+          (sum_by-cons (λ (x : Entry). cond (is_same by x.by) 1 0) e (b ++ a))
+          (sum_by-cons (λ (x : Entry). cond (is_same by x.by) 1 0) e b)
           (f.turns by (spoke d (client_of e.by) e.event by f.sim.left speaks));
     }
 
@@ -184,7 +195,9 @@ speaks_there d (Admin a) there = tt
 
 masked_alike : (d e : Effects) (mask : ℕ) → Sim d e → names_by_mask d mask ≡ names_by_mask e mask
 masked_alike d e mask s =
-    filter_agree (λ name. service_meets (shares_bit mask) (service_at d name)) (λ name. service_meets (shares_bit mask) (service_at e name)) (λ name. ap (service_meets (shares_bit mask)) (s.agree.services name)) (current_names d)
+    filter_agree (λ name. service_meets (shares_bit mask) (service_at d name))
+    (λ name. service_meets (shares_bit mask) (service_at e name))
+    (λ name. ap (service_meets (shares_bit mask)) (s.agree.services name)) (current_names d)
     ∙ ap (filter (λ name. service_meets (shares_bit mask) (service_at e name))) (names_alike d e s.agree.services)
 
 found_alike : (d e : Effects) (q : Query) → Sim d e → found_out d q ≡ found_out e q
@@ -193,7 +206,9 @@ found_alike d e AskVersion s = refl
 found_alike d e (Explain x t class perm) s = ap (λ (p : Policy). Why (written_at p x t class perm)) s.agree.policy
 
 list_alike : (d e : Effects) (c : ℕ) → Sim d e → is_live d c ≡ true → list_checks d c ≡ list_checks e c
-list_alike d e c s live = cons_alike (to_manager_alike d e c calling s live) (cons_alike (both (λ (w m : Identity). Needs ServiceManager listing w m.context None) (s.agree.who c live) s.agree.manager) refl)
+list_alike d e c s live = cons_alike (to_manager_alike d e c calling s live)
+    (cons_alike (both (λ (w m : Identity). Needs ServiceManager listing w m.context None) (s.agree.who c live)
+    s.agree.manager) refl)
 
 query_checks_alike : (d e : Effects) (by : By) (q : Query) → Sim d e → is_their_query by q ≡ true
     → is_there d by ≡ true → query_checks d (client_of by) q ≡ query_checks e (client_of by) q
@@ -218,15 +233,20 @@ asked_alike d e len by q s =
     let c = client_of by in
     let rest = λ (b : Effects). Wants (is_there b by) (Refused (Failed NotConnected)) ∷ query_checks b c q in
     ap (looked_at d len q)
-    (behind_alike (policy_at d) (Refused (Failed NotYours)) (is_their_query by q) (is_their_query by q) (rest d) (rest e) refl (λ theirs.
-    behind_alike (policy_at d) (Refused (Failed NotConnected)) (is_there d by) (is_there e by) (query_checks d c q) (query_checks e c q) (there_alike d e by s) (λ there.
+    (behind_alike (policy_at d) (Refused (Failed NotYours)) (is_their_query by q) (is_their_query by q) (rest d)
+    (rest e) refl (λ theirs.
+    behind_alike (policy_at d) (Refused (Failed NotConnected)) (is_there d by) (is_there e by) (query_checks d c q)
+    (query_checks e c q) (there_alike d e by s) (λ there.
     ap (first_failing (policy_at d)) (query_checks_alike d e by q s theirs there)))
-    ∙ ap (λ (p : Policy). first_failing p (Wants (is_their_query by q) (Refused (Failed NotYours)) ∷ rest e)) s.agree.policy)
-    ∙ looked_alike d e len q (first_failing (policy_at e) (Wants (is_their_query by q) (Refused (Failed NotYours)) ∷ rest e)) s
+    ∙ ap (λ (p : Policy). first_failing p (Wants (is_their_query by q) (Refused (Failed NotYours)) ∷ rest e))
+    s.agree.policy)
+    ∙ looked_alike d e len q (first_failing (policy_at e)
+    (Wants (is_their_query by q) (Refused (Failed NotYours)) ∷ rest e)) s
 
 -- The words above are those of the verdict.
 verdict_is : (places : ℕ) (h : History) (by : By) (turn : ℕ) (event : Event)
-    → verdict places h by turn event ≡ judged (effects_of h) (turn_of h by) by turn event (Wants (has_place places h event) (Refused JournalFull) ∷ [])
+    → verdict places h by turn event ≡ judged (effects_of h) (turn_of h by) by turn event
+    (Wants (has_place places h event) (Refused JournalFull) ∷ [])
 verdict_is places h by turn event = refl
 
 looked_is : (h : History) (q : Query) (o : Option Stop) → looked h q o ≡ looked_at (effects_of h) (length_of h) q o
@@ -242,7 +262,8 @@ segments_read a b la l =
     let h = whole (b ++ a) in
     let g = segment_of a b in
     record {
-      verdicts = λ by turn event. judged_alike (effects_of h) (effects_of g) (turn_of h by) (turn_of g by) by turn event [] f.sim (λ there. f.turns by (speaks_there (effects_of h) by there));
+      verdicts = λ by turn event. judged_alike (effects_of h) (effects_of g) (turn_of h by) (turn_of g by) by turn
+          event [] f.sim (λ there. f.turns by (speaks_there (effects_of h) by there));
       answers = λ by q.
           answer_is h by q
           ∙ asked_alike (effects_of h) (effects_of g) (length_of h) by q f.sim
@@ -259,5 +280,7 @@ verdicts_read p q a b by turn event la l same =
     let f = follows a b la l in
     let h = whole (b ++ a) in
     let g = segment_of a b in
-    judged_alike (effects_of h) (effects_of g) (turn_of h by) (turn_of g by) by turn event (Wants (has_place p h event) (Refused JournalFull) ∷ []) f.sim (λ there. f.turns by (speaks_there (effects_of h) by there))
+    judged_alike (effects_of h) (effects_of g) (turn_of h by) (turn_of g by) by turn event
+    (Wants (has_place p h event) (Refused JournalFull) ∷ []) f.sim
+    (λ there. f.turns by (speaks_there (effects_of h) by there))
     ∙ ap (λ (t : Bool). judged (effects_of g) (turn_of g by) by turn event (Wants t (Refused JournalFull) ∷ [])) same

@@ -37,20 +37,44 @@ pub met : (d : Effects) (have : ℕ) (by : By) (turn : ℕ) (event : Event) (res
     → judged d have by turn event rest ≡ Done outcome → Met d by event
 met d have by turn event rest outcome done =
     let xs = event_checks d (client_of by) event in
-    let a = all_hold (policy_at d) (all_checks d have by turn event rest) (outcome_of d (client_of by) event) outcome done in
+    let a = all_hold (policy_at d) (all_checks d have by turn event rest) (outcome_of d (client_of by) event) outcome
+    done in
     record { there = a.1.0; acts = acts_of d by event a.0 a.1.0; passes = hold_left (policy_at d) xs rest a.1.1.1 }
 
 -- ---- soundness
 
 agree_self : (d : Effects) → Agree d d
-agree_self d = record { policy = refl; version = refl; manager = refl; clients = refl; lives = λ c. refl; live_list = refl; who = λ c h. refl; refs = λ c n. refl; numbers = λ c n h. refl; services = λ n. refl; watches = refl; inboxes = λ c. refl }
+agree_self d = record {
+  policy = refl;
+  version = refl;
+  manager = refl;
+  clients = refl;
+  lives = λ c. refl;
+  live_list =
+      refl;
+  who = λ c h. refl;
+  refs = λ c n. refl;
+  numbers = λ c n h. refl;
+  services = λ n. refl;
+  watches = refl;
+  inboxes = λ c. refl;
+}
 
 pub sound_event : (d : Effects) (by : By) (event : Event) → Sound d → Met d by event
     → Sound (after_event d (client_of by) event)
-sound_event d by event s m = (sim_event d d (client_of by) event (record { agree = agree_self d; left = s; right = s }) m.acts m.passes).left
+sound_event d by event s m =
+    (sim_event d d (client_of by) event (record { agree = agree_self d; left = s; right = s }) m.acts m.passes).left
 
 pub sound_none : Sound []
-sound_none = record { fresh = λ k le. refl; owned = λ name s h. cc; balanced = λ c n. omega arith; single = λ c n m hn hm is. absurd (true≢false (sym hn)); taken = λ c. omega arith; once = tt }
+sound_none = record {
+  fresh = λ k le. refl;
+  owned = λ name s h. cc;
+  balanced = λ c n. omega arith;
+  single =
+      λ c n m hn hm is. absurd (true≢false (sym hn));
+  taken = λ c. omega arith;
+  once = tt;
+}
 
 -- ---- clients to come
 
@@ -84,8 +108,10 @@ same_lives d k live = inl live
 connect_lives : (d : Effects) (who : _) → Sound d → LiveOrNew d (Connects (next_client d) who ∷ d)
 connect_lives d who s k live =
     let n = next_client d in
-    let h : (if n == k then true else is_live d k) ≡ true = sym (live_connects d n who k (is_new d n refl s.fresh)) ∙ live in
-    elim (n == k) as (λ b. (n == k) ≡ b → (if b then true else is_live d k) ≡ true → (is_live d k ≡ true) ⊎ (next_client d ≤ k)) [
+    let h : (if n == k then true else is_live d k) ≡ true = sym (live_connects d n who k (is_new d n refl s.fresh)) ∙
+    live in
+    elim (n == k) as (λ b. (n == k) ≡ b → (if b then true else is_live d k) ≡ true →
+    (is_live d k ≡ true) ⊎ (next_client d ≤ k)) [
       | true ↦ λ e i. inr (grind (arith, nat_tests))
       | false ↦ λ e i. inl i
     ] refl h

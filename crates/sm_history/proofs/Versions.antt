@@ -18,7 +18,8 @@ use Rattle.sm_history.specs.Lawful.{IsLawful, IsOpening}
 use Rattle.sm_history.proofs.Induction.{holds_lawful}
 
 handed-same : (d : Effects) (c : ℕ) (n : Node) → version_at (handed d c n) ≡ version_at d
-handed-same d c n = elim (n.owner.0 == c) as (λ b. version_at (if b then d else Gives c n (number_for d c n) ∷ d) ≡ version_at d) [ true ↦ refl | false ↦ refl ]
+handed-same d c n = elim (n.owner.0 == c) as (λ b. version_at (if b then d else Gives c n (number_for d c n) ∷ d)
+    ≡ version_at d) [ true ↦ refl | false ↦ refl ]
 
 told-same : (d : Effects) (n : Node) (w : Watch) (o : Option Stop) → version_at (after_told d n w o) ≡ version_at d
 told-same d n w None = handed-same d w.client n
@@ -34,7 +35,8 @@ ref-same d to (Some n) = handed-same d to n
 
 refs-same : (d : Effects) (from to : ℕ) (rs : List ObjRef) → version_at (handed_refs d from to rs) ≡ version_at d
 refs-same d from to [] = refl
-refs-same d from to (r ∷ rs) = refs-same (handed_ref d to (resolve_at d from r)) from to rs ∙ ref-same d to (resolve_at d from r)
+refs-same d from to (r ∷ rs) = refs-same (handed_ref d to (resolve_at d from r)) from to rs ∙
+    ref-same d to (resolve_at d from r)
 
 get-same : (d : Effects) (c : ℕ) (o : Option Service) → version_at (after_get d c o) ≡ version_at d
 get-same d c None = refl

@@ -1,20 +1,24 @@
 -- Which effects may come next, and lists of effects that come in order.
-use Rattle.std.specs.Prelude.{◌≡◌, true, List, [], ◌∷◌, nat_lt, length}
+use Rattle.std.specs.Prelude.{◌≡◌, true, false, ◌==◌, List, [], ◌∷◌, nat_lt, length}
 use Rattle.sm_history.specs.Effects.{Effect, Effects, Connects, Dies, Adds, Gives, Releases, Watches, Unwatches, Delivers, Takes, Resumes}
 use Rattle.sm_history.specs.Clients.{is_live, next_client}
-use Rattle.sm_history.specs.Holdings.{is_held, number_for}
-use Rattle.sm_history.specs.Inboxes.{inbox_at}
+use Rattle.sm_history.specs.Holdings.{is_held, number_for, fits_handles}
+use Rattle.sm_history.specs.Inboxes.{inbox_at, has_inbox_room}
+use Rattle.sm_history.specs.Services.{watches_at}
+use Rattle.sm_history.specs.declared.limits.TheConstants.{MOST_WATCHES}
 
 -- What a judged event has made sure of, for each of its effects.
 abbrev pub MayFollow : Effects → Effect → Type 0
 MayFollow d (Connects c who) = c ≡ next_client d
 MayFollow d (Dies c) = is_live d c ≡ true
 MayFollow d (Adds name s) = is_live d s.node.owner.0 ≡ true
-MayFollow d (Gives c n r) = (is_live d c ≡ true) × (r ≡ number_for d c n)
+MayFollow d (Gives c n r) =
+    (is_live d c ≡ true) × (r ≡ number_for d c n) × ((n.owner.0 == c) ≡ false)
+    × (fits_handles (Gives c n r ∷ d) c ≡ true)
 MayFollow d (Releases c n) = (is_live d c ≡ true) × (is_held d c n ≡ true)
-MayFollow d (Watches w) = is_live d w.client ≡ true
+MayFollow d (Watches w) = (is_live d w.client ≡ true) × (nat_lt (length (watches_at d)) MOST_WATCHES ≡ true)
 MayFollow d (Unwatches w) = is_live d w.client ≡ true
-MayFollow d (Delivers c x) = is_live d c ≡ true
+MayFollow d (Delivers c x) = (is_live d c ≡ true) × (has_inbox_room d c ≡ true)
 MayFollow d (Takes c) = nat_lt 0 (length (inbox_at d c)) ≡ true
 MayFollow d (Resumes version clients) = ⊥
 MayFollow d _ = Unit {0}

@@ -1,4 +1,5 @@
--- What holds of every lawful history and of histories that begin with others: each the contract of a function of `laws.rt`.
+-- What holds of every lawful history and of histories that begin with others: each the contract of a function of
+-- `laws.rt`.
 use Rattle.std.specs.Prelude.{ℕ, ◌≡◌, ◌≤◌, true, is_none}
 use Rattle.sm_history.specs.declared.by.By.{By}
 use Rattle.sm_history.specs.declared.entry.Entry.{Entry}
@@ -19,7 +20,8 @@ LawfulAreSound = (places : ℕ) (h : History) → IsLawful places h → Sound (e
 -- No more clients connected, no more policies were set and no actor made more changes than there are changes.
 abbrev pub NumbersAreSmall : Type 0
 NumbersAreSmall = (places : ℕ) (h : History) → IsLawful places h →
-    (next_client (effects_of h) ≤ length_of h) × (version_at (effects_of h) ≤ length_of h) × ((by : By) → turn_of h by ≤ length_of h)
+    (next_client (effects_of h) ≤ length_of h) × (version_at (effects_of h) ≤ length_of h)
+    × ((by : By) → turn_of h by ≤ length_of h)
 
 -- A client that is still to connect has made no change.
 abbrev pub UnconnectedHaveNoTurns : Type 0

@@ -5,6 +5,7 @@ pub mod Effects
 pub mod Clients
 pub mod Holdings
 pub mod Services
+pub mod Rising
 pub mod Inboxes
 pub mod Checks
 pub mod Notices
@@ -21,6 +22,7 @@ pub mod Beginning
 pub mod Books
 pub mod Segments
 pub mod SegmentLaw
+pub mod Listing
 pub mod LawStatements
 pub mod WorkedRuns
 pub mod Records

@@ -37,9 +37,25 @@ pub record Recorded : Type 0 where
 abbrev pub record_of : History → Option Stop → List Recorded
 record_of h None = []
 record_of h (Some (Unruled class perm who target name)) =
-    record { at = length_of h; version = version_at (effects_of h); denial = rule_denial class perm who target; who = who; target = target; name = name } ∷ []
+    record {
+      at = length_of h;
+      version = version_at (effects_of h);
+      denial = rule_denial class perm who target;
+      who =
+          who;
+      target = target;
+      name = name;
+    } ∷ []
 record_of h (Some (Barred denial who name)) =
-    record { at = length_of h; version = version_at (effects_of h); denial = denial; who = who; target = []; name = Some name } ∷ []
+    record {
+      at = length_of h;
+      version = version_at (effects_of h);
+      denial = denial;
+      who = who;
+      target = [];
+      name =
+          Some name;
+    } ∷ []
 record_of h (Some (Unmet instead)) = []
 
 -- The records of watchers that aren't told, at the length before the change.
@@ -66,7 +82,8 @@ records_or h (Some failing) done = record_of h (Some failing)
 -- The records of an event: its denial, or those of the notices that weren't told.
 abbrev pub records : ℕ → History → By → ℕ → Event → List Recorded
 records places h by turn event =
-    records_or h (first_failing (policy_at (effects_of h)) (checks places h by turn event)) (done_records h (client_of by) event)
+    records_or h (first_failing (policy_at (effects_of h)) (checks places h by turn event))
+    (done_records h (client_of by) event)
 
 -- The record of a denied query.
 abbrev pub query_records : History → By → Query → List Recorded
@@ -81,7 +98,8 @@ abbrev pub Stands : Effects → Identity → Type 0
 Stands d who = Contains d (Opens who) ⊎ ((c : ℕ) × Contains d (Connects c who))
 
 abbrev pub IsDeniedBy : Effects → Recorded → Denial → Type 0
-IsDeniedBy d r (Rule s t class perm) = (s ≡ type_of r.who.context) × (t ≡ type_of r.target) × (allowed (policy_at d) s t class perm ≡ false)
+IsDeniedBy d r (Rule s t class perm) = (s ≡ type_of r.who.context) × (t ≡ type_of r.target)
+    × (allowed (policy_at d) s t class perm ≡ false)
 IsDeniedBy d r (App uid) = (uid ≡ r.who.uid) × (is_barred uid ≡ true)
 IsDeniedBy d r (Isolated uid) = (uid ≡ r.who.uid) × (is_isolated_user uid ≡ true)
 

@@ -41,7 +41,8 @@ abbrev pub name_added : Effect → Option (List ℕ)
 name_added (Adds name s) = Some name
 name_added _ = None
 
--- A name put before others of which x is the first, by how it compares with x; `more` is what becomes of those behind x.
+-- A name put before others of which x is the first, by how it compares with x;
+-- `more` is what becomes of those behind x.
 abbrev pub placed_by : Ordering → List ℕ → List ℕ → List (List ℕ) → List (List ℕ) → List (List ℕ)
 placed_by Less name x xs more = name ∷ x ∷ xs
 placed_by Equal name x xs more = x ∷ xs

@@ -1,4 +1,5 @@
--- What the effects of every lawful history are: nothing is said of a client that hasn't connected, and nothing is given back or taken that wasn't there.
+-- What the effects of every lawful history are: nothing is said of a client that hasn't connected,
+-- and nothing is given back or taken that wasn't there.
 use Rattle.std.specs.Prelude.{ℕ, ◌≡◌, ◌≤◌, ◌<◌, Bool, true, false, ◌==◌, List, [], ◌∷◌, Some, is_some, count_by, filter_map, length}
 use Rattle.std.specs.List.{list_any}
 use Rattle.sm_kinds.specs.declared.number.Node.{Node}

@@ -38,16 +38,19 @@ not_barred d c name = let who = identity_at d c in Spares (not (is_barred who.ui
 
 -- An isolated caller, where the flag says that it matters.
 abbrev pub not_isolated : Effects → ℕ → List ℕ → Bool → Check
-not_isolated d c name matters = let who = identity_at d c in Spares (not (is_isolated_user who.uid && matters)) (Isolated who.uid) who name
+not_isolated d c name matters = let who = identity_at d c in
+    Spares (not (is_isolated_user who.uid && matters)) (Isolated who.uid) who name
 
 -- A reference names an object, and may be passed from client c to the manager, or to client k. A null passes.
 abbrev pub passes_to_manager : Effects → ℕ → ObjRef → List Check
 passes_to_manager d c NullRef = []
-passes_to_manager d c r = Wants (is_some (resolve_at d c r)) (Refused (Failed BadHandle)) ∷ to_manager d c transferring ∷ []
+passes_to_manager d c r = Wants (is_some (resolve_at d c r)) (Refused (Failed BadHandle)) ∷ to_manager d c
+    transferring ∷ []
 
 abbrev pub passes_to_client : Effects → ℕ → ℕ → ObjRef → List Check
 passes_to_client d c k NullRef = []
-passes_to_client d c k r = Wants (is_some (resolve_at d c r)) (Refused (Failed BadHandle)) ∷ to_client d c k transferring ∷ []
+passes_to_client d c k r = Wants (is_some (resolve_at d c r)) (Refused (Failed BadHandle)) ∷ to_client d c k
+    transferring ∷ []
 
 abbrev pub all_pass_to_client : Effects → ℕ → ℕ → List ObjRef → List Check
 all_pass_to_client d c k [] = []
@@ -122,7 +125,8 @@ unregister_checks d c name obj =
     ∷ to_label d c name adding
     ∷ Wants (is_some (service_at d name)) (Refused (Exception NotRegistered))
     ∷ Wants (service_meets (λ s. s.adder == c) (service_at d name)) (Refused (Exception NotAdder))
-    ∷ Wants (service_meets (λ s. same_node s.node (found (resolve_at d c obj))) (service_at d name)) (Refused (Exception OtherObject))
+    ∷ Wants (service_meets (λ s. same_node s.node (found (resolve_at d c obj))) (service_at d name))
+    (Refused (Exception OtherObject))
     ∷ Wants (not (is_in_use d c (found (resolve_at d c obj)))) (Refused (Exception InUse))
     ∷ []
 
@@ -132,17 +136,21 @@ object_checks d c refs n =
     Wants (owner_lives d n) (Refused Dead)
     ∷ to_client d c n.owner.0 calling
     ∷ all_pass_to_client d c n.owner.0 refs
-    ++ Wants (has_inbox_room d n.owner.0 && fits_handles (handed_refs d c n.owner.0 refs) n.owner.0) (Refused (Failed TargetFull))
+    ++ Wants (has_inbox_room d n.owner.0 && fits_handles (handed_refs d c n.owner.0 refs) n.owner.0)
+    (Refused (Failed TargetFull))
     ∷ []
 
 abbrev pub call_checks : Effects → ℕ → ℕ → List ObjRef → List Check
 call_checks d c handle refs =
-    Wants (is_some (node_at d c handle)) (Refused (Failed BadHandle)) ∷ object_checks d c refs (found (node_at d c handle))
+    Wants (is_some (node_at d c handle)) (Refused (Failed BadHandle)) ∷ object_checks d c refs
+    (found (node_at d c handle))
 
 -- The checks of each event of client c, in order.
 abbrev pub event_checks : Effects → ℕ → Event → List Check
 event_checks d c (Open who policy) = []
-event_checks d c (Connect who) = Wants (nat_lt (length (live_clients d)) MOST_CLIENTS && nat_le (next_client d) LAST_CLIENT) (Refused TooManyClients) ∷ []
+event_checks d c (Connect who) =
+    Wants (nat_lt (length (live_clients d)) MOST_CLIENTS && nat_le (next_client d) LAST_CLIENT)
+    (Refused TooManyClients) ∷ []
 event_checks d c (Add name obj allow dump) = add_checks d c name obj
 event_checks d c (Get name) = get_checks d c name
 event_checks d c (WatchName name object) = watch_checks d c name
@@ -152,7 +160,8 @@ event_checks d c (Call handle payload refs) = call_checks d c handle refs
 event_checks d c (Release handle) = Wants (is_some (node_at d c handle)) (Refused (Failed BadHandle)) ∷ []
 event_checks d c Take = Wants (nat_lt 0 (length (inbox_at d c))) (Refused Empty) ∷ []
 event_checks d c Die = []
-event_checks d c (Reload expected policy) = Wants (version_at d == expected) (Refused (VersionMoved (version_at d))) ∷ []
+event_checks d c (Reload expected policy) = Wants (version_at d == expected)
+    (Refused (VersionMoved (version_at d))) ∷ []
 
 -- Who may make which event. No one opens a manager again.
 abbrev pub is_theirs : By → Event → Bool
@@ -186,12 +195,14 @@ is_die Die = true
 is_die _ = false
 
 abbrev pub has_place : ℕ → History → Event → Bool
-has_place places h event = is_die event || nat_le (length h.entries + length (live_clients (effects_of h)) + places_needed event) places
+has_place places h event =
+    is_die event || nat_le (length h.entries + length (live_clients (effects_of h)) + places_needed event) places
 
 -- All that an event must meet.
 abbrev pub checks : ℕ → History → By → ℕ → Event → List Check
 checks places h by turn event =
-    actor_checks h by turn event ++ event_checks (effects_of h) (client_of by) event ++ Wants (has_place places h event) (Refused JournalFull) ∷ []
+    actor_checks h by turn event ++ event_checks (effects_of h) (client_of by) event
+    ++ Wants (has_place places h event) (Refused JournalFull) ∷ []
 
 abbrev pub notice_of_watch : Effects → Watch → Option Service → Option Notice
 notice_of_watch d w None = None
@@ -212,7 +223,8 @@ outcome_of d c (Connect who) = Connected (record { 0 = next_client d })
 outcome_of d c (Add name obj allow dump) = let n = found (resolve_at d c obj) in
     Added (notices_at (Adds name (service c n allow dump) ∷ d) n (watchers_at d name))
 outcome_of d c (Get name) = Granted (number_of d c (service_at d name))
-outcome_of d c (WatchName name object) = Watched (notice_of_watch (Watches (watch c name object) ∷ d) (watch c name object) (service_at d name))
+outcome_of d c (WatchName name object) =
+    Watched (notice_of_watch (Watches (watch c name object) ∷ d) (watch c name object) (service_at d name))
 outcome_of d c (Unwatch name object) = Unwatched (count_by (same_watch (watch c name object)) (watches_at d))
 outcome_of d c (Unregister name obj) = Unregistered
 outcome_of d c (Call handle payload refs) = Sent (call_delivery d c (found (node_at d c handle)) payload refs)
@@ -228,4 +240,5 @@ answered (Some failing) outcome = answer_of failing
 -- The answer to an event.
 abbrev pub verdict : ℕ → History → By → ℕ → Event → Reply
 verdict places h by turn event =
-    answered (first_failing (policy_at (effects_of h)) (checks places h by turn event)) (outcome_of (effects_of h) (client_of by) event)
+    answered (first_failing (policy_at (effects_of h)) (checks places h by turn event))
+    (outcome_of (effects_of h) (client_of by) event)

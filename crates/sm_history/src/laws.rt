@@ -1,6 +1,7 @@
 //! Laws of the definitions, each the contract of a function that does nothing.
 
 ghost use Rattle.sm_history.specs.SegmentLaw.{SegmentsRead};
+ghost use Rattle.sm_history.specs.Listing.{OutcomesListEffects};
 ghost use Rattle.sm_history.specs.LawStatements.{LawfulAreSound, NumbersAreSmall, UnconnectedHaveNoTurns, FreeNumbersAreFree, DoneIsLawful, DoneFits, BeginsWithItself, BeginsWithTheOneBefore, BeginsWithItsBeginnings};
 
 /// A lawful history is answered as the segment of its older part's rows and its newer part is, but for a full journal.
@@ -41,4 +42,9 @@ pub fn beginnings()
     ensures itself { BeginsWithItself }
     ensures before { BeginsWithTheOneBefore }
     ensures through { BeginsWithItsBeginnings }
+{}
+
+/// The outcomes of a lawful history list just the deliveries, the numbers of handles and the clients of its effects.
+pub fn outcomes()
+    ensures { OutcomesListEffects }
 {}

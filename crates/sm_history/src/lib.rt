@@ -24,7 +24,7 @@ mod told;
 mod turn;
 
 pub use by::By;
-pub use delivery::{Delivery, Given, GivenRefs, Message};
+pub use delivery::{BoxedDelivery, Delivery, Given, GivenRefs, Message};
 pub use denial::Denial;
 pub use effect::{Effect, Watch};
 pub use entry::Entry;
@@ -32,7 +32,7 @@ pub use event::Event;
 pub use limits::{
     LAST_CLIENT, MOST_CLIENTS, MOST_DELIVERIES, MOST_HANDLES, MOST_NAMES, MOST_WATCHES,
 };
-pub use notice::{Notice, Notices, Reason, Told};
+pub use notice::{BoxedNotice, Notice, Notices, Reason, Told};
 pub use outcome::Outcome;
 pub use query::Query;
 pub use refusal::{Exception, Failure, Refusal};
