@@ -1,0 +1,63 @@
+-- Whether one more object can be held.
+use Rattle.std.proofs.Common.{◌≡◌, ℕ, ◌+◌, ◌≤◌, Bool, true, false, List, ◌∷◌, refl, ap, sym, ◌∙◌, subst, length, Option, Some, arith}
+use Rattle.std.specs.Prelude.{nat_lt, IsTrue, ◌-◌}
+use Rattle.std.proofs.lemmas.Bool.{true≢false}
+use Rattle.std.proofs.lemmas.Bool.Decides.{nat_tests}
+use Rattle.sm_kinds.specs.declared.number.Node.{Node}
+use Rattle.sm_history.specs.Effects.{Effects}
+use Rattle.sm_history.specs.declared.effect.Effect.TheVariants.{Gives}
+use Rattle.sm_history.specs.Clients.{is_live}
+use Rattle.sm_history.specs.Holdings.{refs_at, number_at, is_held, held_nodes, fits_handles}
+use Rattle.sm_history.proofs.Grants.{count_gives}
+use Rattle.sm_grants.specs.declared.rows.ClientHandles.{ClientHandles}
+use Rattle.sm_grants.specs.Slots.{slot, node_of, held_in, IsAbsent, HandleTable}
+use Rattle.sm_grants.specs.Tracking.{TracksSlots}
+use Rattle.sm_grants.specs.Rows.{table_of, slots_in, TracksRows}
+use Rattle.sm_grants.proofs.Tracked.{not_held, held_slot, held_count}
+use Rattle.sm_grants.proofs.Small.{zero_test, test_lt}
+
+in_slots : (d : Effects) (rows : List ClientHandles) (c : ℕ) (o : Option HandleTable) → TracksRows d rows
+    → table_of rows c ≡ o → TracksSlots d c (slots_in o)
+in_slots d rows c o tr at = subst (λ (v : Option HandleTable). TracksSlots d c (slots_in v)) at (tr.slots c)
+
+-- Absent: one more is held.
+pub fits_new : (d : Effects) (rows : List ClientHandles) (c : ℕ) (n : Node) (r : ℕ) (o : Option HandleTable)
+    → TracksRows d rows → is_live d c ≡ true → table_of rows c ≡ o → IsAbsent (slots_in o) n
+    → fits_handles (Gives c n r ∷ d) c ≡ nat_lt (held_in (slots_in o)) 65536
+fits_new d rows c n r o tr live at absent =
+    let t = in_slots d rows c o tr at in
+    let none = not_held (refs_at d c) (number_at d c) (slots_in o) n t absent in
+    let many : length (held_nodes (Gives c n r ∷ d) c) ≡ held_in (slots_in o) + 1 =
+    count_gives d c n r tr.balanced live ∙ rw (zero_test (refs_at d c n) none)
+    (ap (λ (k : ℕ). k + 1) (held_count d c (slots_in o) t)) in
+    rw many (grind (arith, nat_tests))
+
+-- Held already: no more is held.
+pub fits_old : (d : Effects) (rows : List ClientHandles) (c : ℕ) (n : Node) (r i : ℕ) (o : Option HandleTable)
+    → TracksRows d rows → is_live d c ≡ true → table_of rows c ≡ o → node_of (slot (slots_in o) i) ≡ Some n
+    → held_in (slots_in o) ≤ 65536 → fits_handles (Gives c n r ∷ d) c ≡ true
+fits_old d rows c n r i o tr live at here most =
+    let t = in_slots d rows c o tr at in
+    let held : is_held d c n ≡ true = held_slot d c (slots_in o) i n t here in
+    let many : length (held_nodes (Gives c n r ∷ d) c) ≡ held_in (slots_in o) = count_gives d c n r tr.balanced live ∙
+    rw held (held_count d c (slots_in o) t) in
+    rw many (grind (arith, nat_tests))
+
+pub fits_is : (d : Effects) (rows : List ClientHandles) (c : ℕ) (n : Node) (r : ℕ) (o : Option HandleTable)
+    (result : Bool) → TracksRows d rows → is_live d c ≡ true → table_of rows c ≡ o
+    → (IsAbsent (slots_in o) n → result ≡ nat_lt (held_in (slots_in o)) 65536)
+    → ((i : ℕ) → node_of (slot (slots_in o) i) ≡ Some n → IsTrue result × (held_in (slots_in o) ≤ 65536))
+    → result ≡ fits_handles (Gives c n r ∷ d) c
+fits_is d rows c n r o result tr live at absent held =
+    let t = in_slots d rows c o tr at in
+    elim (is_held d c n) as (λ b. is_held d c n ≡ b → result ≡ fits_handles (Gives c n r ∷ d) c) [
+      | true ↦ λ e.
+          let here = t.found n (test_lt (refs_at d c n) e) in
+          let w = held (number_at d c n - 1) here in
+          let true_is : result ≡ true = w.0 in
+          true_is ∙ sym (fits_old d rows c n r (number_at d c n - 1) o tr live at here w.1)
+      | false ↦ λ e.
+          let none : IsAbsent (slots_in o) n = λ i p. absurd
+          (true≢false (sym (held_slot d c (slots_in o) i n t p) ∙ e)) in
+          absent none ∙ sym (fits_new d rows c n r o tr live at none)
+    ] refl

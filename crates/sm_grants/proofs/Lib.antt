@@ -1,0 +1,12 @@
+pub mod Small
+pub mod Indexed
+pub mod Tracked
+pub mod ClientRows
+pub mod OtherEffects
+pub mod Fits
+pub mod Places
+pub mod InOrder
+pub mod NewObjects
+pub mod HolderCounts
+pub mod Granting
+pub mod Handing

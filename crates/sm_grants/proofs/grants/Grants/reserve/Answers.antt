@@ -1,0 +1,99 @@
+use Rattle.std.proofs.Common.{◌≡◌, ◌≤◌, ◌<◌, ℕ, List, Some, None, sym, ap, subst, ◌∙◌, arith}
+use Rattle.std.specs.Prelude.{Option}
+use Rattle.sm_grants.specs.declared.rows.ClientHandles.{ClientHandles}
+use Rattle.sm_grants.specs.Slots.{HandleTable}
+use Rattle.sm_grants.specs.Rows.{index_from, slots_in, spare_in, spare_of}
+use Rattle.sm_grants.proofs.ClientRows.{tracks_room, row_here, row_changed, no_row, tracks_pushed, changed_own, spare_pushed, spare_kept, spare_more}
+use Rattle.sm_grants.proofs.grants.Grants.reserve.Goals as goal
+
+pub returns-in-Some-clause-same : goal.returns-in-Some-clause-same
+returns-in-Some-clause-same c d tr =
+    let rows = c.args.self.now.rows.items in
+    let at : index_from 0 rows c.args.client ≡ Some c.in-Some.i =
+    rw (← c.deref.ensures.value) (sym c.in-Some.ensures.at) in
+    let here = row_here rows c.args.client c.in-Some.i c.index_mut-row.result.now at c.index_mut-row.ensures.value in
+    tracks_room d rows _ c.args.client c.reserve.new.self
+    (row_changed rows c.args.client c.in-Some.i c.index_mut-row.result.now c.reserve.new.self at
+    c.index_mut-row.ensures.value)
+    (c.reserve.ensures.slots ∙ sym (ap (λ (o : Option HandleTable). slots_in o) here.0)) tr
+
+pub returns-in-Some-clause-room : goal.returns-in-Some-clause-room
+returns-in-Some-clause-room c =
+    let rows = c.args.self.now.rows.items in
+    let at : index_from 0 rows c.args.client ≡ Some c.in-Some.i =
+    rw (← c.deref.ensures.value) (sym c.in-Some.ensures.at) in
+    let here = row_here rows c.args.client c.in-Some.i c.index_mut-row.result.now at c.index_mut-row.ensures.value in
+    let own = changed_own rows _ c.args.client c.reserve.new.self
+    (row_changed rows c.args.client c.in-Some.i c.index_mut-row.result.now c.reserve.new.self at
+    c.index_mut-row.ensures.value) in
+    rw own c.reserve.ensures.room
+
+pub returns-in_ok-reserve-in-None-2-clause-same : goal.returns-in_ok-reserve-in-None-2-clause-same
+returns-in_ok-reserve-in-None-2-clause-same c d tr =
+    let rows = c.args.self.now.rows.items in
+    let none : index_from 0 rows c.args.client ≡ None = rw (← c.deref.ensures.value) (sym c.in-None.ensures.at) in
+    let r : ClientHandles = record { client = c.args.client; handles = c.reserve-in-None-2.new.self } in
+    rw (c.push_reserved.ensures.items, c.reserve-in-None.ensures.items)
+    (tracks_pushed d rows r (no_row 0 rows c.args.client none)
+    (c.reserve-in-None-2.ensures.slots ∙ c.in_ok-handles-in-None.ensures) tr)
+
+pub returns-in_ok-reserve-in-None-2-clause-room : goal.returns-in_ok-reserve-in-None-2-clause-room
+returns-in_ok-reserve-in-None-2-clause-room c =
+    let rows = c.args.self.now.rows.items in
+    let none : index_from 0 rows c.args.client ≡ None = rw (← c.deref.ensures.value) (sym c.in-None.ensures.at) in
+    let r : ClientHandles = record { client = c.args.client; handles = c.reserve-in-None-2.new.self } in
+    rw (
+      c.push_reserved.ensures.items,
+      c.reserve-in-None.ensures.items,
+      spare_pushed rows r (no_row 0 rows c.args.client none),
+    ) c.in_ok-reserve-in-None-2.ensures.room
+
+pub returns-in-Some-clause-spare : goal.returns-in-Some-clause-spare
+returns-in-Some-clause-spare c k =
+    let rows = c.args.self.now.rows.items in
+    let at : index_from 0 rows c.args.client ≡ Some c.in-Some.i =
+    rw (← c.deref.ensures.value) (sym c.in-Some.ensures.at) in
+    let here = row_here rows c.args.client c.in-Some.i c.index_mut-row.result.now at c.index_mut-row.ensures.value in
+    let was : spare_of rows c.args.client ≡ c.index_mut-row.result.now.handles.spare =
+    ap (λ (o : Option HandleTable). spare_in o) here.0 in
+    spare_kept rows _ c.args.client c.reserve.new.self
+    (row_changed rows c.args.client c.in-Some.i c.index_mut-row.result.now c.reserve.new.self at
+    c.index_mut-row.ensures.value)
+    (omega (arith, was, c.reserve.ensures.spare)) k
+
+pub returns-in-Some-clause-succeeds : goal.returns-in-Some-clause-succeeds
+returns-in-Some-clause-succeeds c le =
+    let rows = c.args.self.now.rows.items in
+    let at : index_from 0 rows c.args.client ≡ Some c.in-Some.i =
+    rw (← c.deref.ensures.value) (sym c.in-Some.ensures.at) in
+    let here = row_here rows c.args.client c.in-Some.i c.index_mut-row.result.now at c.index_mut-row.ensures.value in
+    c.reserve.ensures.succeeds (subst (λ (o : Option HandleTable). c.args.n ≤ spare_in o) here.0 le)
+
+no_spare : (rows : List ClientHandles) (client n : ℕ) → index_from 0 rows client ≡ None → 0 < n
+    → n ≤ spare_of rows client → ⊥
+no_spare rows client n none some le =
+    let zero : spare_of rows client ≡ 0 = ap (λ (o : Option HandleTable). spare_in o) (no_row 0 rows client none) in
+    omega (arith, some, le, zero)
+
+pub returns-in_err-reserve-in-None-clause-succeeds : goal.returns-in_err-reserve-in-None-clause-succeeds
+returns-in_err-reserve-in-None-clause-succeeds c le =
+    absurd (no_spare c.args.self.now.rows.items c.args.client c.args.n
+    (rw (← c.deref.ensures.value) (sym c.in-None.ensures.at)) (omega (arith, c.if-n-eq0.false)) le)
+
+pub returns-in_err-handles-in-None-clause-succeeds : goal.returns-in_err-handles-in-None-clause-succeeds
+returns-in_err-handles-in-None-clause-succeeds c le =
+    absurd (no_spare c.args.self.now.rows.items c.args.client c.args.n
+    (rw (← c.deref.ensures.value) (sym c.in-None.ensures.at)) (omega (arith, c.if-n-eq0.false)) le)
+
+pub returns-in_err-reserve-in-None-2-clause-succeeds : goal.returns-in_err-reserve-in-None-2-clause-succeeds
+returns-in_err-reserve-in-None-2-clause-succeeds c le =
+    absurd (no_spare c.args.self.now.rows.items c.args.client c.args.n
+    (rw (← c.deref.ensures.value) (sym c.in-None.ensures.at)) (omega (arith, c.if-n-eq0.false)) le)
+
+pub returns-in_ok-reserve-in-None-2-clause-spare : goal.returns-in_ok-reserve-in-None-2-clause-spare
+returns-in_ok-reserve-in-None-2-clause-spare c k =
+    let rows = c.args.self.now.rows.items in
+    let none : index_from 0 rows c.args.client ≡ None = rw (← c.deref.ensures.value) (sym c.in-None.ensures.at) in
+    let r : ClientHandles = record { client = c.args.client; handles = c.reserve-in-None-2.new.self } in
+    rw (c.push_reserved.ensures.items, c.reserve-in-None.ensures.items)
+    (spare_more rows r (no_row 0 rows c.args.client none) k)

@@ -1,0 +1,6 @@
+pub mod Slots
+pub mod Rows
+pub mod Tracking
+pub mod Several
+pub mod Holders
+pub mod Handing

@@ -1,0 +1,319 @@
+//! The handles of all clients.
+
+ghost use Rattle.std.specs.Prelude.{◌≡◌, ◌≤◌, ◌<◌, ◌+◌, ◌++◌, [], ◌∷◌, true, false, ◌==◌, ◌↔◌, ◌||◌, not, ℕ, min, max, nat_lt, length, is_some, Some, OnOk, IsOk, IfOk, IfSome, MatchOption, IsTrue};
+ghost use Rattle.std.specs.List.{list_any};
+ghost use Rattle.sm_kinds.specs.declared.number.Node.{Node};
+ghost use Rattle.sm_kinds.specs.declared.limits.TheConstants.{MOST_REFS};
+ghost use Rattle.sm_history.specs.Effects.{Effects, same_node};
+ghost use Rattle.sm_history.specs.declared.effect.Effect.TheVariants.{Gives, Releases, Dies};
+ghost use Rattle.sm_history.specs.Clients.{is_live};
+ghost use Rattle.sm_history.specs.Holdings.{resolve_at, node_at, number_for, fits_handles, is_in_use};
+ghost use Rattle.sm_grants.specs.Slots.{Slots, slot, node_of, held_in, is_in, IsAbsent, IsNumberFor};
+ghost use Rattle.sm_grants.specs.Rows.{slots_of, Tracks, CanGrant, spare_for};
+ghost use Rattle.sm_grants.specs.Several.{after_grants, numbers_for, new_among, with_grant, Along};
+ghost use Rattle.sm_grants.specs.Holders.{holders_at};
+
+use crate::handles::Handles;
+use crate::place::place_of;
+use crate::rows::{ClientHandles, handles_of, holders_in, row_of};
+use sm_history::MOST_HANDLES;
+use sm_kinds::{ClientId, Node, ObjRef};
+use std::alloc::{AllocError, Global};
+
+/// Which client holds which object, under which number, and how often.
+#[derive(Drop)]
+pub struct Grants {
+    alloc: Global,
+    rows: Vec<ClientHandles>,
+}
+
+impl Grants {
+    /// No handles.
+    pub fn new(alloc: Global) -> Grants
+        ensures { Tracks [] result }
+    {
+        Grants {
+            alloc,
+            rows: Vec::new(alloc),
+        }
+    }
+
+    /// Makes room for grants of `n` new objects to a client.
+    ///
+    /// # Errors
+    ///
+    /// An error where memory was refused.
+    pub fn reserve(&mut self, client: u32, n: usize) -> Result<(), AllocError>
+        ensures same { (d : Effects) → Tracks d self.old → Tracks d self.new }
+        ensures room { OnOk result (n ≤ spare_for self.new client) }
+        ensures spare { (k : ℕ) → spare_for self.old k ≤ spare_for self.new k }
+        ensures succeeds { n ≤ spare_for self.old client → IsOk result }
+    {
+        if n == 0 {
+            return Ok(());
+        }
+        match row_of(&self.rows, client) {
+            Some(i) => {
+                let row = &mut self.rows[i];
+                row.handles.reserve(n)
+            }
+            None => {
+                self.rows.reserve(1)?;
+                let mut handles = Handles::new(self.alloc)?;
+                handles.reserve(n)?;
+                self.rows.push_reserved(ClientHandles { client, handles });
+                Ok(())
+            }
+        }
+    }
+
+    /// One grant of an object that the client doesn't own: the number of its handle.
+    pub fn grant(&mut self, client: u32, node: Node) -> u32
+        requires { CanGrant self.old client node }
+        ensures tracks { (d : Effects) → Tracks d self.old → is_live d client ≡ true
+            → (result ≡ number_for d client node) × Tracks (Gives client node result ∷ d) self.new }
+        ensures spare { spare_for self.old client ≤ spare_for self.new client + 1 }
+        ensures others { (k : ℕ) → (client == k) ≡ false → spare_for self.new k ≡ spare_for self.old k }
+    {
+        let Some(i) = row_of(&self.rows, client) else {
+            return 0;
+        };
+        let row = &mut self.rows[i];
+        row.handles.grant(node)
+    }
+
+    /// Whether one grant of an object takes no memory, has a number and can be counted.
+    pub fn is_ready(&self, client: u32, node: Node) -> bool
+        ensures { IsTrue result ↔ CanGrant self.now client node }
+    {
+        match handles_of(&self.rows, client) {
+            Some(handles) => handles.is_ready(node),
+            None => false,
+        }
+    }
+
+    /// Gives back one grant of what the client holds under a number. The last one frees the number.
+    pub fn release(&mut self, client: u32, number: u32) -> Option<Node>
+        ensures tracks { (d : Effects) → Tracks d self.old → (result ≡ node_at d client number)
+            × MatchOption result (Tracks d self.new) (λ n. Tracks (Releases client n ∷ d) self.new) }
+        ensures spare { (k : ℕ) → spare_for self.old k ≤ spare_for self.new k }
+    {
+        if number == 0 {
+            return None;
+        }
+        let Some(i) = row_of(&self.rows, client) else {
+            return None;
+        };
+        let row = &mut self.rows[i];
+        let Some(held) = row.handles.at(number as usize - 1) else {
+            return None;
+        };
+        row.handles.release(number as usize - 1);
+        Some(held.node)
+    }
+
+    /// Forgets what a client holds, at its death.
+    pub fn forget(&mut self, client: u32)
+        ensures tracks { (d : Effects) → Tracks d self.old → Tracks (Dies client ∷ d) self.new }
+        ensures others { (k : ℕ) → (client == k) ≡ false → spare_for self.new k ≡ spare_for self.old k }
+    {
+        if let Some(i) = row_of(&self.rows, client) {
+            let _ = self.rows.remove(i);
+        }
+    }
+
+    /// The object that a client's reference names.
+    pub fn resolve(&self, client: u32, obj: ObjRef) -> Option<Node>
+        ensures { (d : Effects) → Tracks d self.now → result ≡ resolve_at d client obj }
+    {
+        match obj {
+            ObjRef::Own(object) => Some(Node {
+                owner: ClientId(client),
+                object,
+            }),
+            ObjRef::Handle(number) => self.node(client, number),
+            ObjRef::Null => None,
+        }
+    }
+
+    /// The object that a client holds under a number.
+    pub fn node(&self, client: u32, number: u32) -> Option<Node>
+        ensures { (d : Effects) → Tracks d self.now → result ≡ node_at d client number }
+    {
+        if number == 0 {
+            return None;
+        }
+        let Some(handles) = handles_of(&self.rows, client) else {
+            return None;
+        };
+        let Some(held) = handles.at(number as usize - 1) else {
+            return None;
+        };
+        Some(held.node)
+    }
+
+    /// The number of a client's handle for an object, or the one that a grant would give it, from 1: 65,537 where
+    /// all are taken.
+    pub fn number_for(&self, client: u32, node: Node) -> u32
+        ensures { (d : Effects) → Tracks d self.now → result ≡ number_for d client node }
+    {
+        match handles_of(&self.rows, client) {
+            Some(handles) => handles.number_for(node),
+            None => 1,
+        }
+    }
+
+    /// Whether a client's handles have room for one grant of an object that it doesn't own.
+    pub fn fits(&self, client: u32, node: Node) -> bool
+        ensures { (d : Effects) (r : ℕ) → Tracks d self.now → is_live d client ≡ true
+            → result ≡ fits_handles (Gives client node r ∷ d) client }
+    {
+        match handles_of(&self.rows, client) {
+            Some(handles) => handles.fits(node),
+            None => true,
+        }
+    }
+
+    /// How many live clients other than `except` hold an object, at most `u32::MAX`.
+    pub fn holders(&self, node: Node, except: u32) -> u32
+        ensures count { (d : Effects) → Tracks d self.now → result ≡ min (holders_at d except node) u32.MAX }
+        ensures in_use { (d : Effects) → Tracks d self.now → nat_lt 0 result ≡ is_in_use d except node }
+    {
+        let count = holders_in(&self.rows, node, except);
+        count.min(u32::MAX as usize) as u32
+    }
+
+    /// The numbers of a client's handles where objects that it doesn't own are granted to it in order.
+    ///
+    /// # Errors
+    ///
+    /// An error where the memory for the numbers was refused.
+    pub fn numbers(
+        &self,
+        alloc: Global,
+        client: u32,
+        nodes: &[Node],
+    ) -> Result<Vec<u32>, AllocError>
+        requires { length nodes.now ≤ MOST_REFS }
+        ensures { (d : Effects) → Tracks d self.now → is_live d client ≡ true
+            → IfOk result (λ numbers. numbers.items ≡ numbers_for d client nodes.now) }
+    {
+        let mut numbers = Vec::with_capacity(alloc, nodes.len())?;
+        let mut behind = 0;
+        for i in 0..nodes.len() {
+            let (number, next) = self.number_behind(
+                client,
+                &nodes[..i],
+                &numbers,
+                nodes[i],
+                behind,
+            );
+            numbers.push_reserved(number);
+            behind = next;
+        }
+        Ok(numbers)
+    }
+
+    /// Whether a client's handles have room for objects that it doesn't own, all granted in order.
+    pub fn room(&self, client: u32, nodes: &[Node]) -> bool
+        ensures { (d : Effects) → Tracks d self.now → is_live d client ≡ true
+            → result ≡ fits_handles (after_grants d client nodes.now) client }
+    {
+        self.count_new(client, nodes) <= MOST_HANDLES - self.len_of(client)
+    }
+
+    /// The number of an object behind grants of others, and the slot from which on slots are as free as
+    /// before these grants.
+    fn number_behind(
+        &self,
+        client: u32,
+        earlier: &[Node],
+        numbers: &[u32],
+        node: Node,
+        behind: usize,
+    ) -> (u32, usize)
+        requires as_many { length earlier.now ≡ length numbers.now }
+        requires few { length earlier.now ≤ MOST_REFS }
+        requires near { behind ≤ MOST_HANDLES + length earlier.now }
+        ensures step { (t : Slots) → Along (slots_of self.now.rows.items client) t earlier.now numbers.now behind
+            → IsNumberFor t node result.0
+            × Along (slots_of self.now.rows.items client) (with_grant t node result.0)
+            (earlier.now ++ node ∷ []) (numbers.now ++ result.0 ∷ []) result.1 }
+        ensures near { result.1 ≤ MOST_HANDLES + length earlier.now + 1 }
+    {
+        if let Some(i) = self.index_of(client, node) {
+            return (i + 1, behind);
+        }
+        if let Some(i) = place_of(earlier, node) {
+            return (numbers[i], behind);
+        }
+        let free = self.free_from(client, behind);
+        (free as u32 + 1, free + 1)
+    }
+
+    /// How many of the objects a client doesn't hold, each counted once.
+    fn count_new(&self, client: u32, nodes: &[Node]) -> usize
+        ensures { result ≡ new_among (is_in (slots_of self.now.rows.items client)) nodes.now }
+    {
+        let mut count = 0;
+        for i in 0..nodes.len() {
+            if self.is_new(client, &nodes[..i], nodes[i]) {
+                count += 1;
+            }
+        }
+        count
+    }
+
+    /// Whether a client doesn't hold an object, and it isn't among earlier ones.
+    fn is_new(&self, client: u32, earlier: &[Node], node: Node) -> bool
+        ensures { result ≡ not (is_in (slots_of self.now.rows.items client) node || list_any (λ n. same_node n node) earlier.now) }
+    {
+        !self.holds(client, node) && place_of(earlier, node).is_none()
+    }
+
+    /// The slot of an object that a client holds.
+    fn index_of(&self, client: u32, node: Node) -> Option<u32>
+        ensures found { MatchOption result (IsAbsent (slots_of self.now.rows.items client) node)
+            (λ i. node_of (slot (slots_of self.now.rows.items client) i) ≡ Some node) }
+        ensures small { IfSome result (λ i. i < MOST_HANDLES) }
+    {
+        match handles_of(&self.rows, client) {
+            Some(handles) => handles.index_of(node),
+            None => None,
+        }
+    }
+
+    /// Whether a client holds an object.
+    fn holds(&self, client: u32, node: Node) -> bool
+        ensures { result ≡ is_in (slots_of self.now.rows.items client) node }
+    {
+        match handles_of(&self.rows, client) {
+            Some(handles) => handles.holds(node),
+            None => false,
+        }
+    }
+
+    /// A client's first free slot from `from` on.
+    fn free_from(&self, client: u32, from: usize) -> usize
+        ensures behind { from ≤ result }
+        ensures free { is_some (slot (slots_of self.now.rows.items client) result) ≡ false }
+        ensures least { (j : ℕ) → from ≤ j → j < result → is_some (slot (slots_of self.now.rows.items client) j) ≡ true }
+        ensures small { result ≤ max from MOST_HANDLES }
+    {
+        match handles_of(&self.rows, client) {
+            Some(handles) => handles.free_from(from),
+            None => from,
+        }
+    }
+
+    /// How many objects a client holds.
+    fn len_of(&self, client: u32) -> usize
+        ensures is { result ≡ held_in (slots_of self.now.rows.items client) }
+        ensures most { result ≤ MOST_HANDLES }
+    {
+        match handles_of(&self.rows, client) {
+            Some(handles) => handles.len(),
+            None => 0,
+        }
+    }
+}

@@ -1,0 +1,16 @@
+//! Handles: which client holds which object, under which number, and how often.
+//!
+//! A table of handles is what the effects of a history say of grants and releases.
+#![tactic(auto)]
+
+mod grants;
+mod handles;
+mod held;
+mod place;
+mod rows;
+mod slots;
+#[cfg(test)]
+mod tests;
+
+pub use grants::Grants;
+pub use held::Held;

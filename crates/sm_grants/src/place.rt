@@ -1,0 +1,15 @@
+//! Objects in a list.
+
+ghost use Rattle.std.specs.Prelude.{◌≡◌, position};
+ghost use Rattle.sm_history.specs.Effects.{same_node};
+
+use sm_kinds::Node;
+
+/// The first place of an object in a list.
+pub fn place_of(nodes: &[Node], node: Node) -> Option<usize>
+    ensures { result ≡ position (λ n. same_node n node) nodes.now }
+{
+    nodes
+        .iter()
+        .position(|n| n.owner.0 == node.owner.0 && n.object == node.object)
+}

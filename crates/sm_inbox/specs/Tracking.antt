@@ -1,0 +1,29 @@
+-- When the inboxes of a table are what waits for the clients.
+use Rattle.std.specs.Prelude.{ℕ, ◌≡◌, Bool, List, is_some}
+use Rattle.sm_history.specs.declared.delivery.Delivery.{Delivery}
+use Rattle.sm_history.specs.Effects.{Effects}
+use Rattle.sm_history.specs.Inboxes.{inbox_at}
+use Rattle.sm_history.specs.Sound.{IsTakenFrom}
+use Rattle.sm_inbox.specs.declared.inbox.Inbox.{Inbox}
+use Rattle.sm_inbox.specs.declared.inboxes.Inboxes.{Inboxes}
+use Rattle.sm_inbox.specs.Rows.{row_of, waiting_in, room_in}
+
+-- The table has an inbox for a client.
+abbrev pub is_open : Inboxes → ℕ → Bool
+is_open t c = is_some (row_of t.rows.items c)
+
+-- What waits for a client, the oldest first.
+abbrev pub waiting_of : Inboxes → ℕ → List Delivery
+waiting_of t c = waiting_in (row_of t.rows.items c)
+
+-- How many more deliveries to a client the table takes, with no more memory: none where it has no inbox for it.
+abbrev pub room_of : Inboxes → ℕ → ℕ
+room_of t c = room_in (row_of t.rows.items c)
+
+-- The rows are what waits for the clients, and no more was taken than delivered.
+pub record TracksRows (d : Effects) (rows : List Inbox) : Type 0 where
+  pub taken : IsTakenFrom d
+  pub queues : (c : ℕ) → waiting_in (row_of rows c) ≡ inbox_at d c
+
+abbrev pub TracksInboxes : Effects → Inboxes → Type 0
+TracksInboxes d t = TracksRows d t.rows.items

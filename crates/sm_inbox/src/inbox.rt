@@ -1,0 +1,16 @@
+//! The inbox of one client.
+
+ghost use Rattle.std.specs.Prelude.{◌≤◌};
+ghost use Rattle.std.specs.VecDeque.{deque_capacity};
+ghost use Rattle.sm_history.specs.declared.limits.TheConstants.{MOST_DELIVERIES};
+
+use sm_history::BoxedDelivery;
+use std::collections::VecDeque;
+
+/// What waits for a client, the oldest first.
+#[derive(Drop)]
+pub struct Inbox {
+    pub client: u32,
+    pub waiting: VecDeque<BoxedDelivery>,
+    ghost has_places: { MOST_DELIVERIES ≤ deque_capacity waiting },
+}

@@ -1,0 +1,142 @@
+//! The inboxes of all clients.
+
+ghost use Rattle.std.specs.Prelude.{◌≡◌, ℕ, ◌+◌, ◌-◌, ◌≤◌, ◌<◌, ◌==◌, ◌↔◌, true, false, [], ◌∷◌, drop, length, IsTrue, IsOk, OnOk, OnErr, IfNone, MatchOption};
+ghost use Rattle.sm_history.specs.declared.limits.TheConstants.{MOST_DELIVERIES};
+ghost use Rattle.sm_history.specs.declared.effect.Effect.TheVariants.{Delivers, Takes, Dies};
+ghost use Rattle.sm_history.specs.Effects.{Effects};
+ghost use Rattle.sm_history.specs.Clients.{is_live};
+ghost use Rattle.sm_history.specs.Inboxes.{inbox_at, has_inbox_room};
+ghost use Rattle.sm_inbox.specs.Tracking.{TracksInboxes, is_open, waiting_of, room_of};
+
+use crate::inbox::Inbox;
+use crate::places::place_of;
+use sm_history::{BoxedDelivery, MOST_DELIVERIES};
+use std::alloc::{AllocError, Global};
+use std::collections::VecDeque;
+
+/// What waits for each live client: a row a client, searched in order, since there are at most 64.
+#[derive(Drop)]
+pub struct Inboxes {
+    alloc: Global,
+    rows: Vec<Inbox>,
+}
+
+impl Inboxes {
+    /// No inboxes.
+    pub fn new(alloc: Global) -> Inboxes
+        ensures tracks { TracksInboxes [] result }
+        ensures none { (c : ℕ) → is_open result c ≡ false }
+    {
+        Inboxes {
+            alloc,
+            rows: Vec::new(alloc),
+        }
+    }
+
+    /// Makes a client's inbox, with memory for 256 deliveries, unless it has one.
+    ///
+    /// # Errors
+    ///
+    /// An error where memory was refused; the client has no inbox then.
+    pub fn reserve(&mut self, client: u32) -> Result<(), AllocError>
+        ensures tracks { (d : Effects) → TracksInboxes d self.old → TracksInboxes d self.new }
+        ensures open { is_open self.old client ≡ true → IsOk result }
+        ensures opened { OnOk result (is_open self.new client ≡ true) }
+        ensures still { (k : ℕ) → is_open self.old k ≡ true → is_open self.new k ≡ true }
+        ensures room { OnOk result
+            (room_of self.new client ≡ MOST_DELIVERIES - length (waiting_of self.new client)) }
+        ensures err { OnErr result (room_of self.new client ≡ room_of self.old client) }
+        ensures others { (k : ℕ) → (client == k) ≡ false → room_of self.new k ≡ room_of self.old k }
+    {
+        if place_of(&self.rows, client).is_some() {
+            return Ok(());
+        }
+        self.rows.reserve(1)?;
+        let waiting = VecDeque::with_capacity(self.alloc, MOST_DELIVERIES)?;
+        self.rows.push_reserved(Inbox { client, waiting });
+        Ok(())
+    }
+
+    /// How many deliveries wait for a client.
+    fn waiting(&self, client: u32) -> usize
+        ensures { result ≡ length (waiting_of self.now client) }
+    {
+        match place_of(&self.rows, client) {
+            Some(i) => self.rows[i].waiting.len(),
+            None => 0,
+        }
+    }
+
+    /// Whether a client's inbox has place for one more delivery.
+    pub fn has_room(&self, client: u32) -> bool
+        ensures { (d : Effects) → TracksInboxes d self.now → result ≡ has_inbox_room d client }
+    {
+        self.waiting(client) < MOST_DELIVERIES
+    }
+
+    /// For how many more deliveries a client's inbox has place.
+    pub fn free(&self, client: u32) -> usize
+        ensures free { (d : Effects) → TracksInboxes d self.now
+            → result ≡ MOST_DELIVERIES - length (inbox_at d client) }
+        ensures room { is_open self.now client ≡ true → result ≡ room_of self.now client }
+    {
+        MOST_DELIVERIES.saturating_sub(self.waiting(client))
+    }
+
+    /// Whether one more delivery to a client may be put: it has an inbox, and that has place.
+    pub fn can_put(&self, client: u32) -> bool
+        ensures { IsTrue result ↔ (0 < room_of self.now client) }
+    {
+        match place_of(&self.rows, client) {
+            Some(i) => self.rows[i].waiting.len() < MOST_DELIVERIES,
+            None => false,
+        }
+    }
+
+    /// One more delivery to a client, the last of those that wait. It takes no memory.
+    pub fn put(&mut self, client: u32, delivery: BoxedDelivery)
+        requires { 0 < room_of self.old client }
+        ensures tracks { (d : Effects) → TracksInboxes d self.old → is_live d client ≡ true
+            → TracksInboxes (Delivers client delivery ∷ d) self.new }
+        ensures still { (k : ℕ) → is_open self.new k ≡ is_open self.old k }
+        ensures room { room_of self.new client + 1 ≡ room_of self.old client }
+        ensures others { (k : ℕ) → (client == k) ≡ false → room_of self.new k ≡ room_of self.old k }
+    {
+        let Some(i) = place_of(&self.rows, client) else {
+            unreachable!();
+        };
+        let row = &mut self.rows[i];
+        row.waiting.push_back_reserved(delivery);
+    }
+
+    /// The delivery that has waited longest for a client.
+    pub fn first(&self, client: u32) -> Option<&BoxedDelivery>
+        ensures { (d : Effects) → TracksInboxes d self.now → MatchOption result (inbox_at d client ≡ [])
+            (λ x. inbox_at d client ≡ x.now ∷ drop 1 (inbox_at d client)) }
+    {
+        let i = place_of(&self.rows, client)?;
+        self.rows[i].waiting.front()
+    }
+
+    /// Takes the delivery that has waited longest for a client.
+    pub fn take(&mut self, client: u32) -> Option<BoxedDelivery>
+        ensures taken { (d : Effects) → TracksInboxes d self.old → MatchOption result
+            ((inbox_at d client ≡ []) × TracksInboxes d self.new)
+            (λ x. (inbox_at d client ≡ x ∷ drop 1 (inbox_at d client)) × TracksInboxes (Takes client ∷ d) self.new) }
+        ensures still { (k : ℕ) → is_open self.new k ≡ is_open self.old k }
+        ensures room { (k : ℕ) → room_of self.old k ≤ room_of self.new k }
+    {
+        let i = place_of(&self.rows, client)?;
+        let row = &mut self.rows[i];
+        row.waiting.pop_front()
+    }
+
+    /// A client's inbox goes, with what waits in it.
+    pub fn forget(&mut self, client: u32)
+        ensures tracks { (d : Effects) → TracksInboxes d self.old → TracksInboxes (Dies client ∷ d) self.new }
+        ensures still { (k : ℕ) → (client == k) ≡ false → is_open self.new k ≡ is_open self.old k }
+        ensures others { (k : ℕ) → (client == k) ≡ false → room_of self.new k ≡ room_of self.old k }
+    {
+        self.rows.retain(|row| row.client != client);
+    }
+}

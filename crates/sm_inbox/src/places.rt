@@ -1,0 +1,19 @@
+//! Where the inbox of a client stands.
+
+ghost use Rattle.std.specs.Prelude.{◌≡◌, ◌==◌, MatchOption, None, position};
+ghost use Rattle.sm_inbox.specs.Rows.{row_of, IsPlace};
+
+use crate::inbox::Inbox;
+
+fn first_of(rows: &[Inbox], client: u32) -> Option<usize>
+    ensures { result ≡ position (λ r. r.client == client) rows.now }
+{
+    rows.iter().position(|row| row.client == client)
+}
+
+/// The place of a client's inbox.
+pub fn place_of(rows: &[Inbox], client: u32) -> Option<usize>
+    ensures { MatchOption result (row_of rows.now client ≡ None) (IsPlace rows.now client) }
+{
+    first_of(rows, client)
+}

@@ -1,0 +1,5 @@
+pub mod RowLemmas
+pub mod Tracked
+pub mod WatchLemmas
+pub mod TrackedWatches
+pub mod Others

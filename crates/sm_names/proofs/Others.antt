@@ -1,0 +1,73 @@
+-- Effects that names don't hear of.
+use Rattle.std.proofs.Common.{◌≡◌, ℕ, Bool, true, false, List, ◌∷◌, refl, ap, sym, ◌∙◌}
+use Rattle.std.specs.Prelude.{bytes_eq, filter, count_by}
+use Rattle.std.proofs.lemmas.Bool.{true≢false}
+use Rattle.sm_kinds.specs.declared.identity.Identity.{Identity}
+use Rattle.sm_history.specs.declared.effect.Watch.{Watch}
+use Rattle.sm_history.specs.declared.effect.Effect.{Effect}
+use Rattle.sm_history.specs.declared.effect.Effect.TheVariants.{Opens, Sets, Connects, Dies, Adds, Removes, Gives, Releases, Watches, Unwatches, Delivers, Takes, Resumes}
+use Rattle.sm_history.specs.Effects.{Effects}
+use Rattle.sm_history.specs.Clients.{next_client}
+use Rattle.sm_history.specs.Services.{service_at, watches_at}
+use Rattle.sm_history.specs.Sound.{IsFresh, IsOwned}
+use Rattle.sm_history.proofs.Sound.{is_new}
+use Rattle.sm_history.proofs.AfterNames.{service_connects}
+use Rattle.sm_history.proofs.AfterWatches.{watches_connects}
+use Rattle.sm_names.specs.declared.row.NameRow.{NameRow}
+use Rattle.sm_names.specs.declared.names.Names.{Names}
+use Rattle.sm_names.specs.Rows.{TracksRows}
+use Rattle.sm_names.specs.Watching.{TracksList}
+use Rattle.sm_names.specs.Tracking.{TracksNames}
+
+-- The effects that names hear of.
+abbrev pub is_heard : Effect → Bool
+is_heard (Connects c who) = true
+is_heard (Dies c) = true
+is_heard (Adds name s) = true
+is_heard (Removes name) = true
+is_heard (Watches w) = true
+is_heard (Unwatches w) = true
+is_heard x = false
+
+pub same_rows : (x : Effect) (d : Effects) (rows : List NameRow)
+    → ((name : List ℕ) → service_at (x ∷ d) name ≡ service_at d name)
+    → TracksRows d rows → TracksRows (x ∷ d) rows
+same_rows x d rows same tr = record { services = λ name. tr.services name ∙ sym (same name); rises = tr.rises }
+
+pub same_list : (x : Effect) (d : Effects) (ws : List Watch) → watches_at (x ∷ d) ≡ watches_at d → TracksList d ws
+    → TracksList (x ∷ d) ws
+same_list x d ws same tr = record {
+  watchers = λ name. tr.watchers name ∙ sym (ap (filter (λ (w : Watch). bytes_eq w.name name)) same);
+  counts = λ q. tr.counts q ∙ sym (ap (count_by q) same);
+  ordered = tr.ordered;
+}
+
+tracks_same : (x : Effect) (d : Effects) (t : Names)
+    → ((name : List ℕ) → service_at (x ∷ d) name ≡ service_at d name) → watches_at (x ∷ d) ≡ watches_at d
+    → TracksNames d t → TracksNames (x ∷ d) t
+tracks_same x d t services watches tr = record {
+  services = same_rows x d t.services.rows.items services tr.services;
+  watches = same_list x d t.watches.list.items watches tr.watches;
+}
+
+pub tracks_other : (x : Effect) (d : Effects) (t : Names) → is_heard x ≡ false → TracksNames d t → TracksNames (x ∷ d) t
+tracks_other (Connects c who) d t h tr = absurd (true≢false h)
+tracks_other (Dies c) d t h tr = absurd (true≢false h)
+tracks_other (Adds name s) d t h tr = absurd (true≢false h)
+tracks_other (Removes name) d t h tr = absurd (true≢false h)
+tracks_other (Watches w) d t h tr = absurd (true≢false h)
+tracks_other (Unwatches w) d t h tr = absurd (true≢false h)
+tracks_other (Opens who) d t h tr = tracks_same (Opens who) d t (λ name. refl) refl tr
+tracks_other (Sets p) d t h tr = tracks_same (Sets p) d t (λ name. refl) refl tr
+tracks_other (Gives c n r) d t h tr = tracks_same (Gives c n r) d t (λ name. refl) refl tr
+tracks_other (Releases c n) d t h tr = tracks_same (Releases c n) d t (λ name. refl) refl tr
+tracks_other (Delivers c x) d t h tr = tracks_same (Delivers c x) d t (λ name. refl) refl tr
+tracks_other (Takes c) d t h tr = tracks_same (Takes c) d t (λ name. refl) refl tr
+tracks_other (Resumes v n) d t h tr = tracks_same (Resumes v n) d t (λ name. refl) refl tr
+
+-- The next client connects: no effect named it before, and it owns no service.
+pub tracks_connects : (d : Effects) (c : ℕ) (who : Identity) (t : Names) → c ≡ next_client d → IsFresh d → IsOwned d
+    → TracksNames d t → TracksNames (Connects c who ∷ d) t
+tracks_connects d c who t is fresh owned tr =
+    tracks_same (Connects c who) d t (λ name. service_connects d c who name is owned)
+    (watches_connects d c who (is_new d c is fresh)) tr

@@ -1,0 +1,7 @@
+use Rattle.sm_names.proofs.names.Names.forget.Goals as goal
+
+pub returns-clause-tracks : goal.returns-clause-tracks
+returns-clause-tracks c d tr = record {
+  services = c.forget.ensures.tracks d tr.services;
+  watches = c.forget-2.ensures.tracks d tr.watches;
+}

@@ -1,0 +1,15 @@
+use Rattle.std.proofs.Common.{◌≡◌, ◌∙◌, ap}
+use Rattle.std.proofs.lemmas.Result.{IfOk-weaker}
+use Rattle.sm_history.specs.Effects.{Effects}
+use Rattle.sm_history.specs.Queries.{names_by_mask}
+use Rattle.sm_names.specs.Rows.{matching_names, TracksRows}
+use Rattle.sm_names.proofs.Tracked.{matching_are}
+use Rattle.sm_names.proofs.services.Services.by_mask.Goals as goal
+
+pub returns : goal.returns
+returns c =
+    let rows = c.args.self.now.rows.items in
+    let e = ap (matching_names c.args.mask) c.deref.ensures.value in
+    IfOk-weaker c.matching.result (λ v. v.items ≡ matching_names c.args.mask c.deref.result.now)
+    (λ v. (d : Effects) → TracksRows d rows → v.items ≡ names_by_mask d c.args.mask)
+    (λ v is d tr. is ∙ e ∙ matching_are d rows c.args.mask tr) c.matching.ensures

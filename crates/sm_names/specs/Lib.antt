@@ -1,0 +1,3 @@
+pub mod Rows
+pub mod Watching
+pub mod Tracking

@@ -1,0 +1,48 @@
+-- The rows of names that have a service.
+use Rattle.std.specs.Prelude.{ℕ, ◌<◌, ◌≡◌, false, List, Option, Some, None, bytes_eq, filter, map, option_map, length, insert, remove, slice_index_or, slice_set}
+use Rattle.std.specs.List.{find}
+use Rattle.sm_history.specs.declared.service.Service.{Service}
+use Rattle.sm_history.specs.Effects.{Effects}
+use Rattle.sm_history.specs.Services.{service_at}
+use Rattle.sm_history.specs.Queries.{shares_bit}
+use Rattle.sm_history.specs.Rising.{IsRising}
+use Rattle.sm_names.specs.declared.row.NameRow.{NameRow}
+
+-- The first row of a name.
+abbrev pub row_in : List NameRow → List ℕ → Option NameRow
+row_in rows name = find (λ r. bytes_eq r.name name) rows
+
+abbrev pub service_of : Option NameRow → Option Service
+service_of o = option_map (λ r. r.service) o
+
+abbrev pub names_of : List NameRow → List (List ℕ)
+names_of rows = map (λ r. r.name) rows
+
+-- The names whose dump flags share a bit with a mask.
+abbrev pub matching_names : ℕ → List NameRow → List (List ℕ)
+matching_names mask rows = map (λ r. r.name) (filter (λ r. shares_bit mask r.service) rows)
+
+-- Only the row of one name changed, and the names rise.
+pub record IsChanged (rows rows' : List NameRow) (name : List ℕ) (o : Option NameRow) : Type 0 where
+  pub own : row_in rows' name ≡ o
+  pub other : (q : List ℕ) → bytes_eq name q ≡ false → row_in rows' q ≡ row_in rows q
+  pub rises : IsRising (names_of rows')
+
+-- The row of a name stands at a place: what is there is its row, what is written there becomes it, and without it
+-- the name has none.
+pub record IsPlace (rows : List NameRow) (name : List ℕ) (i : ℕ) : Type 0 where
+  pub inside : i < length rows
+  pub here : (r : NameRow) → row_in rows name ≡ Some (slice_index_or rows i r)
+  pub own : (r : NameRow) → (slice_index_or rows i r).name ≡ name
+  pub written : (r : NameRow) → r.name ≡ name → IsChanged rows (slice_set rows i r) name (Some r)
+  pub removed : IsChanged rows (remove rows i) name None
+
+-- A name has no row, and a place is the one where its row would stand.
+pub record IsGap (rows : List NameRow) (name : List ℕ) (i : ℕ) : Type 0 where
+  pub none : row_in rows name ≡ None
+  pub inserted : (r : NameRow) → r.name ≡ name → IsChanged rows (insert rows i r) name (Some r)
+
+-- The rows are the services under their names.
+pub record TracksRows (d : Effects) (rows : List NameRow) : Type 0 where
+  pub services : (name : List ℕ) → service_of (row_in rows name) ≡ service_at d name
+  pub rises : IsRising (names_of rows)

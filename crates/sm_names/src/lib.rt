@@ -1,0 +1,13 @@
+//! Names: which service stands under which name, and who watches which name.
+//!
+//! A table of names is what the effects of a history say of services and watches.
+#![tactic(auto)]
+
+mod names;
+mod row;
+mod services;
+#[cfg(test)]
+mod tests;
+mod watch_list;
+
+pub use names::Names;

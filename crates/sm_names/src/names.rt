@@ -1,0 +1,175 @@
+//! Names: services and watches.
+
+ghost use Rattle.std.specs.Prelude.{◌≡◌, ◌≤◌, ◌<◌, ◌+◌, ◌↔◌, ℕ, true, [], ◌∷◌, length, count_by, IfOk, OnOk, IsTrue};
+ghost use Rattle.std.specs.List.{list_any};
+ghost use Rattle.sm_history.specs.declared.limits.TheConstants.{MOST_WATCHES};
+ghost use Rattle.sm_history.specs.declared.effect.Effect.TheVariants.{Adds, Removes, Watches, Unwatches, Dies};
+ghost use Rattle.sm_history.specs.Effects.{Effects};
+ghost use Rattle.sm_history.specs.Clients.{is_live};
+ghost use Rattle.sm_history.specs.Services.{service_at, has_name_room, same_watch, watches_at, watchers_at};
+ghost use Rattle.sm_history.specs.Histories.{watch as make_watch};
+ghost use Rattle.sm_history.specs.Queries.{names_by_mask};
+ghost use Rattle.sm_names.specs.Tracking.{TracksNames, HasRoom, watch_count};
+
+use crate::services::Services;
+use crate::watch_list::WatchList;
+use sm_history::{MOST_NAMES, MOST_WATCHES, Service, Watch};
+use sm_kinds::Name;
+use std::alloc::{AllocError, Global};
+
+/// Which service stands under which name, and who watches which name.
+#[derive(Drop)]
+pub struct Names {
+    services: Services,
+    watches: WatchList,
+}
+
+impl Names {
+    /// No names.
+    pub fn new(alloc: Global) -> Names
+        ensures { TracksNames [] result }
+    {
+        Names {
+            services: Services::new(alloc),
+            watches: WatchList::new(alloc),
+        }
+    }
+
+    /// Makes room for `n` more names and `n` more watches, so that as many calls of `put` and of `watch` take
+    /// no memory.
+    ///
+    /// # Errors
+    ///
+    /// An error where memory was refused.
+    pub fn reserve(&mut self, n: usize) -> Result<(), AllocError>
+        ensures tracks { (d : Effects) → TracksNames d self.old → TracksNames d self.new }
+        ensures room { OnOk result (HasRoom n self.new) }
+        ensures kept { (m : ℕ) → HasRoom m self.old → HasRoom m self.new }
+        ensures same { watch_count self.new ≡ watch_count self.old }
+    {
+        self.services.reserve(n)?;
+        self.watches.reserve(n)
+    }
+
+    /// The service under a name.
+    pub fn get(&self, name: &[u8]) -> Option<Service>
+        ensures { (d : Effects) → TracksNames d self.now → result ≡ service_at d name.now }
+    {
+        self.services.get(name)
+    }
+
+    /// Whether a service may be put under a name: it has one, or fewer than 4,096 names have one.
+    pub fn has_room(&self, name: &[u8]) -> bool
+        ensures { (d : Effects) → TracksNames d self.now → result ≡ has_name_room d name.now }
+    {
+        self.services.get(name).is_some() || self.services.len() < MOST_NAMES
+    }
+
+    /// The names whose dump flags share a bit with a mask, in rising byte order.
+    ///
+    /// # Errors
+    ///
+    /// An error where memory was refused.
+    pub fn by_mask(&self, alloc: Global, mask: u32) -> Result<Vec<Name>, AllocError>
+        ensures { IfOk result (λ v. (d : Effects) → TracksNames d self.now
+            → v.items ≡ names_by_mask d mask) }
+    {
+        self.services.by_mask(alloc, mask)
+    }
+
+    /// How many watches the live clients have together, at most 4,096.
+    pub fn watches(&self) -> usize
+        ensures tracks { (d : Effects) → TracksNames d self.now → result ≡ length (watches_at d) }
+        ensures count { result ≡ watch_count self.now }
+        ensures few { result ≤ MOST_WATCHES }
+    {
+        self.watches.len()
+    }
+
+    /// Whether a client's object watches a name.
+    pub fn is_watching(&self, client: u32, name: &[u8], object: u32) -> bool
+        ensures { (d : Effects) → TracksNames d self.now
+            → result ≡ list_any (same_watch (make_watch client name.now object)) (watches_at d) }
+    {
+        self.watches.contains(client, name, object)
+    }
+
+    /// How many watches of a name a client's object has.
+    pub fn watching(&self, client: u32, name: &[u8], object: u32) -> u32
+        ensures { (d : Effects) → TracksNames d self.now
+            → result ≡ count_by (same_watch (make_watch client name.now object)) (watches_at d) }
+    {
+        self.watches.count(client, name, object)
+    }
+
+    /// The watches of a name, in the order of watching.
+    pub fn watchers(&self, name: &[u8]) -> &[Watch]
+        ensures { (d : Effects) → TracksNames d self.now → result.now ≡ watchers_at d name.now }
+    {
+        self.watches.watchers(name)
+    }
+
+    /// Whether one more `put` or `watch` takes no memory.
+    pub fn is_ready(&self) -> bool
+        ensures { IsTrue result ↔ HasRoom 1 self.now }
+    {
+        self.services.is_ready() && self.watches.is_ready()
+    }
+
+    /// Puts a service under a name, in place of the one that was there. It takes no memory.
+    pub fn put(&mut self, name: Name, service: Service)
+        requires { HasRoom 1 self.old }
+        ensures tracks { (d : Effects) → TracksNames d self.old
+            → is_live d service.node.owner.0 ≡ true
+            → TracksNames (Adds name service ∷ d) self.new }
+        ensures left { (n : ℕ) → HasRoom (n + 1) self.old → HasRoom n self.new }
+        ensures same { watch_count self.new ≡ watch_count self.old }
+    {
+        self.services.put(name, service);
+    }
+
+    /// The service under a name goes, if there is one.
+    pub fn remove(&mut self, name: &[u8])
+        ensures tracks { (d : Effects) → TracksNames d self.old
+            → TracksNames (Removes name.now ∷ d) self.new }
+        ensures left { (n : ℕ) → HasRoom n self.old → HasRoom n self.new }
+        ensures same { watch_count self.new ≡ watch_count self.old }
+    {
+        self.services.remove(name);
+    }
+
+    /// One more watch, behind the earlier ones of its name. It takes no memory.
+    pub fn watch(&mut self, watch: Watch)
+        requires room { HasRoom 1 self.old }
+        requires few { watch_count self.old < MOST_WATCHES }
+        ensures tracks { (d : Effects) → TracksNames d self.old → is_live d watch.client ≡ true
+            → TracksNames (Watches watch ∷ d) self.new }
+        ensures left { (n : ℕ) → HasRoom (n + 1) self.old → HasRoom n self.new }
+        ensures more { watch_count self.new ≡ watch_count self.old + 1 }
+    {
+        self.watches.add(watch);
+    }
+
+    /// Every watch of a name that a client's object has ends; how many did.
+    pub fn unwatch(&mut self, client: u32, name: &[u8], object: u32) -> u32
+        ensures ended { (d : Effects) → TracksNames d self.old
+            → result ≡ count_by (same_watch (make_watch client name.now object)) (watches_at d) }
+        ensures tracks { (d : Effects) → TracksNames d self.old
+            → TracksNames (Unwatches (make_watch client name.now object) ∷ d) self.new }
+        ensures left { (n : ℕ) → HasRoom n self.old → HasRoom n self.new }
+        ensures fewer { watch_count self.new ≤ watch_count self.old }
+    {
+        self.watches.remove(client, name, object)
+    }
+
+    /// The services of a client's objects go, and its watches end.
+    pub fn forget(&mut self, client: u32)
+        ensures tracks { (d : Effects) → TracksNames d self.old
+            → TracksNames (Dies client ∷ d) self.new }
+        ensures left { (n : ℕ) → HasRoom n self.old → HasRoom n self.new }
+        ensures fewer { watch_count self.new ≤ watch_count self.old }
+    {
+        self.services.forget(client);
+        self.watches.forget(client);
+    }
+}

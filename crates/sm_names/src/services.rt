@@ -1,0 +1,152 @@
+//! The services under their names.
+
+ghost use Rattle.std.specs.Prelude.{◌≡◌, ◌≤◌, ◌<◌, ◌+◌, ℕ, true, [], ◌∷◌, length, nat_lt, IfOk, OnOk, MatchResult};
+ghost use Rattle.std.specs.Vec.{vec_capacity};
+ghost use Rattle.std.specs.List.Sorted.{IsSearchInRange};
+ghost use Rattle.sm_history.specs.declared.effect.Effect.TheVariants.{Adds, Removes, Dies};
+ghost use Rattle.sm_history.specs.Effects.{Effects};
+ghost use Rattle.sm_history.specs.Clients.{is_live};
+ghost use Rattle.sm_history.specs.Services.{service_at, current_names};
+ghost use Rattle.sm_history.specs.Queries.{names_by_mask};
+ghost use Rattle.sm_history.specs.Rising.{IsRising};
+ghost use Rattle.sm_names.specs.Rows.{names_of, IsPlace, IsGap, TracksRows, matching_names};
+
+use crate::row::NameRow;
+use sm_history::Service;
+use sm_kinds::Name;
+use std::alloc::{AllocError, Global};
+
+/// The names that have a service, in rising byte order.
+#[derive(Drop)]
+pub struct Services {
+    rows: Vec<NameRow>,
+}
+
+/// The place of a name's row, or the one where it would stand.
+fn place_of(rows: &[NameRow], name: &[u8]) -> Result<usize, usize>
+    ensures within { IsSearchInRange result (length rows.now) }
+    ensures place { IsRising (names_of rows.now)
+        → MatchResult result (IsPlace rows.now name.now) (IsGap rows.now name.now) }
+{
+    rows.binary_search_by(|row| row.name.bytes().cmp(name))
+}
+
+/// The names whose dump flags share a bit with a mask.
+fn matching(alloc: Global, rows: &[NameRow], mask: u32) -> Result<Vec<Name>, AllocError>
+    ensures { IfOk result (λ v. v.items ≡ matching_names mask rows.now) }
+{
+    let mut names = Vec::new(alloc);
+    for row in rows {
+        if row.service.dump & mask != 0 {
+            names.push(row.name.clone()?)?;
+        }
+    }
+    Ok(names)
+}
+
+impl Services {
+    /// No services.
+    pub fn new(alloc: Global) -> Services
+        ensures { TracksRows [] result.rows.items }
+    {
+        Services {
+            rows: Vec::new(alloc),
+        }
+    }
+
+    /// Makes room for `n` more names.
+    ///
+    /// # Errors
+    ///
+    /// An error where memory was refused.
+    pub fn reserve(&mut self, n: usize) -> Result<(), AllocError>
+        ensures same { self.new.rows.items ≡ self.old.rows.items }
+        ensures room { OnOk result (length self.new.rows.items + n ≤ vec_capacity self.new.rows) }
+        ensures kept { vec_capacity self.old.rows ≤ vec_capacity self.new.rows }
+    {
+        self.rows.reserve(n)
+    }
+
+    /// Whether one more name takes no memory.
+    pub fn is_ready(&self) -> bool
+        ensures { result ≡ nat_lt (length self.now.rows.items) (vec_capacity self.now.rows) }
+    {
+        self.rows.len() < self.rows.capacity()
+    }
+
+    /// How many names have a service.
+    pub fn len(&self) -> usize
+        ensures { (d : Effects) → TracksRows d self.now.rows.items
+            → result ≡ length (current_names d) }
+    {
+        self.rows.len()
+    }
+
+    /// The service under a name.
+    pub fn get(&self, name: &[u8]) -> Option<Service>
+        ensures { (d : Effects) → TracksRows d self.now.rows.items
+            → result ≡ service_at d name.now }
+    {
+        match place_of(&self.rows, name) {
+            Ok(i) => Some(self.rows[i].service),
+            Err(_) => None,
+        }
+    }
+
+    /// The names whose dump flags share a bit with a mask, in rising byte order.
+    ///
+    /// # Errors
+    ///
+    /// An error where memory was refused.
+    pub fn by_mask(&self, alloc: Global, mask: u32) -> Result<Vec<Name>, AllocError>
+        ensures { IfOk result (λ v. (d : Effects) → TracksRows d self.now.rows.items
+            → v.items ≡ names_by_mask d mask) }
+    {
+        matching(alloc, &self.rows, mask)
+    }
+
+    /// Puts a service under a name, in place of the one that was there. It takes no memory.
+    pub fn put(&mut self, name: Name, service: Service)
+        requires { length self.old.rows.items < vec_capacity self.old.rows }
+        ensures tracks { (d : Effects) → TracksRows d self.old.rows.items
+            → is_live d service.node.owner.0 ≡ true
+            → TracksRows (Adds name service ∷ d) self.new.rows.items }
+        ensures kept { (vec_capacity self.new.rows ≡ vec_capacity self.old.rows)
+            × (length self.new.rows.items ≤ length self.old.rows.items + 1) }
+    {
+        match place_of(&self.rows, name.bytes()) {
+            Ok(i) => {
+                self.rows[i].service = service;
+            }
+            Err(i) => {
+                let row = NameRow { name, service };
+                match self.rows.insert(i, row) {
+                    Ok(()) => {}
+                    Err(_) => unreachable!(),
+                }
+            }
+        }
+    }
+
+    /// The service under a name goes, if there is one.
+    pub fn remove(&mut self, name: &[u8])
+        ensures tracks { (d : Effects) → TracksRows d self.old.rows.items
+            → TracksRows (Removes name.now ∷ d) self.new.rows.items }
+        ensures kept { (vec_capacity self.new.rows ≡ vec_capacity self.old.rows)
+            × (length self.new.rows.items ≤ length self.old.rows.items) }
+    {
+        if let Ok(i) = place_of(&self.rows, name) {
+            let _ = self.rows.remove(i);
+        }
+    }
+
+    /// The services of a client's objects go.
+    pub fn forget(&mut self, client: u32)
+        ensures tracks { (d : Effects) → TracksRows d self.old.rows.items
+            → TracksRows (Dies client ∷ d) self.new.rows.items }
+        ensures kept { (vec_capacity self.new.rows ≡ vec_capacity self.old.rows)
+            × (length self.new.rows.items ≤ length self.old.rows.items) }
+    {
+        self.rows.retain(|row| client != row.service.node.owner.0);
+    }
+}

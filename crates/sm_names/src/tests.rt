@@ -1,0 +1,123 @@
+use super::*;
+use sm_history::{Service, Watch};
+use sm_kinds::{ClientId, Name, Node};
+use std::alloc::{AllocError, Global};
+use std::test::*;
+
+fn service(owner: u32, object: u32, dump: u32) -> Service {
+    Service {
+        node: Node {
+            owner: ClientId(owner),
+            object,
+        },
+        adder: owner,
+        allow_isolated: false,
+        dump,
+    }
+}
+
+/// Puts a service as the manager does.
+fn add(names: &mut Names, alloc: Global, name: &[u8], service: Service) -> Result<(), AllocError> {
+    let name = Name::new(alloc, name)?;
+    names.reserve(1)?;
+    if names.is_ready() {
+        names.put(name, service);
+    }
+    Ok(())
+}
+
+/// Watches a name as the manager does: false where there are too many watches.
+fn watch(
+    names: &mut Names,
+    alloc: Global,
+    client: u32,
+    name: &[u8],
+    object: u32,
+) -> Result<bool, AllocError> {
+    let watch = Watch {
+        client,
+        name: Name::new(alloc, name)?,
+        object,
+    };
+    names.reserve(1)?;
+    if names.is_ready() && names.watches() < sm_history::MOST_WATCHES {
+        names.watch(watch);
+        return Ok(true);
+    }
+    Ok(false)
+}
+
+/// The object under a name.
+fn object_at(names: &Names, name: &[u8]) -> Option<u32> {
+    names.get(name).map(|s| s.node.object)
+}
+
+fn digit(n: u32) -> u8 {
+    b'0' + (n % 10) as u8
+}
+
+/// A name of four digits.
+fn numbered(n: u32) -> [u8; 4] {
+    [digit(n / 1000), digit(n / 100), digit(n / 10), digit(n)]
+}
+
+#[test]
+fn services_stand_under_their_names(rt: HostRuntime) -> Result<(), Fail> {
+    let mut names = Names::new(rt.alloc());
+    add(&mut names, rt.alloc(), b"power", service(1, 5, 1))?;
+    add(&mut names, rt.alloc(), b"audio", service(2, 6, 8))?;
+    assert_eq!(rt; object_at(&names, b"power"), Some(5));
+    add(&mut names, rt.alloc(), b"power", service(2, 7, 9))?;
+    assert_eq!(rt; object_at(&names, b"power"), Some(7));
+    assert!(rt; names.has_room(b"wifi"));
+    let found = names.by_mask(rt.alloc(), 8)?;
+    assert_eq!(rt; found.len(), 2);
+    assert!(rt; found[0].bytes() == b"audio".as_slice());
+    assert!(rt; found[1].bytes() == b"power".as_slice());
+    assert_eq!(rt; names.by_mask(rt.alloc(), 1)?.len(), 1);
+    names.remove(b"power");
+    assert_eq!(rt; object_at(&names, b"power"), None);
+    names.forget(2);
+    assert_eq!(rt; object_at(&names, b"audio"), None);
+    Ok(())
+}
+
+#[test]
+fn a_watch_made_twice_is_there_twice(rt: HostRuntime) -> Result<(), Fail> {
+    let mut names = Names::new(rt.alloc());
+    assert!(rt; watch(&mut names, rt.alloc(), 7, b"power", 1)?);
+    assert!(rt; watch(&mut names, rt.alloc(), 8, b"audio", 1)?);
+    assert!(rt; watch(&mut names, rt.alloc(), 8, b"power", 2)?);
+    assert!(rt; watch(&mut names, rt.alloc(), 7, b"power", 1)?);
+    assert_eq!(rt; names.watches(), 4);
+    assert_eq!(rt; names.watching(7, b"power", 1), 2);
+    let watchers = names.watchers(b"power");
+    assert_eq!(rt; watchers.len(), 3);
+    assert!(rt; watchers[0].client == 7 && watchers[1].client == 8 && watchers[2].client == 7);
+    assert!(rt; names.is_watching(8, b"power", 2));
+    assert!(rt; !names.is_watching(8, b"power", 1));
+    assert_eq!(rt; names.unwatch(7, b"power", 1), 2);
+    assert_eq!(rt; names.watchers(b"power").len(), 1);
+    names.forget(8);
+    assert_eq!(rt; names.watches(), 0);
+    Ok(())
+}
+
+#[test]
+fn a_full_table_lists_its_names_in_order(rt: HostRuntime) -> Result<(), Fail> {
+    let mut names = Names::new(rt.alloc());
+    for n in 0..4096u32 {
+        let name = numbered(4095 - n);
+        assert!(rt; names.has_room(&name));
+        add(&mut names, rt.alloc(), &name, service(1, n, 1))?;
+    }
+    assert!(rt; !names.has_room(b"power"));
+    assert!(rt; names.has_room(b"0007"));
+    let listed = names.by_mask(rt.alloc(), 1)?;
+    assert_eq!(rt; listed.len(), 4096);
+    for (n, name) in listed.iter().enumerate() {
+        assert!(rt; n < 4096 && name.bytes() == numbered(n as u32).as_slice());
+    }
+    assert_eq!(rt; object_at(&names, b"0007"), Some(4088));
+    Ok(())
+}
