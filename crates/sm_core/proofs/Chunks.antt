@@ -1,5 +1,5 @@
 -- Entries that lie in chunks.
-use Rattle.std.proofs.Common.{◌≡◌, ℕ, ◌+◌, List, [], ◌∷◌, ◌++◌, refl, ap, sym, ◌∙◌, length, append_assoc, append-nil, arith}
+use Rattle.std.proofs.Common.{◌≡◌, ◌+◌, List, [], ◌∷◌, ◌++◌, ap, sym, ◌∙◌, length, append_assoc, append-nil}
 use Rattle.std.specs.Prelude.{reverse}
 use Rattle.std.proofs.lemmas.List.{reverse-append, length-append}
 use Rattle.sm_history.specs.declared.entry.Entry.{Entry}
@@ -19,7 +19,8 @@ pushed xs ys e = sym (append_assoc xs ys (e ∷ []))
 
 pub written_more : (xs ys : List Entry) (e : Entry)
     → whole (reverse (xs ++ (ys ++ e ∷ []))) ≡ entered e (whole (reverse (xs ++ ys)))
-written_more xs ys e = ap (λ (l : List Entry). whole (reverse l)) (pushed xs ys e) ∙ ap (λ (l : List Entry). whole l) (reverse-append (xs ++ ys) (e ∷ []))
+written_more xs ys e = ap (λ (l : List Entry). whole (reverse l)) (pushed xs ys e) ∙
+    ap (λ (l : List Entry). whole l) (reverse-append (xs ++ ys) (e ∷ []))
 
 pub length_more : (xs ys : List Entry) (e : Entry) → length (xs ++ (ys ++ e ∷ [])) ≡ length (xs ++ ys) + 1
 length_more xs ys e = ap (length {A = Entry}) (pushed xs ys e) ∙ length-append (xs ++ ys) (e ∷ [])
@@ -30,4 +31,5 @@ pub moved : (full reserved full' : List (List Entry)) (last chunk fresh : List E
     → joined full' ++ fresh ≡ joined full ++ last
 moved full reserved full' last chunk fresh same pushed is none =
     ap (λ (l : List Entry). joined full' ++ l) none ∙ ap (λ (cs : List (List Entry)). joined cs ++ []) pushed
-    ∙ moved_on reserved chunk ∙ ap (λ (cs : List (List Entry)). joined cs ++ chunk) same ∙ ap (λ (l : List Entry). joined full ++ l) is
+    ∙ moved_on reserved chunk ∙ ap (λ (cs : List (List Entry)). joined cs ++ chunk) same ∙
+    ap (λ (l : List Entry). joined full ++ l) is

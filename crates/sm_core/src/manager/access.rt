@@ -28,12 +28,34 @@ impl Manager {
         self.needs(who, manager, None, Class::Binder, Perms::TRANSFER)
     }
 
+    /// The manager may send a transaction to a process.
+    pub fn can_call_from_manager(&self, who: &Identity) -> Result<(), Stop>
+        ensures { IsRuled (policy_at (effects_of self.now.book.history)) Binder calling (manager_at (effects_of self.now.book.history)) who.now.context None result }
+    {
+        let manager = &self.state.manager;
+        self.needs(manager, &who.context, None, Class::Binder, Perms::CALL)
+    }
+
     /// The manager may pass a reference to a process.
     pub fn can_transfer_from_manager(&self, who: &Identity) -> Result<(), Stop>
         ensures { IsRuled (policy_at (effects_of self.now.book.history)) Binder transferring (manager_at (effects_of self.now.book.history)) who.now.context None result }
     {
         let manager = &self.state.manager;
         self.needs(manager, &who.context, None, Class::Binder, Perms::TRANSFER)
+    }
+
+    /// A process may send a transaction to another one.
+    pub fn can_call_client(&self, who: &Identity, other: &Identity) -> Result<(), Stop>
+        ensures { IsRuled (policy_at (effects_of self.now.book.history)) Binder calling who.now other.now.context None result }
+    {
+        self.needs(who, &other.context, None, Class::Binder, Perms::CALL)
+    }
+
+    /// A process may pass a reference to another one.
+    pub fn can_transfer_to_client(&self, who: &Identity, other: &Identity) -> Result<(), Stop>
+        ensures { IsRuled (policy_at (effects_of self.now.book.history)) Binder transferring who.now other.now.context None result }
+    {
+        self.needs(who, &other.context, None, Class::Binder, Perms::TRANSFER)
     }
 
     /// A process may add a service under a name, whose label is the target.

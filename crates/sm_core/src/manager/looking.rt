@@ -12,7 +12,6 @@ ghost use Rattle.sm_core.specs.Judging.{AllPass, Halts};
 
 use crate::manager::replying::answer;
 use crate::manager::{Manager, wanted};
-use crate::named::matching;
 use sm_history::{Answer, By, Failure, Instead, NameList, Query, Refusal, Reply, Stop};
 use sm_kinds::Name;
 use std::alloc::AllocError;
@@ -98,6 +97,6 @@ impl Manager {
     fn names_by_mask(&self, mask: u32) -> Result<Vec<Name>, AllocError>
         ensures { IfOk result (λ v. v.items ≡ names_by_mask (effects_of self.now.book.history) mask) }
     {
-        matching(self.alloc, &self.state.names, mask)
+        self.state.names.by_mask(self.alloc, mask)
     }
 }

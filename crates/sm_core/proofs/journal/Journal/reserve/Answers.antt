@@ -8,11 +8,15 @@ use Rattle.sm_core.proofs.journal.Journal.reserve.Goals as goal
 pub returns-clause-same : goal.returns-clause-same
 returns-clause-same c =
     rw (← c.self.view_is) (ap (λ (l : List Entry). whole (reverse l))
-    (moved c.self.inside.full.items c.reserve.new.self.items c.push_reserved.new.self.items c.self.inside.last.items c.replace-entries.result.items c.replace-entries.new.dest.items
-    c.reserve.ensures.items c.push_reserved.ensures.items (rw c.replace-entries.ensures.value refl) (rw c.replace-entries.ensures.after c.in_ok-fresh.ensures.items)))
+    (moved c.self.inside.full.items c.reserve.new.self.items c.push_reserved.new.self.items c.self.inside.last.items
+    c.replace-entries.result.items c.replace-entries.new.dest.items
+    c.reserve.ensures.items c.push_reserved.ensures.items (rw c.replace-entries.ensures.value refl)
+    (rw c.replace-entries.ensures.after c.in_ok-fresh.ensures.items)))
 
 pub invariant_of-self-2 : goal.invariant_of-self-2
 invariant_of-self-2 c =
     c.self.invariant ∙ ap (length {A = Entry})
-    (sym (moved c.self.inside.full.items c.reserve.new.self.items c.push_reserved.new.self.items c.self.inside.last.items c.replace-entries.result.items c.replace-entries.new.dest.items
-    c.reserve.ensures.items c.push_reserved.ensures.items (rw c.replace-entries.ensures.value refl) (rw c.replace-entries.ensures.after c.in_ok-fresh.ensures.items)))
+    (sym (moved c.self.inside.full.items c.reserve.new.self.items c.push_reserved.new.self.items
+    c.self.inside.last.items c.replace-entries.result.items c.replace-entries.new.dest.items
+    c.reserve.ensures.items c.push_reserved.ensures.items (rw c.replace-entries.ensures.value refl)
+    (rw c.replace-entries.ensures.after c.in_ok-fresh.ensures.items)))

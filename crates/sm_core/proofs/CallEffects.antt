@@ -1,0 +1,189 @@
+-- The effects of a call: grants of what its references name, and a delivery.
+use Rattle.std.proofs.Common.{◌≡◌, inl, Ok, Err, ℕ, suc, ◌+◌, ◌≤◌, Bool, true, false, ◌==◌, List, [], ◌∷◌, ◌++◌, Option, Some, None, refl, ap, sym, ◌∙◌, subst, length, if◌then◌else◌, arith}
+use Rattle.std.specs.Prelude.{nat_le, ◌&&◌, Result, MatchResult}
+use Rattle.std.proofs.lemmas.Bool.{and_parts}
+use Rattle.std.proofs.lemmas.Bool.Decides.{nat_tests}
+use Rattle.sm_kinds.specs.declared.number.Node.{Node}
+use Rattle.sm_kinds.specs.declared.number.ObjRef.{ObjRef}
+use Rattle.sm_history.specs.declared.delivery.Delivery.{Delivery}
+use Rattle.sm_history.specs.declared.delivery.Given.{Given}
+use Rattle.sm_history.specs.declared.delivery.Message.TheVariants.{Called}
+use Rattle.sm_history.specs.declared.effect.Effect.{Effect}
+use Rattle.sm_history.specs.declared.effect.Effect.TheVariants.{Gives, Delivers}
+use Rattle.sm_history.specs.declared.event.Event.TheVariants.{Call}
+use Rattle.sm_history.specs.declared.outcome.Outcome.TheVariants.{Sent}
+use Rattle.sm_history.specs.declared.stop.Stop.{Stop}
+use Rattle.sm_history.specs.Effects.{Effects}
+use Rattle.sm_history.specs.Clients.{is_live, identity_at, policy_at}
+use Rattle.sm_history.specs.Holdings.{node_at, number_for, fits_handles, held_nodes, is_held}
+use Rattle.sm_history.specs.Histories.{found, handed_refs, call_delivery}
+use Rattle.sm_history.specs.Inboxes.{has_inbox_room}
+use Rattle.sm_history.specs.Following.{MayFollow, MayAll, followed}
+use Rattle.sm_history.specs.Sound.{Sound}
+use Rattle.sm_history.specs.Verdict.{all_pass_to_client}
+use Rattle.sm_history.proofs.AgreeNotices.{number_for_is}
+use Rattle.sm_history.proofs.Grants.{count_gives}
+use Rattle.sm_history.proofs.Sound.{sound_gives}
+use Rattle.sm_grants.specs.Several.{after_grants, numbers_for}
+use Rattle.sm_grants.specs.Handing.{AreNamed, others}
+use Rattle.sm_grants.proofs.Handing.{handed_are}
+use Rattle.sm_core.specs.declared.plan.Plan.{Plan}
+use Rattle.sm_core.specs.Stands.{DeathIsLast}
+use Rattle.sm_core.specs.Judging.{AllPass, IsPlan, Judged, wanted}
+use Rattle.sm_core.specs.Calling.{Sends, gives_of, sent, target_checks}
+use Rattle.sm_core.proofs.CallChecks.{call_passes}
+
+-- ---- how many
+
+pub numbers_many : (d : Effects) (k : ℕ) (ns : List Node) → length (numbers_for d k ns) ≡ length ns
+numbers_many d k [] = refl
+numbers_many d k (n ∷ ns) = ap suc (numbers_many (Gives k n (number_for d k n) ∷ d) k ns)
+
+pub named_many : (d : Effects) (c : ℕ) (rs : List ObjRef) (os : List (Option Node)) → AreNamed d c rs os
+    → length os ≡ length rs
+named_many d c [] [] a = refl
+named_many d c [] (o ∷ os) a = absurd a
+named_many d c (r ∷ rs) [] a = absurd a
+named_many d c (r ∷ rs) (o ∷ os) a = ap suc (named_many d c rs os a.2)
+
+pub others_few : (k : ℕ) (os : List (Option Node)) → length (others k os) ≤ length os
+others_few k [] = omega arith
+others_few k (None ∷ os) = let i = others_few k os in omega (arith, i)
+others_few k (Some n ∷ os) =
+    let i = others_few k os in
+    elim (n.owner.0 == k) as (λ b. length (if b then others k os else n ∷ others k os) ≤ length (Some n ∷ os))
+    [ true ↦ omega (arith, i) | false ↦ omega (arith, i) ]
+
+gives_few : (k : ℕ) (ns : List Node) (rs : List ℕ) (x : Effect) → length (gives_of k ns rs ++ x ∷ []) ≤ length ns + 1
+gives_few k [] rs x = omega arith
+gives_few k (n ∷ ns) [] x = omega arith
+gives_few k (n ∷ ns) (r ∷ rs) x = let i = gives_few k ns rs x in omega (arith, i)
+
+-- ---- what stands then
+
+followed_gives : (d : Effects) (k : ℕ) (ns : List Node) (x : Effect)
+    → followed d (gives_of k ns (numbers_for d k ns) ++ x ∷ []) ≡ x ∷ after_grants d k ns
+followed_gives d k [] x = refl
+followed_gives d k (n ∷ ns) x = followed_gives (Gives k n (number_for d k n) ∷ d) k ns x
+
+live_granted : (d : Effects) (k : ℕ) (ns : List Node) (c : ℕ) → is_live (after_grants d k ns) c ≡ is_live d c
+live_granted d k [] c = refl
+live_granted d k (n ∷ ns) c = live_granted (Gives k n (number_for d k n) ∷ d) k ns c
+
+inbox_granted : (d : Effects) (k : ℕ) (ns : List Node) (c : ℕ)
+    → has_inbox_room (after_grants d k ns) c ≡ has_inbox_room d c
+inbox_granted d k [] c = refl
+inbox_granted d k (n ∷ ns) c = inbox_granted (Gives k n (number_for d k n) ∷ d) k ns c
+
+-- ---- that each effect may follow
+
+sound_granted : (d : Effects) (k : ℕ) (n : Node) → Sound d → is_live d k ≡ true
+    → Sound (Gives k n (number_for d k n) ∷ d)
+sound_granted d k n s live = sound_gives d k n (number_for d k n) live (number_for_is d k n) s
+
+one_more : (b : Bool) (m many : ℕ) → m ≡ (if b then many else many + 1) → many ≤ m
+one_more true m many e = omega (arith, e)
+one_more false m many e = omega (arith, e)
+
+-- Grants only add to what is held.
+held_grows : (d : Effects) (k : ℕ) (ns : List Node) → Sound d → is_live d k ≡ true
+    → length (held_nodes d k) ≤ length (held_nodes (after_grants d k ns) k)
+held_grows d k [] s live = omega arith
+held_grows d k (n ∷ ns) s live =
+    let e = Gives k n (number_for d k n) ∷ d in
+    let one = one_more (is_held d k n) (length (held_nodes e k)) (length (held_nodes d k))
+    (count_gives d k n (number_for d k n) s.balanced live) in
+    let rest = held_grows e k ns (sound_granted d k n s live) live in
+    omega (arith, one, rest)
+
+fewer_fit : (few many : ℕ) → few ≤ many → nat_le many 65536 ≡ true → nat_le few 65536 ≡ true
+fewer_fit few many le fits = grind (arith, nat_tests)
+
+fits_before : (d : Effects) (k : ℕ) (ns : List Node) → Sound d → is_live d k ≡ true
+    → fits_handles (after_grants d k ns) k ≡ true → fits_handles d k ≡ true
+fits_before d k ns s live fits =
+    fewer_fit (length (held_nodes d k)) (length (held_nodes (after_grants d k ns) k)) (held_grows d k ns s live) fits
+
+abbrev AreForeign : ℕ → List Node → Type 0
+AreForeign k [] = Unit {0}
+AreForeign k (n ∷ ns) = ((n.owner.0 == k) ≡ false) × AreForeign k ns
+
+others_foreign : (k : ℕ) (os : List (Option Node)) → AreForeign k (others k os)
+others_foreign k [] = tt
+others_foreign k (None ∷ os) = others_foreign k os
+others_foreign k (Some n ∷ os) =
+    elim (n.owner.0 == k) as (λ b. (n.owner.0 == k) ≡ b → AreForeign k (if b then others k os else n ∷ others k os)) [
+      | true ↦ λ e. others_foreign k os
+      | false ↦ λ e. (e, others_foreign k os)
+    ] refl
+
+may_gives : (d : Effects) (k : ℕ) (ns : List Node) (x : Effect) → Sound d → is_live d k ≡ true → AreForeign k ns
+    → fits_handles (after_grants d k ns) k ≡ true → MayFollow (after_grants d k ns) x
+    → MayAll d (gives_of k ns (numbers_for d k ns) ++ x ∷ [])
+may_gives d k [] x s live foreign fits may = (may, tt)
+may_gives d k (n ∷ ns) x s live foreign fits may =
+    let e = Gives k n (number_for d k n) ∷ d in
+    let sound = sound_granted d k n s live in
+    ((live, refl, foreign.0, fits_before e k ns sound live fits), may_gives e k ns x sound live foreign.1 fits may)
+
+last_delivers : (k : ℕ) (ns : List Node) (rs : List ℕ) (c : ℕ) (x : Delivery)
+    → DeathIsLast (gives_of k ns rs ++ Delivers c x ∷ [])
+last_delivers k [] rs c x = (λ e. refl, tt)
+last_delivers k (n ∷ ns) [] c x = (λ e. refl, tt)
+last_delivers k (n ∷ ns) (r ∷ rs) c x = (λ e. cc, last_delivers k ns rs c x)
+
+-- ---- the plan
+
+sent_is : (d : Effects) (c handle : ℕ) (n : Node) (payload : List ℕ) (refs : List ObjRef) (named : List (Option Node))
+    → node_at d c handle ≡ Some n → Sound d → is_live d n.owner.0 ≡ true → AreNamed d c refs named
+    → sent d c n payload named ≡ call_delivery d c (found (node_at d c handle)) payload refs
+sent_is d c handle n payload refs named at s live are =
+    let who = identity_at d c in
+    let with : List Given → Delivery = λ gs. record { object = n.object; what = Called who.pid who.uid payload gs } in
+    rw at (ap with (sym (handed_are d c n.owner.0 refs named s live are).0))
+
+pub call_plan : (d : Effects) (c handle : ℕ) (n : Node) (payload : List ℕ) (refs : List ObjRef)
+    (named : List (Option Node)) (plan : Plan) → node_at d c handle ≡ Some n → Sound d → is_live d n.owner.0 ≡ true
+    → AreNamed d c refs named → length refs ≤ 16 → has_inbox_room d n.owner.0 ≡ true
+    → fits_handles (after_grants d n.owner.0 (others n.owner.0 named)) n.owner.0 ≡ true
+    → Sends d c n payload named plan → IsPlan d c (Call handle payload refs) plan
+call_plan d c handle n payload refs named plan at s live are few room fits sends =
+    let k = n.owner.0 in
+    let ns = others k named in
+    let x = sent d c n payload named in
+    let is = sent_is d c handle n payload refs named at s live are in
+    record {
+      outcome = sends.outcome ∙ ap (λ (v : Delivery). Sent v) is;
+      told = sends.told;
+      effects = ap (followed d) sends.effects ∙ followed_gives d k ns (Delivers k x)
+          ∙ ap (λ (e : Effects). Delivers k x ∷ e) (sym (handed_are d c k refs named s live are).1)
+          ∙ ap (λ (v : Delivery). Delivers k v ∷ handed_refs d c k refs) is
+          ∙ rw at refl;
+      may = subst (MayAll d) (sym sends.effects)
+          (may_gives d k ns (Delivers k x) s live (others_foreign k named) fits
+          (live_granted d k ns k ∙ live, inbox_granted d k ns k ∙ room));
+      last = subst DeathIsLast (sym sends.effects) (last_delivers k ns (numbers_for d k ns) k x);
+      few =
+          let a = ap (length {A = Effect}) sends.effects in
+          let b = gives_few k ns (numbers_for d k ns) (Delivers k x) in
+          let o = others_few k named in
+          let m = named_many d c refs named are in
+          omega (arith, a, b, o, m, few);
+      sound = tt;
+    }
+
+-- Behind all checks, a call is as it was planned, or memory was wanted.
+pub call_judged : (d : Effects) (c handle : ℕ) (n : Node) (payload : List ℕ) (refs : List ObjRef)
+    (named : List (Option Node)) (result : Result Plan Stop)
+    → AllPass (policy_at d) (target_checks d c (node_at d c handle)) → node_at d c handle ≡ Some n
+    → Sound d → is_live d n.owner.0 ≡ true → AreNamed d c refs named
+    → AllPass (policy_at d) (all_pass_to_client d c n.owner.0 refs) → length refs ≤ 16
+    → (has_inbox_room d n.owner.0 && fits_handles (after_grants d n.owner.0 (others n.owner.0 named)) n.owner.0) ≡ true
+    → MatchResult result (Sends d c n payload named) (λ s. s ≡ wanted) → Judged d c (Call handle payload refs) result
+call_judged d c handle n payload refs named (Err s) target at sound live are pass few room m = inl m
+call_judged d c handle n payload refs named (Ok plan) target at sound live are pass few room m =
+    let k = n.owner.0 in
+    let both = and_parts (has_inbox_room d k) (fits_handles (after_grants d k (others k named)) k) room in (
+      call_passes d c handle n refs named target at sound live are pass room,
+      call_plan d c handle n payload refs named plan at sound live are few both.0 both.1 m,
+    )

@@ -1,0 +1,40 @@
+-- Watchers are told in order.
+use Rattle.std.proofs.Common.{◌≡◌, ℕ, suc, ◌+◌, ◌*◌, ◌≤◌, ◌<◌, Bool, true, List, [], ◌∷◌, ◌++◌, ap, sym, ◌∙◌, length, drop, get_or, append_assoc, arith}
+use Rattle.std.specs.List.{list_all}
+use Rattle.std.proofs.Math.Seq.{drop-cons}
+use Rattle.std.proofs.lemmas.Bool.{and_parts}
+use Rattle.sm_kinds.specs.declared.number.Node.{Node}
+use Rattle.sm_history.specs.declared.effect.Watch.{Watch}
+use Rattle.sm_history.specs.declared.notice.Notice.{Notice}
+use Rattle.sm_history.specs.Effects.{Effects}
+use Rattle.sm_history.specs.Notices.{notice_at, after_notice, notices_at, after_notices}
+
+pub one_further : (ws : List Watch) (i : ℕ) (w : Watch) → w ≡ get_or ws i w → i < length ws
+    → drop i ws ≡ w ∷ drop (i + 1) ws
+one_further ws i w is lt =
+    let one : suc i ≡ i + 1 = omega arith in
+    drop-cons ws i w lt ∙ ap (λ n. get_or ws i w ∷ drop n ws) one ∙ ap (λ y. y ∷ drop (i + 1) ws) (sym is)
+
+pub live_further : (p : Watch → Bool) (rest more : List Watch) (w : Watch) → rest ≡ w ∷ more → list_all p rest ≡ true
+    → (p w ≡ true) × (list_all p more ≡ true)
+live_further p rest more w is h = and_parts (p w) (list_all p more) (sym (ap (list_all p) is) ∙ h)
+
+pub notices_further : (e e' : Effects) (n : Node) (rest more : List Watch) (w : Watch)
+    (before after all : List Notice) (x : Notice) → rest ≡ w ∷ more → x ≡ notice_at e n w → e' ≡ after_notice e n w
+    → after ≡ before ++ x ∷ [] → before ++ notices_at e n rest ≡ all → after ++ notices_at e' n more ≡ all
+notices_further e e' n rest more w before after all x is told on pushed h =
+    ap (λ (xs : List Notice). xs ++ notices_at e' n more) pushed
+    ∙ append_assoc before (x ∷ []) (notices_at e' n more)
+    ∙ ap (λ (y : Notice). before ++ y ∷ notices_at e' n more) told
+    ∙ ap (λ (f : Effects). before ++ notice_at e n w ∷ notices_at f n more) on
+    ∙ ap (λ (vs : List Watch). before ++ notices_at e n vs) (sym is)
+    ∙ h
+
+pub after_further : (e e' : Effects) (n : Node) (rest more : List Watch) (w : Watch) (all : Effects)
+    → rest ≡ w ∷ more → e' ≡ after_notice e n w → after_notices e n rest ≡ all → after_notices e' n more ≡ all
+after_further e e' n rest more w all is on h =
+    ap (λ (f : Effects). after_notices f n more) on ∙ ap (after_notices e n) (sym is) ∙ h
+
+pub few_further : (a b most : ℕ) (rest more : List Watch) (w : Watch) → rest ≡ w ∷ more → b ≤ a + 2
+    → a + 2 * length rest ≤ most → b + 2 * length more ≤ most
+few_further a b most rest more w is le h = let n = ap (length {A = Watch}) is in omega (arith, n, le, h)

@@ -1,0 +1,140 @@
+-- Plans of what watchers are told.
+use Rattle.std.proofs.Common.{◌≡◌, ℕ, ◌+◌, ◌≤◌, inl, Bool, true, false, ◌||◌, List, [], ◌∷◌, Option, Some, None, refl, ap, sym, ◌∙◌, subst, length, if◌then◌else◌, arith}
+use Rattle.std.specs.Prelude.{filter, nat_lt, bytes_eq, MatchResult, Result, Ok, Err}
+use Rattle.std.specs.List.{list_any}
+use Rattle.std.proofs.lemmas.Bool.{true≢false}
+use Rattle.sm_kinds.specs.declared.number.Node.{Node}
+use Rattle.sm_kinds.specs.declared.number.ObjRef.{ObjRef}
+use Rattle.sm_history.specs.declared.event.Event.{Event}
+use Rattle.sm_history.specs.declared.event.Event.TheVariants.{Add, Watch as WatchName}
+use Rattle.sm_history.specs.declared.outcome.Outcome.TheVariants.{Added, Watched}
+use Rattle.sm_history.specs.declared.effect.Effect.{Effect}
+use Rattle.sm_history.specs.declared.effect.Effect.TheVariants.{Adds, Watches}
+use Rattle.sm_history.specs.declared.effect.Watch.{Watch}
+use Rattle.sm_history.specs.declared.service.Service.{Service}
+use Rattle.sm_history.specs.declared.stop.Stop.{Stop}
+use Rattle.sm_history.specs.declared.limits.TheConstants.{MOST_WATCHES}
+use Rattle.sm_history.specs.Effects.{Effects}
+use Rattle.sm_history.specs.Clients.{is_live, policy_at}
+use Rattle.sm_history.specs.Checks.{Check}
+use Rattle.sm_history.specs.Following.{followed}
+use Rattle.sm_history.specs.Holdings.{resolve_at}
+use Rattle.sm_history.specs.Notices.{notice_at, after_notice, notices_at, after_notices}
+use Rattle.sm_history.specs.Histories.{found, service, watch, after_event}
+use Rattle.sm_history.specs.Services.{service_at, watchers_at, watches_at}
+use Rattle.sm_history.specs.Sound.{Sound}
+use Rattle.sm_history.specs.Verdict.{outcome_of, add_checks, watch_checks}
+use Rattle.sm_history.specs.Lawful.{HasSoundPolicy}
+use Rattle.sm_core.specs.declared.plan.Plan.{Plan}
+use Rattle.sm_core.specs.Stands.{is_death, DeathIsLast}
+use Rattle.sm_core.specs.Judging.{AllPass, Halts, IsPlan, Judged, wanted}
+use Rattle.sm_core.specs.Telling.{MayPrecede, Tells}
+use Rattle.sm_core.proofs.Planning.{one_plan}
+use Rattle.sm_core.proofs.AsBefore.{before_adds, before_watches}
+
+shorter : {X : Type 0} (p : X → Bool) (xs : List X) → length (filter p xs) ≤ length xs
+shorter p [] = omega arith
+shorter p (x ∷ xs) = let i = shorter p xs in
+    elim (p x) as (λ b. length (if b then x ∷ filter p xs else filter p xs) ≤ length (x ∷ xs))
+    [ true ↦ omega (arith, i) | false ↦ omega (arith, i) ]
+
+-- A name has no more watches than there are.
+pub few_watchers : (d : Effects) (name : List ℕ) (ws : List Watch) (n : ℕ) → ws ≡ watchers_at d name
+    → n ≡ length (watches_at d) → n ≤ MOST_WATCHES → length ws ≤ MOST_WATCHES
+few_watchers d name ws n is count few =
+    let i = shorter (λ (w : Watch). bytes_eq w.name name) (watches_at d) in
+    let l = ap (length {A = Watch}) is in omega (arith, i, l, count, few)
+
+last_of_none : (xs : List Effect) → list_any is_death xs ≡ false → DeathIsLast xs
+last_of_none [] h = tt
+last_of_none (x ∷ xs) h =
+    elim (is_death x) as (λ b. is_death x ≡ b → (b || list_any is_death xs) ≡ false → DeathIsLast (x ∷ xs)) [
+      | true ↦ λ e f. absurd (true≢false f)
+      | false ↦ λ e f. ((λ t. absurd (true≢false (sym t ∙ e))), last_of_none xs f)
+    ] refl h
+
+-- What was told behind other effects is a plan.
+told_plan : (d : Effects) (c : ℕ) (event : Event) (plan : Plan) (xs : List Effect) (most : ℕ) (after : Effects)
+    → Tells d xs most after plan → length xs + most ≤ 8193 → plan.outcome ≡ outcome_of d c event
+    → after ≡ after_event d c event → HasSoundPolicy event → IsPlan d c event plan
+told_plan d c event plan xs most after t le outcome is sound = record {
+  outcome = outcome;
+  told = t.told;
+  effects = t.effects ∙ is;
+  may = t.may;
+  last = last_of_none plan.effects.items t.none_dies;
+  few = let n = t.few in omega (arith, n, le);
+  sound = sound;
+}
+
+pub precede_adds : (d : Effects) (n : Node) (xs : List Effect) (name : List ℕ) (t : Service) → Sound d
+    → is_live d t.node.owner.0 ≡ true → xs ≡ Adds name t ∷ [] → MayPrecede d n xs
+precede_adds d n xs name t s live is = subst (MayPrecede d n) (sym is) (record {
+  may = record { before = before_adds d n name t s live; may = (live, tt); none_dies = refl };
+  inboxes = λ c. refl;
+})
+
+pub precede_watches : (d : Effects) (n : Node) (xs : List Effect) (w : Watch) → Sound d → is_live d w.client ≡ true
+    → nat_lt (length (watches_at d)) MOST_WATCHES ≡ true → xs ≡ Watches w ∷ [] → MayPrecede d n xs
+precede_watches d n xs w s live few is = subst (MayPrecede d n) (sym is) (record {
+  may = record { before = before_watches d n w s live; may = ((live, few), tt); none_dies = refl };
+  inboxes = λ c. refl;
+})
+
+-- A plan that is made, or memory that is wanted, is a judgement where the checks hold.
+judged : (d : Effects) (c : ℕ) (event : Event) (r : Result Plan Stop) (P : Plan → Type 0) (checks : List Check)
+    → AllPass (policy_at d) checks → ((plan : Plan) → P plan → IsPlan d c event plan)
+    → MatchResult r P (λ s. s ≡ wanted)
+    → MatchResult r (λ plan. AllPass (policy_at d) checks × IsPlan d c event plan) (Halts (policy_at d) checks)
+judged d c event (Ok plan) P checks pass is h = (pass, is plan h)
+judged d c event (Err s) P checks pass is h = inl h
+
+pub add_judged : (d : Effects) (c : ℕ) (name copy : List ℕ) (obj : ObjRef) (allow : Bool) (dump : ℕ)
+    (object : Option Node) (n : Node) (xs : List Effect) (r : Result Plan Stop)
+    → AllPass (policy_at d) (add_checks d c name obj) → object ≡ resolve_at d c obj → object ≡ Some n
+    → copy ≡ name → xs ≡ Adds copy (service c n allow dump) ∷ []
+    → MatchResult r (λ plan. (plan.outcome ≡ Added (notices_at (followed d xs) n (watchers_at d name)))
+    × Tells d xs 8192 (after_notices (followed d xs) n (watchers_at d name)) plan) (λ s. s ≡ wanted)
+    → Judged d c (Add name obj allow dump) r
+add_judged d c name copy obj allow dump object n xs r pass is some same items h =
+    let at : n ≡ found (resolve_at d c obj) = ap found (sym some ∙ is) in
+    let on : followed d xs ≡ Adds name (service c n allow dump) ∷ d =
+    ap (followed d) items ∙ ap (λ (v : List ℕ). let e : Effects = Adds v (service c n allow dump) ∷ d in e) same in
+    let one : length xs ≡ 1 = ap (length {A = Effect}) items in
+    judged d c (Add name obj allow dump) r _ (add_checks d c name obj) pass
+    (λ plan p. told_plan d c (Add name obj allow dump) plan xs 8192 _ p.1 (omega (arith, one))
+    (p.0 ∙ ap (λ (e : Effects). Added (notices_at e n (watchers_at d name))) on
+    ∙ ap (λ (m : Node). Added (notices_at (Adds name (service c m allow dump) ∷ d) m (watchers_at d name))) at)
+    (ap (λ (e : Effects). after_notices e n (watchers_at d name)) on
+    ∙ ap (λ (m : Node). after_notices (Adds name (service c m allow dump) ∷ d) m (watchers_at d name)) at) tt)
+    h
+
+pub watch_judged : (d : Effects) (c : ℕ) (name : List ℕ) (object : ℕ) (s : Service) (w v : Watch) (xs : List Effect)
+    (r : Result Plan Stop) → AllPass (policy_at d) (watch_checks d c name) → Some s ≡ service_at d name
+    → w ≡ watch c name object → v ≡ watch c name object → xs ≡ Watches v ∷ []
+    → MatchResult r (λ plan. (plan.outcome ≡ Watched (Some (notice_at (followed d xs) s.node w)))
+    × Tells d xs 2 (after_notice (followed d xs) s.node w) plan) (λ s. s ≡ wanted)
+    → Judged d c (WatchName name object) r
+watch_judged d c name object s w v xs r pass is told made items h =
+    let on : followed d xs ≡ Watches (watch c name object) ∷ d =
+    ap (followed d) items ∙ ap (λ (u : Watch). let e : Effects = Watches u ∷ d in e) made in
+    let one : length xs ≡ 1 = ap (length {A = Effect}) items in
+    judged d c (WatchName name object) r _ (watch_checks d c name) pass
+    (λ plan p. told_plan d c (WatchName name object) plan xs 2 _ p.1 (omega (arith, one))
+    (p.0 ∙ ap (λ (e : Effects). Watched (Some (notice_at e s.node w))) on
+    ∙ ap (λ (u : Watch). Watched (Some (notice_at (Watches (watch c name object) ∷ d) s.node u))) told
+    ∙ rw (← is) refl)
+    (ap (λ (e : Effects). after_notice e s.node w) on
+    ∙ ap (λ (u : Watch). after_notice (Watches (watch c name object) ∷ d) s.node u) told
+    ∙ rw (← is) refl) tt)
+    h
+
+-- Where the name has no service, a Watch only watches.
+pub watch_alone : (d : Effects) (c : ℕ) (name : List ℕ) (object : ℕ) (v : Watch) (plan : Plan)
+    → None ≡ service_at d name → v ≡ watch c name object → is_live d c ≡ true
+    → nat_lt (length (watches_at d)) MOST_WATCHES ≡ true → plan.effects.items ≡ Watches v ∷ []
+    → plan.outcome ≡ Watched None → plan.told ≡ plan.outcome → IsPlan d c (WatchName name object) plan
+watch_alone d c name object v plan is made live few items outcome told =
+    one_plan d c (WatchName name object) plan (Watches v) items
+    (ap (λ (u : Watch). let e : Effects = Watches u ∷ d in e) made ∙ rw (← is) refl)
+    (subst (λ (u : Watch). is_live d u.client ≡ true) (sym made) live, few) (outcome ∙ rw (← is) refl) told tt

@@ -1,0 +1,70 @@
+-- An Unregister, judged part by part.
+use Rattle.std.proofs.Common.{◌≡◌, ℕ, true, List, [], ◌∷◌, Option, refl, ap, sym, ◌∙◌, subst}
+use Rattle.std.specs.Prelude.{is_some, not, ◌==◌}
+use Rattle.sm_kinds.specs.declared.number.Node.{Node}
+use Rattle.sm_kinds.specs.declared.number.ObjRef.{ObjRef}
+use Rattle.sm_kinds.specs.declared.number.ObjRef.TheVariants.{Null as NullRef, Own as OwnRef, Handle as HandleRef}
+use Rattle.sm_policy.specs.Policy.{Policy}
+use Rattle.sm_history.specs.declared.event.Event.TheVariants.{Unregister}
+use Rattle.sm_history.specs.declared.effect.Effect.TheVariants.{Removes}
+use Rattle.sm_history.specs.declared.stop.Stop.{Stop}
+use Rattle.sm_history.specs.declared.stop.Instead.TheVariants.{Refused}
+use Rattle.sm_history.specs.declared.refusal.Refusal.TheVariants.{Failed, Exception}
+use Rattle.sm_history.specs.declared.refusal.Failure.TheVariants.{BadHandle}
+use Rattle.sm_history.specs.declared.refusal.Exception.TheVariants.{NullBinder, NotRegistered, NotAdder, OtherObject, InUse}
+use Rattle.sm_history.specs.declared.outcome.Outcome.TheVariants.{Unregistered}
+use Rattle.sm_history.specs.Effects.{Effects, same_node}
+use Rattle.sm_history.specs.Clients.{policy_at}
+use Rattle.sm_history.specs.Checks.{Check, Wants, holds, to_manager, to_label, calling, transferring, adding}
+use Rattle.sm_history.specs.Holdings.{resolve_at, node_at, is_in_use}
+use Rattle.sm_history.specs.Histories.{found}
+use Rattle.sm_history.specs.Services.{service_at}
+use Rattle.sm_history.specs.Verdict.{passes_to_manager, unregister_checks, is_null, service_meets}
+use Rattle.sm_core.specs.declared.plan.Plan.{Plan}
+use Rattle.sm_core.specs.Judging.{Halts, AllPass, IsPlan, removal_checks}
+use Rattle.sm_core.proofs.Adding.{passed_some, halts_behind, all_pass_behind}
+use Rattle.sm_core.proofs.Planning.{one_plan}
+
+abbrev removing : Effects → ℕ → List ℕ → ObjRef → List Check
+removing d c name obj =
+    Wants (not (is_null obj)) (Refused (Exception NullBinder))
+    ∷ to_label d c name adding
+    ∷ Wants (is_some (service_at d name)) (Refused (Exception NotRegistered))
+    ∷ Wants (service_meets (λ s. s.adder == c) (service_at d name)) (Refused (Exception NotAdder))
+    ∷ Wants (service_meets (λ s. same_node s.node (found (resolve_at d c obj))) (service_at d name))
+    (Refused (Exception OtherObject))
+    ∷ Wants (not (is_in_use d c (found (resolve_at d c obj)))) (Refused (Exception InUse))
+    ∷ []
+
+-- Behind a reference that passes, the checks go by the object that it names.
+removing_is : (p : Policy) (d : Effects) (c : ℕ) (name : List ℕ) (obj : ObjRef) → AllPass p (passes_to_manager d c obj)
+    → removing d c name obj ≡ removal_checks d c name (resolve_at d c obj)
+removing_is p d c name NullRef pass = refl
+removing_is p d c name (OwnRef o) pass = refl
+removing_is p d c name (HandleRef r) pass =
+    rw (passed_some p (node_at d c r) (Refused (Failed BadHandle)) (to_manager d c transferring ∷ []) pass) refl
+
+pub removal_halts : (d : Effects) (c : ℕ) (name : List ℕ) (obj : ObjRef) (object : Option Node) (s : Stop)
+    → holds (policy_at d) (to_manager d c calling) ≡ true
+    → AllPass (policy_at d) (passes_to_manager d c obj) → object ≡ resolve_at d c obj
+    → Halts (policy_at d) (removal_checks d c name object) s → Halts (policy_at d) (unregister_checks d c name obj) s
+removal_halts d c name obj object s call pass is h =
+    halts_behind d c obj (removing d c name obj) s call pass
+    (subst (λ (xs : List Check). Halts (policy_at d) xs s)
+    (sym (removing_is (policy_at d) d c name obj pass ∙ ap (removal_checks d c name) (sym is))) h)
+
+pub removal_passes : (d : Effects) (c : ℕ) (name : List ℕ) (obj : ObjRef) (object : Option Node)
+    → holds (policy_at d) (to_manager d c calling) ≡ true
+    → AllPass (policy_at d) (passes_to_manager d c obj) → object ≡ resolve_at d c obj
+    → AllPass (policy_at d) (removal_checks d c name object) → AllPass (policy_at d) (unregister_checks d c name obj)
+removal_passes d c name obj object call pass is h =
+    all_pass_behind d c obj (removing d c name obj) call pass
+    (subst (λ (xs : List Check). AllPass (policy_at d) xs)
+    (sym (removing_is (policy_at d) d c name obj pass ∙ ap (removal_checks d c name) (sym is))) h)
+
+pub removal_plan : (d : Effects) (c : ℕ) (name copy : List ℕ) (obj : ObjRef) (plan : Plan)
+    → copy ≡ name → plan.effects.items ≡ Removes copy ∷ [] → plan.outcome ≡ Unregistered → plan.told ≡ plan.outcome
+    → IsPlan d c (Unregister name obj) plan
+removal_plan d c name copy obj plan same items outcome told =
+    one_plan d c (Unregister name obj) plan (Removes copy) items (ap (λ (v : List ℕ). Removes v ∷ d) same) tt outcome
+    told tt

@@ -1,0 +1,102 @@
+-- Telling watchers: what is asked of the state before the first of them was told.
+use Rattle.std.specs.Prelude.{ℕ, ◌+◌, ◌-◌, ◌*◌, ◌≡◌, ◌≤◌, true, false, ◌&&◌, nat_lt, nat_eq, List, [], ◌∷◌, Option, length, unwrap_or}
+use Rattle.std.specs.List.{list_any}
+use Rattle.std.specs.HashMap.{get}
+use Rattle.sm_kinds.specs.declared.number.Node.{Node}
+use Rattle.sm_history.specs.declared.stop.Instead.TheVariants.{Refused}
+use Rattle.sm_history.specs.declared.refusal.Refusal.TheVariants.{Failed}
+use Rattle.sm_history.specs.declared.refusal.Failure.TheVariants.{TargetFull}
+use Rattle.sm_history.specs.declared.delivery.Delivery.{Delivery}
+use Rattle.sm_history.specs.declared.delivery.Given.{Given}
+use Rattle.sm_history.specs.declared.delivery.Given.TheVariants.{Handle}
+use Rattle.sm_history.specs.declared.delivery.Message.TheVariants.{Registered}
+use Rattle.sm_history.specs.declared.limits.TheConstants.{MOST_DELIVERIES}
+use Rattle.sm_history.specs.Effects.{Effects}
+use Rattle.sm_history.specs.declared.effect.Watch.{Watch}
+use Rattle.sm_history.specs.declared.effect.Effect.{Effect}
+use Rattle.sm_history.specs.declared.effect.Effect.TheVariants.{Gives}
+use Rattle.sm_history.specs.Clients.{policy_at, manager_at, identity_at, is_live}
+use Rattle.sm_history.specs.Holdings.{handed, number_for, fits_handles}
+use Rattle.sm_history.specs.Inboxes.{inbox_at}
+use Rattle.sm_history.specs.Checks.{Check, Wants, from_manager, to_label, finding, calling, transferring}
+use Rattle.sm_history.specs.Following.{followed, MayAll}
+use Rattle.sm_history.specs.Notices.{after_notice, after_notices}
+use Rattle.sm_history.specs.Sound.{Sound}
+use Rattle.sm_core.specs.Stands.{is_death}
+use Rattle.sm_core.specs.declared.plan.Plan.{Plan}
+use Rattle.sm_core.specs.declared.telling.Telling.{Telling}
+
+-- The checks of a notice, where so many deliveries still fit into the watcher's inbox.
+abbrev pub told_checks : Effects → Node → Watch → ℕ → List Check
+told_checks d n w left =
+    to_label d w.client w.name finding
+    ∷ from_manager d w.client calling
+    ∷ from_manager d w.client transferring
+    ∷ Wants (nat_lt 0 left && fits_handles (handed d w.client n) w.client) (Refused (Failed TargetFull))
+    ∷ []
+
+-- The grant by which an object reaches a client.
+abbrev pub gives_of : ℕ → Node → Given → List Effect
+gives_of c n (Handle r) = Gives c n r ∷ []
+gives_of c n _ = []
+
+-- What a watcher is told, where the object reaches it so.
+abbrev pub told_to : Watch → Given → Delivery
+told_to w g = record { object = w.object; what = Registered w.name g }
+
+-- How many deliveries fit into a client's inbox.
+abbrev pub free_at : Effects → ℕ → ℕ
+free_at d c = MOST_DELIVERIES - length (inbox_at d c)
+
+-- Effects e which, since d, have only told watchers of an object n, as far as rules and handles are asked of them.
+pub record AsBefore (d e : Effects) (n : Node) : Type 0 where
+  pub sound : Sound e
+  pub policy : policy_at e ≡ policy_at d
+  pub manager : manager_at e ≡ manager_at d
+  pub who : (c : ℕ) → identity_at e c ≡ identity_at d c
+  pub lives : (c : ℕ) → is_live e c ≡ is_live d c
+  pub numbers : (c : ℕ) → is_live d c ≡ true → number_for e c n ≡ number_for d c n
+  pub fits : (c : ℕ) → is_live d c ≡ true → fits_handles (handed e c n) c ≡ fits_handles (handed d c n) c
+
+-- Effects that may be put onto d, and tell of n alone.
+pub record MayTell (d : Effects) (n : Node) (xs : List Effect) : Type 0 where
+  pub before : AsBefore d (followed d xs) n
+  pub may : MayAll d xs
+  pub none_dies : list_any is_death xs ≡ false
+
+-- How many deliveries still fit into an inbox, where it was told.
+abbrev pub left_in : Telling → ℕ → Option ℕ
+left_in t c = get nat_eq t.left c
+
+abbrev pub left_at : Effects → Telling → ℕ → ℕ
+left_at d t c = unwrap_or (left_in t c) (free_at d c)
+
+-- What stands while watchers of n are told.
+pub record IsTelling (d : Effects) (n : Node) (t : Telling) : Type 0 where
+  pub may : MayTell d n t.effects.items
+  pub left : (c : ℕ) → is_live d c ≡ true → left_at d t c ≡ free_at (followed d t.effects.items) c
+
+-- One more watcher was told, or wasn't.
+pub record GoesOn (d : Effects) (n : Node) (w : Watch) (old new : Telling) : Type 0 where
+  pub telling : IsTelling d n new
+  pub after : followed d new.effects.items ≡ after_notice (followed d old.effects.items) n w
+  pub few : length new.effects.items ≤ length old.effects.items + 2
+
+-- Watchers were told, or weren't, in order.
+pub record GoesFar (d : Effects) (n : Node) (ws : List Watch) (old new : Telling) : Type 0 where
+  pub telling : IsTelling d n new
+  pub after : followed d new.effects.items ≡ after_notices (followed d old.effects.items) n ws
+  pub few : length new.effects.items ≤ length old.effects.items + 2 * length ws
+
+-- Effects that may be put onto d before watchers of n are told, and put nothing into an inbox.
+pub record MayPrecede (d : Effects) (n : Node) (xs : List Effect) : Type 0 where
+  pub may : MayTell d n xs
+  pub inboxes : (c : ℕ) → inbox_at (followed d xs) c ≡ inbox_at d c
+
+-- A plan of what was told behind other effects, apart from its outcome.
+pub record Tells (d : Effects) (xs : List Effect) (most : ℕ) (after : Effects) (plan : Plan) : Type 0 where
+  pub told : plan.told ≡ plan.outcome
+  pub effects : followed d plan.effects.items ≡ after
+  pub may : MayAll d plan.effects.items
+  pub none_dies : list_any is_death plan.effects.items ≡ false
+  pub few : length plan.effects.items ≤ length xs + most

@@ -1,0 +1,118 @@
+//! Handles, deliveries and watches, which a table takes as judged events have made sure that it may.
+
+ghost use Rattle.std.specs.Prelude.{◌≡◌, ◌≤◌, ◌<◌, ◌+◌, ◌-◌, ◌^◌, ◌==◌, ℕ, true, false, nat_lt, ◌∷◌, length, OnOk};
+ghost use Rattle.std.specs.List.{list_any};
+ghost use Rattle.sm_history.specs.Effects.{Effects};
+ghost use Rattle.sm_history.specs.declared.effect.Effect.TheVariants.{Gives, Releases, Delivers, Takes, Watches};
+ghost use Rattle.sm_history.specs.declared.limits.TheConstants.{MOST_WATCHES};
+ghost use Rattle.sm_history.specs.Services.{watches_at};
+ghost use Rattle.sm_history.specs.Clients.{is_live, is_connect_of};
+ghost use Rattle.sm_history.specs.Holdings.{is_held, fits_handles, number_for};
+ghost use Rattle.sm_history.specs.Inboxes.{inbox_at, has_inbox_room};
+ghost use Rattle.sm_history.specs.Sound.{HasOneEach};
+ghost use Rattle.sm_grants.specs.Rows.{Tracks, spare_for};
+ghost use Rattle.sm_inbox.specs.Tracking.{TracksInboxes, is_open};
+ghost use Rattle.sm_names.specs.Tracking.{TracksNames, HasRoom};
+ghost use Rattle.sm_core.specs.Stands.{gives_to};
+
+use sm_grants::Grants;
+use sm_history::{BoxedDelivery, Effect, MOST_WATCHES, Watch};
+use sm_inbox::Inboxes;
+use sm_kinds::Node;
+use sm_names::Names;
+use std::alloc::AllocError;
+
+/// One grant of an object.
+pub fn give(grants: &mut Grants, client: u32, node: Node)
+    ensures tracks { (d : Effects) (r : ℕ) → Tracks d grants.old → is_live d client ≡ true → r ≡ number_for d client node
+        → fits_handles (Gives client node r ∷ d) client ≡ true → 0 < spare_for grants.old client → length d < 2 ^ 64 - 1
+        → Tracks (Gives client node r ∷ d) grants.new }
+    ensures spare { spare_for grants.old client ≤ spare_for grants.new client + 1 }
+    ensures others { (k : ℕ) → (client == k) ≡ false → spare_for grants.new k ≡ spare_for grants.old k }
+{
+    if grants.is_ready(client, node) {
+        let _ = grants.grant(client, node);
+    }
+}
+
+/// One grant of an object is given back.
+pub fn give_back(grants: &mut Grants, client: u32, node: Node)
+    ensures tracks { (d : Effects) → Tracks d grants.old → is_live d client ≡ true → is_held d client node ≡ true
+        → HasOneEach d client → Tracks (Releases client node ∷ d) grants.new }
+    ensures spare { (k : ℕ) → spare_for grants.old k ≤ spare_for grants.new k }
+{
+    let number = grants.number_for(client, node);
+    let _ = grants.release(client, number);
+}
+
+/// One more delivery.
+pub fn deliver(inboxes: &mut Inboxes, client: u32, delivery: BoxedDelivery)
+    ensures tracks { (d : Effects) → TracksInboxes d inboxes.old → is_live d client ≡ true → has_inbox_room d client ≡ true
+        → is_open inboxes.old client ≡ true → TracksInboxes (Delivers client delivery ∷ d) inboxes.new }
+    ensures still { (k : ℕ) → is_open inboxes.new k ≡ is_open inboxes.old k }
+{
+    if inboxes.can_put(client) {
+        inboxes.put(client, delivery);
+    }
+}
+
+/// The oldest delivery is taken.
+pub fn take_oldest(inboxes: &mut Inboxes, client: u32)
+    ensures tracks { (d : Effects) → TracksInboxes d inboxes.old → nat_lt 0 (length (inbox_at d client)) ≡ true
+        → TracksInboxes (Takes client ∷ d) inboxes.new }
+    ensures still { (k : ℕ) → is_open inboxes.new k ≡ is_open inboxes.old k }
+{
+    let _ = inboxes.take(client);
+}
+
+/// One more watch of a name.
+pub fn watch(names: &mut Names, made: Watch)
+    requires { HasRoom 1 names.old }
+    ensures tracks { (d : Effects) → TracksNames d names.old → is_live d made.client ≡ true
+        → nat_lt (length (watches_at d)) MOST_WATCHES ≡ true → TracksNames (Watches made ∷ d) names.new }
+    ensures left { (n : ℕ) → HasRoom (n + 1) names.old → HasRoom n names.new }
+{
+    if names.watches() < MOST_WATCHES {
+        names.watch(made);
+    }
+}
+
+/// Memory for the handles of every client that effects give one to.
+pub fn reserve_handles(grants: &mut Grants, effects: &[Effect]) -> Result<(), AllocError>
+    ensures same { (d : Effects) → Tracks d grants.old → Tracks d grants.new }
+    ensures room { OnOk result ((c : ℕ) → list_any (gives_to c) effects.now ≡ true
+        → length effects.now ≤ spare_for grants.new c) }
+{
+    let most = effects.len();
+    for effect in effects {
+        if let Effect::Gives { client, .. } = effect {
+            grants.reserve(*client, most)?;
+        }
+    }
+    Ok(())
+}
+
+/// An inbox for a client that connects.
+fn reserve_inbox(inboxes: &mut Inboxes, effect: &Effect) -> Result<(), AllocError>
+    ensures same { (d : Effects) → TracksInboxes d inboxes.old → TracksInboxes d inboxes.new }
+    ensures still { (c : ℕ) → is_open inboxes.old c ≡ true → is_open inboxes.new c ≡ true }
+    ensures room { OnOk result ((c : ℕ) → is_connect_of c effect.now ≡ true → is_open inboxes.new c ≡ true) }
+{
+    match effect {
+        Effect::Connects { client, .. } => inboxes.reserve(*client),
+        _ => Ok(()),
+    }
+}
+
+/// An inbox for every client that connects.
+pub fn reserve_inboxes(inboxes: &mut Inboxes, effects: &[Effect]) -> Result<(), AllocError>
+    ensures same { (d : Effects) → TracksInboxes d inboxes.old → TracksInboxes d inboxes.new }
+    ensures still { (c : ℕ) → is_open inboxes.old c ≡ true → is_open inboxes.new c ≡ true }
+    ensures room { OnOk result ((c : ℕ) → list_any (is_connect_of c) effects.now ≡ true
+        → is_open inboxes.new c ≡ true) }
+{
+    for effect in effects {
+        reserve_inbox(inboxes, effect)?;
+    }
+    Ok(())
+}

@@ -1,0 +1,303 @@
+//! Calls of objects.
+
+ghost use Rattle.std.specs.Prelude.{◌≡◌, ◌≤◌, ◌&&◌, true, length, Some, IfOk, MatchResult, false, is_some};
+ghost use Rattle.sm_kinds.specs.declared.limits.TheConstants.{MOST_REFS};
+ghost use Rattle.sm_history.specs.declared.delivery.Message.TheVariants.{Called};
+ghost use Rattle.sm_history.specs.declared.event.Event.TheVariants.{Call};
+ghost use Rattle.sm_history.specs.Clients.{is_live, policy_at};
+ghost use Rattle.sm_history.specs.Histories.{effects_of};
+ghost use Rattle.sm_history.specs.Holdings.{resolve_at, node_at, fits_handles};
+ghost use Rattle.sm_history.specs.Inboxes.{has_inbox_room};
+ghost use Rattle.sm_history.specs.Verdict.{all_pass_to_client, passes_to_client, is_null};
+ghost use Rattle.sm_grants.specs.Several.{after_grants, numbers_for};
+ghost use Rattle.sm_grants.specs.Handing.{AreNamed, others, given_as};
+ghost use Rattle.sm_core.specs.Tables.{client_row};
+ghost use Rattle.sm_core.specs.Judging.{AllPass, Halts, Judged};
+ghost use Rattle.sm_core.specs.Judging as spec;
+ghost use Rattle.sm_core.specs.Calling.{Sends, gives_of, passing_checks, room_check, target_checks};
+
+use crate::client::ClientRow;
+use crate::manager::{Manager, wanted};
+use crate::plan::Plan;
+use sm_history::{
+    BoxedDelivery, Delivery, Effect, Failure, Given, GivenRefs, Instead, Message, Outcome, Refusal,
+    Stop,
+};
+use sm_kinds::{Identity, Node, ObjRef, Payload, Refs};
+use std::alloc::{AllocError, Global};
+
+/// The objects that a receiver doesn't own, which it needs handles for.
+fn foreign(alloc: Global, receiver: u32, named: &[Option<Node>]) -> Result<Vec<Node>, AllocError>
+    ensures { IfOk result (λ v. v.items ≡ others receiver named.now) }
+{
+    let mut nodes = Vec::new(alloc);
+    for node in named {
+        if let Some(node) = node {
+            if node.owner.0 != receiver {
+                nodes.push(*node)?;
+            }
+        }
+    }
+    Ok(nodes)
+}
+
+/// What the receiver gets, with numbers for those that need handles.
+fn given(
+    alloc: Global,
+    receiver: u32,
+    named: &[Option<Node>],
+    numbers: &[u32],
+) -> Result<Vec<Given>, AllocError>
+    ensures { IfOk result (λ v. v.items ≡ given_as receiver named.now numbers.now) }
+{
+    let mut list = Vec::new(alloc);
+    let mut next = 0;
+    for node in named {
+        let Some(node) = node else {
+            list.push(Given::Null)?;
+            continue;
+        };
+        if next >= numbers.len() || node.owner.0 == receiver {
+            list.push(Given::Own(node.object))?;
+        } else {
+            list.push(Given::Handle(numbers[next]))?;
+            next += 1;
+        }
+    }
+    Ok(list)
+}
+
+/// Grants of objects under these numbers.
+fn gives(
+    alloc: Global,
+    receiver: u32,
+    nodes: &[Node],
+    numbers: &[u32],
+) -> Result<Vec<Effect>, AllocError>
+    requires { length nodes.now ≡ length numbers.now }
+    ensures { IfOk result (λ v. v.items ≡ gives_of receiver nodes.now numbers.now) }
+{
+    let mut effects = Vec::new(alloc);
+    for i in 0..nodes.len() {
+        let gives = Effect::Gives {
+            client: receiver,
+            node: nodes[i],
+            number: numbers[i],
+        };
+        effects.push(gives)?;
+    }
+    Ok(effects)
+}
+
+/// What a process sends to an object by a call.
+fn delivery(
+    alloc: Global,
+    who: &Identity,
+    object: u32,
+    payload: &Payload,
+    refs: Vec<Given>,
+) -> Result<BoxedDelivery, AllocError>
+    ensures { IfOk result (λ b. b ≡ record { object = object; what = Called who.now.pid who.now.uid payload.now refs.items }) }
+{
+    let what = Message::Called {
+        pid: who.pid,
+        uid: who.uid,
+        payload: payload.clone()?,
+        refs: GivenRefs::new(refs),
+    };
+    BoxedDelivery::new(alloc, Delivery { object, what })
+}
+
+impl Manager {
+    /// A client calls another one's object by a handle: a one-way transaction, as Linux's binder driver checks it
+    /// by `selinux_binder_transaction` and, for each reference, `selinux_binder_transfer_binder`.
+    pub fn judge_call(
+        &self,
+        client: u32,
+        handle: u32,
+        payload: &Payload,
+        refs: &Refs,
+    ) -> Result<Plan, Stop>
+        requires { is_live (effects_of self.now.book.history) client ≡ true }
+        ensures { Judged (effects_of self.now.book.history) client (Call handle payload.now refs.now) result }
+    {
+        let Some(row) = self.caller(client) else {
+            unreachable!();
+        };
+        let target = match self.judge_target(row, handle) {
+            Ok(target) => target,
+            Err(stop) => return Err(stop),
+        };
+        let named = match self.judge_references(row, target.owner.0, refs.list()) {
+            Ok(named) => named,
+            Err(stop) => return Err(stop),
+        };
+        let Ok(nodes) = foreign(self.alloc, target.owner.0, named.as_slice()) else {
+            return Err(wanted());
+        };
+        if !self.has_room(target.owner.0, nodes.as_slice()) {
+            return Err(Stop::Unmet(Instead::Refused(Refusal::Failed(Failure::TargetFull))));
+        }
+        self.plan_call(row, target, payload, named.as_slice(), nodes.as_slice())
+    }
+
+    /// The object that is called: the caller may call the process that owns it, which lives.
+    fn judge_target(&self, row: &ClientRow, handle: u32) -> Result<Node, Stop>
+        requires { row.now ≡ client_row (effects_of self.now.book.history) row.now.id }
+        ensures { MatchResult result
+            (λ n. AllPass (policy_at (effects_of self.now.book.history))
+            (target_checks (effects_of self.now.book.history) row.now.id (node_at (effects_of self.now.book.history) row.now.id handle))
+            × (node_at (effects_of self.now.book.history) row.now.id handle ≡ Some n)
+            × (is_live (effects_of self.now.book.history) n.owner.0 ≡ true))
+            (Halts (policy_at (effects_of self.now.book.history))
+            (target_checks (effects_of self.now.book.history) row.now.id (node_at (effects_of self.now.book.history) row.now.id handle))) }
+    {
+        let Some(node) = self.resolved(row.id, ObjRef::Handle(handle)) else {
+            return Err(Stop::Unmet(Instead::Refused(Refusal::Failed(Failure::BadHandle))));
+        };
+        let Some(owner) = self.caller(node.owner.0) else {
+            return Err(Stop::Unmet(Instead::Refused(Refusal::Dead)));
+        };
+        self.can_call_client(&row.who, &owner.who)?;
+        Ok(node)
+    }
+
+    /// The objects that a call's references name, if each may be passed to the receiver.
+    fn judge_references(
+        &self,
+        row: &ClientRow,
+        receiver: u32,
+        refs: &[ObjRef],
+    ) -> Result<Vec<Option<Node>>, Stop>
+        requires row { row.now ≡ client_row (effects_of self.now.book.history) row.now.id }
+        requires live { is_live (effects_of self.now.book.history) receiver ≡ true }
+        ensures { MatchResult result
+            (λ v. AllPass (policy_at (effects_of self.now.book.history)) (all_pass_to_client (effects_of self.now.book.history) row.now.id receiver refs.now)
+            × AreNamed (effects_of self.now.book.history) row.now.id refs.now v.items)
+            (Halts (policy_at (effects_of self.now.book.history)) (all_pass_to_client (effects_of self.now.book.history) row.now.id receiver refs.now)) }
+    {
+        let mut named = Vec::new(self.alloc);
+        for obj in refs {
+            let node = match self.judge_passed(row, receiver, *obj) {
+                Ok(node) => node,
+                Err(stop) => return Err(stop),
+            };
+            if named.push(node).is_err() {
+                return Err(wanted());
+            }
+        }
+        Ok(named)
+    }
+
+    /// The object that a reference names, if it is null or may be passed to the receiver.
+    fn judge_passed(
+        &self,
+        row: &ClientRow,
+        receiver: u32,
+        obj: ObjRef,
+    ) -> Result<Option<Node>, Stop>
+        requires row { row.now ≡ client_row (effects_of self.now.book.history) row.now.id }
+        requires live { is_live (effects_of self.now.book.history) receiver ≡ true }
+        ensures { MatchResult result
+            (λ o. AllPass (policy_at (effects_of self.now.book.history)) (passes_to_client (effects_of self.now.book.history) row.now.id receiver obj)
+            × (resolve_at (effects_of self.now.book.history) row.now.id obj ≡ o) × (is_null obj ≡ false → is_some o ≡ true))
+            (Halts (policy_at (effects_of self.now.book.history)) (passes_to_client (effects_of self.now.book.history) row.now.id receiver obj)) }
+    {
+        match obj {
+            ObjRef::Null => Ok(None),
+            ObjRef::Own(_) => self.judge_named(row, receiver, self.resolved(row.id, obj)),
+            ObjRef::Handle(_) => self.judge_named(row, receiver, self.resolved(row.id, obj)),
+        }
+    }
+
+    /// The object of a reference, if it names one that may be passed to the receiver.
+    fn judge_named(
+        &self,
+        row: &ClientRow,
+        receiver: u32,
+        node: Option<Node>,
+    ) -> Result<Option<Node>, Stop>
+        requires row { row.now ≡ client_row (effects_of self.now.book.history) row.now.id }
+        requires live { is_live (effects_of self.now.book.history) receiver ≡ true }
+        ensures { MatchResult result
+            (λ o. AllPass (policy_at (effects_of self.now.book.history)) (passing_checks (effects_of self.now.book.history) row.now.id receiver node)
+            × (o ≡ node) × (is_some node ≡ true))
+            (Halts (policy_at (effects_of self.now.book.history)) (passing_checks (effects_of self.now.book.history) row.now.id receiver node)) }
+    {
+        if node.is_none() {
+            return Err(Stop::Unmet(Instead::Refused(Refusal::Failed(Failure::BadHandle))));
+        }
+        let Some(other) = self.caller(receiver) else {
+            unreachable!();
+        };
+        self.can_transfer_to_client(&row.who, &other.who)?;
+        Ok(node)
+    }
+
+    /// Whether a receiver has room for a delivery, and for handles to these objects.
+    fn has_room(&self, receiver: u32, nodes: &[Node]) -> bool
+        requires { is_live (effects_of self.now.book.history) receiver ≡ true }
+        ensures { result ≡ (has_inbox_room (effects_of self.now.book.history) receiver
+            && fits_handles (after_grants (effects_of self.now.book.history) receiver nodes.now) receiver) }
+    {
+        self.state.inboxes.has_room(receiver) && self.state.grants.room(receiver, nodes)
+    }
+
+    /// The numbers that a receiver has for these objects, granted in order.
+    fn numbers(&self, receiver: u32, nodes: &[Node]) -> Result<Vec<u32>, AllocError>
+        requires live { is_live (effects_of self.now.book.history) receiver ≡ true }
+        requires few { length nodes.now ≤ MOST_REFS }
+        ensures { IfOk result (λ v. v.items ≡ numbers_for (effects_of self.now.book.history) receiver nodes.now) }
+    {
+        self.state.grants.numbers(self.alloc, receiver, nodes)
+    }
+
+    /// What a call does that meets its checks.
+    fn plan_call(
+        &self,
+        row: &ClientRow,
+        target: Node,
+        payload: &Payload,
+        named: &[Option<Node>],
+        nodes: &[Node],
+    ) -> Result<Plan, Stop>
+        requires row { row.now ≡ client_row (effects_of self.now.book.history) row.now.id }
+        requires live { is_live (effects_of self.now.book.history) target.owner.0 ≡ true }
+        requires few { length nodes.now ≤ MOST_REFS }
+        requires foreign { nodes.now ≡ others target.owner.0 named.now }
+        ensures { MatchResult result (λ plan. Sends (effects_of self.now.book.history) row.now.id target payload.now named.now plan)
+            (λ s. s ≡ spec.wanted) }
+    {
+        let owner = target.owner.0;
+        let Ok(numbers) = self.numbers(owner, nodes) else {
+            return Err(wanted());
+        };
+        let Ok(mut effects) = gives(self.alloc, owner, nodes, numbers.as_slice()) else {
+            return Err(wanted());
+        };
+        let Ok(given) = given(self.alloc, owner, named, numbers.as_slice()) else {
+            return Err(wanted());
+        };
+        let Ok(delivery) = delivery(self.alloc, &row.who, target.object, payload, given) else {
+            return Err(wanted());
+        };
+        let Ok(outcome) = delivery.clone() else {
+            return Err(wanted());
+        };
+        let Ok(told) = delivery.clone() else {
+            return Err(wanted());
+        };
+        let delivers = Effect::Delivers {
+            client: owner,
+            delivery,
+        };
+        if effects.push(delivers).is_err() {
+            return Err(wanted());
+        }
+        Ok(Plan {
+            outcome: Outcome::Sent(outcome),
+            told: Outcome::Sent(told),
+            effects,
+        })
+    }
+}

@@ -1,0 +1,31 @@
+//! Releases.
+
+ghost use Rattle.std.specs.Prelude.{◌≡◌, true};
+ghost use Rattle.sm_history.specs.declared.event.Event.TheVariants.{Release};
+ghost use Rattle.sm_history.specs.Clients.{is_live};
+ghost use Rattle.sm_history.specs.Histories.{effects_of};
+ghost use Rattle.sm_core.specs.Judging.{Judged};
+
+use crate::manager::Manager;
+use crate::manager::judging::one;
+use crate::plan::Plan;
+use sm_history::{Effect, Failure, Instead, Outcome, Refusal, Stop};
+use sm_kinds::ObjRef;
+
+impl Manager {
+    /// A client gives back one grant of a handle. The last one frees its number.
+    pub fn judge_release(&self, client: u32, handle: u32) -> Result<Plan, Stop>
+        requires { is_live (effects_of self.now.book.history) client ≡ true }
+        ensures { Judged (effects_of self.now.book.history) client (Release handle) result }
+    {
+        let Some(node) = self.resolved(client, ObjRef::Handle(handle)) else {
+            return Err(Stop::Unmet(Instead::Refused(Refusal::Failed(Failure::BadHandle))));
+        };
+        let effects = one(self.alloc, Effect::Releases { client, node })?;
+        Ok(Plan {
+            outcome: Outcome::Released,
+            told: Outcome::Released,
+            effects,
+        })
+    }
+}

@@ -1,0 +1,46 @@
+//! Taking what waits.
+
+ghost use Rattle.std.specs.Prelude.{◌≡◌, ◌∷◌, true, [], drop, MatchOption};
+ghost use Rattle.sm_history.specs.declared.event.Event.TheVariants.{Take};
+ghost use Rattle.sm_history.specs.Clients.{is_live};
+ghost use Rattle.sm_history.specs.Histories.{effects_of};
+ghost use Rattle.sm_history.specs.Inboxes.{inbox_at};
+ghost use Rattle.sm_core.specs.Judging.{Judged};
+
+use crate::manager::judging::one;
+use crate::manager::{Manager, wanted};
+use crate::plan::Plan;
+use sm_history::{BoxedDelivery, Effect, Instead, Outcome, Refusal, Stop};
+
+impl Manager {
+    /// The delivery that has waited longest for a client.
+    fn oldest(&self, client: u32) -> Option<&BoxedDelivery>
+        ensures { MatchOption result (inbox_at (effects_of self.now.book.history) client ≡ [])
+            (λ x. inbox_at (effects_of self.now.book.history) client
+            ≡ x.now ∷ drop 1 (inbox_at (effects_of self.now.book.history) client)) }
+    {
+        self.state.inboxes.first(client)
+    }
+
+    /// A client takes the delivery that has waited longest in its inbox.
+    pub fn judge_take(&self, client: u32) -> Result<Plan, Stop>
+        requires { is_live (effects_of self.now.book.history) client ≡ true }
+        ensures { Judged (effects_of self.now.book.history) client Take result }
+    {
+        let Some(oldest) = self.oldest(client) else {
+            return Err(Stop::Unmet(Instead::Refused(Refusal::Empty)));
+        };
+        let Ok(outcome) = oldest.clone() else {
+            return Err(wanted());
+        };
+        let Ok(told) = oldest.clone() else {
+            return Err(wanted());
+        };
+        let effects = one(self.alloc, Effect::Takes { client })?;
+        Ok(Plan {
+            outcome: Outcome::Taken(outcome),
+            told: Outcome::Taken(told),
+            effects,
+        })
+    }
+}

@@ -1,0 +1,217 @@
+//! Telling watchers of a registration.
+
+ghost use Rattle.std.specs.Prelude.{◌≡◌, ◌+◌, ◌*◌, ◌≤◌, ◌==◌, true, false, Some, MatchOption, MatchResult, length};
+ghost use Rattle.std.specs.List.{list_all};
+ghost use Rattle.sm_history.specs.Clients.{is_live, policy_at};
+ghost use Rattle.sm_history.specs.Histories.{effects_of};
+ghost use Rattle.sm_history.specs.Holdings.{fits_handles, given_to, handed};
+ghost use Rattle.sm_history.specs.Services.{watchers_at};
+ghost use Rattle.sm_history.specs.declared.limits.TheConstants.{MOST_WATCHES};
+ghost use Rattle.sm_history.specs.declared.outcome.Outcome.TheVariants.{Added, Watched};
+ghost use Rattle.sm_history.specs.Following.{followed};
+ghost use Rattle.sm_history.specs.Notices.{notice_at, told_of, first_missing, after_notice, notices_at, after_notices};
+ghost use Rattle.sm_core.specs.Judging.{AllPass, Halts};
+ghost use Rattle.sm_core.specs.Judging as spec;
+ghost use Rattle.sm_core.specs.Telling.{told_checks, left_at, IsTelling, GoesOn, GoesFar, MayPrecede, Tells};
+
+use crate::manager::replying::reason;
+use crate::manager::{Manager, wanted};
+use crate::plan::Plan;
+use crate::telling::{Telling, boxed_twice, listed_twice};
+use sm_history::{Effect, Failure, Given, Instead, Notice, Outcome, Refusal, Stop, Told, Watch};
+use sm_kinds::{ClientId, Name, Node};
+
+/// That a watcher's inbox or its handles have no room.
+fn full() -> Stop
+    ensures { result ≡ spec.full }
+{
+    Stop::Unmet(Instead::Refused(Refusal::Failed(Failure::TargetFull)))
+}
+
+impl Manager {
+    /// Whether a client holds no more handles than it may.
+    fn fits_handles(&self, client: u32) -> bool
+        requires { is_live (effects_of self.now.book.history) client ≡ true }
+        ensures { result ≡ fits_handles (effects_of self.now.book.history) client }
+    {
+        self.state.grants.room(client, &[])
+    }
+
+    /// How an object reaches a client, if its handles have room.
+    fn given_to(&self, client: u32, node: Node) -> Option<Given>
+        requires { is_live (effects_of self.now.book.history) client ≡ true }
+        ensures { MatchOption result (fits_handles (handed (effects_of self.now.book.history) client node) client ≡ false)
+            (λ g. (fits_handles (handed (effects_of self.now.book.history) client node) client ≡ true)
+            × (g ≡ given_to (effects_of self.now.book.history) client node)) }
+    {
+        if node.owner.0 == client {
+            if !self.fits_handles(client) {
+                return None;
+            }
+            return Some(Given::Own(node.object));
+        }
+        match self.number_for(client, node) {
+            Some(number) => Some(Given::Handle(number)),
+            None => None,
+        }
+    }
+
+    /// For how many more deliveries a client's inbox has place.
+    fn left(&self, telling: &Telling, client: u32) -> usize
+        ensures { result ≡ left_at (effects_of self.now.book.history) telling.now client }
+    {
+        match telling.left.get(&client) {
+            Some(left) => *left,
+            None => self.state.inboxes.free(client),
+        }
+    }
+
+    /// How the object reaches a watcher that may be told, and whose inbox has place for so many deliveries.
+    fn judge_told(&self, watch: &Watch, node: Node, left: usize) -> Result<Given, Stop>
+        requires { is_live (effects_of self.now.book.history) watch.now.client ≡ true }
+        ensures { MatchResult result
+            (λ g. AllPass (policy_at (effects_of self.now.book.history)) (told_checks (effects_of self.now.book.history) node watch.now left)
+            × (g ≡ given_to (effects_of self.now.book.history) watch.now.client node))
+            (Halts (policy_at (effects_of self.now.book.history)) (told_checks (effects_of self.now.book.history) node watch.now left)) }
+    {
+        let Some(row) = self.caller(watch.client) else {
+            unreachable!();
+        };
+        self.can_find(&row.who, &watch.name)?;
+        self.can_call_from_manager(&row.who)?;
+        self.can_transfer_from_manager(&row.who)?;
+        if left == 0 {
+            return Err(full());
+        }
+        match self.given_to(watch.client, node) {
+            Some(given) => Ok(given),
+            None => Err(full()),
+        }
+    }
+
+    /// Tells a watcher, or finds why it may not be told.
+    fn tell(&self, watch: &Watch, node: Node, telling: &mut Telling) -> Result<Told, Stop>
+        requires live { is_live (effects_of self.now.book.history) watch.now.client ≡ true }
+        requires telling { IsTelling (effects_of self.now.book.history) node telling.old }
+        ensures { MatchResult result
+            (λ t. (t ≡ told_of (followed (effects_of self.now.book.history) telling.old.effects.items) node watch.now
+            (first_missing (followed (effects_of self.now.book.history) telling.old.effects.items) node watch.now))
+            × GoesOn (effects_of self.now.book.history) node watch.now telling.old telling.new)
+            (λ s. s ≡ spec.wanted) }
+    {
+        let left = self.left(telling, watch.client);
+        match self.judge_told(watch, node, left) {
+            Ok(given) => match telling.tell(self.alloc, watch, node, given, left) {
+                Ok(told) => Ok(Told::Told(told)),
+                Err(_) => Err(wanted()),
+            },
+            Err(stop) => match reason(self.alloc, stop) {
+                Ok(reason) => Ok(Told::NotTold(reason)),
+                Err(stop) => Err(stop),
+            },
+        }
+    }
+
+    /// Tells a watcher that an object was put under the name, and gives it the object; or says why it may not be told.
+    pub fn notify(&self, watch: &Watch, node: Node, telling: &mut Telling) -> Result<Notice, Stop>
+        requires live { is_live (effects_of self.now.book.history) watch.now.client ≡ true }
+        requires telling { IsTelling (effects_of self.now.book.history) node telling.old }
+        ensures { MatchResult result
+            (λ x. (x ≡ notice_at (followed (effects_of self.now.book.history) telling.old.effects.items) node watch.now)
+            × GoesOn (effects_of self.now.book.history) node watch.now telling.old telling.new)
+            (λ s. s ≡ spec.wanted) }
+    {
+        let result = self.tell(watch, node, telling)?;
+        Ok(Notice {
+            client: ClientId(watch.client),
+            object: watch.object,
+            result,
+        })
+    }
+
+    /// Tells the watchers of a name in order that an object was put under it, each as the ones before it left
+    /// things.
+    pub fn notify_all(
+        &self,
+        watches: &[Watch],
+        node: Node,
+        telling: &mut Telling,
+    ) -> Result<Vec<Notice>, Stop>
+        requires live { list_all (λ w. is_live (effects_of self.now.book.history) w.client) watches.now ≡ true }
+        requires telling { IsTelling (effects_of self.now.book.history) node telling.old }
+        ensures { MatchResult result
+            (λ notices. (notices.items ≡ notices_at (followed (effects_of self.now.book.history) telling.old.effects.items) node watches.now)
+            × GoesFar (effects_of self.now.book.history) node watches.now telling.old telling.new)
+            (λ s. s ≡ spec.wanted) }
+    {
+        let mut notices = Vec::new(self.alloc);
+        for watch in watches {
+            if notices.reserve(1).is_err() {
+                return Err(wanted());
+            }
+            let notice = self.notify(watch, node, telling)?;
+            notices.push_reserved(notice);
+        }
+        Ok(notices)
+    }
+
+    /// The watches of a name, in the order of watching.
+    fn watchers(&self, name: &[u8]) -> &[Watch]
+        ensures watchers { result.now ≡ watchers_at (effects_of self.now.book.history) name.now }
+        ensures few { length result.now ≤ MOST_WATCHES }
+    {
+        let _ = self.watches();
+        self.state.names.watchers(name)
+    }
+
+    /// What an accepted Watch does behind these effects, where the name has an object.
+    pub fn plan_watched(
+        &self,
+        watch: &Watch,
+        node: Node,
+        effects: Vec<Effect>,
+    ) -> Result<Plan, Stop>
+        requires live { is_live (effects_of self.now.book.history) watch.now.client ≡ true }
+        requires before { MayPrecede (effects_of self.now.book.history) node effects.items }
+        ensures { MatchResult result
+            (λ plan. (plan.outcome ≡ Watched (Some (notice_at (followed (effects_of self.now.book.history) effects.items) node watch.now)))
+            × Tells (effects_of self.now.book.history) effects.items 2
+            (after_notice (followed (effects_of self.now.book.history) effects.items) node watch.now) plan)
+            (λ s. s ≡ spec.wanted) }
+    {
+        let mut telling = Telling::behind(self.alloc, effects);
+        let notice = self.notify(watch, node, &mut telling)?;
+        let Ok((outcome, told)) = boxed_twice(self.alloc, notice) else {
+            return Err(wanted());
+        };
+        Ok(Plan {
+            outcome: Outcome::Watched(Some(outcome)),
+            told: Outcome::Watched(Some(told)),
+            effects: telling.effects,
+        })
+    }
+
+    /// What an accepted Add does behind these effects: all who watch the name are told, or it is said why not.
+    pub fn plan_added(&self, name: &Name, node: Node, effects: Vec<Effect>) -> Result<Plan, Stop>
+        requires { MayPrecede (effects_of self.now.book.history) node effects.items }
+        ensures { MatchResult result
+            (λ plan. (plan.outcome ≡ Added (notices_at (followed (effects_of self.now.book.history) effects.items) node
+            (watchers_at (effects_of self.now.book.history) name.now)))
+            × Tells (effects_of self.now.book.history) effects.items 8192
+            (after_notices (followed (effects_of self.now.book.history) effects.items) node
+            (watchers_at (effects_of self.now.book.history) name.now)) plan)
+            (λ s. s ≡ spec.wanted) }
+    {
+        let mut telling = Telling::behind(self.alloc, effects);
+        let watchers = self.watchers(name.bytes());
+        let notices = self.notify_all(watchers, node, &mut telling)?;
+        let Ok((outcome, told)) = listed_twice(notices) else {
+            return Err(wanted());
+        };
+        Ok(Plan {
+            outcome: Outcome::Added(outcome),
+            told: Outcome::Added(told),
+            effects: telling.effects,
+        })
+    }
+}

@@ -1,0 +1,85 @@
+//! Taking names back.
+
+ghost use Rattle.std.specs.Prelude.{◌≡◌, true, MatchResult};
+ghost use Rattle.sm_history.specs.declared.event.Event.TheVariants.{Unregister};
+ghost use Rattle.sm_history.specs.declared.stop.Stop.TheVariants.{Unmet};
+ghost use Rattle.sm_history.specs.declared.stop.Instead.TheVariants.{Refused};
+ghost use Rattle.sm_history.specs.declared.refusal.Refusal.TheVariants.{Exception as Excepted};
+ghost use Rattle.sm_history.specs.Clients.{is_live, policy_at};
+ghost use Rattle.sm_history.specs.Histories.{effects_of};
+ghost use Rattle.sm_history.specs.Holdings.{is_in_use};
+ghost use Rattle.sm_core.specs.Tables.{client_row};
+ghost use Rattle.sm_core.specs.Judging.{AllPass, Halts, Judged, removal_checks};
+
+use crate::client::ClientRow;
+use crate::manager::judging::one;
+use crate::manager::{Manager, wanted};
+use crate::plan::Plan;
+use sm_history::{Effect, Exception, Instead, Outcome, Refusal, Stop};
+use sm_kinds::{Name, Node, ObjRef};
+
+/// That a call of the service manager fails by one of Binder's exceptions.
+fn failed(exception: Exception) -> Stop
+    ensures { result ≡ Unmet (Refused (Excepted exception)) }
+{
+    Stop::Unmet(Instead::Refused(Refusal::Exception(exception)))
+}
+
+impl Manager {
+    /// A client takes back the name under which it put an object (`tryUnregisterService`).
+    pub fn judge_unregister(&self, client: u32, name: &Name, obj: ObjRef) -> Result<Plan, Stop>
+        requires { is_live (effects_of self.now.book.history) client ≡ true }
+        ensures { Judged (effects_of self.now.book.history) client (Unregister name.now obj) result }
+    {
+        let Some(row) = self.caller(client) else {
+            unreachable!();
+        };
+        self.can_call_manager(&row.who)?;
+        let node = self.judge_reference(row, obj)?;
+        if let Err(stop) = self.judge_removal(row, name, node) {
+            return Err(stop);
+        }
+        let Ok(copy) = name.clone() else {
+            return Err(wanted());
+        };
+        let effects = one(self.alloc, Effect::Removes { name: copy })?;
+        Ok(Plan {
+            outcome: Outcome::Unregistered,
+            told: Outcome::Unregistered,
+            effects,
+        })
+    }
+
+    /// Whether the caller may take a name from an object.
+    fn judge_removal(&self, row: &ClientRow, name: &Name, node: Option<Node>) -> Result<(), Stop>
+        requires { row.now ≡ client_row (effects_of self.now.book.history) row.now.id }
+        ensures { MatchResult result
+            (λ done. AllPass (policy_at (effects_of self.now.book.history)) (removal_checks (effects_of self.now.book.history) row.now.id name.now node))
+            (Halts (policy_at (effects_of self.now.book.history)) (removal_checks (effects_of self.now.book.history) row.now.id name.now node)) }
+    {
+        let Some(node) = node else {
+            return Err(failed(Exception::NullBinder));
+        };
+        self.can_add(&row.who, name)?;
+        let Some(service) = self.service(name.bytes()) else {
+            return Err(failed(Exception::NotRegistered));
+        };
+        if service.adder != row.id {
+            return Err(failed(Exception::NotAdder));
+        }
+        if service.node != node {
+            return Err(failed(Exception::OtherObject));
+        }
+        if self.is_in_use(row.id, node) {
+            return Err(failed(Exception::InUse));
+        }
+        Ok(())
+    }
+
+    /// Whether a live client other than one holds an object.
+    fn is_in_use(&self, except: u32, node: Node) -> bool
+        ensures { result ≡ is_in_use (effects_of self.now.book.history) except node }
+    {
+        self.state.grants.holders(node, except) > 0
+    }
+}

@@ -1,0 +1,131 @@
+//! Watching names.
+
+ghost use Rattle.std.specs.Prelude.{◌≡◌, ◌≤◌, true, length, count_by, nat_lt, MatchResult};
+ghost use Rattle.std.specs.List.{list_any};
+ghost use Rattle.sm_history.specs.declared.event.Event.TheVariants.{Unwatch, Watch as WatchName};
+ghost use Rattle.sm_history.specs.Clients.{is_live, policy_at};
+ghost use Rattle.sm_history.specs.Histories.{effects_of, watch};
+ghost use Rattle.sm_history.specs.Services.{same_watch, watches_at};
+ghost use Rattle.sm_history.specs.declared.limits.TheConstants.{MOST_WATCHES};
+ghost use Rattle.sm_history.specs.Verdict.{watch_checks};
+ghost use Rattle.sm_core.specs.Tables.{client_row};
+ghost use Rattle.sm_core.specs.Judging.{AllPass, Halts, Judged};
+ghost use Rattle.sm_core.specs.Judging as spec;
+
+use crate::client::ClientRow;
+use crate::manager::judging::{barred, one};
+use crate::manager::{Manager, wanted};
+use crate::plan::Plan;
+use sm_history::{Denial, Effect, Exception, Instead, MOST_WATCHES, Outcome, Refusal, Stop, Watch};
+use sm_kinds::{Name, is_isolated, valid_name};
+
+/// A client's object as one that watches a name.
+fn watch_of(client: u32, name: &Name, object: u32) -> Result<Watch, Stop>
+    ensures { MatchResult result (λ w. w ≡ watch client name.now object) (λ s. s ≡ spec.wanted) }
+{
+    match name.clone() {
+        Ok(name) => Ok(Watch {
+            client,
+            name,
+            object,
+        }),
+        Err(_) => Err(wanted()),
+    }
+}
+
+impl Manager {
+    /// A client's object watches a name (`registerForNotifications`).
+    pub fn judge_watch(&self, client: u32, name: &Name, object: u32) -> Result<Plan, Stop>
+        requires { is_live (effects_of self.now.book.history) client ≡ true }
+        ensures { Judged (effects_of self.now.book.history) client (WatchName name.now object) result }
+    {
+        let Some(row) = self.caller(client) else {
+            unreachable!();
+        };
+        if let Err(stop) = self.judge_watching(row, name) {
+            return Err(stop);
+        }
+        let watch = watch_of(client, name, object)?;
+        let made = watch_of(client, name, object)?;
+        let effects = one(self.alloc, Effect::Watches(made))?;
+        match self.service(name.bytes()) {
+            Some(service) => self.plan_watched(&watch, service.node, effects),
+            None => Ok(Plan {
+                outcome: Outcome::Watched(None),
+                told: Outcome::Watched(None),
+                effects,
+            }),
+        }
+    }
+
+    /// Whether a client may watch a name.
+    fn judge_watching(&self, row: &ClientRow, name: &Name) -> Result<(), Stop>
+        requires { row.now ≡ client_row (effects_of self.now.book.history) row.now.id }
+        ensures { MatchResult result
+            (λ done. AllPass (policy_at (effects_of self.now.book.history)) (watch_checks (effects_of self.now.book.history) row.now.id name.now)
+            × (nat_lt (length (watches_at (effects_of self.now.book.history))) MOST_WATCHES ≡ true))
+            (Halts (policy_at (effects_of self.now.book.history)) (watch_checks (effects_of self.now.book.history) row.now.id name.now)) }
+    {
+        self.can_call_manager(&row.who)?;
+        self.can_transfer_to_manager(&row.who)?;
+        self.can_find(&row.who, name)?;
+        if is_isolated(row.who.uid) {
+            return Err(barred(Denial::Isolated(row.who.uid), &row.who, name));
+        }
+        if !valid_name(name.bytes()) {
+            return Err(Stop::Unmet(Instead::Refused(Refusal::Exception(Exception::InvalidName))));
+        }
+        if self.watches() >= MOST_WATCHES {
+            return Err(Stop::Unmet(Instead::Refused(Refusal::Exception(Exception::TableFull))));
+        }
+        Ok(())
+    }
+
+    /// How many watches live clients have.
+    pub fn watches(&self) -> usize
+        ensures count { result ≡ length (watches_at (effects_of self.now.book.history)) }
+        ensures few { result ≤ MOST_WATCHES }
+    {
+        self.state.names.watches()
+    }
+
+    /// A client's object no longer watches a name (`unregisterForNotifications`): every such watch ends.
+    pub fn judge_unwatch(&self, client: u32, name: &Name, object: u32) -> Result<Plan, Stop>
+        requires { is_live (effects_of self.now.book.history) client ≡ true }
+        ensures { Judged (effects_of self.now.book.history) client (Unwatch name.now object) result }
+    {
+        let Some(row) = self.caller(client) else {
+            unreachable!();
+        };
+        self.can_call_manager(&row.who)?;
+        self.can_transfer_to_manager(&row.who)?;
+        self.can_find(&row.who, name)?;
+        if !self.is_watching(client, name.bytes(), object) {
+            return Err(Stop::Unmet(Instead::Refused(Refusal::Exception(
+                Exception::NothingToUnregister,
+            ))));
+        }
+        let ended = self.watching(client, name.bytes(), object);
+        let watch = watch_of(client, name, object)?;
+        let effects = one(self.alloc, Effect::Unwatches(watch))?;
+        Ok(Plan {
+            outcome: Outcome::Unwatched(ended),
+            told: Outcome::Unwatched(ended),
+            effects,
+        })
+    }
+
+    /// Whether a client's object watches a name.
+    fn is_watching(&self, client: u32, name: &[u8], object: u32) -> bool
+        ensures { result ≡ list_any (same_watch (watch client name.now object)) (watches_at (effects_of self.now.book.history)) }
+    {
+        self.state.names.is_watching(client, name, object)
+    }
+
+    /// How many watches of a name a client's object has.
+    fn watching(&self, client: u32, name: &[u8], object: u32) -> u32
+        ensures { result ≡ count_by (same_watch (watch client name.now object)) (watches_at (effects_of self.now.book.history)) }
+    {
+        self.state.names.watching(client, name, object)
+    }
+}

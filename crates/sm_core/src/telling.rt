@@ -1,0 +1,110 @@
+//! What telling watchers of a registration does.
+
+ghost use Rattle.std.specs.Prelude.{◌≡◌, ◌∷◌, ◌++◌, ◌<◌, ◌-◌, ℕ, [], Some, cond, nat_eq, OnOk, IfOk};
+ghost use Rattle.sm_kinds.specs.declared.number.Node.{Node};
+ghost use Rattle.sm_history.specs.Effects.{Effects};
+ghost use Rattle.sm_history.specs.declared.effect.Effect.TheVariants.{Delivers};
+ghost use Rattle.sm_core.specs.Telling.{gives_of, told_to, left_in, MayPrecede, IsTelling};
+
+use sm_history::{
+    BoxedDelivery, BoxedNotice, Delivery, Effect, Given, Message, Notice, Notices, Watch,
+};
+use sm_kinds::Node;
+use std::alloc::{AllocError, Global};
+use std::collections::HashMap;
+
+/// What telling watchers has done: its effects in order, and for how many more deliveries the inbox of each
+/// client that was told has place.
+#[derive(Drop)]
+pub struct Telling {
+    pub effects: Vec<Effect>,
+    pub left: HashMap<u32, usize>,
+}
+
+/// What a watcher is told, where the object reaches it so.
+fn registration(alloc: Global, watch: &Watch, given: Given) -> Result<BoxedDelivery, AllocError>
+    ensures { IfOk result (λ x. x ≡ told_to watch.now given) }
+{
+    let name = watch.name.clone()?;
+    let delivery = Delivery {
+        object: watch.object,
+        what: Message::Registered { name, given },
+    };
+    BoxedDelivery::new(alloc, delivery)
+}
+
+/// A notice twice, each in a place of its own.
+pub fn boxed_twice(alloc: Global, notice: Notice) -> Result<(BoxedNotice, BoxedNotice), AllocError>
+    ensures { IfOk result (λ both. (both.0 ≡ notice) × (both.1 ≡ notice)) }
+{
+    let copy = BoxedNotice::new(alloc, notice.clone()?)?;
+    let first = BoxedNotice::new(alloc, notice)?;
+    Ok((first, copy))
+}
+
+/// Notices twice.
+pub fn listed_twice(notices: Vec<Notice>) -> Result<(Notices, Notices), AllocError>
+    ensures { IfOk result (λ both. (both.0 ≡ notices.items) × (both.1 ≡ notices.items)) }
+{
+    let copies = notices.clone()?;
+    Ok((Notices::new(notices), Notices::new(copies)))
+}
+
+/// A client gets a handle, unless the object is its own.
+fn give(effects: &mut Vec<Effect>, client: u32, node: Node, given: Given) -> Result<(), AllocError>
+    ensures { OnOk result (effects.new.items ≡ effects.old.items ++ gives_of client node given) }
+{
+    match given {
+        Given::Handle(number) => {
+            effects.push(Effect::Gives {
+                client,
+                node,
+                number,
+            })?;
+            Ok(())
+        }
+        Given::Own(_) => Ok(()),
+        Given::Null => Ok(()),
+    }
+}
+
+impl Telling {
+    /// Behind these effects, none of which told anyone.
+    pub fn behind(alloc: Global, effects: Vec<Effect>) -> Telling
+        ensures effects { result.effects ≡ effects }
+        ensures telling { (d : Effects) (n : Node) → MayPrecede d n effects.items → IsTelling d n result }
+    {
+        Telling {
+            effects,
+            left: HashMap::new(alloc),
+        }
+    }
+
+    /// Tells a watcher, whose inbox has place for so many deliveries. What it was told.
+    pub fn tell(
+        &mut self,
+        alloc: Global,
+        watch: &Watch,
+        node: Node,
+        given: Given,
+        left: usize,
+    ) -> Result<BoxedDelivery, AllocError>
+        requires { 0 < left }
+        ensures told { IfOk result (λ x. x ≡ told_to watch.now given) }
+        ensures effects { OnOk result (self.new.effects.items
+            ≡ (self.old.effects.items ++ gives_of watch.now.client node given)
+            ++ Delivers watch.now.client (told_to watch.now given) ∷ []) }
+        ensures left { OnOk result ((c : ℕ) → left_in self.new c
+            ≡ cond (nat_eq watch.now.client c) (Some (left - 1)) (left_in self.old c)) }
+    {
+        let delivery = registration(alloc, watch, given)?;
+        let told = delivery.clone()?;
+        self.left.insert(watch.client, left - 1)?;
+        give(&mut self.effects, watch.client, node, given)?;
+        self.effects.push(Effect::Delivers {
+            client: watch.client,
+            delivery,
+        })?;
+        Ok(told)
+    }
+}
