@@ -9,14 +9,14 @@ use Rattle.sm_policy.specs.Refused.{refused_words}
 use Rattle.sm_history.specs.declared.by.By.{By}
 use Rattle.sm_history.specs.declared.by.By.TheVariants.{Manager, Client, Admin}
 use Rattle.sm_history.specs.declared.event.Event.{Event}
-use Rattle.sm_history.specs.declared.event.Event.TheVariants.{Connect, Add, Get, Reload}
+use Rattle.sm_history.specs.declared.event.Event.TheVariants.{Connect, Reload}
 use Rattle.sm_history.specs.declared.reply.Reply.{Reply}
 use Rattle.sm_history.specs.Histories.{turn_of}
 use Rattle.sm_history.specs.Told.{told}
 use Rattle.sm_history.specs.Books.{Book}
 use Rattle.sm_core.specs.Managed.{Answers, LooksAs}
 use Rattle.sm_wire.specs.declared.request.Request.{Request}
-use Rattle.sm_wire.specs.declared.request.Request.TheVariants.{Hello, Add as AddRequest, Get as GetRequest, Look, Ask}
+use Rattle.sm_wire.specs.declared.request.Request.TheVariants.{Hello, Change, Look, Ask}
 use Rattle.sm_wire.specs.declared.item.Item.{Item}
 use Rattle.sm_wire.specs.declared.item.Item.TheVariants as items
 use Rattle.sm_wire.specs.Replies.{reply_text, told_text}
@@ -33,9 +33,7 @@ the_administrator = record { 0 = 1 }
 -- a request is judged on the history that the requests before it left
 abbrev pub Judges : Book → Request → Reply → Book → Type 0
 Judges old (Hello who) reply new = AnswersNow old Manager (Connect who) reply new
-Judges old (AddRequest client name obj allow_isolated dump) reply new =
-    AnswersNow old (Client client) (Add name obj allow_isolated dump) reply new
-Judges old (GetRequest client name) reply new = AnswersNow old (Client client) (Get name) reply new
+Judges old (Change client event) reply new = AnswersNow old (Client client) event reply new
 Judges old (Look client query) reply new = LooksAs old (Client client) query reply × (new ≡ old)
 Judges old (Ask query) reply new = LooksAs old (Admin the_administrator) query reply × (new ≡ old)
 

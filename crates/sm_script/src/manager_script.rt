@@ -68,8 +68,9 @@ impl Script {
         ensures ok { IfOk result (λ line. AnswersLine self.old (Asked request) line.items self.new) }
         ensures err { OnErr result (GaveUp AnswersItem self.old (Asked request) self.new) }
     {
-        let reply = judge(&mut self.manager, &request);
-        reply_line(self.alloc, &request, &reply)
+        let telling = request.telling();
+        let reply = judge(&mut self.manager, request);
+        reply_line(self.alloc, telling, &reply)
     }
 
     fn policy_line(&mut self, texts: &PolicyTexts) -> Result<Vec<u8>, AllocError>

@@ -1,88 +1,141 @@
 -- The request lines.
-use Rattle.std.specs.Prelude.{ℕ, List, [], ◌∷◌, Option, Some, None, Bool, ◌==◌, if◌then◌else◌, codes, true, false}
-use Rattle.std.specs.List.{list_all}
-use Rattle.std.specs.Result.{result_ok}
+use Rattle.std.specs.Prelude.{ℕ, List, [], ◌∷◌, Option, Some, None, if◌then◌else◌, codes}
 use Rattle.std.specs.Str.{bytes_eq}
-use Rattle.hex.specs.Hex.{decode_of}
 use Rattle.sm_kinds.specs.declared.number.ClientId.{ClientId}
-use Rattle.sm_kinds.specs.declared.number.ObjRef.{ObjRef}
-use Rattle.sm_kinds.specs.declared.number.ObjRef.TheVariants.{Own, Handle, Null}
-use Rattle.sm_kinds.specs.declared.class.Class.TheVariants.{ServiceManager, Binder}
-use Rattle.sm_kinds.specs.declared.perms.Perms.{Perms}
-use Rattle.sm_kinds.specs.Contexts.{is_graphic, is_context}
-use Rattle.sm_kinds.specs.Permissions.{class_read, perm_read}
-use Rattle.sm_ruletext.specs.Lexing.{is_word}
+use Rattle.sm_kinds.specs.Permissions.{class_read}
+use Rattle.sm_history.specs.declared.event.Event.{Event}
+use Rattle.sm_history.specs.declared.event.Event.TheVariants.{Add, Get, Watch, Unwatch, Unregister, Call, Release, Take, Die}
+use Rattle.sm_history.specs.declared.query.Query.{Query}
 use Rattle.sm_history.specs.declared.query.Query.TheVariants as queries
 use Rattle.sm_wire.specs.declared.request.Request.{Request}
-use Rattle.sm_wire.specs.declared.request.Request.TheVariants.{Hello, Add, Get, Look, Ask}
+use Rattle.sm_wire.specs.declared.request.Request.TheVariants.{Hello, Change, Look, Ask}
 use Rattle.sm_wire.specs.declared.announced.Announced.{Announced}
-use Rattle.sm_wire.specs.Number.{number_of}
+use Rattle.sm_wire.specs.Number.{u32_max, u64_max, number_of}
 use Rattle.sm_wire.specs.Fields.{fields_of}
-use Rattle.sm_wire.specs.Reading.{◌>>=◌}
+use Rattle.sm_wire.specs.Reading.{◌>>=◌, first_of_two}
+use Rattle.sm_wire.specs.Values.{name_of, reference_of, own_object_of, call_references_of, payload_of, flag_of}
+use Rattle.sm_wire.specs.Values.{context_of, word_of, perm_of}
 
-abbrev pub u32_max : ℕ
-u32_max = 4294967295
-
-abbrev pub u64_max : ℕ
-u64_max = 18446744073709551615
-
-unfoldable pub plain_name_of : List ℕ → Option (List ℕ)
-plain_name_of bytes = if list_all is_graphic bytes then Some bytes else None
-
--- NAME: plain bytes that don't begin with `%`, or `%` and two hexadecimal digits for each byte
-unfoldable pub name_of : List ℕ → Option (List ℕ)
-name_of [] = None
-name_of (b ∷ bs) = if b == 37 then result_ok (decode_of bs) else plain_name_of (b ∷ bs)
-
--- REF: `oN`, `hN` or `null`
-unfoldable pub reference_of : List ℕ → Option ObjRef
-reference_of [] = None
-reference_of (b ∷ bs) = if b == 111 then (do
-  n ← number_of u32_max bs
-  Some (Own n)) else (if b == 104 then (do
-    n ← number_of u32_max bs
-    Some (Handle n)) else (if bytes_eq (b ∷ bs) (codes "null") then Some Null else None))
-
--- ALLOW: `0` or `1`
-unfoldable pub flag_of : List ℕ → Option Bool
-flag_of bs = if bytes_eq bs (codes "0") then Some false else (if bytes_eq bs (codes "1") then Some true else None)
-
--- CONTEXT
-unfoldable pub context_of : List ℕ → Option (List ℕ)
-context_of text = if is_context text then Some text else None
-
-unfoldable pub get_of : ClientId → List ℕ → Option Request
-get_of client name = do
-  n ← name_of name
-  Some (Get client n)
-
-unfoldable pub list_of : ClientId → List ℕ → Option Request
-list_of client mask = do
-  m ← number_of u32_max mask
-  Some (Look client (queries.List m))
-
-unfoldable pub add_of : ClientId → List ℕ → List ℕ → List ℕ → List ℕ → Option Request
-add_of client name reference allow dump = do
+-- `add NAME REF ALLOW DUMP`
+unfoldable pub add_of : List (List ℕ) → Option Event
+add_of (name ∷ reference ∷ allow ∷ dump ∷ []) = do
   n ← name_of name
   r ← reference_of reference
   a ← flag_of allow
   d ← number_of u32_max dump
-  Some (Add client n r a d)
+  Some (Add n r a d)
+add_of _ = None
 
--- `get NAME`, `check NAME`, which means the same, or `list MASK`
-unfoldable pub one_field_of : ClientId → List ℕ → List ℕ → Option Request
-one_field_of client word field =
-    if bytes_eq word (codes "get") then get_of client field
-    else (if bytes_eq word (codes "check") then get_of client field
-    else (if bytes_eq word (codes "list") then list_of client field else None))
+-- `get NAME` or `check NAME`, which means the same
+unfoldable pub get_of : List (List ℕ) → Option Event
+get_of (name ∷ []) = do
+  n ← name_of name
+  Some (Get n)
+get_of _ = None
 
--- what a client asks: one of those, `version`, or `add NAME REF ALLOW DUMP`
+-- `watch NAME oN`
+unfoldable pub watch_of : List (List ℕ) → Option Event
+watch_of (name ∷ object ∷ []) = do
+  n ← name_of name
+  o ← own_object_of object
+  Some (Watch n o)
+watch_of _ = None
+
+-- `unwatch NAME oN`
+unfoldable pub unwatch_of : List (List ℕ) → Option Event
+unwatch_of (name ∷ object ∷ []) = do
+  n ← name_of name
+  o ← own_object_of object
+  Some (Unwatch n o)
+unwatch_of _ = None
+
+-- `unregister NAME REF`
+unfoldable pub unregister_of : List (List ℕ) → Option Event
+unregister_of (name ∷ reference ∷ []) = do
+  n ← name_of name
+  r ← reference_of reference
+  Some (Unregister n r)
+unregister_of _ = None
+
+-- `call N PAYLOAD REF ..`
+unfoldable pub call_of : List (List ℕ) → Option Event
+call_of (handle ∷ payload ∷ references) = do
+  h ← number_of u32_max handle
+  p ← payload_of payload
+  r ← call_references_of references
+  Some (Call h p r)
+call_of _ = None
+
+-- `release N`
+unfoldable pub release_of : List (List ℕ) → Option Event
+release_of (handle ∷ []) = do
+  h ← number_of u32_max handle
+  Some (Release h)
+release_of _ = None
+
+-- `take`
+unfoldable pub take_of : List (List ℕ) → Option Event
+take_of [] = Some Take
+take_of _ = None
+
+-- `bye`
+unfoldable pub bye_of : List (List ℕ) → Option Event
+bye_of [] = Some Die
+bye_of _ = None
+
+-- a change that has to do with names, by its word and the fields behind it
+unfoldable pub service_event_of : List ℕ → List (List ℕ) → Option Event
+service_event_of word fields =
+    if bytes_eq word (codes "add") then add_of fields
+    else (if bytes_eq word (codes "get") then get_of fields
+    else (if bytes_eq word (codes "check") then get_of fields
+    else (if bytes_eq word (codes "watch") then watch_of fields
+    else (if bytes_eq word (codes "unwatch") then unwatch_of fields
+    else (if bytes_eq word (codes "unregister") then unregister_of fields else None)))))
+
+-- a change that has to do with handles and deliveries, by its word and the fields behind it
+unfoldable pub binder_event_of : List ℕ → List (List ℕ) → Option Event
+binder_event_of word fields =
+    if bytes_eq word (codes "call") then call_of fields
+    else (if bytes_eq word (codes "release") then release_of fields
+    else (if bytes_eq word (codes "take") then take_of fields
+    else (if bytes_eq word (codes "bye") then bye_of fields else None)))
+
+-- a change that a client makes
+unfoldable pub event_of : List ℕ → List (List ℕ) → Option Event
+event_of word fields = first_of_two (service_event_of word fields) (binder_event_of word fields)
+
+-- `list MASK`
+unfoldable pub list_of : List (List ℕ) → Option Query
+list_of (mask ∷ []) = do
+  m ← number_of u32_max mask
+  Some (queries.List m)
+list_of _ = None
+
+-- `version`
+unfoldable pub version_of : List (List ℕ) → Option Query
+version_of [] = Some queries.Version
+version_of _ = None
+
+-- what a client asks to be told
+unfoldable pub query_of : List ℕ → List (List ℕ) → Option Query
+query_of word fields =
+    if bytes_eq word (codes "list") then list_of fields
+    else (if bytes_eq word (codes "version") then version_of fields else None)
+
+unfoldable pub look_of : ClientId → List ℕ → List (List ℕ) → Option Request
+look_of client word fields = do
+  query ← query_of word fields
+  Some (Look client query)
+
+unfoldable pub change_of : ClientId → List ℕ → List (List ℕ) → Option Request
+change_of client word fields = do
+  event ← event_of word fields
+  Some (Change client event)
+
+-- what a client asks: a look or a change
 unfoldable pub client_request_of : ClientId → List (List ℕ) → Option Request
-client_request_of client (word ∷ []) = if bytes_eq word (codes "version") then Some (Look client queries.Version)
-    else None
-client_request_of client (word ∷ a ∷ []) = one_field_of client word a
-client_request_of client (word ∷ a ∷ b ∷ c ∷ d ∷ []) = if bytes_eq word (codes "add") then add_of client a b c d
-    else None
+client_request_of client (word ∷ fields) = first_of_two (look_of client word fields) (change_of client word fields)
 client_request_of client _ = None
 
 -- `N REQUEST`
@@ -103,18 +156,6 @@ hello_of pid uid context = do
 unfoldable pub greeting_of : List (List ℕ) → Option Request
 greeting_of (word ∷ a ∷ b ∷ c ∷ []) = if bytes_eq word (codes "hello") then hello_of a b c else None
 greeting_of _ = None
-
--- a word of the rule text
-unfoldable pub word_of : List ℕ → Option (List ℕ)
-word_of bytes = if is_word bytes then Some bytes else None
-
-abbrev pub first_of_two : {A : Type 0} → Option A → Option A → Option A
-first_of_two (Some r) other = Some r
-first_of_two None other = other
-
--- a permission of either class
-unfoldable pub perm_of : List ℕ → Option Perms
-perm_of word = first_of_two (perm_read ServiceManager word) (perm_read Binder word)
 
 unfoldable pub explain_of : List ℕ → List ℕ → List ℕ → List ℕ → Option Request
 explain_of source target class perm = do

@@ -1,6 +1,7 @@
 pub mod Number
 pub mod Fields
 pub mod Reading
+pub mod Values
 pub mod Grammar
 pub mod Items
 pub mod Replies

@@ -7,6 +7,11 @@ infixl 10 ◌>>=◌
 abbrev pub ◌>>=◌ : {A B : Type 0} → Option A → (A → Option B) → Option B
 o >>= f = option_and_then f o
 
+-- the first reading that there is
+abbrev pub first_of_two : {A : Type 0} → Option A → Option A → Option A
+first_of_two (Some r) other = Some r
+first_of_two None other = other
+
 -- what is read is what the grammar says, and Malformed comes where it says nothing; want of memory may come at any text
 abbrev pub Reads : {A : Type 0} → Result A ReadError → Option A → Type 0
 Reads (Ok x) o = o ≡ Some x

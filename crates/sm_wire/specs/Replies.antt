@@ -30,9 +30,11 @@ use Rattle.sm_history.specs.declared.reply.Answer.{Answer}
 use Rattle.sm_history.specs.declared.reply.Answer.TheVariants.{Names, Version, Why}
 use Rattle.sm_history.specs.declared.reply.Reply.{Reply}
 use Rattle.sm_history.specs.declared.reply.Reply.TheVariants.{Done, GotNull, GotOwn, Looked, Refused}
-use Rattle.sm_history.specs.Told.{told}
+use Rattle.sm_history.specs.Told.{told, told_to_get}
 use Rattle.sm_wire.specs.declared.request.Request.{Request}
-use Rattle.sm_wire.specs.declared.request.Request.TheVariants.{Hello, Add, Get, Look, Ask}
+use Rattle.sm_wire.specs.declared.request.Request.TheVariants.{Hello, Change, Look, Ask}
+use Rattle.sm_wire.specs.declared.telling.Telling.{Telling}
+use Rattle.sm_wire.specs.declared.telling.Telling.TheVariants.{Whole, ToGet}
 
 -- a valid name as it is, another as `%` and two lower-case hexadecimal digits for each byte
 unfoldable pub name_text : List ℕ → List ℕ
@@ -160,10 +162,14 @@ told_text reply = answered_text reply ++ codes "\n"
 -- what the one who asks is told of the reply
 abbrev pub told_of : Request → Reply → Reply
 told_of (Hello who) reply = told (events.Connect who) reply
-told_of (Add client name obj allow_isolated dump) reply = told (events.Add name obj allow_isolated dump) reply
-told_of (Get client name) reply = told (events.Get name) reply
+told_of (Change client event) reply = told event reply
 told_of (Look client query) reply = reply
 told_of (Ask query) reply = reply
+
+-- what is told of a reply in this way
+abbrev pub told_in : Telling → Reply → Reply
+told_in Whole reply = reply
+told_in ToGet reply = told_to_get reply
 
 -- the line of a reply to a request
 abbrev pub reply_text : Request → Reply → List ℕ

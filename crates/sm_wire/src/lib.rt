@@ -4,6 +4,7 @@
 
 mod announced;
 mod announcing;
+mod client_requests;
 mod cuts;
 mod deliveries;
 mod fields;
@@ -17,9 +18,9 @@ mod read_error;
 mod refusals;
 mod replies;
 mod request;
-#[cfg(test)]
-mod tests;
+mod telling;
 mod texts;
+mod values;
 
 pub use announced::Announced;
 pub use item::Item;
@@ -28,4 +29,5 @@ pub use lines::{FeedError, Lines};
 pub use read_error::ReadError;
 pub use replies::{reply_line, told_line};
 pub use request::Request;
+pub use telling::Telling;
 pub use texts::PolicyTexts;

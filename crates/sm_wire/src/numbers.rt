@@ -2,9 +2,8 @@
 
 ghost use Rattle.std.specs.Prelude.{◌≡◌, ◌+◌, ◌*◌, ◌-◌, ◌≤◌, IfSome, nat_le, ◌&&◌, if◌then◌else◌};
 ghost use Rattle.std.specs.Char.{is_ascii_digit};
-ghost use Rattle.sm_wire.specs.Number.{number_of, digits_after};
+ghost use Rattle.sm_wire.specs.Number.{u32_max, u64_max, number_of, digits_after};
 ghost use Rattle.sm_wire.specs.Reading.{Reads};
-ghost use Rattle.sm_wire.specs.Grammar.{u32_max, u64_max};
 
 use crate::read_error::ReadError;
 

@@ -1,24 +1,24 @@
 //! Reply lines.
 
 ghost use Rattle.std.specs.Prelude.{◌≡◌, ◌++◌, OnOk, IfOk};
-ghost use Rattle.sm_wire.specs.Replies.{names_text, why_text, answer_text, outcome_text, answered_text, told_text, reply_text};
+ghost use Rattle.sm_wire.specs.Replies.{names_text, why_text, answer_text, outcome_text, answered_text, told_text, told_in};
 ghost use Rattle.sm_history.specs.Told.{told_to_get};
 
 use crate::deliveries::push_delivery;
 use crate::names::push_names;
 use crate::refusals::push_refusal;
-use crate::request::Request;
+use crate::telling::Telling;
 use sm_history::{Answer, Outcome, Reply, is_hidden};
 use sm_kinds::{Name, push_numbered};
 use std::alloc::{AllocError, Global};
 
-/// The line of a reply to a request, with its newline: of what the one who asks is told of it.
-pub fn reply_line(alloc: Global, asked: &Request, reply: &Reply) -> Result<Vec<u8>, AllocError>
-    ensures { IfOk result (λ line. line.items ≡ reply_text asked.now reply.now) }
+/// The line of a reply, with its newline: of what is told of it.
+pub fn reply_line(alloc: Global, telling: Telling, reply: &Reply) -> Result<Vec<u8>, AllocError>
+    ensures { IfOk result (λ line. line.items ≡ told_text (told_in telling reply.now)) }
 {
-    match asked {
-        Request::Get { client: _, name: _ } => get_line(alloc, reply),
-        _ => told_line(alloc, reply),
+    match telling {
+        Telling::Whole => told_line(alloc, reply),
+        Telling::ToGet => get_line(alloc, reply),
     }
 }
 
@@ -74,7 +74,7 @@ fn push_outcome(alloc: Global, out: &mut Vec<u8>, outcome: &Outcome) -> Result<(
         Outcome::Unregistered => out.extend_from_slice(b"ok"),
         Outcome::Sent(_) => out.extend_from_slice(b"ok"),
         Outcome::Released => out.extend_from_slice(b"ok"),
-        Outcome::Taken(delivery) => push_delivery(alloc, out, delivery),
+        Outcome::Taken(delivery) => push_delivery(alloc, out, delivery.delivery()),
         Outcome::Died => out.extend_from_slice(b"bye"),
         Outcome::Reloaded(version) => push_numbered(out, b"reloaded ", *version),
     }

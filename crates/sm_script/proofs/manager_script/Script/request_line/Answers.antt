@@ -1,5 +1,5 @@
-use Rattle.std.proofs.Common.{[], inr, refl, Result, Ok, Err, IfOk}
-use Rattle.sm_wire.specs.Replies.{reply_text}
+use Rattle.std.proofs.Common.{◌∙◌, [], ap, inr, refl, sym, Result, Ok, Err, IfOk}
+use Rattle.sm_wire.specs.Replies.{reply_text, told_text}
 use Rattle.sm_engine.proofs.Results.{on_err}
 use Rattle.sm_script.proofs.manager_script.Script.request_line.Goals as goal
 
@@ -10,7 +10,12 @@ if_ok (Err e) turn p = tt
 -- the reply was given, and this is its line
 pub returns-clause-ok : goal.returns-clause-ok
 returns-clause-ok c =
-    rw (← c.self.view_is) (if_ok c.reply_line.result (λ line is. (c.judge-reply.result, c.judge-reply.ensures, is)) c.reply_line.ensures)
+    rw (← c.self.view_is) (if_ok c.reply_line.result (λ line is. (
+      c.judge-reply.result,
+      c.judge-reply.ensures,
+      is ∙ ap told_text (sym (c.telling-telling.ensures c.judge-reply.result)),
+    ))
+    c.reply_line.ensures)
 
 -- the reply was given, and its line was lost
 pub returns-clause-err : goal.returns-clause-err

@@ -1,0 +1,189 @@
+//! The fields of request lines: a function for each kind of value.
+
+ghost use Rattle.std.specs.Prelude.{map};
+ghost use Rattle.std.specs.Result.{result_ok, result_map_both};
+ghost use Rattle.hex.specs.Hex.{decode_of};
+ghost use Rattle.sm_kinds.specs.Permissions.{class_read};
+ghost use Rattle.sm_wire.specs.Reading.{Reads};
+ghost use Rattle.sm_wire.specs.Values.{plain_name_of, name_of, reference_of, own_object_of, call_references_of, fitting_payload, hex_payload_of, payload_of, flag_of, context_of, word_of, perm_of};
+
+use crate::numbers::u32_field;
+use crate::read_error::ReadError;
+use hex::FromHexError;
+use sm_kinds::{
+    Class, Context, ContextError, Name, ObjRef, Payload, PayloadError, Perms, Refs, RefsError,
+    all_graphic,
+};
+use sm_ruletext::is_word;
+use std::alloc::Global;
+
+// NAME: plain bytes, or `%` and two hexadecimal digits for each byte.
+#[tactic(auto, unfolding(crate::specs::Values::name_of))]
+pub fn name_field(alloc: Global, field: &[u8]) -> Result<Name, ReadError>
+    ensures { Reads result (name_of field.now) }
+{
+    match field {
+        [] => Err(ReadError::Malformed),
+        [b'%', digits @ ..] => hex_name(alloc, digits),
+        [_, ..] => plain_name(alloc, field),
+    }
+}
+
+fn hex_name(alloc: Global, digits: &[u8]) -> Result<Name, ReadError>
+    ensures { Reads result (result_ok (decode_of digits.now)) }
+{
+    let bytes = hex_bytes(alloc, digits)?;
+    Ok(Name::new(alloc, &bytes)?)
+}
+
+// Two hexadecimal digits for each byte.
+fn hex_bytes(alloc: Global, digits: &[u8]) -> Result<Vec<u8>, ReadError>
+    ensures { Reads (result_map_both (λ bytes. bytes.items) (λ e. e) result) (result_ok (decode_of digits.now)) }
+{
+    match hex::decode(alloc, digits) {
+        Ok(bytes) => Ok(bytes),
+        Err(FromHexError::OutOfMemory) => Err(ReadError::Memory),
+        Err(_) => Err(ReadError::Malformed),
+    }
+}
+
+#[tactic(auto, unfolding(crate::specs::Values::plain_name_of))]
+fn plain_name(alloc: Global, field: &[u8]) -> Result<Name, ReadError>
+    ensures { Reads result (plain_name_of field.now) }
+{
+    if !all_graphic(field) {
+        return Err(ReadError::Malformed);
+    }
+    Ok(Name::new(alloc, field)?)
+}
+
+// A word of a rule text.
+#[tactic(auto, unfolding(crate::specs::Values::word_of))]
+pub fn word_field(alloc: Global, field: &[u8]) -> Result<Name, ReadError>
+    ensures { Reads result (word_of field.now) }
+{
+    if !is_word(field) {
+        return Err(ReadError::Malformed);
+    }
+    Ok(Name::new(alloc, field)?)
+}
+
+pub fn class_field(field: &[u8]) -> Result<Class, ReadError>
+    ensures { Reads result (class_read field.now) }
+{
+    match Class::read(field) {
+        Some(class) => Ok(class),
+        None => Err(ReadError::Malformed),
+    }
+}
+
+// A permission of either class.
+#[tactic(auto, unfolding(crate::specs::Values::perm_of))]
+pub fn perm_field(field: &[u8]) -> Result<Perms, ReadError>
+    ensures { Reads result (perm_of field.now) }
+{
+    if let Some(perm) = Perms::read(Class::ServiceManager, field) {
+        return Ok(perm);
+    }
+    match Perms::read(Class::Binder, field) {
+        Some(perm) => Ok(perm),
+        None => Err(ReadError::Malformed),
+    }
+}
+
+// REF: `oN`, `hN` or `null`.
+#[tactic(auto, unfolding(crate::specs::Values::reference_of))]
+pub fn reference_field(field: &[u8]) -> Result<ObjRef, ReadError>
+    ensures { Reads result (reference_of field.now) }
+{
+    match field {
+        [b'o', digits @ ..] => Ok(ObjRef::Own(u32_field(digits)?)),
+        [b'h', digits @ ..] => Ok(ObjRef::Handle(u32_field(digits)?)),
+        b"null" => Ok(ObjRef::Null),
+        _ => Err(ReadError::Malformed),
+    }
+}
+
+// `oN`, the one form of REF that names an object of the client's own.
+#[tactic(auto, unfolding(crate::specs::Values::own_object_of))]
+pub fn own_object_field(field: &[u8]) -> Result<u32, ReadError>
+    ensures { Reads result (own_object_of field.now) }
+{
+    match reference_field(field)? {
+        ObjRef::Own(object) => Ok(object),
+        ObjRef::Handle(_) => Err(ReadError::Malformed),
+        ObjRef::Null => Err(ReadError::Malformed),
+    }
+}
+
+// REF, at most 16 times.
+#[tactic(auto, unfolding(crate::specs::Values::call_references_of))]
+pub fn reference_fields(alloc: Global, fields: &[&[u8]]) -> Result<Refs, ReadError>
+    ensures { Reads result (call_references_of (map (λ f. f.now) fields.now)) }
+{
+    let mut list = Vec::new(alloc);
+    for field in fields {
+        let reference = reference_field(field)?;
+        if list.push(reference).is_err() {
+            return Err(ReadError::Memory);
+        }
+    }
+    match Refs::new(alloc, &list) {
+        Ok(refs) => Ok(refs),
+        Err(RefsError::TooLong) => Err(ReadError::Malformed),
+        Err(RefsError::Memory) => Err(ReadError::Memory),
+    }
+}
+
+// PAYLOAD: `-` for no bytes, or two hexadecimal digits for each of at most 1,024 bytes.
+#[tactic(auto, unfolding(crate::specs::Values::payload_of))]
+pub fn payload_field(alloc: Global, field: &[u8]) -> Result<Payload, ReadError>
+    ensures { Reads result (payload_of field.now) }
+{
+    match field {
+        [] => Err(ReadError::Malformed),
+        b"-" => payload(alloc, b""),
+        _ => hex_payload(alloc, field),
+    }
+}
+
+#[tactic(auto, unfolding(crate::specs::Values::hex_payload_of))]
+fn hex_payload(alloc: Global, digits: &[u8]) -> Result<Payload, ReadError>
+    ensures { Reads result (hex_payload_of digits.now) }
+{
+    let bytes = hex_bytes(alloc, digits)?;
+    payload(alloc, &bytes)
+}
+
+fn payload(alloc: Global, bytes: &[u8]) -> Result<Payload, ReadError>
+    ensures { Reads result (fitting_payload bytes.now) }
+{
+    match Payload::new(alloc, bytes) {
+        Ok(payload) => Ok(payload),
+        Err(PayloadError::TooLong) => Err(ReadError::Malformed),
+        Err(PayloadError::Memory) => Err(ReadError::Memory),
+    }
+}
+
+// ALLOW: `0` or `1`.
+#[tactic(auto, unfolding(crate::specs::Values::flag_of))]
+pub fn flag_field(field: &[u8]) -> Result<bool, ReadError>
+    ensures { Reads result (flag_of field.now) }
+{
+    match field {
+        b"0" => Ok(false),
+        b"1" => Ok(true),
+        _ => Err(ReadError::Malformed),
+    }
+}
+
+#[tactic(auto, unfolding(crate::specs::Values::context_of))]
+pub fn context_field(alloc: Global, field: &[u8]) -> Result<Context, ReadError>
+    ensures { Reads result (context_of field.now) }
+{
+    match Context::read(alloc, field) {
+        Ok(context) => Ok(context),
+        Err(ContextError::Memory) => Err(ReadError::Memory),
+        Err(ContextError::BadContext) => Err(ReadError::Malformed),
+    }
+}
