@@ -8,19 +8,35 @@ pub use failing::{FailAt, OneByte};
 #[cfg(test)]
 mod checks;
 #[cfg(test)]
+mod crowds;
+#[cfg(test)]
 mod declarations;
+#[cfg(test)]
+mod exchanges;
 #[cfg(test)]
 mod faults;
 #[cfg(test)]
 mod fixture;
 #[cfg(test)]
+mod kinds;
+#[cfg(test)]
+mod labels;
+#[cfg(test)]
 mod limits;
+#[cfg(test)]
+mod lines;
+#[cfg(test)]
+mod policies;
 #[cfg(test)]
 mod reloads;
 #[cfg(test)]
 mod rule_texts;
 #[cfg(test)]
 mod scripts;
+#[cfg(test)]
+mod statements;
+#[cfg(test)]
+mod talk;
 #[cfg(test)]
 mod texts;
 #[cfg(test)]

@@ -110,33 +110,26 @@ fn one_client_too_many(rt: HostRuntime) -> Result<(), Fail> {
         script.extend_from_slice(b"hello 100 1000 u:r:system_server:s0\n")?;
         wanted.extend_from_slice(format!(in alloc; "client {n}\n")?.as_bytes())?;
     }
-    script.extend_from_slice(b"hello 100 1000 u:r:system_server:s0\n64 list 15\n65 list 15\n")?;
-    wanted.extend_from_slice(b"failed too-many-clients\nnames 1 65 0\nfailed not-connected\n")?;
+    script.extend_from_slice(
+        b"hello 100 1000 u:r:system_server:s0
+64 list 15
+65 list 15
+1 bye
+hello 100 1000 u:r:system_server:s0
+",
+    )?;
+    wanted.extend_from_slice(
+        b"failed too-many-clients
+names 1 65 0
+failed not-connected
+bye
+client 65
+",
+    )?;
     Fixture::device().replies(&rt, alloc, &script, &wanted);
     Ok(())
 }
 
-#[test]
-fn a_journal_of_four_places(rt: HostRuntime) -> Result<(), Fail> {
-    let script = b"hello 100 1000 u:r:system_server:s0
-1 add activity o1 0 8
-1 add activity o1 0 8
-1 list 15
-hello 200 10007 u:r:untrusted_app:s0
-";
-    let wanted = b"client 1
-ok
-failed journal-full
-names 1 3 1 activity
-failed journal-full
-";
-    Fixture::device()
-        .with_places(4)
-        .replies(&rt, rt.alloc(), script, wanted);
-    Ok(())
-}
-
-// A client takes a place for its entry, and one is kept for its death.
 #[test]
 fn journals_without_a_place_for_a_client(rt: HostRuntime) -> Result<(), Fail> {
     let script = b"hello 100 1000 u:r:system_server:s0

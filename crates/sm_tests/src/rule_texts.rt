@@ -1,7 +1,7 @@
 //! Rule texts: which are refused, what their sets denote, what they allow, and what breaks them.
 
 use sm_kinds::{Class, Perms};
-use sm_neverallow::{Violation, first_violation};
+use sm_neverallow::{Matrices, Violation, first_violation};
 use sm_rules::{Rules, RulesFault, written_plainly};
 use sm_ruletext::read;
 use sm_types::Types;
@@ -285,7 +285,12 @@ fn violation(alloc: Global, text: &[u8]) -> Result<Option<Violation>, &'static s
     let rules = Rules::build(alloc, &statements, &types)
         .ok()
         .ok_or("rules")?;
-    first_violation(alloc, &rules).ok().ok_or("memory")
+    let Ok(matrices) = Matrices::compile(alloc, &rules) else {
+        return Err("memory");
+    };
+    first_violation(alloc, &rules, &matrices)
+        .ok()
+        .ok_or("memory")
 }
 
 #[test]

@@ -1,27 +1,9 @@
 //! Scripts and what they are answered, line by line.
 
 use crate::fixture::Fixture;
+use crate::talk::{Talk, holds};
 use crate::texts::{DEVICE_LABELS, ONE_LABEL, PLAIN_RULES, RULE_FOR_DEFAULTS, device_rules_with};
-use std::alloc::Global;
-use std::process::Abort;
 use std::test::Fail;
-
-/// Request lines, each with the line that answers it.
-type Talk = &'static [(&'static str, &'static str)];
-
-// Runs the lines on the left, and wants those on the right.
-fn holds(rt: &impl Abort, alloc: Global, policy: Fixture, talk: Talk) -> Result<(), Fail> {
-    let mut script = Vec::new(alloc);
-    let mut wanted = Vec::new(alloc);
-    for (line, answer) in talk {
-        script.extend_from_slice(line.as_bytes())?;
-        script.push(b'\n')?;
-        wanted.extend_from_slice(answer.as_bytes())?;
-        wanted.push(b'\n')?;
-    }
-    policy.replies(rt, alloc, &script, &wanted);
-    Ok(())
-}
 
 const FIRST_PATH: Talk = &[
     ("hello 100 1000 u:r:system_server:s0", "client 1"),
@@ -172,9 +154,28 @@ const MALFORMED: Talk = &[
     ("1 get %6g", "malformed"),
     ("1 add activity o1 2 8", "malformed"),
     ("1 add activity p1 0 8", "malformed"),
-    ("1 take", "malformed"),
+    ("1 take 1", "malformed"),
     ("0 list 15", "failed not-connected"),
     ("1 list 4294967295", "names 1 2 0"),
+];
+
+// A handle is held until it was released as often as it was given; an owner's end takes its services along.
+const HANDLES_AND_ENDS: Talk = &[
+    ("hello 100 1000 u:r:system_server:s0", "client 1"),
+    ("1 add activity o1 0 8", "ok"),
+    ("hello 200 10007 u:r:untrusted_app:s0", "client 2"),
+    ("2 get activity", "handle 1"),
+    ("2 check activity", "handle 1"),
+    ("2 release 1", "ok"),
+    ("2 release 1", "ok"),
+    ("2 release 1", "failed bad-handle"),
+    ("2 take", "empty"),
+    ("2 get activity", "handle 1"),
+    ("1 bye", "bye"),
+    ("1 bye", "failed not-connected"),
+    ("2 get activity", "null"),
+    ("2 release 1", "ok"),
+    ("2 version", "version 1 11"),
 ];
 
 #[test]
@@ -189,6 +190,7 @@ fn with_device_rules(rt: HostRuntime) -> Result<(), Fail> {
         NAMES_WITHOUT_LABELS,
         GREATEST_NUMBERS,
         MALFORMED,
+        HANDLES_AND_ENDS,
     ] {
         holds(&rt, rt.alloc(), Fixture::device(), talk)?;
     }

@@ -54,6 +54,20 @@ pub fn device_rules_with(alloc: Global, rule: &[u8]) -> Result<Vec<u8>, AllocErr
     Ok(rules)
 }
 
+/// A device's rules, with another text in place of the first place where this one stands.
+pub fn device_rules_but(alloc: Global, old: &[u8], new: &[u8]) -> Result<Vec<u8>, AllocError> {
+    let mut rules = Vec::new(alloc);
+    for i in 0..DEVICE_RULES.len() {
+        if let Some(behind) = DEVICE_RULES[i..].strip_prefix(old) {
+            rules.extend_from_slice(&DEVICE_RULES[..i])?;
+            rules.extend_from_slice(new)?;
+            rules.extend_from_slice(behind)?;
+            return Ok(rules);
+        }
+    }
+    Ok(rules)
+}
+
 /// `activity` has a label of its own.
 pub const DEVICE_LABELS: &[u8] = b"# labels
 activity u:object_r:activity_service:s0

@@ -2,12 +2,13 @@
 
 use crate::texts::{DEVICE_LABELS, DEVICE_RULES};
 use sm_core::Manager;
-use sm_history::{By, Event, Failure, Outcome, Query, Refusal, Reply};
+use sm_history::{By, Entry, Event, Failure, Outcome, Query, Refusal, Reply};
 use sm_kinds::{
     AdminId, Class, ClientId, Context, Identity, Name, ObjRef, Payload, Perms, Places, Refs,
 };
 use sm_policy::Prepared;
 use std::alloc::Global;
+use std::mem::size_of;
 use std::process::Abort;
 use std::test::Fail;
 
@@ -37,22 +38,63 @@ fn opened(rt: &impl Abort, alloc: Global) -> Manager {
         .expect(rt, "a manager")
 }
 
-fn is_out_of_turn(reply: &Reply, have: u64) -> bool {
-    match reply {
-        Reply::Refused(Refusal::Failed(Failure::OutOfTurn(turn))) => *turn == have,
-        _ => false,
+/// What these tests ask of a reply. One small value in place of each reply keeps their proofs short.
+#[derive(Clone, Copy, Debug, PartialEq, Eq)]
+enum Seen {
+    Connected(u32),
+    Added,
+    Granted(u32),
+    Released,
+    Died,
+    Reloaded(u64),
+    Null,
+    NotYours,
+    NotConnected,
+    OutOfTurn(u64),
+    VersionMoved(u64),
+    BadHandle,
+    Empty,
+    Looked(u64, u64),
+    Another,
+}
+
+fn outcome_of(outcome: &Outcome) -> Seen {
+    match outcome {
+        Outcome::Connected(client) => Seen::Connected(client.0),
+        Outcome::Added(_) => Seen::Added,
+        Outcome::Granted(handle) => Seen::Granted(*handle),
+        Outcome::Released => Seen::Released,
+        Outcome::Died => Seen::Died,
+        Outcome::Reloaded(version) => Seen::Reloaded(*version),
+        _ => Seen::Another,
     }
 }
 
-fn is_not_yours(reply: &Reply) -> bool {
-    matches!(reply, Reply::Refused(Refusal::Failed(Failure::NotYours)))
+fn seen_of(reply: &Reply) -> Seen {
+    match reply {
+        Reply::Done(outcome) => outcome_of(outcome),
+        Reply::GotNull => Seen::Null,
+        Reply::Looked {
+            version,
+            length,
+            answer: _,
+        } => Seen::Looked(*version, *length),
+        Reply::Refused(Refusal::Failed(Failure::NotYours)) => Seen::NotYours,
+        Reply::Refused(Refusal::Failed(Failure::NotConnected)) => Seen::NotConnected,
+        Reply::Refused(Refusal::Failed(Failure::OutOfTurn(turn))) => Seen::OutOfTurn(*turn),
+        Reply::Refused(Refusal::Failed(Failure::BadHandle)) => Seen::BadHandle,
+        Reply::Refused(Refusal::Empty) => Seen::Empty,
+        Reply::Refused(Refusal::VersionMoved(version)) => Seen::VersionMoved(*version),
+        _ => Seen::Another,
+    }
 }
 
-fn is_not_connected(reply: &Reply) -> bool {
-    matches!(
-        reply,
-        Reply::Refused(Refusal::Failed(Failure::NotConnected))
-    )
+fn step(manager: &mut Manager, by: By, turn: u64, event: Event) -> Seen {
+    seen_of(&manager.step(by, turn, event))
+}
+
+fn look(manager: &Manager, by: By, query: Query) -> Seen {
+    seen_of(&manager.look(by, query))
 }
 
 fn activity(alloc: Global) -> Result<Name, Fail> {
@@ -70,37 +112,51 @@ fn add(alloc: Global) -> Result<Event, Fail> {
 
 fn connected(rt: &impl Abort, alloc: Global) -> Manager {
     let mut manager = opened(rt, alloc);
-    let reply = manager.step(By::Manager, 1, Event::Connect(server(rt, alloc)));
-    assert!(rt; matches!(&reply, Reply::Done(Outcome::Connected(ClientId(1)))));
+    let connect = Event::Connect(server(rt, alloc));
+    assert_eq!(rt;
+        step(&mut manager, By::Manager, 1, connect),
+        Seen::Connected(1)
+    );
     manager
+}
+
+#[test]
+fn connects_out_of_turn(rt: HostRuntime) {
+    let alloc = rt.alloc();
+    let mut manager = opened(&rt, alloc);
+    assert_eq!(rt; manager.turn(By::Manager), 1);
+    let connect = Event::Connect(server(&rt, alloc));
+    assert_eq!(rt;
+        step(&mut manager, By::Manager, 0, connect),
+        Seen::OutOfTurn(1)
+    );
+    let connect = Event::Connect(server(&rt, alloc));
+    assert_eq!(rt;
+        step(&mut manager, By::Manager, 1, connect),
+        Seen::Connected(1)
+    );
+    assert_eq!(rt; manager.turn(By::Manager), 2);
 }
 
 #[test]
 fn changes_out_of_turn(rt: HostRuntime) -> Result<(), Fail> {
     let alloc = rt.alloc();
-    let mut manager = opened(&rt, alloc);
-    assert_eq!(rt; manager.turn(By::Manager), 1);
-    let reply = manager.step(By::Manager, 0, Event::Connect(server(&rt, alloc)));
-    assert!(rt; is_out_of_turn(&reply, 1));
-    let reply = manager.step(By::Manager, 1, Event::Connect(server(&rt, alloc)));
-    assert!(rt; matches!(&reply, Reply::Done(Outcome::Connected(ClientId(1)))));
-    assert_eq!(rt; manager.turn(By::Manager), 2);
+    let mut manager = connected(&rt, alloc);
     let by = By::Client(ClientId(1));
-    assert!(rt; is_out_of_turn(&manager.step(by, 5, Event::Take), 0));
+    assert_eq!(rt; step(&mut manager, by, 5, Event::Take), Seen::OutOfTurn(0));
     let get = Event::Get {
         name: activity(alloc)?,
     };
-    assert!(rt; is_out_of_turn(&manager.step(by, 5, get), 0));
-    assert!(rt; is_out_of_turn(&manager.step(by, 1, add(alloc)?), 0));
-    let reply = manager.step(by, 0, add(alloc)?);
-    assert!(rt; matches!(&reply, Reply::Done(Outcome::Added(_))));
+    assert_eq!(rt; step(&mut manager, by, 5, get), Seen::OutOfTurn(0));
+    assert_eq!(rt; step(&mut manager, by, 1, add(alloc)?), Seen::OutOfTurn(0));
+    assert_eq!(rt; step(&mut manager, by, 0, add(alloc)?), Seen::Added);
     assert_eq!(rt; manager.turn(by), 1);
     assert_eq!(rt; manager.turn(By::Client(ClientId(2))), 0);
     Ok(())
 }
 
 fn is_refused_as_another(manager: &mut Manager, by: By, event: Event) -> bool {
-    is_not_yours(&manager.step(by, 0, event))
+    step(manager, by, 0, event) == Seen::NotYours
 }
 
 #[test]
@@ -177,17 +233,65 @@ fn a_client_that_has_died(rt: HostRuntime) -> Result<(), Fail> {
     let alloc = rt.alloc();
     let mut manager = connected(&rt, alloc);
     let client = By::Client(ClientId(1));
-    let reply = manager.step(client, 0, add(alloc)?);
-    assert!(rt; matches!(&reply, Reply::Done(Outcome::Added(_))));
-    let reply = manager.step(client, 1, Event::Die);
-    assert!(rt; matches!(&reply, Reply::Done(Outcome::Died)));
-    assert!(rt; is_not_connected(&manager.step(client, 2, add(alloc)?)));
+    assert_eq!(rt; step(&mut manager, client, 0, add(alloc)?), Seen::Added);
+    assert_eq!(rt; step(&mut manager, client, 1, Event::Die), Seen::Died);
+    assert_eq!(rt;
+        step(&mut manager, client, 2, add(alloc)?),
+        Seen::NotConnected
+    );
     assert_eq!(rt; manager.turn(client), 2);
-    let reply = manager.step(By::Manager, 2, Event::Connect(server(&rt, alloc)));
-    assert!(rt; matches!(&reply, Reply::Done(Outcome::Connected(ClientId(2)))));
+    Ok(())
+}
+
+#[test]
+fn the_service_of_a_client_that_has_died(rt: HostRuntime) -> Result<(), Fail> {
+    let alloc = rt.alloc();
+    let mut manager = connected(&rt, alloc);
+    let client = By::Client(ClientId(1));
+    assert_eq!(rt; step(&mut manager, client, 0, add(alloc)?), Seen::Added);
+    assert_eq!(rt; step(&mut manager, client, 1, Event::Die), Seen::Died);
+    let connect = Event::Connect(server(&rt, alloc));
+    assert_eq!(rt;
+        step(&mut manager, By::Manager, 2, connect),
+        Seen::Connected(2)
+    );
     let name = activity(alloc)?;
-    let reply = manager.step(By::Client(ClientId(2)), 0, Event::Get { name });
-    assert!(rt; matches!(&reply, Reply::GotNull));
+    let get = Event::Get { name };
+    assert_eq!(rt;
+        step(&mut manager, By::Client(ClientId(2)), 0, get),
+        Seen::Null
+    );
+    Ok(())
+}
+
+#[test]
+fn a_handle_is_released_as_often_as_it_was_granted(rt: HostRuntime) -> Result<(), Fail> {
+    let alloc = rt.alloc();
+    let mut manager = connected(&rt, alloc);
+    assert_eq!(rt;
+        step(&mut manager, By::Client(ClientId(1)), 0, add(alloc)?),
+        Seen::Added
+    );
+    let connect = Event::Connect(process(&rt, alloc, b"u:r:untrusted_app:s0"));
+    assert_eq!(rt;
+        step(&mut manager, By::Manager, 2, connect),
+        Seen::Connected(2)
+    );
+    let app = By::Client(ClientId(2));
+    for turn in 0..2 {
+        let name = activity(alloc)?;
+        assert_eq!(rt;
+            step(&mut manager, app, turn, Event::Get { name }),
+            Seen::Granted(1)
+        );
+    }
+    for turn in 2..4 {
+        let release = Event::Release { handle: 1 };
+        assert_eq!(rt; step(&mut manager, app, turn, release), Seen::Released);
+    }
+    let release = Event::Release { handle: 1 };
+    assert_eq!(rt; step(&mut manager, app, 4, release), Seen::BadHandle);
+    assert_eq!(rt; step(&mut manager, app, 4, Event::Take), Seen::Empty);
     Ok(())
 }
 
@@ -198,40 +302,46 @@ fn a_journal_of_a_hundred_thousand(rt: HostRuntime) -> Result<(), Fail> {
     let who = process(&rt, alloc, b"u:r:servicemanager:s0");
     let opened = Manager::open(alloc, who, policy(&rt, alloc), places);
     let mut manager = opened.ok().expect(&rt, "a manager");
-    let reply = manager.step(By::Manager, 1, Event::Connect(server(&rt, alloc)));
-    assert!(rt; matches!(&reply, Reply::Done(Outcome::Connected(ClientId(1)))));
+    let connect = Event::Connect(server(&rt, alloc));
+    assert_eq!(rt;
+        step(&mut manager, By::Manager, 1, connect),
+        Seen::Connected(1)
+    );
     let client = By::Client(ClientId(1));
     for turn in 0..100_000 {
-        let reply = manager.step(client, turn, add(alloc)?);
-        assert!(rt; matches!(&reply, Reply::Done(Outcome::Added(_))));
+        assert_eq!(rt; step(&mut manager, client, turn, add(alloc)?), Seen::Added);
     }
-    let looked = manager.look(client, Query::Version);
-    assert!(rt;
-        matches!(
-            &looked,
-            Reply::Looked {
-                version: 1,
-                length: 100_002,
-                answer: _
-            }
-        )
+    assert_eq!(rt;
+        look(&manager, client, Query::Version),
+        Seen::Looked(1, 100_002)
     );
     Ok(())
+}
+
+#[test]
+fn an_entry_is_small(rt: HostRuntime) {
+    assert!(rt; size_of::<Entry>() <= 160);
 }
 
 #[test]
 fn queries_of_others(rt: HostRuntime) -> Result<(), Fail> {
     let alloc = rt.alloc();
     let manager = connected(&rt, alloc);
-    assert!(rt; is_not_yours(&manager.look(By::Manager, Query::Version)));
-    assert!(rt; is_not_yours(&manager.look(By::Admin(AdminId(1)), Query::List(15))));
+    assert_eq!(rt; look(&manager, By::Manager, Query::Version), Seen::NotYours);
+    assert_eq!(rt;
+        look(&manager, By::Admin(AdminId(1)), Query::List(15)),
+        Seen::NotYours
+    );
     let explain = Query::Explain {
         source: Name::new(alloc, b"system_server")?,
         target: Name::new(alloc, b"servicemanager")?,
         class: Class::Binder,
         perm: Perms::CALL,
     };
-    assert!(rt; is_not_yours(&manager.look(By::Client(ClientId(1)), explain)));
+    assert_eq!(rt;
+        look(&manager, By::Client(ClientId(1)), explain),
+        Seen::NotYours
+    );
     Ok(())
 }
 
@@ -243,18 +353,17 @@ fn reload(rt: &impl Abort, alloc: Global, expected: u64) -> Event {
 }
 
 #[test]
-fn two_administrators(rt: HostRuntime) -> Result<(), Fail> {
+fn two_administrators(rt: HostRuntime) {
     let alloc = rt.alloc();
     let mut manager = opened(&rt, alloc);
     let (first, second) = (By::Admin(AdminId(1)), By::Admin(AdminId(2)));
-    let reply = manager.step(first, 0, reload(&rt, alloc, 1));
-    assert!(rt; matches!(&reply, Reply::Done(Outcome::Reloaded(2))));
-    let reply = manager.step(second, 0, reload(&rt, alloc, 1));
-    assert!(rt; matches!(&reply, Reply::Refused(Refusal::VersionMoved(2))));
-    let reply = manager.step(first, 0, reload(&rt, alloc, 2));
-    assert!(rt; is_out_of_turn(&reply, 1));
-    let reply = manager.step(second, 0, reload(&rt, alloc, 2));
-    assert!(rt; matches!(&reply, Reply::Done(Outcome::Reloaded(3))));
+    let event = reload(&rt, alloc, 1);
+    assert_eq!(rt; step(&mut manager, first, 0, event), Seen::Reloaded(2));
+    let event = reload(&rt, alloc, 1);
+    assert_eq!(rt; step(&mut manager, second, 0, event), Seen::VersionMoved(2));
+    let event = reload(&rt, alloc, 2);
+    assert_eq!(rt; step(&mut manager, first, 0, event), Seen::OutOfTurn(1));
+    let event = reload(&rt, alloc, 2);
+    assert_eq!(rt; step(&mut manager, second, 0, event), Seen::Reloaded(3));
     assert_eq!(rt; manager.turn(second), 1);
-    Ok(())
 }
