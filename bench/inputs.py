@@ -115,6 +115,7 @@ def manager_policy() -> Lines:
     yield "allow servicemanager client:binder { call transfer };"
     yield "allow client some_service:service_manager { add find };"
     yield "allow client servicemanager:service_manager list;"
+    yield "allow client client:binder { call transfer };"
 
 
 def manager_contexts() -> Lines:
@@ -193,6 +194,39 @@ def many_objects(objects: int) -> Lines:
         yield "2 get service"
 
 
+def calls(rounds: int) -> Lines:
+    """A call with three references, what it delivers taken, and its new handle released."""
+    yield from clients(2)
+    yield "1 add service o1 0 8"
+    yield "2 get service"
+    for n in range(rounds):
+        yield f"2 call 1 c0ffee o{n % 1000 + 5} h1 null"
+        yield "1 take"
+        yield "1 release 1"
+
+
+def many_watches(watches: int, adds: int) -> Lines:
+    """Adds of a name that so many objects watch, each with a notice for each; all inboxes are emptied by their own."""
+    yield from clients(64)
+    for n in range(watches):
+        yield f"{n % 63 + 2} watch service o{n + 1}"
+    for n in range(adds):
+        yield f"1 add service o{n % 100 + 1} 0 8"
+        for k in range(watches):
+            yield f"{k % 63 + 2} take"
+
+
+def many_deaths(count: int) -> Lines:
+    """A client that connects, adds a name, watches it, takes, and ends."""
+    for n in range(count):
+        client = n + 1
+        yield f"hello {100 + n % 1000} 1000 {SERVER}"
+        yield f"{client} watch service.n{n % 100} o2"
+        yield f"{client} add service.n{n % 100} o1 0 8"
+        yield f"{client} take"
+        yield f"{client} bye"
+
+
 def lists(requests: int) -> Lines:
     """Two decisions each."""
     yield f"hello 100 1000 {SERVER}"
@@ -234,6 +268,13 @@ def all_inputs(seed: int) -> Iterator[Input]:
         yield run_input("run: clients", n, 50_000, lambda n=n: many_clients(n, 50_000, seed))
     for n in (5000, 10_000, 20_000):
         yield run_input("run: objects", n, 2 * n, lambda n=n: many_objects(n))
+    for n in (50_000, 100_000, 200_000):
+        yield run_input("run: calls", n, 3 * n, lambda n=n: calls(n))
+    for n in (63, 630, 4095):
+        adds = 100_000 // n
+        yield run_input("run: watches", n, n + adds * (n + 1), lambda n=n, adds=adds: many_watches(n, adds))
+    for n in (20_000, 40_000, 80_000):
+        yield run_input("run: deaths", n, 5 * n, lambda n=n: many_deaths(n))
     for n in (10, 20, 40):
         yield run_input("run: reloads", n, n, lambda n=n: reloads(n, 1000, seed))
     for n in (7500, 15_000, 30_000):
