@@ -2,20 +2,21 @@
 use Rattle.std.proofs.Common.{◌≡◌, ℕ, zero, suc, ◌<◌, Bool, true, false, ◌||◌, List, [], ◌∷◌, length, Some, None, refl, sym, ◌∙◌, slice_get, cond}
 use Rattle.std.specs.List.{list_any, cons_option}
 use Rattle.std.proofs.lemmas.Bool.{and_right}
+use Rattle.sm_kinds.specs.Permissions.{perm_of}
 use Rattle.sm_kinds.specs.declared.class.Class.{Class}
 use Rattle.sm_kinds.specs.declared.perms.Perms.{Perms}
 use Rattle.sm_ruletext.specs.Sets.{is_kept}
 use Rattle.sm_ruletext.specs.declared.rule.Rule.{Rule}
 use Rattle.sm_ruletext.specs.declared.statement.What.{What}
-use Rattle.sm_ruletext.specs.declared.statement.What.TheVariants.{Attribute, Declared, Member, Allow, Neverallow}
+use Rattle.sm_ruletext.specs.declared.statement.What.TheVariants.{Attribute, Declared, Member, Allow, Neverallow, Dontaudit, Permissive}
 use Rattle.sm_ruletext.specs.declared.statement.Statement.{Statement}
 use Rattle.sm_types.specs.Names.{Name, at, Distinct}
 use Rattle.sm_types.specs.Denoting.{Policy}
 use Rattle.sm_rules.specs.Access as access
-use Rattle.sm_rules.specs.Access.{gives, written, forbidden}
-use Rattle.sm_rules.specs.Keeping.{class_at, perm_at, covered, StandsFor, AllStandFor, Says, AllSay, KeptRules, RulesOf, allow_in, neverallow_in, allow_rules, neverallow_rules, kept_only}
+use Rattle.sm_rules.specs.Access.{gives, written, forbidden, silenced}
+use Rattle.sm_rules.specs.Keeping.{class_at, perm_at, covered, StandsFor, AllStandFor, Says, AllSay, KeptRules, RulesOf, allow_in, neverallow_in, dontaudit_in, allow_rules, neverallow_rules, dontaudit_rules, kept_only}
 use Rattle.sm_rules.specs.declared.kept.Kept.{Kept}
-use Rattle.sm_rules.proofs.Lines.{unkept, stands_covers}
+use Rattle.sm_rules.proofs.Lines.{unkept, unnamed, stands_covers}
 
 -- ---- rules of the text as statements and as lists
 
@@ -32,7 +33,8 @@ one_rule policy s t class perm line r rs = by (is_kept r) refl where
   by true e = refl
   by false e = rw (and_right (access.joins policy s t r) (gives class perm r) (unkept r class perm e)) refl
 
--- a tuple is written where some allow rule of the list covers it, and forbidden where some neverallow rule does
+-- a tuple is written where some allow rule of the list covers it, forbidden where some neverallow rule does, and
+-- silenced where some dontaudit rule does
 pub written_any : (policy : Policy) (s t : Name) (class : Class) (perm : Perms)
     → written policy s t class perm ≡ list_any (λ (r : ℕ × Rule). access.covers policy s t class perm r.1)
     (allow_rules policy)
@@ -48,6 +50,8 @@ written_any policy s t class perm = among policy where
         (cons_option (allow_in st.line what) (allow_rules sts))
     by (Allow r) e = rw e (one_rule policy s t class perm st.line r (allow_rules sts))
     by (Neverallow r) e = e
+    by (Dontaudit r) e = e
+    by (Permissive n) e = e
     by (Attribute n) e = e
     by (Declared n names) e = e
     by (Member n names) e = e
@@ -67,6 +71,29 @@ forbidden_any policy s t class perm = among policy where
         (cons_option (neverallow_in st.line what) (neverallow_rules sts))
     by (Neverallow r) e = rw e (one_rule policy s t class perm st.line r (neverallow_rules sts))
     by (Allow r) e = e
+    by (Dontaudit r) e = e
+    by (Permissive n) e = e
+    by (Attribute n) e = e
+    by (Declared n names) e = e
+    by (Member n names) e = e
+
+pub silenced_any : (policy : Policy) (s t : Name) (class : Class) (perm : Perms)
+    → silenced policy s t class perm ≡ list_any (λ (r : ℕ × Rule). access.covers policy s t class perm r.1)
+    (dontaudit_rules policy)
+silenced_any policy s t class perm = among policy where
+  among : (sts : List Statement) → list_any (access.silences policy s t class perm) sts
+      ≡ list_any (λ (r : ℕ × Rule). access.covers policy s t class perm r.1) (dontaudit_rules sts)
+  among [] = refl
+  among (st ∷ sts) = by st.what (among sts) where
+    by : (what : What) → list_any (access.silences policy s t class perm) sts
+        ≡ list_any (λ (r : ℕ × Rule). access.covers policy s t class perm r.1) (dontaudit_rules sts)
+        → (access.silenced_by policy s t class perm what || list_any (access.silences policy s t class perm) sts)
+        ≡ list_any (λ (r : ℕ × Rule). access.covers policy s t class perm r.1)
+        (cons_option (dontaudit_in st.line what) (dontaudit_rules sts))
+    by (Dontaudit r) e = rw e (one_rule policy s t class perm st.line r (dontaudit_rules sts))
+    by (Allow r) e = e
+    by (Neverallow r) e = e
+    by (Permissive n) e = e
     by (Attribute n) e = e
     by (Declared n names) e = e
     by (Member n names) e = e
@@ -138,3 +165,31 @@ pub covered_is_forbidden : (policy : Policy) (names : List Name) (rules : KeptRu
 covered_is_forbidden policy names rules b s t is low hs ht =
     covered_any policy names (neverallow_rules policy) rules.neverallows b s t is.distinct hs ht low is.neverallows
     ∙ sym (forbidden_any policy (at names s) (at names t) (class_at b) (perm_at b))
+
+pub covered_is_silenced : (policy : Policy) (names : List Name) (rules : KeptRules) (b s t : ℕ)
+    → RulesOf policy names rules
+    → b < 7 → s < length names → t < length names
+    → covered rules.silences b s t ≡ silenced policy (at names s) (at names t) (class_at b) (perm_at b)
+covered_is_silenced policy names rules b s t is low hs ht =
+    covered_any policy names (dontaudit_rules policy) rules.silences b s t is.distinct hs ht low is.silences
+    ∙ sym (silenced_any policy (at names s) (at names t) (class_at b) (perm_at b))
+
+none_any : {X : Type 0} (p : X → Bool) (xs : List X) → ((x : X) → p x ≡ false) → list_any p xs ≡ false
+none_any p [] fails = refl
+none_any p (x ∷ xs) fails = rw (fails x) (none_any p xs fails)
+
+-- what the kept dontaudit rules say by number is what the text says by name
+pub silenced_is : (policy : Policy) (names : List Name) (rules : KeptRules) (b s t : ℕ) (class : Class) (perm : Perms)
+    → RulesOf policy names rules
+    → s < length names → t < length names → (b < 7) × (class_at b ≡ class) × (perm_at b ≡ perm)
+    → covered rules.silences b s t ≡ silenced policy (at names s) (at names t) class perm
+silenced_is policy names rules b s t class perm is hs ht hb =
+    rw (← hb.1, ← hb.2) (covered_is_silenced policy names rules b s t is hb.0 hs ht)
+
+-- nothing is silenced of what is no single permission of the class
+pub unsilenced : (policy : Policy) (s t : Name) (class : Class) (perm : Perms) → perm_of class perm ≡ None
+    → silenced policy s t class perm ≡ false
+unsilenced policy s t class perm h =
+    silenced_any policy s t class perm
+    ∙ none_any (λ (r : ℕ × Rule). access.covers policy s t class perm r.1) (dontaudit_rules policy)
+    (λ r. and_right (access.joins policy s t r.1) (gives class perm r.1) (unnamed r.1 class perm h))

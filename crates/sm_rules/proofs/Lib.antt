@@ -3,3 +3,4 @@ pub mod Walks
 pub mod Lines
 pub mod Consistent
 pub mod Undeclared
+pub mod Permitting

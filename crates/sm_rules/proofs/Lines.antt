@@ -11,7 +11,7 @@ use Rattle.sm_kinds.specs.declared.perms.Perms.{Perms}
 use Rattle.sm_ruletext.specs.Sets.{selects, is_kept}
 use Rattle.sm_ruletext.specs.declared.rule.Rule.{Rule}
 use Rattle.sm_ruletext.specs.declared.statement.What.{What}
-use Rattle.sm_ruletext.specs.declared.statement.What.TheVariants.{Attribute, Declared, Member, Allow, Neverallow}
+use Rattle.sm_ruletext.specs.declared.statement.What.TheVariants.{Attribute, Declared, Member, Allow, Neverallow, Dontaudit, Permissive}
 use Rattle.sm_ruletext.specs.declared.statement.Statement.{Statement}
 use Rattle.sm_types.specs.Names.{Name, at, Distinct}
 use Rattle.sm_types.specs.Denoting.{Policy}
@@ -29,11 +29,11 @@ unkept rule Binder perm h = rw (or_parts (selects rule.class (class_word Service
     (selects rule.class (class_word Binder)) h).1 refl
 
 -- nor does a rule give what is no single permission of the class
-unnamed : (rule : Rule) (class : Class) (perm : Perms) → perm_of class perm ≡ None → gives class perm rule ≡ false
+pub unnamed : (rule : Rule) (class : Class) (perm : Perms) → perm_of class perm ≡ None → gives class perm rule ≡ false
 unfolding gives
 unnamed rule class perm h = rw h (and_right (selects rule.class (class_word class)) false refl)
 
-same_place : (names : List Name) (s t : ℕ) → Distinct names → s < length names → t < length names
+pub same_place : (names : List Name) (s t : ℕ) → Distinct names → s < length names → t < length names
     → eqb s t ≡ bytes_eq (at names s) (at names t)
 same_place names s t distinct hs ht = elim (cases_eq s t) [
   | inl same ↦ eq-eqb s t same ∙ sym ((bytes_eq-Decides (at names s) (at names t)).1 (ap (at names) same))
@@ -109,6 +109,8 @@ lines_of policy s t class perm (st ∷ sts) = by st.what refl (lines_of policy s
   by (Declared n names) e rest = rest
   by (Member n names) e rest = rest
   by (Neverallow r) e rest = rest
+  by (Dontaudit r) e rest = rest
+  by (Permissive n) e rest = rest
   by (Allow r) e rest =
       allow_step (access.covers policy s t class perm r) (is_kept r) st r (λ q. access.covers policy s t class perm q.1)
       (allow_rules sts)

@@ -1,5 +1,5 @@
--- What the rules of a rule text allow and forbid, by names.
-use Rattle.std.specs.Prelude.{◌≡◌, ℕ, Bool, false, ◌&&◌, ◌||◌, find, Option, Some, None, option_map}
+-- What the rules of a rule text allow, forbid and silence, by names.
+use Rattle.std.specs.Prelude.{◌≡◌, ℕ, Bool, false, not, ◌&&◌, ◌||◌, find, Option, Some, None, is_some, option_map}
 use Rattle.std.specs.List.{list_any}
 use Rattle.std.specs.Str.{bytes_eq}
 use Rattle.sm_kinds.specs.Permissions.{class_word, perm_of}
@@ -9,10 +9,10 @@ use Rattle.sm_ruletext.specs.Sets.{selects}
 use Rattle.sm_ruletext.specs.declared.set.Set.{Set}
 use Rattle.sm_ruletext.specs.declared.rule.Rule.{Rule}
 use Rattle.sm_ruletext.specs.declared.statement.What.{What}
-use Rattle.sm_ruletext.specs.declared.statement.What.TheVariants.{Attribute, Declared, Member, Allow, Neverallow}
+use Rattle.sm_ruletext.specs.declared.statement.What.TheVariants.{Attribute, Declared, Member, Allow, Neverallow, Dontaudit, Permissive}
 use Rattle.sm_ruletext.specs.declared.statement.Statement.{Statement}
 use Rattle.sm_types.specs.Names.{Name}
-use Rattle.sm_types.specs.Denoting.{Policy, in_set}
+use Rattle.sm_types.specs.Denoting.{Policy, declares, in_set}
 
 -- ---- what a rule covers
 
@@ -37,6 +37,8 @@ covers policy s t class perm rule = joins policy s t rule && gives class perm ru
 abbrev pub allowed_by : Policy → Name → Name → Class → Perms → What → Bool
 allowed_by policy s t class perm (Allow r) = covers policy s t class perm r
 allowed_by policy s t class perm (Neverallow r) = false
+allowed_by policy s t class perm (Dontaudit r) = false
+allowed_by policy s t class perm (Permissive n) = false
 allowed_by policy s t class perm (Attribute n) = false
 allowed_by policy s t class perm (Declared n names) = false
 allowed_by policy s t class perm (Member n names) = false
@@ -55,6 +57,8 @@ written_line policy s t class perm = option_map (λ st. st.line) (find (allows p
 abbrev pub forbidden_by : Policy → Name → Name → Class → Perms → What → Bool
 forbidden_by policy s t class perm (Neverallow r) = covers policy s t class perm r
 forbidden_by policy s t class perm (Allow r) = false
+forbidden_by policy s t class perm (Dontaudit r) = false
+forbidden_by policy s t class perm (Permissive n) = false
 forbidden_by policy s t class perm (Attribute n) = false
 forbidden_by policy s t class perm (Declared n names) = false
 forbidden_by policy s t class perm (Member n names) = false
@@ -66,7 +70,47 @@ forbids policy s t class perm statement = forbidden_by policy s t class perm sta
 abbrev pub forbidden : Policy → Name → Name → Class → Perms → Bool
 forbidden policy s t class perm = list_any (forbids policy s t class perm) policy
 
--- Nothing is both allowed and forbidden.
+abbrev pub silenced_by : Policy → Name → Name → Class → Perms → What → Bool
+silenced_by policy s t class perm (Dontaudit r) = covers policy s t class perm r
+silenced_by policy s t class perm (Allow r) = false
+silenced_by policy s t class perm (Neverallow r) = false
+silenced_by policy s t class perm (Permissive n) = false
+silenced_by policy s t class perm (Attribute n) = false
+silenced_by policy s t class perm (Declared n names) = false
+silenced_by policy s t class perm (Member n names) = false
+
+abbrev pub silences : Policy → Name → Name → Class → Perms → Statement → Bool
+silences policy s t class perm statement = silenced_by policy s t class perm statement.what
+
+-- Some dontaudit rule covers it.
+abbrev pub silenced : Policy → Name → Name → Class → Perms → Bool
+silenced policy s t class perm = list_any (silences policy s t class perm) policy
+
+abbrev pub names_permissive : Name → What → Bool
+names_permissive s (Permissive n) = bytes_eq s n
+names_permissive s (Allow r) = false
+names_permissive s (Neverallow r) = false
+names_permissive s (Dontaudit r) = false
+names_permissive s (Attribute n) = false
+names_permissive s (Declared n names) = false
+names_permissive s (Member n names) = false
+
+-- Some statement makes the type permissive.
+abbrev pub is_permissive : Policy → Name → Bool
+is_permissive policy s = list_any (λ st. names_permissive s st.what) policy
+
+-- ---- what is decided
+
+-- It is written, or the source is permissive, the target is declared, and the permission is one of the class.
+abbrev pub allowed : Policy → Name → Name → Class → Perms → Bool
+allowed policy s t class perm =
+    written policy s t class perm || (is_permissive policy s && (declares policy t && is_some (perm_of class perm)))
+
+-- It is not written, and no dontaudit rule covers it: a check of it leaves a record, whether it passes or not.
+abbrev pub audits : Policy → Name → Name → Class → Perms → Bool
+audits policy s t class perm = not (written policy s t class perm) && not (silenced policy s t class perm)
+
+-- Nothing is both allowed by a rule and forbidden. What a permissive source may do besides doesn't count.
 abbrev pub IsConsistent : Policy → Type 0
 IsConsistent policy = (s t : Name) (class : Class) (perm : Perms)
     → (written policy s t class perm && forbidden policy s t class perm) ≡ false

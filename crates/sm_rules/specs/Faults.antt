@@ -1,4 +1,4 @@
--- What makes a rule be refused.
+-- What makes a rule, or a permissive statement, be refused.
 use Rattle.std.specs.Prelude.{ℕ, Bool, not, ◌&&◌, ◌||◌, if◌then◌else◌, List, [], ◌∷◌, Option, Some, None, is_some}
 use Rattle.std.specs.List.{list_all}
 use Rattle.std.specs.Option.{option_or}
@@ -8,10 +8,10 @@ use Rattle.sm_ruletext.specs.Sets.{selects, is_kept}
 use Rattle.sm_ruletext.specs.declared.set.Set.{Set}
 use Rattle.sm_ruletext.specs.declared.rule.Rule.{Rule}
 use Rattle.sm_ruletext.specs.declared.statement.What.{What}
-use Rattle.sm_ruletext.specs.declared.statement.What.TheVariants.{Attribute, Declared, Member, Allow, Neverallow}
+use Rattle.sm_ruletext.specs.declared.statement.What.TheVariants.{Attribute, Declared, Member, Allow, Neverallow, Dontaudit, Permissive}
 use Rattle.sm_ruletext.specs.declared.statement.Statement.{Statement}
 use Rattle.sm_types.specs.Names.{Name}
-use Rattle.sm_types.specs.Denoting.{Policy, all_known}
+use Rattle.sm_types.specs.Denoting.{Policy, declares, all_known}
 use Rattle.sm_rules.specs.declared.fault.RulesFault.{RulesFault}
 use Rattle.sm_rules.specs.declared.fault.RulesFault.TheVariants.{Unknown, UnknownPermission, Memory}
 
@@ -45,9 +45,15 @@ rule_fault policy line rule =
 abbrev pub fault_if_kept : Policy → ℕ → Rule → Option RulesFault
 fault_if_kept policy line rule = if is_kept rule then rule_fault policy line rule else None
 
+-- What is made permissive must be a declared type.
+abbrev pub permissive_fault : Policy → ℕ → Name → Option RulesFault
+permissive_fault policy line name = if declares policy name then None else Some (Unknown line)
+
 abbrev pub fault_of : Policy → ℕ → What → Option RulesFault
 fault_of policy line (Allow r) = fault_if_kept policy line r
 fault_of policy line (Neverallow r) = fault_if_kept policy line r
+fault_of policy line (Dontaudit r) = fault_if_kept policy line r
+fault_of policy line (Permissive n) = permissive_fault policy line n
 fault_of policy line (Attribute n) = None
 fault_of policy line (Declared n names) = None
 fault_of policy line (Member n names) = None

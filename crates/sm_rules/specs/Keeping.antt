@@ -1,5 +1,5 @@
 -- Rules as they are kept: types by their numbers, permissions by their bits.
-use Rattle.std.specs.Prelude.{◌≡◌, ℕ, Bool, ◌&&◌, ◌||◌, ◌==◌, ◌<◌, ◌≤◌, ◌+◌, ◌/◌, ◌^◌, nat_eq, nat_lt, false, if◌then◌else◌, List, [], ◌∷◌, ◌++◌, length, find, option_map, slice_get, Option, Some, None, All}
+use Rattle.std.specs.Prelude.{◌≡◌, ℕ, Bool, true, ◌&&◌, ◌||◌, ◌==◌, ◌<◌, ◌≤◌, ◌+◌, ◌/◌, ◌^◌, nat_eq, nat_lt, false, if◌then◌else◌, List, [], ◌∷◌, ◌++◌, length, find, option_map, slice_get, Option, Some, None, All}
 use Rattle.std.specs.List.{list_any, filter_map}
 use Rattle.sm_bits.specs.Bits.{has, has_bit}
 use Rattle.sm_kinds.specs.Permissions.{bit}
@@ -9,11 +9,11 @@ use Rattle.sm_kinds.specs.declared.perms.Perms.{Perms}
 use Rattle.sm_ruletext.specs.Sets.{is_kept}
 use Rattle.sm_ruletext.specs.declared.rule.Rule.{Rule}
 use Rattle.sm_ruletext.specs.declared.statement.What.{What}
-use Rattle.sm_ruletext.specs.declared.statement.What.TheVariants.{Attribute, Declared, Member, Allow, Neverallow}
+use Rattle.sm_ruletext.specs.declared.statement.What.TheVariants.{Attribute, Declared, Member, Allow, Neverallow, Dontaudit, Permissive}
 use Rattle.sm_types.specs.Names.{Name, at, Distinct}
-use Rattle.sm_types.specs.Denoting.{Policy, in_set, types}
+use Rattle.sm_types.specs.Denoting.{Policy, in_set, declares, types}
 use Rattle.sm_rules.specs.Access as access
-use Rattle.sm_rules.specs.Access.{gives}
+use Rattle.sm_rules.specs.Access.{gives, is_permissive, names_permissive}
 use Rattle.sm_rules.specs.declared.kept.Kept.{Kept}
 
 -- ---- permissions by number, from 0 to 6, in the order of their bits
@@ -54,14 +54,16 @@ pub record FitsRule (count : ℕ) (rule : Kept) : Type 0 where
   pub sources_past : (i : ℕ) → count ≤ i → has rule.sources i ≡ false
   pub targets_past : (i : ℕ) → count ≤ i → has rule.targets i ≡ false
 
-pub record FitsRules (count : ℕ) (allows neverallows : List Kept) : Type 0 where
+pub record FitsRules (count : ℕ) (allows neverallows silences : List Kept) : Type 0 where
   pub allowing : All (FitsRule count) allows
   pub forbidding : All (FitsRule count) neverallows
+  pub silencing : All (FitsRule count) silences
 
 -- What is true of the parts of all rules that are built.
-pub record IsSound (count : ℕ) (allows neverallows : List Kept) : Type 0 where
+pub record IsSound (count : ℕ) (allows neverallows silences : List Kept) (permissive : List ℕ) : Type 0 where
   pub few : length allows + length neverallows < 2 ^ 64
-  pub fits : FitsRules count allows neverallows
+  pub fits : FitsRules count allows neverallows silences
+  pub room : length permissive ≡ count / 64 + 1
 
 -- ---- the rules of a text, and those that are kept for them
 
@@ -71,6 +73,8 @@ kept_only line rule = if is_kept rule then Some (line, rule) else None
 abbrev pub allow_in : ℕ → What → Option (ℕ × Rule)
 allow_in line (Allow r) = kept_only line r
 allow_in line (Neverallow r) = None
+allow_in line (Dontaudit r) = None
+allow_in line (Permissive n) = None
 allow_in line (Attribute n) = None
 allow_in line (Declared n names) = None
 allow_in line (Member n names) = None
@@ -78,16 +82,30 @@ allow_in line (Member n names) = None
 abbrev pub neverallow_in : ℕ → What → Option (ℕ × Rule)
 neverallow_in line (Neverallow r) = kept_only line r
 neverallow_in line (Allow r) = None
+neverallow_in line (Dontaudit r) = None
+neverallow_in line (Permissive n) = None
 neverallow_in line (Attribute n) = None
 neverallow_in line (Declared n names) = None
 neverallow_in line (Member n names) = None
 
--- The allow rules of a text, and its neverallow rules, each behind its line.
+abbrev pub dontaudit_in : ℕ → What → Option (ℕ × Rule)
+dontaudit_in line (Dontaudit r) = kept_only line r
+dontaudit_in line (Allow r) = None
+dontaudit_in line (Neverallow r) = None
+dontaudit_in line (Permissive n) = None
+dontaudit_in line (Attribute n) = None
+dontaudit_in line (Declared n names) = None
+dontaudit_in line (Member n names) = None
+
+-- The allow rules of a text, its neverallow rules, and its dontaudit rules, each behind its line.
 abbrev pub allow_rules : Policy → List (ℕ × Rule)
 allow_rules policy = filter_map (λ st. allow_in st.line st.what) policy
 
 abbrev pub neverallow_rules : Policy → List (ℕ × Rule)
 neverallow_rules policy = filter_map (λ st. neverallow_in st.line st.what) policy
+
+abbrev pub dontaudit_rules : Policy → List (ℕ × Rule)
+dontaudit_rules policy = filter_map (λ st. dontaudit_in st.line st.what) policy
 
 -- The kept rule says of the types by number what the rule of the policy says of them by name.
 pub record StandsFor (policy : Policy) (names : List Name) (written : ℕ × Rule) (kept : Kept) : Type 0 where
@@ -122,11 +140,22 @@ pub record AllSay (policy : Policy) (names : List Name) (rules : List (ℕ × Ru
   pub of_rule : (n : ℕ) (r : ℕ × Rule) → slice_get rules n ≡ Some r
       → (k : Kept) × (slice_get kept n ≡ Some k) × Says policy names r k
 
--- What contracts see of the rules: the number of types, the allow rules and the neverallow rules.
+-- The row has the types that the statements make permissive.
+pub record SaysPermissive (statements : Policy) (names : List Name) (row : List ℕ) : Type 0 where
+  pub says : (i : ℕ) → i < length names → has row i ≡ is_permissive statements (at names i)
+
+-- The row goes on by the types that a statement makes permissive.
+pub record Permits (names : List Name) (what : What) (old new : List ℕ) : Type 0 where
+  pub says : (i : ℕ) → i < length names → has new i ≡ (names_permissive (at names i) what || has old i)
+
+-- What contracts see of the rules: the number of types, the allow rules, the neverallow rules, the dontaudit rules, and
+-- the permissive types.
 pub record KeptRules : Type 0 where
   pub count : ℕ
   pub allows : List Kept
   pub neverallows : List Kept
+  pub silences : List Kept
+  pub permissive : List ℕ
 
 -- The rules are those of the policy, whose types have these names.
 pub record RulesOf (policy : Policy) (names : List Name) (rules : KeptRules) : Type 0 where
@@ -135,3 +164,7 @@ pub record RulesOf (policy : Policy) (names : List Name) (rules : KeptRules) : T
   pub count : rules.count ≡ length names
   pub allows : AllStandFor policy names (allow_rules policy) rules.allows
   pub neverallows : AllStandFor policy names (neverallow_rules policy) rules.neverallows
+  pub silences : AllStandFor policy names (dontaudit_rules policy) rules.silences
+  pub permissive : SaysPermissive policy names rules.permissive
+  pub permissive_declared : (s : Name) → is_permissive policy s ≡ true → declares policy s ≡ true
+  pub declared : (i : ℕ) → i < length names → declares policy (at names i) ≡ true

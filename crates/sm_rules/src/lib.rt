@@ -1,6 +1,7 @@
 //! What the rules of a rule text allow.
 #![tactic(auto)]
 
+mod draft;
 mod fault;
 mod kept;
 mod perm_bits;

@@ -1,6 +1,6 @@
 //! The permissions of a rule as bits.
 
-ghost use Rattle.std.specs.Prelude.{◌≡◌, ℕ, ◌<◌, ◌≤◌, ◌&&◌, ◌||◌, nat_eq, IfSome, IfNone, false};
+ghost use Rattle.std.specs.Prelude.{◌≡◌, ℕ, ◌<◌, ◌≤◌, ◌&&◌, ◌||◌, nat_eq, IfSome, IfNone, is_some, true, false};
 ghost use Rattle.sm_kinds.specs.Permissions.{perm_of};
 ghost use Rattle.sm_rules.specs.Access.{gives};
 ghost use Rattle.sm_bits.specs.Bits.{has_bit};
@@ -44,6 +44,7 @@ pub fn perm_at(bit: u32) -> Perms
 pub fn number_of(class: Class, perm: Perms) -> Option<u32>
     ensures some { IfSome result (λ b. (b < 7) × (class_at b ≡ class) × (perm_at b ≡ perm)) }
     ensures none { IfNone result (perm_of class perm ≡ None) }
+    ensures single { IfSome result (λ b. is_some (perm_of class perm) ≡ true) }
 {
     match class {
         Class::ServiceManager => match perm.0 {

@@ -1,140 +1,33 @@
 //! The rules of a rule text.
 
-ghost use Rattle.std.specs.Prelude.{◌≡◌, ◌<◌, ◌≤◌, ◌+◌, ◌^◌, ℕ, List, length, All, IfOk, IfErr, Some, None};
+ghost use Rattle.std.specs.Prelude.{◌≡◌, ◌<◌, ◌≤◌, ◌+◌, ◌/◌, ◌^◌, ℕ, List, length, All, IfOk, IfErr, Some, None, false};
 ghost use Rattle.sm_ruletext.specs.declared.statement.Statement.{Statement as TheStatement};
 ghost use Rattle.sm_types.specs.Names.{at};
 ghost use Rattle.sm_types.specs.Members.{IsOf};
-ghost use Rattle.sm_rules.specs.Access.{written, written_line, forbidden};
-ghost use Rattle.sm_rules.specs.Faults.{UnlessMemory, first_fault, fault_if_kept, fault_of};
-ghost use Rattle.sm_rules.specs.Keeping.{FitsRule, FitsRules, Extends, kept_only, allow_in, neverallow_in, allow_rules, neverallow_rules, AllStandFor, AllSay, class_at, perm_at, covered, covered_line, RulesOf};
+ghost use Rattle.sm_rules.specs.Access.{written, written_line, forbidden, silenced, is_permissive};
+ghost use Rattle.sm_rules.specs.Faults.{UnlessMemory, first_fault};
+ghost use Rattle.sm_rules.specs.Keeping.{FitsRule, allow_rules, neverallow_rules, AllSay, class_at, perm_at, covered, covered_line, RulesOf};
 
 use crate::RulesFault;
-use crate::kept::{Kept, keep};
+use crate::draft::{Draft, all_rules};
+use crate::kept::Kept;
 use crate::perm_bits::number_of;
-use crate::row_pool::RowPool;
+use sm_bits::BitRow;
 use sm_kinds::{Class, Perms};
-use sm_ruletext::{Rule, Statement, What};
+use sm_ruletext::Statement;
 use sm_types::{TypeCount, Types};
 use std::alloc::Global;
 use std::marker::Model;
 
-/// Adds a rule, if it is kept.
-fn with_rule(
-    alloc: Global,
-    types: &Types,
-    pool: &mut RowPool,
-    mut list: Vec<Kept>,
-    line: u32,
-    rule: &Rule,
-) -> Result<Vec<Kept>, RulesFault>
-    ensures refused { IfErr result (λ e. UnlessMemory e ((policy : List TheStatement)
-        → IsOf policy types.now → fault_if_kept policy line rule.now ≡ Some e)) }
-    ensures accepted { IfOk result (λ v. (policy : List TheStatement) → IsOf policy types.now
-        → fault_if_kept policy line rule.now ≡ None) }
-    ensures added { IfOk result (λ v. (policy : List TheStatement) → IsOf policy types.now
-        → Extends policy types.now.symbols.types (kept_only line rule.now) list.items v.items) }
-    ensures few { IfOk result (λ v. length v.items ≤ length list.items + 1) }
-    ensures fits { All (FitsRule (length types.now.symbols.types)) list.items
-        → IfOk result (λ v. All (FitsRule (length types.now.symbols.types)) v.items) }
-{
-    if !rule.is_kept() {
-        return Ok(list);
-    }
-    let kept = keep(alloc, types, pool, line, rule)?;
-    list.push(kept)?;
-    Ok(list)
-}
-
-/// The rules that are kept, while a text is gone through.
-#[derive(Drop)]
-struct Draft {
-    allows: Vec<Kept>,
-    neverallows: Vec<Kept>,
-}
-
-/// Adds what a statement says, if it is a rule that is kept.
-fn with_statement(
-    alloc: Global,
-    types: &Types,
-    pool: &mut RowPool,
-    draft: Draft,
-    statement: &Statement,
-) -> Result<Draft, RulesFault>
-    ensures refused { IfErr result (λ e. UnlessMemory e ((policy : List TheStatement)
-        → IsOf policy types.now
-        → fault_of policy statement.now.line statement.now.what ≡ Some e)) }
-    ensures accepted { IfOk result (λ d. (policy : List TheStatement) → IsOf policy types.now
-        → fault_of policy statement.now.line statement.now.what ≡ None) }
-    ensures allows { IfOk result (λ d. (policy : List TheStatement) → IsOf policy types.now
-        → Extends policy types.now.symbols.types (allow_in statement.now.line statement.now.what)
-        draft.allows.items d.allows.items) }
-    ensures neverallows { IfOk result (λ d. (policy : List TheStatement) → IsOf policy types.now
-        → Extends policy types.now.symbols.types (neverallow_in statement.now.line statement.now.what)
-        draft.neverallows.items d.neverallows.items) }
-    ensures few { IfOk result (λ d. length d.allows.items + length d.neverallows.items
-        ≤ length draft.allows.items + length draft.neverallows.items + 1) }
-    ensures fits { FitsRules (length types.now.symbols.types) draft.allows.items draft.neverallows.items
-        → IfOk result (λ d. FitsRules (length types.now.symbols.types)
-        d.allows.items d.neverallows.items) }
-{
-    let Draft {
-        mut allows,
-        mut neverallows,
-    } = draft;
-    match &statement.what {
-        What::Allow(rule) => {
-            allows = with_rule(alloc, types, pool, allows, statement.line, rule)?;
-            Ok(Draft {
-                allows,
-                neverallows,
-            })
-        }
-        What::Neverallow(rule) => {
-            neverallows = with_rule(alloc, types, pool, neverallows, statement.line, rule)?;
-            Ok(Draft {
-                allows,
-                neverallows,
-            })
-        }
-        _ => Ok(Draft {
-            allows,
-            neverallows,
-        }),
-    }
-}
-
-/// All rules, in the order of the text.
-fn all_rules(alloc: Global, statements: &[Statement], types: &Types) -> Result<Draft, RulesFault>
-    requires { IsOf statements.now types.now }
-    ensures refused { IfErr result (λ e. UnlessMemory e (first_fault statements.now ≡ Some e)) }
-    ensures accepted { IfOk result (λ d. first_fault statements.now ≡ None) }
-    ensures allows { IfOk result (λ d. AllStandFor statements.now types.now.symbols.types
-        (allow_rules statements.now) d.allows.items) }
-    ensures neverallows { IfOk result (λ d. AllStandFor statements.now types.now.symbols.types
-        (neverallow_rules statements.now) d.neverallows.items) }
-    ensures few { IfOk result (λ d. length d.allows.items + length d.neverallows.items < 2 ^ 64) }
-    ensures fits { IfOk result (λ d. FitsRules (length types.now.symbols.types)
-        d.allows.items d.neverallows.items) }
-{
-    let mut draft = Draft {
-        allows: Vec::new(alloc),
-        neverallows: Vec::new(alloc),
-    };
-    let mut pool = RowPool::new(alloc);
-    for statement in statements {
-        draft = with_statement(alloc, types, &mut pool, draft, statement)?;
-    }
-    Ok(draft)
-}
-
 /// The rules of a rule text, with their sets expanded.
 ///
 /// Contracts see them as the lists of kept rules; `RulesOf` says that they are those of a text.
-#[derive(Drop)]
 pub struct Rules {
     count: TypeCount,
     allows: Vec<Kept>,
     neverallows: Vec<Kept>,
+    silences: Vec<Kept>,
+    permissive: BitRow,
 }
 
 impl Model for Rules {
@@ -143,9 +36,28 @@ impl Model for Rules {
 
     ghost Value = { KeptRules };
 
-    ghost view = { λ r. record { count = r.count; allows = r.allows.items; neverallows = r.neverallows.items } };
+    ghost view = { λ r. record {
+      count = r.count;
+      allows = r.allows.items;
+      neverallows = r.neverallows.items;
+      silences = r.silences.items;
+      permissive = r.permissive;
+    } };
 
-    ghost invariant = { λ r. IsSound r.count r.allows.items r.neverallows.items };
+    ghost invariant = { λ r. IsSound r.count r.allows.items r.neverallows.items r.silences.items r.permissive };
+}
+
+// By hand: where rules are let go, a caller's proof has one step, and not those of their parts.
+impl Drop for Rules {
+    fn drop(self) {
+        let Rules {
+            count: _,
+            allows: _,
+            neverallows: _,
+            silences: _,
+            permissive: _,
+        } = self;
+    }
 }
 
 /// The line of the first rule that gives permission `bit` on the two types.
@@ -162,13 +74,25 @@ fn first_line(rules: &[Kept], count: TypeCount, bit: u32, s: usize, t: usize) ->
         .map(|rule| rule.line)
 }
 
+/// Whether some rule gives permission `bit` on the two types.
+fn any_covers(rules: &[Kept], count: TypeCount, bit: u32, s: usize, t: usize) -> bool
+    requires fits { All (FitsRule count) rules.now }
+    requires bit { bit < 8 }
+    requires source { s < count }
+    requires target { t < count }
+    ensures { result ≡ covered rules.now bit s t }
+{
+    rules.iter().any(|rule| rule.covers(bit, s, t))
+}
+
 impl Rules {
     /// The rules of a rule text whose types are `types`.
     ///
     /// # Errors
     ///
-    /// The first fault of a kept rule in the order of the text: `Unknown` where its source or
-    /// its target has a name that isn't declared, as a type or as an attribute; then
+    /// The first fault of a kept rule or of a `permissive` statement in the order of the text:
+    /// `Unknown` where the source or the target of the rule has a name that isn't declared, as
+    /// a type or as an attribute, or what is made permissive is no declared type; then
     /// `UnknownPermission` where a name of its permissions, also one behind a `-`, is one of no
     /// selected class, unless the class set has `*`, `~` or the name of another class. Rules
     /// that select neither class are skipped. `Memory` where memory was refused.
@@ -186,11 +110,15 @@ impl Rules {
         let Draft {
             allows,
             neverallows,
+            silences,
+            permissive,
         } = all_rules(alloc, statements, types)?;
         Ok(Rules {
             count: types.type_count(),
             allows,
             neverallows,
+            silences,
+            permissive,
         })
     }
 
@@ -233,7 +161,68 @@ impl Rules {
         &self.neverallows
     }
 
-    /// How many rules are kept, neverallow rules among them.
+    /// The dontaudit rules that are kept, in the order of the text.
+    pub fn silences(&self) -> &[Kept]
+        ensures kept { result.now ≡ self.now.silences }
+        ensures fits { All (FitsRule self.now.count) result.now }
+        ensures silenced { (policy : List TheStatement) (names : List (List ℕ))
+            → RulesOf policy names self.now → (b s t : ℕ)
+            → b < 7 → s < length names → t < length names
+            → covered result.now b s t
+            ≡ silenced policy (at names s) (at names t) (class_at b) (perm_at b) }
+    {
+        &self.silences
+    }
+
+    /// The permissive types, as bits by their numbers.
+    pub fn permissive_types(&self) -> &BitRow
+        ensures kept { result.now ≡ self.now.permissive }
+        ensures room { length result.now ≡ self.now.count / 64 + 1 }
+    {
+        &self.permissive
+    }
+
+    /// Whether a `permissive` statement names the type of this number: what it asks is refused by no want
+    /// of an allow rule. `false` where there is no type of such a number.
+    pub fn permissive(&self, source: u16) -> bool
+        ensures permissive { (policy : List TheStatement) (names : List (List ℕ))
+            → RulesOf policy names self.now → source < length names
+            → result ≡ is_permissive policy (at names source) }
+        ensures no_source { self.now.count ≤ source → result ≡ false }
+    {
+        let s = usize::from(source);
+        if s >= self.count.get() {
+            return false;
+        }
+        self.permissive.has(s)
+    }
+
+    /// Whether some dontaudit rule covers the permission on the two types, by their numbers: then no
+    /// record is kept of a check of it that no allow rule passes. `false` where none does, or there is no
+    /// type of such a number, or `perm` is no single permission of the class.
+    pub fn silenced(&self, source: u16, target: u16, class: Class, perm: Perms) -> bool
+        ensures silenced { (policy : List TheStatement) (names : List (List ℕ))
+            → RulesOf policy names self.now
+            → source < length names → target < length names
+            → result ≡ silenced policy (at names source) (at names target) class perm }
+        ensures no_source { self.now.count ≤ source → result ≡ false }
+        ensures no_target { self.now.count ≤ target → result ≡ false }
+    {
+        let s = usize::from(source);
+        let t = usize::from(target);
+        if s >= self.count.get() {
+            return false;
+        }
+        if t >= self.count.get() {
+            return false;
+        }
+        match number_of(class, perm) {
+            Some(bit) => any_covers(&self.silences, self.count, bit, s, t),
+            None => false,
+        }
+    }
+
+    /// How many allow and neverallow rules are kept.
     pub fn count(&self) -> usize
         ensures { result ≡ length self.now.allows + length self.now.neverallows }
     {

@@ -240,6 +240,10 @@ what_only line word.Typeattribute ts h =
     (λ names. tt)))
 what_only line word.Allow ts h = bind_only line (rule_at line ts) _ (rule_only line ts) (λ rule. tt)
 what_only line word.Neverallow ts h = bind_only line (rule_at line ts) _ (rule_only line ts) (λ rule. tt)
+what_only line word.Dontaudit ts h = bind_only line (rule_at line ts) _ (rule_only line ts) (λ rule. tt)
+what_only line word.Permissive ts h =
+    bind_only line (name_at line ts) _ (name_only line ts)
+    (λ name. bind_only line (semicolon_at line name.1) _ (semicolon_only line name.1) (λ end. tt))
 what_only line word.Skipped ts h = bind_only line (skipped_at line ts) _ (skipped_only line ts) (λ end. tt)
 what_only line word.Unknown ts h = absurd (h refl)
 
@@ -256,6 +260,8 @@ unknown_or word.Types = inr (λ h. cc)
 unknown_or word.Typeattribute = inr (λ h. cc)
 unknown_or word.Allow = inr (λ h. cc)
 unknown_or word.Neverallow = inr (λ h. cc)
+unknown_or word.Dontaudit = inr (λ h. cc)
+unknown_or word.Permissive = inr (λ h. cc)
 unknown_or word.Skipped = inr (λ h. cc)
 unknown_or word.Unknown = inl refl
 

@@ -67,6 +67,8 @@ what_again line l _ _ us _ (SpellsStatement.member n m w a ts names h g s) =
     ) refl
 what_again line l _ _ us _ (SpellsStatement.allow ts r s) = rw (rule_again line ts us l r s) refl
 what_again line l _ _ us _ (SpellsStatement.neverallow ts r s) = rw (rule_again line ts us l r s) refl
+what_again line l _ _ us _ (SpellsStatement.dontaudit ts r s) = rw (rule_again line ts us l r s) refl
+what_again line l _ _ us _ (SpellsStatement.permissive n w h) = rw (name_again line n w ((l, Semicolon) ∷ us) h) refl
 what_again line l _ _ us _ (SpellsStatement.skipped ts h) = rw (skipped_again line l ts us h) refl
 
 text_again : (sts all : List Statement) (ts : Tokens) → SpellsText sts ts all → (most : ℕ) → length ts ≤ most
@@ -340,6 +342,21 @@ what_taken line word.Allow ts us w e =
     rule_statement line word.Allow what.Allow ts us w (λ bs r s. SpellsStatement.allow bs r s) e
 what_taken line word.Neverallow ts us w e =
     rule_statement line word.Neverallow what.Neverallow ts us w (λ bs r s. SpellsStatement.neverallow bs r s) e
+what_taken line word.Dontaudit ts us w e =
+    rule_statement line word.Dontaudit what.Dontaudit ts us w (λ bs r s. SpellsStatement.dontaudit bs r s) e
+what_taken line word.Permissive ts us w e =
+    let a = went_well (name_at line ts)
+    (λ name. semicolon_at line name.1 >>= λ end. named (what.Permissive name.0) end.1) (w, us) e in
+    let b = went_well (semicolon_at line a.0.1) (λ end. named (what.Permissive a.0.0) end.1) (w, us) a.2 in
+    let p = ok_parts (Some (what.Permissive a.0.0)) w b.0.1 us b.2 in
+    let ta = name_taken line ts a.0.1 a.0.0 a.1 in
+    let tb = semicolon_taken line a.0.1 b.0.1 b.1 in
+    ends_as line word.Permissive ts b.0.1 us (Some (what.Permissive a.0.0)) w (record {
+      vs = (ta.0, Word a.0.0) ∷ [];
+      l = tb.0;
+      parts = ta.1 ∙ ap (λ (x : Tokens). (ta.0, Word a.0.0) ∷ x) tb.1;
+      spelled = SpellsStatement.permissive ta.0 a.0.0 ta.2;
+    }) p.0 p.1
 what_taken line word.Skipped ts us w e =
     let a = went_well (skipped_at line ts) (λ end. nothing end.1) (w, us) e in
     let p = ok_parts None w a.0.1 us a.2 in

@@ -81,6 +81,10 @@ pub data SpellsStatement (line : ℕ) : Keyword → Tokens → Option What → T
       → SpellsStatement line word.Allow ts (if is_kept r then Some (what.Allow r) else None)
   neverallow : (ts : Tokens) (r : Rule) → SpellsRule line ts r
       → SpellsStatement line word.Neverallow ts (if is_kept r then Some (what.Neverallow r) else None)
+  dontaudit : (ts : Tokens) (r : Rule) → SpellsRule line ts r
+      → SpellsStatement line word.Dontaudit ts (if is_kept r then Some (what.Dontaudit r) else None)
+  permissive : (l : ℕ) (w : List ℕ) → is_self w ≡ false
+      → SpellsStatement line word.Permissive ((l, Word w) ∷ []) (Some (what.Permissive w))
   skipped : (ts : Tokens) → HasNoSemicolon ts → SpellsStatement line word.Skipped ts None
 
 -- The tokens are statements, which add to those before them.

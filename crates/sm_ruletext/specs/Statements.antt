@@ -42,6 +42,13 @@ what_at line word.Allow ts = do
 what_at line word.Neverallow ts = do
   rule ← rule_at line ts
   Ok (if is_kept rule.0 then Some (what.Neverallow rule.0) else None, rule.1)
+what_at line word.Dontaudit ts = do
+  rule ← rule_at line ts
+  Ok (if is_kept rule.0 then Some (what.Dontaudit rule.0) else None, rule.1)
+what_at line word.Permissive ts = do
+  name ← name_at line ts
+  end ← semicolon_at line name.1
+  Ok (Some (what.Permissive name.0), end.1)
 what_at line word.Skipped ts = do
   end ← skipped_at line ts
   Ok (None, end.1)
@@ -53,6 +60,8 @@ is_rule (what.Declared n ns) = false
 is_rule (what.Member n ns) = false
 is_rule (what.Allow r) = true
 is_rule (what.Neverallow r) = true
+is_rule (what.Dontaudit r) = true
+is_rule (what.Permissive n) = false
 
 abbrev pub rule_count : List Statement → ℕ
 rule_count sts = count_by (λ s. is_rule s.what) sts

@@ -2,17 +2,17 @@
 use Rattle.std.specs.Prelude.{ℕ, Bool, ◌||◌, if◌then◌else◌, List, codes}
 use Rattle.std.specs.Str.{bytes_eq}
 use Rattle.sm_ruletext.specs.declared.keyword.Keyword.{Keyword}
-use Rattle.sm_ruletext.specs.declared.keyword.Keyword.TheVariants.{Attribute, Types, Typeattribute, Allow, Neverallow, Skipped, Unknown}
+use Rattle.sm_ruletext.specs.declared.keyword.Keyword.TheVariants.{Attribute, Types, Typeattribute, Allow, Neverallow, Dontaudit, Permissive, Skipped, Unknown}
 
 abbrev pub is_self : List ℕ → Bool
 is_self w = bytes_eq w (codes "self")
 
 unfoldable pub is_skipped : List ℕ → Bool
 is_skipped w =
-    bytes_eq w (codes "auditallow") || (bytes_eq w (codes "dontaudit") || (bytes_eq w (codes "type_transition")
+    bytes_eq w (codes "auditallow") || (bytes_eq w (codes "type_transition")
     || (bytes_eq w (codes "expandattribute")
     || (bytes_eq w (codes "allowxperm") || (bytes_eq w (codes "auditallowxperm")
-    || (bytes_eq w (codes "dontauditxperm") || bytes_eq w (codes "neverallowxperm")))))))
+    || (bytes_eq w (codes "dontauditxperm") || bytes_eq w (codes "neverallowxperm"))))))
 
 unfoldable pub keyword_of : List ℕ → Keyword
 keyword_of w =
@@ -21,5 +21,7 @@ keyword_of w =
     else if bytes_eq w (codes "typeattribute") then Typeattribute
     else if bytes_eq w (codes "allow") then Allow
     else if bytes_eq w (codes "neverallow") then Neverallow
+    else if bytes_eq w (codes "dontaudit") then Dontaudit
+    else if bytes_eq w (codes "permissive") then Permissive
     else if is_skipped w then Skipped
     else Unknown

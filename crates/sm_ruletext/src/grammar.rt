@@ -214,7 +214,7 @@ fn set(
     }
 }
 
-/// What stands behind `allow` or `neverallow`.
+/// What stands behind `allow`, `neverallow` or `dontaudit`.
 #[tactic(auto, unfolding(crate::specs::Grammar::rule_at))]
 pub fn rule(alloc: Global, tokens: &mut Tokens, line: u32) -> Result<Rule, RuleTextFault>
     ensures read { Reads (λ r. r) result tokens.new (spec.rule_at line tokens.old) }

@@ -11,6 +11,8 @@ pub enum Keyword {
     Typeattribute,
     Allow,
     Neverallow,
+    Dontaudit,
+    Permissive,
     Skipped,
     Unknown,
 }
@@ -27,7 +29,6 @@ fn is_skipped(word: &[u8]) -> bool
     ensures { result ≡ spec.is_skipped word.now }
 {
     word == b"auditallow".as_slice()
-        || word == b"dontaudit".as_slice()
         || word == b"type_transition".as_slice()
         || word == b"expandattribute".as_slice()
         || word == b"allowxperm".as_slice()
@@ -51,6 +52,10 @@ pub fn keyword_of(word: &[u8]) -> Keyword
         Keyword::Allow
     } else if word == b"neverallow".as_slice() {
         Keyword::Neverallow
+    } else if word == b"dontaudit".as_slice() {
+        Keyword::Dontaudit
+    } else if word == b"permissive".as_slice() {
+        Keyword::Permissive
     } else if is_skipped(word) {
         Keyword::Skipped
     } else {

@@ -1,5 +1,6 @@
 //! The reader of the rule text: the statements of SELinux's policy language that declare types
-//! and attributes, give types attributes, allow, and forbid, each with the line it stands in.
+//! and attributes, give types attributes, allow, forbid, and say of which denials there is no record,
+//! each with the line it stands in.
 #![tactic(auto)]
 
 mod fault;

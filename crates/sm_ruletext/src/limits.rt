@@ -1,4 +1,4 @@
 //! The limits on rule texts.
 
-/// The most rules that are kept: `allow` and `neverallow` rules for a class that is decided here.
+/// The most rules that are kept: `allow`, `neverallow` and `dontaudit` rules for a class that is decided here.
 pub const MOST_RULES: u32 = 65_536;

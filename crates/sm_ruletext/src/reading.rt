@@ -6,6 +6,7 @@ ghost use Rattle.sm_ruletext.specs.Grammar.{Reads, is_memory};
 ghost use Rattle.sm_ruletext.specs.Lexing.{tokens};
 ghost use Rattle.sm_ruletext.specs.Spelling.{SpellsText, IsFaultOf};
 ghost use Rattle.sm_ruletext.specs.Statements as spec;
+ghost use Rattle.sm_ruletext.specs.declared.keyword.Keyword.TheVariants as word;
 ghost use Rattle.sm_ruletext.specs.declared.statement.Statement.{Statement};
 
 use crate::keyword::{Keyword, keyword_of};
@@ -25,6 +26,48 @@ fn skipped(tokens: &mut Tokens, line: u32) -> Result<(), RuleTextFault>
         if let Kind::Semicolon = grammar::kind(tokens, line)? {
             return Ok(());
         }
+    }
+}
+
+/// What stands behind `allow`: nothing, if the rule isn't kept.
+#[tactic(auto, unfolding(crate::specs::Statements::what_at))]
+fn allow(alloc: Global, tokens: &mut Tokens, line: u32) -> Result<Option<What>, RuleTextFault>
+    ensures read { Reads (λ w. w) result tokens.new (spec.what_at line word.Allow tokens.old) }
+    ensures fewer { OnOk result (length tokens.new ≤ length tokens.old) }
+{
+    let rule = grammar::rule(alloc, tokens, line)?;
+    if rule.is_kept() {
+        Ok(Some(What::Allow(rule)))
+    } else {
+        Ok(None)
+    }
+}
+
+/// What stands behind `neverallow`: nothing, if the rule isn't kept.
+#[tactic(auto, unfolding(crate::specs::Statements::what_at))]
+fn neverallow(alloc: Global, tokens: &mut Tokens, line: u32) -> Result<Option<What>, RuleTextFault>
+    ensures read { Reads (λ w. w) result tokens.new (spec.what_at line word.Neverallow tokens.old) }
+    ensures fewer { OnOk result (length tokens.new ≤ length tokens.old) }
+{
+    let rule = grammar::rule(alloc, tokens, line)?;
+    if rule.is_kept() {
+        Ok(Some(What::Neverallow(rule)))
+    } else {
+        Ok(None)
+    }
+}
+
+/// What stands behind `dontaudit`: nothing, if the rule isn't kept.
+#[tactic(auto, unfolding(crate::specs::Statements::what_at))]
+fn dontaudit(alloc: Global, tokens: &mut Tokens, line: u32) -> Result<Option<What>, RuleTextFault>
+    ensures read { Reads (λ w. w) result tokens.new (spec.what_at line word.Dontaudit tokens.old) }
+    ensures fewer { OnOk result (length tokens.new ≤ length tokens.old) }
+{
+    let rule = grammar::rule(alloc, tokens, line)?;
+    if rule.is_kept() {
+        Ok(Some(What::Dontaudit(rule)))
+    } else {
+        Ok(None)
     }
 }
 
@@ -57,21 +100,13 @@ fn what(
             let names = grammar::names(alloc, tokens, line, names)?;
             Ok(Some(What::Member(name, names)))
         }
-        Keyword::Allow => {
-            let rule = grammar::rule(alloc, tokens, line)?;
-            if rule.is_kept() {
-                Ok(Some(What::Allow(rule)))
-            } else {
-                Ok(None)
-            }
-        }
-        Keyword::Neverallow => {
-            let rule = grammar::rule(alloc, tokens, line)?;
-            if rule.is_kept() {
-                Ok(Some(What::Neverallow(rule)))
-            } else {
-                Ok(None)
-            }
+        Keyword::Allow => allow(alloc, tokens, line),
+        Keyword::Neverallow => neverallow(alloc, tokens, line),
+        Keyword::Dontaudit => dontaudit(alloc, tokens, line),
+        Keyword::Permissive => {
+            let name = grammar::name(alloc, tokens, line)?;
+            grammar::semicolon(tokens, line)?;
+            Ok(Some(What::Permissive(name)))
         }
         Keyword::Skipped => {
             skipped(tokens, line)?;

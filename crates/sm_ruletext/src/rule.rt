@@ -5,7 +5,7 @@ ghost use Rattle.sm_ruletext.specs.Sets as spec;
 
 use crate::Set;
 
-/// What stands behind `allow` or `neverallow`: `SOURCE TARGET : CLASS PERM`.
+/// What stands behind `allow`, `neverallow` or `dontaudit`: `SOURCE TARGET : CLASS PERM`.
 #[derive(Debug, Drop)]
 pub struct Rule {
     pub source: Set,

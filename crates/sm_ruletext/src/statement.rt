@@ -16,17 +16,24 @@ pub enum What {
     Allow(Rule),
     /// `neverallow SOURCE TARGET : CLASS PERM;`
     Neverallow(Rule),
+    /// `dontaudit SOURCE TARGET : CLASS PERM;`
+    Dontaudit(Rule),
+    /// `permissive T;`
+    Permissive(Name),
 }
 
 impl What {
     ghost use Rattle.std.specs.Prelude.{◌≡◌};
     ghost use Rattle.sm_ruletext.specs.Statements.{is_rule};
 
-    /// Whether it is an allow or a neverallow rule.
+    /// Whether it is an allow, a neverallow or a dontaudit rule.
     pub fn is_rule(&self) -> bool
         ensures { result ≡ is_rule self.now }
     {
-        matches!(self, What::Allow(_) | What::Neverallow(_))
+        matches!(
+            self,
+            What::Allow(_) | What::Neverallow(_) | What::Dontaudit(_)
+        )
     }
 }
 

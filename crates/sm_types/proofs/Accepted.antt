@@ -6,7 +6,7 @@ use Rattle.std.proofs.lemmas.Bool.{and_parts, and_right, false_from_ne_true}
 use Rattle.std.proofs.lemmas.List.{append-nil}
 use Rattle.std.proofs.lemmas.List.Folds.{list_any_at}
 use Rattle.sm_ruletext.specs.declared.statement.What.{What}
-use Rattle.sm_ruletext.specs.declared.statement.What.TheVariants.{Attribute, Declared, Member, Allow, Neverallow}
+use Rattle.sm_ruletext.specs.declared.statement.What.TheVariants.{Attribute, Declared, Member, Allow, Neverallow, Dontaudit, Permissive}
 use Rattle.sm_ruletext.specs.declared.statement.Statement.{Statement}
 use Rattle.sm_types.specs.declared.TheConstants.{MOST_TYPES, MOST_ATTRIBUTES}
 use Rattle.sm_types.specs.declared.symbols.Symbols.{Symbols}
@@ -43,6 +43,8 @@ unlisted_what symbols word t none (Member n names) known =
     (and_parts (list_any (bytes_eq n) symbols.types) (all_attributes symbols names) known).1)
 unlisted_what symbols word t none (Allow r) known = refl
 unlisted_what symbols word t none (Neverallow r) known = refl
+unlisted_what symbols word t none (Dontaudit r) known = refl
+unlisted_what symbols word t none (Permissive n) known = refl
 
 unlisted_in : (symbols : Symbols) (word t : Name) → list_any (bytes_eq word) symbols.attributes ≡ false
     → (sts : List Statement)
@@ -104,6 +106,10 @@ step_names symbols next line (Allow r) h = let e : symbols ≡ next = cc h in
     (rw (← e) (sym (append-nil symbols.types)), rw (← e) (sym (append-nil symbols.attributes)))
 step_names symbols next line (Neverallow r) h = let e : symbols ≡ next = cc h in
     (rw (← e) (sym (append-nil symbols.types)), rw (← e) (sym (append-nil symbols.attributes)))
+step_names symbols next line (Dontaudit r) h = let e : symbols ≡ next = cc h in
+    (rw (← e) (sym (append-nil symbols.types)), rw (← e) (sym (append-nil symbols.attributes)))
+step_names symbols next line (Permissive n) h = let e : symbols ≡ next = cc h in
+    (rw (← e) (sym (append-nil symbols.types)), rw (← e) (sym (append-nil symbols.attributes)))
 
 behind : (xs : List Name) (o : Option Name) (ys : List Name) → (xs ++ cons_option o []) ++ ys ≡ xs ++ cons_option o ys
 behind xs None ys = ap (λ (zs : List Name). zs ++ ys) (append-nil xs)
@@ -154,6 +160,8 @@ declares_type t (st ∷ sts) = by st.what (declares_type t sts) where
   by (Member n names) h = h
   by (Allow r) h = h
   by (Neverallow r) h = h
+  by (Dontaudit r) h = h
+  by (Permissive n) h = h
 
 -- each type stands in a declaration
 pub declared_type : (policy : List Statement) (table : Table) (i : ℕ) → IsOf policy table

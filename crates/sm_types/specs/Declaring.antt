@@ -5,7 +5,7 @@ use Rattle.std.specs.List.{list_any, list_all}
 use Rattle.std.specs.Str.{bytes_eq}
 use Rattle.sm_kinds.specs.Reading.{◌>>=◌}
 use Rattle.sm_ruletext.specs.declared.statement.What.{What}
-use Rattle.sm_ruletext.specs.declared.statement.What.TheVariants.{Attribute, Declared, Member, Allow, Neverallow}
+use Rattle.sm_ruletext.specs.declared.statement.What.TheVariants.{Attribute, Declared, Member, Allow, Neverallow, Dontaudit, Permissive}
 use Rattle.sm_ruletext.specs.declared.statement.Statement.{Statement}
 use Rattle.sm_types.specs.declared.TheConstants.{MOST_TYPES, MOST_ATTRIBUTES}
 use Rattle.sm_types.specs.declared.symbols.Symbols.{Symbols}
@@ -50,6 +50,8 @@ with_declaration symbols line (Declared name names) = with_type symbols line nam
 with_declaration symbols line (Member name names) = Ok symbols
 with_declaration symbols line (Allow rule) = Ok symbols
 with_declaration symbols line (Neverallow rule) = Ok symbols
+with_declaration symbols line (Dontaudit rule) = Ok symbols
+with_declaration symbols line (Permissive n) = Ok symbols
 
 unfoldable pub declared : Symbols → List Statement → Step Symbols
 declared symbols [] = Ok symbols
@@ -66,6 +68,8 @@ members_known symbols (Member name names) = list_any (bytes_eq name) symbols.typ
 members_known symbols (Attribute name) = true
 members_known symbols (Allow rule) = true
 members_known symbols (Neverallow rule) = true
+members_known symbols (Dontaudit rule) = true
+members_known symbols (Permissive n) = true
 
 abbrev pub first_unknown : Symbols → List Statement → Option ℕ
 first_unknown symbols policy = option_map (λ st. st.line) (find (λ st. not (members_known symbols st.what)) policy)

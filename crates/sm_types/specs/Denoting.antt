@@ -5,7 +5,7 @@ use Rattle.std.specs.Str.{bytes_eq}
 use Rattle.sm_kinds.specs.Names.{contains}
 use Rattle.sm_ruletext.specs.declared.set.Set.{Set}
 use Rattle.sm_ruletext.specs.declared.statement.What.{What}
-use Rattle.sm_ruletext.specs.declared.statement.What.TheVariants.{Attribute, Declared, Member, Allow, Neverallow}
+use Rattle.sm_ruletext.specs.declared.statement.What.TheVariants.{Attribute, Declared, Member, Allow, Neverallow, Dontaudit, Permissive}
 use Rattle.sm_ruletext.specs.declared.statement.Statement.{Statement}
 use Rattle.sm_types.specs.Names.{Name}
 
@@ -21,6 +21,8 @@ is_type_named t (Attribute n) = false
 is_type_named t (Member n names) = false
 is_type_named t (Allow r) = false
 is_type_named t (Neverallow r) = false
+is_type_named t (Dontaudit r) = false
+is_type_named t (Permissive n) = false
 
 abbrev pub gives_attribute : Name → Name → What → Bool
 gives_attribute t a (Declared n names) = bytes_eq n t && contains names a
@@ -28,6 +30,8 @@ gives_attribute t a (Member n names) = bytes_eq n t && contains names a
 gives_attribute t a (Attribute n) = false
 gives_attribute t a (Allow r) = false
 gives_attribute t a (Neverallow r) = false
+gives_attribute t a (Dontaudit r) = false
+gives_attribute t a (Permissive n) = false
 
 -- Some statement declares the type.
 abbrev pub declares : Policy → Name → Bool
@@ -59,6 +63,8 @@ type_of (Attribute n) = None
 type_of (Member n names) = None
 type_of (Allow r) = None
 type_of (Neverallow r) = None
+type_of (Dontaudit r) = None
+type_of (Permissive n) = None
 
 -- The declared types, in the order of their declaration.
 abbrev pub types : Policy → List Name
@@ -76,6 +82,8 @@ attribute_of (Declared n names) = None
 attribute_of (Member n names) = None
 attribute_of (Allow r) = None
 attribute_of (Neverallow r) = None
+attribute_of (Dontaudit r) = None
+attribute_of (Permissive n) = None
 
 -- The declared attributes, in the order of their declaration.
 abbrev pub attributes : Policy → List Name
