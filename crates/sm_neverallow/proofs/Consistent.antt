@@ -12,7 +12,7 @@ use Rattle.sm_kinds.specs.declared.perms.Perms.{Perms}
 use Rattle.sm_ruletext.specs.Sets.{selects}
 use Rattle.sm_ruletext.specs.declared.rule.Rule.{Rule}
 use Rattle.sm_ruletext.specs.declared.statement.What.{What}
-use Rattle.sm_ruletext.specs.declared.statement.What.TheVariants.{Attribute, Declared, Member, Allow, Neverallow}
+use Rattle.sm_ruletext.specs.declared.statement.What.TheVariants.{Attribute, Declared, Member, Allow, Neverallow, Dontaudit, Permissive}
 use Rattle.sm_types.specs.Names.{Name, at}
 use Rattle.sm_types.specs.Denoting.{Policy, types, declares, chosen, in_set, type_of, is_type_named}
 use Rattle.sm_rules.specs.Access as access
@@ -45,6 +45,8 @@ numbered t policy h =
       by (Member n names) e = e
       by (Allow r) e = e
       by (Neverallow r) e = e
+      by (Dontaudit r) e = e
+      by (Permissive n) e = e
 
 source_declared : (policy : Policy) (s t : Name) (r : Rule) → access.joins policy s t r ≡ true
     → declares policy s ≡ true
@@ -130,6 +132,8 @@ written_numbered policy s t class perm h =
       target = numbered t policy (target_declared policy s t r parts.0);
     })
     by (Neverallow r) g = absurd (true≢false (sym g))
+    by (Dontaudit r) g = absurd (true≢false (sym g))
+    by (Permissive n) g = absurd (true≢false (sym g))
     by (Attribute n) g = absurd (true≢false (sym g))
     by (Declared n names) g = absurd (true≢false (sym g))
     by (Member n names) g = absurd (true≢false (sym g))

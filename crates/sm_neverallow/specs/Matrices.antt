@@ -5,7 +5,7 @@ use Rattle.std.proofs.Common.{get_or}
 use Rattle.sm_bits.specs.Bits.{has, row, has_bit}
 use Rattle.sm_types.specs.Names.{Name, at}
 use Rattle.sm_types.specs.Denoting.{Policy}
-use Rattle.sm_rules.specs.Access.{written}
+use Rattle.sm_rules.specs.Access.{written, silenced}
 use Rattle.sm_rules.specs.Keeping.{joins, covers, covered, class_at, perm_at}
 use Rattle.sm_rules.specs.declared.kept.Kept.{Kept}
 
@@ -32,6 +32,11 @@ pub record AllCompiled (rules : List Kept) (count n : ℕ) (matrices : List (Lis
 pub record SayWhatIsWritten (policy : Policy) (names : List Name) (matrices : List (List (List ℕ))) : Type 0 where
   pub says : (b s t : ℕ) → b < 7 → s < length names → t < length names → has (row (matrix matrices b) s) t
       ≡ written policy (at names s) (at names t) (class_at b) (perm_at b)
+
+-- The matrices say what its dontaudit rules cover.
+pub record SayWhatIsSilenced (policy : Policy) (names : List Name) (matrices : List (List (List ℕ))) : Type 0 where
+  pub says : (b s t : ℕ) → b < 7 → s < length names → t < length names → has (row (matrix matrices b) s) t
+      ≡ silenced policy (at names s) (at names t) (class_at b) (perm_at b)
 
 -- A matrix of the right size for each permission.
 pub record AllSquare (matrices : List (List (List ℕ))) (count : ℕ) : Type 0 where

@@ -1,4 +1,4 @@
-//! The pairs of types that the allow rules of a rule text join, for each permission.
+//! The pairs of types that rules of a rule text join, for each permission.
 
 use crate::matrix::{Matrix, matrices_of};
 use sm_bits::BitRow;
@@ -25,7 +25,7 @@ impl Matrices {
     ghost use Rattle.sm_bits.specs.Bits.{row};
     ghost use Rattle.sm_ruletext.specs.declared.statement.Statement.{Statement as TheStatement};
     ghost use Rattle.sm_rules.specs.Keeping.{RulesOf};
-    ghost use Rattle.sm_neverallow.specs.Matrices.{matrix, AllCompiled, SayWhatIsWritten};
+    ghost use Rattle.sm_neverallow.specs.Matrices.{matrix, AllCompiled, SayWhatIsWritten, SayWhatIsSilenced};
 
     /// The matrices of the allow rules.
     ///
@@ -39,6 +39,21 @@ impl Matrices {
     {
         let allows = rules.allows();
         let list = matrices_of(alloc, allows, rules.type_count())?;
+        Ok(Matrices { list })
+    }
+
+    /// The matrices of the dontaudit rules.
+    ///
+    /// # Errors
+    ///
+    /// An error where memory was refused.
+    pub fn compile_silences(alloc: Global, rules: &Rules) -> Result<Matrices, AllocError>
+        ensures compiled { IfOk result (λ m. AllCompiled rules.now.silences rules.now.count 7 m) }
+        ensures silenced { IfOk result (λ m. (policy : List TheStatement) (names : List (List ℕ))
+            → RulesOf policy names rules.now → SayWhatIsSilenced policy names m) }
+    {
+        let silences = rules.silences();
+        let list = matrices_of(alloc, silences, rules.type_count())?;
         Ok(Matrices { list })
     }
 

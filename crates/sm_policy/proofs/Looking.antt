@@ -1,19 +1,25 @@
--- What is written of types by their numbers, and of names that aren't declared.
-use Rattle.std.proofs.Common.{inl, inr, ◌≡◌, ℕ, ◌<◌, ◌≤◌, Bool, true, false, ◌&&◌, ◌||◌, ltb, List, [], ◌∷◌, length, refl, sym, arith}
+-- What is decided of types by their numbers, and of names that aren't declared.
+use Rattle.std.proofs.Common.{inl, inr, ◌≡◌, ℕ, ◌<◌, ◌≤◌, Bool, true, false, not, ◌&&◌, ◌||◌, ltb, List, [], ◌∷◌, length, Option, Some, None, is_some, refl, sym, ap, subst, ◌∙◌, arith, true≢false}
+use Rattle.std.specs.Prelude.{position, slice_get}
 use Rattle.std.specs.List.{list_any}
 use Rattle.std.specs.Str.{bytes_eq}
-use Rattle.std.proofs.lemmas.Bool.{cases_lt, lt-ltb, le-ltb}
+use Rattle.std.proofs.lemmas.Bool.{cases_lt, lt-ltb, le-ltb, and_right, false_from_ne_true}
+use Rattle.std.proofs.lemmas.List.Quantifiers.{position-Some}
 use Rattle.std.proofs.lemmas.Slice.Eq.{bytes_eq-Decides}
+use Rattle.sm_kinds.specs.Permissions.{perm_of}
 use Rattle.sm_kinds.specs.declared.class.Class.{Class}
 use Rattle.sm_kinds.specs.declared.perms.Perms.{Perms}
 use Rattle.sm_ruletext.specs.declared.rule.Rule.{Rule}
 use Rattle.sm_ruletext.specs.declared.statement.What.{What}
-use Rattle.sm_ruletext.specs.declared.statement.What.TheVariants.{Attribute, Declared, Member, Allow, Neverallow}
-use Rattle.sm_types.specs.Names.{Name, at}
+use Rattle.sm_ruletext.specs.declared.statement.What.TheVariants.{Attribute, Declared, Member, Allow, Neverallow, Dontaudit, Permissive}
+use Rattle.sm_types.specs.Names.{Name, at, Distinct}
 use Rattle.sm_types.specs.Denoting.{Policy, types, declares, in_set}
-use Rattle.sm_rules.specs.Access.{joins, allowed_by, allows, written}
-use Rattle.sm_vectors.specs.Tables.{TableOf}
-use Rattle.sm_vectors.specs.Tables as vectors
+use Rattle.sm_types.proofs.Accepted.{declares_type}
+use Rattle.sm_types.proofs.NameLemmas.{place_of}
+use Rattle.sm_neverallow.proofs.Searches.{some_at}
+use Rattle.sm_rules.specs.Access.{joins, allowed_by, allows, silenced_by, silences, is_permissive, allowed, audits}
+use Rattle.sm_vectors.specs.declared.decision.Decision.{Decision}
+use Rattle.sm_vectors.specs.Tables.{Tables, TablesOf, refusal}
 
 -- ---- names that aren't declared
 
@@ -39,6 +45,8 @@ not_by : (policy : Policy) (s t : Name) (class : Class) (perm : Perms) (what : W
     → ((r : Rule) → joins policy s t r ≡ false) → allowed_by policy s t class perm what ≡ false
 not_by policy s t class perm (Allow r) none = rw (none r) refl
 not_by policy s t class perm (Neverallow r) none = refl
+not_by policy s t class perm (Dontaudit r) none = refl
+not_by policy s t class perm (Permissive n) none = refl
 not_by policy s t class perm (Attribute n) none = refl
 not_by policy s t class perm (Declared n names) none = refl
 not_by policy s t class perm (Member n names) none = refl
@@ -49,29 +57,108 @@ not_among policy [] s t class perm none = refl
 not_among policy (st ∷ sts) s t class perm none =
     rw (not_by policy s t class perm st.what none) (not_among policy sts s t class perm none)
 
-pub none_of_source : (policy : Policy) (s t : Name) (class : Class) (perm : Perms) → declares policy s ≡ false
-    → false ≡ written policy s t class perm
-none_of_source policy s t class perm h = sym (not_among policy policy s t class perm (λ r. no_source policy s t r h))
+silent_by : (policy : Policy) (s t : Name) (class : Class) (perm : Perms) (what : What)
+    → ((r : Rule) → joins policy s t r ≡ false) → silenced_by policy s t class perm what ≡ false
+silent_by policy s t class perm (Dontaudit r) none = rw (none r) refl
+silent_by policy s t class perm (Allow r) none = refl
+silent_by policy s t class perm (Neverallow r) none = refl
+silent_by policy s t class perm (Permissive n) none = refl
+silent_by policy s t class perm (Attribute n) none = refl
+silent_by policy s t class perm (Declared n names) none = refl
+silent_by policy s t class perm (Member n names) none = refl
 
-pub none_of_target : (policy : Policy) (s t : Name) (class : Class) (perm : Perms) → declares policy t ≡ false
-    → false ≡ written policy s t class perm
-none_of_target policy s t class perm h = sym (not_among policy policy s t class perm (λ r. no_target policy s t r h))
+silent_among : (policy statements : Policy) (s t : Name) (class : Class) (perm : Perms)
+    → ((r : Rule) → joins policy s t r ≡ false) → list_any (silences policy s t class perm) statements ≡ false
+silent_among policy [] s t class perm none = refl
+silent_among policy (st ∷ sts) s t class perm none =
+    rw (silent_by policy s t class perm st.what none) (silent_among policy sts s t class perm none)
+
+-- what has no number isn't declared
+undeclared : (policy : Policy) (names : List Name) (s : Name) → names ≡ types policy → Distinct names
+    → position (bytes_eq s) (types policy) ≡ None → declares policy s ≡ false
+undeclared policy names s of distinct none = false_from_ne_true (declares policy s) (λ h.
+    let r = some_at (bytes_eq s) (types policy) (declares_type s policy ∙ h) in
+    let found : slice_get (types policy) r.0 ≡ Some s =
+    r.2 ∙ ap (λ (n : Name). Some n) (sym ((bytes_eq-Decides s r.1).0 r.3)) in
+    let e : position (bytes_eq s) (types policy) ≡ Some r.0 =
+    place_of (types policy) s r.0 (subst Distinct of distinct) found in
+    absurd (cc (sym none ∙ e)))
+
+-- a check of what isn't declared passes nowhere, and leaves a record
+refusal_is : (policy : Policy) (s t : Name) (class : Class) (perm : Perms) → ((r : Rule) → joins policy s t r ≡ false)
+    → (is_permissive policy s && (declares policy t && is_some (perm_of class perm))) ≡ false
+    → refusal ≡ record { allowed = allowed policy s t class perm; audited = audits policy s t class perm }
+refusal_is policy s t class perm none strict =
+    rw (not_among policy policy s t class perm none, silent_among policy policy s t class perm none, strict) refl
+
+pub refused_source : (policy : Policy) (names : List Name) (s t : Name) (class : Class) (perm : Perms)
+    → names ≡ types policy → Distinct names → (is_permissive policy s ≡ true → declares policy s ≡ true)
+    → position (bytes_eq s) (types policy) ≡ None
+    → refusal ≡ record { allowed = allowed policy s t class perm; audited = audits policy s t class perm }
+refused_source policy names s t class perm of distinct known none =
+    let h : declares policy s ≡ false = undeclared policy names s of distinct none in
+    let strict : is_permissive policy s ≡ false =
+    false_from_ne_true (is_permissive policy s) (λ e. true≢false (sym (known e) ∙ h)) in
+    refusal_is policy s t class perm (λ r. no_source policy s t r h) (rw strict refl)
+
+pub refused_target : (policy : Policy) (names : List Name) (s t : Name) (class : Class) (perm : Perms)
+    → names ≡ types policy → Distinct names → position (bytes_eq t) (types policy) ≡ None
+    → refusal ≡ record { allowed = allowed policy s t class perm; audited = audits policy s t class perm }
+refused_target policy names s t class perm of distinct none =
+    let h : declares policy t ≡ false = undeclared policy names t of distinct none in
+    refusal_is policy s t class perm (λ r. no_target policy s t r h)
+    (rw h (and_right (is_permissive policy s) false refl))
 
 -- ---- numbers
 
-pub at_is : (policy : Policy) (names : List Name) (table : vectors.Table) (s t : ℕ) (class : Class) (perm : Perms)
-    (result : Bool) → names ≡ types policy → TableOf policy names table
-    → (s < length names → t < length names → result ≡ written policy (at names s) (at names t) class perm)
-    → (length table.places ≤ s → result ≡ false) → (length table.places ≤ t → result ≡ false)
+-- a number that a name has
+named : (policy : Policy) (names : List Name) (s : Name) (i : ℕ) → names ≡ types policy
+    → position (bytes_eq s) (types policy) ≡ Some i → (i < length names) × (at names i ≡ s)
+named policy names s i of found =
+    let p = position-Some (bytes_eq s) names i [] (rw of found) in
+    (p.0, sym ((bytes_eq-Decides s (at names i)).0 p.1))
+
+pub decided : (policy : Policy) (names : List Name) (s t : Name) (i j : ℕ) (class : Class) (perm : Perms)
+    (result : Decision) → names ≡ types policy
+    → position (bytes_eq s) (types policy) ≡ Some i → position (bytes_eq t) (types policy) ≡ Some j
+    → (i < length names → j < length names → result.allowed ≡ allowed policy (at names i) (at names j) class perm)
+    → (i < length names → j < length names → result.audited ≡ audits policy (at names i) (at names j) class perm)
+    → result ≡ record { allowed = allowed policy s t class perm; audited = audits policy s t class perm }
+decided policy names s t i j class perm result of s_at t_at passes records =
+    let p = named policy names s i of s_at in
+    let q = named policy names t j of t_at in
+    rw (← p.1, ← q.1, ← passes p.0 q.0, ← records p.0 q.0) refl
+
+pub at_is : (policy : Policy) (names : List Name) (tables : Tables) (s t : ℕ) (class : Class) (perm : Perms)
+    (result : Bool) → names ≡ types policy → TablesOf policy names tables
+    → (s < length names → t < length names → result ≡ allowed policy (at names s) (at names t) class perm)
+    → (tables.count ≤ s → result ≡ false) → (tables.count ≤ t → result ≡ false)
     → result ≡ ((ltb s (length (types policy)) && ltb t (length (types policy)))
-    && written policy (at (types policy) s) (at (types policy) t) class perm)
-at_is policy names table s t class perm result named of says past_s past_t =
+    && allowed policy (at (types policy) s) (at (types policy) t) class perm)
+at_is policy names tables s t class perm result named of says past_s past_t =
     rw (← named) (elim (cases_lt s (length names)) [
       | inl hs ↦ elim (cases_lt t (length names)) [
         | inl ht ↦ rw (lt-ltb s (length names) hs, lt-ltb t (length names) ht) (says hs ht)
-        | inr ht ↦ (let past : length table.places ≤ t = omega (arith, of.count) in
+        | inr ht ↦ (let past : tables.count ≤ t = omega (arith, of.count) in
             rw (past_t past, lt-ltb s (length names) hs, le-ltb t (length names) ht) refl)
       ]
-      | inr hs ↦ (let past : length table.places ≤ s = omega (arith, of.count) in
+      | inr hs ↦ (let past : tables.count ≤ s = omega (arith, of.count) in
+          rw (past_s past, le-ltb s (length names) hs) refl)
+    ])
+
+pub audited_at_is : (policy : Policy) (names : List Name) (tables : Tables) (s t : ℕ) (class : Class) (perm : Perms)
+    (result : Bool) → names ≡ types policy → TablesOf policy names tables
+    → (s < length names → t < length names → result ≡ audits policy (at names s) (at names t) class perm)
+    → (tables.count ≤ s → result ≡ true) → (tables.count ≤ t → result ≡ true)
+    → result ≡ (not (ltb s (length (types policy)) && ltb t (length (types policy)))
+    || audits policy (at (types policy) s) (at (types policy) t) class perm)
+audited_at_is policy names tables s t class perm result named of says past_s past_t =
+    rw (← named) (elim (cases_lt s (length names)) [
+      | inl hs ↦ elim (cases_lt t (length names)) [
+        | inl ht ↦ rw (lt-ltb s (length names) hs, lt-ltb t (length names) ht) (says hs ht)
+        | inr ht ↦ (let past : tables.count ≤ t = omega (arith, of.count) in
+            rw (past_t past, lt-ltb s (length names) hs, le-ltb t (length names) ht) refl)
+      ]
+      | inr hs ↦ (let past : tables.count ≤ s = omega (arith, of.count) in
           rw (past_s past, le-ltb s (length names) hs) refl)
     ])

@@ -1,11 +1,25 @@
 -- The sizes of a policy.
-use Rattle.std.specs.Prelude.{List, length}
+use Rattle.std.specs.Prelude.{ℕ, Bool, true, false, List, length, count_by}
 use Rattle.sm_ruletext.specs.declared.statement.Statement.{Statement}
-use Rattle.sm_ruletext.specs.Statements.{rule_count}
+use Rattle.sm_ruletext.specs.declared.statement.What.{What}
+use Rattle.sm_ruletext.specs.declared.statement.What.TheVariants.{Attribute, Declared, Member, Allow, Neverallow, Dontaudit, Permissive}
 use Rattle.sm_types.specs.Denoting.{types, attributes}
 use Rattle.sm_contexts.specs.Reading.{Entry}
 use Rattle.sm_policy.specs.declared.counts.Counts.{Counts}
 use Rattle.sm_policy.specs.Policy.{Policy}
+
+-- It is an allow or a neverallow rule.
+abbrev pub is_counted : What → Bool
+is_counted (Allow r) = true
+is_counted (Neverallow r) = true
+is_counted (Dontaudit r) = false
+is_counted (Permissive n) = false
+is_counted (Attribute n) = false
+is_counted (Declared n names) = false
+is_counted (Member n names) = false
+
+abbrev pub rule_count : List Statement → ℕ
+rule_count statements = count_by (λ s. is_counted s.what) statements
 
 abbrev pub counted : List Statement → List Entry → Counts
 counted statements entries = record {
@@ -15,6 +29,6 @@ counted statements entries = record {
   labels = length entries;
 }
 
--- Declared types and attributes, kept rules, and distinct keys.
+-- Declared types and attributes, kept allow and neverallow rules, and distinct keys.
 abbrev pub counts_of : Policy → Counts
 counts_of policy = counted policy.statements policy.entries

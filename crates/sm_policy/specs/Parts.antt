@@ -5,15 +5,15 @@ use Rattle.sm_types.specs.declared.table.Table.{Table}
 use Rattle.sm_types.specs.Members.{IsOf}
 use Rattle.sm_contexts.specs.Reading.{Entry}
 use Rattle.sm_rules.specs.Keeping.{KeptRules, RulesOf}
-use Rattle.sm_vectors.specs.Tables.{TableOf}
+use Rattle.sm_vectors.specs.Tables.{TablesOf}
 use Rattle.sm_vectors.specs.Tables as vectors
 use Rattle.sm_policy.specs.Counting.{counted}
 use Rattle.sm_policy.specs.declared.counts.Counts.{Counts}
 
 -- The types, the rules, the bytes and the sizes are those of the statements and entries.
 pub record AreOneText (statements : List Statement) (entries : List Entry) (types : Table) (rules : KeptRules)
-    (table : vectors.Table) (counts : Counts) : Type 0 where
+    (tables : vectors.Tables) (counts : Counts) : Type 0 where
   pub typed : IsOf statements types
   pub ruled : RulesOf statements types.symbols.types rules
-  pub tabled : TableOf statements types.symbols.types table
+  pub tabled : TablesOf statements types.symbols.types tables
   pub sizes : counts ≡ counted statements entries

@@ -1,13 +1,15 @@
 -- A policy: the statements of its rule text and the entries of its contexts text.
-use Rattle.std.specs.Prelude.{ℕ, Bool, ◌&&◌, nat_lt, List, [], length, position, Option, unwrap_or}
+use Rattle.std.specs.Prelude.{ℕ, Bool, not, ◌&&◌, ◌||◌, nat_lt, List, [], length, position, Option, is_some, unwrap_or}
 use Rattle.std.specs.Str.{bytes_eq}
+use Rattle.sm_kinds.specs.Permissions.{perm_of}
 use Rattle.sm_kinds.specs.declared.class.Class.{Class}
 use Rattle.sm_kinds.specs.declared.perms.Perms.{Perms}
 use Rattle.sm_ruletext.specs.declared.statement.Statement.{Statement}
 use Rattle.sm_types.specs.Names.{at}
-use Rattle.sm_types.specs.Denoting.{types}
+use Rattle.sm_types.specs.Denoting.{types, declares}
 use Rattle.sm_contexts.specs.Reading.{Entry, label}
 use Rattle.sm_rules.specs.Access as access
+use Rattle.sm_vectors.specs.declared.decision.Decision.{Decision}
 
 pub record Policy : Type 0 where
   pub statements : List Statement
@@ -18,8 +20,35 @@ abbrev pub no_policy : Policy
 no_policy = record { statements = []; entries = [] }
 
 -- Some allow rule gives the source type this permission on the target type.
+abbrev pub written : Policy → List ℕ → List ℕ → Class → Perms → Bool
+written policy source target class perm = access.written policy.statements source target class perm
+
+-- The rule text makes the type permissive.
+abbrev pub is_permissive : Policy → List ℕ → Bool
+is_permissive policy source = access.is_permissive policy.statements source
+
+-- Some dontaudit rule covers it.
+abbrev pub silenced : Policy → List ℕ → List ℕ → Class → Perms → Bool
+silenced policy source target class perm = access.silenced policy.statements source target class perm
+
+-- A check of it passes: some allow rule gives it; or the source is permissive, the target is declared, and the
+-- permission is a single one of the class.
 unfoldable pub allowed : Policy → List ℕ → List ℕ → Class → Perms → Bool
-allowed policy source target class perm = access.written policy.statements source target class perm
+allowed policy source target class perm =
+    written policy source target class perm
+    || (is_permissive policy source && (declares policy.statements target && is_some (perm_of class perm)))
+
+-- A check of it leaves a record, passed or not: no allow rule gives it, and no dontaudit rule covers it.
+unfoldable pub audits : Policy → List ℕ → List ℕ → Class → Perms → Bool
+audits policy source target class perm =
+    not (written policy source target class perm) && not (silenced policy source target class perm)
+
+-- Both of it.
+abbrev pub decision : Policy → List ℕ → List ℕ → Class → Perms → Decision
+decision policy source target class perm = record {
+  allowed = allowed policy source target class perm;
+  audited = audits policy source target class perm;
+}
 
 -- The line of the first allow rule that gives it.
 unfoldable pub written_at : Policy → List ℕ → List ℕ → Class → Perms → Option ℕ
@@ -35,11 +64,18 @@ allowed_at policy source target class perm =
     (nat_lt source (length (types policy.statements)) && nat_lt target (length (types policy.statements)))
     && allowed policy (at (types policy.statements) source) (at (types policy.statements) target) class perm
 
+-- The same as `audits` for the types of these numbers; all is audited where there is no such type.
+abbrev pub audits_at : Policy → ℕ → ℕ → Class → Perms → Bool
+audits_at policy source target class perm =
+    not (nat_lt source (length (types policy.statements)) && nat_lt target (length (types policy.statements)))
+    || audits policy (at (types policy.statements) source) (at (types policy.statements) target) class perm
+
 -- The context of the services of a name.
 unfoldable pub label_of : Policy → List ℕ → List ℕ
 label_of policy name = unwrap_or (label policy.entries name) []
 
--- Nothing that an allow rule gives is forbidden by a neverallow rule.
+-- Nothing that an allow rule gives is forbidden by a neverallow rule. What a permissive type may do besides doesn't
+-- count.
 pub record IsConsistent (policy : Policy) : Type 0 where
   pub apart : access.IsConsistent policy.statements
 

@@ -2,12 +2,12 @@
 
 ghost use Rattle.std.specs.Prelude.{◌≡◌, ◌≤◌, length};
 ghost use Rattle.sm_kinds.specs.declared.limits.TheConstants.{MOST_TEXT_BYTES};
-ghost use Rattle.sm_ruletext.specs.Statements.{rule_count};
 ghost use Rattle.sm_types.specs.Members.{IsOf};
 ghost use Rattle.sm_policy.specs.Counting as spec;
+ghost use Rattle.sm_policy.specs.Counting.{is_counted, rule_count};
 
 use sm_contexts::Contexts;
-use sm_ruletext::Statement;
+use sm_ruletext::{Statement, What};
 use sm_types::Types;
 
 /// What `svcmgr check` tells of a policy.
@@ -23,13 +23,20 @@ pub struct Counts {
     pub labels: u32,
 }
 
+/// Whether it is an allow or a neverallow rule.
+fn is_counted(what: &What) -> bool
+    ensures { result ≡ is_counted what.now }
+{
+    matches!(what, What::Allow(_) | What::Neverallow(_))
+}
+
 fn rule_count(statements: &[Statement]) -> u32
     requires { length statements.now ≤ MOST_TEXT_BYTES }
     ensures { result ≡ rule_count statements.now }
 {
     let mut count: u32 = 0;
     for statement in statements {
-        if statement.what.is_rule() {
+        if is_counted(&statement.what) {
             count += 1;
         }
     }

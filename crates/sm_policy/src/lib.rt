@@ -14,5 +14,6 @@ pub use counts::Counts;
 pub use fault::PolicyFault;
 pub use prepared::Prepared;
 pub use refused::refused_text;
+pub use sm_vectors::Decision;
 pub use snapshot::Snapshot;
 pub use violation::Violation;

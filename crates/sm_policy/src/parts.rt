@@ -9,7 +9,7 @@ use sm_neverallow::Matrices;
 use sm_rules::Rules;
 use sm_ruletext::Statement;
 use sm_types::Types;
-use sm_vectors::Vectors;
+use sm_vectors::{Decision, Vectors};
 use std::alloc::Global;
 use std::marker::Model;
 use std::snapshot;
@@ -47,8 +47,8 @@ fn seen(statements: Vec<Statement>) -> snapshot::Snapshot<Vec<Statement>>
 ghost use Rattle.std.specs.Prelude.{◌≡◌};
 
 impl Parts {
-    ghost use Rattle.std.specs.Prelude.{◌≡◌, IfOk, IfErr};
-    ghost use Rattle.sm_policy.specs.Policy.{IsConsistent, label_of, written_at, allowed, allowed_at, type_index};
+    ghost use Rattle.std.specs.Prelude.{◌≡◌, ℕ, List, IfOk, IfErr};
+    ghost use Rattle.sm_policy.specs.Policy.{IsConsistent, label_of, written_at, allowed, audits, decision, allowed_at, audits_at, type_index};
     ghost use Rattle.sm_policy.specs.Breaking.{IfNeverallow, IsBrokenText};
     ghost use Rattle.sm_policy.specs.Counting.{counts_of};
     ghost use Rattle.sm_kinds.specs.Reading.{Gives};
@@ -87,24 +87,57 @@ impl Parts {
         self.types.index(name)
     }
 
-    /// Whether some allow rule gives the permission on the types of these numbers.
+    /// Whether the permission on the types of these numbers passes.
     pub fn allows_at(&self, source: u16, target: u16, class: Class, perm: Perms) -> bool
         ensures { result ≡ allowed_at self.now source target class perm }
     {
         self.vectors.allows(source, target, class, perm)
     }
 
-    /// Whether some allow rule gives the permission.
-    pub fn allows(&self, source: &[u8], target: &[u8], class: Class, perm: Perms) -> bool
-        ensures { result ≡ allowed self.now source.now target.now class perm }
+    /// Whether a check of the permission on the types of these numbers leaves a record.
+    pub fn audits_at(&self, source: u16, target: u16, class: Class, perm: Perms) -> bool
+        ensures { result ≡ audits_at self.now source target class perm }
     {
-        let Some(s) = self.types.index(source) else {
-            return false;
+        self.vectors.audits(source, target, class, perm)
+    }
+
+    /// The decision on types that may have a number.
+    pub fn decide_at(
+        &self,
+        source: Option<u16>,
+        target: Option<u16>,
+        class: Class,
+        perm: Perms,
+    ) -> Decision
+        ensures { (s t : List ℕ) → source ≡ type_index self.now s → target ≡ type_index self.now t
+            → result ≡ decision self.now s t class perm }
+    {
+        let vectors = &self.vectors;
+        let Some(s) = source else {
+            return Decision {
+                allowed: false,
+                audited: true,
+            };
         };
-        let Some(t) = self.types.index(target) else {
-            return false;
+        let Some(t) = target else {
+            return Decision {
+                allowed: false,
+                audited: true,
+            };
         };
-        self.vectors.allows(s, t, class, perm)
+        vectors.decide(s, t, class, perm)
+    }
+
+    /// The decision on types by their names.
+    pub fn decide(&self, source: &[u8], target: &[u8], class: Class, perm: Perms) -> Decision
+        ensures { result ≡ decision self.now source.now target.now class perm }
+    {
+        self.decide_at(
+            self.type_index(source),
+            self.type_index(target),
+            class,
+            perm,
+        )
     }
 
     /// The line of the first allow rule that gives the permission, if there is one.

@@ -1,8 +1,8 @@
 //! A policy that was read.
 
-use crate::PolicyFault;
 use crate::counts::Counts;
 use crate::parts::Parts;
+use crate::{Decision, PolicyFault};
 use sm_kinds::{Class, Context, Perms};
 use std::alloc::{AllocError, Global};
 use std::marker::Model;
@@ -36,8 +36,8 @@ impl Drop for Prepared {
 }
 
 impl Prepared {
-    ghost use Rattle.std.specs.Prelude.{◌≡◌, IfOk, IfErr};
-    ghost use Rattle.sm_policy.specs.Policy.{allowed, allowed_at, type_index, label_of, written_at, IsConsistent};
+    ghost use Rattle.std.specs.Prelude.{◌≡◌, ℕ, List, IfOk, IfErr};
+    ghost use Rattle.sm_policy.specs.Policy.{allowed, audits, decision, allowed_at, audits_at, type_index, label_of, written_at, IsConsistent};
     ghost use Rattle.sm_policy.specs.Breaking.{IfNeverallow, IsBrokenText};
     ghost use Rattle.sm_policy.specs.Counting.{counts_of};
     ghost use Rattle.sm_kinds.specs.Reading.{Gives};
@@ -62,32 +62,62 @@ impl Prepared {
         Ok(Prepared { parts })
     }
 
-    /// Whether some allow rule gives the source type this permission on the target type. Types are given by
-    /// their names. `false` for a type that isn't declared and for a `perm` that is no single permission of
-    /// the class.
+    /// Whether a check of this permission passes: some allow rule gives it to the source type on the target type,
+    /// or the source is permissive and the target declared. Types are given by their names. `false` for a type that
+    /// isn't declared and for a `perm` that is no single permission of the class.
     pub fn allows(&self, source: &[u8], target: &[u8], class: Class, perm: Perms) -> bool
         ensures { result ≡ allowed self.now source.now target.now class perm }
     {
-        self.parts.allows(source, target, class, perm)
+        self.parts.decide(source, target, class, perm).allowed
     }
 
-    /// The number of a type, by which `allows_at` asks: 0 for the first that is declared. `None`: the rule text
-    /// declares no type of that name. Another policy may give the type another number.
+    /// Whether a check of it leaves a record, passed or not: no allow rule gives it, and no dontaudit rule covers
+    /// it. `true` for a type that isn't declared and for a `perm` that is no single permission of the class.
+    pub fn audits(&self, source: &[u8], target: &[u8], class: Class, perm: Perms) -> bool
+        ensures { result ≡ audits self.now source.now target.now class perm }
+    {
+        self.parts.decide(source, target, class, perm).audited
+    }
+
+    /// The number of a type, by which `allows_at`, `audits_at` and `decide_at` ask: 0 for the first that is
+    /// declared. `None`: the rule text declares no type of that name. Another policy may give the type another
+    /// number.
     pub fn type_index(&self, name: &[u8]) -> Option<u16>
         ensures { result ≡ type_index self.now name.now }
     {
         self.parts.type_index(name)
     }
 
-    /// The same as `allows` for the types of these numbers, in one look. `false` where there is no type of such a
-    /// number.
+    /// The same as `allows` for the types of these numbers. `false` where there is no type of such a number.
     pub fn allows_at(&self, source: u16, target: u16, class: Class, perm: Perms) -> bool
         ensures { result ≡ allowed_at self.now source target class perm }
     {
         self.parts.allows_at(source, target, class, perm)
     }
 
-    /// The line of the first allow rule that gives it.
+    /// The same as `audits` for the types of these numbers. `true` where there is no type of such a number.
+    pub fn audits_at(&self, source: u16, target: u16, class: Class, perm: Perms) -> bool
+        ensures { result ≡ audits_at self.now source target class perm }
+    {
+        self.parts.audits_at(source, target, class, perm)
+    }
+
+    /// What `allows` and `audits` say of two types whose `type_index` is `source` and `target`, in one look where an
+    /// allow rule gives the permission. Where a type isn't declared, nothing passes, and all leaves a record.
+    pub fn decide_at(
+        &self,
+        source: Option<u16>,
+        target: Option<u16>,
+        class: Class,
+        perm: Perms,
+    ) -> Decision
+        ensures { (s t : List ℕ) → source ≡ type_index self.now s → target ≡ type_index self.now t
+            → result ≡ decision self.now s t class perm }
+    {
+        self.parts.decide_at(source, target, class, perm)
+    }
+
+    /// The line of the first allow rule that gives it. A permissive source has none for what no rule gives.
     pub fn why(&self, source: &[u8], target: &[u8], class: Class, perm: Perms) -> Option<u32>
         ensures { result ≡ written_at self.now source.now target.now class perm }
     {

@@ -1,6 +1,6 @@
 //! A policy in force.
 
-use crate::Prepared;
+use crate::{Decision, Prepared};
 use sm_kinds::{Class, Context, Perms};
 use std::marker::Model;
 
@@ -20,9 +20,9 @@ impl Model for Snapshot {
 }
 
 impl Snapshot {
-    ghost use Rattle.std.specs.Prelude.{◌≡◌};
+    ghost use Rattle.std.specs.Prelude.{◌≡◌, ℕ, List};
     ghost use Rattle.sm_kinds.specs.Contexts.{type_of};
-    ghost use Rattle.sm_policy.specs.Policy.{allowed, allowed_at, type_index, label_of, written_at};
+    ghost use Rattle.sm_policy.specs.Policy.{allowed, audits, decision, allowed_at, audits_at, type_index, label_of, written_at};
 
     /// A policy with its version.
     pub fn new(prepared: Prepared, version: u64) -> Snapshot
@@ -52,11 +52,20 @@ impl Snapshot {
         self.label(name).type_name()
     }
 
-    /// Whether some allow rule gives the source type this permission on the target type.
+    /// Whether a check of this permission passes: some allow rule gives it to the source type on the target type,
+    /// or the source is permissive and the target declared.
     pub fn allows(&self, source: &[u8], target: &[u8], class: Class, perm: Perms) -> bool
         ensures { result ≡ allowed self.now.policy source.now target.now class perm }
     {
         self.prepared.allows(source, target, class, perm)
+    }
+
+    /// Whether a check of it leaves a record, passed or not: no allow rule gives it, and no dontaudit rule covers
+    /// it.
+    pub fn audits(&self, source: &[u8], target: &[u8], class: Class, perm: Perms) -> bool
+        ensures { result ≡ audits self.now.policy source.now target.now class perm }
+    {
+        self.prepared.audits(source, target, class, perm)
     }
 
     /// The number of a type in this policy, if it is declared.
@@ -66,12 +75,34 @@ impl Snapshot {
         self.prepared.type_index(name)
     }
 
-    /// Whether some allow rule gives the permission on the types of these numbers in this policy. `false` where
-    /// there is no type of such a number.
+    /// The same as `allows` for the types of these numbers in this policy. `false` where there is no type of such
+    /// a number.
     pub fn allows_at(&self, source: u16, target: u16, class: Class, perm: Perms) -> bool
         ensures { result ≡ allowed_at self.now.policy source target class perm }
     {
         self.prepared.allows_at(source, target, class, perm)
+    }
+
+    /// The same as `audits` for the types of these numbers in this policy. `true` where there is no type of such a
+    /// number.
+    pub fn audits_at(&self, source: u16, target: u16, class: Class, perm: Perms) -> bool
+        ensures { result ≡ audits_at self.now.policy source target class perm }
+    {
+        self.prepared.audits_at(source, target, class, perm)
+    }
+
+    /// What `allows` and `audits` say of two types whose `type_index` is `source` and `target`.
+    pub fn decide_at(
+        &self,
+        source: Option<u16>,
+        target: Option<u16>,
+        class: Class,
+        perm: Perms,
+    ) -> Decision
+        ensures { (s t : List ℕ) → source ≡ type_index self.now.policy s → target ≡ type_index self.now.policy t
+            → result ≡ decision self.now.policy s t class perm }
+    {
+        self.prepared.decide_at(source, target, class, perm)
     }
 
     /// The line of the first allow rule that gives it.

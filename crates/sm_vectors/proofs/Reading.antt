@@ -15,7 +15,7 @@ use Rattle.sm_kinds.specs.declared.perms.Perms.{Perms}
 use Rattle.sm_ruletext.specs.Sets.{selects}
 use Rattle.sm_ruletext.specs.declared.rule.Rule.{Rule}
 use Rattle.sm_ruletext.specs.declared.statement.What.{What}
-use Rattle.sm_ruletext.specs.declared.statement.What.TheVariants.{Attribute, Declared, Member, Allow, Neverallow}
+use Rattle.sm_ruletext.specs.declared.statement.What.TheVariants.{Attribute, Declared, Member, Allow, Neverallow, Dontaudit, Permissive}
 use Rattle.sm_types.specs.Names.{Name}
 use Rattle.sm_types.specs.Denoting.{Policy}
 use Rattle.sm_rules.specs.Access.{gives, joins, allowed_by, allows, written}
@@ -44,6 +44,8 @@ not_by : (policy : Policy) (s t : Name) (class : Class) (perm : Perms) (what : W
 not_by policy s t class perm (Allow r) none = and_right (joins policy s t r) (gives class perm r)
     (unnamed r class perm none)
 not_by policy s t class perm (Neverallow r) none = refl
+not_by policy s t class perm (Dontaudit r) none = refl
+not_by policy s t class perm (Permissive n) none = refl
 not_by policy s t class perm (Attribute n) none = refl
 not_by policy s t class perm (Declared n names) none = refl
 not_by policy s t class perm (Member n names) none = refl
@@ -62,3 +64,7 @@ unwritten policy s t class perm none = not_among policy policy s t class perm no
 pub no_bits : (n t b : ℕ) → t < n → has_bit (get_or (replicate n 0) t 0) b ≡ false
 unfolding has_bit
 no_bits n t b h = rw (get_or-replicate {A = ℕ} n t 0 0 h, bit_at-zero b) refl
+
+pub no_bit : (b : ℕ) → has_bit 0 b ≡ false
+unfolding has_bit
+no_bit b = rw (bit_at-zero b) refl

@@ -1,11 +1,12 @@
 -- Bytes for pairs of types: a bit for each permission.
-use Rattle.std.specs.Prelude.{◌≡◌, ℕ, ◌<◌, List, length}
+use Rattle.std.specs.Prelude.{◌≡◌, ℕ, true, false, not, ◌<◌, if◌then◌else◌, List, length}
 use Rattle.std.proofs.Common.{get_or}
-use Rattle.sm_bits.specs.Bits.{row, has_bit}
+use Rattle.sm_bits.specs.Bits.{row, has, has_bit}
 use Rattle.sm_types.specs.Names.{Name, at}
-use Rattle.sm_types.specs.Denoting.{Policy}
-use Rattle.sm_rules.specs.Access.{written}
-use Rattle.sm_rules.specs.Keeping.{class_at, perm_at}
+use Rattle.sm_types.specs.Denoting.{Policy, declares}
+use Rattle.sm_rules.specs.Access.{written, silenced}
+use Rattle.sm_rules.specs.Keeping.{class_at, perm_at, SaysPermissive}
+use Rattle.sm_vectors.specs.declared.decision.Decision.{Decision}
 
 -- Distinct rows of a byte for each target, and for each source the place of its row.
 pub record Table : Type 0 where
@@ -16,8 +17,38 @@ pub record Table : Type 0 where
 abbrev pub byte_at : Table → ℕ → ℕ → ℕ
 byte_at table s t = get_or (row table.rows (get_or table.places s 0)) t 0
 
--- The table says what the policy, whose types have these names, allows.
-pub record TableOf (policy : Policy) (names : List Name) (table : Table) : Type 0 where
-  pub count : length table.places ≡ length names
+-- What contracts see of the tables of a policy: the number of types, what its allow rules give, what its dontaudit
+-- rules cover, and its permissive types.
+pub record Tables : Type 0 where
+  pub count : ℕ
+  pub written : Table
+  pub silenced : Table
+  pub permissive : List ℕ
+
+-- The decision where nothing is said: it doesn't pass, and a record is kept.
+abbrev pub refusal : Decision
+refusal = record { allowed = false; audited = true }
+
+-- The decision of the tables for permission b, source s and target t.
+abbrev pub decision : Tables → ℕ → ℕ → ℕ → Decision
+decision tables b s t =
+    if has_bit (byte_at tables.written s t) b then record { allowed = true; audited = false }
+    else record { allowed = has tables.permissive s; audited = not (has_bit (byte_at tables.silenced s t) b) }
+
+-- The table says what the policy, whose types have these names, allows by its rules.
+pub record SaysWritten (policy : Policy) (names : List Name) (table : Table) : Type 0 where
   pub says : (b s t : ℕ) → b < 7 → s < length names → t < length names
       → has_bit (byte_at table s t) b ≡ written policy (at names s) (at names t) (class_at b) (perm_at b)
+
+-- The table says what its dontaudit rules cover.
+pub record SaysSilenced (policy : Policy) (names : List Name) (table : Table) : Type 0 where
+  pub says : (b s t : ℕ) → b < 7 → s < length names → t < length names
+      → has_bit (byte_at table s t) b ≡ silenced policy (at names s) (at names t) (class_at b) (perm_at b)
+
+-- The tables are those of the policy.
+pub record TablesOf (policy : Policy) (names : List Name) (tables : Tables) : Type 0 where
+  pub count : tables.count ≡ length names
+  pub written : SaysWritten policy names tables.written
+  pub silenced : SaysSilenced policy names tables.silenced
+  pub permissive : SaysPermissive policy names tables.permissive
+  pub declared : (i : ℕ) → i < length names → declares policy (at names i) ≡ true

@@ -1,80 +1,90 @@
-//! A byte for each pair of types.
+//! What a policy decides for each pair of types.
 
-ghost use Rattle.std.specs.Prelude.{◌≡◌, ◌<◌, ◌≤◌, ◌+◌, ◌/◌, ℕ, List, length, slice_index, IfOk, false};
-ghost use Rattle.sm_bits.specs.Bits.{has, has_bit, row};
-ghost use Rattle.sm_types.specs.declared.TheConstants.{MOST_TYPES};
-ghost use Rattle.sm_neverallow.specs.Matrices.{matrix, AllSquare};
+ghost use Rattle.std.specs.Prelude.{◌≡◌, ◌+◌, ◌/◌, ℕ, List, length, IfOk};
+ghost use Rattle.sm_bits.specs.Bits.{has};
+ghost use Rattle.sm_ruletext.specs.declared.statement.Statement.{Statement as TheStatement};
+ghost use Rattle.sm_rules.specs.Keeping.{RulesOf};
+ghost use Rattle.sm_vectors.specs.Tables.{SaysSilenced};
 
-use crate::byte_rows::ByteRows;
-use sm_bits::has_bit;
+use crate::Decision;
+use crate::byte_table::ByteTable;
+use sm_bits::{BitRow, has_bit};
 use sm_kinds::{Class, Perms};
 use sm_neverallow::Matrices;
-use sm_rules::{PERM_COUNT, Rules, number_of};
+use sm_rules::{Rules, number_of};
 use sm_types::TypeCount;
 use std::alloc::{AllocError, Global};
 use std::marker::Model;
 
-/// Sets in the bytes of a source, for each target, the permissions that the matrices have.
-fn mark_source(bytes: &mut [u8], matrices: &Matrices, count: TypeCount, source: usize)
-    requires room { length bytes.old ≡ count }
-    requires none { (t b : ℕ) → t < count → has_bit (slice_index bytes.old t) b ≡ false }
-    requires number { length matrices.now ≡ 7 }
-    requires square { AllSquare matrices.now count }
-    requires source { source < count }
-    ensures { (t b : ℕ) → t < count → b < 7
-        → has_bit (slice_index bytes.new t) b ≡ has (row (matrix matrices.now b) source) t }
+/// The bytes of the dontaudit rules.
+fn silenced_bytes(alloc: Global, rules: &Rules) -> Result<ByteTable, AllocError>
+    ensures { IfOk result (λ table. (policy : List TheStatement) (names : List (List ℕ))
+        → RulesOf policy names rules.now → SaysSilenced policy names table) }
 {
-    prove!(count.words() < 1000);
-    for bit in 0..PERM_COUNT {
-        matrices.targets(bit, source).mark(bytes, bit);
+    if rules.silences().is_empty() {
+        return Ok(ByteTable::empty(alloc));
     }
+    let matrices = Matrices::compile_silences(alloc, rules)?;
+    ByteTable::compile(alloc, &matrices, rules.type_count())
 }
 
-/// The bytes of a source.
-fn bytes_of(
-    alloc: Global,
-    matrices: &Matrices,
-    count: TypeCount,
-    source: usize,
-) -> Result<Vec<u8>, AllocError>
-    requires number { length matrices.now ≡ 7 }
-    requires square { AllSquare matrices.now count }
-    requires source { source < count }
-    ensures room { IfOk result (λ bytes. length bytes.items ≡ count) }
-    ensures says { IfOk result (λ bytes. (t b : ℕ) → t < count → b < 7
-        → has_bit (slice_index bytes.items t) b ≡ has (row (matrix matrices.now b) source) t) }
+/// The permissive types, in a row of their own.
+fn permissive_row(alloc: Global, rules: &Rules) -> Result<BitRow, AllocError>
+    ensures room { IfOk result (λ row. length row ≡ rules.now.count / 64 + 1) }
+    ensures same { IfOk result (λ row. (i : ℕ) → has row i ≡ has rules.now.permissive i) }
 {
-    let mut bytes = vec![in alloc; 0u8; count.get()]?;
-    mark_source(&mut bytes, matrices, count, source);
-    Ok(bytes)
+    let mut row = BitRow::empty(alloc, rules.type_count().words())?;
+    row.union_with(rules.permissive_types());
+    Ok(row)
 }
 
-/// For each pair of types a byte, with a bit for each permission that is allowed. A row of equal bytes
-/// is kept once.
-#[derive(Drop)]
+/// For each pair of types the permissions that allow rules give and those that dontaudit rules cover, and the
+/// permissive types.
 pub struct Vectors {
-    places: Vec<usize>,
-    rows: ByteRows,
+    count: TypeCount,
+    written: ByteTable,
+    silenced: ByteTable,
+    permissive: BitRow,
 }
 
 impl Model for Vectors {
-    ghost use Rattle.sm_vectors.specs.Tables.{Table};
+    ghost use Rattle.std.specs.Prelude.{◌≡◌, ◌+◌, ◌/◌, length};
+    ghost use Rattle.sm_vectors.specs.Tables.{Tables};
 
-    ghost Value = { Table };
+    ghost Value = { Tables };
 
-    ghost view = { λ v. record { places = v.places.items; rows = v.rows } };
+    ghost view = { λ v. record {
+      count = v.count;
+      written = v.written;
+      silenced = v.silenced;
+      permissive = v.permissive;
+    } };
+
+    ghost invariant = { λ v. length v.permissive ≡ v.count / 64 + 1 };
+}
+
+// By hand: where vectors are let go, a caller's proof has one step, and not those of their parts.
+impl Drop for Vectors {
+    fn drop(self) {
+        let Vectors {
+            count: _,
+            written: _,
+            silenced: _,
+            permissive: _,
+        } = self;
+    }
 }
 
 impl Vectors {
-    ghost use Rattle.std.specs.Prelude.{◌≡◌, ◌<◌, ◌≤◌, ℕ, List, length, IfOk, false};
+    ghost use Rattle.std.specs.Prelude.{◌≡◌, ◌<◌, ◌≤◌, ℕ, List, length, IfOk, true, false};
     ghost use Rattle.sm_ruletext.specs.declared.statement.Statement.{Statement as TheStatement};
     ghost use Rattle.sm_types.specs.Names.{at};
-    ghost use Rattle.sm_rules.specs.Access.{written};
+    ghost use Rattle.sm_rules.specs.Access.{allowed, audits};
     ghost use Rattle.sm_rules.specs.Keeping.{RulesOf};
     ghost use Rattle.sm_neverallow.specs.Matrices.{AllCompiled, SayWhatIsWritten};
-    ghost use Rattle.sm_vectors.specs.Tables.{TableOf, byte_at};
+    ghost use Rattle.sm_vectors.specs.Tables.{TablesOf, decision, refusal};
 
-    /// The bytes of some rules, by their matrices.
+    /// The decisions of some rules, `matrices` being those of the allow rules.
     ///
     /// # Errors
     ///
@@ -83,54 +93,95 @@ impl Vectors {
         requires { AllCompiled rules.now.allows rules.now.count 7 matrices.now }
         ensures { IfOk result (λ vectors. (policy : List TheStatement) (names : List (List ℕ))
             → RulesOf policy names rules.now → SayWhatIsWritten policy names matrices.now
-            → TableOf policy names vectors) }
+            → TablesOf policy names vectors) }
     {
         let count = rules.type_count();
-        let mut rows = ByteRows::new(alloc);
-        let mut places = Vec::new(alloc);
-        for source in 0..count.get() {
-            let bytes = bytes_of(alloc, matrices, count, source)?;
-            let place = rows.place_of(bytes)?;
-            places.push(place)?;
-        }
-        Ok(Vectors { places, rows })
+        let written = ByteTable::compile(alloc, matrices, count)?;
+        let silenced = silenced_bytes(alloc, rules)?;
+        let permissive = permissive_row(alloc, rules)?;
+        Ok(Vectors {
+            count,
+            written,
+            silenced,
+            permissive,
+        })
     }
 
-    /// The byte of a source and a target; 0 where there is no such target.
-    fn byte(&self, source: usize, target: usize) -> u8
-        requires { source < length self.now.places }
-        ensures { result ≡ byte_at self.now source target }
+    /// The decision for permission `bit`. What an allow rule gives needs one look.
+    fn decide_bit(&self, s: usize, t: usize, bit: u32) -> Decision
+        requires bit { bit < 7 }
+        requires source { s < self.now.count }
+        ensures { result ≡ decision self.now bit s t }
     {
-        match self.rows.get(self.places[source]) {
-            Some(row) => match row.get(target) {
-                Some(byte) => *byte,
-                None => 0,
-            },
-            None => 0,
+        if has_bit(self.written.byte(s, t), bit) {
+            return Decision {
+                allowed: true,
+                audited: false,
+            };
+        }
+        Decision {
+            allowed: self.permissive.has(s),
+            audited: !has_bit(self.silenced.byte(s, t), bit),
         }
     }
 
-    /// Whether some allow rule gives the permission on the two types, by their numbers. `false` where there
-    /// is no type of such a number, or `perm` is no single permission of the class.
-    pub fn allows(&self, source: u16, target: u16, class: Class, perm: Perms) -> bool
-        ensures written { (policy : List TheStatement) (names : List (List ℕ))
-            → TableOf policy names self.now
+    /// The decision on the two types, by their numbers. Where there is no type of such a number, or `perm` is no
+    /// single permission of the class, nothing is allowed, and it is audited.
+    pub fn decide(&self, source: u16, target: u16, class: Class, perm: Perms) -> Decision
+        ensures allowed { (policy : List TheStatement) (names : List (List ℕ))
+            → TablesOf policy names self.now
             → source < length names → target < length names
-            → result ≡ written policy (at names source) (at names target) class perm }
-        ensures no_source { length self.now.places ≤ source → result ≡ false }
-        ensures no_target { length self.now.places ≤ target → result ≡ false }
+            → result.allowed ≡ allowed policy (at names source) (at names target) class perm }
+        ensures audited { (policy : List TheStatement) (names : List (List ℕ))
+            → TablesOf policy names self.now
+            → source < length names → target < length names
+            → result.audited ≡ audits policy (at names source) (at names target) class perm }
+        ensures no_source { self.now.count ≤ source → result ≡ refusal }
+        ensures no_target { self.now.count ≤ target → result ≡ refusal }
     {
         let s = usize::from(source);
         let t = usize::from(target);
-        if s >= self.places.len() {
-            return false;
+        let refusal = Decision {
+            allowed: false,
+            audited: true,
+        };
+        if s >= self.count.get() {
+            return refusal;
         }
-        if t >= self.places.len() {
-            return false;
+        if t >= self.count.get() {
+            return refusal;
         }
         match number_of(class, perm) {
-            Some(bit) => has_bit(self.byte(s, t), bit),
-            None => false,
+            Some(bit) => self.decide_bit(s, t, bit),
+            None => refusal,
         }
+    }
+
+    /// Whether the permission on the two types passes, by their numbers: some allow rule gives it, or the source
+    /// is permissive. `false` where there is no type of such a number, or `perm` is no single permission of the
+    /// class.
+    pub fn allows(&self, source: u16, target: u16, class: Class, perm: Perms) -> bool
+        ensures allowed { (policy : List TheStatement) (names : List (List ℕ))
+            → TablesOf policy names self.now
+            → source < length names → target < length names
+            → result ≡ allowed policy (at names source) (at names target) class perm }
+        ensures no_source { self.now.count ≤ source → result ≡ false }
+        ensures no_target { self.now.count ≤ target → result ≡ false }
+    {
+        self.decide(source, target, class, perm).allowed
+    }
+
+    /// Whether a check of the permission on the two types leaves a record, by their numbers: no allow rule gives
+    /// it, and no dontaudit rule covers it. `true` where there is no type of such a number, or `perm` is no
+    /// single permission of the class.
+    pub fn audits(&self, source: u16, target: u16, class: Class, perm: Perms) -> bool
+        ensures audited { (policy : List TheStatement) (names : List (List ℕ))
+            → TablesOf policy names self.now
+            → source < length names → target < length names
+            → result ≡ audits policy (at names source) (at names target) class perm }
+        ensures no_source { self.now.count ≤ source → result ≡ true }
+        ensures no_target { self.now.count ≤ target → result ≡ true }
+    {
+        self.decide(source, target, class, perm).audited
     }
 }

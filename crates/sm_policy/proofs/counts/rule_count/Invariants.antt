@@ -1,5 +1,5 @@
 use Rattle.std.proofs.Common.{◌≡◌, ◌≤◌, take}
-use Rattle.sm_ruletext.specs.Statements.{rule_count}
+use Rattle.sm_policy.specs.Counting.{rule_count}
 use Rattle.sm_policy.proofs.counts.rule_count.Given as goal
 
 abbrev pub invariant-loop-statement : goal.invariant-loop-statement

@@ -9,5 +9,5 @@ returns c =
     let names = c.self.inside.types.symbols.types in
     rw (← c.self.view_is) (at_is policy names c.self.inside.vectors c.args.source c.args.target c.args.class
     c.args.perm c.allows.result c.self.invariant.typed.types c.self.invariant.tabled
-    (c.allows.ensures.written policy names c.self.invariant.tabled) c.allows.ensures.no_source
+    (c.allows.ensures.allowed policy names c.self.invariant.tabled) c.allows.ensures.no_source
     c.allows.ensures.no_target)

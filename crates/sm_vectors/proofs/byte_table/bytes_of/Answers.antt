@@ -1,7 +1,7 @@
 use Rattle.std.proofs.Common.{ℕ, List, ◌∙◌, ap, get_or}
 use Rattle.sm_bits.specs.Bits.{has_bit}
 use Rattle.sm_vectors.proofs.Reading.{no_bits}
-use Rattle.sm_vectors.proofs.vectors.bytes_of.Goals as goal
+use Rattle.sm_vectors.proofs.byte_table.bytes_of.Goals as goal
 
 pub mark_source-requires-clause-none : goal.mark_source-requires-clause-none
 mark_source-requires-clause-none c t b h =

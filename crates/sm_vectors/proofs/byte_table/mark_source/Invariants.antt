@@ -1,7 +1,7 @@
 use Rattle.std.proofs.Common.{◌≡◌, ◌<◌, ◌≤◌, ℕ, get_or, false}
 use Rattle.sm_bits.specs.Bits.{has, has_bit, row}
 use Rattle.sm_neverallow.specs.Matrices.{matrix}
-use Rattle.sm_vectors.proofs.vectors.mark_source.Given as goal
+use Rattle.sm_vectors.proofs.byte_table.mark_source.Given as goal
 
 abbrev pub invariant-loop-bit : goal.invariant-loop-bit
 invariant-loop-bit l = record {

@@ -1,0 +1,77 @@
+-- The decisions of the tables are those of the policy.
+use Rattle.std.proofs.Common.{◌≡◌, ℕ, ◌<◌, Bool, true, false, not, ◌&&◌, ◌||◌, cond, List, length, None, is_some, refl}
+use Rattle.sm_bits.specs.Bits.{has, has_bit}
+use Rattle.sm_kinds.specs.Permissions.{perm_of}
+use Rattle.sm_kinds.specs.declared.class.Class.{Class}
+use Rattle.sm_kinds.specs.declared.perms.Perms.{Perms}
+use Rattle.sm_types.specs.Names.{Name, at}
+use Rattle.sm_types.specs.Denoting.{Policy, declares}
+use Rattle.sm_rules.specs.Access.{is_permissive, allowed, audits}
+use Rattle.sm_rules.specs.Keeping.{class_at, perm_at}
+use Rattle.sm_rules.proofs.Consistent.{unsilenced}
+use Rattle.sm_vectors.specs.declared.decision.Decision.{Decision}
+use Rattle.sm_vectors.specs.Tables.{Tables, TablesOf, byte_at, decision}
+use Rattle.sm_vectors.proofs.Reading.{unwritten}
+
+-- permission b of the class
+abbrev pub IsNumber : ℕ → Class → Perms → Type 0
+IsNumber b class perm = (b < 7) × (class_at b ≡ class) × (perm_at b ≡ perm)
+
+passes : (w p z : Bool)
+    → (cond {A = Decision} w (record { allowed = true; audited = false })
+    (record { allowed = p; audited = not z })).allowed
+    ≡ (w || (p && (true && true)))
+passes true p z = refl
+passes false true z = refl
+passes false false z = refl
+
+records : (w p z : Bool)
+    → (cond {A = Decision} w (record { allowed = true; audited = false })
+    (record { allowed = p; audited = not z })).audited
+    ≡ (not w && not z)
+records true p z = refl
+records false p z = refl
+
+pub decided_allowed : (policy : Policy) (names : List Name) (tables : Tables) (b s t : ℕ) (class : Class) (perm : Perms)
+    → TablesOf policy names tables → s < length names → t < length names → IsNumber b class perm
+    → is_some (perm_of class perm) ≡ true
+    → (decision tables b s t).allowed ≡ allowed policy (at names s) (at names t) class perm
+decided_allowed policy names tables b s t class perm of hs ht number single =
+    rw (
+      single,
+      of.declared t ht,
+      ← number.1,
+      ← number.2,
+      ← of.written.says b s t number.0 hs ht,
+      ← of.permissive.says s hs,
+    ) (passes (has_bit (byte_at tables.written s t) b) (has tables.permissive s)
+    (has_bit (byte_at tables.silenced s t) b))
+
+pub decided_audited : (policy : Policy) (names : List Name) (tables : Tables) (b s t : ℕ) (class : Class) (perm : Perms)
+    → TablesOf policy names tables → s < length names → t < length names → IsNumber b class perm
+    → (decision tables b s t).audited ≡ audits policy (at names s) (at names t) class perm
+decided_audited policy names tables b s t class perm of hs ht number =
+    rw (
+      ← number.1,
+      ← number.2,
+      ← of.written.says b s t number.0 hs ht,
+      ← of.silenced.says b s t number.0 hs ht,
+    ) (records (has_bit (byte_at tables.written s t) b) (has tables.permissive s)
+    (has_bit (byte_at tables.silenced s t) b))
+
+-- what is no single permission of the class passes nowhere, and leaves a record
+
+nowhere : (p d : Bool) → (false || (p && (d && false))) ≡ false
+nowhere true true = refl
+nowhere true false = refl
+nowhere false d = refl
+
+pub other_allowed : (policy : Policy) (s t : Name) (class : Class) (perm : Perms) → perm_of class perm ≡ None
+    → allowed policy s t class perm ≡ false
+other_allowed policy s t class perm none =
+    rw (unwritten policy s t class perm none, none) (nowhere (is_permissive policy s) (declares policy t))
+
+pub other_audited : (policy : Policy) (s t : Name) (class : Class) (perm : Perms) → perm_of class perm ≡ None
+    → audits policy s t class perm ≡ true
+other_audited policy s t class perm none =
+    rw (unwritten policy s t class perm none, unsilenced policy s t class perm none) refl

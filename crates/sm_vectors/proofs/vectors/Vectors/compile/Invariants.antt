@@ -1,5 +1,0 @@
-use Rattle.sm_vectors.proofs.Tabled.{Tabled}
-use Rattle.sm_vectors.proofs.vectors.Vectors.compile.Given as goal
-
-abbrev pub invariant-loop-source : goal.invariant-loop-source
-invariant-loop-source l = Tabled l.fn.matrices l.fn.rules.count l.source l.places.items l.rows

@@ -1,0 +1,127 @@
+//! A byte for each pair of types.
+
+ghost use Rattle.std.specs.Prelude.{◌≡◌, ◌<◌, ◌≤◌, ◌+◌, ◌/◌, ℕ, List, length, slice_index, IfOk, false};
+ghost use Rattle.sm_bits.specs.Bits.{has, has_bit, row};
+ghost use Rattle.sm_types.specs.declared.TheConstants.{MOST_TYPES};
+ghost use Rattle.sm_neverallow.specs.Matrices.{matrix, AllSquare};
+
+use crate::byte_rows::ByteRows;
+use sm_neverallow::Matrices;
+use sm_rules::PERM_COUNT;
+use sm_types::TypeCount;
+use std::alloc::{AllocError, Global};
+use std::marker::Model;
+
+/// Sets in the bytes of a source, for each target, the permissions that the matrices have.
+fn mark_source(bytes: &mut [u8], matrices: &Matrices, count: TypeCount, source: usize)
+    requires room { length bytes.old ≡ count }
+    requires none { (t b : ℕ) → t < count → has_bit (slice_index bytes.old t) b ≡ false }
+    requires number { length matrices.now ≡ 7 }
+    requires square { AllSquare matrices.now count }
+    requires source { source < count }
+    ensures { (t b : ℕ) → t < count → b < 7
+        → has_bit (slice_index bytes.new t) b ≡ has (row (matrix matrices.now b) source) t }
+{
+    prove!(count.words() < 1000);
+    for bit in 0..PERM_COUNT {
+        matrices.targets(bit, source).mark(bytes, bit);
+    }
+}
+
+/// The bytes of a source.
+fn bytes_of(
+    alloc: Global,
+    matrices: &Matrices,
+    count: TypeCount,
+    source: usize,
+) -> Result<Vec<u8>, AllocError>
+    requires number { length matrices.now ≡ 7 }
+    requires square { AllSquare matrices.now count }
+    requires source { source < count }
+    ensures room { IfOk result (λ bytes. length bytes.items ≡ count) }
+    ensures says { IfOk result (λ bytes. (t b : ℕ) → t < count → b < 7
+        → has_bit (slice_index bytes.items t) b ≡ has (row (matrix matrices.now b) source) t) }
+{
+    let mut bytes = vec![in alloc; 0u8; count.get()]?;
+    mark_source(&mut bytes, matrices, count, source);
+    Ok(bytes)
+}
+
+/// For each pair of types a byte, with a bit for each permission. A row of equal bytes is kept once.
+#[derive(Drop)]
+pub struct ByteTable {
+    places: Vec<usize>,
+    rows: ByteRows,
+}
+
+impl Model for ByteTable {
+    ghost use Rattle.sm_vectors.specs.Tables.{Table};
+
+    ghost Value = { Table };
+
+    ghost view = { λ t. record { places = t.places.items; rows = t.rows } };
+}
+
+impl ByteTable {
+    ghost use Rattle.std.specs.Prelude.{◌≡◌, ◌<◌, ℕ, length, IfOk};
+    ghost use Rattle.std.proofs.Common.{get_or};
+    ghost use Rattle.sm_vectors.specs.Tables.{byte_at};
+
+    /// A table without rows: each byte is 0.
+    pub fn empty(alloc: Global) -> ByteTable
+        ensures { (s t : ℕ) → byte_at result s t ≡ 0 }
+    {
+        ByteTable {
+            places: Vec::new(alloc),
+            rows: ByteRows::new(alloc),
+        }
+    }
+
+    /// The bytes that have the pairs of the matrices.
+    ///
+    /// # Errors
+    ///
+    /// An error where memory was refused.
+    pub fn compile(
+        alloc: Global,
+        matrices: &Matrices,
+        count: TypeCount,
+    ) -> Result<ByteTable, AllocError>
+        requires number { length matrices.now ≡ 7 }
+        requires square { AllSquare matrices.now count }
+        ensures { IfOk result (λ table. (b s t : ℕ) → b < 7 → s < count → t < count
+            → has_bit (byte_at table s t) b ≡ has (row (matrix matrices.now b) s) t) }
+    {
+        let mut rows = ByteRows::new(alloc);
+        let mut places = Vec::new(alloc);
+        for source in 0..count.get() {
+            let bytes = bytes_of(alloc, matrices, count, source)?;
+            let place = rows.place_of(bytes)?;
+            places.push(place)?;
+        }
+        Ok(ByteTable { places, rows })
+    }
+
+    /// The place of a source's row; 0 where there is no such source.
+    fn place(&self, source: usize) -> usize
+        ensures { result ≡ get_or self.now.places source 0 }
+    {
+        match self.places.get(source) {
+            Some(place) => *place,
+            None => 0,
+        }
+    }
+
+    /// The byte of a source and a target; 0 where there is no such target.
+    pub fn byte(&self, source: usize, target: usize) -> u8
+        ensures { result ≡ byte_at self.now source target }
+    {
+        match self.rows.get(self.place(source)) {
+            Some(row) => match row.get(target) {
+                Some(byte) => *byte,
+                None => 0,
+            },
+            None => 0,
+        }
+    }
+}
