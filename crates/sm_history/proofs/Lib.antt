@@ -29,10 +29,11 @@ pub mod SegmentReads
 pub mod HistoryLaws
 pub mod TurnRows
 pub mod Sealing
-pub mod RecordsAlike
 pub mod Followed
 pub mod Fitting
 pub mod Living
 pub mod Fits
 pub mod Beginnings
 pub mod Listing
+pub mod TrueRecords
+pub mod LaterRecords

@@ -1,34 +1,32 @@
 -- The outcomes of a lawful history list just the deliveries, the numbers of handles and the clients of its effects.
-use Rattle.std.proofs.Common.{inl, inr, ◌≡◌, ℕ, ◌+◌, Bool, true, false, ◌==◌, List, [], ◌∷◌, ◌++◌, refl, ap, sym, ◌∙◌, subst, Option, Some, None, if◌then◌else◌}
+use Rattle.std.proofs.Common.{inl, inr, ◌≡◌, ℕ, Bool, true, false, ◌==◌, List, [], ◌∷◌, ◌++◌, refl, ap, sym, ◌∙◌, subst, Option, Some, None, if◌then◌else◌}
 use Rattle.std.specs.Prelude.{filter_map, reverse, not, is_some}
 use Rattle.std.proofs.lemmas.Bool.{true≢false}
 use Rattle.std.proofs.lemmas.List.{reverse-append, append_assoc, append-nil}
 use Rattle.sm_kinds.specs.declared.number.Node.{Node}
 use Rattle.sm_kinds.specs.declared.number.ObjRef.{ObjRef}
-use Rattle.sm_history.specs.declared.delivery.Given.{Given}
 use Rattle.sm_history.specs.declared.delivery.Given.TheVariants.{Handle, Own}
 use Rattle.sm_history.specs.declared.delivery.Delivery.{Delivery}
-use Rattle.sm_history.specs.declared.notice.Notice.{Notice}
 use Rattle.sm_history.specs.declared.outcome.Outcome.{Outcome}
 use Rattle.sm_history.specs.declared.entry.Entry.{Entry}
 use Rattle.sm_history.specs.declared.event.Event.{Event}
 use Rattle.sm_history.specs.declared.event.Event.TheVariants.{Open, Connect, Add, Get, Watch as WatchName, Unwatch, Unregister, Call, Release, Take, Die, Reload}
 use Rattle.sm_history.specs.declared.reply.Reply.TheVariants.{Done}
 use Rattle.sm_history.specs.declared.stop.Stop.{Stop}
-use Rattle.sm_history.specs.Effects.{Effect, Effects, Service, Watch, Adds, Gives, Watches, Delivers}
+use Rattle.sm_history.specs.Effects.{Effect, Effects, Service, Watch, Adds, Gives, Watches}
 use Rattle.sm_history.specs.Clients.{connected, policy_at}
 use Rattle.sm_history.specs.Holdings.{given_to, handed, number_for, resolve_at, node_at}
 use Rattle.sm_history.specs.Services.{service_at, watchers_at}
-use Rattle.sm_history.specs.Notices.{after_told, after_notice, after_notices, first_missing, notices_at, registration, told_of}
+use Rattle.sm_history.specs.Notices.{after_told, after_notices, first_missing, notices_at, registration, told_of}
 use Rattle.sm_history.specs.Rows.{resumed}
-use Rattle.sm_history.specs.Openings.{Opening, nothing}
+use Rattle.sm_history.specs.Openings.{Opening}
 use Rattle.sm_history.specs.Histories.{History, whole, entered, effects_of, after_event, after_get, after_watch, client_of, turn_of, found, given_ref, given_refs, handed_ref, handed_refs, call_delivery, service, watch}
 use Rattle.sm_history.specs.Verdict.{answered, checks, handing_checks, has_place, outcome_of, number_of, notice_of_watch}
 use Rattle.sm_history.specs.Checks.{Wants, first_failing}
 use Rattle.sm_history.specs.declared.stop.Instead.TheVariants.{Refused}
 use Rattle.sm_history.specs.declared.refusal.Refusal.TheVariants.{JournalFull}
 use Rattle.sm_history.specs.declared.outcome.Outcome.TheVariants.{Watched}
-use Rattle.sm_history.specs.Lawful.{IsOpening, AreLawful, IsLawful}
+use Rattle.sm_history.specs.Lawful.{AreLawful, IsLawful}
 use Rattle.sm_history.specs.Listing.{told_deliveries, notice_deliveries, listed_deliveries, number_in, numbers_in, message_numbers, delivery_numbers, listed_numbers, listed_clients, all_listed, delivery_made, number_made, ListsEffects}
 use Rattle.sm_history.proofs.Owners.{not_done, AllHold}
 use Rattle.sm_history.proofs.AgreeEvents.{Passes}

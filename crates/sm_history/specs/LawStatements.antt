@@ -13,6 +13,11 @@ use Rattle.sm_history.specs.Segments.{client}
 use Rattle.sm_history.specs.Lawful.{IsLawful, FitsPlaces, HasSoundPolicy}
 use Rattle.sm_history.specs.Sound.{Sound}
 use Rattle.sm_history.specs.Beginning.{BeginsWith}
+use Rattle.std.specs.List.{All}
+use Rattle.sm_history.specs.declared.event.Event.{Event}
+use Rattle.sm_history.specs.declared.query.Query.{Query}
+use Rattle.sm_history.specs.declared.records.Record.{Record}
+use Rattle.sm_history.specs.Records.{records, query_records, IsTrueOf}
 
 abbrev pub LawfulAreSound : Type 0
 LawfulAreSound = (places : ℕ) (h : History) → IsLawful places h → Sound (effects_of h)
@@ -50,3 +55,15 @@ BeginsWithTheOneBefore = (e : Entry) (h : History) → BeginsWith (entered e h) 
 
 abbrev pub BeginsWithItsBeginnings : Type 0
 BeginsWithItsBeginnings = (g h k : History) → BeginsWith g h → BeginsWith h k → BeginsWith g k
+
+-- The records of an event, and those of a query, are true of the history in which it is judged.
+abbrev pub RecordsAreTrue : Type 0
+RecordsAreTrue = (places : ℕ) (h : History) (by : By) (turn : ℕ) (event : Event) → IsLawful places h
+    → All (IsTrueOf h) (records places h by turn event)
+
+abbrev pub QueryRecordsAreTrue : Type 0
+QueryRecordsAreTrue = (h : History) (by : By) (q : Query) → All (IsTrueOf h) (query_records h by q)
+
+-- What is true of a history is true of every history that begins with it.
+abbrev pub RecordsStayTrue : Type 0
+RecordsStayTrue = (new old : History) (r : Record) → BeginsWith new old → IsTrueOf old r → IsTrueOf new r

@@ -11,7 +11,7 @@ use Rattle.sm_history.specs.declared.notice.Notice.{Notice}
 use Rattle.sm_history.specs.declared.outcome.Outcome.{Outcome}
 use Rattle.sm_history.specs.declared.outcome.Outcome.TheVariants.{Connected, Added, Granted, Watched, Sent}
 use Rattle.sm_history.specs.declared.entry.Entry.{Entry}
-use Rattle.sm_history.specs.Effects.{Effect, Effects, Gives, Delivers}
+use Rattle.sm_history.specs.Effects.{Effect, Gives, Delivers}
 use Rattle.sm_history.specs.Clients.{connected}
 use Rattle.sm_history.specs.Rows.{resumed}
 use Rattle.sm_history.specs.Histories.{History, effects_of}

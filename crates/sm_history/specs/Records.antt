@@ -1,93 +1,110 @@
--- The records of denials.
-use Rattle.std.specs.Prelude.{ℕ, ◌-◌, ◌≡◌, ◌≤◌, true, false, List, [], ◌∷◌, ◌++◌, ◌⊎◌, Option, Some, None, drop}
+-- The records of what no rule gives.
+use Rattle.std.specs.Prelude.{ℕ, true, false, ◌-◌, ◌≡◌, ◌≤◌, List, [], ◌∷◌, ◌++◌, ◌⊎◌, Option, Some, None, is_none, drop, if◌then◌else◌}
 use Rattle.std.specs.List.{Contains}
 use Rattle.sm_kinds.specs.Users.{is_barred, is_isolated_user}
 use Rattle.sm_kinds.specs.Contexts.{type_of}
+use Rattle.sm_kinds.specs.declared.class.Class.{Class}
+use Rattle.sm_kinds.specs.declared.perms.Perms.{Perms}
 use Rattle.sm_kinds.specs.declared.identity.Identity.{Identity}
 use Rattle.sm_kinds.specs.declared.number.Node.{Node}
-use Rattle.sm_policy.specs.Policy.{allowed}
-use Rattle.sm_history.specs.declared.stop.Stop.{Stop}
-use Rattle.sm_history.specs.declared.stop.Stop.TheVariants.{Unruled, Barred, Unmet}
+use Rattle.sm_policy.specs.Policy.{Policy, written, allowed, audits}
 use Rattle.sm_history.specs.declared.by.By.{By}
 use Rattle.sm_history.specs.declared.event.Event.{Event}
 use Rattle.sm_history.specs.declared.event.Event.TheVariants.{Add, Watch as WatchName}
 use Rattle.sm_history.specs.declared.denial.Denial.{Denial}
 use Rattle.sm_history.specs.declared.denial.Denial.TheVariants.{Rule, App, Isolated}
 use Rattle.sm_history.specs.declared.query.Query.{Query}
+use Rattle.sm_history.specs.declared.records.Record.{Record}
 use Rattle.sm_history.specs.Effects.{Effects, Service, Watch, Opens, Connects, Adds, Watches}
 use Rattle.sm_history.specs.Clients.{policy_at, version_at}
 use Rattle.sm_history.specs.Holdings.{resolve_at}
 use Rattle.sm_history.specs.Services.{service_at, watchers_at}
-use Rattle.sm_history.specs.Checks.{first_failing, rule_denial}
-use Rattle.sm_history.specs.Notices.{first_missing, after_notice}
+use Rattle.sm_history.specs.Checks.{Check, Needs, Spares, Wants, holds, first_failing, rule_denial}
+use Rattle.sm_history.specs.Notices.{notice_checks, after_notice}
 use Rattle.sm_history.specs.Histories.{History, length_of, client_of, found, service, watch, effects_of}
 use Rattle.sm_history.specs.Verdict.{checks}
 use Rattle.sm_history.specs.Queries.{checks_of_query}
 
--- What is kept of a denial: when it was decided, what was denied, whose type is the source, both contexts,
--- and the name where the target is a label. A clause on the user has no target.
-pub record Recorded : Type 0 where
+-- ---- what checks leave
+
+-- When checks are made: at this length of the history, under this policy of this version.
+pub record Moment : Type 0 where
   pub at : ℕ
   pub version : ℕ
-  pub denial : Denial
-  pub who : Identity
-  pub target : List ℕ
-  pub name : Option (List ℕ)
+  pub policy : Policy
 
-abbrev pub record_of : History → Option Stop → List Recorded
-record_of h None = []
-record_of h (Some (Unruled class perm who target name)) =
-    record {
-      at = length_of h;
-      version = version_at (effects_of h);
-      denial = rule_denial class perm who target;
-      who =
-          who;
-      target = target;
-      name = name;
-    } ∷ []
-record_of h (Some (Barred denial who name)) =
-    record {
-      at = length_of h;
-      version = version_at (effects_of h);
-      denial = denial;
-      who = who;
-      target = [];
-      name =
-          Some name;
-    } ∷ []
-record_of h (Some (Unmet instead)) = []
+abbrev pub moment_of : History → Moment
+moment_of h = record { at = length_of h; version = version_at (effects_of h); policy = policy_at (effects_of h) }
 
--- The records of watchers that aren't told, at the length before the change.
-abbrev pub notice_records : History → Effects → Node → List Watch → List Recorded
-notice_records h d n [] = []
-notice_records h d n (w ∷ ws) = record_of h (first_missing d n w) ++ notice_records h (after_notice d n w) n ws
+-- The record of a rule that doesn't stand in the policy. The source may be permissive: then the check passes.
+abbrev pub rule_record : Moment → Class → Perms → Identity → List ℕ → Option (List ℕ) → Record
+rule_record m class perm who target name = record {
+  length = m.at;
+  version = m.version;
+  denial = rule_denial class perm who target;
+  permissive = allowed m.policy (type_of who.context) (type_of target) class perm;
+  who = who;
+  target = Some target;
+  name = name;
+}
 
-abbrev pub watch_records : History → Effects → Watch → Option Service → List Recorded
-watch_records h d w None = []
-watch_records h d w (Some s) = notice_records h d s.node (w ∷ [])
+-- The record of a clause on the user number, which has no target.
+abbrev pub clause_record : Moment → Denial → Identity → List ℕ → Record
+clause_record m denial who name = record {
+  length = m.at;
+  version = m.version;
+  denial = denial;
+  permissive = false;
+  who = who;
+  target = None;
+  name = Some name;
+}
 
--- The records of an accepted event of client c.
-abbrev pub done_records : History → ℕ → Event → List Recorded
-done_records h c (Add name obj allow dump) = let d = effects_of h in let n = found (resolve_at d c obj) in
-    notice_records h (Adds name (service c n allow dump) ∷ d) n (watchers_at d name)
-done_records h c (WatchName name object) = let d = effects_of h in
-    watch_records h (Watches (watch c name object) ∷ d) (watch c name object) (service_at d name)
-done_records h c _ = []
+-- What a check leaves: a record where no rule gives the permission, unless a `dontaudit` rule silences it, or where
+-- a clause bars. Other conditions leave nothing.
+abbrev pub left_by : Moment → Check → List Record
+left_by m (Needs class perm who target name) =
+    if audits m.policy (type_of who.context) (type_of target) class perm
+    then rule_record m class perm who target name ∷ []
+    else []
+left_by m (Spares ok denial who name) = if ok then [] else clause_record m denial who name ∷ []
+left_by m (Wants ok instead) = []
 
-abbrev pub records_or : History → Option Stop → List Recorded → List Recorded
-records_or h None done = done
-records_or h (Some failing) done = record_of h (Some failing)
+-- What checks leave in order, up to the first that fails: those behind it aren't made.
+abbrev pub left_by_all : Moment → List Check → List Record
+left_by_all m [] = []
+left_by_all m (x ∷ xs) = left_by m x ++ (if holds m.policy x then left_by_all m xs else [])
 
--- The records of an event: its denial, or those of the notices that weren't told.
-abbrev pub records : ℕ → History → By → ℕ → Event → List Recorded
+-- What the checks of notices to watchers leave: they are made in order, at the length before the change.
+abbrev pub left_by_notices : Moment → Effects → Node → List Watch → List Record
+left_by_notices m d n [] = []
+left_by_notices m d n (w ∷ ws) = left_by_all m (notice_checks d n w) ++ left_by_notices m (after_notice d n w) n ws
+
+abbrev pub left_by_watch : Moment → Effects → Watch → Option Service → List Record
+left_by_watch m d w None = []
+left_by_watch m d w (Some s) = left_by_notices m d s.node (w ∷ [])
+
+-- What the notices of an event of client c leave, where it is done.
+abbrev pub left_by_telling : Moment → Effects → ℕ → Event → List Record
+left_by_telling m d c (Add name obj allow dump) = let n = found (resolve_at d c obj) in
+    left_by_notices m (Adds name (service c n allow dump) ∷ d) n (watchers_at d name)
+left_by_telling m d c (WatchName name object) =
+    left_by_watch m (Watches (watch c name object) ∷ d) (watch c name object) (service_at d name)
+left_by_telling m d c _ = []
+
+-- The records of an event: of its checks, and, where it is done, of its notices.
+abbrev pub records : ℕ → History → By → ℕ → Event → List Record
 records places h by turn event =
-    records_or h (first_failing (policy_at (effects_of h)) (checks places h by turn event))
-    (done_records h (client_of by) event)
+    let m = moment_of h in
+    let made = checks places h by turn event in
+    left_by_all m made
+    ++ (if is_none (first_failing m.policy made) then left_by_telling m (effects_of h) (client_of by) event else [])
 
--- The record of a denied query.
-abbrev pub query_records : History → By → Query → List Recorded
-query_records h by q = record_of h (first_failing (policy_at (effects_of h)) (checks_of_query h by q))
+-- The records of a query.
+abbrev pub query_records : History → By → Query → List Record
+query_records h by q = left_by_all (moment_of h) (checks_of_query h by q)
+
+-- ---- true records
 
 -- The history as it was at a length.
 abbrev pub prefix_at : History → ℕ → History
@@ -97,16 +114,18 @@ prefix_at h n = record { opening = h.opening; entries = drop (length_of h - n) h
 abbrev pub Stands : Effects → Identity → Type 0
 Stands d who = Contains d (Opens who) ⊎ ((c : ℕ) × Contains d (Connects c who))
 
-abbrev pub IsDeniedBy : Effects → Recorded → Denial → Type 0
-IsDeniedBy d r (Rule s t class perm) = (s ≡ type_of r.who.context) × (t ≡ type_of r.target)
-    × (allowed (policy_at d) s t class perm ≡ false)
-IsDeniedBy d r (App uid) = (uid ≡ r.who.uid) × (is_barred uid ≡ true)
-IsDeniedBy d r (Isolated uid) = (uid ≡ r.who.uid) × (is_isolated_user uid ≡ true)
+-- No rule gives what a record says, and it passed only if the source is permissive; or the clause holds of its user.
+abbrev pub IsDeniedBy : Effects → Record → Denial → Type 0
+IsDeniedBy d r (Rule s t class perm) = (x : List ℕ) × (r.target ≡ Some x) × (s ≡ type_of r.who.context)
+    × (t ≡ type_of x) × (written (policy_at d) s t class perm ≡ false)
+    × (r.permissive ≡ allowed (policy_at d) s t class perm)
+IsDeniedBy d r (App uid) = (uid ≡ r.who.uid) × (is_barred uid ≡ true) × (r.permissive ≡ false)
+IsDeniedBy d r (Isolated uid) = (uid ≡ r.who.uid) × (is_isolated_user uid ≡ true) × (r.permissive ≡ false)
 
 -- A record is true of a history: it was made in it, and what it says held then.
-pub record IsTrueOf (h : History) (r : Recorded) : Type 0 where
-  pub behind : h.opening.length ≤ r.at
-  pub within : r.at ≤ length_of h
-  pub version : r.version ≡ version_at (effects_of (prefix_at h r.at))
-  pub stands : Stands (effects_of (prefix_at h r.at)) r.who
-  pub denied : IsDeniedBy (effects_of (prefix_at h r.at)) r r.denial
+pub record IsTrueOf (h : History) (r : Record) : Type 0 where
+  pub behind : h.opening.length ≤ r.length
+  pub within : r.length ≤ length_of h
+  pub version : r.version ≡ version_at (effects_of (prefix_at h r.length))
+  pub stands : Stands (effects_of (prefix_at h r.length)) r.who
+  pub denied : IsDeniedBy (effects_of (prefix_at h r.length)) r r.denial

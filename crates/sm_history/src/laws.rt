@@ -2,7 +2,7 @@
 
 ghost use Rattle.sm_history.specs.SegmentLaw.{SegmentsRead};
 ghost use Rattle.sm_history.specs.Listing.{OutcomesListEffects};
-ghost use Rattle.sm_history.specs.LawStatements.{LawfulAreSound, NumbersAreSmall, UnconnectedHaveNoTurns, FreeNumbersAreFree, DoneIsLawful, DoneFits, BeginsWithItself, BeginsWithTheOneBefore, BeginsWithItsBeginnings};
+ghost use Rattle.sm_history.specs.LawStatements.{LawfulAreSound, NumbersAreSmall, UnconnectedHaveNoTurns, FreeNumbersAreFree, DoneIsLawful, DoneFits, BeginsWithItself, BeginsWithTheOneBefore, BeginsWithItsBeginnings, RecordsAreTrue, QueryRecordsAreTrue, RecordsStayTrue};
 
 /// A lawful history is answered as the segment of its older part's rows and its newer part is, but for a full journal.
 pub fn segments()
@@ -47,4 +47,13 @@ pub fn beginnings()
 /// The outcomes of a lawful history list just the deliveries, the numbers of handles and the clients of its effects.
 pub fn outcomes()
     ensures { OutcomesListEffects }
+{}
+
+/// Each record that an event or a query leaves is true of the lawful history in which it is judged: it was made at that
+/// length, under the version in force, of a process that stands there, and no rule gives what it says. It stays true
+/// of every history that begins with that one.
+pub fn true_records()
+    ensures events { RecordsAreTrue }
+    ensures queries { QueryRecordsAreTrue }
+    ensures later { RecordsStayTrue }
 {}

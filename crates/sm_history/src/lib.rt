@@ -16,6 +16,7 @@ mod limits;
 mod notice;
 mod outcome;
 mod query;
+mod records;
 mod refusal;
 mod reply;
 mod service;
@@ -35,6 +36,7 @@ pub use limits::{
 pub use notice::{BoxedNotice, Notice, Notices, Reason, Told};
 pub use outcome::Outcome;
 pub use query::Query;
+pub use records::Record;
 pub use refusal::{Exception, Failure, Refusal};
 pub use reply::{Answer, NameList, Reply};
 pub use service::Service;

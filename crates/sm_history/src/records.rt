@@ -1,0 +1,51 @@
+//! What is kept of access that no rule gives.
+
+ghost use Rattle.std.specs.Prelude.{◌≡◌};
+
+use crate::denial::Denial;
+use sm_kinds::{Context, Identity, Name};
+use std::alloc::AllocError;
+
+/// What is kept of a check that no allow rule gave, or of a clause on the user number that barred a request: an audit
+/// record, as SELinux's access vector cache makes one (`avc: denied`).
+#[derive(Drop, Debug)]
+pub struct Record {
+    /// The length of the journal when the check was made, in changes.
+    pub length: u64,
+    /// The version of the policy that was in force.
+    pub version: u64,
+    pub denial: Denial,
+    /// The check passed all the same, since the source is `permissive`.
+    pub permissive: bool,
+    /// The process whose type is the source, or whose user number is barred.
+    pub who: Identity,
+    /// The context that has the target's type. A clause on the user number has no target.
+    pub target: Option<Context>,
+    /// The name, where the target is the label of one or the clause is about one.
+    pub name: Option<Name>,
+}
+
+impl Clone for Record {
+    ghost is_clone = { λ r copy. copy ≡ r };
+
+    /// The same record; its texts get one more owner.
+    fn clone(&self) -> Result<Record, AllocError> {
+        let target = match &self.target {
+            None => None,
+            Some(target) => Some(target.clone()?),
+        };
+        let name = match &self.name {
+            None => None,
+            Some(name) => Some(name.clone()?),
+        };
+        Ok(Record {
+            length: self.length,
+            version: self.version,
+            denial: self.denial.clone()?,
+            permissive: self.permissive,
+            who: self.who.clone()?,
+            target,
+            name,
+        })
+    }
+}
