@@ -1,0 +1,61 @@
+-- Audit lines, in the form of SELinux's messages.
+use Rattle.std.specs.Prelude.{ℕ, Bool, List, [], ◌++◌, codes, Option, Some, None, unwrap_or, if◌then◌else◌}
+use Rattle.hex.specs.Hex.{encode_lower}
+use Rattle.sm_kinds.specs.Messages.{numbered}
+use Rattle.sm_kinds.specs.Names.{is_valid_name}
+use Rattle.sm_kinds.specs.Permissions.{class_word, perm_word}
+use Rattle.sm_kinds.specs.declared.perms.Perms.{Perms}
+use Rattle.sm_kinds.specs.declared.identity.Identity.{Identity}
+use Rattle.sm_history.specs.declared.denial.Denial.{Denial}
+use Rattle.sm_history.specs.declared.denial.Denial.TheVariants.{Rule, App, Isolated}
+use Rattle.sm_history.specs.declared.records.Record.{Record}
+
+-- `journal=L version=V`
+unfoldable pub place_text : ℕ → ℕ → List ℕ
+place_text length version = numbered (codes "journal=") length ++ numbered (codes " version=") version
+
+-- ` avc: denied { PERM }`
+unfoldable pub missing_text : Perms → List ℕ
+missing_text perm = codes " avc: denied { " ++ unwrap_or (perm_word perm) [] ++ codes " }"
+
+-- ` avc: denied { PERM }`, ` clause: denied app` or ` clause: denied isolated`
+unfoldable pub cause_text : Denial → List ℕ
+cause_text (Rule source target class perm) = missing_text perm
+cause_text (App uid) = codes " clause: denied app"
+cause_text (Isolated uid) = codes " clause: denied isolated"
+
+-- a valid name as it is, another as `%` and two lower-case hexadecimal digits for each byte: no byte ends the line
+unfoldable pub name_text : List ℕ → List ℕ
+name_text name = if is_valid_name name then name else codes "%" ++ encode_lower name
+
+-- ` name=NAME`, where there is one
+unfoldable pub name_field : Option (List ℕ) → List ℕ
+name_field None = []
+name_field (Some name) = codes " name=" ++ name_text name
+
+-- ` for pid=P uid=U name=NAME scontext=S`
+unfoldable pub process_text : Identity → Option (List ℕ) → List ℕ
+process_text who name =
+    numbered (codes " for pid=") who.pid ++ numbered (codes " uid=") who.uid ++ name_field name
+    ++ codes " scontext=" ++ who.context
+
+-- ` tcontext=T`, where there is a target
+unfoldable pub target_text : Option (List ℕ) → List ℕ
+target_text None = []
+target_text (Some target) = codes " tcontext=" ++ target
+
+abbrev pub permissive_text : Bool → List ℕ
+permissive_text permissive = if permissive then codes " permissive=1" else codes " permissive=0"
+
+-- ` tcontext=T tclass=C permissive=0` or `1`, of a rule alone
+unfoldable pub scope_text : Denial → Option (List ℕ) → Bool → List ℕ
+scope_text (Rule source type class perm) target permissive =
+    target_text target ++ codes " tclass=" ++ class_word class ++ permissive_text permissive
+scope_text (App uid) target permissive = []
+scope_text (Isolated uid) target permissive = []
+
+-- the line of a record, with its newline
+unfoldable pub audit_line : Record → List ℕ
+audit_line r =
+    place_text r.length r.version ++ cause_text r.denial ++ process_text r.who r.name
+    ++ scope_text r.denial r.target r.permissive ++ codes "\n"

@@ -1,0 +1,3 @@
+pub use Rattle.sm_history.specs.Records
+pub mod AuditLines
+pub mod Rings

@@ -1,0 +1,10 @@
+//! The records of access that no rule gives: a line for each, and the ring that keeps the newest.
+#![tactic(auto)]
+
+mod lines;
+mod ring;
+#[cfg(test)]
+mod tests;
+
+pub use lines::{line, push_line};
+pub use ring::{MOST_RECORDS, Ring};
