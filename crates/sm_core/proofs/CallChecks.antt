@@ -1,9 +1,10 @@
 -- A call's checks, judged part by part.
-use Rattle.std.proofs.Common.{◌≡◌, inl, inr, ℕ, true, false, ◌&&◌, List, [], ◌∷◌, ◌++◌, Option, Some, refl, ap, sym, ◌∙◌, subst}
+use Rattle.std.proofs.Common.{◌≡◌, inl, inr, ℕ, true, false, ◌&&◌, List, [], ◌∷◌, ◌++◌, Option, Some, None, refl, ap, sym, ◌∙◌, subst}
 use Rattle.std.specs.Prelude.{is_some}
 use Rattle.std.proofs.lemmas.List.{append_assoc, append-nil}
 use Rattle.sm_kinds.specs.declared.number.Node.{Node}
 use Rattle.sm_kinds.specs.declared.number.ObjRef.{ObjRef}
+use Rattle.sm_kinds.specs.declared.class.Class.TheVariants.{Binder}
 use Rattle.sm_policy.specs.Policy.{Policy}
 use Rattle.sm_history.specs.declared.refusal.Refusal.TheVariants.{Failed}
 use Rattle.sm_history.specs.declared.refusal.Failure.TheVariants.{BadHandle, TargetFull}
@@ -11,8 +12,8 @@ use Rattle.sm_history.specs.declared.stop.Stop.{Stop}
 use Rattle.sm_history.specs.declared.stop.Stop.TheVariants.{Unmet}
 use Rattle.sm_history.specs.declared.stop.Instead.TheVariants.{Refused}
 use Rattle.sm_history.specs.Effects.{Effects}
-use Rattle.sm_history.specs.Clients.{policy_at, is_live}
-use Rattle.sm_history.specs.Checks.{Check, Wants, first_failing}
+use Rattle.sm_history.specs.Clients.{policy_at, identity_at, is_live}
+use Rattle.sm_history.specs.Checks.{Check, Wants, first_failing, calling}
 use Rattle.sm_history.specs.Holdings.{resolve_at, node_at, fits_handles}
 use Rattle.sm_history.specs.Histories.{handed_refs, found}
 use Rattle.sm_history.specs.Inboxes.{has_inbox_room}
@@ -21,7 +22,7 @@ use Rattle.sm_history.specs.Verdict.{all_pass_to_client, passes_to_client, call_
 use Rattle.sm_grants.specs.Several.{after_grants}
 use Rattle.sm_grants.specs.Handing.{AreNamed, others}
 use Rattle.sm_grants.proofs.Handing.{handed_are}
-use Rattle.sm_core.specs.Judging.{Halts, AllPass}
+use Rattle.sm_core.specs.Judging.{Halts, AllPass, Lacks}
 use Rattle.sm_core.specs.Calling.{target_checks, room_check}
 use Rattle.sm_core.proofs.Stopping.{halts_first, halts_then, pass_both, pass_first}
 
@@ -30,6 +31,13 @@ halts_alike : (p : Policy) (all xs : List Check) (s : Stop) → first_failing p 
     → Halts p all s
 halts_alike p all xs s e (inl w) = inl w
 halts_alike p all xs s e (inr h) = inr (e ∙ h)
+
+-- A call is stopped where no rule lets the caller call the owner of the object, which lives.
+pub target_stops : (d : Effects) (c : ℕ) (n : Node) (s : Stop) → is_live d n.owner.0 ≡ true
+    → Lacks (policy_at d) Binder calling (identity_at d c) (identity_at d n.owner.0).context None s
+    → Halts (policy_at d) (target_checks d c (Some n)) s
+target_stops d c n s live (none, inl w) = inl w
+target_stops d c n s live (none, inr u) = inr (rw (live, none) (ap (λ (v : Stop). Some v) (sym u)))
 
 -- The references from one on are stopped at that one.
 pub halts_left : (d : Effects) (c k : ℕ) (refs left rest : List ObjRef) (r : ObjRef) (s : Stop)

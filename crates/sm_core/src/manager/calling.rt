@@ -158,7 +158,9 @@ impl Manager {
         let Some(owner) = self.caller(node.owner.0) else {
             return Err(Stop::Unmet(Instead::Refused(Refusal::Dead)));
         };
-        self.can_call_client(&row.who, &owner.who)?;
+        if let Err(stop) = self.can_call_client(&row.process, &owner.process) {
+            return Err(stop);
+        }
         Ok(node)
     }
 
@@ -230,7 +232,7 @@ impl Manager {
         let Some(other) = self.caller(receiver) else {
             unreachable!();
         };
-        self.can_transfer_to_client(&row.who, &other.who)?;
+        self.can_transfer_to_client(&row.process, &other.process)?;
         Ok(node)
     }
 
@@ -278,7 +280,8 @@ impl Manager {
         let Ok(given) = given(self.alloc, owner, named, numbers.as_slice()) else {
             return Err(wanted());
         };
-        let Ok(delivery) = delivery(self.alloc, &row.who, target.object, payload, given) else {
+        let Ok(delivery) = delivery(self.alloc, &row.process.who, target.object, payload, given)
+        else {
             return Err(wanted());
         };
         let Ok(outcome) = delivery.clone() else {

@@ -85,8 +85,8 @@ impl Manager {
         let Some(row) = self.caller(client) else {
             unreachable!();
         };
-        self.can_call_manager(&row.who)?;
-        self.can_list(&row.who)?;
+        self.can_call_manager(&row.process)?;
+        self.can_list(&row.process)?;
         match self.names_by_mask(mask) {
             Ok(names) => Ok(Answer::Names(NameList::new(names))),
             Err(_) => Err(wanted()),

@@ -77,9 +77,9 @@ impl Manager {
         let Some(row) = self.caller(watch.client) else {
             unreachable!();
         };
-        self.can_find(&row.who, &watch.name)?;
-        self.can_call_from_manager(&row.who)?;
-        self.can_transfer_from_manager(&row.who)?;
+        self.can_find(&row.process, &watch.name)?;
+        self.can_call_from_manager(&row.process)?;
+        self.can_transfer_from_manager(&row.process)?;
         if left == 0 {
             return Err(full());
         }

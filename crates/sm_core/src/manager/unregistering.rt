@@ -34,7 +34,7 @@ impl Manager {
         let Some(row) = self.caller(client) else {
             unreachable!();
         };
-        self.can_call_manager(&row.who)?;
+        self.can_call_manager(&row.process)?;
         let node = self.judge_reference(row, obj)?;
         if let Err(stop) = self.judge_removal(row, name, node) {
             return Err(stop);
@@ -60,7 +60,7 @@ impl Manager {
         let Some(node) = node else {
             return Err(failed(Exception::NullBinder));
         };
-        self.can_add(&row.who, name)?;
+        self.can_add(&row.process, name)?;
         let Some(service) = self.service(name.bytes()) else {
             return Err(failed(Exception::NotRegistered));
         };

@@ -66,11 +66,15 @@ impl Manager {
             × (nat_lt (length (watches_at (effects_of self.now.book.history))) MOST_WATCHES ≡ true))
             (Halts (policy_at (effects_of self.now.book.history)) (watch_checks (effects_of self.now.book.history) row.now.id name.now)) }
     {
-        self.can_call_manager(&row.who)?;
-        self.can_transfer_to_manager(&row.who)?;
-        self.can_find(&row.who, name)?;
-        if is_isolated(row.who.uid) {
-            return Err(barred(Denial::Isolated(row.who.uid), &row.who, name));
+        self.can_call_manager(&row.process)?;
+        self.can_transfer_to_manager(&row.process)?;
+        self.can_find(&row.process, name)?;
+        if is_isolated(row.process.who.uid) {
+            return Err(barred(
+                Denial::Isolated(row.process.who.uid),
+                &row.process.who,
+                name,
+            ));
         }
         if !valid_name(name.bytes()) {
             return Err(Stop::Unmet(Instead::Refused(Refusal::Exception(Exception::InvalidName))));
@@ -97,9 +101,9 @@ impl Manager {
         let Some(row) = self.caller(client) else {
             unreachable!();
         };
-        self.can_call_manager(&row.who)?;
-        self.can_transfer_to_manager(&row.who)?;
-        self.can_find(&row.who, name)?;
+        self.can_call_manager(&row.process)?;
+        self.can_transfer_to_manager(&row.process)?;
+        self.can_find(&row.process, name)?;
         if !self.is_watching(client, name.bytes(), object) {
             return Err(Stop::Unmet(Instead::Refused(Refusal::Exception(
                 Exception::NothingToUnregister,

@@ -1,0 +1,32 @@
+//! Processes, as the rules of a policy see them.
+
+ghost use Rattle.std.specs.Prelude.{◌≡◌};
+ghost use Rattle.sm_core.specs.Tables.{process_under};
+
+use sm_kinds::Identity;
+use sm_policy::Prepared;
+
+/// A process under a policy: who it is, and the number of its type there (`Prepared::type_index`), by which rules
+/// are asked. `None`: the policy doesn't declare its type.
+#[derive(Drop)]
+pub struct Process {
+    pub who: Identity,
+    pub index: Option<u16>,
+}
+
+impl Process {
+    /// A process under a policy.
+    pub fn new(who: Identity, policy: &Prepared) -> Process
+        ensures { result ≡ process_under policy.now who }
+    {
+        let index = policy.type_index(who.context.type_name());
+        Process { who, index }
+    }
+
+    /// The same process under another policy.
+    pub fn renumber(&mut self, policy: &Prepared)
+        ensures { self.new ≡ process_under policy.now self.old.who }
+    {
+        self.index = policy.type_index(self.who.context.type_name());
+    }
+}
