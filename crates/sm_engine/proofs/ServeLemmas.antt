@@ -4,6 +4,7 @@ use Rattle.std.proofs.Common.{Result, Ok, Err, OnOk, OnErr, refl, sym, append_as
 use Rattle.std.proofs.lemmas.List.{append-nil, take-append-drop}
 use Rattle.std.specs.Io.KnownBytes.{Appends, Consumes, Keeps}
 use Rattle.sm_wire.specs.declared.item.Item.{Item}
+use Rattle.sm_wire.specs.declared.kind.Kind.{Kind}
 use Rattle.sm_wire.specs.Items.{Scan, IsAlive, IsDead, scan_start, items_after, scan_after, items_of}
 use Rattle.sm_wire.specs.Items.{rest_of}
 use Rattle.sm_wire.proofs.ItemLemmas.{items_after-append, scan_after-append}
@@ -25,7 +26,8 @@ Wrote-then {S} {answers} {old} {m} {t} {is} {js} {w} {w'} {w''} {a} {a'} {a''} p
   audited = Appends-then a a' a'' _ _ p.audited q.audited;
 }
 
-Partly-after : (a b c : Option (List ℕ)) (x whole : List ℕ) → Appends a b x → Partly b c whole → Partly a c (x ++ whole)
+Partly-after : (a b c : Option (List ℕ)) (x whole : List ℕ) → Appends a b x → Partly b c whole
+    → Partly a c (x ++ whole)
 Partly-after a b c x whole p q = record {
   written = x ++ q.written;
   missing = q.missing;
@@ -48,9 +50,9 @@ Stopped-then {S} {answers} {old} {m} {t} {is} {js} {w} {w'} {w''} {a} {a'} {a''}
 }
 
 -- before the first read
-pub sofar_start : {S : Type 0} (answers : S → Item → List ℕ → List ℕ → S → Type 0) (s : S) (scan : Scan)
-    (r w a : Option (List ℕ)) → scan ≡ scan_start → Sofar answers 0 s scan r r w w a a s
-sofar_start answers s scan r w a e = record {
+pub sofar_start : {S : Type 0} (kind : Kind) (answers : S → Item → List ℕ → List ℕ → S → Type 0) (s : S) (scan : Scan)
+    (r w a : Option (List ℕ)) → scan ≡ scan_start kind → Sofar kind answers 0 s scan r r w w a a s
+sofar_start kind answers s scan r w a e = record {
   bytes = [];
   consumed = Consumes-nothing r;
   scanned = e;
@@ -66,26 +68,33 @@ sofar_start answers s scan r w a e = record {
 }
 
 -- one more piece
-pub sofar_wrote : {S : Type 0} {n : ℕ} {answers : S → Item → List ℕ → List ℕ → S → Type 0} {old m t : S} {scan : Scan}
+pub sofar_wrote : {S : Type 0} {kind : Kind} {n : ℕ} {answers : S → Item → List ℕ → List ℕ → S
+    → Type 0} {old m t : S} {scan : Scan}
     {r r' w w' w'' a a' a'' : Option (List ℕ)} (r'' : Option (List ℕ)) (piece : List ℕ)
-    → (p : Sofar answers n old scan r r' w w' a a' m) → Consumes r' r'' piece
-    → Wrote answers m (items_after scan piece) w' w'' a' a'' t → Wrote answers old (items_of (p.bytes ++ piece)) w w'' a
+    → (p : Sofar kind answers n old scan r r' w w' a a' m) → Consumes r' r'' piece
+    → Wrote answers m (items_after scan piece) w' w'' a' a'' t
+    → Wrote answers old (items_of kind (p.bytes ++ piece)) w w'' a
     a'' t
-sofar_wrote {answers = answers} {m = m} {t = t} {w' = w'} {w'' = w''} {a' = a'} {a'' = a''} r'' piece p c q =
-    rw (items_after-append scan_start p.bytes piece) (Wrote-then p.wrote
+sofar_wrote {kind = kind} {answers = answers} {m = m} {t = t} {w' = w'} {w'' = w''} {a' = a'} {a'' = a''}
+    r'' piece p c q =
+    rw (items_after-append (scan_start kind) p.bytes piece) (Wrote-then p.wrote
     (subst (λ (l : Scan). Wrote answers m (items_after l piece) w' w'' a' a'' t) p.scanned q))
 
-pub sofar_scanned : {S : Type 0} {n : ℕ} {answers : S → Item → List ℕ → List ℕ → S → Type 0} {old m : S} {scan : Scan}
-    {r r' w w' a a' : Option (List ℕ)} (piece : List ℕ) (next : Scan) → (p : Sofar answers n old scan r r' w w' a a' m)
-    → next ≡ scan_after scan piece → next ≡ rest_of (p.bytes ++ piece)
-sofar_scanned {scan = scan} piece next p e =
-    rw (scan_after-append scan_start p.bytes piece) (subst (λ (l : Scan). next ≡ scan_after l piece) p.scanned e)
+pub sofar_scanned : {S : Type 0} {kind : Kind} {n : ℕ} {answers : S → Item → List ℕ → List ℕ → S
+    → Type 0} {old m : S} {scan : Scan}
+    {r r' w w' a a' : Option (List ℕ)} (piece : List ℕ) (next : Scan)
+    → (p : Sofar kind answers n old scan r r' w w' a a' m)
+    → next ≡ scan_after scan piece → next ≡ rest_of kind (p.bytes ++ piece)
+sofar_scanned {kind = kind} {scan = scan} piece next p e =
+    rw (scan_after-append (scan_start kind) p.bytes piece) (subst (λ
+    (l : Scan). next ≡ scan_after l piece) p.scanned e)
 
-pub sofar_next : {S : Type 0} {n : ℕ} {answers : S → Item → List ℕ → List ℕ → S → Type 0} {old m t : S} {scan : Scan}
+pub sofar_next : {S : Type 0} {kind : Kind} {n : ℕ} {answers : S → Item → List ℕ → List ℕ → S
+    → Type 0} {old m t : S} {scan : Scan}
     {r r' w w' w'' a a' a'' : Option (List ℕ)} (r'' : Option (List ℕ)) (piece : List ℕ)
-    → (p : Sofar answers n old scan r r' w w' a a' m) → Consumes r' r'' piece
+    → (p : Sofar kind answers n old scan r r' w w' a a' m) → Consumes r' r'' piece
     → Wrote answers m (items_after scan piece) w' w'' a' a'' t → (next : Scan) → next ≡ scan_after scan piece
-    → IsAlive next → 0 < length piece → Sofar answers (n + 1) old next r r'' w w'' a a'' t
+    → IsAlive next → 0 < length piece → Sofar kind answers (n + 1) old next r r'' w w'' a a'' t
 sofar_next {r = r} {r' = r'} r'' piece p c q next e alive some =
     let s = sofar_scanned piece next p e in
     record {
@@ -98,11 +107,12 @@ sofar_next {r = r} {r' = r'} r'' piece p c q next e alive some =
     }
 
 -- a line is too long in this piece
-pub served_long : {S : Type 0} {n bound : ℕ} {answers : S → Item → List ℕ → List ℕ → S → Type 0} {old m t : S}
+pub served_long : {S : Type 0} {kind : Kind} {n bound : ℕ} {answers : S → Item → List ℕ → List ℕ → S
+    → Type 0} {old m t : S}
     {scan : Scan} {r r' w w' w'' a a' a'' : Option (List ℕ)} (r'' : Option (List ℕ)) (piece : List ℕ)
-    → (p : Sofar answers n old scan r r' w w' a a' m) → Consumes r' r'' piece
+    → (p : Sofar kind answers n old scan r r' w w' a a' m) → Consumes r' r'' piece
     → Wrote answers m (items_after scan piece) w' w'' a' a'' t → (next : Scan) → next ≡ scan_after scan piece
-    → IsDead next → Served answers (Err LineTooLong) bound old r r'' w w'' a a'' t
+    → IsDead next → Served kind answers (Err LineTooLong) bound old r r'' w w'' a a'' t
 served_long {r = r} {r' = r'} r'' piece p c q next e dead =
     let s = sofar_scanned piece next p e in
     record {
@@ -112,15 +122,16 @@ served_long {r = r} {r' = r'} r'' piece p c q next e dead =
     }
 
 -- memory or a writer fails in this piece
-pub served_stop : {S : Type 0} {n bound : ℕ} {answers : S → Item → List ℕ → List ℕ → S → Type 0} {old m t : S}
+pub served_stop : {S : Type 0} {kind : Kind} {n bound : ℕ} {answers : S → Item → List ℕ → List ℕ → S
+    → Type 0} {old m t : S}
     {scan : Scan} {r r' w w' w'' a a' a'' : Option (List ℕ)} (r'' : Option (List ℕ)) (piece : List ℕ)
-    → (p : Sofar answers n old scan r r' w w' a a' m) → Consumes r' r'' piece
+    → (p : Sofar kind answers n old scan r r' w w' a a' m) → Consumes r' r'' piece
     → Stopped answers m (items_after scan piece) w' w'' a' a'' t → (f : Fault) → (f ≡ WriteFault) ⊎ (f ≡ Memory)
-    → Served answers (Err f) bound old r r'' w w'' a a'' t
-served_stop {answers = answers} {old = old} {m = m} {t = t} {r = r} {r' = r'} {w = w} {w' = w'} {w'' = w''} {a = a}
-    {a' = a'} {a'' = a''} r'' piece p c q f which =
-    let stopped : Stopped answers old (items_of (p.bytes ++ piece)) w w'' a a'' t =
-    rw (items_after-append scan_start p.bytes piece) (Stopped-then p.wrote
+    → Served kind answers (Err f) bound old r r'' w w'' a a'' t
+served_stop {kind = kind} {answers = answers} {old = old} {m = m} {t = t} {r = r} {r' = r'}
+    {w = w} {w' = w'} {w'' = w''} {a = a} {a' = a'} {a'' = a''} r'' piece p c q f which =
+    let stopped : Stopped answers old (items_of kind (p.bytes ++ piece)) w w'' a a'' t =
+    rw (items_after-append (scan_start kind) p.bytes piece) (Stopped-then p.wrote
     (subst (λ (l : Scan). Stopped answers m (items_after l piece) w' w'' a' a'' t) p.scanned q)) in
     elim which [
       | inl e ↦ rw e (record {
@@ -136,18 +147,20 @@ served_stop {answers = answers} {old = old} {m = m} {t = t} {r = r} {r' = r'} {w
     ]
 
 -- a read fails, or there were enough of them
-pub served_read_fault : {S : Type 0} {n bound : ℕ} {answers : S → Item → List ℕ → List ℕ → S → Type 0} {old m : S}
-    {scan : Scan} {r r' w w' a a' : Option (List ℕ)} → (p : Sofar answers n old scan r r' w w' a a' m)
-    → (r'' : Option (List ℕ)) → Keeps r' r'' → Served answers (Err ReadFault) bound old r r'' w w' a a' m
+pub served_read_fault : {S : Type 0} {kind : Kind} {n bound : ℕ} {answers : S → Item → List ℕ → List ℕ → S
+    → Type 0} {old m : S}
+    {scan : Scan} {r r' w w' a a' : Option (List ℕ)} → (p : Sofar kind answers n old scan r r' w w' a a' m)
+    → (r'' : Option (List ℕ)) → Keeps r' r'' → Served kind answers (Err ReadFault) bound old r r'' w w' a a' m
 served_read_fault {r = r} {r' = r'} p r'' q = record {
   bytes = p.bytes;
   consumed = Consumes-keeps r r' r'' _ p.consumed q;
   written = (p.wrote, p.alive);
 }
 
-pub served_enough : {S : Type 0} {n bound : ℕ} {answers : S → Item → List ℕ → List ℕ → S → Type 0} {old m : S}
-    {scan : Scan} {r r' w w' a a' : Option (List ℕ)} → (p : Sofar answers n old scan r r' w w' a a' m) → bound ≤ n
-    → Served answers (Err TooManyReads) bound old r r' w w' a a' m
+pub served_enough : {S : Type 0} {kind : Kind} {n bound : ℕ} {answers : S → Item → List ℕ → List ℕ → S
+    → Type 0} {old m : S}
+    {scan : Scan} {r r' w w' a a' : Option (List ℕ)} → (p : Sofar kind answers n old scan r r' w w' a a' m) → bound ≤ n
+    → Served kind answers (Err TooManyReads) bound old r r' w w' a a' m
 served_enough p le = record {
   bytes = p.bytes;
   consumed = p.consumed;
@@ -160,10 +173,11 @@ served_enough p le = record {
 }
 
 -- the input ends
-pub served_end : {S : Type 0} {n bound : ℕ} {answers : S → Item → List ℕ → List ℕ → S → Type 0} {old m : S}
-    {scan : Scan} {r r' w w' a a' : Option (List ℕ)} → (p : Sofar answers n old scan r r' w w' a a' m)
+pub served_end : {S : Type 0} {kind : Kind} {n bound : ℕ} {answers : S → Item → List ℕ → List ℕ → S
+    → Type 0} {old m : S}
+    {scan : Scan} {r r' w w' a a' : Option (List ℕ)} → (p : Sofar kind answers n old scan r r' w w' a a' m)
     → (r'' : Option (List ℕ)) → Consumes r' r'' [] → (w'' : Option (List ℕ)) → Appends w' w'' (ending_of scan)
-    → Served answers (Ok tt) bound old r r'' w w'' a a' m
+    → Served kind answers (Ok tt) bound old r r'' w w'' a a' m
 served_end {r = r} {r' = r'} {w = w} {w' = w'} p r'' c w'' q = record {
   bytes = p.bytes;
   consumed = rw (append-nil p.bytes) at (Consumes-then r r' r'' _ _ p.consumed c);
@@ -177,10 +191,11 @@ served_end {r = r} {r' = r'} {w = w} {w' = w'} p r'' c w'' q = record {
   };
 }
 
-pub served_end_fault : {S : Type 0} {n bound : ℕ} {answers : S → Item → List ℕ → List ℕ → S → Type 0} {old m : S}
-    {scan : Scan} {r r' w w' a a' : Option (List ℕ)} → (p : Sofar answers n old scan r r' w w' a a' m)
+pub served_end_fault : {S : Type 0} {kind : Kind} {n bound : ℕ} {answers : S → Item → List ℕ → List ℕ → S
+    → Type 0} {old m : S}
+    {scan : Scan} {r r' w w' a a' : Option (List ℕ)} → (p : Sofar kind answers n old scan r r' w w' a a' m)
     → (r'' : Option (List ℕ)) → Consumes r' r'' [] → (w'' : Option (List ℕ)) (n : ℕ)
-    → Appends w' w'' (take n (ending_of scan)) → Served answers (Err WriteFault) bound old r r'' w w'' a a' m
+    → Appends w' w'' (take n (ending_of scan)) → Served kind answers (Err WriteFault) bound old r r'' w w'' a a' m
 served_end_fault {scan = scan} {r = r} {r' = r'} {w = w} {w' = w'} p r'' c w'' n q = record {
   bytes = p.bytes;
   consumed = rw (append-nil p.bytes) at (Consumes-then r r' r'' _ _ p.consumed c);
@@ -200,10 +215,11 @@ served_end_fault {scan = scan} {r = r} {r' = r'} {w = w} {w' = w'} p r'' c w'' n
 }
 
 -- the input ends, whether or not the ending is written
-pub served_at_end : {S : Type 0} {n bound : ℕ} {answers : S → Item → List ℕ → List ℕ → S → Type 0} {old m : S}
-    {scan : Scan} {r r' w w' a a' : Option (List ℕ)} → (p : Sofar answers n old scan r r' w w' a a' m)
+pub served_at_end : {S : Type 0} {kind : Kind} {n bound : ℕ} {answers : S → Item → List ℕ → List ℕ → S
+    → Type 0} {old m : S}
+    {scan : Scan} {r r' w w' a a' : Option (List ℕ)} → (p : Sofar kind answers n old scan r r' w w' a a' m)
     → (r'' : Option (List ℕ)) → Consumes r' r'' [] → (w'' : Option (List ℕ)) (result : Result (Unit {0}) Fault)
     → OnOk result (Appends w' w'' (ending_of scan)) → OnErr result ((n : ℕ) × Appends w' w'' (take n (ending_of scan)))
-    → OnErr result (result ≡ Err WriteFault) → Served answers result bound old r r'' w w'' a a' m
+    → OnErr result (result ≡ Err WriteFault) → Served kind answers result bound old r r'' w w'' a a' m
 served_at_end p r'' c w'' (Ok tt) good bad which = served_end p r'' c w'' good
 served_at_end p r'' c w'' (Err f) good bad which = rw which (served_end_fault p r'' c w'' bad.0 bad.1)

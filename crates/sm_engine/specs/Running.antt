@@ -3,6 +3,7 @@ use Rattle.std.specs.Prelude.{◌≡◌, ◌⊎◌, ℕ, ◌≤◌, length, List
 use Rattle.std.specs.Prelude.{if◌then◌else◌}
 use Rattle.std.specs.Io.KnownBytes.{Appends, Consumes}
 use Rattle.sm_wire.specs.declared.item.Item.{Item}
+use Rattle.sm_wire.specs.declared.kind.Kind.{Kind}
 use Rattle.sm_wire.specs.Items.{Scan, IsAlive, IsDead, has_rest, items_of, rest_of}
 use Rattle.sm_engine.specs.declared.fault.Fault.{Fault}
 use Rattle.sm_engine.specs.declared.fault.Fault.TheVariants.{ReadFault, WriteFault, TooManyReads, LineTooLong, Memory}
@@ -83,48 +84,53 @@ pub record Stopped {S : Type 0} (answers : S → Item → List ℕ → List ℕ 
   pub audited : Partly a a_new lines
 
 -- at the end of the input: all is answered and written, and then what the engine says of a rest
-pub record Ended {S : Type 0} (answers : S → Item → List ℕ → List ℕ → S → Type 0) (old : S) (bytes : List ℕ)
+pub record Ended {S : Type 0} (kind : Kind) (answers : S → Item → List ℕ → List ℕ → S
+    → Type 0) (old : S) (bytes : List ℕ)
     (w w_new a a_new : Option (List ℕ)) (new : S) : Type 0 where
   pub replies : List ℕ
   pub lines : List ℕ
-  pub runs : Runs answers old (items_of bytes) replies lines new
-  pub wrote : Appends w w_new (replies ++ ending_of (rest_of bytes))
+  pub runs : Runs answers old (items_of kind bytes) replies lines new
+  pub wrote : Appends w w_new (replies ++ ending_of (rest_of kind bytes))
   pub audited : Appends a a_new lines
-  pub alive : IsAlive (rest_of bytes)
+  pub alive : IsAlive (rest_of kind bytes)
 
 -- fronts of the two texts are written, or all but some of the ending
-abbrev pub Fronts : {S : Type 0} → (S → Item → List ℕ → List ℕ → S → Type 0) → S → List ℕ → Option (List ℕ)
+abbrev pub Fronts : {S : Type 0} → Kind → (S → Item → List ℕ → List ℕ → S → Type 0) → S → List ℕ → Option (List ℕ)
     → Option (List ℕ) → Option (List ℕ) → Option (List ℕ) → S → Type 0
-Fronts answers old bytes w w_new a a_new new = Stopped answers old (items_of bytes) w w_new a a_new new
-    ⊎ ((replies : List ℕ) × (lines : List ℕ) × Runs answers old (items_of bytes) replies lines new
-    × Partly w w_new (replies ++ ending_of (rest_of bytes)) × Appends a a_new lines)
+Fronts kind answers old bytes w w_new a a_new new = Stopped answers old (items_of kind bytes) w w_new a a_new new
+    ⊎ ((replies : List ℕ) × (lines : List ℕ) × Runs answers old (items_of kind bytes) replies lines new
+    × Partly w w_new (replies ++ ending_of (rest_of kind bytes)) × Appends a a_new lines)
 
 -- what an engine that read these bytes has written, by its result
-abbrev pub ByResult : {S : Type 0} → Result (Unit {0}) Fault → ℕ → (S → Item → List ℕ → List ℕ → S → Type 0) → S
+abbrev pub ByResult : {S : Type 0} → Kind → Result (Unit {0}) Fault → ℕ → (S → Item → List ℕ → List ℕ → S → Type 0) → S
     → List ℕ → Option (List ℕ) → Option (List ℕ) → Option (List ℕ) → Option (List ℕ) → S → Type 0
-ByResult (Ok x) bound answers old bytes w w_new a a_new new = Ended answers old bytes w w_new a a_new new
-ByResult (Err ReadFault) bound answers old bytes w w_new a a_new new =
-    Wrote answers old (items_of bytes) w w_new a a_new new × IsAlive (rest_of bytes)
-ByResult (Err TooManyReads) bound answers old bytes w w_new a a_new new =
-    Wrote answers old (items_of bytes) w w_new a a_new new × IsAlive (rest_of bytes) × (bound ≤ length bytes)
-ByResult (Err LineTooLong) bound answers old bytes w w_new a a_new new =
-    Wrote answers old (items_of bytes) w w_new a a_new new × IsDead (rest_of bytes)
-ByResult (Err WriteFault) bound answers old bytes w w_new a a_new new = Fronts answers old bytes w w_new a a_new new
-ByResult (Err Memory) bound answers old bytes w w_new a a_new new = Fronts answers old bytes w w_new a a_new new
+ByResult kind (Ok x) bound answers old bytes w w_new a a_new new = Ended kind answers old bytes w w_new a a_new new
+ByResult kind (Err ReadFault) bound answers old bytes w w_new a a_new new =
+    Wrote answers old (items_of kind bytes) w w_new a a_new new × IsAlive (rest_of kind bytes)
+ByResult kind (Err TooManyReads) bound answers old bytes w w_new a a_new new =
+    Wrote answers old (items_of kind bytes) w w_new a a_new new × IsAlive (rest_of kind bytes) × (bound ≤ length bytes)
+ByResult kind (Err LineTooLong) bound answers old bytes w w_new a a_new new =
+    Wrote answers old (items_of kind bytes) w w_new a a_new new × IsDead (rest_of kind bytes)
+ByResult kind (Err WriteFault) bound answers old bytes w w_new a a_new new =
+    Fronts kind answers old bytes w w_new a a_new new
+ByResult kind (Err Memory) bound answers old bytes w w_new a a_new new =
+    Fronts kind answers old bytes w w_new a a_new new
 
--- an engine that may make `bound` reads read these bytes, at least one a read, and wrote for them
-pub record Served {S : Type 0} (answers : S → Item → List ℕ → List ℕ → S → Type 0) (result : Result (Unit {0}) Fault)
+-- an engine for lines of this kind that may make `bound` reads read these bytes, at least one a read, and wrote for them
+pub record Served {S : Type 0} (kind : Kind) (answers : S → Item → List ℕ → List ℕ → S
+    → Type 0) (result : Result (Unit {0}) Fault)
     (bound : ℕ) (old : S) (r r_new w w_new a a_new : Option (List ℕ)) (new : S) : Type 0 where
   pub bytes : List ℕ
   pub consumed : Consumes r r_new bytes
-  pub written : ByResult result bound answers old bytes w w_new a a_new new
+  pub written : ByResult kind result bound answers old bytes w w_new a a_new new
 
 -- what holds after so many reads
-pub record Sofar {S : Type 0} (answers : S → Item → List ℕ → List ℕ → S → Type 0) (reads : ℕ) (old : S) (scan : Scan)
+pub record Sofar {S : Type 0} (kind : Kind) (answers : S → Item → List ℕ → List ℕ → S
+    → Type 0) (reads : ℕ) (old : S) (scan : Scan)
     (r r_new w w_new a a_new : Option (List ℕ)) (new : S) : Type 0 where
   pub bytes : List ℕ
   pub consumed : Consumes r r_new bytes
-  pub scanned : scan ≡ rest_of bytes
-  pub alive : IsAlive (rest_of bytes)
+  pub scanned : scan ≡ rest_of kind bytes
+  pub alive : IsAlive (rest_of kind bytes)
   pub enough : reads ≤ length bytes
-  pub wrote : Wrote answers old (items_of bytes) w w_new a a_new new
+  pub wrote : Wrote answers old (items_of kind bytes) w w_new a a_new new

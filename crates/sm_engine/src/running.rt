@@ -11,15 +11,16 @@ use crate::counted::Counted;
 use crate::fault::Fault;
 use crate::machine::Machine;
 use crate::writing::write_whole;
-use sm_wire::{FeedError, Lines};
+use sm_wire::{FeedError, Kind, Lines};
 use std::alloc::Global;
 use std::io::{Read, Write};
 
 const PIECE: usize = 8192;
 
-/// Answers what comes from the reader until its end, a fault, or `bound` reads.
+/// Answers what comes from the reader, lines of this kind, until its end, a fault, or `bound` reads.
 pub fn run<M: Machine, R: Read, W: Write, A: Write>(
     alloc: Global,
+    kind: Kind,
     machine: &mut M,
     bound: u32,
     reader: &mut Counted<R>,
@@ -29,7 +30,7 @@ pub fn run<M: Machine, R: Read, W: Write, A: Write>(
     requires reader { failures_of reader.old < greatest }
     requires writer { failures_of writer.old < greatest }
     requires audit { failures_of audit.old < greatest }
-    ensures served { Served M.answers result bound machine.old
+    ensures served { Served kind M.answers result bound machine.old
         (R.remaining (inner_of reader.old)) (R.remaining (inner_of reader.new))
         (W.contents (inner_of writer.old)) (W.contents (inner_of writer.new))
         (A.contents (inner_of audit.old)) (A.contents (inner_of audit.new)) machine.new }
@@ -38,7 +39,7 @@ pub fn run<M: Machine, R: Read, W: Write, A: Write>(
     ensures write_fault { result ≡ Err Fault.WriteFault → failures_of writer.old + failures_of audit.old
         < failures_of writer.new + failures_of audit.new }
 {
-    let mut lines = Lines::new(alloc);
+    let mut lines = Lines::new(alloc, kind);
     let mut buffer = [0u8; PIECE];
     for reads in 0..bound {
         let n = read_piece(reader, &mut buffer)?;

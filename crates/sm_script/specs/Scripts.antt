@@ -14,6 +14,7 @@ use Rattle.sm_history.specs.Books.{Book}
 use Rattle.sm_core.specs.Opening.{opened, opening_denial}
 use Rattle.sm_engine.specs.declared.fault.Fault.{Fault}
 use Rattle.sm_engine.specs.Running.{Served}
+use Rattle.sm_wire.specs.declared.kind.Kind.TheVariants.{Script}
 use Rattle.sm_script.specs.declared.script_fault.ScriptFault.{ScriptFault}
 use Rattle.sm_script.specs.declared.script_fault.ScriptFault.TheVariants.{Policy as PolicyRefused, Opening, Engine}
 use Rattle.sm_script.specs.Answering.{AnswersItem}
@@ -58,7 +59,7 @@ pub record Ran (rules contexts : List ℕ) (places bound : ℕ) (result : Result
   pub first : Book
   pub opened_first : Opens rules contexts places first
   pub last : Book
-  pub served : Served AnswersItem result bound first r r_new w w_new a a_new last
+  pub served : Served Script AnswersItem result bound first r r_new w w_new a a_new last
 
 -- how a script ended
 abbrev pub RunsScript : Result (Unit {0}) ScriptFault → List ℕ → List ℕ → ℕ → ℕ → Option (List ℕ) → Option (List ℕ)

@@ -2,7 +2,7 @@
 
 ghost use Rattle.sm_history.specs.declared.by.By.TheVariants.{Admin};
 ghost use Rattle.sm_history.specs.declared.event.Event.TheVariants.{Reload};
-ghost use Rattle.sm_script.specs.Answering.{AnswersNow, Judges, the_administrator};
+ghost use Rattle.sm_script.specs.Answering.{AnswersNow, Judged, the_administrator};
 
 use sm_core::Manager;
 use sm_history::{By, Event, Reply};
@@ -13,15 +13,18 @@ use sm_wire::Request;
 /// The administrator of a script.
 const ADMINISTRATOR: AdminId = AdminId(1);
 
-/// The reply to a request.
-pub fn judge(manager: &mut Manager, request: Request) -> Reply
-    ensures { Judges manager.old.book request result manager.new.book }
+/// The reply to a request, or none to what no line of a script asks.
+pub fn judge(manager: &mut Manager, request: Request) -> Option<Reply>
+    ensures { Judged manager.old.book request result manager.new.book }
 {
     match request {
-        Request::Hello(who) => change(manager, By::Manager, Event::Connect(who)),
-        Request::Change(client, event) => change(manager, By::Client(client), event),
-        Request::Look(client, query) => manager.look(By::Client(client), query),
-        Request::Ask(query) => manager.look(By::Admin(ADMINISTRATOR), query),
+        Request::Hello(who) => Some(change(manager, By::Manager, Event::Connect(who))),
+        Request::Change(Some(client), event) => Some(change(manager, By::Client(client), event)),
+        Request::Look(Some(client), query) => Some(manager.look(By::Client(client), query)),
+        Request::Look(None, query) => Some(manager.look(By::Admin(ADMINISTRATOR), query)),
+        Request::Change(None, _) => None,
+        Request::Reload { .. } => None,
+        Request::Denials => None,
     }
 }
 

@@ -1,16 +1,17 @@
 //! A service manager that answers the items of a script.
 
-ghost use Rattle.std.specs.Prelude.{◌≡◌, IfOk, OnErr, Ok};
+ghost use Rattle.std.specs.Prelude.{◌≡◌, ◌++◌, OnOk, OnErr, Ok};
 ghost use Rattle.sm_wire.specs.declared.item.Item.TheVariants.{Asked, Policy};
 ghost use Rattle.sm_policy.specs.Preparing.{prepared};
-ghost use Rattle.sm_script.specs.Answering.{AnswersItem, AnswersLine, AnswersTexts, refused_policy_line};
+ghost use Rattle.sm_script.specs.Answering.{Adds, AnswersItem, AnswersLine, AnswersTexts, judged_text, refused_policy_line};
 ghost use Rattle.sm_engine.specs.Running.{GaveUp};
 
 use crate::judging::{judge, reload};
 use sm_core::Manager;
 use sm_engine::Machine;
+use sm_history::Reply;
 use sm_policy::{PolicyFault, Prepared, refused_text};
-use sm_wire::{Item, PolicyTexts, Request, reply_line, told_line};
+use sm_wire::{Item, PolicyTexts, Request, Telling, push_reply};
 use std::alloc::{AllocError, Global};
 use std::marker::Model;
 
@@ -38,8 +39,12 @@ impl Machine for Script {
         replies: &mut Vec<u8>,
         _audit: &mut Vec<u8>,
     ) -> Result<(), AllocError> {
-        let line = self.line(item)?;
-        replies.extend_from_slice(&line)
+        match item {
+            Item::Asked(request) => self.answer_request(request, replies),
+            Item::Policy(texts) => self.answer_policy(&texts, replies),
+            Item::Malformed => replies.extend_from_slice(b"malformed\n"),
+            Item::LineTooLong => replies.extend_from_slice(b"fault long\n"),
+        }
     }
 }
 
@@ -51,55 +56,68 @@ impl Script {
         Script { alloc, manager }
     }
 
-    // The line that an item is answered.
-    fn line(&mut self, item: Item) -> Result<Vec<u8>, AllocError>
-        ensures ok { IfOk result (λ line. AnswersLine self.old item line.items self.new) }
-        ensures err { OnErr result (GaveUp AnswersItem self.old item self.new) }
-    {
-        match item {
-            Item::Asked(request) => self.request_line(request),
-            Item::Policy(texts) => self.policy_line(&texts),
-            Item::Malformed => Vec::from_slice(self.alloc, b"malformed\n"),
-            Item::LineTooLong => Vec::from_slice(self.alloc, b"fault long\n"),
-        }
-    }
-
-    fn request_line(&mut self, request: Request) -> Result<Vec<u8>, AllocError>
-        ensures ok { IfOk result (λ line. AnswersLine self.old (Asked request) line.items self.new) }
+    fn answer_request(&mut self, request: Request, replies: &mut Vec<u8>) -> Result<(), AllocError>
+        ensures ok { OnOk result (Adds (λ line. AnswersLine self.old (Asked request) line self.new)
+            replies.old.items replies.new.items) }
         ensures err { OnErr result (GaveUp AnswersItem self.old (Asked request) self.new) }
     {
         let telling = request.telling();
         let reply = judge(&mut self.manager, request);
-        reply_line(self.alloc, telling, &reply)
+        push_judged(self.alloc, replies, telling, &reply)
     }
 
-    fn policy_line(&mut self, texts: &PolicyTexts) -> Result<Vec<u8>, AllocError>
-        ensures ok { IfOk result (λ line. AnswersTexts self.old texts.now line.items self.new) }
+    fn answer_policy(
+        &mut self,
+        texts: &PolicyTexts,
+        replies: &mut Vec<u8>,
+    ) -> Result<(), AllocError>
+        ensures ok { OnOk result (Adds (λ line. AnswersTexts self.old texts.now line self.new)
+            replies.old.items replies.new.items) }
         ensures err { OnErr result (GaveUp AnswersItem self.old (Policy texts.now) self.new) }
     {
         match Prepared::from_texts(self.alloc, texts.rules(), texts.contexts()) {
-            Ok(policy) => self.reload_line(texts, policy),
-            Err(fault) => refused_line(self.alloc, &fault),
+            Ok(policy) => self.answer_reload(texts, policy, replies),
+            Err(fault) => push_refused(self.alloc, &fault, replies),
         }
     }
 
-    fn reload_line(&mut self, texts: &PolicyTexts, policy: Prepared) -> Result<Vec<u8>, AllocError>
+    fn answer_reload(
+        &mut self,
+        texts: &PolicyTexts,
+        policy: Prepared,
+        replies: &mut Vec<u8>,
+    ) -> Result<(), AllocError>
         requires { prepared texts.now.rules texts.now.contexts ≡ Ok policy }
-        ensures ok { IfOk result (λ line. AnswersTexts self.old texts.now line.items self.new) }
+        ensures ok { OnOk result (Adds (λ line. AnswersTexts self.old texts.now line self.new)
+            replies.old.items replies.new.items) }
         ensures err { OnErr result (GaveUp AnswersItem self.old (Policy texts.now) self.new) }
     {
         let reply = reload(&mut self.manager, texts.expected(), policy);
-        told_line(self.alloc, &reply)
+        push_reply(self.alloc, replies, Telling::Whole, &reply)
     }
 }
 
-// `refused`, and why.
-fn refused_line(alloc: Global, fault: &PolicyFault) -> Result<Vec<u8>, AllocError>
-    ensures { IfOk result (λ line. line.items ≡ refused_policy_line fault.now) }
+// Adds the line of a reply, or of what no line of a script asks.
+fn push_judged(
+    alloc: Global,
+    replies: &mut Vec<u8>,
+    telling: Telling,
+    reply: &Option<Reply>,
+) -> Result<(), AllocError>
+    ensures { OnOk result (replies.new.items ≡ replies.old.items ++ judged_text telling reply.now) }
 {
-    let mut line = Vec::from_slice(alloc, b"refused ")?;
+    match reply {
+        Some(reply) => push_reply(alloc, replies, telling, reply),
+        None => replies.extend_from_slice(b"malformed\n"),
+    }
+}
+
+// Adds `refused`, and why.
+fn push_refused(alloc: Global, fault: &PolicyFault, replies: &mut Vec<u8>) -> Result<(), AllocError>
+    ensures { OnOk result (replies.new.items ≡ replies.old.items ++ refused_policy_line fault.now) }
+{
     let words = refused_text(alloc, fault)?;
-    line.extend_from_slice(&words)?;
-    line.extend_from_slice(b"\n")?;
-    Ok(line)
+    replies.extend_from_slice(b"refused ")?;
+    replies.extend_from_slice(&words)?;
+    replies.extend_from_slice(b"\n")
 }

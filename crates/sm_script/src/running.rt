@@ -13,6 +13,7 @@ use sm_engine::{Counted, Fault, run};
 use sm_history::Refusal;
 use sm_kinds::{Context, ContextError, Identity, Places};
 use sm_policy::Prepared;
+use sm_wire::Kind;
 use std::alloc::{AllocError, Global};
 use std::io::{Read, Write};
 
@@ -45,7 +46,15 @@ pub fn run_script<R: Read, W: Write, A: Write>(
         → failures_of writer.old + failures_of audit.old < failures_of writer.new + failures_of audit.new }
 {
     let mut script = opened_script(alloc, rules, contexts, places)?;
-    match run(alloc, &mut script, bound, reader, writer, audit) {
+    match run(
+        alloc,
+        Kind::Script,
+        &mut script,
+        bound,
+        reader,
+        writer,
+        audit,
+    ) {
         Ok(()) => Ok(()),
         Err(fault) => Err(ScriptFault::Engine(fault)),
     }

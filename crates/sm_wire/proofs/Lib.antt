@@ -1,3 +1,4 @@
+pub mod CutLemmas
 pub mod FieldLemmas
 pub mod ItemLemmas
 pub mod NumberLemmas

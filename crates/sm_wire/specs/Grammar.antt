@@ -8,8 +8,10 @@ use Rattle.sm_history.specs.declared.event.Event.TheVariants.{Add, Get, Watch, U
 use Rattle.sm_history.specs.declared.query.Query.{Query}
 use Rattle.sm_history.specs.declared.query.Query.TheVariants as queries
 use Rattle.sm_wire.specs.declared.request.Request.{Request}
-use Rattle.sm_wire.specs.declared.request.Request.TheVariants.{Hello, Change, Look, Ask}
+use Rattle.sm_wire.specs.declared.request.Request.TheVariants.{Hello, Change, Look, Reload, Denials}
 use Rattle.sm_wire.specs.declared.announced.Announced.{Announced}
+use Rattle.sm_wire.specs.declared.kind.Kind.{Kind}
+use Rattle.sm_wire.specs.declared.kind.Kind.TheVariants.{Client, Admin, Script}
 use Rattle.sm_wire.specs.Number.{u32_max, u64_max, number_of}
 use Rattle.sm_wire.specs.Fields.{fields_of}
 use Rattle.sm_wire.specs.Reading.{◌>>=◌, first_of_two}
@@ -123,18 +125,18 @@ query_of word fields =
     if bytes_eq word (codes "list") then list_of fields
     else (if bytes_eq word (codes "version") then version_of fields else None)
 
-unfoldable pub look_of : ClientId → List ℕ → List (List ℕ) → Option Request
+unfoldable pub look_of : Option ClientId → List ℕ → List (List ℕ) → Option Request
 look_of client word fields = do
   query ← query_of word fields
   Some (Look client query)
 
-unfoldable pub change_of : ClientId → List ℕ → List (List ℕ) → Option Request
+unfoldable pub change_of : Option ClientId → List ℕ → List (List ℕ) → Option Request
 change_of client word fields = do
   event ← event_of word fields
   Some (Change client event)
 
 -- what a client asks: a look or a change
-unfoldable pub client_request_of : ClientId → List (List ℕ) → Option Request
+unfoldable pub client_request_of : Option ClientId → List (List ℕ) → Option Request
 client_request_of client (word ∷ fields) = first_of_two (look_of client word fields) (change_of client word fields)
 client_request_of client _ = None
 
@@ -143,7 +145,7 @@ unfoldable pub client_line_of : List (List ℕ) → Option Request
 client_line_of [] = None
 client_line_of (number ∷ rest) = do
   n ← number_of u32_max number
-  client_request_of (record { 0 = n }) rest
+  client_request_of (Some (record { 0 = n })) rest
 
 unfoldable pub hello_of : List ℕ → List ℕ → List ℕ → Option Request
 hello_of pid uid context = do
@@ -163,35 +165,69 @@ explain_of source target class perm = do
   t ← word_of target
   c ← class_read class
   p ← perm_of perm
-  Some (Ask (queries.Explain s t c p))
+  Some (Look None (queries.Explain s t c p))
 
 -- `explain SOURCE TARGET CLASS PERM`
 unfoldable pub explaining_of : List (List ℕ) → Option Request
 explaining_of (word ∷ a ∷ b ∷ c ∷ d ∷ []) = if bytes_eq word (codes "explain") then explain_of a b c d else None
 explaining_of _ = None
 
-unfoldable pub asking_of : List (List ℕ) → Option Request
-asking_of fields = first_of_two (explaining_of fields) (client_line_of fields)
-
-unfoldable pub fields_request_of : List (List ℕ) → Option Request
-fields_request_of fields = first_of_two (greeting_of fields) (asking_of fields)
-
--- what a line asks for
-unfoldable pub request_of : List ℕ → Option Request
-request_of line = fields_request_of (fields_of line)
-
-unfoldable pub sizes_of : List ℕ → List ℕ → List ℕ → Option Announced
+unfoldable pub sizes_of : List ℕ → List ℕ → List ℕ → Option Request
 sizes_of expected rules contexts = do
   e ← number_of u64_max expected
   r ← number_of u32_max rules
   c ← number_of u32_max contexts
-  Some (record { expected = e; rules = r; contexts = c })
+  Some (Reload e r c)
 
 -- `reload EXPECTED R C`
-unfoldable pub reload_of : List (List ℕ) → Option Announced
+unfoldable pub reload_of : List (List ℕ) → Option Request
 reload_of (word ∷ a ∷ b ∷ c ∷ []) = if bytes_eq word (codes "reload") then sizes_of a b c else None
 reload_of _ = None
 
--- what a line announces
-unfoldable pub announced_of : List ℕ → Option Announced
-announced_of line = reload_of (fields_of line)
+-- the administrator's lines that a script has, too
+unfoldable pub policy_request_of : List (List ℕ) → Option Request
+policy_request_of fields = first_of_two (reload_of fields) (explaining_of fields)
+
+-- `version` or `denials`
+unfoldable pub standing_of : List (List ℕ) → Option Request
+standing_of (word ∷ []) = if bytes_eq word (codes "version") then Some (Look None queries.Version)
+    else (if bytes_eq word (codes "denials") then Some Denials else None)
+standing_of _ = None
+
+-- a line of a client's connection
+unfoldable pub client_fields_of : List (List ℕ) → Option Request
+client_fields_of fields = first_of_two (client_request_of None fields) (greeting_of fields)
+
+-- a line of an administrator's connection
+unfoldable pub admin_fields_of : List (List ℕ) → Option Request
+admin_fields_of fields = first_of_two (standing_of fields) (policy_request_of fields)
+
+-- a line of a script that doesn't begin with a client's number
+unfoldable pub unnumbered_of : List (List ℕ) → Option Request
+unnumbered_of fields = first_of_two (greeting_of fields) (policy_request_of fields)
+
+-- a line of a script
+unfoldable pub script_fields_of : List (List ℕ) → Option Request
+script_fields_of fields = first_of_two (client_line_of fields) (unnumbered_of fields)
+
+unfoldable pub fields_request_of : Kind → List (List ℕ) → Option Request
+fields_request_of Client fields = client_fields_of fields
+fields_request_of Admin fields = admin_fields_of fields
+fields_request_of Script fields = script_fields_of fields
+
+-- what a line of this kind asks for
+unfoldable pub request_of : Kind → List ℕ → Option Request
+request_of kind line = fields_request_of kind (fields_of line)
+
+-- the texts that a request announces behind its line
+abbrev pub announced_by : Option Request → Option Announced
+announced_by (Some (Reload e r c)) = Some (record { expected = e; rules = r; contexts = c })
+announced_by (Some (Hello who)) = None
+announced_by (Some (Change client event)) = None
+announced_by (Some (Look client query)) = None
+announced_by (Some Denials) = None
+announced_by None = None
+
+-- the texts that a line announces
+unfoldable pub announced_of : Kind → List ℕ → Option Announced
+announced_of kind line = announced_by (request_of kind line)

@@ -4,5 +4,6 @@ pub mod Reading
 pub mod Values
 pub mod Grammar
 pub mod Items
+pub mod Ends
 pub mod Replies
 pub mod Texts

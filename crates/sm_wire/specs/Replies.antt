@@ -32,7 +32,7 @@ use Rattle.sm_history.specs.declared.reply.Reply.{Reply}
 use Rattle.sm_history.specs.declared.reply.Reply.TheVariants.{Done, GotNull, GotOwn, Looked, Refused}
 use Rattle.sm_history.specs.Told.{told, told_to_get}
 use Rattle.sm_wire.specs.declared.request.Request.{Request}
-use Rattle.sm_wire.specs.declared.request.Request.TheVariants.{Hello, Change, Look, Ask}
+use Rattle.sm_wire.specs.declared.request.Request.TheVariants.{Hello, Change, Look, Reload, Denials}
 use Rattle.sm_wire.specs.declared.telling.Telling.{Telling}
 use Rattle.sm_wire.specs.declared.telling.Telling.TheVariants.{Whole, ToGet}
 
@@ -164,7 +164,8 @@ abbrev pub told_of : Request → Reply → Reply
 told_of (Hello who) reply = told (events.Connect who) reply
 told_of (Change client event) reply = told event reply
 told_of (Look client query) reply = reply
-told_of (Ask query) reply = reply
+told_of (Reload expected rules contexts) reply = reply
+told_of Denials reply = reply
 
 -- what is told of a reply in this way
 abbrev pub told_in : Telling → Reply → Reply

@@ -2,26 +2,15 @@
 
 ghost use Rattle.std.specs.Prelude.{map};
 ghost use Rattle.sm_wire.specs.Reading.{Reads};
-ghost use Rattle.sm_wire.specs.Grammar.{sizes_of, reload_of, announced_of};
+ghost use Rattle.sm_wire.specs.Grammar.{sizes_of, reload_of};
 
-use crate::announced::Announced;
-use crate::fields::split_fields;
 use crate::numbers::{u32_field, u64_field};
 use crate::read_error::ReadError;
-use std::alloc::Global;
+use crate::request::Request;
 
-/// What the line announces. The line has no newline.
-#[tactic(auto, unfolding(crate::specs::Grammar::announced_of))]
-pub fn announced(alloc: Global, line: &[u8]) -> Result<Announced, ReadError>
-    ensures { Reads result (announced_of line.now) }
-{
-    let fields = split_fields(alloc, line)?;
-    reload(&fields)
-}
-
-// `reload EXPECTED R C`
+/// `reload EXPECTED R C`
 #[tactic(auto, unfolding(crate::specs::Grammar::reload_of))]
-fn reload(fields: &[&[u8]]) -> Result<Announced, ReadError>
+pub fn reload(fields: &[&[u8]]) -> Result<Request, ReadError>
     ensures { Reads result (reload_of (map (λ f. f.now) fields.now)) }
 {
     match fields {
@@ -31,13 +20,13 @@ fn reload(fields: &[&[u8]]) -> Result<Announced, ReadError>
 }
 
 #[tactic(auto, unfolding(crate::specs::Grammar::sizes_of))]
-fn sizes(expected: &[u8], rules: &[u8], contexts: &[u8]) -> Result<Announced, ReadError>
+fn sizes(expected: &[u8], rules: &[u8], contexts: &[u8]) -> Result<Request, ReadError>
     ensures { Reads result (sizes_of expected.now rules.now contexts.now) }
 {
     let expected = u64_field(expected)?;
     let rules = u32_field(rules)?;
     let contexts = u32_field(contexts)?;
-    Ok(Announced {
+    Ok(Request::Reload {
         expected,
         rules,
         contexts,

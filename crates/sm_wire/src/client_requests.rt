@@ -18,7 +18,7 @@ use std::alloc::Global;
 #[tactic(auto, unfolding(crate::specs::Grammar::client_request_of))]
 pub fn client_request(
     alloc: Global,
-    client: ClientId,
+    client: Option<ClientId>,
     fields: &[&[u8]],
 ) -> Result<Request, ReadError>
     ensures { Reads result (client_request_of client (map (λ f. f.now) fields.now)) }
@@ -33,7 +33,7 @@ pub fn client_request(
 }
 
 #[tactic(auto, unfolding(crate::specs::Grammar::look_of))]
-fn look(client: ClientId, word: &[u8], fields: &[&[u8]]) -> Result<Request, ReadError>
+fn look(client: Option<ClientId>, word: &[u8], fields: &[&[u8]]) -> Result<Request, ReadError>
     ensures { Reads result (look_of client word.now (map (λ f. f.now) fields.now)) }
 {
     let query = query(word, fields)?;
@@ -43,7 +43,7 @@ fn look(client: ClientId, word: &[u8], fields: &[&[u8]]) -> Result<Request, Read
 #[tactic(auto, unfolding(crate::specs::Grammar::change_of))]
 fn change(
     alloc: Global,
-    client: ClientId,
+    client: Option<ClientId>,
     word: &[u8],
     fields: &[&[u8]],
 ) -> Result<Request, ReadError>

@@ -1,15 +1,16 @@
 //! The fields of a line.
 
-ghost use Rattle.std.specs.Prelude.{◌≡◌, IfOk, map};
+ghost use Rattle.std.specs.Prelude.{◌≡◌, OnOk, map};
 ghost use Rattle.sm_wire.specs.Fields.{fields_of};
 
-use std::alloc::{AllocError, Global};
+use std::alloc::AllocError;
 
-/// The parts between single spaces.
-pub fn split_fields<'a>(alloc: Global, line: &'a [u8]) -> Result<Vec<&'a [u8]>, AllocError>
-    ensures { IfOk result (λ v. map (λ s. s.now) v.items ≡ fields_of line.now) }
+/// The parts between single spaces, in the place of what `fields` held. A reader of many lines gives the same vector
+/// for each, which then grows once.
+pub fn split_fields<'a>(line: &'a [u8], fields: &mut Vec<&'a [u8]>) -> Result<(), AllocError>
+    ensures { OnOk result (map (λ s. s.now) fields.new.items ≡ fields_of line.now) }
 {
-    let mut fields = Vec::new(alloc);
+    fields.clear();
     let mut start = 0;
     for (i, b) in line.iter().enumerate() {
         if *b == b' ' {
@@ -18,5 +19,5 @@ pub fn split_fields<'a>(alloc: Global, line: &'a [u8]) -> Result<Vec<&'a [u8]>, 
         }
     }
     fields.push(&line[start..])?;
-    Ok(fields)
+    Ok(())
 }

@@ -2,10 +2,12 @@
 
 ghost use Rattle.std.specs.Prelude.{map};
 ghost use Rattle.sm_wire.specs.Reading.{Reads};
-ghost use Rattle.sm_wire.specs.Grammar.{client_line_of, hello_of, greeting_of, explain_of, explaining_of, asking_of, fields_request_of, request_of};
+ghost use Rattle.sm_wire.specs.Grammar.{client_line_of, hello_of, greeting_of, explain_of, explaining_of, standing_of, policy_request_of, unnumbered_of, client_fields_of, admin_fields_of, script_fields_of, fields_request_of, request_of};
 
+use crate::announcing::reload;
 use crate::client_requests::client_request;
 use crate::fields::split_fields;
+use crate::kind::Kind;
 use crate::numbers::u32_field;
 use crate::read_error::ReadError;
 use crate::request::Request;
@@ -14,32 +16,92 @@ use sm_history::Query;
 use sm_kinds::{ClientId, Identity};
 use std::alloc::Global;
 
-/// What the line asks for. The line has no newline.
+/// What the line of this kind asks for. The line has no newline.
 #[tactic(auto, unfolding(crate::specs::Grammar::request_of))]
-pub fn request(alloc: Global, line: &[u8]) -> Result<Request, ReadError>
-    ensures { Reads result (request_of line.now) }
+pub fn request(alloc: Global, kind: Kind, line: &[u8]) -> Result<Request, ReadError>
+    ensures { Reads result (request_of kind line.now) }
 {
-    let fields = split_fields(alloc, line)?;
-    fields_request(alloc, &fields)
+    let mut fields = Vec::new(alloc);
+    split_fields(line, &mut fields)?;
+    fields_request(alloc, kind, &fields)
 }
 
+/// What a line of this kind and these fields asks for.
 #[tactic(auto, unfolding(crate::specs::Grammar::fields_request_of))]
-fn fields_request(alloc: Global, fields: &[&[u8]]) -> Result<Request, ReadError>
-    ensures { Reads result (fields_request_of (map (λ f. f.now) fields.now)) }
+pub fn fields_request(alloc: Global, kind: Kind, fields: &[&[u8]]) -> Result<Request, ReadError>
+    ensures { Reads result (fields_request_of kind (map (λ f. f.now) fields.now)) }
 {
-    match greeting(alloc, fields) {
-        Err(ReadError::Malformed) => asking(alloc, fields),
+    match kind {
+        Kind::Client => client_fields(alloc, fields),
+        Kind::Admin => admin_fields(alloc, fields),
+        Kind::Script => script_fields(alloc, fields),
+    }
+}
+
+// A line of a client's connection.
+#[tactic(auto, unfolding(crate::specs::Grammar::client_fields_of))]
+fn client_fields(alloc: Global, fields: &[&[u8]]) -> Result<Request, ReadError>
+    ensures { Reads result (client_fields_of (map (λ f. f.now) fields.now)) }
+{
+    match client_request(alloc, None, fields) {
+        Err(ReadError::Malformed) => greeting(alloc, fields),
         other => other,
     }
 }
 
-#[tactic(auto, unfolding(crate::specs::Grammar::asking_of))]
-fn asking(alloc: Global, fields: &[&[u8]]) -> Result<Request, ReadError>
-    ensures { Reads result (asking_of (map (λ f. f.now) fields.now)) }
+// A line of an administrator's connection.
+#[tactic(auto, unfolding(crate::specs::Grammar::admin_fields_of))]
+fn admin_fields(alloc: Global, fields: &[&[u8]]) -> Result<Request, ReadError>
+    ensures { Reads result (admin_fields_of (map (λ f. f.now) fields.now)) }
 {
-    match explaining(alloc, fields) {
-        Err(ReadError::Malformed) => client_line(alloc, fields),
+    match standing(fields) {
+        Err(ReadError::Malformed) => policy_request(alloc, fields),
         other => other,
+    }
+}
+
+// A line of a script.
+#[tactic(auto, unfolding(crate::specs::Grammar::script_fields_of))]
+fn script_fields(alloc: Global, fields: &[&[u8]]) -> Result<Request, ReadError>
+    ensures { Reads result (script_fields_of (map (λ f. f.now) fields.now)) }
+{
+    match client_line(alloc, fields) {
+        Err(ReadError::Malformed) => unnumbered(alloc, fields),
+        other => other,
+    }
+}
+
+// A line of a script that doesn't begin with a client's number.
+#[tactic(auto, unfolding(crate::specs::Grammar::unnumbered_of))]
+fn unnumbered(alloc: Global, fields: &[&[u8]]) -> Result<Request, ReadError>
+    ensures { Reads result (unnumbered_of (map (λ f. f.now) fields.now)) }
+{
+    match greeting(alloc, fields) {
+        Err(ReadError::Malformed) => policy_request(alloc, fields),
+        other => other,
+    }
+}
+
+// The administrator's lines that a script has, too.
+#[tactic(auto, unfolding(crate::specs::Grammar::policy_request_of))]
+fn policy_request(alloc: Global, fields: &[&[u8]]) -> Result<Request, ReadError>
+    ensures { Reads result (policy_request_of (map (λ f. f.now) fields.now)) }
+{
+    match reload(fields) {
+        Err(ReadError::Malformed) => explaining(alloc, fields),
+        other => other,
+    }
+}
+
+// `version` or `denials`
+#[tactic(auto, unfolding(crate::specs::Grammar::standing_of))]
+fn standing(fields: &[&[u8]]) -> Result<Request, ReadError>
+    ensures { Reads result (standing_of (map (λ f. f.now) fields.now)) }
+{
+    match fields {
+        [word] if *word == b"version".as_slice() => Ok(Request::Look(None, Query::Version)),
+        [word] if *word == b"denials".as_slice() => Ok(Request::Denials),
+        _ => Err(ReadError::Malformed),
     }
 }
 
@@ -89,12 +151,15 @@ fn explain(
     let target = word_field(alloc, target)?;
     let class = class_field(class)?;
     let perm = perm_field(perm)?;
-    Ok(Request::Ask(Query::Explain {
-        source,
-        target,
-        class,
-        perm,
-    }))
+    Ok(Request::Look(
+        None,
+        Query::Explain {
+            source,
+            target,
+            class,
+            perm,
+        },
+    ))
 }
 
 // `N REQUEST`
@@ -106,7 +171,7 @@ fn client_line(alloc: Global, fields: &[&[u8]]) -> Result<Request, ReadError>
         [] => Err(ReadError::Malformed),
         [number, rest @ ..] => {
             let client = ClientId(u32_field(number)?);
-            client_request(alloc, client, rest)
+            client_request(alloc, Some(client), rest)
         }
     }
 }

@@ -5,35 +5,36 @@ ghost use Rattle.std.specs.Fmt.{decimal};
 ghost use Rattle.std.specs.List.{AllByRecursion};
 ghost use Rattle.sm_wire.specs.Number.{number_of};
 ghost use Rattle.sm_wire.specs.declared.item.Item.TheVariants as items;
+ghost use Rattle.sm_wire.specs.declared.kind.Kind.{Kind};
 ghost use Rattle.sm_wire.specs.declared.announced.Announced.{Announced};
 ghost use Rattle.sm_wire.specs.Grammar.{announced_of};
 ghost use Rattle.sm_wire.specs.Items.{item_of, items_of, items_after, rest_of, scan_after};
 
 /// A line that is no `reload` line and its newline give its item, and then come the items of what follows.
 pub fn first_line()
-    ensures { (line rest : List ℕ) → AllByRecursion (λ b. b ≢ 10) line → length line ≤ 4096 → announced_of line ≡ None
-        → items_of (line ++ 10 ∷ rest) ≡ item_of line ∷ items_of rest }
+    ensures { (kind : Kind) (line rest : List ℕ) → AllByRecursion (λ b. b ≢ 10) line → length line ≤ 4096 → announced_of kind line ≡ None
+        → items_of kind (line ++ 10 ∷ rest) ≡ item_of kind line ∷ items_of kind rest }
 {}
 
 /// A `reload` line, its newline and the two texts that it announces, of any bytes, give one item, and then come the
 /// items of what follows.
 pub fn reload_line()
-    ensures { (line rules contexts rest : List ℕ) (a : Announced) → AllByRecursion (λ b. b ≢ 10) line → length line ≤ 4096
-        → announced_of line ≡ Some a → a.rules ≡ length rules → a.contexts ≡ length contexts → length rules ≤ 4194304 → length contexts ≤ 4194304
-        → items_of (line ++ 10 ∷ (rules ++ contexts ++ rest))
-        ≡ items.Policy (record { expected = a.expected; rules = rules; contexts = contexts }) ∷ items_of rest }
+    ensures { (kind : Kind) (line rules contexts rest : List ℕ) (a : Announced) → AllByRecursion (λ b. b ≢ 10) line → length line ≤ 4096
+        → announced_of kind line ≡ Some a → a.rules ≡ length rules → a.contexts ≡ length contexts → length rules ≤ 4194304 → length contexts ≤ 4194304
+        → items_of kind (line ++ 10 ∷ (rules ++ contexts ++ rest))
+        ≡ items.Policy (record { expected = a.expected; rules = rules; contexts = contexts }) ∷ items_of kind rest }
 {}
 
 /// A line is too long at its 4,097th byte, whatever comes after it, and no item comes after it.
 pub fn long_line()
-    ensures { (line rest : List ℕ) (b : ℕ) → AllByRecursion (λ c. c ≢ 10) line → length line ≡ 4096
-        → b ≢ 10 → items_of (line ++ b ∷ rest) ≡ items.LineTooLong ∷ [] }
+    ensures { (kind : Kind) (line rest : List ℕ) (b : ℕ) → AllByRecursion (λ c. c ≢ 10) line → length line ≡ 4096
+        → b ≢ 10 → items_of kind (line ++ b ∷ rest) ≡ items.LineTooLong ∷ [] }
 {}
 
 /// It doesn't matter where a stream is cut.
 pub fn any_cut()
-    ensures items { (xs ys : List ℕ) → items_of (xs ++ ys) ≡ items_of xs ++ items_after (rest_of xs) ys }
-    ensures rest { (xs ys : List ℕ) → rest_of (xs ++ ys) ≡ scan_after (rest_of xs) ys }
+    ensures items { (kind : Kind) (xs ys : List ℕ) → items_of kind (xs ++ ys) ≡ items_of kind xs ++ items_after (rest_of kind xs) ys }
+    ensures rest { (kind : Kind) (xs ys : List ℕ) → rest_of kind (xs ++ ys) ≡ scan_after (rest_of kind xs) ys }
 {}
 
 /// A number has one spelling, decimal and without leading zeros, and is read where it is at most `max`.

@@ -1,10 +1,15 @@
 //! The reader of a stream that comes in pieces.
 
-ghost use Rattle.std.specs.Prelude.{◌≡◌, ◌≤◌, ◌↔◌, IfOk, OnErr, IsTrue, vec_len, drop};
-ghost use Rattle.sm_wire.specs.Items.{has_rest, IsDead, scan_start, scan_after, items_after};
+ghost use Rattle.std.specs.Prelude.{◌≡◌, ◌≤◌, ◌↔◌, ◌++◌, IfOk, OnOk, OnErr, IsTrue, vec_len, length, drop};
+ghost use Rattle.sm_wire.specs.Items.{has_rest, IsAlive, IsDead, scan_start, scan_after, items_after};
+ghost use Rattle.sm_wire.specs.Ends.{EndsAs, Overfull};
+ghost use Rattle.sm_wire.specs.declared.ends.End.TheVariants.{At};
 
-use crate::cuts::{Mode, Pieces, cut};
+use crate::cuts::{Remainder, cut, end_stream, lone_item};
+use crate::ends::{End, item_end};
 use crate::item::Item;
+use crate::kind::Kind;
+use crate::mode::Mode;
 use std::alloc::{AllocError, Global};
 use std::marker::Model;
 
@@ -32,6 +37,7 @@ impl From<AllocError> for FeedError {
 #[derive(Drop)]
 pub struct Lines {
     alloc: Global,
+    kind: Kind,
     mode: Mode,
     held: Vec<u8>,
 }
@@ -41,16 +47,17 @@ impl Model for Lines {
 
     ghost Value = { Scan };
 
-    ghost view = { λ l. record { mode = l.mode; held = l.held.items } };
+    ghost view = { λ l. record { kind = l.kind; mode = l.mode; held = l.held.items } };
 }
 
 impl Lines {
-    /// A reader before the first byte of its stream.
-    pub fn new(alloc: Global) -> Lines
-        ensures { result ≡ scan_start }
+    /// A reader before the first byte of its stream, whose lines are of this kind.
+    pub fn new(alloc: Global, kind: Kind) -> Lines
+        ensures { result ≡ scan_start kind }
     {
         Lines {
             alloc,
+            kind,
             mode: Mode::Line,
             held: Vec::new(alloc),
         }
@@ -66,19 +73,52 @@ impl Lines {
         if self.is_dead() {
             return Err(FeedError::LineTooLong);
         }
-        let from = self.held.len();
-        self.held.extend_from_slice(piece)?;
-        match cut(self.alloc, self.mode, &self.held, from) {
-            Ok(Pieces { items, mode, start }) => {
-                drop_front(&mut self.held, start);
-                self.mode = mode;
-                Ok(items)
-            }
+        let held = self.held.len();
+        let mut items = Vec::new(self.alloc);
+        match self.take_piece(piece, &mut items) {
+            Ok(()) => Ok(items),
             Err(e) => {
-                self.held.truncate(from);
+                self.held.truncate(held);
                 Err(FeedError::from(e))
             }
         }
+    }
+
+    // Adds the items that the piece ends. An error leaves what was held, and maybe more behind it.
+    fn take_piece(&mut self, piece: &[u8], items: &mut Vec<Item>) -> Result<(), AllocError>
+        requires { IsAlive self.old }
+        ensures items { OnOk result (items.new.items ≡ items.old.items ++ items_after self.old piece.now) }
+        ensures scan { OnOk result (self.new ≡ scan_after self.old piece.now) }
+        ensures err { OnErr result (Overfull self.old self.new) }
+    {
+        match item_end(self.mode, self.held.len(), piece) {
+            End::At(n) => self.take_end(piece, n, items),
+            End::Later => self.held.extend_from_slice(piece),
+            End::Never => {
+                end_stream(self.mode, items)?;
+                self.held.clear();
+                self.mode = Mode::Dead;
+                Ok(())
+            }
+        }
+    }
+
+    // The same, where the piece ends what is held with so many of its bytes. What lies whole in the rest of the piece is
+    // read there.
+    fn take_end(&mut self, piece: &[u8], n: usize, items: &mut Vec<Item>) -> Result<(), AllocError>
+        requires { EndsAs self.old.mode (length self.old.held) piece.now (At n) }
+        ensures items { OnOk result (items.new.items ≡ items.old.items ++ items_after self.old piece.now) }
+        ensures scan { OnOk result (self.new ≡ scan_after self.old piece.now) }
+        ensures err { OnErr result (Overfull self.old self.new) }
+    {
+        let held = self.held.len();
+        self.held.extend_from_slice(&piece[..n])?;
+        let mode = lone_item(self.alloc, self.kind, self.mode, &self.held, items)?;
+        let Remainder { mode, start } = cut(self.alloc, self.kind, mode, &piece[n..], items)?;
+        self.held.extend_from_slice(&piece[n + start..])?;
+        drop_front(&mut self.held, held + n);
+        self.mode = mode;
+        Ok(())
     }
 
     /// Whether the stream stands inside a line or a text.

@@ -16,31 +16,44 @@ use std::alloc::{AllocError, Global};
 pub fn reply_line(alloc: Global, telling: Telling, reply: &Reply) -> Result<Vec<u8>, AllocError>
     ensures { IfOk result (λ line. line.items ≡ told_text (told_in telling reply.now)) }
 {
+    let mut line = Vec::new(alloc);
+    push_reply(alloc, &mut line, telling, reply)?;
+    Ok(line)
+}
+
+/// Adds the line of a reply, with its newline: of what is told of it. `Err`: memory was refused, and a part may have
+/// been added.
+pub fn push_reply(
+    alloc: Global,
+    out: &mut Vec<u8>,
+    telling: Telling,
+    reply: &Reply,
+) -> Result<(), AllocError>
+    ensures { OnOk result (out.new.items ≡ out.old.items ++ told_text (told_in telling reply.now)) }
+{
     match telling {
-        Telling::Whole => told_line(alloc, reply),
-        Telling::ToGet => get_line(alloc, reply),
+        Telling::Whole => push_told(alloc, out, reply),
+        Telling::ToGet => push_got(alloc, out, reply),
     }
 }
 
 // The line of a reply to a Get.
-fn get_line(alloc: Global, reply: &Reply) -> Result<Vec<u8>, AllocError>
-    ensures { IfOk result (λ line. line.items ≡ told_text (told_to_get reply.now)) }
+fn push_got(alloc: Global, out: &mut Vec<u8>, reply: &Reply) -> Result<(), AllocError>
+    ensures { OnOk result (out.new.items ≡ out.old.items ++ told_text (told_to_get reply.now)) }
 {
     if is_hidden(reply) {
-        return told_line(alloc, &Reply::GotNull);
+        return push_told(alloc, out, &Reply::GotNull);
     }
-    told_line(alloc, reply)
+    push_told(alloc, out, reply)
 }
 
-/// The line of a reply that is told as it is, with its newline.
+// The line of a reply that is told as it is, with its newline.
 #[tactic(auto, unfolding(crate::specs::Replies::told_text))]
-pub fn told_line(alloc: Global, reply: &Reply) -> Result<Vec<u8>, AllocError>
-    ensures { IfOk result (λ line. line.items ≡ told_text reply.now) }
+fn push_told(alloc: Global, out: &mut Vec<u8>, reply: &Reply) -> Result<(), AllocError>
+    ensures { OnOk result (out.new.items ≡ out.old.items ++ told_text reply.now) }
 {
-    let mut line = Vec::new(alloc);
-    push_answered(alloc, &mut line, reply)?;
-    line.extend_from_slice(b"\n")?;
-    Ok(line)
+    push_answered(alloc, out, reply)?;
+    out.extend_from_slice(b"\n")
 }
 
 #[tactic(auto, unfolding(crate::specs::Replies::answered_text))]

@@ -8,6 +8,7 @@ ghost use Rattle.sm_wire.specs.Grammar.{request_of};
 ghost use Rattle.sm_wire.specs.Replies.{told_of, told_in};
 
 use crate::grammar::request;
+use crate::kind::Kind;
 use crate::read_error::ReadError;
 use crate::telling::Telling;
 use sm_history::{Event, Query};
@@ -19,20 +20,28 @@ use std::alloc::Global;
 pub enum Request {
     /// A process connects.
     Hello(Identity),
-    /// A client makes a change.
-    Change(ClientId, Event),
-    /// A client asks to be told something.
-    Look(ClientId, Query),
-    /// The administrator asks to be told something.
-    Ask(Query),
+    /// A client makes a change. A script names the client.
+    Change(Option<ClientId>, Event),
+    /// A client or an administrator asks to be told something. A script names the client, and none for the
+    /// administrator.
+    Look(Option<ClientId>, Query),
+    /// The administrator replaces the policy, if it has the expected version, by the one of the texts behind the line:
+    /// so many bytes of rule text, and then of contexts text.
+    Reload {
+        expected: u64,
+        rules: u32,
+        contexts: u32,
+    },
+    /// The administrator asks for the last denials.
+    Denials,
 }
 
 impl Request {
-    /// Reads a line, which is given without its newline.
-    pub fn read(alloc: Global, line: &[u8]) -> Result<Request, ReadError>
-        ensures { Reads result (request_of line.now) }
+    /// Reads a line of this kind, which is given without its newline.
+    pub fn read(alloc: Global, kind: Kind, line: &[u8]) -> Result<Request, ReadError>
+        ensures { Reads result (request_of kind line.now) }
     {
-        request(alloc, line)
+        request(alloc, kind, line)
     }
 
     /// How much of its reply the one who asks is told.

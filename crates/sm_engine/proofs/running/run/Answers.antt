@@ -15,7 +15,7 @@ some n buffer within ne = omega (arith, length-take-le n buffer within)
 
 pub loop-reads-init : goal.loop-reads-init
 loop-reads-init g c = record {
-  sofar = sofar_start _ _ _ _ _ _ c.new-lines.ensures;
+  sofar = sofar_start _ _ _ _ _ _ _ c.new-lines.ensures;
   reader_count = refl;
   writer_count = refl;
   audit_count = refl;

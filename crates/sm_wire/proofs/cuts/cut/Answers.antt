@@ -1,14 +1,30 @@
-use Rattle.std.proofs.Common.{◌≡◌, ◌+◌, if◌then◌else◌, refl}
-use Rattle.sm_wire.proofs.ItemLemmas.{loop_step}
+use Rattle.std.proofs.Common.{◌≡◌, ◌+◌, ◌-◌, arith}
+use Rattle.std.proofs.Math.Seq.{drop-length}
+use Rattle.sm_wire.proofs.CutLemmas.{sliced, far_next, far_later, far_never}
 use Rattle.sm_wire.proofs.cuts.cut.Goals as goal
-use Rattle.sm_wire.proofs.cuts.cut.Goals.{then-kept, else-kept}
 
-pub loop-i-preserved : goal.loop-i-preserved
-loop-i-preserved c =
-    let after : c.if-kept.start ≡ (if c.in_ok-next.kept then c.loop-i.start else c.loop-i.i + 1) =
-    elim c.if-kept.branch [
-      | then-kept w ↦ rw (w.if-kept.true, w.start-is) refl
-      | else-kept w ↦ rw (w.if-kept.false, w.start-is) refl
-    ] in
-    loop_step _ _ _ c.args.bytes.now _ c.loop-i.start c.loop-i.i _ _ _ c.in_ok-next.kept c.loop-i.invariant.begun
-    c.loop-i-test.true c.in_ok-next.ensures after c.loop-i.invariant
+pub loop-start-preserved : goal.loop-start-preserved
+loop-start-preserved c =
+    let n : c.loop-start.start + c.in-At.n - c.loop-start.start ≡ c.in-At.n = omega arith in
+    far_next c.args.kind _ _ _ c.args.bytes.now c.loop-start.start c.in-At.n _ _ _
+    (rw (sliced c.args.bytes.now c.loop-start.start) at c.in-At.ensures) (rw n at c.in_ok-mode-in-At.ensures)
+    c.loop-start.invariant
+
+pub returns-in-Later-clause-rest : goal.returns-in-Later-clause-rest
+returns-in-Later-clause-rest c = (far_later c.args.kind _ _ c.args.bytes.now c.loop-start.start _ _
+    (rw (sliced c.args.bytes.now c.loop-start.start) at c.in-Later.ensures) c.loop-start.invariant).0
+
+pub returns-in-Later-clause-items : goal.returns-in-Later-clause-items
+returns-in-Later-clause-items c = (far_later c.args.kind _ _ c.args.bytes.now c.loop-start.start _ _
+    (rw (sliced c.args.bytes.now c.loop-start.start) at c.in-Later.ensures) c.loop-start.invariant).1
+
+pub returns-in-Never-clause-rest : goal.returns-in-Never-clause-rest
+returns-in-Never-clause-rest c = rw (drop-length c.args.bytes.now)
+    (far_never c.args.kind _ _ c.args.bytes.now c.loop-start.start _ _ _
+    (rw (sliced c.args.bytes.now c.loop-start.start) at c.in-Never.ensures) c.in_ok-end_stream-in-Never.ensures
+    c.loop-start.invariant).0
+
+pub returns-in-Never-clause-items : goal.returns-in-Never-clause-items
+returns-in-Never-clause-items c = (far_never c.args.kind _ _ c.args.bytes.now c.loop-start.start _ _ _
+    (rw (sliced c.args.bytes.now c.loop-start.start) at c.in-Never.ensures) c.in_ok-end_stream-in-Never.ensures
+    c.loop-start.invariant).1

@@ -1,5 +1,9 @@
-use Rattle.sm_wire.proofs.ItemLemmas.{Far}
+use Rattle.std.proofs.Common.{◌-◌, length}
+use Rattle.sm_wire.proofs.CutLemmas.{Far}
 use Rattle.sm_wire.proofs.cuts.cut.Given as goal
 
-abbrev pub invariant-loop-i : goal.invariant-loop-i
-invariant-loop-i l = Far l.mode l.initial.mode l.bytes l.from l.start l.i l.items.items
+abbrev pub invariant-loop-start : goal.invariant-loop-start
+invariant-loop-start l = Far l.kind l.mode l.initial.mode l.bytes l.start l.initial.items.items l.items.items
+
+abbrev pub decreases-loop-start : goal.decreases-loop-start
+decreases-loop-start l = length l.bytes - l.start

@@ -38,7 +38,8 @@ more : (fields : List (Bor (List ℕ))) (i : ℕ) (d : Bor (List ℕ)) (list all
     read fields ≡ behind list (read (drop i fields))
     → read fields ≡ behind all (read (drop (i + 1) fields))
 more fields i d list all r l e is inv =
-    let here : read (drop i fields) ≡ read (get_or fields i d ∷ drop (i + 1) fields) = at_drop_more read fields i d l in
+    let here : read (drop i fields) ≡ read (get_or fields i d ∷ drop
+    (i + 1) fields) = at_drop_more read fields i d l in
     let next = read_first list r (get_or fields i d) (drop (i + 1) fields) e in
     rw (inv, here, next, is) refl
 
@@ -49,7 +50,8 @@ refused : (e : ReadError) (fields : List (Bor (List ℕ))) (i : ℕ) (d : Bor (L
     → Reads {A = List ObjRef} (Err e) (call_references_of (map (λ f. f.now) fields))
 unfolding call_references_of
 refused Malformed fields i d list l none inv =
-    let here : read (drop i fields) ≡ read (get_or fields i d ∷ drop (i + 1) fields) = at_drop_more read fields i d l in
+    let here : read (drop i fields) ≡ read (get_or fields i d ∷ drop
+    (i + 1) fields) = at_drop_more read fields i d l in
     let whole : read fields ≡ None = rw (inv, here, read_none (get_or fields i d) (drop (i + 1) fields) none) refl in
     rw whole refl
 refused Memory fields i d list l none inv = tt

@@ -4,7 +4,7 @@ use Rattle.sm_history.specs.declared.event.Event.TheVariants.{Reload}
 use Rattle.sm_wire.specs.Replies.{told_text}
 use Rattle.sm_script.specs.Answering.{AnswersNow, Reloads, the_administrator}
 use Rattle.sm_engine.proofs.Results.{on_err}
-use Rattle.sm_script.proofs.manager_script.Script.reload_line.Goals as goal
+use Rattle.sm_script.proofs.manager_script.Script.answer_reload.Goals as goal
 
 -- the reply was given, and its line was lost
 pub returns-clause-err : goal.returns-clause-err
@@ -21,4 +21,4 @@ returns-clause-err c =
       judged = judged;
       written = refl;
     } in
-    rw (← c.self.view_is) (on_err c.told_line.result (inr (told_text c.reload-reply.result, [], (inl reloads, refl))))
+    rw (← c.self.view_is) (on_err c.push_reply.result (inr (told_text c.reload-reply.result, [], (inl reloads, refl))))

@@ -1,0 +1,64 @@
+//! Where the next item of a stream ends.
+
+ghost use Rattle.sm_wire.specs.Ends.{EndsAs, LineEndsAs, TextsEndAs};
+
+use crate::mode::Mode;
+use memchr::memchr;
+
+/// The greatest length of a line, without its newline.
+const LINE_LIMIT: usize = 4096;
+
+/// Where an item ends, among the bytes that come next.
+#[derive(Clone, Copy)]
+pub enum End {
+    /// With so many of them, at least one.
+    At(usize),
+    /// Not with any of them.
+    Later,
+    /// Nowhere: a line is too long.
+    Never,
+}
+
+/// Where the item ends of which so many bytes are held, if these come next.
+pub fn item_end(mode: Mode, held: usize, bytes: &[u8]) -> End
+    ensures { EndsAs mode held bytes.now result }
+{
+    match mode {
+        Mode::Line => newline_end(held, bytes),
+        Mode::Texts(announced) => texts_end(announced.length(), held, bytes),
+        Mode::Dead => End::Never,
+    }
+}
+
+fn newline_end(held: usize, bytes: &[u8]) -> End
+    ensures { LineEndsAs held bytes.now result }
+{
+    let room = LINE_LIMIT.saturating_sub(held);
+    match memchr(b'\n', bytes) {
+        Some(i) => {
+            if i <= room {
+                End::At(i + 1)
+            } else {
+                End::Never
+            }
+        }
+        None => {
+            if bytes.len() <= room {
+                End::Later
+            } else {
+                End::Never
+            }
+        }
+    }
+}
+
+// Where texts of this length end.
+fn texts_end(length: u64, held: usize, bytes: &[u8]) -> End
+    ensures { TextsEndAs length held bytes.now result }
+{
+    let missing = length.saturating_sub(held as u64);
+    if missing > 0 && missing <= bytes.len() as u64 {
+        return End::At(missing as usize);
+    }
+    End::Later
+}
