@@ -34,7 +34,8 @@ fn an_accepted_policy(rt: HostRuntime) -> Result<(), Fail> {
     Ok(())
 }
 
-// What is skipped isn't counted. A rule with a kept class is, also if it allows nothing.
+// What is skipped isn't counted, nor is a dontaudit rule. An allow rule with a kept class is, also if it allows
+// nothing.
 const SMALL_POLICIES: Told = &[
     (
         b"auditallow x y:z { w };\ntype a;",
@@ -60,6 +61,11 @@ const SMALL_POLICIES: Told = &[
         b"type a;\ntype b;\nallow { a b } self:binder call;\nneverallow a b:binder call;\nneverallow a b:file read;",
         b"* u:r:a",
         b"policy ok: 2 types, 0 attributes, 2 rules, 1 labels\n",
+    ),
+    (
+        b"type a;\npermissive a;\nallow a a:binder call;\ndontaudit a a:binder *;",
+        b"* u:r:a",
+        b"policy ok: 1 types, 0 attributes, 1 rules, 1 labels\n",
     ),
     (
         b"type x;\ntype d;",
@@ -92,7 +98,7 @@ const REFUSED: Told = &[
         b"policy refused: rules: syntax at line 2\n",
     ),
     (
-        b"type a;\npermissive a;",
+        b"type a;\nrole a;",
         b"",
         b"policy refused: rules: unsupported statement at line 2\n",
     ),

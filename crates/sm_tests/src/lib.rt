@@ -30,6 +30,8 @@ mod policies;
 #[cfg(test)]
 mod reloads;
 #[cfg(test)]
+mod renumbering;
+#[cfg(test)]
 mod rule_texts;
 #[cfg(test)]
 mod scripts;

@@ -1,7 +1,7 @@
 //! Requests as lines, and the lines of replies.
 
 use sm_history::{Denial, Event, Outcome, Query, Refusal, Reply};
-use sm_kinds::{Name, ObjRef, push_numbered};
+use sm_kinds::{ClientId, Name, ObjRef, push_numbered};
 use sm_wire::*;
 use std::alloc::{AllocError, Global};
 use std::process::Abort;
@@ -75,31 +75,52 @@ fn push_event(out: &mut Vec<u8>, event: &Event) -> Result<(), AllocError> {
     }
 }
 
+// Adds who makes a request, where the line says so, and what it does.
+fn push_asked(out: &mut Vec<u8>, client: Option<ClientId>, words: &[u8]) -> Result<(), AllocError> {
+    if let Some(client) = client {
+        push_numbered(out, b"", u64::from(client.0))?;
+    }
+    out.extend_from_slice(words)
+}
+
 // Adds a request in words.
 fn push_request(out: &mut Vec<u8>, request: &Request) -> Result<(), AllocError> {
     match request {
         Request::Change(client, event) => {
-            push_numbered(out, b"", u64::from(client.0))?;
+            push_asked(out, *client, b"")?;
             push_event(out, event)
         }
-        Request::Look(client, Query::Version) => {
-            push_numbered(out, b"version, to ", u64::from(client.0))
-        }
-        Request::Look(client, _) => push_numbered(out, b"names, to ", u64::from(client.0)),
+        Request::Look(client, Query::Version) => push_asked(out, *client, b" asks the version"),
+        Request::Look(client, Query::List(_)) => push_asked(out, *client, b" asks the names"),
+        Request::Look(client, Query::Explain { .. }) => push_asked(out, *client, b" asks why"),
         Request::Hello(who) => push_numbered(out, b"hello of ", u64::from(who.pid)),
-        Request::Ask(_) => out.extend_from_slice(b"a question"),
+        Request::Reload {
+            expected,
+            rules,
+            contexts,
+        } => {
+            push_numbered(out, b"reload of ", *expected)?;
+            push_numbered(out, b" by ", u64::from(*rules))?;
+            push_numbered(out, b" and ", u64::from(*contexts))
+        }
+        Request::Denials => out.extend_from_slice(b"denials"),
     }
 }
 
-// What a line is read as, in words.
-fn read_as(alloc: Global, line: &[u8]) -> Result<Vec<u8>, AllocError> {
+// What a line of this kind is read as, in words.
+fn read_by(alloc: Global, kind: Kind, line: &[u8]) -> Result<Vec<u8>, AllocError> {
     let mut out = Vec::new(alloc);
-    match Request::read(alloc, line) {
+    match Request::read(alloc, kind, line) {
         Ok(request) => push_request(&mut out, &request)?,
         Err(ReadError::Malformed) => out.extend_from_slice(b"malformed")?,
         Err(ReadError::Memory) => return Err(AllocError),
     }
     Ok(out)
+}
+
+// What a line of a script is read as, in words.
+fn read_as(alloc: Global, line: &[u8]) -> Result<Vec<u8>, AllocError> {
+    read_by(alloc, Kind::Script, line)
 }
 
 /// Request lines, each with what it is read as.
@@ -135,10 +156,14 @@ const WELL_FORMED: Readings = &[
     ("1 release 4294967295", "1 releases 4294967295"),
     ("1 take", "1 takes"),
     ("0 bye", "0 dies"),
-    ("1 list 15", "names, to 1"),
-    ("1 version", "version, to 1"),
+    ("1 list 15", "1 asks the names"),
+    ("1 version", "1 asks the version"),
     ("hello 7 0 u:r:t", "hello of 7"),
-    ("explain a b binder call", "a question"),
+    ("explain a b binder call", " asks why"),
+    (
+        "reload 18446744073709551615 2 4294967295",
+        "reload of 18446744073709551615 by 2 and 4294967295",
+    ),
 ];
 
 #[test]
@@ -146,6 +171,56 @@ fn well_formed_lines(rt: HostRuntime) -> Result<(), Fail> {
     for (line, wanted) in WELL_FORMED {
         let words = read_as(rt.alloc(), line.as_bytes())?;
         assert_eq!(rt; words.as_slice(), wanted.as_bytes(), "{line}");
+    }
+    Ok(())
+}
+
+/// Lines, each with what a client's connection, an administrator's and a script read it as.
+const BY_KIND: &[(&str, &str, &str, &str)] = &[
+    ("hello 7 0 u:r:t", "hello of 7", "malformed", "hello of 7"),
+    ("get a", " gets a", "malformed", "malformed"),
+    ("1 get a", "malformed", "malformed", "1 gets a"),
+    ("call 3 -", " calls 3", "malformed", "malformed"),
+    ("1 call 3 -", "malformed", "malformed", "1 calls 3"),
+    ("list 15", " asks the names", "malformed", "malformed"),
+    ("1 list 15", "malformed", "malformed", "1 asks the names"),
+    ("bye", " dies", "malformed", "malformed"),
+    ("1 bye", "malformed", "malformed", "1 dies"),
+    (
+        "version",
+        " asks the version",
+        " asks the version",
+        "malformed",
+    ),
+    ("1 version", "malformed", "malformed", "1 asks the version"),
+    (
+        "explain a b binder call",
+        "malformed",
+        " asks why",
+        " asks why",
+    ),
+    (
+        "reload 1 2 3",
+        "malformed",
+        "reload of 1 by 2 and 3",
+        "reload of 1 by 2 and 3",
+    ),
+    ("denials", "malformed", "denials", "malformed"),
+    ("version ", "malformed", "malformed", "malformed"),
+    ("denials 1", "malformed", "malformed", "malformed"),
+    ("", "malformed", "malformed", "malformed"),
+];
+
+#[test]
+fn lines_of_each_kind(rt: HostRuntime) -> Result<(), Fail> {
+    let alloc = rt.alloc();
+    for (line, client, admin, script) in BY_KIND {
+        let words = read_by(alloc, Kind::Client, line.as_bytes())?;
+        assert_eq!(rt; words.as_slice(), client.as_bytes(), "{line}");
+        let words = read_by(alloc, Kind::Admin, line.as_bytes())?;
+        assert_eq!(rt; words.as_slice(), admin.as_bytes(), "{line}");
+        let words = read_by(alloc, Kind::Script, line.as_bytes())?;
+        assert_eq!(rt; words.as_slice(), script.as_bytes(), "{line}");
     }
     Ok(())
 }
@@ -253,7 +328,7 @@ fn longest_calls(rt: HostRuntime) -> Result<(), Fail> {
 
 // The reply to a line, if it is a request.
 fn answered(rt: &impl Abort, alloc: Global, line: &[u8], reply: &Reply) -> Vec<u8> {
-    let asked = Request::read(alloc, line).expect(rt, "a request");
+    let asked = Request::read(alloc, Kind::Script, line).expect(rt, "a request");
     reply_line(alloc, asked.telling(), reply).expect(rt, "memory")
 }
 
@@ -282,7 +357,7 @@ fn replies_to_requests(rt: HostRuntime) {
 #[test]
 fn lines_in_pieces(rt: HostRuntime) -> Result<(), Fail> {
     let alloc = rt.alloc();
-    let mut lines = Lines::new(alloc);
+    let mut lines = Lines::new(alloc, Kind::Script);
     assert!(rt; !lines.rest() && !lines.is_dead());
     assert_eq!(rt; lines.feed(b"2 get act").expect(&rt, "items").len(), 0);
     assert!(rt; lines.rest());
@@ -307,7 +382,7 @@ fn lines_in_pieces(rt: HostRuntime) -> Result<(), Fail> {
 #[test]
 fn no_line_behind_one_that_is_too_long(rt: HostRuntime) -> Result<(), Fail> {
     let alloc = rt.alloc();
-    let mut lines = Lines::new(alloc);
+    let mut lines = Lines::new(alloc, Kind::Script);
     let long = vec![in alloc; b'a'; 4097]?;
     let items = lines.feed(&long).expect(&rt, "items");
     assert!(rt; matches!(items.as_slice(), [Item::LineTooLong]));

@@ -17,7 +17,7 @@ fn refusal(alloc: Global, rules: &[u8], labels: &[u8]) -> Result<Vec<u8>, AllocE
 
 #[test]
 fn refusals(rt: HostRuntime) -> Result<(), Fail> {
-    let cases: [(&[u8], &[u8], &[u8]); 16] = [
+    let cases: [(&[u8], &[u8], &[u8]); 20] = [
         (DEVICE_RULES, DEVICE_LABELS, b"accepted"),
         (
             &DEVICE_RULES[..40],
@@ -26,7 +26,7 @@ fn refusals(rt: HostRuntime) -> Result<(), Fail> {
         ),
         (b"type a;\ntype b", b"", b"rules: syntax at line 2"),
         (
-            b"type a;\npermissive a;",
+            b"type a;\nrole a;",
             b"",
             b"rules: unsupported statement at line 2",
         ),
@@ -36,6 +36,26 @@ fn refusals(rt: HostRuntime) -> Result<(), Fail> {
             b"rules: declared twice at line 3",
         ),
         (b"type a, b;", b"", b"rules: unknown name at line 1"),
+        (
+            b"type a;\npermissive b;\nallow a b:binder call;",
+            b"",
+            b"rules: unknown name at line 2",
+        ),
+        (
+            b"attribute d;\ntype a, d;\npermissive d;",
+            b"",
+            b"rules: unknown name at line 3",
+        ),
+        (
+            b"type a;\ndontaudit a b:binder call;\npermissive b;",
+            b"",
+            b"rules: unknown name at line 2",
+        ),
+        (
+            b"type a;\ndontaudit a a:binder find;",
+            b"",
+            b"rules: unknown permission at line 2",
+        ),
         (
             b"type a;\nallow a b:binder call;",
             b"",
@@ -180,6 +200,73 @@ fn self_joins_a_type_to_itself(rt: HostRuntime) -> Result<(), Fail> {
     assert_eq!(rt; of(0, 1), (false, false, false));
     assert_eq!(rt; of(1, 0), (false, false, true));
     assert_eq!(rt; of(1, 1), (true, false, true));
+    Ok(())
+}
+
+// Types 0 to 2 are a, b and c. No neverallow rule is held against what a permissive type may do.
+const PERMISSIVE_RULES: &[u8] = b"type a;\ntype b;\ntype c;\npermissive b;\npermissive b;\n\
+    allow a b:binder call;\nneverallow b a:binder call;\ndontaudit * self:binder call;\n\
+    dontaudit a c:{ binder service_manager } { call find };\n";
+
+#[test]
+fn permissive_and_dontaudit(rt: HostRuntime) -> Result<(), Fail> {
+    let prepared = Prepared::from_texts(rt.alloc(), PERMISSIVE_RULES, b"* u:r:a\n")
+        .ok()
+        .ok_or("accepted")?;
+    let of = |source, target| {
+        (
+            prepared.allows_at(source, target, Class::Binder, Perms::CALL),
+            prepared.audits_at(source, target, Class::Binder, Perms::CALL),
+        )
+    };
+    assert_eq!(rt; of(0, 1), (true, false));
+    assert_eq!(rt; of(0, 0), (false, false));
+    assert_eq!(rt; of(0, 2), (false, false));
+    assert_eq!(rt; of(1, 0), (true, true));
+    assert_eq!(rt; of(1, 1), (true, false));
+    assert_eq!(rt; of(2, 0), (false, true));
+    assert_eq!(rt; of(1, 3), (false, true));
+    assert_eq!(rt; of(3, 1), (false, true));
+    Ok(())
+}
+
+#[test]
+fn permissive_and_dontaudit_by_name(rt: HostRuntime) -> Result<(), Fail> {
+    let prepared = Prepared::from_texts(rt.alloc(), PERMISSIVE_RULES, b"* u:r:a\n")
+        .ok()
+        .ok_or("accepted")?;
+    let snapshot = Snapshot::new(prepared, 1);
+    let of = |source: &[u8], target: &[u8], class, perm| {
+        (
+            snapshot.allows(source, target, class, perm),
+            snapshot.audits(source, target, class, perm),
+        )
+    };
+    let manages = Class::ServiceManager;
+    assert_eq!(rt; of(b"a", b"c", manages, Perms::FIND), (false, false));
+    assert_eq!(rt; of(b"b", b"c", manages, Perms::FIND), (true, true));
+    assert_eq!(rt; of(b"b", b"x", manages, Perms::FIND), (false, true));
+    assert_eq!(rt; of(b"x", b"b", manages, Perms::FIND), (false, true));
+    // A permission of the other class is none of this one.
+    assert_eq!(rt; of(b"b", b"c", manages, Perms::CALL), (false, true));
+    assert_eq!(rt; snapshot.why(b"b", b"a", Class::Binder, Perms::CALL), None);
+    Ok(())
+}
+
+#[test]
+fn decisions(rt: HostRuntime) -> Result<(), Fail> {
+    let prepared = Prepared::from_texts(rt.alloc(), PERMISSIVE_RULES, b"* u:r:a\n")
+        .ok()
+        .ok_or("accepted")?;
+    let snapshot = Snapshot::new(prepared, 1);
+    let of = |source, target| {
+        let decision = snapshot.decide_at(source, target, Class::Binder, Perms::CALL);
+        (decision.allowed, decision.audited)
+    };
+    assert_eq!(rt; of(Some(0), Some(1)), (true, false));
+    assert_eq!(rt; of(Some(1), Some(0)), (true, true));
+    assert_eq!(rt; of(Some(1), None), (false, true));
+    assert_eq!(rt; of(None, Some(1)), (false, true));
     Ok(())
 }
 

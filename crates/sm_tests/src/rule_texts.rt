@@ -60,6 +60,24 @@ fn faults(rt: HostRuntime) {
     );
 }
 
+#[test]
+fn permissive_and_silenced(rt: HostRuntime) -> Result<(), Fail> {
+    let text = b"type a;\ntype b;\npermissive a;\ndontaudit b self:binder call;\n";
+    let statements = read(rt.alloc(), text).ok().ok_or("read")?;
+    let Ok(types) = Types::build(rt.alloc(), &statements) else {
+        return Err("types")?;
+    };
+    let rules = Rules::build(rt.alloc(), &statements, &types)
+        .ok()
+        .ok_or("rules")?;
+    assert!(rt; rules.permissive(0) && !rules.permissive(1) && !rules.permissive(2));
+    let of = |source, target| rules.silenced(source, target, Class::Binder, Perms::CALL);
+    assert!(rt; of(1, 1) && !of(1, 0) && !of(0, 0) && !of(2, 2));
+    assert!(rt; !rules.silenced(1, 1, Class::ServiceManager, Perms::CALL));
+    assert_eq!(rt; rules.count(), 0);
+    Ok(())
+}
+
 fn line(
     alloc: Global,
     text: &[u8],

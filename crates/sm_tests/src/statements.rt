@@ -38,9 +38,16 @@ fn whole_text(rt: HostRuntime) -> Result<(), Fail> {
 fn faults(rt: HostRuntime) {
     let fault = |text: &[u8]| read(rt.alloc(), text).err();
     assert_eq!(rt;
-        fault(b"type a;\npermissive a;\n"),
+        fault(b"type a;\nrole r;\n"),
         Some(RuleTextFault::Unsupported(2))
     );
+    assert_eq!(rt;
+        fault(b"\npermissive { a };"),
+        Some(RuleTextFault::Syntax(2))
+    );
+    assert_eq!(rt; fault(b"permissive self;"), Some(RuleTextFault::Syntax(1)));
+    assert_eq!(rt; fault(b"permissive a b;"), Some(RuleTextFault::Syntax(1)));
+    assert_eq!(rt; fault(b"dontaudit x y;"), Some(RuleTextFault::Syntax(1)));
     assert_eq!(rt; fault(b"type a;\ntype b"), Some(RuleTextFault::Syntax(2)));
     assert_eq!(rt;
         fault(b"\n# x\n allow a { } : b c;"),
@@ -70,7 +77,6 @@ fn faults(rt: HostRuntime) {
 fn skipped_statements(rt: HostRuntime) -> Result<(), Fail> {
     for word in [
         b"auditallow".as_slice(),
-        b"dontaudit",
         b"type_transition",
         b"expandattribute",
         b"allowxperm",
@@ -100,6 +106,28 @@ fn sets(rt: HostRuntime) -> Result<(), Fail> {
             assert!(rt; rule.source.all && rule.target.complement && rule.perm.all);
             assert!(rt; rule.source.minus.contains(b"a"));
             assert!(rt; rule.is_kept() && rule.class.selects(b"binder"));
+        }
+    }
+    Ok(())
+}
+
+#[test]
+fn permissive_and_dontaudit(rt: HostRuntime) -> Result<(), Fail> {
+    let text = b"dontaudit a { self b }:binder *;\ndontaudit x y:file read;\npermissive a;";
+    let statements = read(rt.alloc(), text).ok().ok_or("accepted")?;
+    // The rule of another class is skipped.
+    assert_eq!(rt; statements.len(), 2);
+    for statement in &statements {
+        match &statement.what {
+            What::Dontaudit(rule) => {
+                assert_eq!(rt; statement.line, 1);
+                assert!(rt; rule.to_self && statement.what.is_rule());
+            }
+            What::Permissive(name) => {
+                assert_eq!(rt; (statement.line, name.bytes()), (3, b"a".as_slice()));
+                assert!(rt; !statement.what.is_rule());
+            }
+            _ => assert!(rt; false),
         }
     }
     Ok(())
