@@ -231,9 +231,10 @@ event_good d c (Get name) opened live = (
     ),
   ),
 )
-event_good d c (WatchName name object) opened live =
-    (live_stands d c live,
-      (live_stands d c live, (live_stands d c live, (isolated_good d c true live, (tt, (tt, tt))))))
+event_good d c (WatchName name object) opened live = (
+  live_stands d c live,
+  (live_stands d c live, (live_stands d c live, (isolated_good d c true live, (tt, (tt, tt))))),
+)
 event_good d c (Unwatch name object) opened live =
     (live_stands d c live, (live_stands d c live, (live_stands d c live, (tt, tt))))
 event_good d c (Unregister name obj) opened live = (
