@@ -1,8 +1,6 @@
 -- Audit lines, in the form of SELinux's messages.
 use Rattle.std.specs.Prelude.{ℕ, Bool, List, [], ◌++◌, codes, Option, Some, None, unwrap_or, if◌then◌else◌}
-use Rattle.hex.specs.Hex.{encode_lower}
-use Rattle.sm_kinds.specs.Messages.{numbered}
-use Rattle.sm_kinds.specs.Names.{is_valid_name}
+use Rattle.sm_kinds.specs.Messages.{name_text, numbered}
 use Rattle.sm_kinds.specs.Permissions.{class_word, perm_word}
 use Rattle.sm_kinds.specs.declared.perms.Perms.{Perms}
 use Rattle.sm_kinds.specs.declared.identity.Identity.{Identity}
@@ -23,10 +21,6 @@ unfoldable pub cause_text : Denial → List ℕ
 cause_text (Rule source target class perm) = missing_text perm
 cause_text (App uid) = codes " clause: denied app"
 cause_text (Isolated uid) = codes " clause: denied isolated"
-
--- a valid name as it is, another as `%` and two lower-case hexadecimal digits for each byte: no byte ends the line
-unfoldable pub name_text : List ℕ → List ℕ
-name_text name = if is_valid_name name then name else codes "%" ++ encode_lower name
 
 -- ` name=NAME`, where there is one
 unfoldable pub name_field : Option (List ℕ) → List ℕ

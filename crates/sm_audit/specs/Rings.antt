@@ -1,4 +1,4 @@
--- The newest_of records.
+-- The newest records.
 use Rattle.std.specs.Prelude.{◌-◌, List, drop, length}
 use Rattle.sm_history.specs.declared.records.Record.{Record}
 use Rattle.sm_audit.specs.declared.ring.TheConstants.{MOST_RECORDS}

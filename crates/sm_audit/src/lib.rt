@@ -6,5 +6,5 @@ mod ring;
 #[cfg(test)]
 mod tests;
 
-pub use lines::{line, push_line};
+pub use lines::{line, push_line, push_lines};
 pub use ring::{MOST_RECORDS, Ring};

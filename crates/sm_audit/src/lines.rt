@@ -1,11 +1,12 @@
 //! Audit lines.
 
 ghost use Rattle.std.specs.Prelude.{◌≡◌, ◌++◌, OnOk, IfOk, codes, option_map, unwrap_or, []};
+ghost use Rattle.std.specs.List.{flat_map};
 ghost use Rattle.sm_kinds.specs.Permissions.{perm_word};
-ghost use Rattle.sm_audit.specs.AuditLines.{audit_line, place_text, cause_text, missing_text, permissive_text, name_text, name_field, process_text, target_text, scope_text};
+ghost use Rattle.sm_audit.specs.AuditLines.{audit_line, place_text, cause_text, missing_text, permissive_text, name_field, process_text, target_text, scope_text};
 
 use sm_history::{Denial, Record};
-use sm_kinds::{Context, Identity, Name, Perms, push_numbered, valid_name};
+use sm_kinds::{Context, Identity, Name, Perms, push_name, push_numbered};
 use std::alloc::{AllocError, Global};
 
 /// The line of a record, with its newline: one line, whatever the name.
@@ -17,7 +18,17 @@ pub fn line(alloc: Global, denied: &Record) -> Result<Vec<u8>, AllocError>
     Ok(line)
 }
 
-/// Adds the line of a denied. `Err`: memory was refused, and a part may have been added.
+/// Adds the line of each record. `Err`: memory was refused, and a part may have been added.
+pub fn push_lines(alloc: Global, out: &mut Vec<u8>, records: &[Record]) -> Result<(), AllocError>
+    ensures { OnOk result (out.new.items ≡ out.old.items ++ flat_map audit_line records.now) }
+{
+    for denied in records {
+        push_line(alloc, out, denied)?;
+    }
+    Ok(())
+}
+
+/// Adds the line of a record. `Err`: memory was refused, and a part may have been added.
 #[tactic(auto, unfolding(crate::specs::AuditLines::audit_line))]
 pub fn push_line(alloc: Global, out: &mut Vec<u8>, denied: &Record) -> Result<(), AllocError>
     ensures { OnOk result (out.new.items ≡ out.old.items ++ audit_line denied.now) }
@@ -101,18 +112,6 @@ fn push_name_field(alloc: Global, out: &mut Vec<u8>, name: Option<&Name>) -> Res
             push_name(alloc, out, name.bytes())
         }
     }
-}
-
-#[tactic(auto, unfolding(crate::specs::AuditLines::name_text))]
-fn push_name(alloc: Global, out: &mut Vec<u8>, name: &[u8]) -> Result<(), AllocError>
-    ensures { OnOk result (out.new.items ≡ out.old.items ++ name_text name.now) }
-{
-    if valid_name(name) {
-        return out.extend_from_slice(name);
-    }
-    let digits = hex::encode(alloc, name)?;
-    out.extend_from_slice(b"%")?;
-    out.extend_from_slice(digits.as_bytes())
 }
 
 #[tactic(auto, unfolding(crate::specs::AuditLines::scope_text))]

@@ -46,6 +46,16 @@ impl Ring {
         let _ = self.records.push_back(newest);
     }
 
+    /// These records, one behind the other. Takes no memory.
+    pub fn push_all(&mut self, records: Vec<Record>)
+        ensures { self.new ≡ newest_of (self.old ++ records.items) }
+    {
+        let _ = self.records.len();
+        for newest in records {
+            self.push(newest);
+        }
+    }
+
     /// The records, the oldest first; each gets one more owner.
     pub fn all(&self, alloc: Global) -> Result<Vec<Record>, AllocError>
         ensures all { IfOk result (λ v. v.items ≡ self.now) }

@@ -173,5 +173,18 @@ fn the_oldest_record_goes_first(rt: HostRuntime) -> Result<(), Fail> {
     assert!(rt; newest.len() == 1024);
     assert!(rt; newest[0].length == 1);
     assert!(rt; newest[1023].length == 1024);
+    let mut two = Vec::new(alloc);
+    two.push(app_barred(alloc, 1025)?)?;
+    two.push(app_barred(alloc, 1026)?)?;
+    ring.push_all(two);
+    let later = ring.all(alloc)?;
+    assert!(rt; later.len() == 1024);
+    assert!(rt; later[0].length == 3);
+    assert!(rt; later[1023].length == 1026);
+    ring.push_all(full);
+    let again = ring.all(alloc)?;
+    assert!(rt; again.len() == 1024);
+    assert!(rt; again[0].length == 0);
+    assert!(rt; again[1023].length == 1023);
     Ok(())
 }

@@ -5,15 +5,16 @@ use Rattle.std.proofs.lemmas.List.{append_assoc, append-nil}
 use Rattle.sm_kinds.specs.declared.number.Node.{Node}
 use Rattle.sm_kinds.specs.declared.number.ObjRef.{ObjRef}
 use Rattle.sm_kinds.specs.declared.class.Class.TheVariants.{Binder}
-use Rattle.sm_policy.specs.Policy.{Policy}
+use Rattle.sm_history.specs.Records.{Moment}
+use Rattle.sm_history.specs.declared.records.Record.{Record}
 use Rattle.sm_history.specs.declared.refusal.Refusal.TheVariants.{Failed}
 use Rattle.sm_history.specs.declared.refusal.Failure.TheVariants.{BadHandle, TargetFull}
 use Rattle.sm_history.specs.declared.stop.Stop.{Stop}
 use Rattle.sm_history.specs.declared.stop.Stop.TheVariants.{Unmet}
 use Rattle.sm_history.specs.declared.stop.Instead.TheVariants.{Refused}
 use Rattle.sm_history.specs.Effects.{Effects}
-use Rattle.sm_history.specs.Clients.{policy_at, identity_at, is_live}
-use Rattle.sm_history.specs.Checks.{Check, Wants, first_failing, calling}
+use Rattle.sm_history.specs.Clients.{identity_at, is_live}
+use Rattle.sm_history.specs.Checks.{Check, Wants, calling}
 use Rattle.sm_history.specs.Holdings.{resolve_at, node_at, fits_handles}
 use Rattle.sm_history.specs.Histories.{handed_refs, found}
 use Rattle.sm_history.specs.Inboxes.{has_inbox_room}
@@ -22,45 +23,43 @@ use Rattle.sm_history.specs.Verdict.{all_pass_to_client, passes_to_client, call_
 use Rattle.sm_grants.specs.Several.{after_grants}
 use Rattle.sm_grants.specs.Handing.{AreNamed, others}
 use Rattle.sm_grants.proofs.Handing.{handed_are}
-use Rattle.sm_core.specs.Judging.{Halts, AllPass, Lacks}
+use Rattle.sm_core.specs.Judging.{Halts, AllPass, Lacks, asked}
 use Rattle.sm_core.specs.Calling.{target_checks, room_check}
 use Rattle.sm_core.proofs.Stopping.{halts_first, halts_then, pass_both, pass_first}
 
 -- Checks are stopped at where what is left of them is.
-halts_alike : (p : Policy) (all xs : List Check) (s : Stop) → first_failing p all ≡ first_failing p xs → Halts p xs s
-    → Halts p all s
-halts_alike p all xs s e (inl w) = inl w
-halts_alike p all xs s e (inr h) = inr (e ∙ h)
+halts_alike : (m : Moment) (old mid new : List Record) (all xs : List Check) (s : Stop)
+    → asked m old all ≡ asked m mid xs → Halts m mid new xs s → Halts m old new all s
+halts_alike m old mid new all xs s e (inl w) = inl w
+halts_alike m old mid new all xs s e (inr h) = inr (e ∙ h)
 
 -- A call is stopped where no rule lets the caller call the owner of the object, which lives.
-pub target_stops : (d : Effects) (c : ℕ) (n : Node) (s : Stop) → is_live d n.owner.0 ≡ true
-    → Lacks (policy_at d) Binder calling (identity_at d c) (identity_at d n.owner.0).context None s
-    → Halts (policy_at d) (target_checks d c (Some n)) s
-target_stops d c n s live (none, inl w) = inl w
-target_stops d c n s live (none, inr u) = inr (rw (live, none) (ap (λ (v : Stop). Some v) (sym u)))
+pub target_stops : (m : Moment) (old new : List Record) (d : Effects) (c : ℕ) (n : Node) (s : Stop)
+    → is_live d n.owner.0 ≡ true
+    → Lacks m old new Binder calling (identity_at d c) (identity_at d n.owner.0).context None s
+    → Halts m old new (target_checks d c (Some n)) s
+target_stops m old new d c n s live (inl w) = inl w
+target_stops m old new d c n s live (inr lacks) = inr (rw (live, lacks.0, lacks.1, lacks.2) refl)
 
 -- The references from one on are stopped at that one.
-pub halts_left : (d : Effects) (c k : ℕ) (refs left rest : List ObjRef) (r : ObjRef) (s : Stop)
-    → first_failing (policy_at d) (all_pass_to_client d c k refs)
-    ≡ first_failing (policy_at d) (all_pass_to_client d c k left) → left ≡ r ∷ rest
-    → Halts (policy_at d) (passes_to_client d c k r) s → Halts (policy_at d) (all_pass_to_client d c k refs) s
-halts_left d c k refs left rest r s e is h =
-    let p = policy_at d in
-    halts_alike p (all_pass_to_client d c k refs) (all_pass_to_client d c k (r ∷ rest)) s
-    (e ∙ ap (λ (rs : List ObjRef). first_failing p (all_pass_to_client d c k rs)) is)
-    (halts_first p (passes_to_client d c k r) (all_pass_to_client d c k rest) s h)
+pub halts_left : (m : Moment) (old mid new : List Record) (d : Effects) (c k : ℕ) (refs left rest : List ObjRef)
+    (r : ObjRef) (s : Stop)
+    → asked m old (all_pass_to_client d c k refs) ≡ asked m mid (all_pass_to_client d c k left) → left ≡ r ∷ rest
+    → Halts m mid new (passes_to_client d c k r) s → Halts m old new (all_pass_to_client d c k refs) s
+halts_left m old mid new d c k refs left rest r s e is h =
+    halts_alike m old mid new (all_pass_to_client d c k refs) (all_pass_to_client d c k (r ∷ rest)) s
+    (e ∙ ap (λ (rs : List ObjRef). asked m mid (all_pass_to_client d c k rs)) is)
+    (halts_first m mid new (passes_to_client d c k r) (all_pass_to_client d c k rest) s h)
 
 -- The first of them passes, so that those behind it are left.
-pub left_behind : (d : Effects) (c k : ℕ) (refs left rest : List ObjRef) (r : ObjRef)
-    → first_failing (policy_at d) (all_pass_to_client d c k refs)
-    ≡ first_failing (policy_at d) (all_pass_to_client d c k left) → left ≡ r ∷ rest
-    → AllPass (policy_at d) (passes_to_client d c k r)
-    → first_failing (policy_at d) (all_pass_to_client d c k refs)
-    ≡ first_failing (policy_at d) (all_pass_to_client d c k rest)
-left_behind d c k refs left rest r e is pass =
-    let p = policy_at d in
-    e ∙ ap (λ (rs : List ObjRef). first_failing p (all_pass_to_client d c k rs)) is ∙
-    pass_first p (passes_to_client d c k r) (all_pass_to_client d c k rest) pass
+pub left_behind : (m : Moment) (old mid new : List Record) (d : Effects) (c k : ℕ) (refs left rest : List ObjRef)
+    (r : ObjRef)
+    → asked m old (all_pass_to_client d c k refs) ≡ asked m mid (all_pass_to_client d c k left) → left ≡ r ∷ rest
+    → AllPass m mid new (passes_to_client d c k r)
+    → asked m old (all_pass_to_client d c k refs) ≡ asked m new (all_pass_to_client d c k rest)
+left_behind m old mid new d c k refs left rest r e is pass =
+    e ∙ ap (λ (rs : List ObjRef). asked m mid (all_pass_to_client d c k rs)) is ∙
+    pass_first m mid new (passes_to_client d c k r) (all_pass_to_client d c k rest) pass
 
 -- Behind the objects that were named, those of the references that are left.
 abbrev pub NamesOn : Effects → ℕ → List ObjRef → List ObjRef → List (Option Node) → Type 0
@@ -73,12 +72,13 @@ names_on d c refs left rest r o named more names is items at some = λ os are.
     rw items (subst (λ (v : List (Option Node)). AreNamed d c refs v) (sym (append_assoc named (o ∷ []) os))
     (names (o ∷ os) (subst (λ (rs : List ObjRef). AreNamed d c rs (o ∷ os)) (sym is) (at, some, are))))
 
-pub all_named : (d : Effects) (c k : ℕ) (refs left : List ObjRef) (named : List (Option Node))
-    → first_failing (policy_at d) (all_pass_to_client d c k refs)
-    ≡ first_failing (policy_at d) (all_pass_to_client d c k left) → NamesOn d c refs left named → left ≡ []
-    → AllPass (policy_at d) (all_pass_to_client d c k refs) × AreNamed d c refs named
-all_named d c k refs left named e names none = (
-  e ∙ ap (λ (rs : List ObjRef). first_failing (policy_at d) (all_pass_to_client d c k rs)) none,
+pub all_named : (m : Moment) (old new : List Record) (d : Effects) (c k : ℕ) (refs left : List ObjRef)
+    (named : List (Option Node))
+    → asked m old (all_pass_to_client d c k refs) ≡ asked m new (all_pass_to_client d c k left)
+    → NamesOn d c refs left named → left ≡ []
+    → AllPass m old new (all_pass_to_client d c k refs) × AreNamed d c refs named
+all_named m old new d c k refs left named e names none = (
+  e ∙ ap (λ (rs : List ObjRef). asked m new (all_pass_to_client d c k rs)) none,
   subst (λ (v : List (Option Node)). AreNamed d c refs v) (append-nil named)
       (names [] (subst (λ (rs : List ObjRef). AreNamed d c rs []) (sym none) tt)),
 )
@@ -106,52 +106,52 @@ checks_are d c handle n refs at =
     at)
 
 -- A call is stopped at its target, at one of its references, or at its receiver's room, or at no check.
-pub target_halts : (d : Effects) (c handle : ℕ) (refs : List ObjRef) (s : Stop)
-    → Halts (policy_at d) (target_checks d c (node_at d c handle)) s
-    → Halts (policy_at d) (call_checks d c handle refs) s
-target_halts d c handle refs s h =
+pub target_halts : (m : Moment) (old new : List Record) (d : Effects) (c handle : ℕ) (refs : List ObjRef) (s : Stop)
+    → Halts m old new (target_checks d c (node_at d c handle)) s
+    → Halts m old new (call_checks d c handle refs) s
+target_halts m old new d c handle refs s h =
     let n = found (node_at d c handle) in
-    halts_first (policy_at d) (target_checks d c (node_at d c handle))
+    halts_first m old new (target_checks d c (node_at d c handle))
     (all_pass_to_client d c n.owner.0 refs ++ room_behind d c n refs) s h
 
-pub references_halt : (d : Effects) (c handle : ℕ) (n : Node) (refs : List ObjRef) (s : Stop)
-    → AllPass (policy_at d) (target_checks d c (node_at d c handle)) → node_at d c handle ≡ Some n
-    → Halts (policy_at d) (all_pass_to_client d c n.owner.0 refs) s
-    → Halts (policy_at d) (call_checks d c handle refs) s
-references_halt d c handle n refs s target at h =
-    let p = policy_at d in
-    subst (λ (xs : List Check). Halts p xs s) (checks_are d c handle n refs at)
-    (halts_then p (target_checks d c (node_at d c handle))
+pub references_halt : (m : Moment) (old one new : List Record) (d : Effects) (c handle : ℕ) (n : Node)
+    (refs : List ObjRef) (s : Stop)
+    → AllPass m old one (target_checks d c (node_at d c handle)) → node_at d c handle ≡ Some n
+    → Halts m one new (all_pass_to_client d c n.owner.0 refs) s
+    → Halts m old new (call_checks d c handle refs) s
+references_halt m old one new d c handle n refs s target at h =
+    subst (λ (xs : List Check). Halts m old new xs s) (checks_are d c handle n refs at)
+    (halts_then m old one new (target_checks d c (node_at d c handle))
     (all_pass_to_client d c n.owner.0 refs ++ room_behind d c n refs) s target
-    (halts_first p (all_pass_to_client d c n.owner.0 refs) (room_behind d c n refs) s h))
+    (halts_first m one new (all_pass_to_client d c n.owner.0 refs) (room_behind d c n refs) s h))
 
-pub room_halts : (d : Effects) (c handle : ℕ) (n : Node) (refs : List ObjRef) (named : List (Option Node))
-    → AllPass (policy_at d) (target_checks d c (node_at d c handle)) → node_at d c handle ≡ Some n
+pub room_halts : (m : Moment) (old one new : List Record) (d : Effects) (c handle : ℕ) (n : Node)
+    (refs : List ObjRef) (named : List (Option Node))
+    → AllPass m old one (target_checks d c (node_at d c handle)) → node_at d c handle ≡ Some n
     → Sound d → is_live d n.owner.0 ≡ true → AreNamed d c refs named
-    → AllPass (policy_at d) (all_pass_to_client d c n.owner.0 refs)
+    → AllPass m one new (all_pass_to_client d c n.owner.0 refs)
     → (has_inbox_room d n.owner.0 && fits_handles (after_grants d n.owner.0 (others n.owner.0 named)) n.owner.0) ≡ false
-    → Halts (policy_at d) (call_checks d c handle refs) (Unmet (Refused (Failed TargetFull)))
-room_halts d c handle n refs named target at sound live are pass full =
-    let p = policy_at d in
+    → Halts m old new (call_checks d c handle refs) (Unmet (Refused (Failed TargetFull)))
+room_halts m old one new d c handle n refs named target at sound live are pass full =
     let s = Unmet (Refused (Failed TargetFull)) in
-    let h : Halts p (room_check d n.owner.0 (others n.owner.0 named)) s = inr (rw full refl) in
-    subst (λ (xs : List Check). Halts p xs s) (checks_are d c handle n refs at)
-    (halts_then p (target_checks d c (node_at d c handle))
+    let h : Halts m new new (room_check d n.owner.0 (others n.owner.0 named)) s = inr (rw full refl) in
+    subst (λ (xs : List Check). Halts m old new xs s) (checks_are d c handle n refs at)
+    (halts_then m old one new (target_checks d c (node_at d c handle))
     (all_pass_to_client d c n.owner.0 refs ++ room_behind d c n refs) s target
-    (halts_then p (all_pass_to_client d c n.owner.0 refs) (room_behind d c n refs) s pass
-    (subst (λ (xs : List Check). Halts p xs s) (room_is d c n refs named sound live are) h)))
+    (halts_then m one new new (all_pass_to_client d c n.owner.0 refs) (room_behind d c n refs) s pass
+    (subst (λ (xs : List Check). Halts m new new xs s) (room_is d c n refs named sound live are) h)))
 
-pub call_passes : (d : Effects) (c handle : ℕ) (n : Node) (refs : List ObjRef) (named : List (Option Node))
-    → AllPass (policy_at d) (target_checks d c (node_at d c handle)) → node_at d c handle ≡ Some n
+pub call_passes : (m : Moment) (old one new : List Record) (d : Effects) (c handle : ℕ) (n : Node)
+    (refs : List ObjRef) (named : List (Option Node))
+    → AllPass m old one (target_checks d c (node_at d c handle)) → node_at d c handle ≡ Some n
     → Sound d → is_live d n.owner.0 ≡ true → AreNamed d c refs named
-    → AllPass (policy_at d) (all_pass_to_client d c n.owner.0 refs)
+    → AllPass m one new (all_pass_to_client d c n.owner.0 refs)
     → (has_inbox_room d n.owner.0 && fits_handles (after_grants d n.owner.0 (others n.owner.0 named)) n.owner.0) ≡ true
-    → AllPass (policy_at d) (call_checks d c handle refs)
-call_passes d c handle n refs named target at sound live are pass room =
-    let p = policy_at d in
-    let h : AllPass p (room_check d n.owner.0 (others n.owner.0 named)) = rw room refl in
-    subst (λ (xs : List Check). AllPass p xs) (checks_are d c handle n refs at)
-    (pass_both p (target_checks d c (node_at d c handle))
+    → AllPass m old new (call_checks d c handle refs)
+call_passes m old one new d c handle n refs named target at sound live are pass room =
+    let h : AllPass m new new (room_check d n.owner.0 (others n.owner.0 named)) = rw room refl in
+    subst (λ (xs : List Check). AllPass m old new xs) (checks_are d c handle n refs at)
+    (pass_both m old one new (target_checks d c (node_at d c handle))
     (all_pass_to_client d c n.owner.0 refs ++ room_behind d c n refs) target
-    (pass_both p (all_pass_to_client d c n.owner.0 refs) (room_behind d c n refs) pass
-    (subst (λ (xs : List Check). AllPass p xs) (room_is d c n refs named sound live are) h)))
+    (pass_both m one new new (all_pass_to_client d c n.owner.0 refs) (room_behind d c n refs) pass
+    (subst (λ (xs : List Check). AllPass m new new xs) (room_is d c n refs named sound live are) h)))

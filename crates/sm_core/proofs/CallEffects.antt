@@ -13,10 +13,12 @@ use Rattle.sm_history.specs.declared.effect.Effect.TheVariants.{Gives, Delivers}
 use Rattle.sm_history.specs.declared.event.Event.TheVariants.{Call}
 use Rattle.sm_history.specs.declared.outcome.Outcome.TheVariants.{Sent}
 use Rattle.sm_history.specs.declared.stop.Stop.{Stop}
+use Rattle.sm_history.specs.declared.records.Record.{Record}
+use Rattle.sm_history.specs.Records.{Moment, moment_of}
 use Rattle.sm_history.specs.Effects.{Effects}
-use Rattle.sm_history.specs.Clients.{is_live, identity_at, policy_at}
+use Rattle.sm_history.specs.Clients.{is_live, identity_at}
 use Rattle.sm_history.specs.Holdings.{node_at, number_for, fits_handles, held_nodes, is_held}
-use Rattle.sm_history.specs.Histories.{found, handed_refs, call_delivery}
+use Rattle.sm_history.specs.Histories.{History, effects_of, found, handed_refs, call_delivery}
 use Rattle.sm_history.specs.Inboxes.{has_inbox_room}
 use Rattle.sm_history.specs.Following.{MayFollow, MayAll, followed}
 use Rattle.sm_history.specs.Sound.{Sound}
@@ -142,17 +144,18 @@ sent_is d c handle n payload refs named at s live are =
     let with : List Given → Delivery = λ gs. record { object = n.object; what = Called who.pid who.uid payload gs } in
     rw at (ap with (sym (handed_are d c n.owner.0 refs named s live are).0))
 
-pub call_plan : (d : Effects) (c handle : ℕ) (n : Node) (payload : List ℕ) (refs : List ObjRef)
+pub call_plan : (m : Moment) (d : Effects) (c handle : ℕ) (n : Node) (payload : List ℕ) (refs : List ObjRef)
     (named : List (Option Node)) (plan : Plan) → node_at d c handle ≡ Some n → Sound d → is_live d n.owner.0 ≡ true
     → AreNamed d c refs named → length refs ≤ 16 → has_inbox_room d n.owner.0 ≡ true
     → fits_handles (after_grants d n.owner.0 (others n.owner.0 named)) n.owner.0 ≡ true
-    → Sends d c n payload named plan → IsPlan d c (Call handle payload refs) plan
-call_plan d c handle n payload refs named plan at s live are few room fits sends =
+    → Sends d c n payload named plan → IsPlan m d c (Call handle payload refs) plan
+call_plan m d c handle n payload refs named plan at s live are few room fits sends =
     let k = n.owner.0 in
     let ns = others k named in
     let x = sent d c n payload named in
     let is = sent_is d c handle n payload refs named at s live are in
     record {
+      records = sends.records;
       outcome = sends.outcome ∙ ap (λ (v : Delivery). Sent v) is;
       told = sends.told;
       effects = ap (followed d) sends.effects ∙ followed_gives d k ns (Delivers k x)
@@ -167,23 +170,26 @@ call_plan d c handle n payload refs named plan at s live are few room fits sends
           let a = ap (length {A = Effect}) sends.effects in
           let b = gives_few k ns (numbers_for d k ns) (Delivers k x) in
           let o = others_few k named in
-          let m = named_many d c refs named are in
-          omega (arith, a, b, o, m, few);
+          let many = named_many d c refs named are in
+          omega (arith, a, b, o, many, few);
       sound = tt;
     }
 
 -- Behind all checks, a call is as it was planned, or memory was wanted.
-pub call_judged : (d : Effects) (c handle : ℕ) (n : Node) (payload : List ℕ) (refs : List ObjRef)
-    (named : List (Option Node)) (result : Result Plan Stop)
-    → AllPass (policy_at d) (target_checks d c (node_at d c handle)) → node_at d c handle ≡ Some n
-    → Sound d → is_live d n.owner.0 ≡ true → AreNamed d c refs named
-    → AllPass (policy_at d) (all_pass_to_client d c n.owner.0 refs) → length refs ≤ 16
+pub call_judged : (h : History) (old one new : List Record) (c handle : ℕ) (n : Node) (payload : List ℕ)
+    (refs : List ObjRef) (named : List (Option Node)) (result : Result Plan Stop)
+    → let d = effects_of h in let m = moment_of h in AllPass m old one (target_checks d c (node_at d c handle))
+    → node_at d c handle ≡ Some n → Sound d → is_live d n.owner.0 ≡ true → AreNamed d c refs named
+    → AllPass m one new (all_pass_to_client d c n.owner.0 refs) → length refs ≤ 16
     → (has_inbox_room d n.owner.0 && fits_handles (after_grants d n.owner.0 (others n.owner.0 named)) n.owner.0) ≡ true
-    → MatchResult result (Sends d c n payload named) (λ s. s ≡ wanted) → Judged d c (Call handle payload refs) result
-call_judged d c handle n payload refs named (Err s) target at sound live are pass few room m = inl m
-call_judged d c handle n payload refs named (Ok plan) target at sound live are pass few room m =
+    → MatchResult result (Sends d c n payload named) (λ s. s ≡ wanted)
+    → Judged h old new c (Call handle payload refs) result
+call_judged h old one new c handle n payload refs named (Err s) target at sound live are pass few room made = inl made
+call_judged h old one new c handle n payload refs named (Ok plan) target at sound live are pass few room made =
+    let d = effects_of h in
+    let m = moment_of h in
     let k = n.owner.0 in
     let both = and_parts (has_inbox_room d k) (fits_handles (after_grants d k (others k named)) k) room in (
-      call_passes d c handle n refs named target at sound live are pass room,
-      call_plan d c handle n payload refs named plan at sound live are few both.0 both.1 m,
+      call_passes m old one new d c handle n refs named target at sound live are pass room,
+      call_plan m d c handle n payload refs named plan at sound live are few both.0 both.1 made,
     )

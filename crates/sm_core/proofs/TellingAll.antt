@@ -7,7 +7,9 @@ use Rattle.sm_kinds.specs.declared.number.Node.{Node}
 use Rattle.sm_history.specs.declared.effect.Watch.{Watch}
 use Rattle.sm_history.specs.declared.notice.Notice.{Notice}
 use Rattle.sm_history.specs.Effects.{Effects}
-use Rattle.sm_history.specs.Notices.{notice_at, after_notice, notices_at, after_notices}
+use Rattle.sm_history.specs.declared.records.Record.{Record}
+use Rattle.sm_history.specs.Records.{Moment, left_by_all, left_by_notices}
+use Rattle.sm_history.specs.Notices.{notice_checks, notice_at, after_notice, notices_at, after_notices}
 
 pub one_further : (ws : List Watch) (i : ℕ) (w : Watch) → w ≡ get_or ws i w → i < length ws
     → drop i ws ≡ w ∷ drop (i + 1) ws
@@ -38,3 +40,13 @@ after_further e e' n rest more w all is on h =
 pub few_further : (a b most : ℕ) (rest more : List Watch) (w : Watch) → rest ≡ w ∷ more → b ≤ a + 2
     → a + 2 * length rest ≤ most → b + 2 * length more ≤ most
 few_further a b most rest more w is le h = let n = ap (length {A = Watch}) is in omega (arith, n, le, h)
+
+pub records_further : (m : Moment) (e e' : Effects) (n : Node) (rest more : List Watch) (w : Watch)
+    (before after all : List Record) → rest ≡ w ∷ more → after ≡ before ++ left_by_all m (notice_checks e n w)
+    → e' ≡ after_notice e n w → before ++ left_by_notices m e n rest ≡ all → after ++ left_by_notices m e' n more ≡ all
+records_further m e e' n rest more w before after all is noted on h =
+    ap (λ (xs : List Record). xs ++ left_by_notices m e' n more) noted
+    ∙ append_assoc before (left_by_all m (notice_checks e n w)) (left_by_notices m e' n more)
+    ∙ ap (λ (f : Effects). before ++ (left_by_all m (notice_checks e n w) ++ left_by_notices m f n more)) on
+    ∙ ap (λ (vs : List Watch). before ++ left_by_notices m e n vs) (sym is)
+    ∙ h

@@ -35,6 +35,10 @@ use Rattle.sm_history.proofs.AgreeNotices.{both, cons_alike, wants_alike}
 use Rattle.sm_core.specs.declared.telling.Telling.{Telling}
 use Rattle.sm_core.specs.Stands.{is_death}
 use Rattle.sm_core.specs.Judging.{Halts, AllPass, wanted}
+use Rattle.sm_history.specs.declared.records.Record.{Record}
+use Rattle.sm_history.specs.Records.{Moment, moment_of, left_by_all}
+use Rattle.sm_history.specs.Histories.{History, effects_of}
+use Rattle.sm_core.proofs.Stopping.{asked_is}
 use Rattle.sm_core.specs.Telling.{told_checks, gives_of, told_to, free_at, AsBefore, MayTell, left_in, left_at, IsTelling, GoesOn}
 use Rattle.sm_core.proofs.AsBefore.{before_gives, before_delivers}
 
@@ -193,20 +197,26 @@ free_other f c x k taken other =
 -- ---- one watcher
 
 -- A watcher is told, where the checks hold.
-pub tells : (d : Effects) (n : Node) (w : Watch) (old new : Telling) (left : ℕ) (g : Given) (x : Delivery)
-    → IsTelling d n old → is_live d w.client ≡ true → left ≡ left_at d old w.client
-    → AllPass (policy_at d) (told_checks d n w left) → g ≡ given_to d w.client n → x ≡ told_to w g
+pub tells : (h : History) (n : Node) (w : Watch) (old new : Telling) (mid : List Record) (left : ℕ) (g : Given)
+    (x : Delivery) → let d = effects_of h in IsTelling d n old → is_live d w.client ≡ true
+    → left ≡ left_at d old w.client
+    → AllPass (moment_of h) old.records mid (told_checks d n w left) → new.records ≡ mid
+    → g ≡ given_to d w.client n → x ≡ told_to w g
     → new.effects.items ≡ (old.effects.items ++ gives_of w.client n g) ++ Delivers w.client x ∷ []
     → ((k : ℕ) → left_in new k ≡ cond (nat_eq w.client k) (Some (left - 1)) (left_in old k))
     → (IsTold x ≡ told_of (followed d old.effects.items) n w (first_missing (followed d old.effects.items) n w))
-    × GoesOn d n w old new
-tells d n w old new left g x t live is pass given told items counts =
+    × GoesOn (moment_of h) d n w old new
+tells h n w old new mid left g x t live is asks noted given told items counts =
+    let d = effects_of h in
+    let m = moment_of h in
     let c = w.client in
     let xs = old.effects.items in
     let e = followed d xs in
     let p = policy_at d in
     let before = t.may.before in
     let free : left ≡ free_at e c = is ∙ t.left c live in
+    let found = sym (asked_is m old.records (told_checks d n w left)) ∙ asks in
+    let pass : first_failing p (told_checks d n w left) ≡ None = ap (λ (q : List Record × Option Stop). q.1) found in
     let missing : first_missing e n w ≡ None = sym (missing_same d e n w left before live free) ∙ pass in
     let last = (passed p (Wants (nat_lt 0 left && fits_handles (handed d c n) c) (Refused (Failed TargetFull))) []
     (passed p (from_manager d c transferring)
@@ -216,12 +226,12 @@ tells d n w old new left g x t live is pass given told items counts =
     (passed p (to_label d c w.name finding) (from_manager d c calling ∷ from_manager d c transferring
     ∷ Wants (nat_lt 0 left && fits_handles (handed d c n) c) (Refused (Failed TargetFull)) ∷ []) pass).1).1).1).0 in
     let ok = and_parts (nat_lt 0 left) (fits_handles (handed d c n) c) last in
-    let h : IsHanded d n xs c g = subst (λ (v : Given). IsHanded d n xs c v) (sym given)
+    let handing : IsHanded d n xs c g = subst (λ (v : Given). IsHanded d n xs c v) (sym given)
     (is_handed d n xs c t.may live ok.1) in
     let ys = xs ++ gives_of c n g in
     let f = followed d ys in
     let room : has_inbox_room f c ≡ true =
-    ap (λ (v : List Delivery). nat_lt (length v) MOST_DELIVERIES) (h.inboxes c)
+    ap (λ (v : List Delivery). nat_lt (length v) MOST_DELIVERIES) (handing.inboxes c)
     ∙ sym (has_room_left left (length (inbox_at e c)) free) ∙ ok.0 in
     let reaches : given_to d c n ≡ given_to e c n =
     ap (λ (r : ℕ). let v : Given = if n.owner.0 == c then Own n.object else Handle r in v)
@@ -230,22 +240,24 @@ tells d n w old new left g x t live is pass given told items counts =
     let all = followed_more d ys (Delivers c x ∷ []) in
     let now : followed d new.effects.items ≡ Delivers c x ∷ f = ap (followed d) items ∙ all in
     let after : Delivers c x ∷ f ≡ after_told e n w None =
-    ap (λ (v : Effects). let r : Effects = Delivers c x ∷ v in r) h.after
+    ap (λ (v : Effects). let r : Effects = Delivers c x ∷ v in r) handing.after
     ∙ ap (λ (v : Delivery). let r : Effects = Delivers c v ∷ handed e c n in r) said in
-    let taken = h.may.before.sound.taken in (
+    let taken = handing.may.before.sound.taken in (
       ap (λ (v : Delivery). IsTold v) said ∙ ap (told_of e n w) (sym missing),
       record {
+        records = noted ∙ sym (ap (λ (q : List Record × Option Stop). q.0) found)
+            ∙ ap (λ (xs : List Check). old.records ++ left_by_all m xs) (checks_same d e n w left before live free);
         telling = record {
-          may = subst (λ (v : List Effect). MayTell d n v) (sym items) (delivered_may d n ys c x h.may live room);
+          may = subst (λ (v : List Effect). MayTell d n v) (sym items) (delivered_may d n ys c x handing.may live room);
           left = λ k l.
               ap (λ (o : Option ℕ). unwrap_or o (free_at d k)) (counts k)
               ∙ left_case (nat_eq c k) left (left_in old k) (free_at d k) (free_at (Delivers c x ∷ f) k)
               (λ s.
               let same : c ≡ k = grind (arith, nat_tests) in
               subst (λ (v : ℕ). left - 1 ≡ free_at (Delivers c x ∷ f) v) same
-              (ap (λ (v : ℕ). v - 1) (free ∙ ap (λ (v : List Delivery). MOST_DELIVERIES - length v) (sym (h.inboxes c)))
-              ∙ sym (free_now f c x taken (h.may.before.lives c ∙ live))))
-              (λ o. t.left k l ∙ ap (λ (v : List Delivery). MOST_DELIVERIES - length v) (sym (h.inboxes k))
+              (ap (λ (v : ℕ). v - 1) (free ∙ ap (λ (v : List Delivery). MOST_DELIVERIES - length v) (sym (handing.inboxes c)))
+              ∙ sym (free_now f c x taken (handing.may.before.lives c ∙ live))))
+              (λ o. t.left k l ∙ ap (λ (v : List Delivery). MOST_DELIVERIES - length v) (sym (handing.inboxes k))
               ∙ sym (free_other f c x k taken o))
               ∙ ap (λ (v : Effects). free_at v k) (sym now);
         };
@@ -253,25 +265,40 @@ tells d n w old new left g x t live is pass given told items counts =
         few = let a = ap (length {A = Effect}) items in
             let b = length-append ys (Delivers c x ∷ []) in
             let i = length-append xs (gives_of c n g) in
-            let j = h.few in omega (arith, a, b, i, j);
+            let j = handing.few in omega (arith, a, b, i, j);
       },
     )
 
 -- A watcher isn't told, where a check fails.
-pub tells_not : (d : Effects) (n : Node) (w : Watch) (old : Telling) (left : ℕ) (s : Stop) (r : Reason)
-    → IsTelling d n old → is_live d w.client ≡ true → left ≡ left_at d old w.client
-    → Halts (policy_at d) (told_checks d n w left) s → (s ≡ wanted → ⊥) → r ≡ reason_of s
+pub tells_not : (h : History) (n : Node) (w : Watch) (old new : Telling) (left : ℕ) (s : Stop) (r : Reason)
+    → let d = effects_of h in new.effects ≡ old.effects → new.left ≡ old.left → IsTelling d n old
+    → is_live d w.client ≡ true → left ≡ left_at d old w.client
+    → Halts (moment_of h) old.records new.records (told_checks d n w left) s → (s ≡ wanted → ⊥) → r ≡ reason_of s
     → (NotTold r ≡ told_of (followed d old.effects.items) n w (first_missing (followed d old.effects.items) n w))
-    × GoesOn d n w old old
-tells_not d n w old left s r t live is (inl memory) other why = absurd (other memory)
-tells_not d n w old left s r t live is (inr stops) other why =
+    × GoesOn (moment_of h) d n w old new
+tells_not h n w old new left s r same_effects same_left t live is (inl memory) other why = absurd (other memory)
+tells_not h n w old new left s r same_effects same_left t live is (inr asks) other why =
+    let d = effects_of h in
+    let m = moment_of h in
     let e = followed d old.effects.items in
+    let free = is ∙ t.left w.client live in
+    let found = sym (asked_is m old.records (told_checks d n w left)) ∙ asks in
+    let stops = ap (λ (q : List Record × Option Stop). q.1) found in
     let missing : first_missing e n w ≡ Some s =
     sym (missing_same d e n w left t.may.before live (is ∙ t.left w.client live)) ∙ stops in (
       ap (λ (v : Reason). NotTold v) why ∙ ap (told_of e n w) (sym missing),
       record {
-        telling = t;
-        after = ap (after_told e n w) (sym missing);
-        few = omega arith;
+        records = sym (ap (λ (q : List Record × Option Stop). q.0) found)
+            ∙ ap (λ (xs : List Check). old.records ++ left_by_all m xs)
+            (checks_same d e n w left t.may.before live free);
+        telling = record {
+          may = subst (λ (v : _). MayTell d n v.items) (sym same_effects) t.may;
+          left = λ k l. ap (λ (v : _). left_at d (record { effects = v; left = new.left; records = new.records }) k)
+              same_effects
+              ∙ ap (λ (v : _). left_at d (record { effects = old.effects; left = v; records = new.records }) k) same_left
+              ∙ t.left k l ∙ ap (λ (v : _). free_at (followed d v.items) k) (sym same_effects);
+        };
+        after = ap (λ (v : _). followed d v.items) same_effects ∙ ap (after_told e n w) (sym missing);
+        few = let n = ap (λ (v : _). length v.items) same_effects in omega (arith, n);
       },
     )

@@ -29,6 +29,9 @@ use Rattle.sm_core.specs.declared.plan.Plan.{Plan}
 use Rattle.sm_core.specs.Stands.{is_death, DeathIsLast}
 use Rattle.sm_core.specs.Judging.{AllPass, Halts, IsPlan, Judged, wanted}
 use Rattle.sm_core.specs.Telling.{MayPrecede, Tells}
+use Rattle.sm_history.specs.declared.records.Record.{Record}
+use Rattle.sm_history.specs.Records.{Moment, moment_of, left_by_notices, left_by_telling}
+use Rattle.sm_history.specs.Histories.{History, effects_of}
 use Rattle.sm_core.proofs.Planning.{one_plan}
 use Rattle.sm_core.proofs.AsBefore.{before_adds, before_watches}
 
@@ -54,10 +57,12 @@ last_of_none (x ∷ xs) h =
     ] refl h
 
 -- What was told behind other effects is a plan.
-told_plan : (d : Effects) (c : ℕ) (event : Event) (plan : Plan) (xs : List Effect) (most : ℕ) (after : Effects)
-    → Tells d xs most after plan → length xs + most ≤ 8193 → plan.outcome ≡ outcome_of d c event
-    → after ≡ after_event d c event → HasSoundPolicy event → IsPlan d c event plan
-told_plan d c event plan xs most after t le outcome is sound = record {
+told_plan : (m : Moment) (d : Effects) (c : ℕ) (event : Event) (plan : Plan) (xs : List Effect) (most : ℕ)
+    (after : Effects) → plan.records ≡ left_by_telling m d c event → Tells d xs most after plan
+    → length xs + most ≤ 8193 → plan.outcome ≡ outcome_of d c event
+    → after ≡ after_event d c event → HasSoundPolicy event → IsPlan m d c event plan
+told_plan m d c event plan xs most after records t le outcome is sound = record {
+  records = records;
   outcome = outcome;
   told = t.told;
   effects = t.effects ∙ is;
@@ -82,59 +87,75 @@ precede_watches d n xs w s live few is = subst (MayPrecede d n) (sym is) (record
 })
 
 -- A plan that is made, or memory that is wanted, is a judgement where the checks hold.
-judged : (d : Effects) (c : ℕ) (event : Event) (r : Result Plan Stop) (P : Plan → Type 0) (checks : List Check)
-    → AllPass (policy_at d) checks → ((plan : Plan) → P plan → IsPlan d c event plan)
+judged : (m : Moment) (old new : List Record) (d : Effects) (c : ℕ) (event : Event) (r : Result Plan Stop)
+    (P : Plan → Type 0) (checks : List Check)
+    → AllPass m old new checks → ((plan : Plan) → P plan → IsPlan m d c event plan)
     → MatchResult r P (λ s. s ≡ wanted)
-    → MatchResult r (λ plan. AllPass (policy_at d) checks × IsPlan d c event plan) (Halts (policy_at d) checks)
-judged d c event (Ok plan) P checks pass is h = (pass, is plan h)
-judged d c event (Err s) P checks pass is h = inl h
+    → MatchResult r (λ plan. AllPass m old new checks × IsPlan m d c event plan) (Halts m old new checks)
+judged m old new d c event (Ok plan) P checks pass is h = (pass, is plan h)
+judged m old new d c event (Err s) P checks pass is h = inl h
 
-pub add_judged : (d : Effects) (c : ℕ) (name copy : List ℕ) (obj : ObjRef) (allow : Bool) (dump : ℕ)
-    (object : Option Node) (n : Node) (xs : List Effect) (r : Result Plan Stop)
-    → AllPass (policy_at d) (add_checks d c name obj) → object ≡ resolve_at d c obj → object ≡ Some n
+pub add_judged : (h : History) (old new : List Record) (c : ℕ) (name copy : List ℕ) (obj : ObjRef) (allow : Bool)
+    (dump : ℕ) (object : Option Node) (n : Node) (xs : List Effect) (r : Result Plan Stop)
+    → let d = effects_of h in AllPass (moment_of h) old new (add_checks d c name obj) → object ≡ resolve_at d c obj
+    → object ≡ Some n
     → copy ≡ name → xs ≡ Adds copy (service c n allow dump) ∷ []
     → MatchResult r (λ plan. (plan.outcome ≡ Added (notices_at (followed d xs) n (watchers_at d name)))
+    × (plan.records ≡ left_by_notices (moment_of h) (followed d xs) n (watchers_at d name))
     × Tells d xs 8192 (after_notices (followed d xs) n (watchers_at d name)) plan) (λ s. s ≡ wanted)
-    → Judged d c (Add name obj allow dump) r
-add_judged d c name copy obj allow dump object n xs r pass is some same items h =
+    → Judged h old new c (Add name obj allow dump) r
+add_judged h old new c name copy obj allow dump object n xs r pass is some same items made =
+    let d = effects_of h in
+    let m = moment_of h in
     let at : n ≡ found (resolve_at d c obj) = ap found (sym some ∙ is) in
     let on : followed d xs ≡ Adds name (service c n allow dump) ∷ d =
     ap (followed d) items ∙ ap (λ (v : List ℕ). let e : Effects = Adds v (service c n allow dump) ∷ d in e) same in
     let one : length xs ≡ 1 = ap (length {A = Effect}) items in
-    judged d c (Add name obj allow dump) r _ (add_checks d c name obj) pass
-    (λ plan p. told_plan d c (Add name obj allow dump) plan xs 8192 _ p.1 (omega (arith, one))
+    judged m old new d c (Add name obj allow dump) r _ (add_checks d c name obj) pass
+    (λ plan p. told_plan m d c (Add name obj allow dump) plan xs 8192 _
+    (p.1 ∙ ap (λ (e : Effects). left_by_notices m e n (watchers_at d name)) on
+    ∙ ap (λ (k : Node). left_by_notices m (Adds name (service c k allow dump) ∷ d) k (watchers_at d name)) at)
+    p.2 (omega (arith, one))
     (p.0 ∙ ap (λ (e : Effects). Added (notices_at e n (watchers_at d name))) on
-    ∙ ap (λ (m : Node). Added (notices_at (Adds name (service c m allow dump) ∷ d) m (watchers_at d name))) at)
+    ∙ ap (λ (k : Node). Added (notices_at (Adds name (service c k allow dump) ∷ d) k (watchers_at d name))) at)
     (ap (λ (e : Effects). after_notices e n (watchers_at d name)) on
-    ∙ ap (λ (m : Node). after_notices (Adds name (service c m allow dump) ∷ d) m (watchers_at d name)) at) tt)
-    h
+    ∙ ap (λ (k : Node). after_notices (Adds name (service c k allow dump) ∷ d) k (watchers_at d name)) at) tt)
+    made
 
-pub watch_judged : (d : Effects) (c : ℕ) (name : List ℕ) (object : ℕ) (s : Service) (w v : Watch) (xs : List Effect)
-    (r : Result Plan Stop) → AllPass (policy_at d) (watch_checks d c name) → Some s ≡ service_at d name
+pub watch_judged : (h : History) (old new : List Record) (c : ℕ) (name : List ℕ) (object : ℕ) (s : Service)
+    (w v : Watch) (xs : List Effect) (r : Result Plan Stop)
+    → let d = effects_of h in AllPass (moment_of h) old new (watch_checks d c name) → Some s ≡ service_at d name
     → w ≡ watch c name object → v ≡ watch c name object → xs ≡ Watches v ∷ []
     → MatchResult r (λ plan. (plan.outcome ≡ Watched (Some (notice_at (followed d xs) s.node w)))
+    × (plan.records ≡ left_by_notices (moment_of h) (followed d xs) s.node (w ∷ []))
     × Tells d xs 2 (after_notice (followed d xs) s.node w) plan) (λ s. s ≡ wanted)
-    → Judged d c (WatchName name object) r
-watch_judged d c name object s w v xs r pass is told made items h =
+    → Judged h old new c (WatchName name object) r
+watch_judged h old new c name object s w v xs r pass is told made items done =
+    let d = effects_of h in
+    let m = moment_of h in
     let on : followed d xs ≡ Watches (watch c name object) ∷ d =
     ap (followed d) items ∙ ap (λ (u : Watch). let e : Effects = Watches u ∷ d in e) made in
     let one : length xs ≡ 1 = ap (length {A = Effect}) items in
-    judged d c (WatchName name object) r _ (watch_checks d c name) pass
-    (λ plan p. told_plan d c (WatchName name object) plan xs 2 _ p.1 (omega (arith, one))
+    judged m old new d c (WatchName name object) r _ (watch_checks d c name) pass
+    (λ plan p. told_plan m d c (WatchName name object) plan xs 2 _
+    (p.1 ∙ ap (λ (e : Effects). left_by_notices m e s.node (w ∷ [])) on
+    ∙ ap (λ (u : Watch). left_by_notices m (Watches (watch c name object) ∷ d) s.node (u ∷ [])) told
+    ∙ rw (← is) refl)
+    p.2 (omega (arith, one))
     (p.0 ∙ ap (λ (e : Effects). Watched (Some (notice_at e s.node w))) on
     ∙ ap (λ (u : Watch). Watched (Some (notice_at (Watches (watch c name object) ∷ d) s.node u))) told
     ∙ rw (← is) refl)
     (ap (λ (e : Effects). after_notice e s.node w) on
     ∙ ap (λ (u : Watch). after_notice (Watches (watch c name object) ∷ d) s.node u) told
     ∙ rw (← is) refl) tt)
-    h
+    done
 
 -- Where the name has no service, a Watch only watches.
-pub watch_alone : (d : Effects) (c : ℕ) (name : List ℕ) (object : ℕ) (v : Watch) (plan : Plan)
-    → None ≡ service_at d name → v ≡ watch c name object → is_live d c ≡ true
+pub watch_alone : (m : Moment) (d : Effects) (c : ℕ) (name : List ℕ) (object : ℕ) (v : Watch) (plan : Plan)
+    → plan.records ≡ [] → None ≡ service_at d name → v ≡ watch c name object → is_live d c ≡ true
     → nat_lt (length (watches_at d)) MOST_WATCHES ≡ true → plan.effects.items ≡ Watches v ∷ []
-    → plan.outcome ≡ Watched None → plan.told ≡ plan.outcome → IsPlan d c (WatchName name object) plan
-watch_alone d c name object v plan is made live few items outcome told =
-    one_plan d c (WatchName name object) plan (Watches v) items
+    → plan.outcome ≡ Watched None → plan.told ≡ plan.outcome → IsPlan m d c (WatchName name object) plan
+watch_alone m d c name object v plan none is made live few items outcome told =
+    one_plan m d c (WatchName name object) plan (Watches v) (none ∙ rw (← is) refl) items
     (ap (λ (u : Watch). let e : Effects = Watches u ∷ d in e) made ∙ rw (← is) refl)
     (subst (λ (u : Watch). is_live d u.client ≡ true) (sym made) live, few) (outcome ∙ rw (← is) refl) told tt

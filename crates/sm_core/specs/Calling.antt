@@ -55,6 +55,7 @@ sent d c n payload named =
 -- A call's plan, from the objects that its references name.
 pub record Sends (d : Effects) (c : ℕ) (n : Node) (payload : List ℕ) (named : List (Option Node)) (plan : Plan)
     : Type 0 where
+  pub records : plan.records ≡ []
   pub outcome : plan.outcome ≡ Sent (sent d c n payload named)
   pub told : plan.told ≡ plan.outcome
   pub effects : plan.effects.items

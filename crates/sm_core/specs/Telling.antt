@@ -1,5 +1,5 @@
 -- Telling watchers: what is asked of the state before the first of them was told.
-use Rattle.std.specs.Prelude.{ℕ, ◌+◌, ◌-◌, ◌*◌, ◌≡◌, ◌≤◌, true, false, ◌&&◌, nat_lt, nat_eq, List, [], ◌∷◌, Option, length, unwrap_or}
+use Rattle.std.specs.Prelude.{ℕ, ◌+◌, ◌-◌, ◌*◌, ◌≡◌, ◌≤◌, true, false, ◌&&◌, nat_lt, nat_eq, List, [], ◌∷◌, ◌++◌, Option, length, unwrap_or}
 use Rattle.std.specs.List.{list_any}
 use Rattle.std.specs.HashMap.{get}
 use Rattle.sm_kinds.specs.declared.number.Node.{Node}
@@ -20,7 +20,8 @@ use Rattle.sm_history.specs.Holdings.{handed, number_for, fits_handles}
 use Rattle.sm_history.specs.Inboxes.{inbox_at}
 use Rattle.sm_history.specs.Checks.{Check, Wants, from_manager, to_label, finding, calling, transferring}
 use Rattle.sm_history.specs.Following.{followed, MayAll}
-use Rattle.sm_history.specs.Notices.{after_notice, after_notices}
+use Rattle.sm_history.specs.Records.{Moment, left_by_all, left_by_notices}
+use Rattle.sm_history.specs.Notices.{notice_checks, after_notice, after_notices}
 use Rattle.sm_history.specs.Sound.{Sound}
 use Rattle.sm_core.specs.Stands.{is_death}
 use Rattle.sm_core.specs.declared.plan.Plan.{Plan}
@@ -77,13 +78,15 @@ pub record IsTelling (d : Effects) (n : Node) (t : Telling) : Type 0 where
   pub left : (c : ℕ) → is_live d c ≡ true → left_at d t c ≡ free_at (followed d t.effects.items) c
 
 -- One more watcher was told, or wasn't.
-pub record GoesOn (d : Effects) (n : Node) (w : Watch) (old new : Telling) : Type 0 where
+pub record GoesOn (m : Moment) (d : Effects) (n : Node) (w : Watch) (old new : Telling) : Type 0 where
+  pub records : new.records ≡ old.records ++ left_by_all m (notice_checks (followed d old.effects.items) n w)
   pub telling : IsTelling d n new
   pub after : followed d new.effects.items ≡ after_notice (followed d old.effects.items) n w
   pub few : length new.effects.items ≤ length old.effects.items + 2
 
 -- Watchers were told, or weren't, in order.
-pub record GoesFar (d : Effects) (n : Node) (ws : List Watch) (old new : Telling) : Type 0 where
+pub record GoesFar (m : Moment) (d : Effects) (n : Node) (ws : List Watch) (old new : Telling) : Type 0 where
+  pub records : new.records ≡ old.records ++ left_by_notices m (followed d old.effects.items) n ws
   pub telling : IsTelling d n new
   pub after : followed d new.effects.items ≡ after_notices (followed d old.effects.items) n ws
   pub few : length new.effects.items ≤ length old.effects.items + 2 * length ws

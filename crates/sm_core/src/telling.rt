@@ -6,6 +6,7 @@ ghost use Rattle.sm_history.specs.Effects.{Effects};
 ghost use Rattle.sm_history.specs.declared.effect.Effect.TheVariants.{Delivers};
 ghost use Rattle.sm_core.specs.Telling.{gives_of, told_to, left_in, MayPrecede, IsTelling};
 
+use crate::notes::Notes;
 use sm_history::{
     BoxedDelivery, BoxedNotice, Delivery, Effect, Given, Message, Notice, Notices, Watch,
 };
@@ -14,11 +15,12 @@ use std::alloc::{AllocError, Global};
 use std::collections::HashMap;
 
 /// What telling watchers has done: its effects in order, and for how many more deliveries the inbox of each
-/// client that was told has place.
+/// client that was told has place; and the records that the checks of all these notices leave.
 #[derive(Drop)]
 pub struct Telling {
     pub effects: Vec<Effect>,
     pub left: HashMap<u32, usize>,
+    pub records: Notes,
 }
 
 /// What a watcher is told, where the object reaches it so.
@@ -72,11 +74,13 @@ impl Telling {
     /// Behind these effects, none of which told anyone.
     pub fn behind(alloc: Global, effects: Vec<Effect>) -> Telling
         ensures effects { result.effects ≡ effects }
+        ensures records { result.records ≡ [] }
         ensures telling { (d : Effects) (n : Node) → MayPrecede d n effects.items → IsTelling d n result }
     {
         Telling {
             effects,
             left: HashMap::new(alloc),
+            records: Notes::none(alloc),
         }
     }
 
@@ -91,6 +95,7 @@ impl Telling {
     ) -> Result<BoxedDelivery, AllocError>
         requires { 0 < left }
         ensures told { IfOk result (λ x. x ≡ told_to watch.now given) }
+        ensures records { self.new.records ≡ self.old.records }
         ensures effects { OnOk result (self.new.effects.items
             ≡ (self.old.effects.items ++ gives_of watch.now.client node given)
             ++ Delivers watch.now.client (told_to watch.now given) ∷ []) }

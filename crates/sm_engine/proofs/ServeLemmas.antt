@@ -1,6 +1,6 @@
 -- How an engine's promise follows from read to read.
-use Rattle.std.proofs.Common.{◌≡◌, ℕ, ◌+◌, ◌<◌, ◌≤◌, length, length-append, arith, List, [], ◌++◌, take, Option}
-use Rattle.std.proofs.Common.{Result, Ok, Err, OnOk, OnErr, refl, sym, append_assoc, subst, inl, inr, ◌⊎◌, drop}
+use Rattle.std.proofs.Common.{◌≡◌, Bool, true, false, ℕ, ◌+◌, ◌<◌, ◌≤◌, length, length-append, arith, List, [], ◌++◌}
+use Rattle.std.proofs.Common.{take, Option, Result, Ok, Err, OnOk, OnErr, refl, sym, append_assoc, subst, inl, inr, ◌⊎◌, drop}
 use Rattle.std.proofs.lemmas.List.{append-nil, take-append-drop}
 use Rattle.std.specs.Io.KnownBytes.{Appends, Consumes, Keeps}
 use Rattle.sm_wire.specs.declared.item.Item.{Item}
@@ -106,13 +106,26 @@ sofar_next {r = r} {r' = r'} r'' piece p c q next e alive some =
       wrote = sofar_wrote r'' piece p c q;
     }
 
+-- the machine is over after this piece
+pub served_over : {S : Type 0} {kind : Kind} {n bound : ℕ} {answers : S → Item → List ℕ → List ℕ → S
+    → Type 0} {over : S → Bool} {old m t : S}
+    {scan : Scan} {r r' w w' w'' a a' a'' : Option (List ℕ)} (r'' : Option (List ℕ)) (piece : List ℕ)
+    → (p : Sofar kind answers n old scan r r' w w' a a' m) → Consumes r' r'' piece
+    → Wrote answers m (items_after scan piece) w' w'' a' a'' t → over t ≡ true
+    → Served kind answers over (Ok tt) bound old r r'' w w'' a a'' t
+served_over {r = r} {r' = r'} r'' piece p c q e = record {
+  bytes = p.bytes ++ piece;
+  consumed = Consumes-then r r' r'' _ _ p.consumed c;
+  written = rw e (sofar_wrote r'' piece p c q);
+}
+
 -- a line is too long in this piece
 pub served_long : {S : Type 0} {kind : Kind} {n bound : ℕ} {answers : S → Item → List ℕ → List ℕ → S
-    → Type 0} {old m t : S}
+    → Type 0} {over : S → Bool} {old m t : S}
     {scan : Scan} {r r' w w' w'' a a' a'' : Option (List ℕ)} (r'' : Option (List ℕ)) (piece : List ℕ)
     → (p : Sofar kind answers n old scan r r' w w' a a' m) → Consumes r' r'' piece
     → Wrote answers m (items_after scan piece) w' w'' a' a'' t → (next : Scan) → next ≡ scan_after scan piece
-    → IsDead next → Served kind answers (Err LineTooLong) bound old r r'' w w'' a a'' t
+    → IsDead next → Served kind answers over (Err LineTooLong) bound old r r'' w w'' a a'' t
 served_long {r = r} {r' = r'} r'' piece p c q next e dead =
     let s = sofar_scanned piece next p e in
     record {
@@ -123,11 +136,11 @@ served_long {r = r} {r' = r'} r'' piece p c q next e dead =
 
 -- memory or a writer fails in this piece
 pub served_stop : {S : Type 0} {kind : Kind} {n bound : ℕ} {answers : S → Item → List ℕ → List ℕ → S
-    → Type 0} {old m t : S}
+    → Type 0} {over : S → Bool} {old m t : S}
     {scan : Scan} {r r' w w' w'' a a' a'' : Option (List ℕ)} (r'' : Option (List ℕ)) (piece : List ℕ)
     → (p : Sofar kind answers n old scan r r' w w' a a' m) → Consumes r' r'' piece
     → Stopped answers m (items_after scan piece) w' w'' a' a'' t → (f : Fault) → (f ≡ WriteFault) ⊎ (f ≡ Memory)
-    → Served kind answers (Err f) bound old r r'' w w'' a a'' t
+    → Served kind answers over (Err f) bound old r r'' w w'' a a'' t
 served_stop {kind = kind} {answers = answers} {old = old} {m = m} {t = t} {r = r} {r' = r'}
     {w = w} {w' = w'} {w'' = w''} {a = a} {a' = a'} {a'' = a''} r'' piece p c q f which =
     let stopped : Stopped answers old (items_of kind (p.bytes ++ piece)) w w'' a a'' t =
@@ -148,9 +161,9 @@ served_stop {kind = kind} {answers = answers} {old = old} {m = m} {t = t} {r = r
 
 -- a read fails, or there were enough of them
 pub served_read_fault : {S : Type 0} {kind : Kind} {n bound : ℕ} {answers : S → Item → List ℕ → List ℕ → S
-    → Type 0} {old m : S}
+    → Type 0} {over : S → Bool} {old m : S}
     {scan : Scan} {r r' w w' a a' : Option (List ℕ)} → (p : Sofar kind answers n old scan r r' w w' a a' m)
-    → (r'' : Option (List ℕ)) → Keeps r' r'' → Served kind answers (Err ReadFault) bound old r r'' w w' a a' m
+    → (r'' : Option (List ℕ)) → Keeps r' r'' → Served kind answers over (Err ReadFault) bound old r r'' w w' a a' m
 served_read_fault {r = r} {r' = r'} p r'' q = record {
   bytes = p.bytes;
   consumed = Consumes-keeps r r' r'' _ p.consumed q;
@@ -158,9 +171,9 @@ served_read_fault {r = r} {r' = r'} p r'' q = record {
 }
 
 pub served_enough : {S : Type 0} {kind : Kind} {n bound : ℕ} {answers : S → Item → List ℕ → List ℕ → S
-    → Type 0} {old m : S}
+    → Type 0} {over : S → Bool} {old m : S}
     {scan : Scan} {r r' w w' a a' : Option (List ℕ)} → (p : Sofar kind answers n old scan r r' w w' a a' m) → bound ≤ n
-    → Served kind answers (Err TooManyReads) bound old r r' w w' a a' m
+    → Served kind answers over (Err TooManyReads) bound old r r' w w' a a' m
 served_enough p le = record {
   bytes = p.bytes;
   consumed = p.consumed;
@@ -174,28 +187,29 @@ served_enough p le = record {
 
 -- the input ends
 pub served_end : {S : Type 0} {kind : Kind} {n bound : ℕ} {answers : S → Item → List ℕ → List ℕ → S
-    → Type 0} {old m : S}
+    → Type 0} {over : S → Bool} {old m : S}
     {scan : Scan} {r r' w w' a a' : Option (List ℕ)} → (p : Sofar kind answers n old scan r r' w w' a a' m)
+    → over m ≡ false
     → (r'' : Option (List ℕ)) → Consumes r' r'' [] → (w'' : Option (List ℕ)) → Appends w' w'' (ending_of scan)
-    → Served kind answers (Ok tt) bound old r r'' w w'' a a' m
-served_end {r = r} {r' = r'} {w = w} {w' = w'} p r'' c w'' q = record {
+    → Served kind answers over (Ok tt) bound old r r'' w w'' a a' m
+served_end {r = r} {r' = r'} {w = w} {w' = w'} p on r'' c w'' q = record {
   bytes = p.bytes;
   consumed = rw (append-nil p.bytes) at (Consumes-then r r' r'' _ _ p.consumed c);
-  written = record {
+  written = rw on (record {
     replies = p.wrote.replies;
     lines = p.wrote.lines;
     runs = p.wrote.runs;
     wrote = Appends-then w w' w'' _ _ p.wrote.wrote (subst (λ (l : Scan). Appends w' w'' (ending_of l)) p.scanned q);
     audited = p.wrote.audited;
     alive = p.alive;
-  };
+  });
 }
 
 pub served_end_fault : {S : Type 0} {kind : Kind} {n bound : ℕ} {answers : S → Item → List ℕ → List ℕ → S
-    → Type 0} {old m : S}
+    → Type 0} {over : S → Bool} {old m : S}
     {scan : Scan} {r r' w w' a a' : Option (List ℕ)} → (p : Sofar kind answers n old scan r r' w w' a a' m)
     → (r'' : Option (List ℕ)) → Consumes r' r'' [] → (w'' : Option (List ℕ)) (n : ℕ)
-    → Appends w' w'' (take n (ending_of scan)) → Served kind answers (Err WriteFault) bound old r r'' w w'' a a' m
+    → Appends w' w'' (take n (ending_of scan)) → Served kind answers over (Err WriteFault) bound old r r'' w w'' a a' m
 served_end_fault {scan = scan} {r = r} {r' = r'} {w = w} {w' = w'} p r'' c w'' n q = record {
   bytes = p.bytes;
   consumed = rw (append-nil p.bytes) at (Consumes-then r r' r'' _ _ p.consumed c);
@@ -216,10 +230,11 @@ served_end_fault {scan = scan} {r = r} {r' = r'} {w = w} {w' = w'} p r'' c w'' n
 
 -- the input ends, whether or not the ending is written
 pub served_at_end : {S : Type 0} {kind : Kind} {n bound : ℕ} {answers : S → Item → List ℕ → List ℕ → S
-    → Type 0} {old m : S}
+    → Type 0} {over : S → Bool} {old m : S}
     {scan : Scan} {r r' w w' a a' : Option (List ℕ)} → (p : Sofar kind answers n old scan r r' w w' a a' m)
+    → over m ≡ false
     → (r'' : Option (List ℕ)) → Consumes r' r'' [] → (w'' : Option (List ℕ)) (result : Result (Unit {0}) Fault)
     → OnOk result (Appends w' w'' (ending_of scan)) → OnErr result ((n : ℕ) × Appends w' w'' (take n (ending_of scan)))
-    → OnErr result (result ≡ Err WriteFault) → Served kind answers result bound old r r'' w w'' a a' m
-served_at_end p r'' c w'' (Ok tt) good bad which = served_end p r'' c w'' good
-served_at_end p r'' c w'' (Err f) good bad which = rw which (served_end_fault p r'' c w'' bad.0 bad.1)
+    → OnErr result (result ≡ Err WriteFault) → Served kind answers over result bound old r r'' w w'' a a' m
+served_at_end p on r'' c w'' (Ok tt) good bad which = served_end p on r'' c w'' good
+served_at_end p on r'' c w'' (Err f) good bad which = rw which (served_end_fault p r'' c w'' bad.0 bad.1)

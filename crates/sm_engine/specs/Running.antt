@@ -1,6 +1,6 @@
 -- What an engine writes for the bytes that it read.
 use Rattle.std.specs.Prelude.{◌≡◌, ◌⊎◌, ℕ, ◌≤◌, length, List, [], ◌∷◌, ◌++◌, Option, Result, Ok, Err, codes}
-use Rattle.std.specs.Prelude.{if◌then◌else◌}
+use Rattle.std.specs.Prelude.{if◌then◌else◌, Bool, MatchBool, false}
 use Rattle.std.specs.Io.KnownBytes.{Appends, Consumes}
 use Rattle.sm_wire.specs.declared.item.Item.{Item}
 use Rattle.sm_wire.specs.declared.kind.Kind.{Kind}
@@ -101,28 +101,34 @@ Fronts kind answers old bytes w w_new a a_new new = Stopped answers old (items_o
     ⊎ ((replies : List ℕ) × (lines : List ℕ) × Runs answers old (items_of kind bytes) replies lines new
     × Partly w w_new (replies ++ ending_of (rest_of kind bytes)) × Appends a a_new lines)
 
--- what an engine that read these bytes has written, by its result
-abbrev pub ByResult : {S : Type 0} → Kind → Result (Unit {0}) Fault → ℕ → (S → Item → List ℕ → List ℕ → S → Type 0) → S
+-- a machine that is never over
+abbrev pub never : {S : Type 0} → S → Bool
+never s = false
+
+-- what an engine that read these bytes has written, by its result; it reads on until the machine is over
+abbrev pub ByResult : {S : Type 0} → Kind → Result (Unit {0}) Fault → ℕ → (S → Item → List ℕ → List ℕ → S → Type 0)
+    → (S → Bool) → S
     → List ℕ → Option (List ℕ) → Option (List ℕ) → Option (List ℕ) → Option (List ℕ) → S → Type 0
-ByResult kind (Ok x) bound answers old bytes w w_new a a_new new = Ended kind answers old bytes w w_new a a_new new
-ByResult kind (Err ReadFault) bound answers old bytes w w_new a a_new new =
+ByResult kind (Ok x) bound answers over old bytes w w_new a a_new new = MatchBool (over new)
+    (Wrote answers old (items_of kind bytes) w w_new a a_new new) (Ended kind answers old bytes w w_new a a_new new)
+ByResult kind (Err ReadFault) bound answers over old bytes w w_new a a_new new =
     Wrote answers old (items_of kind bytes) w w_new a a_new new × IsAlive (rest_of kind bytes)
-ByResult kind (Err TooManyReads) bound answers old bytes w w_new a a_new new =
+ByResult kind (Err TooManyReads) bound answers over old bytes w w_new a a_new new =
     Wrote answers old (items_of kind bytes) w w_new a a_new new × IsAlive (rest_of kind bytes) × (bound ≤ length bytes)
-ByResult kind (Err LineTooLong) bound answers old bytes w w_new a a_new new =
+ByResult kind (Err LineTooLong) bound answers over old bytes w w_new a a_new new =
     Wrote answers old (items_of kind bytes) w w_new a a_new new × IsDead (rest_of kind bytes)
-ByResult kind (Err WriteFault) bound answers old bytes w w_new a a_new new =
+ByResult kind (Err WriteFault) bound answers over old bytes w w_new a a_new new =
     Fronts kind answers old bytes w w_new a a_new new
-ByResult kind (Err Memory) bound answers old bytes w w_new a a_new new =
+ByResult kind (Err Memory) bound answers over old bytes w w_new a a_new new =
     Fronts kind answers old bytes w w_new a a_new new
 
 -- an engine for lines of this kind that may make `bound` reads read these bytes, at least one a read, and wrote for them
 pub record Served {S : Type 0} (kind : Kind) (answers : S → Item → List ℕ → List ℕ → S
-    → Type 0) (result : Result (Unit {0}) Fault)
+    → Type 0) (over : S → Bool) (result : Result (Unit {0}) Fault)
     (bound : ℕ) (old : S) (r r_new w w_new a a_new : Option (List ℕ)) (new : S) : Type 0 where
   pub bytes : List ℕ
   pub consumed : Consumes r r_new bytes
-  pub written : ByResult kind result bound answers old bytes w w_new a a_new new
+  pub written : ByResult kind result bound answers over old bytes w w_new a a_new new
 
 -- what holds after so many reads
 pub record Sofar {S : Type 0} (kind : Kind) (answers : S → Item → List ℕ → List ℕ → S

@@ -13,9 +13,6 @@ use sm_wire::Item;
 use std::alloc::Global;
 use std::io::Write;
 
-/// So many bytes are held back at most before they are written, one answer apart.
-const HELD_LIMIT: usize = 65536;
-
 /// Answers the items in order, and writes their texts.
 pub fn answer_items<M: Machine, W: Write, A: Write>(
     alloc: Global,
@@ -40,17 +37,19 @@ pub fn answer_items<M: Machine, W: Write, A: Write>(
 {
     let mut replies = Vec::new(alloc);
     let mut lines = Vec::new(alloc);
+    let limit = machine.hold_limit();
     for item in items {
         machine.answer(item, &mut replies, &mut lines)?;
-        spill(writer, &mut replies)?;
-        spill(audit, &mut lines)?;
+        spill(writer, limit, &mut replies)?;
+        spill(audit, limit, &mut lines)?;
+        machine.written();
     }
     write_held(writer, &mut replies)?;
     write_held(audit, &mut lines)
 }
 
-/// Writes what is held once it is much.
-fn spill<W: Write>(writer: &mut Counted<W>, held: &mut Vec<u8>) -> Result<(), Fault>
+/// Writes what is held once it has so many bytes.
+fn spill<W: Write>(writer: &mut Counted<W>, limit: usize, held: &mut Vec<u8>) -> Result<(), Fault>
     requires { failures_of writer.old < greatest }
     ensures ok { OnOk result (Spilled (W.contents (inner_of writer.old)) (W.contents (inner_of writer.new)) held.old.items held.new.items) }
     ensures count { OnOk result (failures_of writer.new ≡ failures_of writer.old) }
@@ -58,7 +57,7 @@ fn spill<W: Write>(writer: &mut Counted<W>, held: &mut Vec<u8>) -> Result<(), Fa
     ensures fault { OnErr result (result ≡ Err Fault.WriteFault) }
     ensures failed { OnErr result (failures_of writer.old < failures_of writer.new) }
 {
-    if held.len() < HELD_LIMIT {
+    if held.len() < limit {
         return Ok(());
     }
     write_held(writer, held)

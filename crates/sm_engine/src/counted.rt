@@ -1,26 +1,39 @@
-//! A reader or a writer that counts the calls that failed.
+//! A reader or a writer that counts its calls, and those that failed.
 
 ghost use Rattle.std.specs.Prelude.{◌≡◌, MatchResult, ◌+◌, ◌==◌, if◌then◌else◌};
 ghost use Rattle.std.specs.Io.{ReadsAtMost, WritesAtMost};
 ghost use Rattle.std.specs.Io.KnownBytes.{ReadConsumes, WriteAppends, Keeps};
-ghost use Rattle.sm_engine.specs.Counts.{failures_of, inner_of, one_more};
+ghost use Rattle.sm_engine.specs.Counts.{failures_of, calls_of, inner_of, one_more};
 
 use std::io::{self, Read, Write};
 
-/// A reader or a writer, with the number of its calls that failed.
+/// A reader or a writer, with the number of its reads or writes, and of those that failed.
 #[derive(Drop)]
 pub struct Counted<T> {
     inner: T,
+    calls: u64,
     failures: u64,
 }
 
 impl<T> Counted<T> {
-    /// The reader or writer, of which no call has failed yet.
+    /// The reader or writer, of which nothing has been asked yet.
     pub fn new(inner: T) -> Counted<T>
         ensures inner { inner_of result ≡ inner }
+        ensures calls { calls_of result ≡ 0 }
         ensures failures { failures_of result ≡ 0 }
     {
-        Counted { inner, failures: 0 }
+        Counted {
+            inner,
+            calls: 0,
+            failures: 0,
+        }
+    }
+
+    /// How many reads and writes were made. At the greatest `u64` the count stays.
+    pub fn calls(&self) -> u64
+        ensures { result ≡ calls_of self.now }
+    {
+        self.calls
     }
 
     /// How many reads failed, and how many writes failed or took no byte. At the greatest `u64` the count stays.
@@ -34,7 +47,11 @@ impl<T> Counted<T> {
     pub fn into_inner(self) -> T
         ensures { result ≡ inner_of self }
     {
-        let Counted { inner, failures: _ } = self;
+        let Counted {
+            inner,
+            calls: _,
+            failures: _,
+        } = self;
         inner
     }
 }
@@ -47,7 +64,9 @@ impl<R: Read> Read for Counted<R> {
         ensures bytes { ReadConsumes (R.remaining (inner_of self.old)) (R.remaining (inner_of self.new)) result buf.new }
         ensures count { MatchResult result (λ _. failures_of self.new ≡ failures_of self.old)
             (λ _. failures_of self.new ≡ one_more (failures_of self.old)) }
+        ensures calls { calls_of self.new ≡ one_more (calls_of self.old) }
     {
+        self.calls = self.calls.saturating_add(1);
         let result = self.inner.read(buf);
         if result.is_err() {
             self.failures = self.failures.saturating_add(1);
@@ -65,7 +84,9 @@ impl<W: Write> Write for Counted<W> {
         ensures count { MatchResult result
             (λ n. failures_of self.new ≡ (if n == 0 then one_more (failures_of self.old) else failures_of self.old))
             (λ _. failures_of self.new ≡ one_more (failures_of self.old)) }
+        ensures calls { calls_of self.new ≡ one_more (calls_of self.old) }
     {
+        self.calls = self.calls.saturating_add(1);
         let result = self.inner.write(buf);
         if !matches!(result, Ok(1..)) {
             self.failures = self.failures.saturating_add(1);
@@ -76,6 +97,7 @@ impl<W: Write> Write for Counted<W> {
     fn flush(&mut self) -> io::Result<()>
         ensures bytes { Keeps (W.contents (inner_of self.old)) (W.contents (inner_of self.new)) }
         ensures count { failures_of self.new ≡ failures_of self.old }
+        ensures calls { calls_of self.new ≡ calls_of self.old }
     {
         self.inner.flush()
     }

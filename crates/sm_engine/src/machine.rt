@@ -1,6 +1,6 @@
 //! What answers items.
 
-ghost use Rattle.std.specs.Prelude.{ℕ, List, OnOk, OnErr};
+ghost use Rattle.std.specs.Prelude.{◌≡◌, Bool, ℕ, List, OnOk, OnErr};
 ghost use Rattle.sm_wire.specs.declared.item.Item.{Item};
 ghost use Rattle.sm_engine.specs.Running.{Answered, GaveUp};
 
@@ -11,6 +11,9 @@ use std::alloc::AllocError;
 pub trait Machine {
     // The item may be answered so: its reply lines, its audit lines, and the state after it.
     ghost answers: { Self → Item → List ℕ → List ℕ → Self → Type 0 };
+
+    // Nothing more is to be read for this state.
+    ghost over: { Self → Bool };
 
     /// Answers an item: its reply lines and its audit lines go to the ends of the two texts.
     ///
@@ -26,4 +29,15 @@ pub trait Machine {
         ensures ok { OnOk result (Answered answers self.old item replies.old.items replies.new.items
             audit.old.items audit.new.items self.new) }
         ensures err { OnErr result (GaveUp answers self.old item self.new) };
+
+    /// Whether nothing more is to be read. It is asked after the items of each read.
+    fn is_over(&self) -> bool
+        ensures { result ≡ over self.now };
+
+    /// Below so many bytes, a text may wait for the items that are read already. With 0 none waits.
+    fn hold_limit(&self) -> usize;
+
+    /// Tells, after each answer, that its texts are written, if they may not wait.
+    fn written(&mut self)
+        ensures { self.new ≡ self.old };
 }

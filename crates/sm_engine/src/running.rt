@@ -1,9 +1,9 @@
-//! Reads lines, answers them, and writes the answers, to the end of the input.
+//! Reads lines, answers them, and writes the answers, until the input or the machine is at its end.
 
-ghost use Rattle.std.specs.Prelude.{◌≡◌, ◌<◌, ◌≤◌, ◌+◌, IfOk, OnOk, OnErr, take, length, ℕ, codes, [], ◌⊎◌, if◌then◌else◌};
+ghost use Rattle.std.specs.Prelude.{◌≡◌, false, MatchBool, ◌<◌, ◌≤◌, ◌+◌, IfOk, OnOk, OnErr, take, length, ℕ, codes, [], ◌⊎◌, if◌then◌else◌};
 ghost use Rattle.std.specs.Io.KnownBytes.{Appends, Consumes, Keeps, IsAtEnd};
 ghost use Rattle.sm_wire.specs.Items.{IsAlive, scan_after, items_after};
-ghost use Rattle.sm_engine.specs.Counts.{failures_of, inner_of, greatest};
+ghost use Rattle.sm_engine.specs.Counts.{failures_of, calls_of, inner_of, greatest};
 ghost use Rattle.sm_engine.specs.Running.{Wrote, Stopped, Served, ending_of};
 
 use crate::answering::answer_items;
@@ -17,7 +17,8 @@ use std::io::{Read, Write};
 
 const PIECE: usize = 8192;
 
-/// Answers what comes from the reader, lines of this kind, until its end, a fault, or `bound` reads.
+/// Answers what comes from the reader, lines of this kind, until its end, until the machine is over, a fault, or
+/// `bound` reads.
 pub fn run<M: Machine, R: Read, W: Write, A: Write>(
     alloc: Global,
     kind: Kind,
@@ -27,14 +28,16 @@ pub fn run<M: Machine, R: Read, W: Write, A: Write>(
     writer: &mut Counted<W>,
     audit: &mut Counted<A>,
 ) -> Result<(), Fault>
+    requires begins { M.over machine.old ≡ false }
     requires reader { failures_of reader.old < greatest }
     requires writer { failures_of writer.old < greatest }
     requires audit { failures_of audit.old < greatest }
-    ensures served { Served kind M.answers result bound machine.old
+    ensures served { Served kind M.answers M.over result bound machine.old
         (R.remaining (inner_of reader.old)) (R.remaining (inner_of reader.new))
         (W.contents (inner_of writer.old)) (W.contents (inner_of writer.new))
         (A.contents (inner_of audit.old)) (A.contents (inner_of audit.new)) machine.new }
-    ensures end { OnOk result (IsAtEnd (R.remaining (inner_of reader.new))) }
+    ensures end { OnOk result (MatchBool (M.over machine.new) (Unit {0}) (IsAtEnd (R.remaining (inner_of reader.new)))) }
+    ensures reads { calls_of reader.new ≤ calls_of reader.old + bound }
     ensures read_fault { result ≡ Err Fault.ReadFault → failures_of reader.old < failures_of reader.new }
     ensures write_fault { result ≡ Err Fault.WriteFault → failures_of writer.old + failures_of audit.old
         < failures_of writer.new + failures_of audit.new }
@@ -47,6 +50,9 @@ pub fn run<M: Machine, R: Read, W: Write, A: Write>(
             return write_ending(&lines, writer);
         }
         take_piece(alloc, machine, &mut lines, &buffer[..n], writer, audit)?;
+        if machine.is_over() {
+            return Ok(());
+        }
         if lines.is_dead() {
             return Err(Fault::LineTooLong);
         }
@@ -61,6 +67,7 @@ fn read_piece<R: Read>(reader: &mut Counted<R>, buffer: &mut [u8]) -> Result<usi
     ensures bytes { IfOk result (λ n. Consumes (R.remaining (inner_of reader.old)) (R.remaining (inner_of reader.new)) (take n buffer.new)) }
     ensures end { IfOk result (λ n. n ≡ 0 → IsAtEnd (R.remaining (inner_of reader.new))) }
     ensures count { OnOk result (failures_of reader.new ≡ failures_of reader.old) }
+    ensures calls { calls_of reader.new ≤ calls_of reader.old + 1 }
     ensures fault { OnErr result (result ≡ Err Fault.ReadFault) }
     ensures keeps { OnErr result (Keeps (R.remaining (inner_of reader.old)) (R.remaining (inner_of reader.new))) }
     ensures failed { OnErr result (failures_of reader.old < failures_of reader.new) }

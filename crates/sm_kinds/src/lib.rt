@@ -23,7 +23,7 @@ pub use identity::Identity;
 pub use limits::{
     LEAST_PLACES, MOST_NAME_BYTES, MOST_PAYLOAD_BYTES, MOST_PLACES, MOST_REFS, MOST_TEXT_BYTES,
 };
-pub use messages::{push_access, push_numbered};
+pub use messages::{push_access, push_name, push_numbered};
 pub use name::{Name, Names, valid_name};
 pub use number::{AdminId, ClientId, Node, ObjRef};
 pub use payload::{Payload, PayloadError};

@@ -1,12 +1,13 @@
-//! What messages have in common: decimal numbers, and the words of an access.
+//! What messages have in common: decimal numbers, names, and the words of an access.
 
-ghost use Rattle.std.specs.Prelude.{◌≡◌, ◌++◌, OnOk};
-ghost use Rattle.sm_kinds.specs.Messages.{access_words, numbered};
+ghost use Rattle.std.specs.Prelude.{◌≡◌, ◌++◌, OnOk, codes};
+ghost use Rattle.sm_kinds.specs.Messages.{access_words, name_text, numbered};
 
 use crate::class::Class;
+use crate::name::valid_name;
 use crate::perms::Perms;
 use itoa::Buffer;
-use std::alloc::AllocError;
+use std::alloc::{AllocError, Global};
 
 /// Adds some words and a number in decimal digits. `Err`: memory was refused, and a part may have been added.
 pub fn push_numbered(text: &mut Vec<u8>, words: &[u8], n: u64) -> Result<(), AllocError>
@@ -15,6 +16,21 @@ pub fn push_numbered(text: &mut Vec<u8>, words: &[u8], n: u64) -> Result<(), All
     let mut buffer = Buffer::new();
     text.extend_from_slice(words)?;
     text.extend_from_slice(buffer.format(n).as_bytes())
+}
+
+/// Adds a name: a valid one as it is, another as `%` and two lower-case hexadecimal digits for each byte.
+///
+/// So no byte of a name ends a line or a field. `Err`: as above.
+#[tactic(auto, unfolding(crate::specs::Messages::name_text))]
+pub fn push_name(alloc: Global, text: &mut Vec<u8>, name: &[u8]) -> Result<(), AllocError>
+    ensures { OnOk result (text.new.items ≡ text.old.items ++ name_text name.now) }
+{
+    if valid_name(name) {
+        return text.extend_from_slice(name);
+    }
+    let digits = hex::encode(alloc, name)?;
+    text.extend_from_slice(b"%")?;
+    text.extend_from_slice(digits.as_bytes())
 }
 
 /// Adds `SOURCE TARGET CLASS PERM`: an access as denials and refusals of a policy name it.

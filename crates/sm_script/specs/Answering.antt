@@ -1,11 +1,11 @@
 -- What the items of a script are answered.
 use Rattle.std.specs.Prelude.{◌≡◌, ◌⊎◌, ℕ, List, [], ◌++◌, Ok, codes, Option, Some, None}
+use Rattle.std.specs.List.{flat_map}
 use Rattle.sm_kinds.specs.declared.number.AdminId.{AdminId}
 use Rattle.sm_policy.specs.declared.fault.PolicyFault.{PolicyFault}
 use Rattle.sm_policy.specs.Policy.{Policy}
 use Rattle.sm_kinds.specs.Reading.{Fails}
 use Rattle.sm_policy.specs.Preparing.{is_memory, prepared}
-use Rattle.sm_policy.specs.Refused.{refused_words}
 use Rattle.sm_history.specs.declared.by.By.{By}
 use Rattle.sm_history.specs.declared.by.By.TheVariants.{Manager, Client, Admin}
 use Rattle.sm_history.specs.declared.event.Event.{Event}
@@ -14,90 +14,126 @@ use Rattle.sm_history.specs.declared.reply.Reply.{Reply}
 use Rattle.sm_history.specs.Histories.{turn_of}
 use Rattle.sm_history.specs.Told.{told}
 use Rattle.sm_history.specs.Books.{Book}
-use Rattle.sm_core.specs.Managed.{Answers, LooksAs}
+use Rattle.sm_history.specs.declared.query.Query.{Query}
+use Rattle.sm_history.specs.declared.records.Record.{Record}
+use Rattle.sm_history.specs.declared.refusal.Refusal.TheVariants.{Memory}
+use Rattle.sm_history.specs.declared.reply.Reply.TheVariants.{Refused}
+use Rattle.sm_audit.specs.AuditLines.{audit_line}
+use Rattle.sm_core.specs.Managed.{Managed, Answers, LooksAs, look_leaves, ring_after, step_leaves}
 use Rattle.sm_wire.specs.declared.request.Request.{Request}
 use Rattle.sm_wire.specs.declared.request.Request.TheVariants.{Hello, Change, Look, Denials}
 use Rattle.sm_wire.specs.declared.request.Request.TheVariants as requests
 use Rattle.sm_wire.specs.declared.item.Item.{Item}
 use Rattle.sm_wire.specs.declared.item.Item.TheVariants as items
 use Rattle.sm_wire.specs.declared.telling.Telling.{Telling}
-use Rattle.sm_wire.specs.Replies.{reply_text, told_text, told_in}
+use Rattle.sm_wire.specs.Replies.{denials_text, policy_refused_text, reply_text, told_text, told_in}
 use Rattle.sm_wire.specs.Texts.{Texts}
+use Rattle.sm_script.specs.declared.judging.Judgement.{Judgement}
+use Rattle.sm_script.specs.declared.judging.Judgement.TheVariants as judgements
 
--- an actor's event is answered by the verdict at the turn that the actor has, or memory was refused and nothing changed
-unfoldable pub AnswersNow : Book → By → Event → Reply → Book → Type 0
-AnswersNow old by event reply new = Answers old by (turn_of old.history by) event reply new
+-- a manager as its script sees it: its book, and its newest records, the oldest first
+pub record Recorded : Type 0 where
+  pub book : Book
+  pub ring : List Record
+
+abbrev pub recorded : Managed → Recorded
+recorded m = record { book = m.book; ring = m.ring }
+
+-- an actor's event is answered by the verdict at the turn that the actor has, and the records that it leaves go into
+-- the ring; or memory was refused, and nothing changed
+pub record AnswersNow (old : Recorded) (by : By) (event : Event) (reply : Reply) (noted : List Record) (new : Recorded)
+    : Type 0 where
+  pub answers : Answers old.book by (turn_of old.book.history by) event reply new.book
+  pub records : noted ≡ step_leaves old.book by (turn_of old.book.history by) event reply
+  pub ring : new.ring ≡ ring_after old.ring old.book by (turn_of old.book.history by) event reply
+
+-- a query is answered on the history as it stands, and leaves these records to be written, none of them in the ring
+pub record AnswersQuery (old : Recorded) (by : By) (query : Query) (reply : Reply) (noted : List Record)
+    (new : Recorded) : Type 0 where
+  pub looks : LooksAs old.book by query reply
+  pub records : noted ≡ look_leaves old.book by query reply
+  pub unchanged : new ≡ old
 
 -- the administrator of a script
 abbrev pub the_administrator : AdminId
 the_administrator = record { 0 = 1 }
 
 -- a request is judged on the history that the requests before it left
-abbrev pub Judges : Book → Request → Reply → Book → Type 0
-Judges old (Hello who) reply new = AnswersNow old Manager (Connect who) reply new
-Judges old (Change (Some client) event) reply new = AnswersNow old (Client client) event reply new
-Judges old (Change None event) reply new = ⊥
-Judges old (Look (Some client) query) reply new = LooksAs old (Client client) query reply × (new ≡ old)
-Judges old (Look None query) reply new = LooksAs old (Admin the_administrator) query reply × (new ≡ old)
-Judges old (requests.Reload expected rules contexts) reply new = ⊥
-Judges old Denials reply new = ⊥
+abbrev pub Judges : Recorded → Request → Reply → List Record → Recorded → Type 0
+Judges old (Hello who) reply noted new = AnswersNow old Manager (Connect who) reply noted new
+Judges old (Change (Some client) event) reply noted new = AnswersNow old (Client client) event reply noted new
+Judges old (Change None event) reply noted new = ⊥
+Judges old (Look (Some client) query) reply noted new = AnswersQuery old (Client client) query reply noted new
+Judges old (Look None query) reply noted new = AnswersQuery old (Admin the_administrator) query reply noted new
+Judges old (requests.Reload expected rules contexts) reply noted new = ⊥
+Judges old Denials reply noted new = (reply ≡ Refused Memory) × (noted ≡ []) × (new ≡ old)
 
--- a request that no line of a script asks: a change of a client without a number, a `reload` without its texts, and the
--- last denials, which aren't kept yet
+-- a request that no line of a script asks: a change of a client without a number, and a `reload` without its texts
 abbrev pub IsUnasked : Request → Type 0
 IsUnasked (Hello who) = ⊥
 IsUnasked (Change (Some client) event) = ⊥
 IsUnasked (Change None event) = Unit {0}
 IsUnasked (Look client query) = ⊥
 IsUnasked (requests.Reload expected rules contexts) = Unit {0}
-IsUnasked Denials = Unit {0}
+IsUnasked Denials = ⊥
 
--- the reply to a request, or none to what no line of a script asks
-abbrev pub Judged : Book → Request → Option Reply → Book → Type 0
-Judged old request (Some reply) new = Judges old request reply new
-Judged old request None new = IsUnasked request × (new ≡ old)
+-- what is found of a request: the reply and its records, the newest records, or that no line of a script asks it
+abbrev pub Judged : Recorded → Request → Judgement → Recorded → Type 0
+Judged old request (judgements.Replied reply noted) new = Judges old request reply noted.items new
+Judged old request (judgements.Denials newest) new = (request ≡ Denials) × (newest.items ≡ old.ring) × (new ≡ old)
+Judged old request judgements.Unasked new = IsUnasked request × (new ≡ old)
 
--- the line of a reply, or of what no line of a script asks
-abbrev pub judged_text : Telling → Option Reply → List ℕ
-judged_text telling (Some reply) = told_text (told_in telling reply)
-judged_text telling None = codes "malformed\n"
+-- there is a reply of this kind, with its records
+abbrev pub IsReplied : (Reply → List Record → Recorded → Type 0) → Judgement → Recorded → Type 0
+IsReplied Is (judgements.Replied reply noted) new = Is reply noted.items new
+IsReplied Is (judgements.Denials newest) new = ⊥
+IsReplied Is judgements.Unasked new = ⊥
 
--- the line for a policy that is refused
-abbrev pub refused_policy_line : PolicyFault → List ℕ
-refused_policy_line fault = codes "refused " ++ refused_words fault ++ codes "\n"
+-- the reply lines of what is found
+abbrev pub judged_text : Telling → Judgement → List ℕ
+judged_text telling (judgements.Replied reply noted) = told_text (told_in telling reply)
+judged_text telling (judgements.Denials newest) = denials_text newest.items
+judged_text telling judgements.Unasked = codes "malformed\n"
+
+-- its audit lines
+abbrev pub judged_lines : Judgement → List ℕ
+judged_lines (judgements.Replied reply noted) = flat_map audit_line noted.items
+judged_lines (judgements.Denials newest) = []
+judged_lines judgements.Unasked = []
 
 -- the texts are those of a policy, and this is the answer to the administrator who replaces the one in force by it
-pub record Reloads (old : Book) (texts : Texts) (line : List ℕ) (new : Book) : Type 0 where
+pub record Reloads (old : Recorded) (texts : Texts) (line lines : List ℕ) (new : Recorded) : Type 0 where
   pub policy : Policy
   pub reads : prepared texts.rules texts.contexts ≡ Ok policy
   pub reply : Reply
-  pub judged : AnswersNow old (Admin the_administrator) (Reload texts.expected policy) reply new
+  pub noted : List Record
+  pub judged : AnswersNow old (Admin the_administrator) (Reload texts.expected policy) reply noted new
   pub written : line ≡ told_text (told (Reload texts.expected policy) reply)
+  pub audited : lines ≡ flat_map audit_line noted
 
 -- the texts are refused, and nothing changed
-pub record Refuses (old : Book) (texts : Texts) (line : List ℕ) (new : Book) : Type 0 where
+pub record Refuses (old : Recorded) (texts : Texts) (line lines : List ℕ) (new : Recorded) : Type 0 where
   pub fault : PolicyFault
   pub fails : Fails is_memory fault (prepared texts.rules texts.contexts)
   pub unchanged : new ≡ old
-  pub written : line ≡ refused_policy_line fault
+  pub written : line ≡ policy_refused_text fault
+  pub audited : lines ≡ []
 
--- the line that a `reload` is answered, and the state that it leaves
-abbrev pub AnswersTexts : Book → Texts → List ℕ → Book → Type 0
-AnswersTexts old texts line new = Reloads old texts line new ⊎ Refuses old texts line new
+-- the line that a `reload` is answered, its audit lines, and the state that it leaves
+abbrev pub AnswersTexts : Recorded → Texts → List ℕ → List ℕ → Recorded → Type 0
+AnswersTexts old texts line lines new = Reloads old texts line lines new ⊎ Refuses old texts line lines new
 
--- the line that an item is answered, and the state that it leaves
-abbrev pub AnswersLine : Book → Item → List ℕ → Book → Type 0
-AnswersLine old (items.Asked request) line new =
-    ((reply : Reply) × Judges old request reply new × (line ≡ reply_text request reply))
-    ⊎ (IsUnasked request × (line ≡ codes "malformed\n") × (new ≡ old))
-AnswersLine old (items.Policy texts) line new = AnswersTexts old texts line new
-AnswersLine old items.Malformed line new = (line ≡ codes "malformed\n") × (new ≡ old)
-AnswersLine old items.LineTooLong line new = (line ≡ codes "fault long\n") × (new ≡ old)
+-- the reply lines of a request, its audit lines, and the state that it leaves
+abbrev pub AnswersRequest : Recorded → Request → List ℕ → List ℕ → Recorded → Type 0
+AnswersRequest old request line lines new =
+    ((reply : Reply) × (noted : List Record) × Judges old request reply noted new × (line ≡ reply_text request reply)
+    × (lines ≡ flat_map audit_line noted))
+    ⊎ ((request ≡ Denials) × (line ≡ denials_text old.ring) × (lines ≡ []) × (new ≡ old))
+    ⊎ (IsUnasked request × (line ≡ codes "malformed\n") × (lines ≡ []) × (new ≡ old))
 
--- an item's line is all that is written for it: audit lines aren't written yet
-abbrev pub AnswersItem : Book → Item → List ℕ → List ℕ → Book → Type 0
-AnswersItem old item line audit new = AnswersLine old item line new × (audit ≡ [])
-
--- a line of this kind stands behind a text
-abbrev pub Adds : (List ℕ → Type 0) → List ℕ → List ℕ → Type 0
-Adds IsLine old new = (line : List ℕ) × IsLine line × (new ≡ old ++ line)
+-- the reply lines of an item, its audit lines, and the state that it leaves
+abbrev pub AnswersItem : Recorded → Item → List ℕ → List ℕ → Recorded → Type 0
+AnswersItem old (items.Asked request) line lines new = AnswersRequest old request line lines new
+AnswersItem old (items.Policy texts) line lines new = AnswersTexts old texts line lines new
+AnswersItem old items.Malformed line lines new = (line ≡ codes "malformed\n") × (lines ≡ []) × (new ≡ old)
+AnswersItem old items.LineTooLong line lines new = (line ≡ codes "fault long\n") × (lines ≡ []) × (new ≡ old)

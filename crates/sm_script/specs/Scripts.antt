@@ -1,5 +1,5 @@
 -- What a script's run leaves.
-use Rattle.std.specs.Prelude.{◌≡◌, ◌⊎◌, ℕ, List, false, Option, Result, Ok, Err, codes}
+use Rattle.std.specs.Prelude.{◌≡◌, ◌⊎◌, ℕ, List, [], false, Option, Result, Ok, Err, codes}
 use Rattle.sm_kinds.specs.declared.class.Class.TheVariants.{Binder}
 use Rattle.sm_kinds.specs.declared.identity.Identity.{Identity}
 use Rattle.sm_kinds.specs.Contexts.{type_of}
@@ -13,11 +13,11 @@ use Rattle.sm_history.specs.Lawful.{MayOpen}
 use Rattle.sm_history.specs.Books.{Book}
 use Rattle.sm_core.specs.Opening.{opened, opening_denial}
 use Rattle.sm_engine.specs.declared.fault.Fault.{Fault}
-use Rattle.sm_engine.specs.Running.{Served}
+use Rattle.sm_engine.specs.Running.{Served, never}
 use Rattle.sm_wire.specs.declared.kind.Kind.TheVariants.{Script}
 use Rattle.sm_script.specs.declared.script_fault.ScriptFault.{ScriptFault}
 use Rattle.sm_script.specs.declared.script_fault.ScriptFault.TheVariants.{Policy as PolicyRefused, Opening, Engine}
-use Rattle.sm_script.specs.Answering.{AnswersItem}
+use Rattle.sm_script.specs.Answering.{AnswersItem, Recorded}
 
 -- the identity of a script's manager
 abbrev pub the_manager : Identity
@@ -27,12 +27,12 @@ the_manager = record { pid = 1; uid = 1000; context = codes "u:r:servicemanager:
 abbrev pub opened_manager : ℕ → Policy → Book
 opened_manager places policy = opened places the_manager policy
 
--- the texts are those of a policy under which the manager may be opened, and this is it
-pub record Opens (rules contexts : List ℕ) (places : ℕ) (manager : Book) : Type 0 where
+-- the texts are those of a policy under which the manager may be opened, and this is it; there is no record
+pub record Opens (rules contexts : List ℕ) (places : ℕ) (manager : Recorded) : Type 0 where
   pub policy : Policy
   pub reads : prepared rules contexts ≡ Ok policy
   pub may_open : MayOpen the_manager policy
-  pub opens : manager ≡ opened_manager places policy
+  pub opens : manager ≡ record { book = opened_manager places policy; ring = [] }
 
 -- the manager may not be opened under a policy, and the refusal names the rule that is missing; or memory was refused
 abbrev pub MayNotOpen : Policy → Refusal → Type 0
@@ -56,10 +56,10 @@ NotRun rules contexts (Engine fault) = ⊥
 -- what the engine read and wrote, from a manager that was just opened to the last one
 pub record Ran (rules contexts : List ℕ) (places bound : ℕ) (result : Result (Unit {0}) Fault)
     (r r_new w w_new a a_new : Option (List ℕ)) : Type 0 where
-  pub first : Book
+  pub first : Recorded
   pub opened_first : Opens rules contexts places first
-  pub last : Book
-  pub served : Served Script AnswersItem result bound first r r_new w w_new a a_new last
+  pub last : Recorded
+  pub served : Served Script AnswersItem never result bound first r r_new w w_new a a_new last
 
 -- how a script ended
 abbrev pub RunsScript : Result (Unit {0}) ScriptFault → List ℕ → List ℕ → ℕ → ℕ → Option (List ℕ) → Option (List ℕ)

@@ -1,19 +1,22 @@
 //! A service manager that answers the items of a script.
 
-ghost use Rattle.std.specs.Prelude.{◌≡◌, ◌++◌, OnOk, OnErr, Ok};
+ghost use Rattle.std.specs.Prelude.{◌≡◌, ◌++◌, [], OnOk, OnErr, Ok};
 ghost use Rattle.sm_wire.specs.declared.item.Item.TheVariants.{Asked, Policy};
 ghost use Rattle.sm_policy.specs.Preparing.{prepared};
-ghost use Rattle.sm_script.specs.Answering.{Adds, AnswersItem, AnswersLine, AnswersTexts, judged_text, refused_policy_line};
-ghost use Rattle.sm_engine.specs.Running.{GaveUp};
+ghost use Rattle.sm_script.specs.Answering.{AnswersItem, judged_lines, judged_text, recorded};
+ghost use Rattle.sm_engine.specs.Running.{Answered, GaveUp, never};
 
-use crate::judging::{judge, reload};
+use crate::judging::{Judgement, judge, reload};
+use sm_audit::push_lines;
 use sm_core::Manager;
 use sm_engine::Machine;
-use sm_history::Reply;
-use sm_policy::{PolicyFault, Prepared, refused_text};
-use sm_wire::{Item, PolicyTexts, Request, Telling, push_reply};
+use sm_policy::Prepared;
+use sm_wire::{Item, PolicyTexts, Request, Telling, push_denials, push_policy_refused, push_reply};
 use std::alloc::{AllocError, Global};
 use std::marker::Model;
+
+/// So many bytes wait at most before they are written, one answer apart.
+const HELD_LIMIT: usize = 65536;
 
 /// A service manager that answers the items of a script.
 #[derive(Drop)]
@@ -23,61 +26,79 @@ pub struct Script {
 }
 
 impl Model for Script {
-    ghost use Rattle.sm_history.specs.Books.{Book};
+    ghost use Rattle.sm_script.specs.Answering.{Recorded, recorded};
 
-    ghost Value = { Book };
+    ghost Value = { Recorded };
 
-    ghost view = { λ s. s.manager.book };
+    ghost view = { λ s. recorded s.manager };
 }
 
 impl Machine for Script {
     ghost answers = { AnswersItem };
 
+    ghost over = { never };
+
     fn answer(
         &mut self,
         item: Item,
         replies: &mut Vec<u8>,
-        _audit: &mut Vec<u8>,
+        audit: &mut Vec<u8>,
     ) -> Result<(), AllocError> {
         match item {
-            Item::Asked(request) => self.answer_request(request, replies),
-            Item::Policy(texts) => self.answer_policy(&texts, replies),
+            Item::Asked(request) => self.answer_request(request, replies, audit),
+            Item::Policy(texts) => self.answer_policy(&texts, replies, audit),
             Item::Malformed => replies.extend_from_slice(b"malformed\n"),
             Item::LineTooLong => replies.extend_from_slice(b"fault long\n"),
         }
     }
+
+    fn is_over(&self) -> bool {
+        false
+    }
+
+    fn hold_limit(&self) -> usize {
+        HELD_LIMIT
+    }
+
+    fn written(&mut self) {}
 }
 
 impl Script {
     /// A manager behind an engine.
     pub fn new(alloc: Global, manager: Manager) -> Script
-        ensures { result ≡ manager.book }
+        ensures { result ≡ recorded manager }
     {
         Script { alloc, manager }
     }
 
-    fn answer_request(&mut self, request: Request, replies: &mut Vec<u8>) -> Result<(), AllocError>
-        ensures ok { OnOk result (Adds (λ line. AnswersLine self.old (Asked request) line self.new)
-            replies.old.items replies.new.items) }
+    fn answer_request(
+        &mut self,
+        request: Request,
+        replies: &mut Vec<u8>,
+        audit: &mut Vec<u8>,
+    ) -> Result<(), AllocError>
+        ensures ok { OnOk result (Answered AnswersItem self.old (Asked request) replies.old.items replies.new.items
+            audit.old.items audit.new.items self.new) }
         ensures err { OnErr result (GaveUp AnswersItem self.old (Asked request) self.new) }
     {
         let telling = request.telling();
-        let reply = judge(&mut self.manager, request);
-        push_judged(self.alloc, replies, telling, &reply)
+        let judgement = judge(self.alloc, &mut self.manager, request);
+        push_judged(self.alloc, replies, audit, telling, &judgement)
     }
 
     fn answer_policy(
         &mut self,
         texts: &PolicyTexts,
         replies: &mut Vec<u8>,
+        audit: &mut Vec<u8>,
     ) -> Result<(), AllocError>
-        ensures ok { OnOk result (Adds (λ line. AnswersTexts self.old texts.now line self.new)
-            replies.old.items replies.new.items) }
+        ensures ok { OnOk result (Answered AnswersItem self.old (Policy texts.now) replies.old.items replies.new.items
+            audit.old.items audit.new.items self.new) }
         ensures err { OnErr result (GaveUp AnswersItem self.old (Policy texts.now) self.new) }
     {
         match Prepared::from_texts(self.alloc, texts.rules(), texts.contexts()) {
-            Ok(policy) => self.answer_reload(texts, policy, replies),
-            Err(fault) => push_refused(self.alloc, &fault, replies),
+            Ok(policy) => self.answer_reload(texts, policy, replies, audit),
+            Err(fault) => push_policy_refused(self.alloc, replies, &fault),
         }
     }
 
@@ -86,38 +107,36 @@ impl Script {
         texts: &PolicyTexts,
         policy: Prepared,
         replies: &mut Vec<u8>,
+        audit: &mut Vec<u8>,
     ) -> Result<(), AllocError>
         requires { prepared texts.now.rules texts.now.contexts ≡ Ok policy }
-        ensures ok { OnOk result (Adds (λ line. AnswersTexts self.old texts.now line self.new)
-            replies.old.items replies.new.items) }
+        ensures ok { OnOk result (Answered AnswersItem self.old (Policy texts.now) replies.old.items replies.new.items
+            audit.old.items audit.new.items self.new) }
         ensures err { OnErr result (GaveUp AnswersItem self.old (Policy texts.now) self.new) }
     {
-        let reply = reload(&mut self.manager, texts.expected(), policy);
-        push_reply(self.alloc, replies, Telling::Whole, &reply)
+        let (reply, records) = reload(&mut self.manager, texts.expected(), policy);
+        let judgement = Judgement::Replied(reply, records);
+        push_judged(self.alloc, replies, audit, Telling::Whole, &judgement)
     }
 }
 
-// Adds the line of a reply, or of what no line of a script asks.
+// Adds the reply lines and the audit lines of what was found.
 fn push_judged(
     alloc: Global,
     replies: &mut Vec<u8>,
+    audit: &mut Vec<u8>,
     telling: Telling,
-    reply: &Option<Reply>,
+    judgement: &Judgement,
 ) -> Result<(), AllocError>
-    ensures { OnOk result (replies.new.items ≡ replies.old.items ++ judged_text telling reply.now) }
+    ensures replies { OnOk result (replies.new.items ≡ replies.old.items ++ judged_text telling judgement.now) }
+    ensures audit { OnOk result (audit.new.items ≡ audit.old.items ++ judged_lines judgement.now) }
 {
-    match reply {
-        Some(reply) => push_reply(alloc, replies, telling, reply),
-        None => replies.extend_from_slice(b"malformed\n"),
+    match judgement {
+        Judgement::Replied(reply, records) => {
+            push_reply(alloc, replies, telling, reply)?;
+            push_lines(alloc, audit, records)
+        }
+        Judgement::Denials(records) => push_denials(alloc, replies, records),
+        Judgement::Unasked => replies.extend_from_slice(b"malformed\n"),
     }
-}
-
-// Adds `refused`, and why.
-fn push_refused(alloc: Global, fault: &PolicyFault, replies: &mut Vec<u8>) -> Result<(), AllocError>
-    ensures { OnOk result (replies.new.items ≡ replies.old.items ++ refused_policy_line fault.now) }
-{
-    let words = refused_text(alloc, fault)?;
-    replies.extend_from_slice(b"refused ")?;
-    replies.extend_from_slice(&words)?;
-    replies.extend_from_slice(b"\n")
 }

@@ -1,9 +1,9 @@
 //! Scripts, from their policy texts to the end of their input.
 
-ghost use Rattle.std.specs.Prelude.{◌≡◌, ◌<◌, ◌+◌, OnOk, IfOk, MatchResult};
+ghost use Rattle.std.specs.Prelude.{◌≡◌, ◌<◌, ◌≤◌, ◌+◌, [], OnOk, IfOk, MatchResult};
 ghost use Rattle.std.specs.Io.KnownBytes.{IsAtEnd};
 ghost use Rattle.sm_history.specs.Lawful.{MayOpen};
-ghost use Rattle.sm_engine.specs.Counts.{failures_of, inner_of, greatest};
+ghost use Rattle.sm_engine.specs.Counts.{failures_of, calls_of, inner_of, greatest};
 ghost use Rattle.sm_script.specs.Scripts.{the_manager, opened_manager, MayNotOpen, Opens, NotRun, RunsScript, IfNotRun};
 
 use crate::manager_script::Script;
@@ -18,7 +18,8 @@ use std::alloc::{AllocError, Global};
 use std::io::{Read, Write};
 
 /// Runs a script under the policy of these texts: answers the requests that come from the reader until its end, a
-/// fault, or `bound` reads. The journal has so many places. Audit lines aren't written yet.
+/// fault, or `bound` reads. The journal has so many places. The audit lines of each request are written when it is
+/// answered, those of `list` among them.
 pub fn run_script<R: Read, W: Write, A: Write>(
     alloc: Global,
     rules: &[u8],
@@ -41,6 +42,7 @@ pub fn run_script<R: Read, W: Write, A: Write>(
     ensures unwritten { IfNotRun result (writer.new ≡ writer.old) }
     ensures unaudited { IfNotRun result (audit.new ≡ audit.old) }
     ensures end { OnOk result (IsAtEnd (R.remaining (inner_of reader.new))) }
+    ensures reads { calls_of reader.new ≤ calls_of reader.old + bound }
     ensures read_fault { result ≡ Err (ScriptFault.Engine Fault.ReadFault) → failures_of reader.old < failures_of reader.new }
     ensures write_fault { result ≡ Err (ScriptFault.Engine Fault.WriteFault)
         → failures_of writer.old + failures_of audit.old < failures_of writer.new + failures_of audit.new }
@@ -77,7 +79,7 @@ fn opened_script(
 // The manager that was just opened under a policy.
 fn opened_manager(alloc: Global, policy: Prepared, places: Places) -> Result<Manager, Refusal>
     ensures { MatchResult result
-        (λ m. MayOpen the_manager policy × (m.book ≡ opened_manager places policy))
+        (λ m. MayOpen the_manager policy × (m.book ≡ opened_manager places policy) × (m.ring ≡ []))
         (λ r. MayNotOpen policy r) }
 {
     match manager_identity(alloc) {

@@ -23,6 +23,7 @@ pub struct Left<R, W> {
     pub ending: Result<(), ScriptFault>,
     pub reader: Counted<R>,
     pub writer: Counted<W>,
+    pub audit: Counted<Vec<u8>>,
 }
 
 impl<'a> Fixture<'a> {
@@ -51,7 +52,7 @@ impl<'a> Fixture<'a> {
         Fixture { reads, ..self }
     }
 
-    /// Runs the script that the reader gives. There are no audit lines.
+    /// Runs the script that the reader gives.
     pub fn run<R: Read, W: Write>(
         self,
         rt: &impl Abort,
@@ -73,11 +74,11 @@ impl<'a> Fixture<'a> {
             &mut writer,
             &mut audit,
         );
-        assert_eq!(rt; audit.into_inner().len(), 0);
         Left {
             ending,
             reader,
             writer,
+            audit,
         }
     }
 
@@ -97,5 +98,20 @@ impl<'a> Fixture<'a> {
     /// Runs a script to its end, and wants these replies.
     pub fn replies(self, rt: &impl Abort, alloc: Global, script: &[u8], wanted: &[u8]) {
         assert!(rt; self.ending(rt, alloc, script, wanted).is_ok());
+    }
+
+    /// Runs a script to its end, and wants these replies and these audit lines.
+    pub fn audited(
+        self,
+        rt: &impl Abort,
+        alloc: Global,
+        script: &[u8],
+        wanted: &[u8],
+        lines: &[u8],
+    ) {
+        let left = self.run(rt, alloc, script, Vec::new(alloc));
+        assert_eq!(rt; left.writer.into_inner().as_slice(), wanted);
+        assert_eq!(rt; left.audit.into_inner().as_slice(), lines);
+        assert!(rt; left.ending.is_ok());
     }
 }

@@ -12,6 +12,8 @@ mod crowds;
 #[cfg(test)]
 mod declarations;
 #[cfg(test)]
+mod denials;
+#[cfg(test)]
 mod exchanges;
 #[cfg(test)]
 mod faults;

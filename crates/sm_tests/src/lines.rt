@@ -205,7 +205,7 @@ const BY_KIND: &[(&str, &str, &str, &str)] = &[
         "reload of 1 by 2 and 3",
         "reload of 1 by 2 and 3",
     ),
-    ("denials", "malformed", "denials", "malformed"),
+    ("denials", "malformed", "denials", "denials"),
     ("version ", "malformed", "malformed", "malformed"),
     ("denials 1", "malformed", "malformed", "malformed"),
     ("", "malformed", "malformed", "malformed"),

@@ -367,3 +367,35 @@ fn two_administrators(rt: HostRuntime) {
     assert_eq!(rt; step(&mut manager, second, 0, event), Seen::Reloaded(3));
     assert_eq!(rt; manager.turn(second), 1);
 }
+
+fn application(rt: &impl Abort, alloc: Global) -> Identity {
+    Identity {
+        pid: 200,
+        uid: 10007,
+        context: Context::read(alloc, b"u:r:untrusted_app:s0")
+            .ok()
+            .expect(rt, "a context"),
+    }
+}
+
+// A refused add leaves one record in the ring; what is only asked for, and a query, leave none there.
+#[test]
+fn records(rt: HostRuntime) -> Result<(), Fail> {
+    let alloc = rt.alloc();
+    let mut manager = connected(&rt, alloc);
+    let connect = Event::Connect(application(&rt, alloc));
+    assert_eq!(rt;
+        step(&mut manager, By::Manager, 2, connect),
+        Seen::Connected(2)
+    );
+    let by = By::Client(ClientId(2));
+    assert_eq!(rt; manager.step_records(by, 0, &add(alloc)?)?.len(), 1);
+    assert_eq!(rt; manager.look_records(by, &Query::List(15))?.len(), 1);
+    assert_eq!(rt; manager.look_recorded(by, Query::List(15)).1.len(), 1);
+    assert_eq!(rt; manager.records()?.len(), 0);
+    assert_eq!(rt; step(&mut manager, by, 0, add(alloc)?), Seen::Another);
+    assert_eq!(rt; manager.records()?.len(), 1);
+    assert_eq!(rt; manager.step_recorded(by, 0, add(alloc)?).1.len(), 1);
+    assert_eq!(rt; manager.records()?.len(), 2);
+    Ok(())
+}

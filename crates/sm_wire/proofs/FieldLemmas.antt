@@ -4,10 +4,10 @@ use Rattle.std.proofs.lemmas.Bool.Decides.{nat_tests}
 use Rattle.std.specs.List.{onto_first}
 use Rattle.sm_wire.specs.Fields.{fields_of}
 
-fields_of-space : (x : ℕ) (xs : List ℕ) → x ≡ 32 → fields_of (x ∷ xs) ≡ [] ∷ fields_of xs
+pub fields_of-space : (x : ℕ) (xs : List ℕ) → x ≡ 32 → fields_of (x ∷ xs) ≡ [] ∷ fields_of xs
 fields_of-space x xs e = rw e refl
 
-fields_of-plain : (x : ℕ) (xs : List ℕ) → x ≢ 32 → fields_of (x ∷ xs) ≡ onto_first x (fields_of xs)
+pub fields_of-plain : (x : ℕ) (xs : List ℕ) → x ≢ 32 → fields_of (x ∷ xs) ≡ onto_first x (fields_of xs)
 fields_of-plain x xs n = grind (arith, nat_tests)
 
 -- the first field ends at the first space

@@ -2,3 +2,6 @@ pub mod CutLemmas
 pub mod FieldLemmas
 pub mod ItemLemmas
 pub mod NumberLemmas
+pub mod SpellingLemmasContexts
+pub mod SpellingLemmasFields
+pub mod SpellingLemmasLines

@@ -184,14 +184,22 @@ unfoldable pub reload_of : List (List ℕ) → Option Request
 reload_of (word ∷ a ∷ b ∷ c ∷ []) = if bytes_eq word (codes "reload") then sizes_of a b c else None
 reload_of _ = None
 
+-- `denials`
+unfoldable pub denials_of : List (List ℕ) → Option Request
+denials_of (word ∷ []) = if bytes_eq word (codes "denials") then Some Denials else None
+denials_of _ = None
+
+-- what the administrator asks about the policy in force: why it allows, and what it denied
+unfoldable pub asking_of : List (List ℕ) → Option Request
+asking_of fields = first_of_two (explaining_of fields) (denials_of fields)
+
 -- the administrator's lines that a script has, too
 unfoldable pub policy_request_of : List (List ℕ) → Option Request
-policy_request_of fields = first_of_two (reload_of fields) (explaining_of fields)
+policy_request_of fields = first_of_two (reload_of fields) (asking_of fields)
 
--- `version` or `denials`
+-- the administrator's `version`
 unfoldable pub standing_of : List (List ℕ) → Option Request
-standing_of (word ∷ []) = if bytes_eq word (codes "version") then Some (Look None queries.Version)
-    else (if bytes_eq word (codes "denials") then Some Denials else None)
+standing_of (word ∷ []) = if bytes_eq word (codes "version") then Some (Look None queries.Version) else None
 standing_of _ = None
 
 -- a line of a client's connection

@@ -3,6 +3,8 @@ pub mod Fields
 pub mod Reading
 pub mod Values
 pub mod Grammar
+pub mod FieldSpelling
+pub mod Spelling
 pub mod Items
 pub mod Ends
 pub mod Replies

@@ -1,12 +1,13 @@
 -- The reply lines.
-use Rattle.std.specs.Prelude.{ℕ, List, [], ◌∷◌, ◌++◌, length, codes, if◌then◌else◌, Option, Some, None}
+use Rattle.std.specs.Prelude.{ℕ, List, [], ◌∷◌, ◌++◌, length, codes, Option, Some, None}
 use Rattle.std.specs.List.{flat_map}
 use Rattle.hex.specs.Hex.{encode_lower}
 use Rattle.sm_kinds.specs.declared.class.Class.{Class}
 use Rattle.sm_kinds.specs.declared.class.Class.TheVariants.{ServiceManager, Binder}
 use Rattle.sm_kinds.specs.declared.perms.Perms.{Perms}
-use Rattle.sm_kinds.specs.Names.{is_valid_name}
-use Rattle.sm_kinds.specs.Messages.{access_words, numbered}
+use Rattle.sm_kinds.specs.Messages.{access_words, name_text, numbered}
+use Rattle.sm_policy.specs.declared.fault.PolicyFault.{PolicyFault}
+use Rattle.sm_policy.specs.Refused.{refused_words}
 use Rattle.sm_history.specs.declared.delivery.Given.{Given}
 use Rattle.sm_history.specs.declared.delivery.Given.TheVariants.{Handle, Own, Null}
 use Rattle.sm_history.specs.declared.delivery.Message.{Message}
@@ -26,19 +27,17 @@ use Rattle.sm_history.specs.declared.refusal.Failure.TheVariants.{NotYours, NotC
 use Rattle.sm_history.specs.declared.refusal.Failure.TheVariants.{TargetFull}
 use Rattle.sm_history.specs.declared.refusal.Refusal.{Refusal}
 use Rattle.sm_history.specs.declared.refusal.Refusal.TheVariants as refusals
+use Rattle.sm_history.specs.declared.records.Record.{Record}
 use Rattle.sm_history.specs.declared.reply.Answer.{Answer}
 use Rattle.sm_history.specs.declared.reply.Answer.TheVariants.{Names, Version, Why}
 use Rattle.sm_history.specs.declared.reply.Reply.{Reply}
 use Rattle.sm_history.specs.declared.reply.Reply.TheVariants.{Done, GotNull, GotOwn, Looked, Refused}
 use Rattle.sm_history.specs.Told.{told, told_to_get}
+use Rattle.sm_audit.specs.AuditLines.{audit_line}
 use Rattle.sm_wire.specs.declared.request.Request.{Request}
 use Rattle.sm_wire.specs.declared.request.Request.TheVariants.{Hello, Change, Look, Reload, Denials}
 use Rattle.sm_wire.specs.declared.telling.Telling.{Telling}
 use Rattle.sm_wire.specs.declared.telling.Telling.TheVariants.{Whole, ToGet}
-
--- a valid name as it is, another as `%` and two lower-case hexadecimal digits for each byte
-unfoldable pub name_text : List ℕ → List ℕ
-name_text name = if is_valid_name name then name else codes "%" ++ encode_lower name
 
 abbrev pub spaced_name : List ℕ → List ℕ
 spaced_name name = codes " " ++ name_text name
@@ -175,3 +174,11 @@ told_in ToGet reply = told_to_get reply
 -- the line of a reply to a request
 abbrev pub reply_text : Request → Reply → List ℕ
 reply_text request reply = told_text (told_of request reply)
+
+-- `denials K`, and then K audit lines
+unfoldable pub denials_text : List Record → List ℕ
+denials_text records = numbered (codes "denials ") (length records) ++ codes "\n" ++ flat_map audit_line records
+
+-- the line for a policy that is refused
+unfoldable pub policy_refused_text : PolicyFault → List ℕ
+policy_refused_text fault = codes "refused " ++ refused_words fault ++ codes "\n"

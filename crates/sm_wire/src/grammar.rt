@@ -2,7 +2,7 @@
 
 ghost use Rattle.std.specs.Prelude.{map};
 ghost use Rattle.sm_wire.specs.Reading.{Reads};
-ghost use Rattle.sm_wire.specs.Grammar.{client_line_of, hello_of, greeting_of, explain_of, explaining_of, standing_of, policy_request_of, unnumbered_of, client_fields_of, admin_fields_of, script_fields_of, fields_request_of, request_of};
+ghost use Rattle.sm_wire.specs.Grammar.{client_line_of, hello_of, greeting_of, explain_of, explaining_of, denials_of, asking_of, standing_of, policy_request_of, unnumbered_of, client_fields_of, admin_fields_of, script_fields_of, fields_request_of, request_of};
 
 use crate::announcing::reload;
 use crate::client_requests::client_request;
@@ -88,19 +88,40 @@ fn policy_request(alloc: Global, fields: &[&[u8]]) -> Result<Request, ReadError>
     ensures { Reads result (policy_request_of (map (λ f. f.now) fields.now)) }
 {
     match reload(fields) {
-        Err(ReadError::Malformed) => explaining(alloc, fields),
+        Err(ReadError::Malformed) => asking(alloc, fields),
         other => other,
     }
 }
 
-// `version` or `denials`
+// What the administrator asks about the policy in force.
+#[tactic(auto, unfolding(crate::specs::Grammar::asking_of))]
+fn asking(alloc: Global, fields: &[&[u8]]) -> Result<Request, ReadError>
+    ensures { Reads result (asking_of (map (λ f. f.now) fields.now)) }
+{
+    match explaining(alloc, fields) {
+        Err(ReadError::Malformed) => denials(fields),
+        other => other,
+    }
+}
+
+// `denials`
+#[tactic(auto, unfolding(crate::specs::Grammar::denials_of))]
+fn denials(fields: &[&[u8]]) -> Result<Request, ReadError>
+    ensures { Reads result (denials_of (map (λ f. f.now) fields.now)) }
+{
+    match fields {
+        [word] if *word == b"denials".as_slice() => Ok(Request::Denials),
+        _ => Err(ReadError::Malformed),
+    }
+}
+
+// The administrator's `version`.
 #[tactic(auto, unfolding(crate::specs::Grammar::standing_of))]
 fn standing(fields: &[&[u8]]) -> Result<Request, ReadError>
     ensures { Reads result (standing_of (map (λ f. f.now) fields.now)) }
 {
     match fields {
         [word] if *word == b"version".as_slice() => Ok(Request::Look(None, Query::Version)),
-        [word] if *word == b"denials".as_slice() => Ok(Request::Denials),
         _ => Err(ReadError::Malformed),
     }
 }

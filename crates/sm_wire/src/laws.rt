@@ -7,7 +7,9 @@ ghost use Rattle.sm_wire.specs.Number.{number_of};
 ghost use Rattle.sm_wire.specs.declared.item.Item.TheVariants as items;
 ghost use Rattle.sm_wire.specs.declared.kind.Kind.{Kind};
 ghost use Rattle.sm_wire.specs.declared.announced.Announced.{Announced};
-ghost use Rattle.sm_wire.specs.Grammar.{announced_of};
+ghost use Rattle.sm_wire.specs.declared.request.Request.{Request};
+ghost use Rattle.sm_wire.specs.Grammar.{announced_of, request_of};
+ghost use Rattle.sm_wire.specs.Spelling.{Spells, SpellsNothing};
 ghost use Rattle.sm_wire.specs.Items.{item_of, items_of, items_after, rest_of, scan_after};
 
 /// A line that is no `reload` line and its newline give its item, and then come the items of what follows.
@@ -41,4 +43,17 @@ pub fn any_cut()
 pub fn one_spelling()
     ensures { (max n : ℕ) (text : List ℕ) → max < 2 ^ 64
         → (number_of max text ≡ Some n) ↔ ((text ≡ decimal n) × (n ≤ max)) }
+{}
+
+/// The lines of the written grammar, and no others, are read, each as the request that it spells. In a stream every
+/// other line is malformed.
+pub fn written_lines()
+    ensures requests { (kind : Kind) (line : List ℕ) (request : Request) → (request_of kind line ≡ Some request) ↔ Spells kind line request }
+    ensures items { (kind : Kind) (line : List ℕ) (request : Request) → (item_of kind line ≡ items.Asked request) ↔ Spells kind line request }
+    ensures others { (kind : Kind) (line : List ℕ) → (item_of kind line ≡ items.Malformed) ↔ SpellsNothing kind line }
+{}
+
+/// No line spells two requests.
+pub fn one_request()
+    ensures { (kind : Kind) (line : List ℕ) (a b : Request) → Spells kind line a → Spells kind line b → a ≡ b }
 {}

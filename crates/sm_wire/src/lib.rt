@@ -7,6 +7,7 @@ mod announcing;
 mod client_requests;
 mod cuts;
 mod deliveries;
+mod denials;
 mod ends;
 mod fields;
 mod grammar;
@@ -17,6 +18,7 @@ mod lines;
 mod mode;
 mod names;
 mod numbers;
+mod policy_refusals;
 mod read_error;
 mod refusals;
 mod replies;
@@ -26,10 +28,14 @@ mod texts;
 mod values;
 
 pub use announced::Announced;
+pub use denials::push_denials;
 pub use item::Item;
 pub use kind::Kind;
-pub use laws::{any_cut, first_line, long_line, one_spelling, reload_line};
+pub use laws::{
+    any_cut, first_line, long_line, one_request, one_spelling, reload_line, written_lines,
+};
 pub use lines::{FeedError, Lines};
+pub use policy_refusals::push_policy_refused;
 pub use read_error::ReadError;
 pub use replies::{push_reply, reply_line};
 pub use request::Request;

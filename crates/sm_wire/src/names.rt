@@ -2,22 +2,10 @@
 
 ghost use Rattle.std.specs.Prelude.{◌≡◌, ◌++◌, OnOk, codes};
 ghost use Rattle.std.specs.List.{flat_map};
-ghost use Rattle.sm_wire.specs.Replies.{name_text, spaced_name};
+ghost use Rattle.sm_wire.specs.Replies.{spaced_name};
 
-use sm_kinds::{Name, valid_name};
+use sm_kinds::{Name, push_name};
 use std::alloc::{AllocError, Global};
-
-#[tactic(auto, unfolding(crate::specs::Replies::name_text))]
-fn push_name(alloc: Global, out: &mut Vec<u8>, name: &[u8]) -> Result<(), AllocError>
-    ensures { OnOk result (out.new.items ≡ out.old.items ++ name_text name.now) }
-{
-    if valid_name(name) {
-        return out.extend_from_slice(name);
-    }
-    let digits = hex::encode(alloc, name)?;
-    out.extend_from_slice(b"%")?;
-    out.extend_from_slice(digits.as_bytes())
-}
 
 /// Each name after a space.
 pub fn push_names(alloc: Global, out: &mut Vec<u8>, names: &[Name]) -> Result<(), AllocError>

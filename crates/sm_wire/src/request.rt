@@ -5,6 +5,7 @@ ghost use Rattle.sm_history.specs.declared.reply.Reply.{Reply};
 ghost use Rattle.sm_history.specs.Told.{told};
 ghost use Rattle.sm_wire.specs.Reading.{Reads};
 ghost use Rattle.sm_wire.specs.Grammar.{request_of};
+ghost use Rattle.sm_wire.specs.Spelling.{ReadsSpelled};
 ghost use Rattle.sm_wire.specs.Replies.{told_of, told_in};
 
 use crate::grammar::request;
@@ -39,7 +40,8 @@ pub enum Request {
 impl Request {
     /// Reads a line of this kind, which is given without its newline.
     pub fn read(alloc: Global, kind: Kind, line: &[u8]) -> Result<Request, ReadError>
-        ensures { Reads result (request_of kind line.now) }
+        ensures reads { Reads result (request_of kind line.now) }
+        ensures spelled { ReadsSpelled kind line.now result }
     {
         request(alloc, kind, line)
     }

@@ -1,21 +1,26 @@
 //! Who may do what: each check of an allow rule, as in AOSP's `Access.cpp`. All rule checks come through here.
 
-ghost use Rattle.std.specs.Prelude.{◌≡◌, ◌⊎◌, None, Some, option_map};
+ghost use Rattle.std.specs.Prelude.{◌≡◌, ◌⊎◌, ℕ, List, [], ◌∷◌, ◌++◌, None, Some, option_map, IfOk, MatchResult};
 ghost use Rattle.sm_kinds.specs.Contexts.{type_of};
 ghost use Rattle.sm_kinds.specs.declared.class.Class.TheVariants.{Binder, ServiceManager};
-ghost use Rattle.sm_policy.specs.Policy.{type_index};
-ghost use Rattle.sm_history.specs.declared.stop.Stop.TheVariants.{Unruled};
+ghost use Rattle.sm_policy.specs.Policy.{allowed, decision, type_index};
+ghost use Rattle.sm_history.specs.Records.{moment_of, rule_record};
+ghost use Rattle.sm_history.specs.declared.stop.Stop.TheVariants.{Unruled, Barred};
 ghost use Rattle.sm_history.specs.Clients.{manager_at, policy_at, label_at};
 ghost use Rattle.sm_history.specs.Checks.{adding, calling, finding, listing, transferring};
 ghost use Rattle.sm_history.specs.Histories.{effects_of};
-ghost use Rattle.sm_core.specs.Judging.{IsRuled};
+ghost use Rattle.sm_core.specs.Judging.{IsRuled, noted, clause_noted};
 ghost use Rattle.sm_core.specs.Judging as spec;
 ghost use Rattle.sm_core.specs.Tables.{process_at};
 
+use crate::manager::replying::denial;
 use crate::manager::{Manager, wanted};
+use crate::notes::Notes;
 use crate::process::Process;
-use sm_history::Stop;
+use sm_history::{Denial, Record, Stop};
 use sm_kinds::{Class, Context, Identity, Name, Perms};
+use sm_policy::Decision;
+use std::alloc::AllocError;
 
 /// That no allow rule gives a permission from a process to a context, which is the label of a name or not.
 fn unruled(who: &Identity, target: &Context, name: Option<&Name>, class: Class, perm: Perms) -> Stop
@@ -45,76 +50,183 @@ fn unruled(who: &Identity, target: &Context, name: Option<&Name>, class: Class, 
 }
 
 impl Manager {
-    /// A process may send a transaction to the manager.
-    pub fn can_call_manager(&self, who: &Process) -> Result<(), Stop>
-        requires { who.now ≡ process_at (effects_of self.now.book.history) who.now.who }
-        ensures { IsRuled (policy_at (effects_of self.now.book.history)) Binder calling who.now.who (manager_at (effects_of self.now.book.history)).context None result }
+    /// Notes what a decision leaves on record.
+    #[tactic(auto, unfolding(crate::specs::Judging::noted))]
+    fn audit(
+        &self,
+        made: Decision,
+        who: &Identity,
+        target: &Context,
+        name: Option<&Name>,
+        class: Class,
+        perm: Perms,
+        notes: &mut Notes,
+    ) -> Result<(), Stop>
+        requires { made ≡ decision (policy_at (effects_of self.now.book.history)) (type_of who.now.context) (type_of target.now) class perm }
+        ensures { MatchResult result (λ done. notes.new ≡ noted (moment_of self.now.book.history) notes.old class perm who.now target.now (option_map (λ n. n.now) name.entry))
+            (λ s. s ≡ spec.wanted) }
     {
-        self.needs_binder(who, &self.state.manager, Perms::CALL)
+        if !made.audited {
+            return Ok(());
+        }
+        let Ok(denied) = self.missing(who, target, name, class, perm, made.allowed) else {
+            return Err(wanted());
+        };
+        match notes.note(denied) {
+            Ok(()) => Ok(()),
+            Err(_) => Err(wanted()),
+        }
+    }
+
+    /// The record of a rule that isn't there.
+    fn missing(
+        &self,
+        who: &Identity,
+        target: &Context,
+        name: Option<&Name>,
+        class: Class,
+        perm: Perms,
+        permissive: bool,
+    ) -> Result<Record, AllocError>
+        requires { permissive ≡ allowed (policy_at (effects_of self.now.book.history)) (type_of who.now.context) (type_of target.now) class perm }
+        ensures { IfOk result (λ r. r ≡ rule_record (moment_of self.now.book.history) class perm who.now target.now (option_map (λ n. n.now) name.entry)) }
+    {
+        let denial = denial(self.alloc, class, perm, who, target)?;
+        let name = match name {
+            None => None,
+            Some(name) => Some(name.clone()?),
+        };
+        Ok(Record {
+            length: self.length(),
+            version: self.state.version,
+            denial,
+            permissive,
+            who: who.clone()?,
+            target: Some(target.clone()?),
+            name,
+        })
+    }
+
+    /// That a clause on the user number bars a request, which is noted.
+    pub fn barred(&self, denial: Denial, who: &Identity, name: &Name, notes: &mut Notes) -> Stop
+        ensures { (result ≡ spec.wanted) ⊎ ((result ≡ Barred denial who.now name.now)
+            × (notes.new ≡ clause_noted (moment_of self.now.book.history) notes.old denial who.now name.now)) }
+    {
+        let Ok(stop) = self.bars(denial, who, name, notes) else {
+            return wanted();
+        };
+        stop
+    }
+
+    /// The same; or memory is wanted.
+    #[tactic(auto, unfolding(crate::specs::Judging::clause_noted))]
+    fn bars(
+        &self,
+        denial: Denial,
+        who: &Identity,
+        name: &Name,
+        notes: &mut Notes,
+    ) -> Result<Stop, AllocError>
+        ensures { IfOk result (λ s. (s ≡ Barred denial who.now name.now)
+            × (notes.new ≡ clause_noted (moment_of self.now.book.history) notes.old denial who.now name.now)) }
+    {
+        let noted = denial.clone()?;
+        notes.note(Record {
+            length: self.length(),
+            version: self.state.version,
+            denial: noted,
+            permissive: false,
+            who: who.clone()?,
+            target: None,
+            name: Some(name.clone()?),
+        })?;
+        Ok(Stop::Barred {
+            denial,
+            who: who.clone()?,
+            name: name.clone()?,
+        })
+    }
+
+    /// A process may send a transaction to the manager.
+    pub fn can_call_manager(&self, who: &Process, notes: &mut Notes) -> Result<(), Stop>
+        requires { who.now ≡ process_at (effects_of self.now.book.history) who.now.who }
+        ensures { IsRuled (moment_of self.now.book.history) notes.old notes.new Binder calling who.now.who (manager_at (effects_of self.now.book.history)).context None result }
+    {
+        self.needs_binder(who, &self.state.manager, Perms::CALL, notes)
     }
 
     /// A process may pass a reference to the manager.
-    pub fn can_transfer_to_manager(&self, who: &Process) -> Result<(), Stop>
+    pub fn can_transfer_to_manager(&self, who: &Process, notes: &mut Notes) -> Result<(), Stop>
         requires { who.now ≡ process_at (effects_of self.now.book.history) who.now.who }
-        ensures { IsRuled (policy_at (effects_of self.now.book.history)) Binder transferring who.now.who (manager_at (effects_of self.now.book.history)).context None result }
+        ensures { IsRuled (moment_of self.now.book.history) notes.old notes.new Binder transferring who.now.who (manager_at (effects_of self.now.book.history)).context None result }
     {
-        self.needs_binder(who, &self.state.manager, Perms::TRANSFER)
+        self.needs_binder(who, &self.state.manager, Perms::TRANSFER, notes)
     }
 
     /// The manager may send a transaction to a process.
-    pub fn can_call_from_manager(&self, who: &Process) -> Result<(), Stop>
+    pub fn can_call_from_manager(&self, who: &Process, notes: &mut Notes) -> Result<(), Stop>
         requires { who.now ≡ process_at (effects_of self.now.book.history) who.now.who }
-        ensures { IsRuled (policy_at (effects_of self.now.book.history)) Binder calling (manager_at (effects_of self.now.book.history)) who.now.who.context None result }
+        ensures { IsRuled (moment_of self.now.book.history) notes.old notes.new Binder calling (manager_at (effects_of self.now.book.history)) who.now.who.context None result }
     {
-        self.needs_binder(&self.state.manager, who, Perms::CALL)
+        self.needs_binder(&self.state.manager, who, Perms::CALL, notes)
     }
 
     /// The manager may pass a reference to a process.
-    pub fn can_transfer_from_manager(&self, who: &Process) -> Result<(), Stop>
+    pub fn can_transfer_from_manager(&self, who: &Process, notes: &mut Notes) -> Result<(), Stop>
         requires { who.now ≡ process_at (effects_of self.now.book.history) who.now.who }
-        ensures { IsRuled (policy_at (effects_of self.now.book.history)) Binder transferring (manager_at (effects_of self.now.book.history)) who.now.who.context None result }
+        ensures { IsRuled (moment_of self.now.book.history) notes.old notes.new Binder transferring (manager_at (effects_of self.now.book.history)) who.now.who.context None result }
     {
-        self.needs_binder(&self.state.manager, who, Perms::TRANSFER)
+        self.needs_binder(&self.state.manager, who, Perms::TRANSFER, notes)
     }
 
     /// A process may send a transaction to another one.
-    pub fn can_call_client(&self, who: &Process, other: &Process) -> Result<(), Stop>
+    pub fn can_call_client(
+        &self,
+        who: &Process,
+        other: &Process,
+        notes: &mut Notes,
+    ) -> Result<(), Stop>
         requires who { who.now ≡ process_at (effects_of self.now.book.history) who.now.who }
         requires other { other.now ≡ process_at (effects_of self.now.book.history) other.now.who }
-        ensures { IsRuled (policy_at (effects_of self.now.book.history)) Binder calling who.now.who other.now.who.context None result }
+        ensures { IsRuled (moment_of self.now.book.history) notes.old notes.new Binder calling who.now.who other.now.who.context None result }
     {
-        self.needs_binder(who, other, Perms::CALL)
+        self.needs_binder(who, other, Perms::CALL, notes)
     }
 
     /// A process may pass a reference to another one.
-    pub fn can_transfer_to_client(&self, who: &Process, other: &Process) -> Result<(), Stop>
+    pub fn can_transfer_to_client(
+        &self,
+        who: &Process,
+        other: &Process,
+        notes: &mut Notes,
+    ) -> Result<(), Stop>
         requires who { who.now ≡ process_at (effects_of self.now.book.history) who.now.who }
         requires other { other.now ≡ process_at (effects_of self.now.book.history) other.now.who }
-        ensures { IsRuled (policy_at (effects_of self.now.book.history)) Binder transferring who.now.who other.now.who.context None result }
+        ensures { IsRuled (moment_of self.now.book.history) notes.old notes.new Binder transferring who.now.who other.now.who.context None result }
     {
-        self.needs_binder(who, other, Perms::TRANSFER)
+        self.needs_binder(who, other, Perms::TRANSFER, notes)
     }
 
     /// A process may add a service under a name, whose label is the target.
-    pub fn can_add(&self, who: &Process, name: &Name) -> Result<(), Stop>
+    pub fn can_add(&self, who: &Process, name: &Name, notes: &mut Notes) -> Result<(), Stop>
         requires { who.now ≡ process_at (effects_of self.now.book.history) who.now.who }
-        ensures { IsRuled (policy_at (effects_of self.now.book.history)) ServiceManager adding who.now.who (label_at (effects_of self.now.book.history) name.now) (Some name.now) result }
+        ensures { IsRuled (moment_of self.now.book.history) notes.old notes.new ServiceManager adding who.now.who (label_at (effects_of self.now.book.history) name.now) (Some name.now) result }
     {
-        self.needs_label(who, name, Perms::ADD)
+        self.needs_label(who, name, Perms::ADD, notes)
     }
 
     /// A process may find the service under a name, whose label is the target.
-    pub fn can_find(&self, who: &Process, name: &Name) -> Result<(), Stop>
+    pub fn can_find(&self, who: &Process, name: &Name, notes: &mut Notes) -> Result<(), Stop>
         requires { who.now ≡ process_at (effects_of self.now.book.history) who.now.who }
-        ensures { IsRuled (policy_at (effects_of self.now.book.history)) ServiceManager finding who.now.who (label_at (effects_of self.now.book.history) name.now) (Some name.now) result }
+        ensures { IsRuled (moment_of self.now.book.history) notes.old notes.new ServiceManager finding who.now.who (label_at (effects_of self.now.book.history) name.now) (Some name.now) result }
     {
-        self.needs_label(who, name, Perms::FIND)
+        self.needs_label(who, name, Perms::FIND, notes)
     }
 
     /// A process may list the names; the manager's own context is the target.
-    pub fn can_list(&self, who: &Process) -> Result<(), Stop>
+    pub fn can_list(&self, who: &Process, notes: &mut Notes) -> Result<(), Stop>
         requires { who.now ≡ process_at (effects_of self.now.book.history) who.now.who }
-        ensures { IsRuled (policy_at (effects_of self.now.book.history)) ServiceManager listing who.now.who (manager_at (effects_of self.now.book.history)).context None result }
+        ensures { IsRuled (moment_of self.now.book.history) notes.old notes.new ServiceManager listing who.now.who (manager_at (effects_of self.now.book.history)).context None result }
     {
         let manager = &self.state.manager;
         let target = &manager.who.context;
@@ -125,23 +237,44 @@ impl Manager {
             None,
             Class::ServiceManager,
             Perms::LIST,
+            notes,
         )
     }
 
     /// An allow rule gives a permission of Binder from a process to another one.
-    fn needs_binder(&self, source: &Process, target: &Process, perm: Perms) -> Result<(), Stop>
+    fn needs_binder(
+        &self,
+        source: &Process,
+        target: &Process,
+        perm: Perms,
+        notes: &mut Notes,
+    ) -> Result<(), Stop>
         requires source { source.now ≡ process_at (effects_of self.now.book.history) source.now.who }
         requires target { target.now ≡ process_at (effects_of self.now.book.history) target.now.who }
-        ensures { IsRuled (policy_at (effects_of self.now.book.history)) Binder perm source.now.who target.now.who.context None result }
+        ensures { IsRuled (moment_of self.now.book.history) notes.old notes.new Binder perm source.now.who target.now.who.context None result }
     {
         let context = &target.who.context;
-        self.needs(source, context, target.index, None, Class::Binder, perm)
+        self.needs(
+            source,
+            context,
+            target.index,
+            None,
+            Class::Binder,
+            perm,
+            notes,
+        )
     }
 
     /// An allow rule gives a permission of the service manager from a process to the label of a name.
-    fn needs_label(&self, source: &Process, name: &Name, perm: Perms) -> Result<(), Stop>
+    fn needs_label(
+        &self,
+        source: &Process,
+        name: &Name,
+        perm: Perms,
+        notes: &mut Notes,
+    ) -> Result<(), Stop>
         requires { source.now ≡ process_at (effects_of self.now.book.history) source.now.who }
-        ensures { IsRuled (policy_at (effects_of self.now.book.history)) ServiceManager perm source.now.who (label_at (effects_of self.now.book.history) name.now) (Some name.now) result }
+        ensures { IsRuled (moment_of self.now.book.history) notes.old notes.new ServiceManager perm source.now.who (label_at (effects_of self.now.book.history) name.now) (Some name.now) result }
     {
         let label = self.state.policy.label(name.bytes());
         let index = self.state.policy.type_index(label.type_name());
@@ -152,6 +285,7 @@ impl Manager {
             Some(name),
             Class::ServiceManager,
             perm,
+            notes,
         )
     }
 
@@ -165,13 +299,16 @@ impl Manager {
         name: Option<&Name>,
         class: Class,
         perm: Perms,
+        notes: &mut Notes,
     ) -> Result<(), Stop>
         requires source { source.now ≡ process_at (effects_of self.now.book.history) source.now.who }
         requires target { index ≡ type_index (policy_at (effects_of self.now.book.history)) (type_of target.now) }
-        ensures { IsRuled (policy_at (effects_of self.now.book.history)) class perm source.now.who target.now (option_map (λ n. n.now) name.entry) result }
+        ensures { IsRuled (moment_of self.now.book.history) notes.old notes.new class perm source.now.who target.now (option_map (λ n. n.now) name.entry) result }
     {
         let policy = &self.state.policy;
-        if policy.decide_at(source.index, index, class, perm).allowed {
+        let decision = policy.decide_at(source.index, index, class, perm);
+        self.audit(decision, &source.who, target, name, class, perm, notes)?;
+        if decision.allowed {
             return Ok(());
         }
         Err(unruled(&source.who, target, name, class, perm))

@@ -4,7 +4,7 @@ ghost use Rattle.std.specs.Prelude.{◌≡◌, ◌≤◌, ◌&&◌, true, length
 ghost use Rattle.sm_kinds.specs.declared.limits.TheConstants.{MOST_REFS};
 ghost use Rattle.sm_history.specs.declared.delivery.Message.TheVariants.{Called};
 ghost use Rattle.sm_history.specs.declared.event.Event.TheVariants.{Call};
-ghost use Rattle.sm_history.specs.Clients.{is_live, policy_at};
+ghost use Rattle.sm_history.specs.Clients.{is_live};
 ghost use Rattle.sm_history.specs.Histories.{effects_of};
 ghost use Rattle.sm_history.specs.Holdings.{resolve_at, node_at, fits_handles};
 ghost use Rattle.sm_history.specs.Inboxes.{has_inbox_room};
@@ -12,12 +12,14 @@ ghost use Rattle.sm_history.specs.Verdict.{all_pass_to_client, passes_to_client,
 ghost use Rattle.sm_grants.specs.Several.{after_grants, numbers_for};
 ghost use Rattle.sm_grants.specs.Handing.{AreNamed, others, given_as};
 ghost use Rattle.sm_core.specs.Tables.{client_row};
+ghost use Rattle.sm_history.specs.Records.{moment_of};
 ghost use Rattle.sm_core.specs.Judging.{AllPass, Halts, Judged};
 ghost use Rattle.sm_core.specs.Judging as spec;
-ghost use Rattle.sm_core.specs.Calling.{Sends, gives_of, passing_checks, room_check, target_checks};
+ghost use Rattle.sm_core.specs.Calling.{Sends, gives_of, passing_checks, target_checks};
 
 use crate::client::ClientRow;
 use crate::manager::{Manager, wanted};
+use crate::notes::Notes;
 use crate::plan::Plan;
 use sm_history::{
     BoxedDelivery, Delivery, Effect, Failure, Given, GivenRefs, Instead, Message, Outcome, Refusal,
@@ -117,18 +119,19 @@ impl Manager {
         handle: u32,
         payload: &Payload,
         refs: &Refs,
+        notes: &mut Notes,
     ) -> Result<Plan, Stop>
         requires { is_live (effects_of self.now.book.history) client ≡ true }
-        ensures { Judged (effects_of self.now.book.history) client (Call handle payload.now refs.now) result }
+        ensures { Judged self.now.book.history notes.old notes.new client (Call handle payload.now refs.now) result }
     {
         let Some(row) = self.caller(client) else {
             unreachable!();
         };
-        let target = match self.judge_target(row, handle) {
+        let target = match self.judge_target(row, handle, notes) {
             Ok(target) => target,
             Err(stop) => return Err(stop),
         };
-        let named = match self.judge_references(row, target.owner.0, refs.list()) {
+        let named = match self.judge_references(row, target.owner.0, refs.list(), notes) {
             Ok(named) => named,
             Err(stop) => return Err(stop),
         };
@@ -142,14 +145,14 @@ impl Manager {
     }
 
     /// The object that is called: the caller may call the process that owns it, which lives.
-    fn judge_target(&self, row: &ClientRow, handle: u32) -> Result<Node, Stop>
+    fn judge_target(&self, row: &ClientRow, handle: u32, notes: &mut Notes) -> Result<Node, Stop>
         requires { row.now ≡ client_row (effects_of self.now.book.history) row.now.id }
         ensures { MatchResult result
-            (λ n. AllPass (policy_at (effects_of self.now.book.history))
+            (λ n. AllPass (moment_of self.now.book.history) notes.old notes.new
             (target_checks (effects_of self.now.book.history) row.now.id (node_at (effects_of self.now.book.history) row.now.id handle))
             × (node_at (effects_of self.now.book.history) row.now.id handle ≡ Some n)
             × (is_live (effects_of self.now.book.history) n.owner.0 ≡ true))
-            (Halts (policy_at (effects_of self.now.book.history))
+            (Halts (moment_of self.now.book.history) notes.old notes.new
             (target_checks (effects_of self.now.book.history) row.now.id (node_at (effects_of self.now.book.history) row.now.id handle))) }
     {
         let Some(node) = self.resolved(row.id, ObjRef::Handle(handle)) else {
@@ -158,7 +161,7 @@ impl Manager {
         let Some(owner) = self.caller(node.owner.0) else {
             return Err(Stop::Unmet(Instead::Refused(Refusal::Dead)));
         };
-        if let Err(stop) = self.can_call_client(&row.process, &owner.process) {
+        if let Err(stop) = self.can_call_client(&row.process, &owner.process, notes) {
             return Err(stop);
         }
         Ok(node)
@@ -170,17 +173,18 @@ impl Manager {
         row: &ClientRow,
         receiver: u32,
         refs: &[ObjRef],
+        notes: &mut Notes,
     ) -> Result<Vec<Option<Node>>, Stop>
         requires row { row.now ≡ client_row (effects_of self.now.book.history) row.now.id }
         requires live { is_live (effects_of self.now.book.history) receiver ≡ true }
         ensures { MatchResult result
-            (λ v. AllPass (policy_at (effects_of self.now.book.history)) (all_pass_to_client (effects_of self.now.book.history) row.now.id receiver refs.now)
+            (λ v. AllPass (moment_of self.now.book.history) notes.old notes.new (all_pass_to_client (effects_of self.now.book.history) row.now.id receiver refs.now)
             × AreNamed (effects_of self.now.book.history) row.now.id refs.now v.items)
-            (Halts (policy_at (effects_of self.now.book.history)) (all_pass_to_client (effects_of self.now.book.history) row.now.id receiver refs.now)) }
+            (Halts (moment_of self.now.book.history) notes.old notes.new (all_pass_to_client (effects_of self.now.book.history) row.now.id receiver refs.now)) }
     {
         let mut named = Vec::new(self.alloc);
         for obj in refs {
-            let node = match self.judge_passed(row, receiver, *obj) {
+            let node = match self.judge_passed(row, receiver, *obj, notes) {
                 Ok(node) => node,
                 Err(stop) => return Err(stop),
             };
@@ -197,18 +201,19 @@ impl Manager {
         row: &ClientRow,
         receiver: u32,
         obj: ObjRef,
+        notes: &mut Notes,
     ) -> Result<Option<Node>, Stop>
         requires row { row.now ≡ client_row (effects_of self.now.book.history) row.now.id }
         requires live { is_live (effects_of self.now.book.history) receiver ≡ true }
         ensures { MatchResult result
-            (λ o. AllPass (policy_at (effects_of self.now.book.history)) (passes_to_client (effects_of self.now.book.history) row.now.id receiver obj)
+            (λ o. AllPass (moment_of self.now.book.history) notes.old notes.new (passes_to_client (effects_of self.now.book.history) row.now.id receiver obj)
             × (resolve_at (effects_of self.now.book.history) row.now.id obj ≡ o) × (is_null obj ≡ false → is_some o ≡ true))
-            (Halts (policy_at (effects_of self.now.book.history)) (passes_to_client (effects_of self.now.book.history) row.now.id receiver obj)) }
+            (Halts (moment_of self.now.book.history) notes.old notes.new (passes_to_client (effects_of self.now.book.history) row.now.id receiver obj)) }
     {
         match obj {
             ObjRef::Null => Ok(None),
-            ObjRef::Own(_) => self.judge_named(row, receiver, self.resolved(row.id, obj)),
-            ObjRef::Handle(_) => self.judge_named(row, receiver, self.resolved(row.id, obj)),
+            ObjRef::Own(_) => self.judge_named(row, receiver, self.resolved(row.id, obj), notes),
+            ObjRef::Handle(_) => self.judge_named(row, receiver, self.resolved(row.id, obj), notes),
         }
     }
 
@@ -218,13 +223,14 @@ impl Manager {
         row: &ClientRow,
         receiver: u32,
         node: Option<Node>,
+        notes: &mut Notes,
     ) -> Result<Option<Node>, Stop>
         requires row { row.now ≡ client_row (effects_of self.now.book.history) row.now.id }
         requires live { is_live (effects_of self.now.book.history) receiver ≡ true }
         ensures { MatchResult result
-            (λ o. AllPass (policy_at (effects_of self.now.book.history)) (passing_checks (effects_of self.now.book.history) row.now.id receiver node)
+            (λ o. AllPass (moment_of self.now.book.history) notes.old notes.new (passing_checks (effects_of self.now.book.history) row.now.id receiver node)
             × (o ≡ node) × (is_some node ≡ true))
-            (Halts (policy_at (effects_of self.now.book.history)) (passing_checks (effects_of self.now.book.history) row.now.id receiver node)) }
+            (Halts (moment_of self.now.book.history) notes.old notes.new (passing_checks (effects_of self.now.book.history) row.now.id receiver node)) }
     {
         if node.is_none() {
             return Err(Stop::Unmet(Instead::Refused(Refusal::Failed(Failure::BadHandle))));
@@ -232,7 +238,7 @@ impl Manager {
         let Some(other) = self.caller(receiver) else {
             unreachable!();
         };
-        self.can_transfer_to_client(&row.process, &other.process)?;
+        self.can_transfer_to_client(&row.process, &other.process, notes)?;
         Ok(node)
     }
 
@@ -301,6 +307,7 @@ impl Manager {
             outcome: Outcome::Sent(outcome),
             told: Outcome::Sent(told),
             effects,
+            records: Notes::none(self.alloc),
         })
     }
 }

@@ -7,12 +7,14 @@ ghost use Rattle.sm_history.specs.Clients.{is_live, policy_at, version_at};
 ghost use Rattle.sm_history.specs.Histories.{effects_of, length_of, client_of};
 ghost use Rattle.sm_history.specs.Queries.{names_by_mask, is_their_query, query_checks, checks_of_query, found_out};
 ghost use Rattle.sm_history.specs.Verdict.{is_there};
-ghost use Rattle.sm_core.specs.Managed.{LooksAs};
+ghost use Rattle.sm_core.specs.Managed.{LooksAs, look_leaves};
+ghost use Rattle.sm_history.specs.Records.{moment_of};
 ghost use Rattle.sm_core.specs.Judging.{AllPass, Halts};
 
-use crate::manager::replying::answer;
+use crate::manager::replying::{answer, is_memory};
 use crate::manager::{Manager, wanted};
-use sm_history::{Answer, By, Failure, Instead, NameList, Query, Refusal, Reply, Stop};
+use crate::notes::Notes;
+use sm_history::{Answer, By, Failure, Instead, NameList, Query, Record, Refusal, Reply, Stop};
 use sm_kinds::Name;
 use std::alloc::AllocError;
 
@@ -32,22 +34,48 @@ impl Manager {
     pub fn look(&self, by: By, query: Query) -> Reply
         ensures { LooksAs self.now.book by query result }
     {
-        match self.judge_query(by, &query) {
-            Ok(found) => Reply::Looked {
-                version: self.state.version,
-                length: self.journal.len() as u64,
-                answer: found,
-            },
+        let mut notes = Notes::none(self.alloc);
+        match self.judge_query(by, &query, &mut notes) {
+            Ok(found) => self.looked(found),
             Err(stop) => answer(self.alloc, stop),
         }
     }
 
+    /// As `look`, and gives the records of the query.
+    pub fn look_recorded(&self, by: By, query: Query) -> (Reply, Vec<Record>)
+        ensures looks { LooksAs self.now.book by query result.0 }
+        ensures records { result.1.items ≡ look_leaves self.now.book by query result.0 }
+    {
+        let mut notes = Notes::none(self.alloc);
+        match self.judge_query(by, &query, &mut notes) {
+            Ok(found) => (self.looked(found), notes.into_list()),
+            Err(stop) => {
+                let reply = answer(self.alloc, stop);
+                if is_memory(&reply) {
+                    return (reply, Vec::new(self.alloc));
+                }
+                (reply, notes.into_list())
+            }
+        }
+    }
+
+    /// What was found out, with the version and the length.
+    fn looked(&self, found: Answer) -> Reply
+        ensures { result ≡ Looked (version_at (effects_of self.now.book.history)) (length_of self.now.book.history) found }
+    {
+        Reply::Looked {
+            version: self.state.version,
+            length: self.journal.len() as u64,
+            answer: found,
+        }
+    }
+
     /// What stops a query, or what it finds out.
-    fn judge_query(&self, by: By, query: &Query) -> Result<Answer, Stop>
+    pub fn judge_query(&self, by: By, query: &Query, notes: &mut Notes) -> Result<Answer, Stop>
         ensures { MatchResult result
-            (λ found. AllPass (policy_at (effects_of self.now.book.history)) (checks_of_query self.now.book.history by query.now)
+            (λ found. AllPass (moment_of self.now.book.history) notes.old notes.new (checks_of_query self.now.book.history by query.now)
             × (found ≡ found_out (effects_of self.now.book.history) query.now))
-            (Halts (policy_at (effects_of self.now.book.history)) (checks_of_query self.now.book.history by query.now)) }
+            (Halts (moment_of self.now.book.history) notes.old notes.new (checks_of_query self.now.book.history by query.now)) }
     {
         if !may_ask(by, query) {
             return Err(Stop::Unmet(Instead::Refused(Refusal::Failed(Failure::NotYours))));
@@ -57,7 +85,7 @@ impl Manager {
         }
         match query {
             Query::List(mask) => match by {
-                By::Client(client) => self.list(client.0, *mask),
+                By::Client(client) => self.list(client.0, *mask, notes),
                 By::Manager => unreachable!(),
                 By::Admin(_) => unreachable!(),
             },
@@ -75,18 +103,18 @@ impl Manager {
     }
 
     /// `listServices`: `list` is checked against the manager's own context.
-    fn list(&self, client: u32, mask: u32) -> Result<Answer, Stop>
+    fn list(&self, client: u32, mask: u32, notes: &mut Notes) -> Result<Answer, Stop>
         requires { is_live (effects_of self.now.book.history) client ≡ true }
         ensures { MatchResult result
-            (λ found. AllPass (policy_at (effects_of self.now.book.history)) (query_checks (effects_of self.now.book.history) client (ListNames mask))
+            (λ found. AllPass (moment_of self.now.book.history) notes.old notes.new (query_checks (effects_of self.now.book.history) client (ListNames mask))
             × (found ≡ found_out (effects_of self.now.book.history) (ListNames mask)))
-            (Halts (policy_at (effects_of self.now.book.history)) (query_checks (effects_of self.now.book.history) client (ListNames mask))) }
+            (Halts (moment_of self.now.book.history) notes.old notes.new (query_checks (effects_of self.now.book.history) client (ListNames mask))) }
     {
         let Some(row) = self.caller(client) else {
             unreachable!();
         };
-        self.can_call_manager(&row.process)?;
-        self.can_list(&row.process)?;
+        self.can_call_manager(&row.process, notes)?;
+        self.can_list(&row.process, notes)?;
         match self.names_by_mask(mask) {
             Ok(names) => Ok(Answer::Names(NameList::new(names))),
             Err(_) => Err(wanted()),

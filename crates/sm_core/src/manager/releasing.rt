@@ -4,10 +4,13 @@ ghost use Rattle.std.specs.Prelude.{◌≡◌, true};
 ghost use Rattle.sm_history.specs.declared.event.Event.TheVariants.{Release};
 ghost use Rattle.sm_history.specs.Clients.{is_live};
 ghost use Rattle.sm_history.specs.Histories.{effects_of};
+ghost use Rattle.std.specs.Prelude.{List};
+ghost use Rattle.sm_history.specs.declared.records.Record.{Record};
 ghost use Rattle.sm_core.specs.Judging.{Judged};
 
 use crate::manager::Manager;
 use crate::manager::judging::one;
+use crate::notes::Notes;
 use crate::plan::Plan;
 use sm_history::{Effect, Failure, Instead, Outcome, Refusal, Stop};
 use sm_kinds::ObjRef;
@@ -16,7 +19,7 @@ impl Manager {
     /// A client gives back one grant of a handle. The last one frees its number.
     pub fn judge_release(&self, client: u32, handle: u32) -> Result<Plan, Stop>
         requires { is_live (effects_of self.now.book.history) client ≡ true }
-        ensures { Judged (effects_of self.now.book.history) client (Release handle) result }
+        ensures { (old : List Record) → Judged self.now.book.history old old client (Release handle) result }
     {
         let Some(node) = self.resolved(client, ObjRef::Handle(handle)) else {
             return Err(Stop::Unmet(Instead::Refused(Refusal::Failed(Failure::BadHandle))));
@@ -26,6 +29,7 @@ impl Manager {
             outcome: Outcome::Released,
             told: Outcome::Released,
             effects,
+            records: Notes::none(self.alloc),
         })
     }
 }

@@ -5,10 +5,13 @@ ghost use Rattle.sm_history.specs.declared.event.Event.TheVariants.{Take};
 ghost use Rattle.sm_history.specs.Clients.{is_live};
 ghost use Rattle.sm_history.specs.Histories.{effects_of};
 ghost use Rattle.sm_history.specs.Inboxes.{inbox_at};
+ghost use Rattle.std.specs.Prelude.{List};
+ghost use Rattle.sm_history.specs.declared.records.Record.{Record};
 ghost use Rattle.sm_core.specs.Judging.{Judged};
 
 use crate::manager::judging::one;
 use crate::manager::{Manager, wanted};
+use crate::notes::Notes;
 use crate::plan::Plan;
 use sm_history::{BoxedDelivery, Effect, Instead, Outcome, Refusal, Stop};
 
@@ -25,7 +28,7 @@ impl Manager {
     /// A client takes the delivery that has waited longest in its inbox.
     pub fn judge_take(&self, client: u32) -> Result<Plan, Stop>
         requires { is_live (effects_of self.now.book.history) client ≡ true }
-        ensures { Judged (effects_of self.now.book.history) client Take result }
+        ensures { (old : List Record) → Judged self.now.book.history old old client Take result }
     {
         let Some(oldest) = self.oldest(client) else {
             return Err(Stop::Unmet(Instead::Refused(Refusal::Empty)));
@@ -41,6 +44,7 @@ impl Manager {
             outcome: Outcome::Taken(outcome),
             told: Outcome::Taken(told),
             effects,
+            records: Notes::none(self.alloc),
         })
     }
 }

@@ -1,6 +1,6 @@
 //! Telling watchers of a registration.
 
-ghost use Rattle.std.specs.Prelude.{◌≡◌, ◌+◌, ◌*◌, ◌≤◌, ◌==◌, true, false, Some, MatchOption, MatchResult, length};
+ghost use Rattle.std.specs.Prelude.{◌≡◌, ◌+◌, ◌*◌, ◌≤◌, ◌==◌, true, false, [], ◌∷◌, Some, MatchOption, MatchResult, length};
 ghost use Rattle.std.specs.List.{list_all};
 ghost use Rattle.sm_history.specs.Clients.{is_live, policy_at};
 ghost use Rattle.sm_history.specs.Histories.{effects_of};
@@ -10,12 +10,14 @@ ghost use Rattle.sm_history.specs.declared.limits.TheConstants.{MOST_WATCHES};
 ghost use Rattle.sm_history.specs.declared.outcome.Outcome.TheVariants.{Added, Watched};
 ghost use Rattle.sm_history.specs.Following.{followed};
 ghost use Rattle.sm_history.specs.Notices.{notice_at, told_of, first_missing, after_notice, notices_at, after_notices};
+ghost use Rattle.sm_history.specs.Records.{moment_of, left_by_notices};
 ghost use Rattle.sm_core.specs.Judging.{AllPass, Halts};
 ghost use Rattle.sm_core.specs.Judging as spec;
 ghost use Rattle.sm_core.specs.Telling.{told_checks, left_at, IsTelling, GoesOn, GoesFar, MayPrecede, Tells};
 
 use crate::manager::replying::reason;
 use crate::manager::{Manager, wanted};
+use crate::notes::Notes;
 use crate::plan::Plan;
 use crate::telling::{Telling, boxed_twice, listed_twice};
 use sm_history::{Effect, Failure, Given, Instead, Notice, Outcome, Refusal, Stop, Told, Watch};
@@ -67,19 +69,25 @@ impl Manager {
     }
 
     /// How the object reaches a watcher that may be told, and whose inbox has place for so many deliveries.
-    fn judge_told(&self, watch: &Watch, node: Node, left: usize) -> Result<Given, Stop>
+    fn judge_told(
+        &self,
+        watch: &Watch,
+        node: Node,
+        left: usize,
+        notes: &mut Notes,
+    ) -> Result<Given, Stop>
         requires { is_live (effects_of self.now.book.history) watch.now.client ≡ true }
         ensures { MatchResult result
-            (λ g. AllPass (policy_at (effects_of self.now.book.history)) (told_checks (effects_of self.now.book.history) node watch.now left)
+            (λ g. AllPass (moment_of self.now.book.history) notes.old notes.new (told_checks (effects_of self.now.book.history) node watch.now left)
             × (g ≡ given_to (effects_of self.now.book.history) watch.now.client node))
-            (Halts (policy_at (effects_of self.now.book.history)) (told_checks (effects_of self.now.book.history) node watch.now left)) }
+            (Halts (moment_of self.now.book.history) notes.old notes.new (told_checks (effects_of self.now.book.history) node watch.now left)) }
     {
         let Some(row) = self.caller(watch.client) else {
             unreachable!();
         };
-        self.can_find(&row.process, &watch.name)?;
-        self.can_call_from_manager(&row.process)?;
-        self.can_transfer_from_manager(&row.process)?;
+        self.can_find(&row.process, &watch.name, notes)?;
+        self.can_call_from_manager(&row.process, notes)?;
+        self.can_transfer_from_manager(&row.process, notes)?;
         if left == 0 {
             return Err(full());
         }
@@ -96,11 +104,11 @@ impl Manager {
         ensures { MatchResult result
             (λ t. (t ≡ told_of (followed (effects_of self.now.book.history) telling.old.effects.items) node watch.now
             (first_missing (followed (effects_of self.now.book.history) telling.old.effects.items) node watch.now))
-            × GoesOn (effects_of self.now.book.history) node watch.now telling.old telling.new)
+            × GoesOn (moment_of self.now.book.history) (effects_of self.now.book.history) node watch.now telling.old telling.new)
             (λ s. s ≡ spec.wanted) }
     {
         let left = self.left(telling, watch.client);
-        match self.judge_told(watch, node, left) {
+        match self.judge_told(watch, node, left, &mut telling.records) {
             Ok(given) => match telling.tell(self.alloc, watch, node, given, left) {
                 Ok(told) => Ok(Told::Told(told)),
                 Err(_) => Err(wanted()),
@@ -118,7 +126,7 @@ impl Manager {
         requires telling { IsTelling (effects_of self.now.book.history) node telling.old }
         ensures { MatchResult result
             (λ x. (x ≡ notice_at (followed (effects_of self.now.book.history) telling.old.effects.items) node watch.now)
-            × GoesOn (effects_of self.now.book.history) node watch.now telling.old telling.new)
+            × GoesOn (moment_of self.now.book.history) (effects_of self.now.book.history) node watch.now telling.old telling.new)
             (λ s. s ≡ spec.wanted) }
     {
         let result = self.tell(watch, node, telling)?;
@@ -141,7 +149,7 @@ impl Manager {
         requires telling { IsTelling (effects_of self.now.book.history) node telling.old }
         ensures { MatchResult result
             (λ notices. (notices.items ≡ notices_at (followed (effects_of self.now.book.history) telling.old.effects.items) node watches.now)
-            × GoesFar (effects_of self.now.book.history) node watches.now telling.old telling.new)
+            × GoesFar (moment_of self.now.book.history) (effects_of self.now.book.history) node watches.now telling.old telling.new)
             (λ s. s ≡ spec.wanted) }
     {
         let mut notices = Vec::new(self.alloc);
@@ -175,6 +183,7 @@ impl Manager {
         requires before { MayPrecede (effects_of self.now.book.history) node effects.items }
         ensures { MatchResult result
             (λ plan. (plan.outcome ≡ Watched (Some (notice_at (followed (effects_of self.now.book.history) effects.items) node watch.now)))
+            × (plan.records ≡ left_by_notices (moment_of self.now.book.history) (followed (effects_of self.now.book.history) effects.items) node (watch.now ∷ []))
             × Tells (effects_of self.now.book.history) effects.items 2
             (after_notice (followed (effects_of self.now.book.history) effects.items) node watch.now) plan)
             (λ s. s ≡ spec.wanted) }
@@ -188,6 +197,7 @@ impl Manager {
             outcome: Outcome::Watched(Some(outcome)),
             told: Outcome::Watched(Some(told)),
             effects: telling.effects,
+            records: telling.records,
         })
     }
 
@@ -197,6 +207,8 @@ impl Manager {
         ensures { MatchResult result
             (λ plan. (plan.outcome ≡ Added (notices_at (followed (effects_of self.now.book.history) effects.items) node
             (watchers_at (effects_of self.now.book.history) name.now)))
+            × (plan.records ≡ left_by_notices (moment_of self.now.book.history) (followed (effects_of self.now.book.history) effects.items) node
+            (watchers_at (effects_of self.now.book.history) name.now))
             × Tells (effects_of self.now.book.history) effects.items 8192
             (after_notices (followed (effects_of self.now.book.history) effects.items) node
             (watchers_at (effects_of self.now.book.history) name.now)) plan)
@@ -212,6 +224,7 @@ impl Manager {
             outcome: Outcome::Added(outcome),
             told: Outcome::Added(told),
             effects: telling.effects,
+            records: telling.records,
         })
     }
 }

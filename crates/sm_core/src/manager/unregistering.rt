@@ -9,11 +9,13 @@ ghost use Rattle.sm_history.specs.Clients.{is_live, policy_at};
 ghost use Rattle.sm_history.specs.Histories.{effects_of};
 ghost use Rattle.sm_history.specs.Holdings.{is_in_use};
 ghost use Rattle.sm_core.specs.Tables.{client_row};
+ghost use Rattle.sm_history.specs.Records.{moment_of};
 ghost use Rattle.sm_core.specs.Judging.{AllPass, Halts, Judged, removal_checks};
 
 use crate::client::ClientRow;
 use crate::manager::judging::one;
 use crate::manager::{Manager, wanted};
+use crate::notes::Notes;
 use crate::plan::Plan;
 use sm_history::{Effect, Exception, Instead, Outcome, Refusal, Stop};
 use sm_kinds::{Name, Node, ObjRef};
@@ -27,16 +29,22 @@ fn failed(exception: Exception) -> Stop
 
 impl Manager {
     /// A client takes back the name under which it put an object (`tryUnregisterService`).
-    pub fn judge_unregister(&self, client: u32, name: &Name, obj: ObjRef) -> Result<Plan, Stop>
+    pub fn judge_unregister(
+        &self,
+        client: u32,
+        name: &Name,
+        obj: ObjRef,
+        notes: &mut Notes,
+    ) -> Result<Plan, Stop>
         requires { is_live (effects_of self.now.book.history) client ≡ true }
-        ensures { Judged (effects_of self.now.book.history) client (Unregister name.now obj) result }
+        ensures { Judged self.now.book.history notes.old notes.new client (Unregister name.now obj) result }
     {
         let Some(row) = self.caller(client) else {
             unreachable!();
         };
-        self.can_call_manager(&row.process)?;
-        let node = self.judge_reference(row, obj)?;
-        if let Err(stop) = self.judge_removal(row, name, node) {
+        self.can_call_manager(&row.process, notes)?;
+        let node = self.judge_reference(row, obj, notes)?;
+        if let Err(stop) = self.judge_removal(row, name, node, notes) {
             return Err(stop);
         }
         let Ok(copy) = name.clone() else {
@@ -47,20 +55,27 @@ impl Manager {
             outcome: Outcome::Unregistered,
             told: Outcome::Unregistered,
             effects,
+            records: Notes::none(self.alloc),
         })
     }
 
     /// Whether the caller may take a name from an object.
-    fn judge_removal(&self, row: &ClientRow, name: &Name, node: Option<Node>) -> Result<(), Stop>
+    fn judge_removal(
+        &self,
+        row: &ClientRow,
+        name: &Name,
+        node: Option<Node>,
+        notes: &mut Notes,
+    ) -> Result<(), Stop>
         requires { row.now ≡ client_row (effects_of self.now.book.history) row.now.id }
         ensures { MatchResult result
-            (λ done. AllPass (policy_at (effects_of self.now.book.history)) (removal_checks (effects_of self.now.book.history) row.now.id name.now node))
-            (Halts (policy_at (effects_of self.now.book.history)) (removal_checks (effects_of self.now.book.history) row.now.id name.now node)) }
+            (λ done. AllPass (moment_of self.now.book.history) notes.old notes.new (removal_checks (effects_of self.now.book.history) row.now.id name.now node))
+            (Halts (moment_of self.now.book.history) notes.old notes.new (removal_checks (effects_of self.now.book.history) row.now.id name.now node)) }
     {
         let Some(node) = node else {
             return Err(failed(Exception::NullBinder));
         };
-        self.can_add(&row.process, name)?;
+        self.can_add(&row.process, name, notes)?;
         let Some(service) = self.service(name.bytes()) else {
             return Err(failed(Exception::NotRegistered));
         };

@@ -9,12 +9,14 @@ ghost use Rattle.sm_history.specs.Services.{same_watch, watches_at};
 ghost use Rattle.sm_history.specs.declared.limits.TheConstants.{MOST_WATCHES};
 ghost use Rattle.sm_history.specs.Verdict.{watch_checks};
 ghost use Rattle.sm_core.specs.Tables.{client_row};
+ghost use Rattle.sm_history.specs.Records.{moment_of};
 ghost use Rattle.sm_core.specs.Judging.{AllPass, Halts, Judged};
 ghost use Rattle.sm_core.specs.Judging as spec;
 
 use crate::client::ClientRow;
-use crate::manager::judging::{barred, one};
+use crate::manager::judging::one;
 use crate::manager::{Manager, wanted};
+use crate::notes::Notes;
 use crate::plan::Plan;
 use sm_history::{Denial, Effect, Exception, Instead, MOST_WATCHES, Outcome, Refusal, Stop, Watch};
 use sm_kinds::{Name, is_isolated, valid_name};
@@ -35,14 +37,20 @@ fn watch_of(client: u32, name: &Name, object: u32) -> Result<Watch, Stop>
 
 impl Manager {
     /// A client's object watches a name (`registerForNotifications`).
-    pub fn judge_watch(&self, client: u32, name: &Name, object: u32) -> Result<Plan, Stop>
+    pub fn judge_watch(
+        &self,
+        client: u32,
+        name: &Name,
+        object: u32,
+        notes: &mut Notes,
+    ) -> Result<Plan, Stop>
         requires { is_live (effects_of self.now.book.history) client ≡ true }
-        ensures { Judged (effects_of self.now.book.history) client (WatchName name.now object) result }
+        ensures { Judged self.now.book.history notes.old notes.new client (WatchName name.now object) result }
     {
         let Some(row) = self.caller(client) else {
             unreachable!();
         };
-        if let Err(stop) = self.judge_watching(row, name) {
+        if let Err(stop) = self.judge_watching(row, name, notes) {
             return Err(stop);
         }
         let watch = watch_of(client, name, object)?;
@@ -54,27 +62,25 @@ impl Manager {
                 outcome: Outcome::Watched(None),
                 told: Outcome::Watched(None),
                 effects,
+                records: Notes::none(self.alloc),
             }),
         }
     }
 
     /// Whether a client may watch a name.
-    fn judge_watching(&self, row: &ClientRow, name: &Name) -> Result<(), Stop>
+    fn judge_watching(&self, row: &ClientRow, name: &Name, notes: &mut Notes) -> Result<(), Stop>
         requires { row.now ≡ client_row (effects_of self.now.book.history) row.now.id }
         ensures { MatchResult result
-            (λ done. AllPass (policy_at (effects_of self.now.book.history)) (watch_checks (effects_of self.now.book.history) row.now.id name.now)
+            (λ done. AllPass (moment_of self.now.book.history) notes.old notes.new (watch_checks (effects_of self.now.book.history) row.now.id name.now)
             × (nat_lt (length (watches_at (effects_of self.now.book.history))) MOST_WATCHES ≡ true))
-            (Halts (policy_at (effects_of self.now.book.history)) (watch_checks (effects_of self.now.book.history) row.now.id name.now)) }
+            (Halts (moment_of self.now.book.history) notes.old notes.new (watch_checks (effects_of self.now.book.history) row.now.id name.now)) }
     {
-        self.can_call_manager(&row.process)?;
-        self.can_transfer_to_manager(&row.process)?;
-        self.can_find(&row.process, name)?;
+        self.can_call_manager(&row.process, notes)?;
+        self.can_transfer_to_manager(&row.process, notes)?;
+        self.can_find(&row.process, name, notes)?;
         if is_isolated(row.process.who.uid) {
-            return Err(barred(
-                Denial::Isolated(row.process.who.uid),
-                &row.process.who,
-                name,
-            ));
+            let denial = Denial::Isolated(row.process.who.uid);
+            return Err(self.barred(denial, &row.process.who, name, notes));
         }
         if !valid_name(name.bytes()) {
             return Err(Stop::Unmet(Instead::Refused(Refusal::Exception(Exception::InvalidName))));
@@ -94,16 +100,22 @@ impl Manager {
     }
 
     /// A client's object no longer watches a name (`unregisterForNotifications`): every such watch ends.
-    pub fn judge_unwatch(&self, client: u32, name: &Name, object: u32) -> Result<Plan, Stop>
+    pub fn judge_unwatch(
+        &self,
+        client: u32,
+        name: &Name,
+        object: u32,
+        notes: &mut Notes,
+    ) -> Result<Plan, Stop>
         requires { is_live (effects_of self.now.book.history) client ≡ true }
-        ensures { Judged (effects_of self.now.book.history) client (Unwatch name.now object) result }
+        ensures { Judged self.now.book.history notes.old notes.new client (Unwatch name.now object) result }
     {
         let Some(row) = self.caller(client) else {
             unreachable!();
         };
-        self.can_call_manager(&row.process)?;
-        self.can_transfer_to_manager(&row.process)?;
-        self.can_find(&row.process, name)?;
+        self.can_call_manager(&row.process, notes)?;
+        self.can_transfer_to_manager(&row.process, notes)?;
+        self.can_find(&row.process, name, notes)?;
         if !self.is_watching(client, name.bytes(), object) {
             return Err(Stop::Unmet(Instead::Refused(Refusal::Exception(
                 Exception::NothingToUnregister,
@@ -116,6 +128,7 @@ impl Manager {
             outcome: Outcome::Unwatched(ended),
             told: Outcome::Unwatched(ended),
             effects,
+            records: Notes::none(self.alloc),
         })
     }
 

@@ -35,8 +35,8 @@ loop-item-preserved g c = record {
   can = tt;
   finite = tt;
   left = sym (joined _ _ _ _ _ c.loop-item.invariant.left c.in-Some.ensures.steps.0);
-  going = going_spill (going_answer c.loop-item.invariant.going c.in_ok-answer.ensures.ok) c.in_ok-spill.ensures.ok
-      c.in_ok-spill-2.ensures.ok;
+  going = rw c.written.ensures (going_spill (going_answer c.loop-item.invariant.going c.in_ok-answer.ensures.ok)
+      c.in_ok-spill.ensures.ok c.in_ok-spill-2.ensures.ok);
   writer_count = c.in_ok-spill.ensures.count ∙ c.loop-item.invariant.writer_count;
   audit_count = c.in_ok-spill-2.ensures.count ∙ c.loop-item.invariant.audit_count;
 }

@@ -6,7 +6,7 @@ use Rattle.std.specs.Io.KnownBytes.{Consumes}
 use Rattle.sm_engine.specs.declared.fault.Fault.{Fault}
 use Rattle.sm_engine.specs.declared.fault.Fault.TheVariants.{WriteFault, ReadFault, Memory}
 use Rattle.sm_engine.proofs.ServeLemmas.{sofar_start, sofar_next, served_long, served_stop, served_read_fault}
-use Rattle.sm_engine.proofs.ServeLemmas.{served_enough, served_at_end}
+use Rattle.sm_engine.proofs.ServeLemmas.{served_enough, served_at_end, served_over}
 use Rattle.sm_engine.proofs.running.run.Goals as goal
 
 -- a read that gave something
@@ -16,6 +16,8 @@ some n buffer within ne = omega (arith, length-take-le n buffer within)
 pub loop-reads-init : goal.loop-reads-init
 loop-reads-init g c = record {
   sofar = sofar_start _ _ _ _ _ _ _ c.new-lines.ensures;
+  going_on = c.requires.begins;
+  reads = omega arith;
   reader_count = refl;
   writer_count = refl;
   audit_count = refl;
@@ -41,7 +43,8 @@ write_ending-requires g c = rw c.loop-reads.invariant.writer_count c.requires.wr
 pub returns-then-n-eq0-clause-served : goal.returns-then-n-eq0-clause-served
 returns-then-n-eq0-clause-served g c =
     let none : Consumes _ _ [] = rw c.if-n-eq0.true at c.in_ok-n.ensures.bytes in
-    served_at_end c.loop-reads.invariant.sofar _ none _ c.write_ending.result c.write_ending.ensures.ok
+    served_at_end c.loop-reads.invariant.sofar c.loop-reads.invariant.going_on _ none _ c.write_ending.result
+    c.write_ending.ensures.ok
     c.write_ending.ensures.front c.write_ending.ensures.fault
 
 pub returns-then-n-eq0-clause-write_fault : goal.returns-then-n-eq0-clause-write_fault
@@ -73,6 +76,10 @@ returns-in_err-take_piece-clause-write_fault g c = λ h.
     let f = c.in_err-take_piece.ensures.failed (rw e refl) in
     omega (arith, f, c.loop-reads.invariant.writer_count, c.loop-reads.invariant.audit_count)
 
+pub returns-then-is_over-clause-served : goal.returns-then-is_over-clause-served
+returns-then-is_over-clause-served g c = served_over _ _ c.loop-reads.invariant.sofar c.in_ok-n.ensures.bytes
+    c.in_ok-take_piece.ensures.ok (sym c.is_over.ensures ∙ c.if-is_over.true)
+
 pub returns-then-is_dead-clause-served : goal.returns-then-is_dead-clause-served
 returns-then-is_dead-clause-served g c = served_long _ _ c.loop-reads.invariant.sofar c.in_ok-n.ensures.bytes
     c.in_ok-take_piece.ensures.ok _ c.in_ok-take_piece.ensures.lines (c.if-is_dead.ensures.0 refl)
@@ -82,6 +89,8 @@ loop-reads-preserved g c = record {
   sofar = sofar_next _ _ c.loop-reads.invariant.sofar c.in_ok-n.ensures.bytes c.in_ok-take_piece.ensures.ok _
       c.in_ok-take_piece.ensures.lines (λ h. let no : false ≡ true = c.if-is_dead.ensures.1 h in cc)
       (some _ _ c.in_ok-n.ensures.within c.if-n-eq0.false);
+  going_on = sym c.is_over.ensures ∙ c.if-is_over.false;
+  reads = omega (arith, c.in_ok-n.ensures.calls, c.loop-reads.invariant.reads);
   reader_count = c.in_ok-n.ensures.count ∙ c.loop-reads.invariant.reader_count;
   writer_count = c.in_ok-take_piece.ensures.writer_count ∙ c.loop-reads.invariant.writer_count;
   audit_count = c.in_ok-take_piece.ensures.audit_count ∙ c.loop-reads.invariant.audit_count;

@@ -1,4 +1,4 @@
-use Rattle.std.proofs.Common.{◌≡◌, ◌++◌, map}
+use Rattle.std.proofs.Common.{◌≡◌, ◌++◌}
 use Rattle.sm_audit.proofs.ring.Ring.all.Given as goal
 
 abbrev pub invariant-loop-denied : goal.invariant-loop-denied

@@ -2,6 +2,7 @@ use Rattle.std.proofs.Common.{◌≡◌, ◌∙◌, ◌≤◌, ◌&&◌, ap, sym
 use Rattle.sm_kinds.specs.declared.number.Node.{Node}
 use Rattle.sm_kinds.specs.declared.number.ObjRef.{ObjRef}
 use Rattle.sm_history.specs.Histories.{effects_of}
+use Rattle.sm_history.specs.Records.{moment_of}
 use Rattle.sm_history.specs.Holdings.{fits_handles}
 use Rattle.sm_history.specs.Inboxes.{has_inbox_room}
 use Rattle.sm_history.specs.Sound.{Sound}
@@ -15,15 +16,18 @@ use Rattle.sm_core.proofs.manager.Manager.judge_call.Goals as goal
 pub returns-in-Err : goal.returns-in-Err
 returns-in-Err c =
     let own = ap (λ (r : ClientRow). r.id) c.in-Some.ensures.1 in
-    target_halts (effects_of c.args.self.now.book.history) c.args.client c.args.handle c.args.refs.now c.in-Err.stop
-    (rw own at c.in-Err.ensures)
+    let m = moment_of c.args.self.now.book.history in
+    let d = effects_of c.args.self.now.book.history in
+    target_halts m _ _ d c.args.client c.args.handle c.args.refs.now c.in-Err.stop (rw own at c.in-Err.ensures)
 
 pub returns-in-Err-judge_references : goal.returns-in-Err-judge_references
 returns-in-Err-judge_references c =
     let own = ap (λ (r : ClientRow). r.id) c.in-Some.ensures.1 in
     let target = rw own at c.in-Ok.ensures in
-    references_halt (effects_of c.args.self.now.book.history) c.args.client c.args.handle c.in-Ok.target
-    c.args.refs.now c.in-Err-judge_references.stop target.0 target.1
+    let m = moment_of c.args.self.now.book.history in
+    let d = effects_of c.args.self.now.book.history in
+    references_halt m _ _ _ d c.args.client c.args.handle c.in-Ok.target c.args.refs.now
+    c.in-Err-judge_references.stop target.0 target.1
     (rw (own, c.list.ensures.value) at c.in-Err-judge_references.ensures)
 
 pub returns-then-not-has_room : goal.returns-then-not-has_room
@@ -40,8 +44,9 @@ returns-then-not-has_room c =
     let full : (has_inbox_room d k && fits_handles (after_grants d k (others k named)) k) ≡ false =
     sym (ap (λ (ns : List Node). has_inbox_room d k && fits_handles (after_grants d k ns) k) nodes) ∙
     sym c.has_room.ensures ∙ c.if-not-has_room.true in
-    room_halts d c.args.client c.args.handle c.in-Ok.target c.args.refs.now named target.0 target.1 sound target.2
-    refs.1 refs.0 full
+    let m = moment_of c.args.self.now.book.history in
+    room_halts m _ _ _ d c.args.client c.args.handle c.in-Ok.target c.args.refs.now named target.0 target.1 sound
+    target.2 refs.1 refs.0 full
 
 pub plan_call-requires-clause-few : goal.plan_call-requires-clause-few
 plan_call-requires-clause-few c =
@@ -71,6 +76,6 @@ returns c =
     sym c.has_room.ensures ∙ c.if-not-has_room.false in
     let few : length c.args.refs.now ≤ 16 = let here = ap (length {A = ObjRef}) c.list.ensures.value in
     omega (arith, here, c.list.ensures.fits) in
-    call_judged d c.args.client c.args.handle c.in-Ok.target c.args.payload.now c.args.refs.now named c.plan_call.result
-    target.0 target.1 sound target.2 refs.1 refs.0 few room
+    call_judged c.args.self.now.book.history _ _ _ c.args.client c.args.handle c.in-Ok.target c.args.payload.now
+    c.args.refs.now named c.plan_call.result target.0 target.1 sound target.2 refs.1 refs.0 few room
     (rw (own, c.as_slice-3.ensures.value) at c.plan_call.ensures)

@@ -3,19 +3,22 @@ use Rattle.std.proofs.Math.Seq.{drop-cons}
 use Rattle.std.proofs.lemmas.List.{drop_all}
 use Rattle.sm_kinds.specs.declared.number.ObjRef.TheVariants.{Own}
 use Rattle.sm_history.specs.Histories.{effects_of}
+use Rattle.sm_history.specs.Records.{moment_of}
 use Rattle.sm_core.proofs.CallChecks.{halts_left, left_behind, names_on, all_named}
 use Rattle.sm_core.proofs.manager.Manager.judge_references.Goals as goal
 
 pub returns-in-Err : goal.returns-in-Err
 returns-in-Err c =
+    let m = moment_of c.args.self.now.book.history in
     let d = effects_of c.args.self.now.book.history in
     let i = c.loop-obj.obj-index in
     let rs = c.args.refs.now in
-    halts_left d c.args.row.now.id c.args.receiver rs (drop i rs) (drop (suc i) rs) (get_or rs i (Own 0)) c.in-Err.stop
-    c.loop-obj.invariant.passed (drop-cons rs i (Own 0) c.loop-obj-test.true) c.in-Err.ensures
+    halts_left m _ _ _ d c.args.row.now.id c.args.receiver rs (drop i rs) (drop (suc i) rs) (get_or rs i (Own 0))
+    c.in-Err.stop c.loop-obj.invariant.passed (drop-cons rs i (Own 0) c.loop-obj-test.true) c.in-Err.ensures
 
 pub loop-obj-preserved : goal.loop-obj-preserved
 loop-obj-preserved c =
+    let m = moment_of c.args.self.now.book.history in
     let d = effects_of c.args.self.now.book.history in
     let k = c.args.row.now.id in
     let i = c.loop-obj.obj-index in
@@ -26,16 +29,17 @@ loop-obj-preserved c =
     ap (λ n. r ∷ drop n rs) one in
     let more : c.push.new.self.items ≡ c.loop-obj.named.items ++ c.in-Ok.node ∷ [] = search rules in
     record {
-      passed = left_behind d k c.args.receiver rs (drop i rs) (drop (i + 1) rs) r c.loop-obj.invariant.passed left
-          c.in-Ok.ensures.0;
+      passed = left_behind m _ _ _ d k c.args.receiver rs (drop i rs) (drop (i + 1) rs) r
+          c.loop-obj.invariant.passed left c.in-Ok.ensures.0;
       names = names_on d k rs (drop i rs) (drop (i + 1) rs) r c.in-Ok.node c.loop-obj.named.items c.push.new.self.items
           c.loop-obj.invariant.names left more c.in-Ok.ensures.1 c.in-Ok.ensures.2;
     }
 
 pub returns : goal.returns
 returns c =
+    let m = moment_of c.args.self.now.book.history in
     let d = effects_of c.args.self.now.book.history in
     let left = drop c.loop-obj.obj-index c.args.refs.now in
-    all_named d c.args.row.now.id c.args.receiver c.args.refs.now left c.loop-obj.named.items
+    all_named m _ _ d c.args.row.now.id c.args.receiver c.args.refs.now left c.loop-obj.named.items
     c.loop-obj.invariant.passed c.loop-obj.invariant.names
     (drop_all c.loop-obj.obj-index c.args.refs.now c.loop-obj-test.false)

@@ -1,18 +1,19 @@
 use Rattle.std.proofs.Common.{◌≡◌, drop}
-use Rattle.sm_history.specs.Clients.{policy_at}
 use Rattle.sm_history.specs.Histories.{effects_of}
-use Rattle.sm_history.specs.Checks.{first_failing}
+use Rattle.sm_history.specs.Records.{moment_of}
 use Rattle.sm_history.specs.Verdict.{all_pass_to_client}
+use Rattle.sm_core.specs.Judging.{asked}
 use Rattle.sm_core.proofs.CallChecks.{NamesOn}
 use Rattle.sm_core.proofs.manager.Manager.judge_references.Given as goal
 
 -- The references so far pass, and name these objects.
 abbrev pub invariant-loop-obj : goal.invariant-loop-obj
 invariant-loop-obj l =
+    let m = moment_of l.self.book.history in
     let d = effects_of l.self.book.history in
     let c = l.row.id in
     record {
-      passed : first_failing (policy_at d) (all_pass_to_client d c l.receiver l.refs)
-          ≡ first_failing (policy_at d) (all_pass_to_client d c l.receiver (drop l.obj-index l.refs));
+      passed : asked m l.initial.notes (all_pass_to_client d c l.receiver l.refs)
+          ≡ asked m l.notes (all_pass_to_client d c l.receiver (drop l.obj-index l.refs));
       names : NamesOn d c l.refs (drop l.obj-index l.refs) l.named.items;
     }

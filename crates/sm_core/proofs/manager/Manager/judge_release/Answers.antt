@@ -1,9 +1,10 @@
-use Rattle.std.proofs.Common.{refl}
+use Rattle.std.proofs.Common.{refl, rules}
 use Rattle.sm_history.specs.Histories.{effects_of}
+use Rattle.sm_history.specs.Records.{moment_of}
 use Rattle.sm_core.proofs.Planning.{release_judged}
 use Rattle.sm_core.proofs.manager.Manager.judge_release.Goals as goal
 
 pub returns : goal.returns
-returns c =
-    release_judged (effects_of c.args.self.now.book.history) c.args.client c.args.handle c.in-Some.node _
+returns c old =
+    release_judged (moment_of c.args.self.now.book.history) old (effects_of c.args.self.now.book.history) c.args.client c.args.handle c.in-Some.node _ (search rules)
     c.in-Some.ensures c.requires c.in_ok-effects.ensures refl refl

@@ -8,7 +8,8 @@ use Rattle.sm_history.specs.Checks.{Wants, to_manager, to_label, calling, transf
 use Rattle.sm_history.specs.Clients.{policy_at}
 use Rattle.sm_history.specs.Histories.{effects_of, watch}
 use Rattle.sm_history.specs.Services.{same_watch, watches_at}
-use Rattle.sm_core.proofs.Planning.{four_pass, unwatch_plan}
+use Rattle.sm_history.specs.Records.{moment_of}
+use Rattle.sm_core.proofs.Planning.{unwatch_plan}
 use Rattle.sm_core.proofs.manager.Manager.judge_unwatch.Goals as goal
 
 pub returns : goal.returns
@@ -17,10 +18,8 @@ returns c =
     let k = c.args.client in
     let name = c.args.name.now in
     let object = c.args.object in (
-      four_pass (policy_at d) (to_manager d k calling) (to_manager d k transferring) (to_label d k name finding)
-          (Wants (list_any (same_watch (watch k name object)) (watches_at d)) (Refused (Exception NothingToUnregister)))
-          (search rules) (search rules) (search rules) (search rules),
-      unwatch_plan d k name object c.in_ok-watch.watch _ c.in_ok-watch.ensures c.requires c.in_ok-effects.ensures
+      search rules,
+      unwatch_plan (moment_of c.args.self.now.book.history) d k name object c.in_ok-watch.watch _ (search rules) c.in_ok-watch.ensures c.requires c.in_ok-effects.ensures
           (ap (λ (n : ℕ). Unwatched n) (c.watching-ended.ensures
           ∙ ap (λ (v : List ℕ). count_by (same_watch (watch k v object)) (watches_at d)) c.bytes-2.ensures)) refl,
     )

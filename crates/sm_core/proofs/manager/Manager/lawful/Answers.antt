@@ -8,3 +8,6 @@ returns-clause-fits c = rw (← c.self.view_is) c.self.invariant.fits
 
 pub returns-clause-few : goal.returns-clause-few
 returns-clause-few c = rw (← c.self.view_is) c.self.invariant.few
+
+pub returns-clause-records : goal.returns-clause-records
+returns-clause-records c = rw (← c.self.view_is) c.self.invariant.true_records

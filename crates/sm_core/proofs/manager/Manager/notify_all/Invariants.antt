@@ -5,6 +5,7 @@ use Rattle.sm_history.specs.Histories.{effects_of}
 use Rattle.sm_history.specs.Following.{followed}
 use Rattle.sm_history.specs.Notices.{notices_at, after_notices}
 use Rattle.sm_core.specs.Telling.{IsTelling}
+use Rattle.sm_history.specs.Records.{moment_of, left_by_notices}
 use Rattle.sm_core.proofs.manager.Manager.notify_all.Given as goal
 
 -- The watchers that are left are live, and telling them comes to the same.
@@ -19,6 +20,10 @@ invariant-loop-watch l = record {
   after : after_notices (followed (effects_of l.self.book.history) l.telling.effects.items) l.node
       (drop l.watch-index l.watches)
       ≡ after_notices (followed (effects_of l.self.book.history) l.initial.telling.effects.items) l.node l.watches;
+  records : l.telling.records ++ left_by_notices (moment_of l.self.book.history)
+      (followed (effects_of l.self.book.history) l.telling.effects.items) l.node (drop l.watch-index l.watches)
+      ≡ l.initial.telling.records ++ left_by_notices (moment_of l.self.book.history)
+      (followed (effects_of l.self.book.history) l.initial.telling.effects.items) l.node l.watches;
   few : length l.telling.effects.items + 2 * length (drop l.watch-index l.watches)
       ≤ length l.initial.telling.effects.items + 2 * length l.watches;
 }

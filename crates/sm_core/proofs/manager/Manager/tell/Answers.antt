@@ -1,16 +1,17 @@
-use Rattle.std.proofs.Common.{ap, sym, ◌∙◌, [], ◌∷◌, ◌++◌}
+use Rattle.std.proofs.Common.{refl, ap, sym, ◌∙◌, [], ◌∷◌, ◌++◌}
 use Rattle.sm_history.specs.declared.delivery.Delivery.{Delivery}
 use Rattle.sm_history.specs.declared.effect.Effect.TheVariants.{Delivers}
 use Rattle.sm_core.specs.Telling.{gives_of}
+use Rattle.sm_core.specs.declared.telling.Telling.{Telling}
 use Rattle.sm_history.specs.Histories.{effects_of}
 use Rattle.sm_core.proofs.TellingOne.{tells, tells_not}
 use Rattle.sm_core.proofs.manager.Manager.tell.Goals as goal
 
 pub returns-in-Ok-tell : goal.returns-in-Ok-tell
 returns-in-Ok-tell c =
-    tells (effects_of c.args.self.now.book.history) c.args.node c.args.watch.now c.args.telling.now c.tell.new.self
+    tells c.args.self.now.book.history c.args.node c.args.watch.now c.args.telling.now c.tell.new.self _
     c.left-left.result c.in-Ok.given c.in-Ok-tell.told c.requires.telling c.requires.live c.left-left.ensures
-    c.in-Ok.ensures.0 c.in-Ok.ensures.1 c.in-Ok-tell.ensures.told
+    c.in-Ok.ensures.0 c.in-Ok-tell.ensures.records c.in-Ok.ensures.1 c.in-Ok-tell.ensures.told
     (c.in-Ok-tell.ensures.effects
     ∙ ap (λ (x : Delivery).
     (c.args.telling.now.effects.items ++ gives_of c.args.watch.now.client c.args.node c.in-Ok.given)
@@ -18,6 +19,11 @@ returns-in-Ok-tell c =
 
 pub returns-in-Ok-reason : goal.returns-in-Ok-reason
 returns-in-Ok-reason c =
-    tells_not (effects_of c.args.self.now.book.history) c.args.node c.args.watch.now c.args.telling.now
-    c.left-left.result c.in-Err.stop c.in-Ok-reason.reason c.requires.telling c.requires.live c.left-left.ensures
+    let after : Telling = record {
+      effects = c.args.telling.now.effects;
+      left = c.args.telling.now.left;
+      records = c.judge_told.new.notes;
+    } in
+    tells_not c.args.self.now.book.history c.args.node c.args.watch.now c.args.telling.now after
+    c.left-left.result c.in-Err.stop c.in-Ok-reason.reason refl refl c.requires.telling c.requires.live c.left-left.ensures
     c.in-Err.ensures c.in-Ok-reason.ensures.1 c.in-Ok-reason.ensures.0

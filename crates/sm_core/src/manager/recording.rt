@@ -1,0 +1,62 @@
+//! The records of what no rule gives.
+
+ghost use Rattle.std.specs.Prelude.{◌≡◌, ◌≤◌, length, IfOk};
+ghost use Rattle.sm_audit.specs.declared.ring.TheConstants.{MOST_RECORDS};
+ghost use Rattle.sm_history.specs.Records.{records, query_records};
+
+use crate::manager::Manager;
+use crate::manager::replying::is_wanted;
+use crate::notes::Notes;
+use crate::plan::Plan;
+use sm_history::{By, Event, Query, Record};
+use std::alloc::AllocError;
+
+impl Manager {
+    /// The newest records, at most 1,024, the oldest first. `Err`: memory was refused.
+    pub fn records(&self) -> Result<Vec<Record>, AllocError>
+        ensures all { IfOk result (λ v. v.items ≡ self.now.ring) }
+        ensures few { length self.now.ring ≤ MOST_RECORDS }
+    {
+        self.ring.all(self.alloc)
+    }
+
+    /// The records that a `step` of this event would put into the ring now. `Err`: memory was refused.
+    pub fn step_records(&self, by: By, turn: u64, event: &Event) -> Result<Vec<Record>, AllocError>
+        ensures { IfOk result (λ v. v.items ≡ records self.now.book.places self.now.book.history by turn event.now) }
+    {
+        let mut notes = Notes::none(self.alloc);
+        match self.judge(by, turn, event, &mut notes) {
+            Ok(plan) => {
+                let Plan {
+                    outcome: _,
+                    told: _,
+                    effects: _,
+                    records,
+                } = plan;
+                notes.and(records)
+            }
+            Err(stop) => {
+                if is_wanted(&stop) {
+                    return Err(AllocError);
+                }
+                Ok(notes.into_list())
+            }
+        }
+    }
+
+    /// The records of a query. `Err`: memory was refused.
+    pub fn look_records(&self, by: By, query: &Query) -> Result<Vec<Record>, AllocError>
+        ensures { IfOk result (λ v. v.items ≡ query_records self.now.book.history by query.now) }
+    {
+        let mut notes = Notes::none(self.alloc);
+        match self.judge_query(by, query, &mut notes) {
+            Ok(_) => Ok(notes.into_list()),
+            Err(stop) => {
+                if is_wanted(&stop) {
+                    return Err(AllocError);
+                }
+                Ok(notes.into_list())
+            }
+        }
+    }
+}

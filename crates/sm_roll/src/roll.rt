@@ -1,0 +1,175 @@
+//! Rolls and badges.
+
+ghost use Rattle.std.specs.Prelude.{◌≡◌, ◌+◌, ◌<◌, ◌^◌, [], length, IfSome, IsTrue};
+ghost use Rattle.sm_roll.specs.Rolls.{head_of};
+
+use crate::rule::{Add, Asks, Law, Noted, Nothing, Shows};
+use logbook::{Offer, Seen, Start, Word};
+use std::marker::{Brand, Model, PhantomData};
+use std::sync::Wait;
+
+/// Which roll it is, and the book that it opens with. A program picks both at the one call that makes a door; so a
+/// badge of one roll is never taken for one of another.
+pub trait Naming {
+    ghost use Rattle.logbook.specs.Pages.{Book as Log};
+    ghost use Rattle.sm_history.specs.Books.{Book};
+
+    ghost roll: { Log };
+
+    ghost opening: { Book };
+}
+
+impl Naming for Brand {
+    ghost use Rattle.sm_roll.specs.Rolls.{blank_book};
+
+    ghost roll = { record { number = 0; log_name = 0; cells_name = 0 } };
+
+    ghost opening = { blank_book };
+}
+
+/// An empty roll, which has no name yet: a name can be picked only for a roll that is there.
+#[derive(Drop)]
+pub struct Blank {
+    head: Word<Noted, u64, Law>,
+    pub seen: Seen<Noted, u64, Law>,
+    pub ghost empty: { seen.log ≡ [] },
+    pub ghost head_is: { head ≡ head_of seen.book },
+}
+
+impl Blank {
+    /// A roll of its own.
+    pub fn new() -> Blank {
+        let (seen, mut first, _second) = Seen::open(Start::alone(), 0, 0);
+        Blank {
+            head: Word::tracked(0, &mut first),
+            seen,
+        }
+    }
+
+    /// The roll under its name.
+    pub fn named<J: Naming>(self) -> Roll<J>
+        requires { self.seen.book ≡ J.roll }
+        ensures { result ≡ [] }
+    {
+        let Blank { head, seen } = self;
+        Roll {
+            head,
+            count: 0,
+            seen,
+            of: PhantomData,
+        }
+    }
+}
+
+/// A roll. Contracts see the books that were noted, as far as this thread has seen them.
+#[derive(Drop)]
+pub struct Roll<J: Naming> {
+    head: Word<Noted, u64, Law>,
+    count: u64,
+    seen: Seen<Noted, u64, Law>,
+    of: PhantomData<J>,
+}
+
+impl<J: Naming> Model for Roll<J> {
+    ghost use Rattle.std.specs.Prelude.{◌≡◌, List, length};
+    ghost use Rattle.sm_history.specs.Books.{Book};
+    ghost use Rattle.sm_roll.specs.Rolls.{head_of};
+
+    ghost Value = { List Book };
+
+    ghost view = { λ r. r.seen.log };
+
+    ghost invariant = { λ r. (r.head ≡ head_of J.roll) × (r.count ≡ length r.seen.log) × (r.seen.book ≡ J.roll) };
+}
+
+/// The number of a history, which contracts see as that history's book.
+#[derive(Drop)]
+pub struct Badge<J: Naming> {
+    number: u64,
+    seen: Seen<Noted, u64, Law>,
+    of: PhantomData<J>,
+}
+
+impl<J: Naming> Model for Badge<J> {
+    ghost use Rattle.std.specs.Prelude.{◌≡◌, ◌<◌, length};
+    ghost use Rattle.sm_history.specs.Books.{Book};
+    ghost use Rattle.sm_roll.specs.Rolls.{noted};
+
+    ghost Value = { Book };
+
+    ghost view = { λ b. noted b.seen.log b.number };
+
+    ghost invariant = { λ b. (b.number < length b.seen.log) × (b.seen.book ≡ J.roll) };
+}
+
+impl<J: Naming> Badge<J> {
+    /// A copy, which stands for the same history.
+    pub fn again(&self) -> Badge<J>
+        ensures { result ≡ self.now }
+    {
+        Badge {
+            number: self.number,
+            seen: self.seen.again(),
+            of: PhantomData,
+        }
+    }
+
+    /// Whether the other badge has the same number. Then both stand for one history: the longer of the two beginnings
+    /// of the roll that they have seen has one book at that number.
+    pub fn is(&self, other: &Badge<J>) -> bool
+        ensures { IsTrue result → self.now ≡ other.now }
+    {
+        let mut both = self.seen.again();
+        both.learn(&other.seen);
+        self.number == other.number
+    }
+}
+
+impl<J: Naming> Roll<J> {
+    /// Notes the book that a value shows at the next number, whose badge it gives. It tries again where another thread
+    /// came first. At `None` all 2^64 - 1 numbers are given out.
+    pub fn add<V, M: Shows<V>, R: Wait>(&mut self, rt: &R, value: &V) -> Option<Badge<J>>
+        ensures { IfSome result (λ b. b ≡ M.book value.now) }
+    {
+        for _ in rt.forever() {
+            if self.count == u64::MAX {
+                return None;
+            }
+            if let Some(badge) = self.try_add::<V, M>(value) {
+                return Some(badge);
+            }
+        }
+        unreachable!()
+    }
+
+    /// The same in one step. At `None` more had been noted than this thread had seen, which it has seen now.
+    fn try_add<V, M: Shows<V>>(&mut self, value: &V) -> Option<Badge<J>>
+        requires { length self.old + 1 < 2 ^ 64 }
+        ensures { IfSome result (λ b. b ≡ M.book value.now) }
+    {
+        let mut offer: Offer<Noted, u64, Law, Nothing> = self
+            .seen
+            .plain::<Nothing, V, Asks<M>>(value);
+        let mut pen = self.seen.no_pen();
+        let count = self.count;
+        let found = self
+            .head
+            .compare_exchange::<Add, Nothing>(
+                count,
+                count + 1,
+                &mut self.seen,
+                &mut offer,
+                &mut pen,
+            );
+        if found != count {
+            self.count = found;
+            return None;
+        }
+        self.count = count + 1;
+        Some(Badge {
+            number: count,
+            seen: self.seen.again(),
+            of: PhantomData,
+        })
+    }
+}

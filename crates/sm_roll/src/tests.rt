@@ -1,0 +1,61 @@
+//! That a roll gives out numbers which tell badges apart, and that each shows the book of its value.
+
+ghost use Rattle.std.specs.Prelude.{◌≡◌};
+ghost use denote.Param.Send.{IsSend, IsSync};
+
+use crate::*;
+use std::marker::Brand;
+use std::process::Abort;
+use std::sync::Wait;
+use std::test::Fail;
+
+/// A number shows the book of so many places.
+struct Places;
+
+impl Shows<u32> for Places {
+    ghost use Rattle.std.specs.Prelude.{[]};
+    ghost use Rattle.sm_history.specs.Histories.{whole};
+
+    ghost book = { λ places. record { places = places; history = whole [] } };
+}
+
+#[test]
+fn numbers_tell_badges_apart(rt: HostRuntime) -> Result<(), Fail> {
+    three_badges::<Brand, _>(&rt, Blank::new())
+}
+
+fn three_badges<J: Naming, R: Wait + Abort>(rt: &R, blank: Blank) -> Result<(), Fail>
+    requires { blank.seen.book ≡ J.roll }
+{
+    let mut roll = blank.named::<J>();
+    let Some(one) = roll.add::<u32, Places, R>(rt, &1) else {
+        return Err("refused")?;
+    };
+    let Some(two) = roll.add::<u32, Places, R>(rt, &2) else {
+        return Err("refused")?;
+    };
+    let Some(again) = roll.add::<u32, Places, R>(rt, &1) else {
+        return Err("refused")?;
+    };
+    assert!(rt; one.is(&one.again()));
+    assert!(rt; !one.is(&two));
+    assert!(rt; !two.is(&one));
+    assert!(rt; !one.is(&again));
+    assert!(rt; two.again().is(&two));
+    Ok(())
+}
+
+#[test]
+fn badges_cross_threads(_rt: HostRuntime) -> Result<(), Fail> {
+    both_cross::<Brand>();
+    Ok(())
+}
+
+fn both_cross<J: Naming + Send + Sync>() {
+    crosses::<Badge<J>>();
+    crosses::<Roll<J>>();
+}
+
+fn crosses<X: Send + Sync>()
+    ensures { IsSend X.row × IsSync X.row }
+{}

@@ -1,0 +1,47 @@
+-- What an item that was asked is answered, and how a whole session ends.
+use Rattle.std.proofs.Common.{◌≡◌, ◌⊎◌, ℕ, List, Bool, true, ap, refl, sym, inl, inr, Option, Result, Err, OnOk}
+use Rattle.sm_history.specs.declared.reply.Reply.{Reply}
+use Rattle.sm_wire.specs.declared.item.Item.{Item}
+use Rattle.sm_wire.specs.declared.kind.Kind.{Kind}
+use Rattle.sm_wire.specs.Replies.{told_text}
+use Rattle.sm_engine.specs.declared.fault.Fault.{Fault}
+use Rattle.sm_engine.specs.declared.fault.Fault.TheVariants.{WriteFault, Memory}
+use Rattle.sm_engine.specs.Running.{Served}
+use Rattle.sm_session.specs.declared.response.Response.{Response}
+use Rattle.sm_session.specs.declared.response.Response.TheVariants.{Replied, PolicyRefused, Denied}
+use Rattle.sm_session.specs.declared.sitting.Sitting.{Sitting}
+use Rattle.sm_session.specs.Responses.{response_text}
+use Rattle.sm_session.specs.Sessions.{Asks, TakesItem, is_asked, told_to}
+
+-- the line of an answer has no more of a reply than what is told of it
+pub response_text-same : (f g : Reply → Reply) → ((r : Reply) → f r ≡ g r) → (response : Response)
+    → response_text f response ≡ response_text g response
+unfolding response_text
+response_text-same f g same (Replied reply) = ap told_text (same reply)
+response_text-same f g same (PolicyRefused fault) = refl
+response_text-same f g same (Denied records) = refl
+
+-- an item in its place was asked
+pub asked_once : {D : Type 0} (answers : D → Item → Response → D → Type 0) (old : Sitting D) (item : Item)
+    (response : Response) (new : Sitting D) (told : Reply → Reply) → is_asked old.kind old.connected item ≡ true
+    → ((r : Reply) → told_to item r ≡ told r) → Asks answers old item response new
+    → TakesItem answers old item (response_text told response) new
+asked_once answers old item response new told place tells asks =
+    rw place (response, asks, response_text-same told (told_to item) (λ r. sym (tells r)) response)
+
+-- a fault that had another cause
+pub Served-memory : {S : Type 0} {kind : Kind} {answers : S → Item → List ℕ → List ℕ → S → Type 0} {over : S → Bool}
+    {bound : ℕ} {old : S} {r r' w w' a a' : Option (List ℕ)} {new : S} (ending result : Result (Unit {0}) Fault)
+    → Served kind answers over ending bound old r r' w w' a a' new
+    → (result ≡ ending) ⊎ ((ending ≡ Err WriteFault) × (result ≡ Err Memory))
+    → Served kind answers over result bound old r r' w w' a a' new
+Served-memory ending result p (inl e) = rw e p
+Served-memory ending result p (inr e) =
+    let q = rw e.0 at p in
+    rw e.1 (record { bytes = q.bytes; consumed = q.consumed; written = q.written })
+
+-- what holds after a good end
+pub OnOk-memory : (P : Type 0) (ending result : Result (Unit {0}) Fault) → OnOk ending P
+    → (result ≡ ending) ⊎ ((ending ≡ Err WriteFault) × (result ≡ Err Memory)) → OnOk result P
+OnOk-memory P ending result p (inl e) = rw e p
+OnOk-memory P ending result p (inr e) = rw e.1 tt

@@ -1,0 +1,71 @@
+//! One connection's session.
+
+ghost use Rattle.std.specs.Prelude.{◌≡◌, ◌<◌, ◌≤◌, ◌+◌, ◌⊎◌, true, if◌then◌else◌};
+ghost use Rattle.sm_engine.specs.Counts.{failures_of, calls_of, inner_of, greatest};
+ghost use Rattle.sm_session.specs.Sessions.{Attends};
+
+use crate::desk::Desk;
+use crate::gate::Gate;
+use crate::gated::Gated;
+use sm_engine::{Counted, Fault, run};
+use sm_wire::Kind;
+use std::alloc::Global;
+use std::io::{Read, Write};
+
+/// Serves one connection of a client or an administrator: puts its lines to the desk until their end, until a `bye` is
+/// answered by `bye`, a fault, or `bound` reads. The desk comes back; it was told of the end if it had a client.
+pub fn session<D: Desk, G: Gate, R: Read, W: Write>(
+    alloc: Global,
+    kind: Kind,
+    reader: &mut Counted<R>,
+    writer: &mut Counted<W>,
+    desk: D,
+    gate: &G,
+    bound: u32,
+) -> (D, Result<(), Fault>)
+    requires reader { failures_of reader.old < greatest }
+    requires writer { failures_of writer.old < greatest }
+    ensures attends { Attends kind D.answers D.leaves result.1 bound desk
+        (R.remaining (inner_of reader.old)) (R.remaining (inner_of reader.new))
+        (W.contents (inner_of writer.old)) (W.contents (inner_of writer.new)) result.0 }
+    ensures reads { calls_of reader.new ≤ calls_of reader.old + bound }
+    ensures read_fault { result.1 ≡ Err Fault.ReadFault → failures_of reader.old < failures_of reader.new }
+    ensures write_fault { result.1 ≡ Err Fault.WriteFault → failures_of writer.old < failures_of writer.new }
+{
+    let mut gated = Gated::new(alloc, kind, desk, gate);
+    let mut unaudited = Counted::new(Vec::new(alloc));
+    let failures = writer.failures();
+    let result = run(
+        alloc,
+        kind,
+        &mut gated,
+        bound,
+        reader,
+        writer,
+        &mut unaudited,
+    );
+    let result = by_writer(result, failures < writer.failures());
+    (gated.close(), result)
+}
+
+// A session has no audit lines: were their text to refuse a write, it would be for want of memory.
+fn by_writer(ending: Result<(), Fault>, has_failed: bool) -> Result<(), Fault>
+    ensures same { (result ≡ ending) ⊎ ((ending ≡ Err Fault.WriteFault) × (result ≡ Err Fault.Memory)) }
+    ensures write_fault { result ≡ Err Fault.WriteFault → has_failed ≡ true }
+{
+    match ending {
+        Ok(()) => Ok(()),
+        Err(Fault::WriteFault) => Err(write_fault(has_failed)),
+        Err(fault) => Err(fault),
+    }
+}
+
+fn write_fault(has_failed: bool) -> Fault
+    ensures { result ≡ (if has_failed then Fault.WriteFault else Fault.Memory) }
+{
+    if has_failed {
+        Fault::WriteFault
+    } else {
+        Fault::Memory
+    }
+}

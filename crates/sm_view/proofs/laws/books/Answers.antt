@@ -1,0 +1,21 @@
+use Rattle.sm_view.proofs.Books.{book_itself, book_before, book_through, one_more, before_change}
+use Rattle.sm_view.proofs.Growing.{no_less}
+use Rattle.sm_view.proofs.laws.books.Goals as goal
+
+pub returns-clause-itself : goal.returns-clause-itself
+returns-clause-itself c = book_itself
+
+pub returns-clause-before : goal.returns-clause-before
+returns-clause-before c = book_before
+
+pub returns-clause-through : goal.returns-clause-through
+returns-clause-through c = book_through
+
+pub returns-clause-counts : goal.returns-clause-counts
+returns-clause-counts c = one_more
+
+pub returns-clause-cut : goal.returns-clause-cut
+returns-clause-cut c = before_change
+
+pub returns-clause-grows : goal.returns-clause-grows
+returns-clause-grows c = no_less

@@ -1,0 +1,20 @@
+-- Books of which one begins with another.
+use Rattle.std.specs.Prelude.{◌≡◌}
+use Rattle.sm_history.specs.declared.entry.Entry.{Entry}
+use Rattle.sm_history.specs.Histories.{entered}
+use Rattle.sm_history.specs.Books.{Book}
+use Rattle.sm_history.specs.Beginning.{BeginsWith}
+use Rattle.sm_history.specs.Lawful.{IsLawful}
+
+-- The book with one change more.
+abbrev pub extended : Book → Entry → Book
+extended b e = record { places = b.places; history = entered e b.history }
+
+-- The book `new` begins with the book `old`: both have the same places, and the one history begins with the other.
+pub record Begins (new old : Book) : Type 0 where
+  pub places : new.places ≡ old.places
+  pub history : BeginsWith new.history old.history
+
+-- A history that may come about with these places.
+abbrev pub IsLawfulBook : Book → Type 0
+IsLawfulBook b = IsLawful b.places b.history

@@ -1,0 +1,22 @@
+//! The reply to a `reload` whose texts are refused.
+
+ghost use Rattle.std.specs.Prelude.{◌≡◌, ◌++◌, OnOk};
+ghost use Rattle.sm_wire.specs.Replies.{policy_refused_text};
+
+use sm_policy::{PolicyFault, refused_text};
+use std::alloc::{AllocError, Global};
+
+/// Adds `refused`, and why. `Err`: memory was refused, and a part may have been added.
+#[tactic(auto, unfolding(crate::specs::Replies::policy_refused_text))]
+pub fn push_policy_refused(
+    alloc: Global,
+    out: &mut Vec<u8>,
+    fault: &PolicyFault,
+) -> Result<(), AllocError>
+    ensures { OnOk result (out.new.items ≡ out.old.items ++ policy_refused_text fault.now) }
+{
+    let words = refused_text(alloc, fault)?;
+    out.extend_from_slice(b"refused ")?;
+    out.extend_from_slice(&words)?;
+    out.extend_from_slice(b"\n")
+}
