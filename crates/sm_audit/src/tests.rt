@@ -151,6 +151,34 @@ fn a_name_cannot_forge_a_second_line(rt: HostRuntime) -> Result<(), Fail> {
     Ok(())
 }
 
+#[test]
+fn a_line_goes_behind_what_is_there(rt: HostRuntime) -> Result<(), Fail> {
+    let alloc = rt.alloc();
+    let mut out = Vec::from_slice(alloc, b"denials 1\n")?;
+    let record = app_barred(alloc, 6)?;
+    push_line(alloc, &mut out, &record)?;
+    assert_eq!(rt;
+        out.as_slice(),
+        b"denials 1\njournal=6 version=1 clause: denied app for pid=200 uid=10007 name=activity scontext=u:r:untrusted_app:s0\n".as_slice()
+    );
+    Ok(())
+}
+
+#[test]
+fn lines_come_in_the_order_of_the_records(rt: HostRuntime) -> Result<(), Fail> {
+    let alloc = rt.alloc();
+    let mut records = Vec::new(alloc);
+    records.push(find_missing(alloc, b"activity", false)?)?;
+    records.push(app_barred(alloc, 6)?)?;
+    let mut out = Vec::from_slice(alloc, b"denials 2\n")?;
+    push_lines(alloc, &mut out, &records)?;
+    assert_eq!(rt;
+        out.as_slice(),
+        b"denials 2\njournal=5 version=2 avc: denied { find } for pid=200 uid=10007 name=activity scontext=u:r:untrusted_app:s0 tcontext=u:object_r:activity_service:s0 tclass=service_manager permissive=0\njournal=6 version=1 clause: denied app for pid=200 uid=10007 name=activity scontext=u:r:untrusted_app:s0\n".as_slice()
+    );
+    Ok(())
+}
+
 /// The length that each record was made at.
 fn push_many(ring: &mut Ring, alloc: Global, many: u64) -> Result<(), Fail> {
     for length in 0..many {

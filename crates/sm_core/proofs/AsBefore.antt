@@ -1,5 +1,6 @@
 -- Telling a watcher leaves what is asked before other watchers are told.
-use Rattle.std.proofs.Common.{◌≡◌, ℕ, ◌+◌, Bool, true, false, ◌==◌, List, ◌∷◌, refl, ap, sym, ◌∙◌, subst, length, if◌then◌else◌, arith}
+use Rattle.std.proofs.Common.{◌≡◌, ℕ, ◌+◌, Bool, true, false, ◌==◌, List, ◌∷◌, refl}
+use Rattle.std.proofs.Common.{ap, sym, ◌∙◌, subst, length, if◌then◌else◌, arith}
 use Rattle.std.specs.Prelude.{nat_le}
 use Rattle.std.proofs.lemmas.Bool.Decides.{nat_tests}
 use Rattle.sm_kinds.specs.declared.number.Node.{Node}

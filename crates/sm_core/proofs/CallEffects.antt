@@ -1,5 +1,6 @@
 -- The effects of a call: grants of what its references name, and a delivery.
-use Rattle.std.proofs.Common.{◌≡◌, inl, Ok, Err, ℕ, suc, ◌+◌, ◌≤◌, Bool, true, false, ◌==◌, List, [], ◌∷◌, ◌++◌, Option, Some, None, refl, ap, sym, ◌∙◌, subst, length, if◌then◌else◌, arith}
+use Rattle.std.proofs.Common.{◌≡◌, inl, Ok, Err, ℕ, suc, ◌+◌, ◌≤◌, Bool, true, false, ◌==◌, List, [], ◌∷◌, ◌++◌}
+use Rattle.std.proofs.Common.{Option, Some, None, refl, ap, sym, ◌∙◌, subst, length, if◌then◌else◌, arith}
 use Rattle.std.specs.Prelude.{nat_le, ◌&&◌, Result, MatchResult}
 use Rattle.std.proofs.lemmas.Bool.{and_parts}
 use Rattle.std.proofs.lemmas.Bool.Decides.{nat_tests}

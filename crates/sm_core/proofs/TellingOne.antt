@@ -1,5 +1,7 @@
 -- One watcher is told, or isn't.
-use Rattle.std.proofs.Common.{◌≡◌, ℕ, ◌+◌, ◌-◌, ◌≤◌, inl, inr, Bool, true, false, ◌&&◌, ◌||◌, ◌==◌, List, [], ◌∷◌, ◌++◌, refl, ap, sym, ◌∙◌, subst, length, Option, Some, None, if◌then◌else◌, cond, arith, append-nil, length-append}
+use Rattle.std.proofs.Common.{◌≡◌, ℕ, ◌+◌, ◌-◌, ◌≤◌, inl, inr, Bool, true, false, ◌&&◌, ◌||◌, ◌==◌}
+use Rattle.std.proofs.Common.{List, [], ◌∷◌, ◌++◌, refl, ap, sym, ◌∙◌, subst, length, Option}
+use Rattle.std.proofs.Common.{Some, None, if◌then◌else◌, cond, arith, append-nil, length-append}
 use Rattle.std.specs.Prelude.{nat_lt, nat_eq, unwrap_or}
 use Rattle.std.specs.List.{list_any}
 use Rattle.std.proofs.lemmas.Bool.Decides.{nat_tests}
@@ -26,7 +28,8 @@ use Rattle.sm_history.specs.declared.effect.Watch.{Watch}
 use Rattle.sm_history.specs.Clients.{policy_at, is_live}
 use Rattle.sm_history.specs.Holdings.{number_for, handed, fits_handles, given_to}
 use Rattle.sm_history.specs.Inboxes.{inbox_at, has_inbox_room}
-use Rattle.sm_history.specs.Checks.{Check, Needs, Wants, holds, stop_of, first_failing, from_manager, to_label, finding, calling, transferring}
+use Rattle.sm_history.specs.Checks.{Check, Needs, Wants, holds, stop_of, first_failing, from_manager}
+use Rattle.sm_history.specs.Checks.{to_label, finding, calling, transferring}
 use Rattle.sm_history.specs.Following.{followed, MayAll}
 use Rattle.sm_history.specs.Notices.{notice_checks, first_missing, told_of, reason_of, registration, after_told}
 use Rattle.sm_history.specs.Sound.{IsTakenFrom}
@@ -39,7 +42,8 @@ use Rattle.sm_history.specs.declared.records.Record.{Record}
 use Rattle.sm_history.specs.Records.{Moment, moment_of, left_by_all}
 use Rattle.sm_history.specs.Histories.{History, effects_of}
 use Rattle.sm_core.proofs.Stopping.{asked_is}
-use Rattle.sm_core.specs.Telling.{told_checks, gives_of, told_to, free_at, AsBefore, MayTell, left_in, left_at, IsTelling, GoesOn}
+use Rattle.sm_core.specs.Telling.{told_checks, gives_of, told_to, free_at, AsBefore}
+use Rattle.sm_core.specs.Telling.{MayTell, left_in, left_at, IsTelling, GoesOn}
 use Rattle.sm_core.proofs.AsBefore.{before_gives, before_delivers}
 
 -- ---- effects in order
@@ -255,7 +259,8 @@ tells h n w old new mid left g x t live is asks noted given told items counts =
               (λ s.
               let same : c ≡ k = grind (arith, nat_tests) in
               subst (λ (v : ℕ). left - 1 ≡ free_at (Delivers c x ∷ f) v) same
-              (ap (λ (v : ℕ). v - 1) (free ∙ ap (λ (v : List Delivery). MOST_DELIVERIES - length v) (sym (handing.inboxes c)))
+              (ap (λ (v : ℕ). v - 1)
+              (free ∙ ap (λ (v : List Delivery). MOST_DELIVERIES - length v) (sym (handing.inboxes c)))
               ∙ sym (free_now f c x taken (handing.may.before.lives c ∙ live))))
               (λ o. t.left k l ∙ ap (λ (v : List Delivery). MOST_DELIVERIES - length v) (sym (handing.inboxes k))
               ∙ sym (free_other f c x k taken o))
@@ -295,7 +300,8 @@ tells_not h n w old new left s r same_effects same_left t live is (inr asks) oth
           may = subst (λ (v : _). MayTell d n v.items) (sym same_effects) t.may;
           left = λ k l. ap (λ (v : _). left_at d (record { effects = v; left = new.left; records = new.records }) k)
               same_effects
-              ∙ ap (λ (v : _). left_at d (record { effects = old.effects; left = v; records = new.records }) k) same_left
+              ∙ ap (λ (v : _). left_at d (record { effects = old.effects; left = v; records = new.records }) k)
+              same_left
               ∙ t.left k l ∙ ap (λ (v : _). free_at (followed d v.items) k) (sym same_effects);
         };
         after = ap (λ (v : _). followed d v.items) same_effects ∙ ap (after_told e n w) (sym missing);

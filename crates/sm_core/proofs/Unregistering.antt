@@ -12,7 +12,8 @@ use Rattle.sm_history.specs.declared.stop.Stop.{Stop}
 use Rattle.sm_history.specs.declared.stop.Instead.TheVariants.{Refused}
 use Rattle.sm_history.specs.declared.refusal.Refusal.TheVariants.{Failed, Exception}
 use Rattle.sm_history.specs.declared.refusal.Failure.TheVariants.{BadHandle}
-use Rattle.sm_history.specs.declared.refusal.Exception.TheVariants.{NullBinder, NotRegistered, NotAdder, OtherObject, InUse}
+use Rattle.sm_history.specs.declared.refusal.Exception.TheVariants.{NullBinder, NotRegistered, NotAdder}
+use Rattle.sm_history.specs.declared.refusal.Exception.TheVariants.{OtherObject, InUse}
 use Rattle.sm_history.specs.declared.outcome.Outcome.TheVariants.{Unregistered}
 use Rattle.sm_history.specs.Effects.{Effects, same_node}
 use Rattle.sm_history.specs.Checks.{Check, Wants, to_manager, to_label, calling, transferring, adding}

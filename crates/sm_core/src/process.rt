@@ -5,6 +5,7 @@ ghost use Rattle.sm_core.specs.Tables.{process_under};
 
 use sm_kinds::Identity;
 use sm_policy::Prepared;
+use std::alloc::AllocError;
 
 /// A process under a policy: who it is, and the number of its type there (`Prepared::type_index`), by which rules
 /// are asked. `None`: the policy doesn't declare its type.
@@ -12,6 +13,17 @@ use sm_policy::Prepared;
 pub struct Process {
     pub who: Identity,
     pub index: Option<u16>,
+}
+
+impl Clone for Process {
+    ghost is_clone = { λ p copy. copy ≡ p };
+
+    /// The same process; its texts get one more owner.
+    fn clone(&self) -> Result<Process, AllocError> {
+        let who = self.who.clone()?;
+        let index = self.index;
+        Ok(Process { who, index })
+    }
 }
 
 impl Process {

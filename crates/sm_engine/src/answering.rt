@@ -34,6 +34,8 @@ pub fn answer_items<M: Machine, W: Write, A: Write>(
     ensures fault { OnErr result ((result ≡ Err Fault.WriteFault) ⊎ (result ≡ Err Fault.Memory)) }
     ensures failed { result ≡ Err Fault.WriteFault → failures_of writer.old + failures_of audit.old
         < failures_of writer.new + failures_of audit.new }
+    ensures told { failures_of writer.old + failures_of audit.old < failures_of writer.new + failures_of audit.new
+        → result ≡ Err Fault.WriteFault }
 {
     let mut replies = Vec::new(alloc);
     let mut lines = Vec::new(alloc);

@@ -41,6 +41,9 @@ pub fn run<M: Machine, R: Read, W: Write, A: Write>(
     ensures read_fault { result ≡ Err Fault.ReadFault → failures_of reader.old < failures_of reader.new }
     ensures write_fault { result ≡ Err Fault.WriteFault → failures_of writer.old + failures_of audit.old
         < failures_of writer.new + failures_of audit.new }
+    ensures read_told { failures_of reader.old < failures_of reader.new → result ≡ Err Fault.ReadFault }
+    ensures write_told { failures_of writer.old + failures_of audit.old < failures_of writer.new + failures_of audit.new
+        → result ≡ Err Fault.WriteFault }
 {
     let mut lines = Lines::new(alloc, kind);
     let mut buffer = [0u8; PIECE];
@@ -101,6 +104,8 @@ fn take_piece<M: Machine, W: Write, A: Write>(
     ensures fault { OnErr result ((result ≡ Err Fault.WriteFault) ⊎ (result ≡ Err Fault.Memory)) }
     ensures failed { result ≡ Err Fault.WriteFault → failures_of writer.old + failures_of audit.old
         < failures_of writer.new + failures_of audit.new }
+    ensures told { failures_of writer.old + failures_of audit.old < failures_of writer.new + failures_of audit.new
+        → result ≡ Err Fault.WriteFault }
 {
     match lines.feed(piece) {
         Ok(items) => answer_items(alloc, machine, items, writer, audit),
@@ -116,6 +121,7 @@ fn write_ending<W: Write>(lines: &Lines, writer: &mut Counted<W>) -> Result<(), 
     ensures front { OnErr result ((n : ℕ) × Appends (W.contents (inner_of writer.old)) (W.contents (inner_of writer.new)) (take n (ending_of lines.now))) }
     ensures fault { OnErr result (result ≡ Err Fault.WriteFault) }
     ensures failed { OnErr result (failures_of writer.old < failures_of writer.new) }
+    ensures told { failures_of writer.old < failures_of writer.new → result ≡ Err Fault.WriteFault }
 {
     write_whole(writer, ending(lines.rest()))
 }

@@ -11,3 +11,4 @@ mod tests;
 mod watch_list;
 
 pub use names::Names;
+pub use services::Services;

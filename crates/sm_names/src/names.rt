@@ -9,6 +9,7 @@ ghost use Rattle.sm_history.specs.Clients.{is_live};
 ghost use Rattle.sm_history.specs.Services.{service_at, has_name_room, same_watch, watches_at, watchers_at};
 ghost use Rattle.sm_history.specs.Histories.{watch as make_watch};
 ghost use Rattle.sm_history.specs.Queries.{names_by_mask};
+ghost use Rattle.sm_names.specs.Rows.{TracksRows};
 ghost use Rattle.sm_names.specs.Tracking.{TracksNames, HasRoom, watch_count};
 
 use crate::services::Services;
@@ -49,6 +50,13 @@ impl Names {
     {
         self.services.reserve(n)?;
         self.watches.reserve(n)
+    }
+
+    /// The services under their names, without the watches.
+    pub fn services(&self) -> &Services
+        ensures { (d : Effects) → TracksNames d self.now → TracksRows d result.now.rows.items }
+    {
+        &self.services
     }
 
     /// The service under a name.

@@ -31,6 +31,19 @@ fn place_of(rows: &[NameRow], name: &[u8]) -> Result<usize, usize>
     rows.binary_search_by(|row| row.name.bytes().cmp(name))
 }
 
+/// A copy of some rows, whose names get one more owner. `Err`: memory was refused.
+fn copies_of(alloc: Global, rows: &[NameRow]) -> Result<Vec<NameRow>, AllocError>
+    ensures { IfOk result (λ v. v.items ≡ rows.now) }
+{
+    let mut copies = Vec::new(alloc);
+    for row in rows {
+        let name = row.name.clone()?;
+        let service = row.service;
+        copies.push(NameRow { name, service })?;
+    }
+    Ok(copies)
+}
+
 /// The names whose dump flags share a bit with a mask.
 fn matching(alloc: Global, rows: &[NameRow], mask: u32) -> Result<Vec<Name>, AllocError>
     ensures { IfOk result (λ v. v.items ≡ matching_names mask rows.now) }
@@ -52,6 +65,20 @@ impl Services {
         Services {
             rows: Vec::new(alloc),
         }
+    }
+
+    /// The same services once more, with room for `n` more names. It copies no name: each gets one more owner.
+    ///
+    /// # Errors
+    ///
+    /// An error where memory was refused.
+    pub fn copy(&self, alloc: Global, n: usize) -> Result<Services, AllocError>
+        ensures { IfOk result (λ s. (s.rows.items ≡ self.now.rows.items)
+            × (length self.now.rows.items + n ≤ vec_capacity s.rows)) }
+    {
+        let mut rows = copies_of(alloc, &self.rows)?;
+        rows.reserve(n)?;
+        Ok(Services { rows })
     }
 
     /// Makes room for `n` more names.

@@ -83,6 +83,20 @@ fn services_stand_under_their_names(rt: HostRuntime) -> Result<(), Fail> {
 }
 
 #[test]
+fn a_copy_of_the_services_goes_its_own_way(rt: HostRuntime) -> Result<(), Fail> {
+    let mut names = Names::new(rt.alloc());
+    add(&mut names, rt.alloc(), b"power", service(1, 5, 1))?;
+    add(&mut names, rt.alloc(), b"audio", service(2, 6, 8))?;
+    let mut copy = names.services().copy(rt.alloc(), 1)?;
+    copy.remove(b"power");
+    assert_eq!(rt; copy.get(b"power").map(|s| s.node.object), None);
+    assert_eq!(rt; copy.get(b"audio").map(|s| s.node.object), Some(6));
+    assert_eq!(rt; copy.len(), 1);
+    assert_eq!(rt; object_at(&names, b"power"), Some(5));
+    Ok(())
+}
+
+#[test]
 fn a_watch_made_twice_is_there_twice(rt: HostRuntime) -> Result<(), Fail> {
     let mut names = Names::new(rt.alloc());
     assert!(rt; watch(&mut names, rt.alloc(), 7, b"power", 1)?);

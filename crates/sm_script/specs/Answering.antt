@@ -19,7 +19,8 @@ use Rattle.sm_history.specs.declared.records.Record.{Record}
 use Rattle.sm_history.specs.declared.refusal.Refusal.TheVariants.{Memory}
 use Rattle.sm_history.specs.declared.reply.Reply.TheVariants.{Refused}
 use Rattle.sm_audit.specs.AuditLines.{audit_line}
-use Rattle.sm_core.specs.Managed.{Managed, Answers, LooksAs, look_leaves, ring_after, step_leaves}
+use Rattle.sm_core.specs.Managed.{Managed, LooksAs, look_leaves, ring_after, step_leaves}
+use Rattle.sm_view.specs.Steps.{Steps}
 use Rattle.sm_wire.specs.declared.request.Request.{Request}
 use Rattle.sm_wire.specs.declared.request.Request.TheVariants.{Hello, Change, Look, Denials}
 use Rattle.sm_wire.specs.declared.request.Request.TheVariants as requests
@@ -43,7 +44,7 @@ recorded m = record { book = m.book; ring = m.ring }
 -- the ring; or memory was refused, and nothing changed
 pub record AnswersNow (old : Recorded) (by : By) (event : Event) (reply : Reply) (noted : List Record) (new : Recorded)
     : Type 0 where
-  pub answers : Answers old.book by (turn_of old.book.history by) event reply new.book
+  pub answers : Steps old.book by (turn_of old.book.history by) event reply new.book
   pub records : noted ≡ step_leaves old.book by (turn_of old.book.history by) event reply
   pub ring : new.ring ≡ ring_after old.ring old.book by (turn_of old.book.history by) event reply
 

@@ -2,11 +2,10 @@
 use Rattle.std.specs.Prelude.{◌≡◌, ◌⊎◌, ℕ, List, [], ◌++◌, Bool, true, false, ◌||◌, ◌&&◌, not, codes, MatchBool}
 use Rattle.std.specs.Prelude.{Option, Some, Result, OnOk}
 use Rattle.std.specs.Io.KnownBytes.{IsAtEnd}
-use Rattle.sm_history.specs.declared.event.Event.{Event}
-use Rattle.sm_history.specs.declared.event.Event.TheVariants.{Die}
 use Rattle.sm_history.specs.declared.outcome.Outcome.TheVariants.{Connected, Died}
 use Rattle.sm_history.specs.declared.reply.Reply.{Reply}
 use Rattle.sm_history.specs.declared.reply.Reply.TheVariants.{Done}
+use Rattle.sm_history.specs.Verdict.{is_die}
 use Rattle.sm_wire.specs.declared.request.Request.{Request}
 use Rattle.sm_wire.specs.declared.request.Request.TheVariants.{Hello, Change, Look, Reload, Denials}
 use Rattle.sm_wire.specs.declared.item.Item.{Item}
@@ -78,9 +77,10 @@ unfoldable pub is_died : Response → Bool
 is_died (Replied (Done Died)) = true
 is_died _ = false
 
-unfoldable pub is_die : Event → Bool
-is_die Die = true
-is_die _ = false
+-- a desk hears of a `hello` by a call of its own
+abbrev pub is_hello : Request → Bool
+is_hello (Hello who) = true
+is_hello _ = false
 
 -- a `hello` is answered by a client's number
 abbrev pub makes_client : Item → Response → Bool

@@ -1,10 +1,12 @@
 //! What answers the lines of a session.
 
+ghost use Rattle.std.specs.Prelude.{◌≡◌, false};
 ghost use Rattle.sm_kinds.specs.declared.identity.Identity.{Identity};
 ghost use Rattle.sm_wire.specs.declared.request.Request.TheVariants.{Hello};
 ghost use Rattle.sm_wire.specs.declared.item.Item.{Item};
 ghost use Rattle.sm_wire.specs.declared.item.Item.TheVariants.{Asked, Policy};
 ghost use Rattle.sm_session.specs.declared.response.Response.{Response};
+ghost use Rattle.sm_session.specs.Sessions.{is_hello};
 
 use crate::response::Response;
 use sm_kinds::Identity;
@@ -22,8 +24,9 @@ pub trait Desk {
     fn hello(&mut self, who: Identity) -> Response
         ensures { answers self.old (Asked (Hello who)) result self.new };
 
-    /// The client or the administrator asks for something. A client's `bye` is asked here.
+    /// The client or the administrator asks for something. A client's `bye` is asked here, a `hello` isn't.
     fn ask(&mut self, request: Request) -> Response
+        requires { is_hello request ≡ false }
         ensures { answers self.old (Asked request) result self.new };
 
     /// The administrator replaces the policy, if it has the expected version, by the one of these texts.

@@ -31,6 +31,8 @@ pub fn session<D: Desk, G: Gate, R: Read, W: Write>(
     ensures reads { calls_of reader.new ≤ calls_of reader.old + bound }
     ensures read_fault { result.1 ≡ Err Fault.ReadFault → failures_of reader.old < failures_of reader.new }
     ensures write_fault { result.1 ≡ Err Fault.WriteFault → failures_of writer.old < failures_of writer.new }
+    ensures read_told { failures_of reader.old < failures_of reader.new → result.1 ≡ Err Fault.ReadFault }
+    ensures write_told { failures_of writer.old < failures_of writer.new → result.1 ≡ Err Fault.WriteFault }
 {
     let mut gated = Gated::new(alloc, kind, desk, gate);
     let mut unaudited = Counted::new(Vec::new(alloc));
@@ -52,6 +54,7 @@ pub fn session<D: Desk, G: Gate, R: Read, W: Write>(
 fn by_writer(ending: Result<(), Fault>, has_failed: bool) -> Result<(), Fault>
     ensures same { (result ≡ ending) ⊎ ((ending ≡ Err Fault.WriteFault) × (result ≡ Err Fault.Memory)) }
     ensures write_fault { result ≡ Err Fault.WriteFault → has_failed ≡ true }
+    ensures told { has_failed ≡ true → result ≡ ending }
 {
     match ending {
         Ok(()) => Ok(()),

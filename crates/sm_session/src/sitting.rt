@@ -1,9 +1,10 @@
 //! A desk with the state of a session.
 
 ghost use Rattle.std.specs.Prelude.{◌≡◌, OnOk, OnErr, false, if◌then◌else◌};
+ghost use Rattle.sm_history.specs.Verdict.{is_die};
 ghost use Rattle.sm_wire.specs.declared.request.Request.TheVariants.{Hello, Change};
 ghost use Rattle.sm_wire.specs.declared.item.Item.TheVariants.{Asked, Policy};
-ghost use Rattle.sm_session.specs.Sessions.{client_may, admin_may, may_ask, may_reload, is_asked, is_connected, is_died, is_die, Asks, TakesItem, SitsThrough, Adds, Loses};
+ghost use Rattle.sm_session.specs.Sessions.{client_may, admin_may, may_ask, may_reload, is_asked, is_connected, is_died, Asks, TakesItem, SitsThrough, Adds, Loses};
 
 use crate::desk::Desk;
 use crate::response::Response;
@@ -210,7 +211,6 @@ fn is_died(response: &Response) -> bool
     matches!(response, Response::Replied(Reply::Done(Outcome::Died)))
 }
 
-#[tactic(auto, unfolding(crate::specs::Sessions::is_die))]
 fn is_die(event: &Event) -> bool
     ensures { result ≡ is_die event.now }
 {

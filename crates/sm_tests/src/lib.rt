@@ -3,10 +3,14 @@
 
 mod failing;
 
-pub use failing::{FailAt, OneByte};
+pub use failing::{FailAt, OneByte, Pieces};
 
 #[cfg(test)]
+mod attending;
+#[cfg(test)]
 mod checks;
+#[cfg(test)]
+mod connections;
 #[cfg(test)]
 mod crowds;
 #[cfg(test)]
@@ -28,6 +32,10 @@ mod limits;
 #[cfg(test)]
 mod lines;
 #[cfg(test)]
+mod lost_connections;
+#[cfg(test)]
+mod manager_desk;
+#[cfg(test)]
 mod policies;
 #[cfg(test)]
 mod reloads;
@@ -45,3 +53,5 @@ mod talk;
 mod texts;
 #[cfg(test)]
 mod turns;
+#[cfg(test)]
+mod views;

@@ -12,13 +12,13 @@ use std::mem::size_of;
 use std::process::Abort;
 use std::test::Fail;
 
-fn policy(rt: &impl Abort, alloc: Global) -> Prepared {
+pub fn policy(rt: &impl Abort, alloc: Global) -> Prepared {
     Prepared::from_texts(alloc, DEVICE_RULES, DEVICE_LABELS)
         .ok()
         .expect(rt, "a policy")
 }
 
-fn process(rt: &impl Abort, alloc: Global, context: &[u8]) -> Identity {
+pub fn process(rt: &impl Abort, alloc: Global, context: &[u8]) -> Identity {
     Identity {
         pid: 1,
         uid: 1000,
@@ -26,7 +26,7 @@ fn process(rt: &impl Abort, alloc: Global, context: &[u8]) -> Identity {
     }
 }
 
-fn server(rt: &impl Abort, alloc: Global) -> Identity {
+pub fn server(rt: &impl Abort, alloc: Global) -> Identity {
     process(rt, alloc, b"u:r:system_server:s0")
 }
 
@@ -101,7 +101,7 @@ fn activity(alloc: Global) -> Result<Name, Fail> {
     Ok(Name::new(alloc, b"activity")?)
 }
 
-fn add(alloc: Global) -> Result<Event, Fail> {
+pub fn add(alloc: Global) -> Result<Event, Fail> {
     Ok(Event::Add {
         name: activity(alloc)?,
         obj: ObjRef::Own(1),
@@ -368,7 +368,7 @@ fn two_administrators(rt: HostRuntime) {
     assert_eq!(rt; manager.turn(second), 1);
 }
 
-fn application(rt: &impl Abort, alloc: Global) -> Identity {
+pub fn application(rt: &impl Abort, alloc: Global) -> Identity {
     Identity {
         pid: 200,
         uid: 10007,

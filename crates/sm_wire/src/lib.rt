@@ -24,6 +24,8 @@ mod refusals;
 mod replies;
 mod request;
 mod telling;
+#[cfg(test)]
+mod tests;
 mod texts;
 mod values;
 

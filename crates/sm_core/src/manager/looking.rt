@@ -19,7 +19,7 @@ use sm_kinds::Name;
 use std::alloc::AllocError;
 
 /// Who may ask which query.
-fn may_ask(by: By, query: &Query) -> bool
+pub fn may_ask(by: By, query: &Query) -> bool
     ensures { result ≡ is_their_query by query.now }
 {
     match by {

@@ -52,6 +52,10 @@ returns-then-n-eq0-clause-write_fault g c = λ h.
     let f = IfErr-at_err _ h c.write_ending.ensures.failed in
     omega (arith, c.loop-reads.invariant.writer_count, c.loop-reads.invariant.audit_count)
 
+pub returns-then-n-eq0-clause-write_told : goal.returns-then-n-eq0-clause-write_told
+returns-then-n-eq0-clause-write_told g c = λ h. c.write_ending.ensures.told
+    (omega (arith, h, c.loop-reads.invariant.writer_count, c.loop-reads.invariant.audit_count))
+
 pub take_piece-requires-clause-alive : goal.take_piece-requires-clause-alive
 take_piece-requires-clause-alive g c = rw c.loop-reads.invariant.sofar.scanned c.loop-reads.invariant.sofar.alive
 

@@ -6,5 +6,6 @@ use Rattle.sm_core.proofs.manager.Manager.judge_release.Goals as goal
 
 pub returns : goal.returns
 returns c old =
-    release_judged (moment_of c.args.self.now.book.history) old (effects_of c.args.self.now.book.history) c.args.client c.args.handle c.in-Some.node _ (search rules)
+    release_judged (moment_of c.args.self.now.book.history) old (effects_of c.args.self.now.book.history)
+    c.args.client c.args.handle c.in-Some.node _ (search rules)
     c.in-Some.ensures c.requires c.in_ok-effects.ensures refl refl

@@ -19,7 +19,8 @@ returns c =
     let name = c.args.name.now in
     let object = c.args.object in (
       search rules,
-      unwatch_plan (moment_of c.args.self.now.book.history) d k name object c.in_ok-watch.watch _ (search rules) c.in_ok-watch.ensures c.requires c.in_ok-effects.ensures
+      unwatch_plan (moment_of c.args.self.now.book.history) d k name object c.in_ok-watch.watch _ (search rules)
+          c.in_ok-watch.ensures c.requires c.in_ok-effects.ensures
           (ap (λ (n : ℕ). Unwatched n) (c.watching-ended.ensures
           ∙ ap (λ (v : List ℕ). count_by (same_watch (watch k v object)) (watches_at d)) c.bytes-2.ensures)) refl,
     )

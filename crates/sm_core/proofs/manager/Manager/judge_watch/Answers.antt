@@ -21,7 +21,8 @@ pub returns-in-Some-service : goal.returns-in-Some-service
 returns-in-Some-service c =
     let d = effects_of c.args.self.now.book.history in
     let own = ap (λ (r : ClientRow). r.id) c.in-Some.ensures.1 in
-    watch_judged c.args.self.now.book.history _ _ c.args.client c.args.name.now c.args.object c.in-Some-service.service c.in_ok-watch.watch
+    watch_judged c.args.self.now.book.history _ _ c.args.client c.args.name.now c.args.object
+    c.in-Some-service.service c.in_ok-watch.watch
     c.in_ok-made.made c.in_ok-effects.effects.items c.plan_watched.result
     (rw own at c.in_default-judge_watching.ensures.0)
     (c.in-Some-service.ensures ∙ ap (service_at d) c.bytes.ensures) c.in_ok-watch.ensures c.in_ok-made.ensures
@@ -32,7 +33,8 @@ returns c =
     let d = effects_of c.args.self.now.book.history in
     let own = ap (λ (r : ClientRow). r.id) c.in-Some.ensures.1 in (
       rw own at c.in_default-judge_watching.ensures.0,
-      watch_alone (moment_of c.args.self.now.book.history) d c.args.client c.args.name.now c.args.object c.in_ok-made.made _ (search rules)
+      watch_alone (moment_of c.args.self.now.book.history) d c.args.client c.args.name.now c.args.object
+          c.in_ok-made.made _ (search rules)
           (c.in-None.ensures ∙ ap (service_at d) c.bytes.ensures) c.in_ok-made.ensures c.requires
           c.in_default-judge_watching.ensures.1 c.in_ok-effects.ensures refl refl,
     )

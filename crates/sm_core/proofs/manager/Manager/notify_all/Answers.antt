@@ -5,7 +5,8 @@ use Rattle.sm_history.specs.Clients.{is_live}
 use Rattle.sm_history.specs.Histories.{effects_of}
 use Rattle.sm_history.specs.Following.{followed}
 use Rattle.sm_history.specs.Records.{moment_of}
-use Rattle.sm_core.proofs.TellingAll.{records_further, one_further, live_further, notices_further, after_further, few_further}
+use Rattle.sm_core.proofs.TellingAll.{records_further, one_further, live_further, notices_further}
+use Rattle.sm_core.proofs.TellingAll.{after_further, few_further}
 use Rattle.sm_core.proofs.manager.Manager.notify_all.Goals as goal
 
 pub notify-requires-clause-live : goal.notify-requires-clause-live
@@ -37,7 +38,8 @@ loop-watch-preserved c =
           c.loop-watch.invariant.notices;
       records = records_further (moment_of c.args.self.now.book.history) (followed d c.loop-watch.telling.effects.items)
           (followed d c.notify.new.telling.effects.items) c.args.node (drop i ws) (drop (i + 1) ws) w
-          c.loop-watch.telling.records c.notify.new.telling.records _ is on.records on.after c.loop-watch.invariant.records;
+          c.loop-watch.telling.records c.notify.new.telling.records _ is on.records on.after
+          c.loop-watch.invariant.records;
       after = after_further (followed d c.loop-watch.telling.effects.items)
           (followed d c.notify.new.telling.effects.items) c.args.node (drop i ws) (drop (i + 1) ws) w _ is on.after
           c.loop-watch.invariant.after;

@@ -25,5 +25,5 @@ returns-in-Ok-reason c =
       records = c.judge_told.new.notes;
     } in
     tells_not c.args.self.now.book.history c.args.node c.args.watch.now c.args.telling.now after
-    c.left-left.result c.in-Err.stop c.in-Ok-reason.reason refl refl c.requires.telling c.requires.live c.left-left.ensures
-    c.in-Err.ensures c.in-Ok-reason.ensures.1 c.in-Ok-reason.ensures.0
+    c.left-left.result c.in-Err.stop c.in-Ok-reason.reason refl refl c.requires.telling c.requires.live
+    c.left-left.ensures c.in-Err.ensures c.in-Ok-reason.ensures.1 c.in-Ok-reason.ensures.0

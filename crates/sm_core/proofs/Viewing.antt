@@ -1,0 +1,158 @@
+-- What a view's parts are after more effects, and what it answers.
+use Rattle.std.proofs.Common.{◌≡◌, ℕ, ◌+◌, ◌||◌, Bool, true, false, List, [], ◌∷◌, refl, ap, sym, subst, ◌∙◌, length, inr, if◌then◌else◌, arith}
+use Rattle.std.specs.List.{list_any}
+use Rattle.std.proofs.lemmas.Bool.{true≢false}
+use Rattle.sm_history.specs.declared.effect.Effect.{Effect}
+use Rattle.sm_history.specs.declared.effect.Effect.TheVariants.{Opens, Sets, Connects, Dies, Adds, Removes, Gives, Releases, Watches, Unwatches, Delivers, Takes, Resumes}
+use Rattle.sm_history.specs.Effects.{Effects}
+use Rattle.sm_history.specs.Following.{MayFollow, MayAll, followed}
+use Rattle.sm_history.specs.Histories.{History, effects_of, entered, turn_of}
+use Rattle.sm_history.specs.Openings.{Opening, is_same}
+use Rattle.sm_history.specs.Sound.{Sound}
+use Rattle.sm_history.specs.declared.by.By.{By}
+use Rattle.sm_history.proofs.Fits.{fits_any}
+use Rattle.sm_history.proofs.LawfulLaws.{turn_more, turn_same}
+use Rattle.sm_names.specs.declared.services.Services.{Services}
+use Rattle.sm_core.specs.declared.ready.Ready.{Ready}
+use Rattle.sm_core.specs.declared.state.State.{State}
+use Rattle.sm_core.specs.declared.turns.Turns.{Turns}
+use Rattle.sm_core.specs.Counting.{made}
+use Rattle.sm_core.specs.Kept.{Kept}
+use Rattle.sm_core.specs.Stands.{Stands}
+use Rattle.sm_history.proofs.AfterNames.{service_connects}
+use Rattle.sm_history.proofs.Followed.{sound_follows}
+use Rattle.sm_names.specs.declared.row.NameRow.{NameRow}
+use Rattle.sm_names.specs.Rows.{TracksRows}
+use Rattle.sm_names.proofs.Others.{same_rows}
+use Rattle.sm_core.specs.declared.people.People.{People}
+use Rattle.sm_core.specs.Viewing.{IsComing, StandPeople, Viewed, counted_in, moves_people, moves_services}
+
+-- ---- effects that a part doesn't hear of
+
+same_people : (x : Effect) (d : Effects) (p : People) → moves_people x ≡ false → StandPeople d p → StandPeople (x ∷ d) p
+same_people (Opens who) d p h s = absurd (true≢false h)
+same_people (Sets policy) d p h s = absurd (true≢false h)
+same_people (Connects c who) d p h s = absurd (true≢false h)
+same_people (Dies c) d p h s = absurd (true≢false h)
+same_people (Resumes v n) d p h s = absurd (true≢false h)
+same_people (Adds name t) d p h s =
+    record { manager = s.manager; policy = s.policy; version = s.version; clients = s.clients }
+same_people (Removes name) d p h s =
+    record { manager = s.manager; policy = s.policy; version = s.version; clients = s.clients }
+same_people (Gives c n r) d p h s =
+    record { manager = s.manager; policy = s.policy; version = s.version; clients = s.clients }
+same_people (Releases c n) d p h s =
+    record { manager = s.manager; policy = s.policy; version = s.version; clients = s.clients }
+same_people (Watches w) d p h s =
+    record { manager = s.manager; policy = s.policy; version = s.version; clients = s.clients }
+same_people (Unwatches w) d p h s =
+    record { manager = s.manager; policy = s.policy; version = s.version; clients = s.clients }
+same_people (Delivers c x) d p h s =
+    record { manager = s.manager; policy = s.policy; version = s.version; clients = s.clients }
+same_people (Takes c) d p h s =
+    record { manager = s.manager; policy = s.policy; version = s.version; clients = s.clients }
+
+pub same_services : (x : Effect) (d : Effects) (rows : List NameRow) → moves_services x ≡ false → Sound d
+    → MayFollow d x → TracksRows d rows → TracksRows (x ∷ d) rows
+same_services (Adds name t) d rows h s m tr = absurd (true≢false h)
+same_services (Removes name) d rows h s m tr = absurd (true≢false h)
+same_services (Dies c) d rows h s m tr = absurd (true≢false h)
+same_services (Connects c who) d rows h s m tr =
+    same_rows (Connects c who) d rows (λ name. service_connects d c who name m s.owned) tr
+same_services (Opens who) d rows h s m tr = same_rows (Opens who) d rows (λ name. refl) tr
+same_services (Sets p) d rows h s m tr = same_rows (Sets p) d rows (λ name. refl) tr
+same_services (Gives c n r) d rows h s m tr = same_rows (Gives c n r) d rows (λ name. refl) tr
+same_services (Releases c n) d rows h s m tr = same_rows (Releases c n) d rows (λ name. refl) tr
+same_services (Watches w) d rows h s m tr = same_rows (Watches w) d rows (λ name. refl) tr
+same_services (Unwatches w) d rows h s m tr = same_rows (Unwatches w) d rows (λ name. refl) tr
+same_services (Delivers c x) d rows h s m tr = same_rows (Delivers c x) d rows (λ name. refl) tr
+same_services (Takes c) d rows h s m tr = same_rows (Takes c) d rows (λ name. refl) tr
+same_services (Resumes v n) d rows h s m tr = absurd m
+
+-- Where none of some effects is one that the part hears of, it stays.
+none_first : (a b : Bool) → a || b ≡ false → a ≡ false
+none_first true b e = absurd (true≢false e)
+none_first false b e = refl
+
+none_rest : (a b : Bool) → a || b ≡ false → b ≡ false
+none_rest true b e = absurd (true≢false e)
+none_rest false b e = e
+
+pub people_stay : (xs : List Effect) (d : Effects) (p : People) → list_any moves_people xs ≡ false → StandPeople d p
+    → StandPeople (followed d xs) p
+people_stay [] d p h s = s
+people_stay (x ∷ xs) d p h s =
+    people_stay xs (x ∷ d) p (none_rest (moves_people x) (list_any moves_people xs) h)
+    (same_people x d p (none_first (moves_people x) (list_any moves_people xs) h) s)
+
+pub services_stay : (xs : List Effect) (d : Effects) (rows : List NameRow) → list_any moves_services xs ≡ false → Sound d
+    → MayAll d xs → TracksRows d rows → TracksRows (followed d xs) rows
+services_stay [] d rows h s m tr = tr
+services_stay (x ∷ xs) d rows h s m tr =
+    services_stay xs (x ∷ d) rows (none_rest (moves_services x) (list_any moves_services xs) h)
+    (sound_follows d x s m.0) m.1
+    (same_services x d rows (none_first (moves_services x) (list_any moves_services xs) h) s m.0 tr)
+
+-- ---- effects one by one
+
+-- What holds of the effects so far, where these are left of all.
+abbrev pub Going : (Effects → Type 0) → Effects → List Effect → List Effect → Type 0
+Going P d xs left = (e : Effects) × Sound e × P e × MayAll e left × (followed e left ≡ followed d xs)
+
+pub goes_on : (P Q : Effects → Type 0) (d : Effects) (xs left rest : List Effect) (x : Effect) → left ≡ x ∷ rest
+    → ((e : Effects) → Sound e → MayFollow e x → P e → Q (x ∷ e)) → Going P d xs left → Going Q d xs rest
+goes_on P Q d xs left rest x is step g =
+    let may : MayAll g.0 (x ∷ rest) = subst (MayAll g.0) is g.3 in
+    (x ∷ g.0, sound_follows g.0 x g.1 may.0, step g.0 g.1 may.0 g.2, may.1, ap (followed g.0) (sym is) ∙ g.4)
+
+pub gone : (P : Effects → Type 0) (d : Effects) (xs left : List Effect) → left ≡ [] → Going P d xs left
+    → P (followed d xs)
+gone P d xs left is g = subst P (ap (followed g.0) (sym is) ∙ g.4) g.2
+
+-- ---- views
+
+-- The parts of a view of what there is now.
+pub viewed_now : (places : ℕ) (h : History) (turns : Turns) (s : State) (len : ℕ) (people : People)
+    (services : Services) (base : Turns) (since : List By)
+    → Kept places h turns s [] → len ≡ length h.entries
+    → ((d : Effects) → Stands d s → StandPeople d people) → ((d : Effects) → Stands d s → TracksRows d services.rows.items)
+    → ((b : By) → counted_in base since b ≡ made turns b)
+    → Viewed places h len people services base since
+viewed_now places h turns s len people services base since k is asks named counts = record {
+  lawful = k.lawful;
+  first = k.first;
+  fits = k.fits;
+  few = k.few;
+  length_is = let z = ap (λ (o : Opening). o.length) k.first in omega (arith, z, is);
+  asks = asks (effects_of h) k.stands;
+  named = named (effects_of h) k.stands;
+  turns = λ by. counts by ∙ k.turns_are by;
+}
+
+-- The parts of a view of what there is once an event is committed.
+pub viewed_more : (places : ℕ) (h : History) (turns : Turns) (s : State) (r : Ready) (len : ℕ)
+    (people people' : People) (services services' : Services) (base base' : Turns) (since since' : List By)
+    → Kept places h turns s [] → IsComing places h s.version r → Viewed places h len people services base since
+    → ((d : Effects) → Stands d s → StandPeople d people → MayAll d r.effects.items
+    → StandPeople (followed d r.effects.items) people')
+    → ((d : Effects) → Sound d → TracksRows d services.rows.items → MayAll d r.effects.items
+    → TracksRows (followed d r.effects.items) services'.rows.items)
+    → ((b : By) → counted_in base' since' b ≡ (if is_same b r.entry.by then made turns b + 1 else made turns b))
+    → Viewed places (entered r.entry h) (len + 1) people' services' base' since'
+viewed_more places h turns s r len people people' services services' base base' since since' k coming v asks named
+    counts = let e = r.entry in let d = effects_of h in record {
+      lawful = inr (k.lawful, coming.done, coming.sound);
+      first = k.first;
+      fits = fits_any places h e.by e.turn e.event e.outcome k.stands.sound k.fits coming.done;
+      few = k.few;
+      length_is = let was = v.length_is in omega (arith, was);
+      asks = subst (λ (x : Effects). StandPeople x people') coming.effects (asks d k.stands v.asks coming.may);
+      named = subst (λ (x : Effects). TracksRows x services'.rows.items) coming.effects
+          (named d k.stands.sound v.named coming.may);
+      turns = λ by. counts by
+          ∙ elim (is_same by e.by) as (λ t. is_same by e.by ≡ t →
+          (if t then made turns by + 1 else made turns by) ≡ turn_of (entered e h) by) [
+            | true ↦ λ q. ap (λ (n : ℕ). n + 1) (k.turns_are by) ∙ sym (turn_same e h by q)
+            | false ↦ λ q. k.turns_are by ∙ sym (turn_more e h by q)
+          ] refl;
+    }

@@ -1,0 +1,24 @@
+use Rattle.std.proofs.Common.{◌≡◌, ◌+◌, ◌∷◌, drop, ap, ◌∙◌, rules, suc, length, arith}
+use Rattle.std.proofs.Math.Seq.{drop-cons}
+use Rattle.sm_core.specs.Viewing.{StandPeople}
+use Rattle.sm_core.proofs.Viewing.{goes_on}
+use Rattle.sm_core.proofs.people.People.after.Goals as goal
+
+pub loop-effect-preserved : goal.loop-effect-preserved
+loop-effect-preserved c =
+    let i = c.loop-effect.effect-index in
+    let xs = c.args.effects.now in
+    let x = c.effect-item.result in
+    let one : suc i ≡ i + 1 = omega arith in
+    let left : drop i xs ≡ x ∷ drop (i + 1) xs =
+    drop-cons xs i x c.loop-effect-test.true ∙ ap (λ y. y ∷ drop (suc i) xs) (search rules)
+    ∙ ap (λ n. x ∷ drop n xs) one in
+    record {
+      small =
+          let s = rw left at c.loop-effect.invariant.small in
+          let grown = c.follow.ensures.version in
+          omega (arith, s, grown);
+      stand = λ d s m. goes_on (λ e. StandPeople e c.loop-effect.people)
+          (λ e. StandPeople e c.follow.new.self) d xs (drop i xs) (drop (i + 1) xs) x left
+          c.in_ok-follow.ensures.stand (c.loop-effect.invariant.stand d s m);
+    }

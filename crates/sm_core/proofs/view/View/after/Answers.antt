@@ -1,0 +1,32 @@
+use Rattle.std.proofs.Common.{◌≡◌, ◌∙◌, ◌+◌, ap, sym, subst, ℕ}
+use Rattle.std.specs.Arc.{arc_value}
+use Rattle.sm_history.specs.Books.{Book}
+use Rattle.sm_history.specs.Histories.{History, entered}
+use Rattle.sm_history.specs.declared.entry.Entry.{Entry}
+use Rattle.sm_core.specs.Journals.{Written}
+use Rattle.sm_core.specs.Viewing.{Viewed}
+use Rattle.sm_core.proofs.Viewing.{viewed_more}
+use Rattle.sm_core.proofs.view.View.after.Goals as goal
+
+pub invariant_of-result : goal.invariant_of-result
+invariant_of-result c =
+    let i = c.self.inside in
+    let h = c.args.journal.now.history in
+    let places : i.places ≡ c.args.self.now.places = ap (λ (b : Book). b.places) c.self.view_is in
+    let was = ap (λ (b : Book). b.history) c.self.view_is ∙ c.requires.now in
+    let people = arc_value c.in_ok-people.people in
+    let services = arc_value c.in_ok-services.services in
+    let base = arc_value c.in_ok-tally.tally.base in
+    let since = c.in_ok-tally.tally.since.items in
+    let before : Viewed i.places h i.length (arc_value i.people) (arc_value i.services) (arc_value i.tally.base)
+    i.tally.since.items =
+    subst (λ (g : History). Viewed i.places g i.length (arc_value i.people) (arc_value i.services)
+    (arc_value i.tally.base) i.tally.since.items) was c.self.invariant in
+    subst (λ (j : Written). Viewed i.places (entered c.of-2.result.value j.history) (i.length + 1) people services base
+    since) (sym c.of.ensures)
+    (subst (λ (e : Entry). Viewed i.places (entered e h) (i.length + 1) people services base since) (sym c.of-2.ensures)
+    (viewed_more i.places h c.args.turns.now c.args.state.now c.args.ready.now i.length (arc_value i.people) people
+    (arc_value i.services) services (arc_value i.tally.base) base i.tally.since.items since
+    (rw (← places) at c.requires.kept) (rw (← places) at c.requires.coming) before
+    (rw c.deref.ensures.value at c.in_ok-people.ensures) (rw c.deref-2.ensures.value at c.in_ok-services.ensures)
+    c.in_ok-tally.ensures))

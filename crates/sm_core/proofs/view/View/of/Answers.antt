@@ -1,0 +1,25 @@
+use Rattle.std.proofs.Common.{◌≡◌, ◌∙◌, ap, sym, subst, List, ℕ}
+use Rattle.std.specs.Arc.{arc_value}
+use Rattle.sm_core.specs.Journals.{Written}
+use Rattle.sm_core.specs.Viewing.{Viewed, StandPeople}
+use Rattle.sm_core.specs.declared.people.People.{People}
+use Rattle.sm_names.specs.Rows.{TracksRows}
+use Rattle.sm_names.specs.declared.row.NameRow.{NameRow}
+use Rattle.sm_names.specs.declared.services.Services.{Services}
+use Rattle.sm_core.proofs.Viewing.{viewed_now}
+use Rattle.sm_core.proofs.view.View.of.Goals as goal
+
+pub invariant_of-result : goal.invariant_of-result
+invariant_of-result c =
+    let now = c.args.journal.now in
+    let people = arc_value c.in_ok-people.people in
+    let services = arc_value c.in_ok-services.services in
+    let rows : services.rows.items ≡ c.services.result.now.rows.items =
+    ap (λ (t : Services). t.rows.items) c.in_ok-services.ensures.ok ∙ c.in_ok-copy.ensures.0 in
+    subst (λ (j : Written). Viewed c.args.places j.history c.len.result people services
+    (arc_value c.in_ok-tally.tally.base) c.in_ok-tally.tally.since.items) (sym c.of-3.ensures)
+    (viewed_now c.args.places now.history c.args.turns.now c.args.state.now c.len.result people services
+    (arc_value c.in_ok-tally.tally.base) c.in_ok-tally.tally.since.items c.requires c.len.ensures
+    (λ d s. subst (λ (p : People). StandPeople d p) (sym c.in_ok-people.ensures.ok) (c.in_ok-of.ensures.stand d s))
+    (λ d s. subst (λ (rs : List NameRow). TracksRows d rs) (sym rows) (c.services.ensures d s.names))
+    c.in_ok-tally.ensures)

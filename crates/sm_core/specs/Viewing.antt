@@ -1,0 +1,107 @@
+-- What a view is of, and what its parts say.
+use Rattle.std.specs.Prelude.{ℕ, ◌≡◌, ◌≤◌, ◌+◌, ◌⊎◌, Bool, true, false, List, Option, Some, None, count_by}
+use Rattle.std.specs.Prelude.{length as list_length}
+use Rattle.sm_kinds.specs.Contexts.{type_of}
+use Rattle.sm_kinds.specs.declared.class.Class.{Class}
+use Rattle.sm_kinds.specs.declared.class.Class.TheVariants.{Binder, ServiceManager}
+use Rattle.sm_kinds.specs.declared.identity.Identity.{Identity}
+use Rattle.sm_kinds.specs.declared.perms.Perms.{Perms}
+use Rattle.sm_policy.specs.Policy.{allowed}
+use Rattle.sm_history.specs.Checks.{calling, listing, rule_denial}
+use Rattle.sm_history.specs.declared.refusal.Refusal.{Refusal}
+use Rattle.sm_history.specs.declared.refusal.Refusal.TheVariants.{Denied, Memory}
+use Rattle.sm_history.specs.declared.by.By.{By}
+use Rattle.sm_history.specs.declared.entry.Entry.{Entry}
+use Rattle.sm_history.specs.declared.effect.Effect.{Effect}
+use Rattle.sm_history.specs.declared.effect.Effect.TheVariants.{Opens, Sets, Connects, Dies, Adds, Removes, Resumes}
+use Rattle.sm_history.specs.Effects.{Effects}
+use Rattle.sm_history.specs.Clients.{policy_at, version_at, manager_at}
+use Rattle.sm_history.specs.declared.reply.Reply.TheVariants.{Done}
+use Rattle.sm_history.specs.Following.{MayAll, followed}
+use Rattle.sm_history.specs.Histories.{History, after_event, client_of, effects_of, entered, length_of, turn_of}
+use Rattle.sm_history.specs.Openings.{is_same, nothing}
+use Rattle.sm_history.specs.Lawful.{IsLawful, FitsPlaces, HasSoundPolicy}
+use Rattle.sm_history.specs.Verdict.{verdict}
+use Rattle.sm_kinds.specs.declared.limits.TheConstants.{MOST_PLACES}
+use Rattle.sm_names.specs.declared.services.Services.{Services}
+use Rattle.sm_names.specs.Rows.{TracksRows}
+use Rattle.sm_core.specs.declared.people.People.{People}
+use Rattle.sm_core.specs.declared.ready.Ready.{Ready}
+use Rattle.sm_core.specs.declared.turns.Turns.{Turns}
+use Rattle.sm_core.specs.Counting.{made}
+use Rattle.sm_core.specs.Tables.{process_at, client_rows}
+
+-- A history, and the change that comes next where there is one.
+abbrev pub with_next : {S : Type 0} → (S → Entry) → Option S → History → History
+with_next value None h = h
+with_next value (Some s) h = entered (value s) h
+
+-- The manager's process and those of the live clients, under the policy in force, are those of the effects.
+pub record StandPeople (d : Effects) (p : People) : Type 0 where
+  pub manager : p.manager ≡ process_at d (manager_at d)
+  pub policy : p.policy ≡ policy_at d
+  pub version : p.version ≡ version_at d
+  pub clients : p.clients.items ≡ client_rows d
+
+-- An effect on who asks, and under which policy.
+abbrev pub moves_people : Effect → Bool
+moves_people (Opens who) = true
+moves_people (Sets policy) = true
+moves_people (Connects c who) = true
+moves_people (Dies c) = true
+moves_people (Resumes version clients) = true
+moves_people _ = false
+
+-- An effect on the services under names.
+abbrev pub moves_services : Effect → Bool
+moves_services (Adds name s) = true
+moves_services (Removes name) = true
+moves_services (Dies c) = true
+moves_services _ = false
+
+-- A rule gives a process a permission on the manager's context.
+abbrev pub IsGiven : Effects → Identity → Class → Perms → Type 0
+IsGiven d who class perm =
+    allowed (policy_at d) (type_of who.context) (type_of (manager_at d).context) class perm ≡ true
+
+-- It doesn't, and that is the denial; or memory was wanted.
+abbrev pub IsMissing : Effects → Identity → Class → Perms → Refusal → Type 0
+IsMissing d who class perm refusal =
+    (refusal ≡ Memory)
+    ⊎ ((allowed (policy_at d) (type_of who.context) (type_of (manager_at d).context) class perm ≡ false)
+    × (refusal ≡ Denied (rule_denial class perm who (manager_at d).context)))
+
+-- A process may list the names.
+pub record MayList (d : Effects) (who : Identity) : Type 0 where
+  pub calls : IsGiven d who Binder calling
+  pub lists : IsGiven d who ServiceManager listing
+
+-- The first of the two rules that isn't there.
+abbrev pub MayNotList : Effects → Identity → Refusal → Type 0
+MayNotList d who refusal =
+    IsMissing d who Binder calling refusal
+    ⊎ (IsGiven d who Binder calling × IsMissing d who ServiceManager listing refusal)
+
+-- An actor's changes: those counted in a table, and those listed since.
+abbrev pub counted_in : Turns → List By → By → ℕ
+counted_in base since by = made base by + count_by (is_same by) since
+
+-- The parts of a view are those of its history.
+pub record Viewed (places : ℕ) (h : History) (length : ℕ) (people : People) (services : Services) (base : Turns)
+    (since : List By) : Type 0 where
+  pub lawful : IsLawful places h
+  pub first : h.opening ≡ nothing
+  pub fits : FitsPlaces places h
+  pub few : places ≤ MOST_PLACES
+  pub length_is : length ≡ length_of h
+  pub asks : StandPeople (effects_of h) people
+  pub named : TracksRows (effects_of h) services.rows.items
+  pub turns : (by : By) → counted_in base since by ≡ turn_of h by
+
+-- What is asked of an event that is ready, after this history and with a policy of this number in force.
+pub record IsComing (places : ℕ) (h : History) (version : ℕ) (r : Ready) : Type 0 where
+  pub done : verdict places h r.entry.by r.entry.turn r.entry.event ≡ Done r.entry.outcome
+  pub sound : HasSoundPolicy r.entry.event
+  pub effects : followed (effects_of h) r.effects.items ≡ after_event (effects_of h) (client_of r.entry.by) r.entry.event
+  pub may : MayAll (effects_of h) r.effects.items
+  pub numbers : version + list_length r.effects.items ≤ 4194304

@@ -1,0 +1,73 @@
+//! The services of a view.
+
+ghost use Rattle.std.specs.Prelude.{◌≡◌, ◌≤◌, ◌+◌, ◌∷◌, ℕ, length, IfOk, OnOk};
+ghost use Rattle.std.specs.List.{list_any};
+ghost use Rattle.std.specs.Vec.{vec_capacity};
+ghost use Rattle.sm_history.specs.Effects.{Effects};
+ghost use Rattle.sm_history.specs.Following.{MayFollow, MayAll, followed};
+ghost use Rattle.sm_history.specs.Sound.{Sound};
+ghost use Rattle.sm_names.specs.Rows.{TracksRows};
+ghost use Rattle.sm_core.specs.Viewing as spec;
+
+use sm_history::Effect;
+use sm_names::Services;
+use std::alloc::{AllocError, Global};
+
+/// Whether an effect is one on the services under names.
+fn moves_services(effect: &Effect) -> bool
+    ensures { result ≡ spec.moves_services effect.now }
+{
+    match effect {
+        Effect::Adds { .. } => true,
+        Effect::Removes { .. } => true,
+        Effect::Dies { .. } => true,
+        _ => false,
+    }
+}
+
+/// Whether one of some effects is one on the services under names.
+pub fn moves_any_services(effects: &[Effect]) -> bool
+    ensures { result ≡ list_any spec.moves_services effects.now }
+{
+    effects.iter().any(|effect| moves_services(effect))
+}
+
+/// These services, and some effects on.
+///
+/// # Errors
+///
+/// An error where memory was refused.
+pub fn services_after(
+    alloc: Global,
+    last: &Services,
+    effects: &[Effect],
+) -> Result<Services, AllocError>
+    ensures { IfOk result (λ s. (d : Effects) → Sound d → TracksRows d last.now.rows.items → MayAll d effects.now
+        → TracksRows (followed d effects.now) s.rows.items) }
+{
+    let mut services = last.copy(alloc, effects.len())?;
+    for effect in effects {
+        follow(&mut services, effect)?;
+    }
+    Ok(services)
+}
+
+/// One effect on.
+fn follow(services: &mut Services, effect: &Effect) -> Result<(), AllocError>
+    requires { length services.old.rows.items + 1 ≤ vec_capacity services.old.rows }
+    ensures tracks { OnOk result ((d : Effects) → Sound d → MayFollow d effect.now → TracksRows d services.old.rows.items
+        → TracksRows (effect.now ∷ d) services.new.rows.items) }
+    ensures left { (n : ℕ) → length services.old.rows.items + (n + 1) ≤ vec_capacity services.old.rows
+        → length services.new.rows.items + n ≤ vec_capacity services.new.rows }
+{
+    match effect {
+        Effect::Adds { name, service } => {
+            let name = name.clone()?;
+            services.put(name, *service);
+        }
+        Effect::Removes { name } => services.remove(name.bytes()),
+        Effect::Dies { client } => services.forget(*client),
+        _ => {}
+    }
+    Ok(())
+}

@@ -1,0 +1,39 @@
+//! Views of the manager.
+
+ghost use Rattle.std.specs.Prelude.{◌≡◌, IfOk};
+ghost use Rattle.sm_view.specs.Begins.{extended};
+ghost use Rattle.sm_core.specs.Readying.{IsReady};
+
+use crate::manager::Manager;
+use crate::ready::Ready;
+use crate::view::View;
+use std::alloc::AllocError;
+
+impl Manager {
+    /// What readers see of it now.
+    ///
+    /// # Errors
+    ///
+    /// An error where memory was refused.
+    pub fn view(&self) -> Result<View, AllocError>
+        ensures { IfOk result (λ v. v ≡ self.now.book) }
+    {
+        let alloc = self.alloc;
+        View::of(alloc, self.places, &self.journal, &self.state, &self.turns)
+    }
+
+    /// What readers see of it once this event is committed. What the event doesn't change is shared with the last
+    /// view, which is of what there is now.
+    ///
+    /// # Errors
+    ///
+    /// An error where memory was refused.
+    pub fn view_after(&self, ready: &Ready, last: &View) -> Result<View, AllocError>
+        requires ready { IsReady self.now ready.now }
+        requires last { last.now ≡ self.now.book }
+        ensures { IfOk result (λ v. v ≡ extended self.now.book ready.now.entry) }
+    {
+        let _ = &self.places;
+        last.after(&self.journal, &self.state, &self.turns, ready)
+    }
+}

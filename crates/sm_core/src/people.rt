@@ -1,0 +1,254 @@
+//! Who asks, and under which policy.
+
+ghost use Rattle.std.specs.Prelude.{◌≡◌, ◌≤◌, ◌<◌, ◌+◌, ◌∷◌, length, true, false, IfOk, OnOk, MatchOption, MatchResult, ◌⊎◌};
+ghost use Rattle.std.specs.List.{list_any};
+ghost use Rattle.sm_history.specs.Effects.{Effects};
+ghost use Rattle.sm_history.specs.Books.{Book};
+ghost use Rattle.sm_history.specs.Clients.{identity_at, is_live};
+ghost use Rattle.sm_history.specs.declared.query.Query.TheVariants.{List as ListNames};
+ghost use Rattle.sm_history.specs.Histories.{effects_of, length_of};
+ghost use Rattle.sm_history.specs.Queries.{found_out};
+ghost use Rattle.sm_names.specs.Rows.{TracksRows};
+ghost use Rattle.sm_view.specs.Promises.{Looks};
+ghost use Rattle.sm_history.specs.Following.{MayFollow, MayAll, followed};
+ghost use Rattle.sm_history.specs.Sound.{Sound};
+ghost use Rattle.sm_history.specs.Verdict.{is_there};
+ghost use Rattle.sm_history.specs.declared.refusal.Refusal.TheVariants.{Memory};
+ghost use Rattle.sm_core.specs.Stands.{Stands};
+ghost use Rattle.sm_core.specs.Tables.{client_row, process_at};
+ghost use Rattle.sm_core.specs.Viewing as spec;
+ghost use Rattle.sm_core.specs.Viewing.{StandPeople};
+
+use crate::client::{ClientRow, copies_of, drop_client, renumber, row_of};
+use crate::manager::looking::may_ask;
+use crate::manager::replying::denial;
+use crate::process::Process;
+use crate::state::State;
+use sm_history::{Answer, By, Effect, Failure, NameList, Query, Refusal, Reply};
+use sm_kinds::{Class, Perms};
+use sm_names::Services;
+use sm_policy::Prepared;
+use std::alloc::{AllocError, Global};
+
+/// The manager's process and those of the live clients, under the policy in force.
+#[derive(Drop)]
+pub struct People {
+    pub manager: Process,
+    pub policy: Prepared,
+    pub version: u64,
+    pub clients: Vec<ClientRow>,
+}
+
+/// Whether an effect is one on people.
+fn moves_people(effect: &Effect) -> bool
+    ensures { result ≡ spec.moves_people effect.now }
+{
+    match effect {
+        Effect::Opens(_) => true,
+        Effect::Sets(_) => true,
+        Effect::Connects { .. } => true,
+        Effect::Dies { .. } => true,
+        Effect::Resumes { .. } => true,
+        _ => false,
+    }
+}
+
+/// Whether one of some effects is one on people.
+pub fn moves_any_people(effects: &[Effect]) -> bool
+    ensures { result ≡ list_any spec.moves_people effects.now }
+{
+    effects.iter().any(|effect| moves_people(effect))
+}
+
+impl People {
+    /// Those in a manager's tables.
+    ///
+    /// # Errors
+    ///
+    /// An error where memory was refused.
+    pub fn of(alloc: Global, state: &State) -> Result<People, AllocError>
+        ensures stand { IfOk result (λ p. (d : Effects) → Stands d state.now → StandPeople d p) }
+        ensures version { IfOk result (λ p. p.version ≡ state.now.version) }
+    {
+        let manager = state.manager.clone()?;
+        let policy = state.policy.share()?;
+        let clients = copies_of(alloc, &state.clients)?;
+        let version = state.version;
+        Ok(People {
+            manager,
+            policy,
+            version,
+            clients,
+        })
+    }
+
+    /// Those in a manager's tables, and some effects on.
+    ///
+    /// # Errors
+    ///
+    /// An error where memory was refused.
+    pub fn after(alloc: Global, state: &State, effects: &[Effect]) -> Result<People, AllocError>
+        requires { state.now.version + length effects.now ≤ 4194304 }
+        ensures { IfOk result (λ p. (d : Effects) → Stands d state.now → MayAll d effects.now
+            → StandPeople (followed d effects.now) p) }
+    {
+        let mut people = People::of(alloc, state)?;
+        for effect in effects {
+            people.follow(effect)?;
+        }
+        Ok(people)
+    }
+
+    /// One effect on.
+    fn follow(&mut self, effect: &Effect) -> Result<(), AllocError>
+        requires { self.old.version < 4194304 }
+        ensures stand { OnOk result ((d : Effects) → Sound d → MayFollow d effect.now → StandPeople d self.old
+            → StandPeople (effect.now ∷ d) self.new) }
+        ensures version { self.new.version ≤ self.old.version + 1 }
+    {
+        match effect {
+            Effect::Opens(who) => {
+                self.manager = Process::new(who.clone()?, &self.policy);
+            }
+            Effect::Sets(policy) => {
+                let policy = policy.share()?;
+                self.manager.renumber(&policy);
+                renumber(&mut self.clients, &policy);
+                self.policy = policy;
+                self.version += 1;
+            }
+            Effect::Connects { client, who } => {
+                let process = Process::new(who.clone()?, &self.policy);
+                let id = *client;
+                self.clients.push(ClientRow { id, process })?;
+            }
+            Effect::Dies { client } => {
+                drop_client(&mut self.clients, *client);
+            }
+            _ => {}
+        }
+        Ok(())
+    }
+
+    /// The row of a live client.
+    pub fn client(&self, id: u32) -> Option<&ClientRow>
+        ensures { (d : Effects) → StandPeople d self.now → MatchOption result (is_live d id ≡ false)
+            (λ r. (is_live d id ≡ true) × (r.now ≡ client_row d id)) }
+    {
+        row_of(&self.clients, id)
+    }
+
+    /// Whether an actor may act: a client while it is live.
+    pub fn is_there(&self, by: By) -> bool
+        ensures { (d : Effects) → StandPeople d self.now → result ≡ is_there d by }
+    {
+        match by {
+            By::Manager => true,
+            By::Client(client) => self.client(client.0).is_some(),
+            By::Admin(_) => true,
+        }
+    }
+
+    /// Whether a process may list the names: it may send a transaction to the manager, and `list` is given on the
+    /// manager's own context.
+    ///
+    /// # Errors
+    ///
+    /// `Denied` by the first of the two rules that isn't there, `Memory` where memory was refused for it.
+    pub fn may_list(&self, alloc: Global, who: &Process) -> Result<(), Refusal>
+        ensures { (d : Effects) → StandPeople d self.now → who.now ≡ process_at d who.now.who
+            → MatchResult result (λ done. spec.MayList d who.now.who) (spec.MayNotList d who.now.who) }
+    {
+        self.needs(alloc, who, Class::Binder, Perms::CALL)?;
+        self.needs(alloc, who, Class::ServiceManager, Perms::LIST)
+    }
+
+    /// The names whose dump flags share a bit with the mask, where a live client may list them.
+    ///
+    /// # Errors
+    ///
+    /// As `may_list`; `Memory` also where memory was refused for the names.
+    fn list(
+        &self,
+        alloc: Global,
+        services: &Services,
+        client: u32,
+        mask: u32,
+    ) -> Result<Answer, Refusal>
+        ensures { (d : Effects) → StandPeople d self.now → TracksRows d services.now.rows.items
+            → is_live d client ≡ true
+            → MatchResult result
+            (λ a. spec.MayList d (identity_at d client) × (a ≡ found_out d (ListNames mask)))
+            (λ r. (r ≡ Memory) ⊎ spec.MayNotList d (identity_at d client) r) }
+    {
+        let Some(row) = self.client(client) else {
+            return Err(Refusal::Failed(Failure::NotConnected));
+        };
+        self.may_list(alloc, &row.process)?;
+        match services.by_mask(alloc, mask) {
+            Ok(names) => Ok(Answer::Names(NameList::new(names))),
+            Err(_) => Err(Refusal::Memory),
+        }
+    }
+
+    /// The answer to a query, with these services and after so many changes. It leaves no record.
+    pub fn answer(
+        &self,
+        alloc: Global,
+        services: &Services,
+        length: u64,
+        by: By,
+        query: Query,
+    ) -> Reply
+        ensures { (b : Book) → StandPeople (effects_of b.history) self.now
+            → TracksRows (effects_of b.history) services.now.rows.items → length ≡ length_of b.history
+            → Looks b by query result }
+    {
+        if !may_ask(by, &query) {
+            return Reply::Refused(Refusal::Failed(Failure::NotYours));
+        }
+        if !self.is_there(by) {
+            return Reply::Refused(Refusal::Failed(Failure::NotConnected));
+        }
+        let answer = match query {
+            Query::List(mask) => {
+                let By::Client(client) = by else {
+                    unreachable!();
+                };
+                match self.list(alloc, services, client.0, mask) {
+                    Ok(answer) => answer,
+                    Err(refusal) => return Reply::Refused(refusal),
+                }
+            }
+            Query::Version => Answer::Version,
+            Query::Explain {
+                source,
+                target,
+                class,
+                perm,
+            } => Answer::Why(self.policy.why(source.bytes(), target.bytes(), class, perm)),
+        };
+        Reply::Looked {
+            version: self.version,
+            length,
+            answer,
+        }
+    }
+
+    /// A rule gives a permission from a process to the manager's context.
+    fn needs(&self, alloc: Global, who: &Process, class: Class, perm: Perms) -> Result<(), Refusal>
+        ensures { (d : Effects) → StandPeople d self.now → who.now ≡ process_at d who.now.who
+            → MatchResult result (λ done. spec.IsGiven d who.now.who class perm)
+            (spec.IsMissing d who.now.who class perm) }
+    {
+        let manager = &self.manager;
+        let decision = self.policy.decide_at(who.index, manager.index, class, perm);
+        if decision.allowed {
+            return Ok(());
+        }
+        match denial(alloc, class, perm, &who.who, &manager.who.context) {
+            Ok(denial) => Err(Refusal::Denied(denial)),
+            Err(_) => Err(Refusal::Memory),
+        }
+    }
+}

@@ -1,0 +1,123 @@
+//! A desk that holds one service manager.
+
+use crate::turns::process;
+use sm_core::Manager;
+use sm_history::{By, Event, Failure, Outcome, Refusal, Reply};
+use sm_kinds::{AdminId, ClientId, Identity, Places};
+use sm_policy::Prepared;
+use sm_session::{Desk, Response};
+use sm_wire::Request;
+use std::alloc::Global;
+use std::process::Abort;
+
+/// The administrator of each connection of an administrator.
+const ADMINISTRATOR: AdminId = AdminId(1);
+
+/// A desk that holds one service manager, for one connection after another.
+pub struct ManagerDesk {
+    alloc: Global,
+    manager: Manager,
+    /// The client that the connection made, until it has left.
+    pub client: Option<ClientId>,
+    /// How often it was told that a connection has ended.
+    pub ends: u32,
+}
+
+impl Drop for ManagerDesk {
+    fn drop(self) {
+        let ManagerDesk {
+            alloc: _,
+            manager: _,
+            client: _,
+            ends: _,
+        } = self;
+    }
+}
+
+impl ManagerDesk {
+    /// A manager that was just opened under this policy, with so many places in its journal.
+    pub fn open(rt: &impl Abort, alloc: Global, policy: &Prepared, places: u32) -> ManagerDesk {
+        let who = process(rt, alloc, b"u:r:servicemanager:s0");
+        let policy = policy.share().ok().expect(rt, "memory");
+        let places = Places::new(places).expect(rt, "places");
+        let manager = Manager::open(alloc, who, policy, places);
+        ManagerDesk {
+            alloc,
+            manager: manager.ok().expect(rt, "a manager"),
+            client: None,
+            ends: 0,
+        }
+    }
+
+    /// Whether this is done for an actor beside the connections.
+    pub fn does(&mut self, by: By, event: Event) -> bool {
+        matches!(&self.step(by, event), Reply::Done(_))
+    }
+
+    // An actor's event, at the turn that the actor has.
+    fn step(&mut self, by: By, event: Event) -> Reply {
+        let turn = self.manager.turn(by);
+        self.manager.step(by, turn, event)
+    }
+
+    // Whose connection it is.
+    fn by(&self) -> By {
+        match self.client {
+            Some(client) => By::Client(client),
+            None => By::Admin(ADMINISTRATOR),
+        }
+    }
+
+    fn change(&mut self, event: Event) -> Response {
+        let by = self.by();
+        let reply = self.step(by, event);
+        if matches!(&reply, Reply::Done(Outcome::Died)) {
+            self.client = None;
+        }
+        Response::Replied(reply)
+    }
+
+    fn denials(&self) -> Response {
+        match self.manager.records() {
+            Ok(records) => Response::Denied(records),
+            Err(_) => Response::Replied(Reply::Refused(Refusal::Memory)),
+        }
+    }
+}
+
+impl Desk for ManagerDesk {
+    ghost answers = { λ _ _ _ _. Unit {0} };
+
+    ghost leaves = { λ _ _. Unit {0} };
+
+    fn hello(&mut self, who: Identity) -> Response {
+        let reply = self.step(By::Manager, Event::Connect(who));
+        if let Reply::Done(Outcome::Connected(client)) = &reply {
+            self.client = Some(*client);
+        }
+        Response::Replied(reply)
+    }
+
+    fn ask(&mut self, request: Request) -> Response {
+        match request {
+            Request::Change(_, event) => self.change(event),
+            Request::Look(_, query) => Response::Replied(self.manager.look(self.by(), query)),
+            Request::Denials => self.denials(),
+            _ => Response::Replied(Reply::Refused(Refusal::Failed(Failure::NotYours))),
+        }
+    }
+
+    fn reload(&mut self, expected: u64, rules: &[u8], contexts: &[u8]) -> Response {
+        match Prepared::from_texts(self.alloc, rules, contexts) {
+            Ok(prepared) => self.change(Event::Reload { expected, prepared }),
+            Err(fault) => Response::PolicyRefused(fault),
+        }
+    }
+
+    fn bye(&mut self) {
+        self.ends = self.ends.saturating_add(1);
+        if self.client.is_some() {
+            self.change(Event::Die);
+        }
+    }
+}
