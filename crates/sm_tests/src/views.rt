@@ -162,20 +162,3 @@ fn a_reload_is_seen_from_its_change_on(rt: HostRuntime) -> Result<(), Fail> {
     );
     Ok(())
 }
-
-// More changes than the actors that a view lists beside its table.
-#[test]
-fn turns_of_many_changes(rt: HostRuntime) -> Result<(), Fail> {
-    let alloc = rt.alloc();
-    let mut manager = opened(&rt, alloc);
-    let opening = manager.view()?;
-    let one = connect(&rt, alloc, 100);
-    let mut last = shown(&rt, &mut manager, &opening, By::Manager, 1, one);
-    for turn in 0..600 {
-        last = shown(&rt, &mut manager, &last, FIRST, turn, add(alloc)?);
-    }
-    assert_eq!(rt; last.turn(FIRST), 600);
-    assert_eq!(rt; last.turn(By::Manager), 2);
-    assert_eq!(rt; list(&last, 1), Seen::Names(1, 602, 1));
-    Ok(())
-}
