@@ -1,3 +1,4 @@
+pub mod Crossing
 pub mod Few
 pub mod Finding
 pub mod Firsts

@@ -4,9 +4,9 @@ ghost use Rattle.std.specs.Prelude.{◌≡◌};
 ghost use Rattle.sm_session.specs.Sessions.{AnswersItem, Leaves, is_over, begins};
 
 use crate::desk::Desk;
-use crate::gate::Gate;
 use crate::sitting::Sitting;
 use sm_engine::Machine;
+use sm_view::Gate;
 use sm_wire::{Item, Kind};
 use std::alloc::{AllocError, Global};
 use std::marker::Model;

@@ -3,7 +3,6 @@
 #![tactic(auto)]
 
 mod desk;
-mod gate;
 mod gated;
 mod response;
 mod responses;
@@ -13,7 +12,6 @@ mod sitting;
 mod tests;
 
 pub use desk::Desk;
-pub use gate::Gate;
 pub use response::Response;
 pub use sessions::session;
 pub use sitting::Sitting;

@@ -5,9 +5,9 @@ ghost use Rattle.sm_engine.specs.Counts.{failures_of, calls_of, inner_of, greate
 ghost use Rattle.sm_session.specs.Sessions.{Attends};
 
 use crate::desk::Desk;
-use crate::gate::Gate;
 use crate::gated::Gated;
 use sm_engine::{Counted, Fault, run};
+use sm_view::Gate;
 use sm_wire::Kind;
 use std::alloc::Global;
 use std::io::{Read, Write};

@@ -3,6 +3,7 @@ use sm_engine::Counted;
 use sm_history::{Event, Outcome, Refusal, Reply};
 use sm_kinds::{ClientId, Identity};
 use sm_policy::PolicyFault;
+use sm_view::Gate;
 use sm_wire::{Kind, Request};
 use std::alloc::Global;
 use std::io::{self, Write};

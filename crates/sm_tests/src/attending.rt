@@ -3,23 +3,13 @@
 use crate::manager_desk::ManagerDesk;
 use crate::talk::{Said, Talk};
 use sm_engine::{Counted, Fault};
-use sm_session::{Gate, session};
+use sm_session::session;
+use sm_view::NoGate;
 use sm_wire::Kind;
 use std::alloc::Global;
 use std::io::{Read, Write};
 use std::process::Abort;
 use std::test::Fail;
-
-/// A gate at which nobody waits.
-struct OpenGate;
-
-impl Gate for OpenGate {
-    fn enter(&self, _line: u64) {}
-
-    fn inside(&self) {}
-
-    fn leave(&self, _line: u64) {}
-}
 
 /// What a connection left.
 #[derive(Drop)]
@@ -41,15 +31,7 @@ pub fn attend<R: Read, W: Write>(
 ) -> Attended<R, W> {
     let mut reader = Counted::new(reader);
     let mut writer = Counted::new(writer);
-    let (desk, ending) = session(
-        alloc,
-        kind,
-        &mut reader,
-        &mut writer,
-        desk,
-        &OpenGate,
-        reads,
-    );
+    let (desk, ending) = session(alloc, kind, &mut reader, &mut writer, desk, &NoGate, reads);
     Attended {
         desk,
         ending,

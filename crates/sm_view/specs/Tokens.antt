@@ -23,10 +23,6 @@ abbrev pub at_or : {R K : Type 0} → K → (R → K) → Option R → K
 at_or other value None = other
 at_or other value (Some r) = value r
 
--- A new token has seen this book, and read nothing.
-abbrev pub HasSeen : Book → Knows → Type 0
-HasSeen b t = (t.seen ≡ b) × (t.reads ≡ 0)
-
 -- What the token sees now is lawful, and begins with all that it had seen.
 pub record Grows (old new : Knows) : Type 0 where
   pub by : new.by ≡ old.by

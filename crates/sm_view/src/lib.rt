@@ -7,12 +7,14 @@
 //! seen before.
 //!
 //! `laws` takes these promises from one step of the manager, and the book that is seen after it; `replies` takes
-//! answers apart.
+//! answers apart; a `Gate` is what a test holds a thread at.
 #![tactic(auto)]
 
+mod gate;
 pub mod laws;
 mod replies;
 #[cfg(test)]
 mod tests;
 
+pub use gate::{Gate, NoGate};
 pub use replies::{connected, installed, is_death, left, moves};

@@ -67,8 +67,7 @@ fn text_of<'a>(rt: &HostRuntime, path: &'a str) -> Result<Vec<u8>, Ending<'a>> {
     files::read_limited(rt, path).map_err(|error| Ending::of_file(path, error))
 }
 
-/// Runs the script that comes on standard input. Replies go to standard output; audit
-/// lines, of which there are none yet, would go to standard error.
+/// Runs the script that comes on standard input. Replies go to standard output, audit lines to standard error.
 fn serve_script<'a>(rt: &HostRuntime, options: &Options<'a>) -> Result<ExitCode, Ending<'a>> {
     let rules = text_of(rt, options.rules)?;
     let contexts = text_of(rt, options.contexts)?;

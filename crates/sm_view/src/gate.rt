@@ -11,3 +11,15 @@ pub trait Gate {
     /// The answer to this line is written.
     fn leave(&self, line: u64);
 }
+
+/// The gate of a program, which does nothing.
+#[derive(Drop)]
+pub struct NoGate;
+
+impl Gate for NoGate {
+    fn enter(&self, _line: u64) {}
+
+    fn inside(&self) {}
+
+    fn leave(&self, _line: u64) {}
+}

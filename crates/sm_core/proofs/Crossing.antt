@@ -1,0 +1,130 @@
+-- What readers see of a manager crosses to other threads, and threads share it.
+use denote.RattleType.{RattleType}
+use denote.Param.Send as cross
+use denote.Param.Send.{
+  IsSend,
+  IsSync,
+  sendable,
+  recorded_send,
+  recorded_sync,
+  struct_send,
+  struct_sync,
+  enum_send,
+  enum_sync,
+}
+use denote.Struct.Field as Field
+use denote.Struct.Declared as struct
+use denote.Enum.Declared as enum
+use Rattle.std.proofs.Crossing.{crosses, Arc-send, Arc-sync, Vec-send, Vec-sync}
+use Rattle.std.specs.contracts.alloc.Global as Global
+use Rattle.std.specs.contracts.impls.GlobalAllocator.TheImpl as Heap
+use Rattle.std.specs.contracts.option.Option as Option
+use Rattle.std.specs.contracts.snapshot.Snapshot as Snapshot
+use Rattle.std.specs.contracts.sync.Arc as Arc
+use Rattle.std.specs.contracts.vec.Vec as Vec
+use Rattle.sm_policy.specs.contracts.prepared.Prepared as Prepared
+use Rattle.sm_policy.proofs.Crossing.{prepared_send, prepared_sync}
+use Rattle.sm_history.specs.contracts.by.By as By
+use Rattle.sm_history.specs.contracts.entry.Entry as Entry
+use Rattle.sm_names.specs.contracts.services.Services as Services
+use Rattle.sm_names.proofs.services.Services.TheSendSync as ServicesCross
+use Rattle.sm_core.specs.contracts.client.ClientRow as ClientRow
+use Rattle.sm_core.proofs.client.ClientRow.TheSendSync as ClientRowCrosses
+use Rattle.sm_core.proofs.process.Process.TheSendSync as ProcessCrosses
+use Rattle.sm_core.specs.contracts.turns.Turns as Turns
+use Rattle.sm_core.proofs.turns.Turns.TheSendSync as TurnsCross
+use Rattle.sm_core.specs.contracts.people.People as People
+use Rattle.sm_core.specs.contracts.tally.Tally as Tally
+use Rattle.sm_core.specs.contracts.journal.Journal as Journal
+use Rattle.sm_core.specs.contracts.view.View as View
+use Rattle.sm_core.specs.contracts.view.View.TheInside as ViewInside
+
+pub global_send : IsSend Global.the_field.row
+global_send = search (sendable, crosses) depth 20
+
+pub global_sync : IsSync Global.the_field.row
+global_sync = search (sendable, crosses) depth 20
+
+pub u32_send : IsSend Field.u32-field.row
+u32_send = search sendable depth 20
+
+pub u32_sync : IsSync Field.u32-field.row
+u32_sync = search sendable depth 20
+
+pub u64_send : IsSend Field.u64-field.row
+u64_send = search sendable depth 20
+
+pub u64_sync : IsSync Field.u64-field.row
+u64_sync = search sendable depth 20
+
+by_send : IsSend By.the_row
+by_send = search sendable depth 20
+
+by_sync : IsSync By.the_row
+by_sync = search sendable depth 20
+
+pub client_send : IsSend ClientRow.the_row
+client_send = recorded_send _ _ _ ClientRow.the_type.to_one ClientRowCrosses.the_field_send
+
+client_sync : IsSync ClientRow.the_row
+client_sync = recorded_sync _ _ _ ClientRow.the_type.to_one ClientRowCrosses.the_field_sync
+
+turns_send : IsSend Turns.the_row
+turns_send = recorded_send _ _ _ Turns.the_type.to_one TurnsCross.the_field_send
+
+turns_sync : IsSync Turns.the_row
+turns_sync = recorded_sync _ _ _ Turns.the_type.to_one TurnsCross.the_field_sync
+
+people_send : IsSend People.the_row
+people_send =
+    recorded_send _ _ _ People.the_type.to_one
+    (struct_send (struct.shape People.the_type)
+    (ProcessCrosses.the_field_send, (prepared_send, (u64_send, (Vec-send ClientRow.the_row client_send, tt)))))
+
+people_sync : IsSync People.the_row
+people_sync =
+    recorded_sync _ _ _ People.the_type.to_one
+    (struct_sync (struct.shape People.the_type)
+    (ProcessCrosses.the_field_sync, (prepared_sync, (u64_sync, (Vec-sync ClientRow.the_row client_sync, tt)))))
+
+tally_send : IsSend Tally.the_field.row
+tally_send =
+    struct_send (struct.shape Tally.the_type)
+    (Arc-send Turns.the_row turns_send turns_sync, (Vec-send By.the_row by_send, tt))
+
+tally_sync : IsSync Tally.the_field.row
+tally_sync =
+    struct_sync (struct.shape Tally.the_type)
+    (Arc-sync Turns.the_row turns_send turns_sync, (Vec-sync By.the_row by_sync, tt))
+
+journal_send : IsSend (Snapshot.the_row Journal.the_row)
+journal_send = search (sendable, crosses) depth 20
+
+journal_sync : IsSync (Snapshot.the_row Journal.the_row)
+journal_sync = search (sendable, crosses) depth 20
+
+next_send : IsSend (Option.the_field (Snapshot.the_row Entry.the_row)).row
+next_send = search (sendable, crosses) depth 20
+
+next_sync : IsSync (Option.the_field (Snapshot.the_row Entry.the_row)).row
+next_sync = search (sendable, crosses) depth 20
+
+services_send : IsSend (Arc.the_row Services.the_row Global.the_row Heap.ghosts)
+services_send = Arc-send Services.the_row ServicesCross.the_send ServicesCross.the_sync
+
+services_sync : IsSync (Arc.the_row Services.the_row Global.the_row Heap.ghosts)
+services_sync = Arc-sync Services.the_row ServicesCross.the_send ServicesCross.the_sync
+
+pub view_send : IsSend View.the_row
+view_send =
+    cross.view_send ViewInside.the_row _ _ _ _
+    (recorded_send _ _ _ ViewInside.the_type.to_one
+    (struct_send (struct.shape ViewInside.the_type)
+    (global_send, (u32_send, (u64_send, (Arc-send People.the_row people_send people_sync, (services_send, (tally_send, (journal_send, (next_send, tt))))))))))
+
+pub view_sync : IsSync View.the_row
+view_sync =
+    cross.view_sync ViewInside.the_row _ _ _ _
+    (recorded_sync _ _ _ ViewInside.the_type.to_one
+    (struct_sync (struct.shape ViewInside.the_type)
+    (global_sync, (u32_sync, (u64_sync, (Arc-sync People.the_row people_send people_sync, (services_sync, (tally_sync, (journal_sync, (next_sync, tt))))))))))

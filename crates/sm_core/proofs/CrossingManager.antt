@@ -1,0 +1,115 @@
+-- A manager crosses to another thread.
+use denote.Param.Send as cross
+use denote.Param.Send.{IsSend, sendable, recorded_send, struct_send, enum_send}
+use denote.Struct.Field as Field
+use denote.Struct.Declared as struct
+use denote.Enum.Declared as enum
+use Rattle.std.proofs.Crossing.{Vec-send}
+use Rattle.sm_kinds.proofs.identity.Identity.TheSendSync as Identity
+use Rattle.sm_kinds.proofs.name.Name.TheSendSync as Name
+use Rattle.sm_kinds.proofs.payload.Payload.TheSendSync as Payload
+use Rattle.sm_kinds.proofs.refs.Refs.TheSendSync as Refs
+use Rattle.sm_kinds.proofs.number.ObjRef.TheSendSync as ObjRef
+use Rattle.sm_policy.proofs.Crossing.{prepared_send}
+use Rattle.sm_history.specs.contracts.by.By as By
+use Rattle.sm_history.specs.contracts.event.Event as Event
+use Rattle.sm_history.specs.contracts.entry.Entry as Entry
+use Rattle.sm_history.proofs.outcome.Outcome.TheSendSync as Outcome
+use Rattle.sm_names.proofs.names.Names.TheSendSync as Names
+use Rattle.sm_grants.proofs.grants.Grants.TheSendSync as Grants
+use Rattle.sm_inbox.proofs.inboxes.Inboxes.TheSendSync as Inboxes
+use Rattle.sm_audit.proofs.ring.Ring.TheSendSync as Ring
+use Rattle.sm_core.specs.contracts.client.ClientRow as ClientRow
+use Rattle.sm_core.proofs.process.Process.TheSendSync as Process
+use Rattle.sm_core.proofs.turns.Turns.TheSendSync as Turns
+use Rattle.sm_core.specs.contracts.journal.Chunk as Chunk
+use Rattle.sm_core.specs.contracts.journal.Chunk.TheInside as ChunkInside
+use Rattle.sm_core.specs.contracts.journal.Journal as Journal
+use Rattle.sm_core.specs.contracts.journal.Journal.TheInside as JournalInside
+use Rattle.sm_core.specs.contracts.state.State as State
+use Rattle.sm_core.specs.contracts.manager.Manager as Manager
+use Rattle.sm_core.specs.contracts.manager.Manager.TheInside as ManagerInside
+use Rattle.sm_core.proofs.Crossing.{client_send, global_send, u32_send, u64_send}
+
+by_send : IsSend By.the_field.row
+by_send = search sendable depth 20
+
+bool_send : IsSend Field.bool-field.row
+bool_send = search sendable depth 20
+
+usize_send : IsSend Field.usize-field.row
+usize_send = search sendable depth 20
+
+event_send : IsSend Event.the_field.row
+event_send =
+    let name = Name.the_send in
+    let who = Identity.the_field_send in
+    enum_send (enum.shape Event.the_type) (
+      (who, (prepared_send, tt)),
+      (
+        (who, tt),
+        (
+          (name, (ObjRef.the_field_send, (bool_send, (u32_send, tt)))),
+          (
+            (name, tt),
+            (
+              (name, (u32_send, tt)),
+              (
+                (name, (u32_send, tt)),
+                (
+                  (name, (ObjRef.the_field_send, tt)),
+                  (
+                    (u32_send, (Payload.the_send, (Refs.the_send, tt))),
+                    ((u32_send, tt), (tt, (tt, ((u64_send, (prepared_send, tt)), tt)))),
+                  ),
+                ),
+              ),
+            ),
+          ),
+        ),
+      ),
+    )
+
+entry_send : IsSend Entry.the_row
+entry_send =
+    recorded_send _ _ _ Entry.the_type.to_one
+    (struct_send (struct.shape Entry.the_type) (by_send, (u64_send, (event_send, (Outcome.the_field_send, tt)))))
+
+chunk_send : IsSend Chunk.the_row
+chunk_send =
+    cross.view_send ChunkInside.the_row _ _ _ _
+    (recorded_send _ _ _ ChunkInside.the_type.to_one
+    (struct_send (struct.shape ChunkInside.the_type) (Vec-send Entry.the_row entry_send, tt)))
+
+journal_send : IsSend Journal.the_row
+journal_send =
+    cross.view_send JournalInside.the_row _ _ _ _
+    (recorded_send _ _ _ JournalInside.the_type.to_one
+    (struct_send (struct.shape JournalInside.the_type)
+    (global_send, (Vec-send Chunk.the_row chunk_send, (Vec-send Entry.the_row entry_send, (usize_send, tt))))))
+
+state_send : IsSend State.the_field.row
+state_send =
+    struct_send (struct.shape State.the_type) (
+      Process.the_field_send,
+      (
+        prepared_send,
+        (
+          u64_send,
+          (
+            u32_send,
+            (
+              Vec-send ClientRow.the_row client_send,
+              (Names.the_field_send, (Grants.the_field_send, (Inboxes.the_field_send, tt))),
+            ),
+          ),
+        ),
+      ),
+    )
+
+pub manager_send : IsSend Manager.the_row
+manager_send =
+    cross.view_send ManagerInside.the_row _ _ _ _
+    (recorded_send _ _ _ ManagerInside.the_type.to_one
+    (struct_send (struct.shape ManagerInside.the_type)
+    (global_send, (u32_send, (journal_send, (Turns.the_field_send, (state_send, (Ring.the_send, tt))))))))

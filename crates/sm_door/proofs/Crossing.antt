@@ -1,0 +1,79 @@
+-- What crosses to another thread.
+use denote.RattleType.{RattleType}
+use denote.Param.Send.{IsSend, IsSync, sendable, view_send, enum_send, struct_send, recorded_send}
+use denote.Struct.Field as Field
+use denote.Struct.Declared as struct
+use denote.Enum.Declared as enum
+use Rattle.std.proofs.Crossing.{crosses}
+use Rattle.sm_roll.specs.declared.roll.Naming.{Ghosts}
+use Rattle.sm_roll.specs.contracts.roll.Roll as Roll
+use Rattle.sm_history.specs.contracts.by.By as By
+use Rattle.sm_core.specs.contracts.view.View as View
+use Rattle.sm_core.specs.contracts.manager.Manager as Manager
+use Rattle.std.specs.contracts.alloc.Global as Global
+use Rattle.std.specs.contracts.impls.GlobalAllocator.TheImpl as Heap
+use Rattle.std.specs.contracts.option.Option as Option
+use Rattle.std.specs.contracts.sync.Arc as Arc
+use Rattle.left_right.specs.contracts.reader.Reader as Reader
+use Rattle.left_right.specs.contracts.writer.Writer as Writer
+use Rattle.sm_door.specs.contracts.page.Page as Page
+use Rattle.sm_door.specs.contracts.published.Shown as Shown
+use Rattle.sm_door.specs.contracts.published.Known as Known
+use Rattle.sm_door.specs.contracts.published.OneHistory as OneHistory
+use Rattle.sm_door.specs.contracts.published.OneHistoryProtocolShownKnown.TheImpl as Rule
+use Rattle.sm_door.specs.contracts.published.ShownAbsorbArcPage.TheImpl as Absorb
+use Rattle.sm_door.specs.contracts.desk.Desk as Desk
+use Rattle.sm_door.specs.contracts.actor.Actor as Actor
+use Rattle.sm_door.specs.contracts.actor.Actor.TheInside as ActorInside
+use Rattle.sm_door.specs.contracts.desk.Desk.TheInside as DeskInside
+
+module _ (T : RattleType) (g : Ghosts T.Denot) where
+  abbrev pub reader_row : RattleType
+  reader_row =
+      let shown = Shown.the_row T g in
+      let rule = Rule.ghosts T g Rule.no_dict in
+      Reader.the_row shown Known.the_row (OneHistory.the_row T) Global.the_row rule Heap.ghosts
+
+  abbrev pub writer_row : RattleType
+  writer_row =
+      let shown = Shown.the_row T g in
+      let page = Arc.the_row (Page.the_row T g) Global.the_row Heap.ghosts in
+      let absorbs = Absorb.ghosts T g Absorb.no_dict in
+      let rule = Rule.ghosts T g Rule.no_dict in
+      Writer.the_row shown page Known.the_row (OneHistory.the_row T) Global.the_row View.the_row absorbs rule Heap.ghosts
+
+  option_send : (R : RattleType) → IsSend R → IsSend (Option.the_field R).row
+  option_send R r = enum_send (enum.shape (Option.the_type R)) (tt, ((r, tt), tt))
+
+  by_send : IsSend By.the_field.row
+  by_send = search sendable depth 20
+
+  u64_send : IsSend Field.u64-field.row
+  u64_send = search sendable depth 20
+
+  inside_send : IsSend reader_row → IsSend (ActorInside.the_row T g)
+  inside_send r =
+      let D = ActorInside.the_type T g in
+      recorded_send _ _ _ D.to_one (struct_send (struct.shape D) (by_send, (u64_send, (option_send reader_row r, tt))))
+
+  pub actor_send : IsSend reader_row → IsSend (Actor.the_row T g)
+  actor_send r = view_send (ActorInside.the_row T g) _ _ _ _ (inside_send r)
+
+  global_send : IsSend (Global.the_field).row
+  global_send = search (sendable, crosses) depth 20 fits 20000
+
+  abbrev pub page_row : RattleType
+  page_row = Arc.the_row (Page.the_row T g) Global.the_row Heap.ghosts
+
+  desk_inside_send : IsSend (Manager.the_field).row → IsSend (Roll.the_field T g).row → IsSend page_row
+      → IsSend writer_row → IsSend (DeskInside.the_row T (Absorb.ghosts T g Absorb.no_dict) g)
+  desk_inside_send manager roll page w =
+      let D = DeskInside.the_type T (Absorb.ghosts T g Absorb.no_dict) g in
+      recorded_send _ _ _ D.to_one
+      (struct_send (struct.shape D) (global_send, (manager, (roll, (page, (option_send writer_row w, tt))))))
+
+  pub desk_send : IsSend (Manager.the_field).row → IsSend (Roll.the_field T g).row → IsSend page_row
+      → IsSend writer_row → IsSend (Desk.the_row T (Absorb.ghosts T g Absorb.no_dict) g)
+  desk_send manager roll page w =
+      let inside = desk_inside_send manager roll page w in
+      view_send (DeskInside.the_row T (Absorb.ghosts T g Absorb.no_dict) g) _ _ _ _ inside

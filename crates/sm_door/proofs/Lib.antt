@@ -1,0 +1,3 @@
+mod Places
+mod Counting
+pub mod Crossing

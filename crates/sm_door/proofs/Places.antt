@@ -1,0 +1,118 @@
+-- Each step keeps the rule.
+use Rattle.std.proofs.Common.{◌≡◌, ◌≢◌, ℕ, ◌+◌, List, [], ◌∷◌, ◌++◌, set, fold, refl, sym, ap, ◌∙◌, subst}
+use Rattle.std.proofs.Common.{⊎_elim, inl, inr}
+use mathlib.Core.Option.{some, some-ne-none}
+use lib.ListN.{get_elem?}
+use Rattle.crossbeam_utils.specs.Register.{Admits, TurnsAt}
+use Rattle.atomic_table.proofs.Lists.{at_set, at_snoc}
+use Rattle.sm_history.specs.Books.{Book}
+use Rattle.sm_history.specs.Histories.{entered}
+use Rattle.sm_history.specs.Verdict.{verdict}
+use Rattle.sm_history.specs.declared.by.By.{By}
+use Rattle.sm_history.specs.declared.event.Event.{Event}
+use Rattle.sm_history.specs.declared.entry.Entry.{Entry}
+use Rattle.sm_history.specs.declared.refusal.Refusal.TheVariants.{Memory}
+use Rattle.sm_history.specs.declared.reply.Reply.{Reply}
+use Rattle.sm_history.specs.declared.reply.Reply.TheVariants.{Done, Refused}
+use Rattle.sm_core.specs.Managed.{IsSame, IsAnswer}
+use Rattle.sm_view.specs.Begins.{Begins}
+use Rattle.sm_view.specs.Steps.{Steps}
+use Rattle.sm_view.proofs.Books.{book_itself, book_through}
+use Rattle.sm_door.specs.declared.published.Known.{Known}
+use Rattle.sm_door.specs.Rule.{Keeps, Enters, known}
+
+module _ (o : Book) where
+  pub keeps_set : (b : Book) (views : List Known) (seat : ℕ) (w : Known) → Keeps o b views
+      → Begins b w.seen → Keeps o b (set views seat w)
+  keeps_set b views seat w h fits = (
+    h.0,
+    λ j u e. ⊎_elim
+        (λ (t : (j ≡ seat) × (w ≡ u)). subst (λ (v : Known). Begins b v.seen) t.1 fits)
+        (λ (t : (j ≢ seat) × (get_elem? views j ≡ some u)). h.1 j u t.1)
+        (at_set views seat j w u e),
+  )
+
+  pub keeps_snoc : (b : Book) (views : List Known) (w : Known) → Keeps o b views → Begins b w.seen
+      → Keeps o b (views ++ w ∷ [])
+  keeps_snoc b views w h fits = (
+    h.0,
+    λ j u e. ⊎_elim
+        (λ (t : get_elem? views j ≡ some u). h.1 j u t)
+        (λ (t : w ≡ u). subst (λ (v : Known). Begins b v.seen) t fits)
+        (at_snoc views w u j e),
+  )
+
+  pub keeps_more : (b b' : Book) (views : List Known) → Begins b' b → Keeps o b views → Keeps o b' views
+  keeps_more b b' views more h = (book_through b' b o more h.0, λ j u e. book_through b' b u.seen more (h.1 j u e))
+
+  module _ {X : Type 0} (value : X → Book) where
+    abbrev pub Holds : X → List Known → Type 0
+    Holds x = Keeps o (value x)
+
+    pub starts : (x : X) → Begins (value x) o → Holds x (known o 0 ∷ [])
+    starts x h = keeps_snoc (value x) [] (known o 0) (h, λ i v none. absurd (some-ne-none v (sym none))) h
+
+    pub admits : Admits Holds (known o 0)
+    admits x views h = keeps_snoc (value x) views (known o 0) h h.0
+
+    pub enters : (seat : ℕ) (v : Known) (x : X) → TurnsAt Holds seat v x x (λ v x y w. Enters v (value y) w)
+    enters seat v x views h at =
+        let w = known (value x) (v.reads + 1) in
+        (w, keeps_set (value x) views seat w h (book_itself (value x)), (h.1 seat v at, refl))
+
+    pub shows : (seat : ℕ) (v : Known) (x y : X) → Begins (value y) (value x)
+        → TurnsAt Holds seat v x y (λ v x y w. Unit {0})
+    shows seat v x y more views h at =
+        let all = keeps_more (value x) (value y) views more h in
+        (v, keeps_set (value y) views seat v all (all.1 seat v at), tt)
+
+-- after any operations, the last one counts
+pub fold_last : {S O : Type 0} (f : S → O → S) (s : S) (xs : List O) (o : O)
+    → fold f s (xs ++ o ∷ []) ≡ f (fold f s xs) o
+fold_last f s [] o = refl
+fold_last f s (x ∷ xs) o = fold_last f (f s x) xs o
+
+-- after any whole pages, the last one is shown
+pub last_shown : {O : Type 0} (value : O → Book) (s : Book) (xs ys : List O) (o : O) (b : Book)
+    → xs ≡ ys ++ o ∷ [] → b ≡ fold (λ (_ : Book) (x : O). value x) s xs → b ≡ value o
+last_shown {O = O} value s xs ys o b is all =
+    let after : Book → O → Book = λ _ x. value x in
+    all ∙ (ap (λ l. fold after s l) is ∙ fold_last after s ys o)
+
+pub same_book : (b b' : Book) → IsSame b b' → b' ≡ b
+same_book b b' s i = record { places = s.places i; history = s.history i }
+
+-- Memory was wanted, and nothing was made.
+pub steps_memory : (b b' : Book) (by : By) (turn : ℕ) (event : Event) → IsSame b b'
+    → Steps b by turn event (Refused Memory) b'
+steps_memory b b' by turn event s = inl (refl, same_book b b' s)
+
+-- A step of the manager that made nothing.
+pub steps_refused : (b b' : Book) (by : By) (turn : ℕ) (event : Event) (r : Reply) → IsSame b b'
+    → IsAnswer b.places b.history by turn event r → Steps b by turn event r b'
+steps_refused b b' by turn event r s answer =
+    ⊎_elim
+    (λ memory. inl (memory, same_book b b' s))
+    (λ t. inr (
+      t.0,
+      same_book b b' s ∙ λ i. record {
+        places = b.places;
+        history = sym t.1 i;
+      },
+    ))
+    answer
+
+-- A step of the manager that was accepted.
+pub steps_done : (b b' : Book) (e : Entry) (by : By) (turn : ℕ) (event : Event) (r : Reply)
+    → verdict b.places b.history e.by e.turn e.event ≡ Done e.outcome → e.by ≡ by → e.turn ≡ turn → e.event ≡ event
+    → r ≡ Done e.outcome → b'.places ≡ b.places → b'.history ≡ entered e b.history → Steps b by turn event r b'
+steps_done b b' e by turn event r v x y z is places history =
+    subst (λ (r : Reply). Steps b by turn event r b') (sym is)
+    (inr (
+      sym v ∙ (λ i. verdict b.places b.history (x i) (y i) (z i)),
+      λ i. record {
+        places = places i;
+        history = (history
+            ∙ λ j. entered (record { by = x j; turn = y j; event = z j; outcome = e.outcome }) b.history) i;
+      },
+    ))

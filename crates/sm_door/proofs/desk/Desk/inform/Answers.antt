@@ -1,0 +1,37 @@
+use Rattle.std.proofs.Common.{rules}
+use Rattle.std.specs.Arc.{arc_value}
+use Rattle.left_right.specs.Sides.{view as place_view}
+use Rattle.sm_view.specs.Begins.{Begins}
+use Rattle.sm_view.proofs.Books.{book_itself, book_through}
+use Rattle.sm_door.proofs.Places.{enters}
+use Rattle.sm_door.proofs.desk.Desk.inform.Goals as goal
+
+pub loop-init : goal.loop-init
+loop-init g c = book_itself _
+
+pub enter_as-requires : goal.enter_as-requires
+enter_as-requires g c x = enters g.J.Naming.opening (λ s. arc_value s.page) _ _ x
+
+pub returns-then-found-clause-begins : goal.returns-then-found-clause-begins
+returns-then-found-clause-begins g c =
+    let p : Begins c.args.self.now (place_view c.loop.reader.place).seen =
+    search (
+      rules,
+      c.leave-reader.ensures,
+      c.in-Ok.ensures,
+      c.get.ensures,
+      c.deref.ensures,
+      c.deref-in-Ok.ensures,
+      c.if-found.ensures,
+      c.if-found.true,
+      c.is-found.ensures,
+      c.self.invariant,
+      c.self.view_is,
+    ) in
+    book_through _ _ _ p c.loop.invariant
+
+pub loop-preserved-else-found : goal.loop-preserved-else-found
+loop-preserved-else-found g c =
+    let p : Begins (place_view c.leave-reader.result.place).seen (place_view c.loop.reader.place).seen =
+    search (rules, c.leave-reader.ensures, c.in-Ok.ensures, c.get.ensures) in
+    book_through _ _ _ p c.loop.invariant

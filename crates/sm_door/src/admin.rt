@@ -1,0 +1,45 @@
+//! What administrators hold.
+
+ghost use Rattle.std.specs.Prelude.{◌≡◌};
+ghost use Rattle.sm_history.specs.declared.by.By.TheVariants.{Admin as TheAdmin};
+
+use crate::actor::Actor;
+use sm_kinds::AdminId;
+use sm_roll::Naming;
+use std::marker::Model;
+
+/// An administrator's token. It can't be copied, and serves the door that made it.
+#[derive(Drop)]
+pub struct Admin<J: Naming> {
+    number: AdminId,
+    pub(crate) actor: Actor<J>,
+}
+
+impl<J: Naming> Model for Admin<J> {
+    ghost use Rattle.std.specs.Prelude.{◌≡◌};
+    ghost use Rattle.sm_history.specs.declared.by.By.TheVariants.{Admin as TheAdmin};
+    ghost use Rattle.sm_view.specs.Tokens.{Knows};
+
+    ghost Value = { Knows };
+
+    ghost view = { λ s. s.actor };
+
+    ghost invariant = { λ s. s.actor.by ≡ TheAdmin s.number };
+}
+
+impl<J: Naming> Admin<J> {
+    /// The token of an administrator's place.
+    pub(crate) fn new(number: AdminId, actor: Actor<J>) -> Admin<J>
+        requires { actor.by ≡ TheAdmin number }
+        ensures { result ≡ actor }
+    {
+        Admin { number, actor }
+    }
+
+    /// The administrator's number, from 0.
+    pub fn number(&self) -> AdminId
+        ensures { self.now.by ≡ TheAdmin result }
+    {
+        self.number
+    }
+}

@@ -1,0 +1,298 @@
+//! The door: the desk behind its lock.
+
+ghost use Rattle.std.specs.Prelude.{◌≡◌, ◌⊎◌, true, false, IfOk, IfErr, MatchResult};
+ghost use Rattle.sm_kinds.specs.Contexts.{type_of};
+ghost use Rattle.sm_kinds.specs.declared.class.Class.TheVariants.{Binder};
+ghost use Rattle.sm_policy.specs.Policy.{allowed};
+ghost use Rattle.sm_history.specs.declared.event.Event.TheVariants.{Die, Reload};
+ghost use Rattle.sm_history.specs.declared.outcome.Outcome.TheVariants.{Died, Reloaded};
+ghost use Rattle.sm_history.specs.declared.refusal.Refusal.TheVariants.{Failed, Memory, NoSeat as WantsPlace};
+ghost use Rattle.sm_history.specs.declared.refusal.Failure.TheVariants.{NotYours};
+ghost use Rattle.sm_history.specs.declared.query.Query.TheVariants.{List as ListNames, Version, Explain};
+ghost use Rattle.sm_history.specs.declared.reply.Reply.TheVariants.{Refused};
+ghost use Rattle.sm_history.specs.Checks.{managing};
+ghost use Rattle.sm_history.specs.Lawful.{MayOpen};
+ghost use Rattle.sm_history.specs.Verdict.{is_die};
+ghost use Rattle.sm_core.specs.Opening.{opened, opening_denial};
+ghost use Rattle.sm_view.specs.Promises.{Submitted, Accepted, Read, Joined, TellsRecords, Turned};
+ghost use Rattle.sm_view.specs.Replies.{OfConnect, OfLeave, OfInstall};
+ghost use Rattle.sm_view.specs.Tokens.{Grows, token};
+ghost use Rattle.sm_history.specs.declared.limits.TheConstants.{MOST_CLIENTS};
+ghost use Rattle.sm_door.specs.declared.opening.TheConstants.{ADMINS};
+ghost use Rattle.sm_door.specs.Opening.{new_seats, new_admins};
+
+use crate::actor::Actor;
+use crate::admin::Admin;
+use crate::desk::Desk;
+use crate::opening::{tokens_of, writer_of};
+use crate::page::Page;
+use crate::published::Shown;
+use crate::seat::Seat;
+use crate::session::Session;
+use crate::token::Token;
+use left_right::Absorb;
+use sm_core::{Manager, View};
+use sm_history::{By, Event, Failure, Query, Record, Refusal, Reply};
+use sm_kinds::{Class, Identity, Name, Perms, Places};
+use sm_policy::Prepared;
+use sm_roll::{Blank, Naming};
+use sm_view::{Gate, connected, installed, is_death, left, moves};
+use std::alloc::{AllocError, Global};
+use std::sync::{Arc, Mutex, MutexGuard, Wait};
+
+/// The manager behind one lock. A door isn't dropped: its owner ends it by `close`.
+pub struct Door<J: Naming, G: Gate>
+where
+    Shown<J>: Absorb<Arc<Page<J>>, State = View>,
+{
+    desk: Mutex<Desk<J>>,
+    gate: G,
+}
+
+impl<J: Naming, G: Gate + Drop> Door<J, G> {
+    /// Opens a manager under this identity and policy, whose journal has this many places, with a free seat for each
+    /// of 64 clients and the tokens of four administrators, which have all seen the opening. SELinux's
+    /// `set_context_mgr` is wanted from the identity's type to itself. `NoSeat`: a reader's place was refused.
+    pub fn open<R: Wait>(
+        rt: &R,
+        alloc: Global,
+        blank: Blank,
+        who: Identity,
+        policy: Prepared,
+        places: Places,
+        gate: G,
+    ) -> Result<(Door<J, G>, Vec<Seat<J>>, Vec<Admin<J>>), Refusal>
+        requires roll { blank.seen.book ≡ J.roll }
+        requires opening { J.opening ≡ opened places who policy }
+        ensures opened { IfOk result (λ r. MayOpen who policy
+            × (r.1.items ≡ new_seats (opened places who policy) MOST_CLIENTS)
+            × (r.2.items ≡ new_admins (opened places who policy) ADMINS)) }
+        ensures refused { IfErr result (λ r. (r ≡ Memory) ⊎ ((r ≡ WantsPlace)
+            ⊎ ((allowed policy (type_of who.context) (type_of who.context) Binder managing ≡ false)
+            × (r ≡ opening_denial who)))) }
+    {
+        let manager = Manager::open(alloc, who, policy, places)?;
+        let mut roll = blank.named::<J>();
+        let Ok(view) = manager.view() else {
+            return Err(Refusal::Memory);
+        };
+        let Ok(page) = Page::new(rt, alloc, &mut roll, view) else {
+            return Err(Refusal::Memory);
+        };
+        let Ok(writer) = writer_of(alloc, &page) else {
+            return Err(Refusal::Memory);
+        };
+        match tokens_of(alloc, &manager, &writer) {
+            Ok((seats, admins)) => {
+                let desk = Mutex::new(Desk::new(alloc, manager, roll, page, writer));
+                Ok((Door { desk, gate }, seats, admins))
+            }
+            Err(refusal) => {
+                writer.take(rt);
+                Err(refusal)
+            }
+        }
+    }
+
+    /// The gate that it was opened with.
+    pub fn gate(&self) -> &G
+        ensures { result.now ≡ self.now.gate }
+    {
+        &self.gate
+    }
+
+    /// A process connects, by a change of the manager's. At `Err` (`TooManyClients`, `JournalFull` or `Memory`) the
+    /// seat comes back, and has seen the history that refused.
+    pub fn connect<R: Wait>(
+        &self,
+        rt: &R,
+        seat: Seat<J>,
+        who: Identity,
+    ) -> Result<Session<J>, (Refusal, Seat<J>)>
+        ensures { MatchResult result (λ s. Joined seat s who) (λ r. OfConnect r.0 × Turned seat r.1 who r.0) }
+    {
+        let mut seat = seat;
+        let mut guard = self.desk.lock(rt);
+        self.gate.inside();
+        let desk = &mut *guard;
+        let due = desk.turn(By::Manager);
+        let reply = desk.step(rt, By::Manager, due, Event::Connect(who));
+        match connected(reply) {
+            Ok(client) => {
+                seat.actor.see(rt, desk);
+                let turn = desk.turn(By::Client(client));
+                MutexGuard::unlock(guard);
+                Ok(seat.into_session(client, turn))
+            }
+            Err(Refusal::Memory) => {
+                MutexGuard::unlock(guard);
+                Err((Refusal::Memory, seat))
+            }
+            Err(refusal) => {
+                seat.actor.see(rt, desk);
+                MutexGuard::unlock(guard);
+                Err((refusal, seat))
+            }
+        }
+    }
+
+    /// Has an event of this actor judged, and made where it is accepted.
+    fn act<R: Wait>(&self, rt: &R, me: &mut Actor<J>, event: Event) -> Reply
+        ensures submitted { Submitted me.old me.new event result }
+        ensures by { me.new.by ≡ me.old.by }
+    {
+        let mut guard = self.desk.lock(rt);
+        self.gate.inside();
+        let desk = &mut *guard;
+        let reply = desk.step(rt, me.by(), me.due(), event);
+        if !moves(&reply) {
+            MutexGuard::unlock(guard);
+            return reply;
+        }
+        me.see(rt, desk);
+        MutexGuard::unlock(guard);
+        reply
+    }
+
+    /// Has an event of a client's judged, and made where it is accepted. A death is no event to be submitted
+    /// (`NotYours`): it is a `leave`.
+    pub fn submit<R: Wait>(&self, rt: &R, me: &mut Session<J>, event: Event) -> Reply
+        ensures death { is_die event ≡ true → (result ≡ Refused (Failed NotYours)) × (me.new ≡ me.old) }
+        ensures other { is_die event ≡ false → Submitted me.old me.new event result }
+    {
+        if is_death(&event) {
+            return Reply::Refused(Refusal::Failed(Failure::NotYours));
+        }
+        self.act(rt, &mut me.actor, event)
+    }
+
+    /// The client's last change. Its place comes back as a free seat. At `Err` (`OutOfTurn`, `NotConnected` or
+    /// `Memory`, and never `JournalFull`) the session comes back.
+    pub fn leave<R: Wait>(&self, rt: &R, me: Session<J>) -> Result<Seat<J>, (Refusal, Session<J>)>
+        ensures { MatchResult result (λ s. Accepted me (token me.by s.seen s.reads) Die Died)
+            (λ r. OfLeave r.0 × Submitted me r.1 Die (Refused r.0)) }
+    {
+        let mut me = me;
+        let reply = self.act(rt, &mut me.actor, Event::Die);
+        match left(reply) {
+            None => Ok(me.into_seat()),
+            Some(refusal) => Err((refusal, me)),
+        }
+    }
+
+    /// Replaces the policy where the one in force has the expected version, and gives the version of the new one. At
+    /// `Err` (`OutOfTurn`, `VersionMoved`, `JournalFull` or `Memory`) the policy comes back.
+    pub fn install<R: Wait>(
+        &self,
+        rt: &R,
+        me: &mut Admin<J>,
+        expected: u64,
+        prepared: Prepared,
+    ) -> Result<u64, (Refusal, Prepared)>
+        ensures { MatchResult result (λ v. Accepted me.old me.new (Reload expected prepared) (Reloaded v))
+            (λ r. (r.1 ≡ prepared) × OfInstall r.0 × Submitted me.old me.new (Reload expected prepared) (Refused r.0)) }
+    {
+        let Ok(shared) = prepared.share() else {
+            return Err((Refusal::Memory, prepared));
+        };
+        let event = Event::Reload {
+            expected,
+            prepared: shared,
+        };
+        let reply = self.act(rt, &mut me.actor, event);
+        match installed(reply) {
+            Ok(version) => Ok(version),
+            Err(refusal) => Err((refusal, prepared)),
+        }
+    }
+
+    /// The newest records of denials, at most 1,024, the oldest first. Each is true of what the token sees now. `Err`:
+    /// memory was refused, and the token stays.
+    pub fn denials<R: Wait>(&self, rt: &R, me: &mut Admin<J>) -> Result<Vec<Record>, AllocError>
+        ensures { MatchResult result (λ v. TellsRecords me.old me.new v.items) (λ _. me.new ≡ me.old) }
+    {
+        let guard = self.desk.lock(rt);
+        let desk = &*guard;
+        match desk.records() {
+            Ok(records) => {
+                me.actor.see(rt, desk);
+                MutexGuard::unlock(guard);
+                Ok(records)
+            }
+            Err(error) => {
+                MutexGuard::unlock(guard);
+                Err(error)
+            }
+        }
+    }
+
+    /// Both sessions see the whole history. So what one was answered stands before the other's next answer.
+    pub fn meet<R: Wait>(&self, rt: &R, one: &mut Session<J>, other: &mut Session<J>)
+        ensures one { Grows one.old one.new }
+        ensures other { Grows other.old other.new }
+        ensures same { one.new.seen ≡ other.new.seen }
+    {
+        self.bring(rt, &mut one.actor, &mut other.actor);
+    }
+
+    /// An administrator and a session see the whole history, as in `meet`.
+    pub fn meet_admin<R: Wait>(&self, rt: &R, one: &mut Admin<J>, other: &mut Session<J>)
+        ensures one { Grows one.old one.new }
+        ensures other { Grows other.old other.new }
+        ensures same { one.new.seen ≡ other.new.seen }
+    {
+        self.bring(rt, &mut one.actor, &mut other.actor);
+    }
+
+    fn bring<R: Wait>(&self, rt: &R, one: &mut Actor<J>, other: &mut Actor<J>)
+        ensures one { Grows one.old one.new }
+        ensures other { Grows other.old other.new }
+        ensures same { one.new.seen ≡ other.new.seen }
+    {
+        let guard = self.desk.lock(rt);
+        let desk = &*guard;
+        one.see(rt, desk);
+        other.see(rt, desk);
+        MutexGuard::unlock(guard);
+    }
+
+    /// The names whose dump flags share a bit with the mask, by `listServices`. It waits for nobody. A denial is in the
+    /// reply, and leaves no record.
+    pub fn list(&self, me: &mut Session<J>, mask: u32) -> Reply
+        ensures { Read me.old me.new (ListNames mask) result }
+    {
+        me.actor.read(Query::List(mask))
+    }
+
+    /// The version of the policy in force. It waits for nobody.
+    pub fn version<T: Token>(&self, me: &mut T) -> Reply
+        ensures { Read (T.knows me.old) (T.knows me.new) Version result }
+    {
+        me.read_version()
+    }
+
+    /// The line of the first allow rule that gives a permission. It waits for nobody.
+    pub fn explain(
+        &self,
+        me: &mut Admin<J>,
+        source: Name,
+        target: Name,
+        class: Class,
+        perm: Perms,
+    ) -> Reply
+        ensures { Read me.old me.new (Explain source target class perm) result }
+    {
+        me.actor.read(Query::Explain {
+            source,
+            target,
+            class,
+            perm,
+        })
+    }
+
+    /// Ends the door. It waits for the readers that are inside.
+    pub fn close<R: Wait>(self, rt: &R) {
+        let Door { desk, gate: _gate } = self;
+        desk.into_inner().close(rt);
+    }
+}

@@ -1,0 +1,36 @@
+//! The door: one manager for many threads, behind one lock, with a published view that is read without it.
+//!
+//! Changes go through the lock, one at a time (`Door::submit`, `connect`, `leave`, `install`). Each change that is
+//! accepted is published as a whole **page**, a view of the manager, before it is kept, and what can't be published
+//! isn't kept. Reads take the page that is published at that moment, and wait for nobody (`Door::list`, `version`,
+//! `explain`).
+//!
+//! Callers hold tokens (`Seat`, `Session`, `Admin`), none of which can be copied. Contracts see a token as what it
+//! knows: whose it is, the history that it has seen, and how often it has read. Every call says of its answer that it
+//! is the verdict of the history which the token sees from then on, and that this one begins with all that it had seen
+//! (`Promises.antt` of `sm_view`).
+#![tactic(auto)]
+
+mod actor;
+mod admin;
+mod desk;
+mod door;
+mod opening;
+mod page;
+mod published;
+mod seat;
+mod session;
+#[cfg(test)]
+mod tests;
+mod token;
+
+pub use actor::Actor;
+pub use admin::Admin;
+pub use desk::Desk;
+pub use door::Door;
+pub use opening::ADMINS;
+pub use page::Page;
+pub use published::{Known, OneHistory, Shown, ViewReader, ViewWriter};
+pub use seat::Seat;
+pub use session::Session;
+pub use token::Token;

@@ -1,0 +1,140 @@
+//! The places of a new door.
+
+ghost use Rattle.std.specs.Prelude.{◌≡◌, ◌⊎◌, ◌++◌, ◌∷◌, [], IfOk, IfErr};
+ghost use Rattle.sm_history.specs.declared.refusal.Refusal.TheVariants.{Memory, NoSeat as WantsPlace};
+ghost use Rattle.std.specs.Arc.{arc_value};
+ghost use Rattle.sm_history.specs.declared.limits.TheConstants.{MOST_CLIENTS};
+ghost use Rattle.sm_history.specs.declared.by.By.TheVariants.{Manager as TheManager, Admin as TheAdmin};
+ghost use Rattle.sm_view.specs.Tokens.{token};
+ghost use Rattle.sm_door.specs.declared.opening.TheConstants.{ADMINS};
+ghost use Rattle.sm_door.specs.Opening.{new_seats, new_admins};
+
+use crate::actor::Actor;
+use crate::admin::Admin;
+use crate::page::Page;
+use crate::published::{Shown, ViewWriter};
+use crate::seat::Seat;
+use sm_core::Manager;
+use sm_history::{By, MOST_CLIENTS, Refusal};
+use sm_kinds::AdminId;
+use sm_roll::Naming;
+use std::alloc::{AllocError, Global};
+use std::sync::Arc;
+
+/// So many administrators there are.
+pub const ADMINS: u32 = 4;
+
+/// So many places for readers are made: one for each client and administrator.
+const PLACES: usize = 68;
+
+/// The writer of a door whose first page this is. `Err`: memory was refused.
+pub(crate) fn writer_of<J: Naming>(
+    alloc: Global,
+    page: &Arc<Page<J>>,
+) -> Result<ViewWriter<J>, AllocError>
+    requires { arc_value page.now ≡ J.opening }
+    ensures { IfOk result (λ w. arc_value w.desk.shown.value.page ≡ J.opening) }
+{
+    let first = Arc::try_clone(page)?;
+    let second = Arc::try_clone(page)?;
+    match ViewWriter::new(alloc, Shown { page: first }, Shown { page: second }, PLACES) {
+        Ok(writer) => Ok(writer),
+        Err(_) => Err(AllocError),
+    }
+}
+
+/// A seat for each client and a token for each administrator, which have seen the opening. `NoSeat`: a place was
+/// refused.
+pub(crate) fn tokens_of<J: Naming>(
+    alloc: Global,
+    manager: &Manager,
+    writer: &ViewWriter<J>,
+) -> Result<(Vec<Seat<J>>, Vec<Admin<J>>), Refusal>
+    requires { manager.now.book ≡ J.opening }
+    ensures refused { IfErr result (λ r. (r ≡ Memory) ⊎ (r ≡ WantsPlace)) }
+    ensures tokens { IfOk result (λ r. (r.0.items ≡ new_seats J.opening MOST_CLIENTS)
+        × (r.1.items ≡ new_admins J.opening ADMINS)) }
+{
+    let seats = seats_of(alloc, manager, writer)?;
+    let admins = admins_of(alloc, manager, writer)?;
+    Ok((seats, admins))
+}
+
+fn seats_of<J: Naming>(
+    alloc: Global,
+    manager: &Manager,
+    writer: &ViewWriter<J>,
+) -> Result<Vec<Seat<J>>, Refusal>
+    requires { manager.now.book ≡ J.opening }
+    ensures seats { IfOk result (λ v. v.items ≡ new_seats J.opening MOST_CLIENTS) }
+    ensures refused { IfErr result (λ r. (r ≡ Memory) ⊎ (r ≡ WantsPlace)) }
+{
+    let mut seats = Vec::new(alloc);
+    for _seat in 0..MOST_CLIENTS {
+        let seat = seat_of(manager, writer)?;
+        keep(&mut seats, seat)?;
+    }
+    Ok(seats)
+}
+
+fn seat_of<J: Naming>(manager: &Manager, writer: &ViewWriter<J>) -> Result<Seat<J>, Refusal>
+    requires { manager.now.book ≡ J.opening }
+    ensures seen { IfOk result (λ s. s ≡ token TheManager J.opening 0) }
+    ensures refused { IfErr result (λ r. r ≡ WantsPlace) }
+{
+    let actor = enlist(manager, writer, By::Manager)?;
+    Ok(Seat { actor })
+}
+
+fn admins_of<J: Naming>(
+    alloc: Global,
+    manager: &Manager,
+    writer: &ViewWriter<J>,
+) -> Result<Vec<Admin<J>>, Refusal>
+    requires { manager.now.book ≡ J.opening }
+    ensures admins { IfOk result (λ v. v.items ≡ new_admins J.opening ADMINS) }
+    ensures refused { IfErr result (λ r. (r ≡ Memory) ⊎ (r ≡ WantsPlace)) }
+{
+    let mut admins = Vec::new(alloc);
+    for number in 0..ADMINS {
+        let admin = admin_of(manager, writer, number)?;
+        keep(&mut admins, admin)?;
+    }
+    Ok(admins)
+}
+
+fn admin_of<J: Naming>(
+    manager: &Manager,
+    writer: &ViewWriter<J>,
+    number: u32,
+) -> Result<Admin<J>, Refusal>
+    requires { manager.now.book ≡ J.opening }
+    ensures seen { IfOk result (λ s. s ≡ token (TheAdmin (record { 0 = number })) J.opening 0) }
+    ensures refused { IfErr result (λ r. r ≡ WantsPlace) }
+{
+    let actor = enlist(manager, writer, By::Admin(AdminId(number)))?;
+    Ok(Admin::new(AdminId(number), actor))
+}
+
+/// The actor of a new place, which begins with the opening.
+fn enlist<J: Naming>(manager: &Manager, writer: &ViewWriter<J>, by: By) -> Result<Actor<J>, Refusal>
+    requires { manager.now.book ≡ J.opening }
+    ensures new { IfOk result (λ s. s ≡ token by J.opening 0) }
+    ensures refused { IfErr result (λ r. r ≡ WantsPlace) }
+{
+    manager.lawful();
+    match writer.factory().reader() {
+        Ok(reader) => Ok(Actor::new(by, manager.turn(by), reader)),
+        Err(_) => Err(Refusal::NoSeat),
+    }
+}
+
+fn keep<X: Drop>(list: &mut Vec<X>, x: X) -> Result<(), Refusal>
+    ensures kept { IfOk result (λ _. list.new.items ≡ list.old.items ++ x ∷ []) }
+    ensures refused { IfErr result (λ r. r ≡ Memory) }
+{
+    match list.push(x) {
+        Ok(()) => Ok(()),
+        Err(_) => Err(Refusal::Memory),
+    }
+}

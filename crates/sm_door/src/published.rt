@@ -1,0 +1,98 @@
+//! The published page, and the rule over what its places have seen.
+
+use crate::page::Page;
+use crossbeam_utils::rule::{Outcome, Protocol};
+use left_right::Absorb;
+use left_right::reader::Reader;
+use left_right::writer::Writer;
+use sm_core::View;
+use sm_roll::{Naming, Shows as ShowsBook};
+use std::alloc::AllocError;
+use std::marker::PhantomData;
+use std::sync::Arc;
+
+/// What readers take. Each operation of the writer is a whole page, which stands in place of the one before.
+#[derive(Drop)]
+pub struct Shown<J: Naming> {
+    pub page: Arc<Page<J>>,
+}
+
+impl<J: Naming> Absorb<Arc<Page<J>>> for Shown<J> {
+    ghost use Rattle.std.specs.Arc.{arc_value};
+
+    type State = View;
+
+    ghost state = { λ s. arc_value s.page };
+
+    ghost applied = { λ _ o. arc_value o };
+
+    fn absorb_first(
+        &mut self,
+        operation: &Arc<Page<J>>,
+        _other: &Shown<J>,
+    ) -> Result<(), AllocError> {
+        self.page = Arc::try_clone(operation)?;
+        Ok(())
+    }
+
+    fn absorb_second(
+        &mut self,
+        operation: Arc<Page<J>>,
+        _other: &Shown<J>,
+    ) -> Result<(), Arc<Page<J>>> {
+        self.page = operation;
+        Ok(())
+    }
+}
+
+/// What a place knows, in proofs alone: the history that it has seen, and how often it has read. No value of it is
+/// made.
+pub struct Known {
+    pub seen: View,
+    pub reads: u64,
+}
+
+/// The rule: the published history begins with the one of the opening, and with all that each place has seen. A new
+/// place has seen the opening.
+pub struct OneHistory<J> {
+    of: PhantomData<J>,
+}
+
+impl<J: Naming> Protocol<Shown<J>, Known> for OneHistory<J> {
+    ghost use Rattle.std.specs.Arc.{arc_value};
+    ghost use Rattle.sm_door.specs.Rule.{Keeps, known};
+
+    ghost holds = { λ x. Keeps J.opening (arc_value x.page) };
+
+    ghost first = { known J.opening 0 };
+}
+
+/// A reader enters: it sees the published history.
+pub struct Sees;
+
+impl<J: Naming> Outcome<Shown<J>, Known> for Sees {
+    ghost use Rattle.std.specs.Arc.{arc_value};
+    ghost use Rattle.sm_door.specs.Rule.{Enters};
+
+    ghost then = { λ v x y w. Enters v (arc_value y.page) w };
+}
+
+/// The writer publishes. Nothing is told of its own place.
+pub struct Publishes;
+
+impl<J: Naming> Outcome<Shown<J>, Known> for Publishes {
+    ghost then = { λ v x y w. Unit {0} };
+}
+
+/// A place that reads.
+pub type ViewReader<J> = Reader<Shown<J>, Known, OneHistory<J>>;
+
+/// The place that publishes.
+pub type ViewWriter<J> = Writer<Shown<J>, Arc<Page<J>>, Known, OneHistory<J>>;
+
+/// How a view shows its book to a roll.
+pub struct ShowsView;
+
+impl ShowsBook<View> for ShowsView {
+    ghost book = { λ view. view };
+}

@@ -1,0 +1,40 @@
+//! Places for clients.
+
+ghost use Rattle.std.specs.Prelude.{◌≡◌};
+ghost use Rattle.sm_history.specs.declared.by.By.TheVariants.{Client};
+ghost use Rattle.sm_history.specs.Histories.{turn_of};
+ghost use Rattle.sm_view.specs.Tokens.{token};
+
+use crate::actor::Actor;
+use crate::session::Session;
+use sm_history::By;
+use sm_kinds::ClientId;
+use sm_roll::Naming;
+use std::marker::Model;
+
+/// A free place for a client. It can't be copied, and serves the door that made it. Contracts see it as a token of
+/// the manager's, since it is the manager that lets a client in.
+#[derive(Drop)]
+pub struct Seat<J: Naming> {
+    pub(crate) actor: Actor<J>,
+}
+
+impl<J: Naming> Model for Seat<J> {
+    ghost use Rattle.sm_history.specs.declared.by.By.TheVariants.{Manager};
+    ghost use Rattle.sm_view.specs.Tokens.{Knows, token};
+
+    ghost Value = { Knows };
+
+    ghost view = { λ s. token Manager s.actor.seen s.actor.reads };
+}
+
+impl<J: Naming> Seat<J> {
+    /// The session of a client that made so many changes.
+    pub(crate) fn into_session(self, client: ClientId, turn: u64) -> Session<J>
+        requires { turn ≡ turn_of self.seen.history (Client client) }
+        ensures { result ≡ token (Client client) self.seen self.reads }
+    {
+        let Seat { actor } = self;
+        Session::new(client, actor.passed(By::Client(client), turn))
+    }
+}

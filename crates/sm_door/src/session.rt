@@ -1,0 +1,56 @@
+//! What clients hold.
+
+ghost use Rattle.std.specs.Prelude.{◌≡◌};
+ghost use Rattle.sm_history.specs.declared.by.By.TheVariants.{Manager, Client};
+ghost use Rattle.sm_view.specs.Tokens.{token};
+
+use crate::actor::Actor;
+use crate::seat::Seat;
+use sm_kinds::ClientId;
+use sm_roll::Naming;
+use std::marker::Model;
+
+/// A connected client's token. It can't be copied, and serves the door that made it. A session that is dropped without
+/// `Door::leave` stays a live client until the door ends.
+#[derive(Drop)]
+pub struct Session<J: Naming> {
+    client: ClientId,
+    pub(crate) actor: Actor<J>,
+}
+
+impl<J: Naming> Model for Session<J> {
+    ghost use Rattle.std.specs.Prelude.{◌≡◌};
+    ghost use Rattle.sm_history.specs.declared.by.By.TheVariants.{Client};
+    ghost use Rattle.sm_view.specs.Tokens.{Knows};
+
+    ghost Value = { Knows };
+
+    ghost view = { λ s. s.actor };
+
+    ghost invariant = { λ s. s.actor.by ≡ Client s.client };
+}
+
+impl<J: Naming> Session<J> {
+    /// The session of a client's place.
+    pub(crate) fn new(client: ClientId, actor: Actor<J>) -> Session<J>
+        requires { actor.by ≡ Client client }
+        ensures { result ≡ actor }
+    {
+        Session { client, actor }
+    }
+
+    /// The client's number.
+    pub fn client(&self) -> ClientId
+        ensures { self.now.by ≡ Client result }
+    {
+        self.client
+    }
+
+    /// The free place of a client that has left.
+    pub(crate) fn into_seat(self) -> Seat<J>
+        ensures { result ≡ token Manager self.seen self.reads }
+    {
+        let Session { client: _, actor } = self;
+        Seat { actor }
+    }
+}

@@ -1,0 +1,36 @@
+//! What sessions and administrators' tokens have in common.
+
+ghost use Rattle.std.specs.Prelude.{◌≡◌};
+ghost use Rattle.sm_history.specs.declared.query.Query.TheVariants.{Version};
+ghost use Rattle.sm_view.specs.Promises.{Read};
+ghost use Rattle.sm_view.specs.Tokens.{Knows};
+
+use crate::admin::Admin;
+use crate::session::Session;
+use sm_history::{Query, Reply};
+use sm_roll::Naming;
+
+/// Tokens that can ask for the version of the policy.
+pub trait Token {
+    ghost knows: { Self → Knows };
+
+    /// The version, from the page that is published. It waits for nobody.
+    fn read_version(&mut self) -> Reply
+        ensures { Read (knows self.old) (knows self.new) Version result };
+}
+
+impl<J: Naming> Token for Session<J> {
+    ghost knows = { λ s. s };
+
+    fn read_version(&mut self) -> Reply {
+        self.actor.read(Query::Version)
+    }
+}
+
+impl<J: Naming> Token for Admin<J> {
+    ghost knows = { λ s. s };
+
+    fn read_version(&mut self) -> Reply {
+        self.actor.read(Query::Version)
+    }
+}
