@@ -1,13 +1,14 @@
 //! A manager that is called directly: whose turn it is, and who may do and ask what.
 
 use crate::texts::{DEVICE_LABELS, DEVICE_RULES};
+use sm_audit::push_lines;
 use sm_core::Manager;
-use sm_history::{By, Entry, Event, Failure, Outcome, Query, Refusal, Reply};
+use sm_history::{By, Entry, Event, Failure, Outcome, Query, Record, Refusal, Reply};
 use sm_kinds::{
     AdminId, Class, ClientId, Context, Identity, Name, ObjRef, Payload, Perms, Places, Refs,
 };
 use sm_policy::Prepared;
-use std::alloc::Global;
+use std::alloc::{AllocError, Global};
 use std::mem::size_of;
 use std::process::Abort;
 use std::test::Fail;
@@ -378,24 +379,75 @@ pub fn application(rt: &impl Abort, alloc: Global) -> Identity {
     }
 }
 
+/// An application's add, which its user number bars.
+const BARRED_ADD: &[u8] =
+    b"journal=3 version=1 clause: denied app for pid=200 uid=10007 name=activity scontext=u:r:untrusted_app:s0
+";
+
+const TWO_BARRED_ADDS: &[u8] =
+    b"journal=3 version=1 clause: denied app for pid=200 uid=10007 name=activity scontext=u:r:untrusted_app:s0
+journal=3 version=1 clause: denied app for pid=200 uid=10007 name=activity scontext=u:r:untrusted_app:s0
+";
+
+/// An application's list, which no rule gives.
+const MISSING_LIST: &[u8] =
+    b"journal=3 version=1 avc: denied { list } for pid=200 uid=10007 scontext=u:r:untrusted_app:s0 tcontext=u:r:servicemanager:s0 tclass=service_manager permissive=0
+";
+
+/// Whether these are the audit lines of the records.
+fn are_told(alloc: Global, records: &[Record], lines: &[u8]) -> Result<bool, AllocError> {
+    let mut told = Vec::new(alloc);
+    push_lines(alloc, &mut told, records)?;
+    Ok(told.as_slice() == lines)
+}
+
+/// Whether the ring has just these records.
+fn are_kept(alloc: Global, manager: &Manager, lines: &[u8]) -> Result<bool, AllocError> {
+    let records = manager.records()?;
+    are_told(alloc, &records, lines)
+}
+
+/// Whether an add would leave these records.
+fn add_would_leave(alloc: Global, manager: &Manager, by: By, lines: &[u8]) -> Result<bool, Fail> {
+    let event = add(alloc)?;
+    let records = manager.step_records(by, 0, &event)?;
+    Ok(are_told(alloc, &records, lines)?)
+}
+
+/// Whether an add leaves these records.
+fn add_leaves(alloc: Global, manager: &mut Manager, by: By, lines: &[u8]) -> Result<bool, Fail> {
+    let (_, records) = manager.step_recorded(by, 0, add(alloc)?);
+    Ok(are_told(alloc, &records, lines)?)
+}
+
+/// Whether a list leaves these records, by both calls.
+fn list_leaves(alloc: Global, manager: &Manager, by: By, lines: &[u8]) -> Result<bool, AllocError> {
+    let first = manager.look_records(by, &Query::List(15))?;
+    let (_, second) = manager.look_recorded(by, Query::List(15));
+    Ok(are_told(alloc, &first, lines)? && are_told(alloc, &second, lines)?)
+}
+
+/// An application's connection, behind that of a system service.
+fn with_application(rt: &impl Abort, alloc: Global) -> Manager {
+    let mut manager = connected(rt, alloc);
+    let connect = Event::Connect(application(rt, alloc));
+    let seen = step(&mut manager, By::Manager, 2, connect);
+    assert_eq!(rt; seen, Seen::Connected(2));
+    manager
+}
+
 // A refused add leaves one record in the ring; what is only asked for, and a query, leave none there.
 #[test]
 fn records(rt: HostRuntime) -> Result<(), Fail> {
     let alloc = rt.alloc();
-    let mut manager = connected(&rt, alloc);
-    let connect = Event::Connect(application(&rt, alloc));
-    assert_eq!(rt;
-        step(&mut manager, By::Manager, 2, connect),
-        Seen::Connected(2)
-    );
+    let mut manager = with_application(&rt, alloc);
     let by = By::Client(ClientId(2));
-    assert_eq!(rt; manager.step_records(by, 0, &add(alloc)?)?.len(), 1);
-    assert_eq!(rt; manager.look_records(by, &Query::List(15))?.len(), 1);
-    assert_eq!(rt; manager.look_recorded(by, Query::List(15)).1.len(), 1);
-    assert_eq!(rt; manager.records()?.len(), 0);
+    assert!(rt; add_would_leave(alloc, &manager, by, BARRED_ADD)?);
+    assert!(rt; list_leaves(alloc, &manager, by, MISSING_LIST)?);
+    assert!(rt; are_kept(alloc, &manager, b"")?);
     assert_eq!(rt; step(&mut manager, by, 0, add(alloc)?), Seen::Another);
-    assert_eq!(rt; manager.records()?.len(), 1);
-    assert_eq!(rt; manager.step_recorded(by, 0, add(alloc)?).1.len(), 1);
-    assert_eq!(rt; manager.records()?.len(), 2);
+    assert!(rt; are_kept(alloc, &manager, BARRED_ADD)?);
+    assert!(rt; add_leaves(alloc, &mut manager, by, BARRED_ADD)?);
+    assert!(rt; are_kept(alloc, &manager, TWO_BARRED_ADDS)?);
     Ok(())
 }
