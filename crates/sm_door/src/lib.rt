@@ -20,8 +20,6 @@ mod page;
 mod published;
 mod seat;
 mod session;
-#[cfg(test)]
-mod tests;
 mod token;
 
 pub use actor::Actor;

@@ -8,8 +8,6 @@ mod response;
 mod responses;
 mod sessions;
 mod sitting;
-#[cfg(test)]
-mod tests;
 
 pub use desk::Desk;
 pub use response::Response;

@@ -24,8 +24,6 @@ mod refusals;
 mod replies;
 mod request;
 mod telling;
-#[cfg(test)]
-mod tests;
 mod texts;
 mod values;
 

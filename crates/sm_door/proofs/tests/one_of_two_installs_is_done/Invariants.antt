@@ -1,6 +1,0 @@
-use Rattle.sm_core.specs.Opening.{opened}
-use Rattle.sm_door.proofs.tests.one_of_two_installs_is_done.Given as goal
-
--- The roll that was just made, and the opening.
-abbrev pub ghosts-rivals : goal.ghosts-rivals
-ghosts-rivals g a = record { roll = a.blank.seen.book; opening = opened a.places a.who a.policy }

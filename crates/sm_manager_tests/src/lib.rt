@@ -1,0 +1,15 @@
+//! Tests of a manager that is called directly, and of connections at a desk that holds one.
+#![tactic(auto)]
+
+#[cfg(test)]
+mod attending;
+#[cfg(test)]
+mod connections;
+#[cfg(test)]
+mod lost_connections;
+#[cfg(test)]
+mod manager_desk;
+#[cfg(test)]
+mod turns;
+#[cfg(test)]
+mod views;

@@ -1,0 +1,171 @@
+//! The reader of rule texts: which statements it gives, and which fault it names.
+
+use sm_ruletext::*;
+use sm_samples::DEVICE_RULES;
+use std::alloc::{AllocError, Global};
+use std::test::*;
+
+fn repeated(alloc: Global, text: &mut Vec<u8>, piece: &[u8], times: u32) -> Result<(), AllocError> {
+    for _ in 0..times {
+        text.extend_from_slice(piece)?;
+    }
+    Ok(())
+}
+
+#[test]
+fn whole_text(rt: HostRuntime) -> Result<(), Fail> {
+    let statements = read(rt.alloc(), DEVICE_RULES).ok().ok_or("accepted")?;
+    assert_eq!(rt; statements.len(), 16);
+    let mut line = 0;
+    for statement in &statements {
+        assert!(rt; statement.line > line);
+        line = statement.line;
+    }
+    assert_eq!(rt; line, 16);
+    // Without the last newline, and without the last semicolon.
+    let cut = read(rt.alloc(), &DEVICE_RULES[..685])
+        .ok()
+        .ok_or("accepted")?;
+    assert_eq!(rt; cut.len(), 16);
+    assert_eq!(rt;
+        read(rt.alloc(), &DEVICE_RULES[..684]).err(),
+        Some(RuleTextFault::Syntax(16))
+    );
+    Ok(())
+}
+
+#[test]
+fn faults(rt: HostRuntime) {
+    let fault = |text: &[u8]| read(rt.alloc(), text).err();
+    assert_eq!(rt;
+        fault(b"type a;\nrole r;\n"),
+        Some(RuleTextFault::Unsupported(2))
+    );
+    assert_eq!(rt;
+        fault(b"\npermissive { a };"),
+        Some(RuleTextFault::Syntax(2))
+    );
+    assert_eq!(rt; fault(b"permissive self;"), Some(RuleTextFault::Syntax(1)));
+    assert_eq!(rt; fault(b"permissive a b;"), Some(RuleTextFault::Syntax(1)));
+    assert_eq!(rt; fault(b"dontaudit x y;"), Some(RuleTextFault::Syntax(1)));
+    assert_eq!(rt; fault(b"type a;\ntype b"), Some(RuleTextFault::Syntax(2)));
+    assert_eq!(rt;
+        fault(b"\n# x\n allow a { } : b c;"),
+        Some(RuleTextFault::Syntax(3))
+    );
+    assert_eq!(rt; fault(b"allow self a:b c;"), Some(RuleTextFault::Syntax(1)));
+    assert_eq!(rt;
+        fault(b"allow a ~self:b c;"),
+        Some(RuleTextFault::Syntax(1))
+    );
+    assert_eq!(rt;
+        fault(b"allow a { -self }:b c;"),
+        Some(RuleTextFault::Syntax(1))
+    );
+    assert_eq!(rt;
+        fault(b"allow a {{ self } *}:b c;;auditallow x \"a;b\" # ;\n;"),
+        None
+    );
+    // No text begins where its line has no second quote.
+    assert_eq!(rt;
+        fault(b"auditallow x \"a;b\n;"),
+        Some(RuleTextFault::Unsupported(1))
+    );
+}
+
+#[test]
+fn skipped_statements(rt: HostRuntime) -> Result<(), Fail> {
+    for word in [
+        b"auditallow".as_slice(),
+        b"type_transition",
+        b"expandattribute",
+        b"allowxperm",
+        b"auditallowxperm",
+        b"dontauditxperm",
+        b"neverallowxperm",
+    ] {
+        let mut text = Vec::from_slice(rt.alloc(), word)?;
+        text.extend_from_slice(b" x y:z { w } \"a;b # c\" # d;\n;\ntype a;\n")?;
+        let statements = read(rt.alloc(), &text).ok().ok_or("accepted")?;
+        assert_eq!(rt; statements.len(), 1);
+        assert_eq!(rt; statements[0].line, 3);
+    }
+    Ok(())
+}
+
+#[test]
+fn sets(rt: HostRuntime) -> Result<(), Fail> {
+    let text =
+        b"attribute d;\ntype a, d;\ntype b;\nallow { * -a } ~d:binder *;\nallow x y:file read;";
+    let statements = read(rt.alloc(), text).ok().ok_or("accepted")?;
+    // The rule of another class is skipped.
+    assert_eq!(rt; statements.len(), 4);
+    for statement in &statements {
+        if let What::Allow(rule) = &statement.what {
+            assert_eq!(rt; statement.line, 4);
+            assert!(rt; rule.source.all && rule.target.complement && rule.perm.all);
+            assert!(rt; rule.source.minus.contains(b"a"));
+            assert!(rt; rule.is_kept() && rule.class.selects(b"binder"));
+        }
+    }
+    Ok(())
+}
+
+#[test]
+fn permissive_and_dontaudit(rt: HostRuntime) -> Result<(), Fail> {
+    let text = b"dontaudit a { self b }:binder *;\ndontaudit x y:file read;\npermissive a;";
+    let statements = read(rt.alloc(), text).ok().ok_or("accepted")?;
+    // The rule of another class is skipped.
+    assert_eq!(rt; statements.len(), 2);
+    for statement in &statements {
+        match &statement.what {
+            What::Dontaudit(rule) => {
+                assert_eq!(rt; statement.line, 1);
+                assert!(rt; rule.to_self && statement.what.is_rule());
+            }
+            What::Permissive(name) => {
+                assert_eq!(rt; (statement.line, name.bytes()), (3, b"a".as_slice()));
+                assert!(rt; !statement.what.is_rule());
+            }
+            _ => assert!(rt; false),
+        }
+    }
+    Ok(())
+}
+
+#[test]
+fn nested_braces(rt: HostRuntime) -> Result<(), Fail> {
+    let mut text = Vec::from_slice(rt.alloc(), b"type a;\nallow ")?;
+    repeated(rt.alloc(), &mut text, b"{", 1_000_000)?;
+    text.extend_from_slice(b"a")?;
+    repeated(rt.alloc(), &mut text, b"}", 1_000_000)?;
+    text.extend_from_slice(b" a:binder call;")?;
+    let statements = read(rt.alloc(), &text).ok().ok_or("accepted")?;
+    assert_eq!(rt; statements.len(), 2);
+    Ok(())
+}
+
+#[test]
+fn most_rules(rt: HostRuntime) -> Result<(), Fail> {
+    let mut text = Vec::from_slice(rt.alloc(), b"type a;\n")?;
+    repeated(rt.alloc(), &mut text, b"allow a a:binder call;\n", 65_536)?;
+    let statements = read(rt.alloc(), &text).ok().ok_or("accepted")?;
+    assert_eq!(rt; statements.len(), 65_537);
+    assert!(rt; !statements[0].what.is_rule() && statements[1].what.is_rule());
+    text.extend_from_slice(b"allow a a:binder call;\n")?;
+    assert_eq!(rt; read(rt.alloc(), &text).err(), Some(RuleTextFault::TooMany));
+    Ok(())
+}
+
+#[test]
+fn longest_text(rt: HostRuntime) -> Result<(), Fail> {
+    let mut text = Vec::new(rt.alloc());
+    repeated(rt.alloc(), &mut text, b"                ", 262_144)?;
+    assert_eq!(rt; read(rt.alloc(), &text).ok().ok_or("accepted")?.len(), 0);
+    text.push(b' ')?;
+    assert_eq!(rt;
+        read(rt.alloc(), &text).err(),
+        Some(RuleTextFault::TooLarge)
+    );
+    Ok(())
+}

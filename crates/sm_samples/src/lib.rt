@@ -1,0 +1,13 @@
+//! What tests share: policy texts, request lines with their answers, and readers and writers that give little or fail.
+#![tactic(auto)]
+
+mod failing;
+mod talk;
+mod texts;
+
+pub use failing::{FailAt, OneByte, Pieces};
+pub use talk::{Said, Talk};
+pub use texts::{
+    BROKEN_RULE, DEVICE_LABELS, DEVICE_RULES, ONE_LABEL, PLAIN_RULES, RULE_FOR_DEFAULTS,
+    STRICTER_RULES, device_rules_with,
+};

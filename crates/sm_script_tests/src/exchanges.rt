@@ -1,0 +1,318 @@
+//! Handles, calls, inboxes, watches, unregistering and deaths, line by line.
+
+use crate::fixture::{Fixture, holds};
+use crate::texts::device_rules_but;
+use sm_samples::{DEVICE_LABELS, Said, Talk};
+use std::test::Fail;
+
+const A_HANDLE_COUNTS: Talk = &[
+    ("hello 100 1000 u:r:system_server:s0", "client 1"),
+    ("1 add activity o1 0 8", "ok"),
+    ("hello 200 10007 u:r:untrusted_app:s0", "client 2"),
+    ("2 get activity", "handle 1"),
+    ("2 get activity", "handle 1"),
+    ("2 release 1", "ok"),
+    ("2 call 1 00", "ok"),
+    ("2 release 1", "ok"),
+    ("2 call 1 00", "failed bad-handle"),
+    ("1 take", "call o1 200 10007 00"),
+];
+
+// A reference that names nothing refuses the whole call, and nothing is granted.
+const REFERENCES_OF_A_CALL: Talk = &[
+    ("hello 100 1000 u:r:system_server:s0", "client 1"),
+    ("1 add activity o1 0 8", "ok"),
+    ("hello 200 10007 u:r:untrusted_app:s0", "client 2"),
+    ("2 get activity", "handle 1"),
+    ("2 call 1 00 o5 h9", "failed bad-handle"),
+    ("1 take", "empty"),
+    ("2 call 1 00 o5 o5", "ok"),
+    ("1 take", "call o1 200 10007 00 h1 h1"),
+    ("1 release 1", "ok"),
+    ("1 release 1", "ok"),
+    ("1 release 1", "failed bad-handle"),
+];
+
+const A_CALL_THAT_THE_POLICY_DENIES: Talk = &[
+    ("hello 100 1000 u:r:system_server:s0", "client 1"),
+    ("1 add activity o1 0 8", "ok"),
+    ("hello 200 10007 u:r:untrusted_app:s0", "client 2"),
+    ("2 get activity", "handle 1"),
+    ("2 call 1 00 o5 o5", "ok"),
+    ("1 take", "call o1 200 10007 00 h1 h1"),
+    (
+        "1 call 1 00",
+        "failed denied system_server untrusted_app binder call",
+    ),
+];
+
+// The number of a handle that was given back is that of the next new object.
+const NUMBERS_ARE_USED_AGAIN: Talk = &[
+    ("hello 100 1000 u:r:system_server:s0", "client 1"),
+    ("1 add activity o1 0 8", "ok"),
+    ("hello 200 10007 u:r:untrusted_app:s0", "client 2"),
+    ("2 get activity", "handle 1"),
+    ("2 get activity", "handle 1"),
+    ("2 release 1", "ok"),
+    ("2 release 1", "ok"),
+    ("1 add activity o2 0 8", "ok"),
+    ("2 get activity", "handle 1"),
+    ("2 call 1 - h1", "ok"),
+    ("1 take", "call o2 200 10007 - o2"),
+    ("2 call 1 - h0", "failed bad-handle"),
+    ("2 call 0 -", "failed bad-handle"),
+    ("1 take", "empty"),
+];
+
+const UNREGISTERING: Talk = &[
+    ("hello 100 1000 u:r:system_server:s0", "client 1"),
+    ("1 add activity o1 0 8", "ok"),
+    ("hello 200 10007 u:r:untrusted_app:s0", "client 2"),
+    ("2 get activity", "handle 1"),
+    ("1 unregister activity o1", "exception -5 in-use"),
+    ("2 release 1", "ok"),
+    ("1 unregister activity o1", "ok"),
+    ("1 unregister activity o1", "exception -5 not-registered"),
+];
+
+const WHO_MAY_UNREGISTER: Talk = &[
+    ("hello 100 1000 u:r:system_server:s0", "client 1"),
+    ("1 add activity o1 0 8", "ok"),
+    ("hello 101 1000 u:r:system_server:s0", "client 2"),
+    ("2 add activity o1 0 8", "ok"),
+    ("1 unregister activity o1", "exception -1 not-adder"),
+    ("2 unregister activity null", "exception -4 null-binder"),
+    ("2 unregister activity o2", "exception -5 other-object"),
+    ("2 bye", "bye"),
+    ("1 get activity", "null"),
+];
+
+const THE_OBJECT_OF_THE_DEAD: Talk = &[
+    ("hello 100 1000 u:r:system_server:s0", "client 1"),
+    ("1 add activity o1 0 8", "ok"),
+    ("hello 101 1000 u:r:system_server:s0", "client 2"),
+    ("2 get activity", "handle 1"),
+    ("1 bye", "bye"),
+    ("2 add activity h1 0 8", "exception -5 dead-owner"),
+    ("2 release 1", "ok"),
+];
+
+const WATCHING_A_NAME_WITH_A_SERVICE: Talk = &[
+    ("hello 100 1000 u:r:system_server:s0", "client 1"),
+    ("1 add activity o1 0 8", "ok"),
+    ("hello 200 10007 u:r:untrusted_app:s0", "client 2"),
+    ("2 watch activity o7", "ok"),
+    ("2 take", "registered o7 activity h1"),
+    ("2 unwatch activity o7", "ok"),
+    (
+        "2 unwatch activity o7",
+        "exception -5 nothing-to-unregister",
+    ),
+];
+
+const A_WATCH_MADE_TWICE: Talk = &[
+    ("hello 100 1000 u:r:system_server:s0", "client 1"),
+    ("hello 200 10007 u:r:untrusted_app:s0", "client 2"),
+    ("2 watch activity o7", "ok"),
+    ("2 watch activity o7", "ok"),
+    ("1 add activity o1 0 8", "ok"),
+    ("2 take", "registered o7 activity h1"),
+    ("2 take", "registered o7 activity h1"),
+    ("2 take", "empty"),
+    ("2 release 1", "ok"),
+    ("2 release 1", "ok"),
+    ("2 release 1", "failed bad-handle"),
+];
+
+const SIXTEEN_REFERENCES: Talk = &[
+    ("hello 100 1000 u:r:system_server:s0", "client 1"),
+    ("1 add activity o1 0 8", "ok"),
+    ("hello 200 10007 u:r:untrusted_app:s0", "client 2"),
+    ("2 get activity", "handle 1"),
+    (
+        "2 call 1 - null null null null null null null null null null null null null null null null",
+        "ok",
+    ),
+    (
+        "1 take",
+        "call o1 200 10007 - null null null null null null null null null null null null null null null null",
+    ),
+    (
+        "2 call 1 - null null null null null null null null null null null null null null null null null",
+        "malformed",
+    ),
+];
+
+// Client 2 dies holding a handle, watching, owning the service, and with a full inbox.
+const BEFORE_A_DEATH: Talk = &[
+    ("hello 200 10007 u:r:untrusted_app:s0", "client 1"),
+    ("hello 100 1000 u:r:system_server:s0", "client 2"),
+    ("2 watch activity o3", "ok"),
+    ("2 add activity o1 0 8", "ok"),
+    ("1 get activity", "handle 1"),
+    ("1 call 1 - o5", "ok"),
+];
+
+const AFTER_A_DEATH: Talk = &[
+    ("1 call 1 -", "failed target-full"),
+    ("1 watch activity o9", "ok"),
+    ("2 bye", "bye"),
+    ("1 get activity", "null"),
+    ("1 call 1 -", "dead"),
+    ("2 take", "failed not-connected"),
+    ("hello 101 1000 u:r:system_server:s0", "client 3"),
+    ("3 add activity o1 0 8", "ok"),
+    ("3 take", "empty"),
+    ("1 take", "registered o9 activity h1"),
+    ("1 take", "registered o9 activity h2"),
+    ("1 take", "empty"),
+    ("1 release 1", "ok"),
+    ("1 release 1", "ok"),
+    ("1 release 1", "failed bad-handle"),
+    ("1 get activity", "handle 2"),
+];
+
+const ONE_MORE_CALL: Talk = &[("1 call 1 -", "ok")];
+
+#[test]
+fn a_death_of_one_that_has_all(rt: HostRuntime) -> Result<(), Fail> {
+    let alloc = rt.alloc();
+    let mut said = Said::new(alloc);
+    said.talk(BEFORE_A_DEATH)?;
+    for _ in 0..254 {
+        said.talk(ONE_MORE_CALL)?;
+    }
+    said.talk(AFTER_A_DEATH)?;
+    Fixture::device().hears(&rt, alloc, &said);
+    Ok(())
+}
+
+#[test]
+fn exchanges(rt: HostRuntime) -> Result<(), Fail> {
+    for talk in [
+        A_HANDLE_COUNTS,
+        REFERENCES_OF_A_CALL,
+        A_CALL_THAT_THE_POLICY_DENIES,
+        NUMBERS_ARE_USED_AGAIN,
+        UNREGISTERING,
+        WHO_MAY_UNREGISTER,
+        THE_OBJECT_OF_THE_DEAD,
+        WATCHING_A_NAME_WITH_A_SERVICE,
+        A_WATCH_MADE_TWICE,
+        SIXTEEN_REFERENCES,
+    ] {
+        holds(&rt, rt.alloc(), Fixture::device(), talk)?;
+    }
+    Ok(())
+}
+
+// Of four places one is kept for the death of the client.
+const A_FULL_JOURNAL: Talk = &[
+    ("hello 100 1000 u:r:system_server:s0", "client 1"),
+    ("1 add activity o1 0 8", "ok"),
+    ("1 add activity o1 0 8", "failed journal-full"),
+    ("1 list 15", "names 1 3 1 activity"),
+    ("1 bye", "bye"),
+    (
+        "hello 200 10007 u:r:untrusted_app:s0",
+        "failed journal-full",
+    ),
+];
+
+#[test]
+fn a_place_for_each_death(rt: HostRuntime) -> Result<(), Fail> {
+    let policy = Fixture::device().with_places(4);
+    holds(&rt, rt.alloc(), policy, A_FULL_JOURNAL)
+}
+
+const A_WATCHER_CONNECTS: Talk = &[
+    ("hello 100 1000 u:r:system_server:s0", "client 1"),
+    ("hello 200 10007 u:r:untrusted_app:s0", "client 2"),
+    ("2 watch activity o7", "ok"),
+];
+
+const A_WATCHER_IS_NOT_TOLD: Talk = &[("1 add activity o1 0 8", "ok"), ("2 take", "empty")];
+
+// The policy of the registration counts, not that of the watch: applications may no longer find `activity`.
+#[test]
+fn a_watcher_that_may_no_longer_find(rt: HostRuntime) -> Result<(), Fail> {
+    let alloc = rt.alloc();
+    let rules = device_rules_but(
+        alloc,
+        b"allow binderuser activity_service:service_manager find;",
+        b"allow { binderuser -untrusted_app } activity_service:service_manager find;",
+    )?;
+    let mut said = Said::new(alloc);
+    said.talk(A_WATCHER_CONNECTS)?;
+    said.reload(b"reload 1 705 89\n", &rules, DEVICE_LABELS, b"reloaded 2\n")?;
+    said.talk(A_WATCHER_IS_NOT_TOLD)?;
+    Fixture::device().hears(&rt, alloc, &said);
+    Ok(())
+}
+
+const A_SERVER_DIES: Talk = &[
+    ("hello 100 1000 u:r:system_server:s0", "client 1"),
+    ("1 watch activity o3", "ok"),
+    ("1 add activity o1 0 8", "ok"),
+    ("1 take", "registered o3 activity o1"),
+    ("hello 200 10007 u:r:untrusted_app:s0", "client 2"),
+    ("2 get activity", "handle 1"),
+    ("1 bye", "bye"),
+    ("2 get activity", "null"),
+    ("2 call 1 00", "dead"),
+];
+
+const ANOTHER_SERVER_COMES: Talk = &[
+    ("2 call 1 00", "dead"),
+    ("hello 103 1000 u:r:system_server:s0", "client 3"),
+    ("3 add activity o1 0 8", "ok"),
+    ("2 get activity", "handle 2"),
+];
+
+// A call of a dead object is answered so before any rule is asked, and a dead client watches nothing.
+#[test]
+fn a_server_that_dies(rt: HostRuntime) -> Result<(), Fail> {
+    let alloc = rt.alloc();
+    let rules = device_rules_but(
+        alloc,
+        b"allow untrusted_app system_server:binder { call transfer };\n",
+        b"",
+    )?;
+    let mut said = Said::new(alloc);
+    said.talk(A_SERVER_DIES)?;
+    said.reload(b"reload 1 626 89\n", &rules, DEVICE_LABELS, b"reloaded 2\n")?;
+    said.talk(ANOTHER_SERVER_COMES)?;
+    Fixture::device().hears(&rt, alloc, &said);
+    Ok(())
+}
+
+const AN_APPLICATION_HAS_A_HANDLE: Talk = &[
+    ("hello 100 1000 u:r:system_server:s0", "client 1"),
+    ("1 add activity o1 0 8", "ok"),
+    ("hello 200 10007 u:r:untrusted_app:s0", "client 2"),
+    ("2 get activity", "handle 1"),
+];
+
+const ONE_CALL: Talk = &[("2 call 1 -", "ok")];
+
+// Who watches a name isn't told of its service either, while the inbox is full.
+const ONE_CALL_TOO_MANY: Talk = &[
+    ("2 call 1 -", "failed target-full"),
+    ("1 take", "call o1 200 10007 -"),
+    ("2 call 1 -", "ok"),
+    ("1 watch activity o3", "ok"),
+    ("2 call 1 -", "failed target-full"),
+];
+
+#[test]
+fn a_full_inbox(rt: HostRuntime) -> Result<(), Fail> {
+    let alloc = rt.alloc();
+    let mut said = Said::new(alloc);
+    said.talk(AN_APPLICATION_HAS_A_HANDLE)?;
+    for _ in 0..256 {
+        said.talk(ONE_CALL)?;
+    }
+    said.talk(ONE_CALL_TOO_MANY)?;
+    Fixture::device().hears(&rt, alloc, &said);
+    Ok(())
+}

@@ -1,0 +1,507 @@
+//! What no contract says: that changes are made, that reads answer while a change is held, and that many threads get on.
+
+ghost use Rattle.std.specs.Prelude.{◌≡◌};
+ghost use Rattle.sm_core.specs.Opening.{opened};
+ghost use denote.Param.Send.{IsSend, IsSync};
+
+use crossbeam_utils::Backoff;
+use sm_core::View;
+use sm_door::*;
+use sm_history::{Answer, Event, Outcome, Refusal, Reply};
+use sm_kinds::{Class, Context, Identity, Name, ObjRef, Perms, Places};
+use sm_policy::Prepared;
+use sm_roll::{Badge, Blank, Naming, Roll};
+use sm_samples::{DEVICE_LABELS, DEVICE_RULES, STRICTER_RULES};
+use sm_view::{Gate, NoGate};
+use std::alloc::Global;
+use std::marker::Brand;
+use std::process::Abort;
+use std::sync::atomic::{AtomicU64, Ordering};
+use std::sync::{Arc, Mutex, Wait};
+use std::test::Fail;
+use std::thread;
+use std::thread::Threads;
+
+/// So many policies are installed while others read.
+const INSTALLS: u64 = 100;
+
+fn policy(rt: &impl Abort, alloc: Global, rules: &[u8]) -> Prepared {
+    Prepared::from_texts(alloc, rules, DEVICE_LABELS)
+        .ok()
+        .expect(rt, "a policy")
+}
+
+fn process(rt: &impl Abort, alloc: Global, pid: u32, context: &[u8]) -> Identity {
+    Identity {
+        pid,
+        uid: 1000,
+        context: Context::read(alloc, context).ok().expect(rt, "a context"),
+    }
+}
+
+fn manager(rt: &impl Abort, alloc: Global) -> Identity {
+    process(rt, alloc, 1, b"u:r:servicemanager:s0")
+}
+
+fn server(rt: &impl Abort, alloc: Global, pid: u32) -> Identity {
+    process(rt, alloc, pid, b"u:r:system_server:s0")
+}
+
+fn name(rt: &impl Abort, alloc: Global, bytes: &[u8]) -> Name {
+    Name::new(alloc, bytes).ok().expect(rt, "a name")
+}
+
+/// `activity`, an object of the client's own.
+fn activity(rt: &impl Abort, alloc: Global) -> Event {
+    Event::Add {
+        name: name(rt, alloc, b"activity"),
+        obj: ObjRef::Own(1),
+        allow_isolated: false,
+        dump: 8,
+    }
+}
+
+fn joined<J: Naming, G: Gate + Drop, R: Wait + Abort>(
+    rt: &R,
+    door: &Door<J, G>,
+    seat: Option<Seat<J>>,
+    who: Identity,
+) -> Session<J> {
+    match door.connect(rt, seat.expect(rt, "a seat"), who) {
+        Ok(session) => session,
+        Err(_) => None.expect(rt, "a session"),
+    }
+}
+
+fn is_added(reply: &Reply) -> bool {
+    matches!(reply, Reply::Done(Outcome::Added(_)))
+}
+
+/// Whether these names are listed, under the first policy, from a history of so many changes.
+fn lists(reply: &Reply, entries: u64, names: &[&[u8]]) -> bool {
+    match reply {
+        Reply::Looked {
+            version: 1,
+            length,
+            answer: Answer::Names(list),
+        } => *length == entries && are(list.list(), names),
+        _ => false,
+    }
+}
+
+fn are(list: &[Name], names: &[&[u8]]) -> bool {
+    if list.len() != names.len() {
+        return false;
+    }
+    for i in 0..list.len() {
+        if list[i].bytes() != names[i] {
+            return false;
+        }
+    }
+    true
+}
+
+#[test]
+fn a_change_is_seen_after_a_meeting_and_without_one(rt: HostRuntime) -> Result<(), Fail> {
+    let alloc = rt.alloc();
+    let who = manager(&rt, alloc);
+    let rules = policy(&rt, alloc, DEVICE_RULES);
+    let places = Places::new(1000).expect(&rt, "places");
+    meets::<Brand, _>(&rt, alloc, Blank::new(), who, rules, places)
+}
+
+fn meets<J: Naming, R: Wait + Abort>(
+    rt: &R,
+    alloc: Global,
+    blank: Blank,
+    who: Identity,
+    policy: Prepared,
+    places: Places,
+) -> Result<(), Fail>
+    requires roll { blank.seen.book ≡ J.roll }
+    requires opening { J.opening ≡ opened places who policy }
+{
+    let (door, mut seats, _admins) = Door::<J, NoGate>::open(
+        rt, alloc, blank, who, policy, places, NoGate,
+    ).ok()
+        .expect(rt, "a door");
+    let mut a = joined(rt, &door, seats.pop(), server(rt, alloc, 100));
+    let mut b = joined(rt, &door, seats.pop(), server(rt, alloc, 101));
+    assert!(rt; a.client().0 == 1);
+    assert!(rt; b.client().0 == 2);
+    assert!(rt; is_added(&door.submit(rt, &mut a, activity(rt, alloc))));
+    assert!(rt; lists(&door.list(&mut a, 15), 4, &[b"activity"]));
+    door.meet(rt, &mut a, &mut b);
+    assert!(rt; lists(&door.list(&mut b, 15), 4, &[b"activity"]));
+    assert!(rt; is_added(&door.submit(rt, &mut a, activity(rt, alloc))));
+    assert!(rt; lists(&door.list(&mut b, 15), 5, &[b"activity"]));
+    door.close(rt);
+    Ok(())
+}
+
+/// Holds the first change that comes once it is armed, until it is let go.
+#[derive(Drop)]
+struct Hold {
+    state: AtomicU64,
+}
+
+const ARMED: u64 = 1;
+
+const HOLDING: u64 = 2;
+
+const LET_GO: u64 = 3;
+
+const GIVEN_UP: u64 = 4;
+
+const TURNS: u32 = 1_000_000;
+
+impl Hold {
+    fn new() -> Hold {
+        Hold {
+            state: AtomicU64::new(0),
+        }
+    }
+
+    fn set(&self, state: u64) {
+        self.state.store(state, Ordering::SeqCst);
+    }
+
+    fn is(&self, state: u64) -> bool {
+        self.state.load(Ordering::SeqCst) == state
+    }
+
+    /// Whether the state came in so many turns.
+    fn comes(&self, state: u64) -> bool {
+        let backoff = Backoff::new();
+        for _ in 0..TURNS {
+            if self.is(state) {
+                return true;
+            }
+            backoff.snooze();
+        }
+        false
+    }
+}
+
+impl Gate for Hold {
+    fn enter(&self, _line: u64) {}
+
+    fn inside(&self) {
+        if self.is(ARMED) {
+            self.set(HOLDING);
+            if !self.comes(LET_GO) {
+                self.set(GIVEN_UP);
+            }
+        }
+    }
+
+    fn leave(&self, _line: u64) {}
+}
+
+#[test]
+fn a_change_is_held_until_a_list_is_answered(rt: HostRuntime) -> Result<(), Fail> {
+    let alloc = rt.alloc();
+    let who = manager(&rt, alloc);
+    let rules = policy(&rt, alloc, DEVICE_RULES);
+    let places = Places::new(1000).expect(&rt, "places");
+    held::<Brand, _>(&rt, alloc, Blank::new(), who, rules, places)
+}
+
+fn held<J: Naming + Send + Sync, R: Threads + Wait + Abort + Sync>(
+    rt: &R,
+    alloc: Global,
+    blank: Blank,
+    who: Identity,
+    policy: Prepared,
+    places: Places,
+) -> Result<(), Fail>
+    requires roll { blank.seen.book ≡ J.roll }
+    requires opening { J.opening ≡ opened places who policy }
+{
+    let (door, mut seats, _admins) = Door::<J, Hold>::open(
+        rt,
+        alloc,
+        blank,
+        who,
+        policy,
+        places,
+        Hold::new(),
+    ).ok()
+        .expect(rt, "a door");
+    let a = joined(rt, &door, seats.pop(), server(rt, alloc, 100));
+    let mut b = joined(rt, &door, seats.pop(), server(rt, alloc, 101));
+    door.gate().set(ARMED);
+    assert!(rt; lists_while_held(rt, alloc, &door, a, &mut b));
+    assert!(rt; door.gate().is(LET_GO));
+    assert!(rt; lists(&door.list(&mut b, 15), 4, &[b"activity"]));
+    door.close(rt);
+    Ok(())
+}
+
+/// One adds a service, and another lists while that change is held.
+fn lists_while_held<J: Naming + Send + Sync, R: Threads + Wait + Abort + Sync>(
+    rt: &R,
+    alloc: Global,
+    door: &Door<J, Hold>,
+    adder: Session<J>,
+    lister: &mut Session<J>,
+) -> bool {
+    let mut saw = false;
+    thread::scope(thread::scope_env(), rt, |scope| {
+        crosses::<View>();
+        crosses::<Badge<J>>();
+        crosses::<Page<J>>();
+        crosses::<Arc<Page<J>>>();
+        crosses::<Shown<J>>();
+        sends::<ViewReader<J>>();
+        sends::<Option<ViewReader<J>>>();
+        sends::<Actor<J>>();
+        sends::<Session<J>>();
+        sends::<ViewWriter<J>>();
+        sends::<Option<ViewWriter<J>>>();
+        sends::<Roll<J>>();
+        sends::<Desk<J>>();
+        crosses::<Hold>();
+        shares::<Door<J, Hold>>();
+        if scope.spawn(move || adds(rt, alloc, door, adder)).is_ok() {
+            saw = looks(door, lister);
+        }
+    });
+    saw
+}
+
+fn adds<J: Naming, R: Wait + Abort>(
+    rt: &R,
+    alloc: Global,
+    door: &Door<J, Hold>,
+    mut me: Session<J>,
+) {
+    door.submit(rt, &mut me, activity(rt, alloc));
+}
+
+/// Lists while the change is held, and only then lets it go.
+fn looks<J: Naming>(door: &Door<J, Hold>, me: &mut Session<J>) -> bool {
+    let held = door.gate().comes(HOLDING);
+    let before = lists(&door.list(me, 15), 3, &[]);
+    door.gate().set(LET_GO);
+    held && before
+}
+
+#[test]
+fn versions_never_go_back(rt: HostRuntime) -> Result<(), Fail> {
+    let alloc = rt.alloc();
+    let who = manager(&rt, alloc);
+    let rules = policy(&rt, alloc, DEVICE_RULES);
+    let places = Places::new(1000).expect(&rt, "places");
+    grows::<Brand, _>(&rt, alloc, Blank::new(), who, rules, places)
+}
+
+fn grows<J: Naming + Send + Sync, R: Threads + Wait + Abort + Sync>(
+    rt: &R,
+    alloc: Global,
+    blank: Blank,
+    who: Identity,
+    policy: Prepared,
+    places: Places,
+) -> Result<(), Fail>
+    requires roll { blank.seen.book ≡ J.roll }
+    requires opening { J.opening ≡ opened places who policy }
+{
+    let (door, _seats, mut admins) = Door::<J, NoGate>::open(
+        rt, alloc, blank, who, policy, places, NoGate,
+    ).ok()
+        .expect(rt, "a door");
+    let first = admins.pop().expect(rt, "an administrator");
+    let readers = Mutex::new(admins);
+    assert!(rt; all_at_once(rt, alloc, &door, first, &readers));
+    let mut left = readers.into_inner();
+    let mut one = left.pop().expect(rt, "a reader that saw what it should");
+    let mut two = left.pop().expect(rt, "a reader that saw what it should");
+    let mut three = left.pop().expect(rt, "a reader that saw what it should");
+    assert!(rt; is_version(&door.version(&mut one), 101, 101));
+    assert!(rt; is_version(&door.version(&mut two), 101, 101));
+    let reply = finds(rt, alloc, &door, &mut three);
+    assert!(rt; rightly_found(&reply) == Some(101));
+    door.close(rt);
+    Ok(())
+}
+
+fn is_version(reply: &Reply, wanted: u64, entries: u64) -> bool {
+    match reply {
+        Reply::Looked {
+            version,
+            length,
+            answer: Answer::Version,
+        } => *version == wanted && *length == entries,
+        _ => false,
+    }
+}
+
+/// Which rule lets an untrusted application find `activity`.
+fn finds<J: Naming, R: Abort>(
+    rt: &R,
+    alloc: Global,
+    door: &Door<J, NoGate>,
+    me: &mut Admin<J>,
+) -> Reply {
+    let source = name(rt, alloc, b"untrusted_app");
+    let target = name(rt, alloc, b"activity_service");
+    door.explain(me, source, target, Class::ServiceManager, Perms::FIND)
+}
+
+/// The version of the answer, if it is the one that the policy of that version gives: line 13 under an odd one, and no
+/// rule under an even one.
+fn rightly_found(reply: &Reply) -> Option<u64> {
+    match reply {
+        Reply::Looked {
+            version,
+            length: _,
+            answer: Answer::Why(line),
+        } => {
+            let wanted = if *version % 2 == 1 { Some(13) } else { None };
+            if *line == wanted {
+                Some(*version)
+            } else {
+                None
+            }
+        }
+        _ => None,
+    }
+}
+
+/// One installs while three read.
+fn all_at_once<J: Naming + Send + Sync, R: Threads + Wait + Abort + Sync>(
+    rt: &R,
+    alloc: Global,
+    door: &Door<J, NoGate>,
+    first: Admin<J>,
+    readers: &Mutex<Vec<Admin<J>>>,
+) -> bool {
+    let mut first = first;
+    let mut done = false;
+    thread::scope(thread::scope_env(), rt, |scope| {
+        crosses::<View>();
+        crosses::<Badge<J>>();
+        crosses::<Page<J>>();
+        crosses::<Arc<Page<J>>>();
+        crosses::<Shown<J>>();
+        sends::<ViewReader<J>>();
+        sends::<Option<ViewReader<J>>>();
+        sends::<Actor<J>>();
+        sends::<Admin<J>>();
+        sends::<ViewWriter<J>>();
+        sends::<Option<ViewWriter<J>>>();
+        sends::<Roll<J>>();
+        sends::<Desk<J>>();
+        shares::<Door<J, NoGate>>();
+        shares::<Mutex<Vec<Admin<J>>>>();
+        for _ in 0..3 {
+            if scope
+                .spawn(move || reads(rt, alloc, door, readers))
+                .is_err()
+            {
+                reads(rt, alloc, door, readers);
+            }
+        }
+        done = installs(rt, alloc, door, &mut first);
+    });
+    done
+}
+
+/// Installs the two policies in turn, the stricter one first.
+fn installs<J: Naming, R: Wait + Abort>(
+    rt: &R,
+    alloc: Global,
+    door: &Door<J, NoGate>,
+    me: &mut Admin<J>,
+) -> bool {
+    let stricter = policy(rt, alloc, STRICTER_RULES);
+    let device = policy(rt, alloc, DEVICE_RULES);
+    for version in 1..INSTALLS + 1 {
+        let next = if version % 2 == 1 { &stricter } else { &device };
+        let next = next.share().ok().expect(rt, "memory");
+        match door.install(rt, me, version, next) {
+            Ok(now) => {
+                if now != version + 1 {
+                    return false;
+                }
+            }
+            Err(_) => return false,
+        }
+    }
+    true
+}
+
+/// A reader whose versions never go back, and whose answers are those of their versions, comes back among the readers.
+fn reads<J: Naming, R: Wait + Abort>(
+    rt: &R,
+    alloc: Global,
+    door: &Door<J, NoGate>,
+    readers: &Mutex<Vec<Admin<J>>>,
+) {
+    let free = readers.lock(rt).pop();
+    let mut me = free.expect(rt, "an administrator");
+    let mut last = 1;
+    for _ in 0..INSTALLS {
+        let reply = finds(rt, alloc, door, &mut me);
+        match rightly_found(&reply) {
+            Some(version) => {
+                if version < last {
+                    return;
+                }
+                last = version;
+            }
+            None => return,
+        }
+    }
+    let _ = readers.lock(rt).push(me);
+}
+
+#[test]
+fn one_of_two_installs_is_done(rt: HostRuntime) -> Result<(), Fail> {
+    let alloc = rt.alloc();
+    let who = manager(&rt, alloc);
+    let rules = policy(&rt, alloc, DEVICE_RULES);
+    let places = Places::new(1000).expect(&rt, "places");
+    rivals::<Brand, _>(&rt, alloc, Blank::new(), who, rules, places)
+}
+
+fn rivals<J: Naming, R: Wait + Abort>(
+    rt: &R,
+    alloc: Global,
+    blank: Blank,
+    who: Identity,
+    policy: Prepared,
+    places: Places,
+) -> Result<(), Fail>
+    requires roll { blank.seen.book ≡ J.roll }
+    requires opening { J.opening ≡ opened places who policy }
+{
+    let one = policy.share().ok().expect(rt, "memory");
+    let other = policy.share().ok().expect(rt, "memory");
+    let (door, _seats, mut admins) = Door::<J, NoGate>::open(
+        rt, alloc, blank, who, policy, places, NoGate,
+    ).ok()
+        .expect(rt, "a door");
+    let mut first = admins.pop().expect(rt, "an administrator");
+    let mut second = admins.pop().expect(rt, "an administrator");
+    assert!(rt; matches!(door.install(rt, &mut first, 1, one), Ok(2)));
+    let refused = door.install(rt, &mut second, 1, other);
+    assert!(rt; matches!(refused, Err((Refusal::VersionMoved(2), _))));
+    assert!(rt; is_version(&door.version(&mut second), 2, 2));
+    door.close(rt);
+    Ok(())
+}
+
+fn shares<X: Sync>()
+    ensures { IsSync X.row }
+{}
+
+fn crosses<X: Send + Sync>()
+    ensures { IsSend X.row × IsSync X.row }
+{}
+
+/// Makes it a fact of its own that values of the type may be sent to another thread.
+fn sends<X: Send>()
+    ensures { IsSend X.row }
+{}

@@ -1,0 +1,5 @@
+//! Tests in threads.
+#![tactic(auto)]
+
+#[cfg(test)]
+mod door;

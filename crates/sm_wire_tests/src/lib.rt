@@ -1,0 +1,9 @@
+//! Tests of lines, of replies and of a session over a desk that only counts.
+#![tactic(auto)]
+
+#[cfg(test)]
+mod lines;
+#[cfg(test)]
+mod replies;
+#[cfg(test)]
+mod sessions;

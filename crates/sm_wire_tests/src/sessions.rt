@@ -1,0 +1,234 @@
+//! A session's end, and the gate that is told where it stands, over a desk that only counts.
+
+use sm_engine::Counted;
+use sm_history::{Event, Outcome, Refusal, Reply};
+use sm_kinds::{ClientId, Identity};
+use sm_policy::PolicyFault;
+use sm_session::*;
+use sm_view::Gate;
+use sm_wire::{Kind, Request};
+use std::alloc::Global;
+use std::io::{self, Write};
+use std::process::Abort;
+use std::sync::atomic::{AtomicU64, Ordering};
+use std::test::*;
+
+/// A desk that counts what it is asked, and how often it is told of an end.
+#[derive(Drop)]
+struct Clerk {
+    alloc: Global,
+    asked: u32,
+    ends: u32,
+}
+
+impl Clerk {
+    fn new(alloc: Global) -> Clerk {
+        Clerk {
+            alloc,
+            asked: 0,
+            ends: 0,
+        }
+    }
+}
+
+impl Desk for Clerk {
+    ghost answers = { λ _ _ _ _. Unit {0} };
+
+    ghost leaves = { λ _ _. Unit {0} };
+
+    /// There is one client, and the first who asks is told to try again.
+    fn hello(&mut self, who: Identity) -> Response {
+        self.asked = self.asked.saturating_add(1);
+        if self.asked == 1 {
+            return Response::Replied(Reply::Refused(Refusal::TooManyClients));
+        }
+        Response::Replied(Reply::Done(Outcome::Connected(ClientId(1))))
+    }
+
+    /// A `bye` is refused once.
+    fn ask(&mut self, request: Request) -> Response {
+        self.asked = self.asked.saturating_add(1);
+        match request {
+            Request::Change(_, Event::Die) => Response::Replied(self.bye_reply()),
+            Request::Change(_, _) => Response::Replied(Reply::GotNull),
+            Request::Denials => Response::Denied(Vec::new(self.alloc)),
+            _ => Response::Replied(Reply::GotOwn(self.asked)),
+        }
+    }
+
+    fn reload(&mut self, expected: u64, rules: &[u8], contexts: &[u8]) -> Response {
+        self.asked = self.asked.saturating_add(1);
+        if rules.len() == 2 && contexts.len() == 1 {
+            return Response::Replied(Reply::Done(Outcome::Reloaded(expected)));
+        }
+        Response::PolicyRefused(PolicyFault::UndeclaredLabel(7))
+    }
+
+    fn bye(&mut self) {
+        self.ends = self.ends.saturating_add(1);
+    }
+}
+
+impl Clerk {
+    fn bye_reply(&self) -> Reply {
+        if self.asked < 5 {
+            return Reply::Refused(Refusal::Memory);
+        }
+        Reply::Done(Outcome::Died)
+    }
+}
+
+/// A gate that counts who enters and leaves, and adds up the numbers of their lines.
+#[derive(Drop)]
+struct Turnstile {
+    entered: AtomicU64,
+    entered_lines: AtomicU64,
+    left: AtomicU64,
+    left_lines: AtomicU64,
+}
+
+impl Turnstile {
+    fn new() -> Turnstile {
+        Turnstile {
+            entered: AtomicU64::new(0),
+            entered_lines: AtomicU64::new(0),
+            left: AtomicU64::new(0),
+            left_lines: AtomicU64::new(0),
+        }
+    }
+}
+
+impl Gate for Turnstile {
+    fn enter(&self, line: u64) {
+        self.entered.fetch_add(1, Ordering::Relaxed);
+        self.entered_lines.fetch_add(line, Ordering::Relaxed);
+    }
+
+    fn inside(&self) {}
+
+    fn leave(&self, line: u64) {
+        self.left.fetch_add(1, Ordering::Relaxed);
+        self.left_lines.fetch_add(line, Ordering::Relaxed);
+    }
+}
+
+/// A writer that takes one byte a call.
+#[derive(Drop)]
+struct OneByte {
+    text: Vec<u8>,
+}
+
+impl Write for OneByte {
+    ghost use Rattle.std.specs.Prelude.{Some};
+
+    ghost contents = { λ s. Some s.text.items };
+
+    fn write(&mut self, buf: &[u8]) -> io::Result<usize> {
+        if buf.is_empty() {
+            return Ok(0);
+        }
+        self.text.write(&buf[..1])
+    }
+
+    fn flush(&mut self) -> io::Result<()> {
+        self.text.flush()
+    }
+}
+
+/// A session that is to write this, to ask its desk so often, for lines whose numbers have this sum, and to tell it so
+/// often of the end.
+fn attend(
+    rt: &impl Abort,
+    alloc: Global,
+    kind: Kind,
+    input: &[u8],
+    wanted: &[u8],
+    asked: u32,
+    lines: u64,
+    ends: u32,
+) {
+    let mut reader = Counted::new(input);
+    let mut writer = Counted::new(OneByte {
+        text: Vec::new(alloc),
+    });
+    let gate = Turnstile::new();
+    let (clerk, ending) = session(
+        alloc,
+        kind,
+        &mut reader,
+        &mut writer,
+        Clerk::new(alloc),
+        &gate,
+        1000,
+    );
+    assert!(rt; ending.is_ok());
+    assert_eq!(rt; writer.into_inner().text.as_slice(), wanted);
+    assert_eq!(rt; clerk.asked, asked);
+    assert_eq!(rt; clerk.ends, ends);
+    assert_eq!(rt; gate.entered.load(Ordering::Relaxed), u64::from(asked));
+    assert_eq!(rt; gate.entered_lines.load(Ordering::Relaxed), lines);
+    assert_eq!(rt; gate.left.load(Ordering::Relaxed), u64::from(asked));
+    assert_eq!(rt; gate.left_lines.load(Ordering::Relaxed), lines);
+}
+
+// Before a client is made all else is malformed, and a refused `hello` may be tried again; so may a refused `bye`.
+// After `bye` nothing is answered.
+#[test]
+fn a_client_says_bye(rt: HostRuntime) -> Result<(), Fail> {
+    attend(
+        &rt,
+        rt.alloc(),
+        Kind::Client,
+        b"take\nhello 100 1000 u:r:a:s0\ntake\nhello 100 1000 u:r:a:s0\nhello 100 1000 u:r:a:s0\nreload 1 0 0\nget activity\nbye\nbye\nlist 15\nlis",
+        b"malformed\nfailed too-many-clients\nmalformed\nclient 1\nmalformed\nmalformed\nnull\nfailed memory\nbye\n",
+        5,
+        2 + 4 + 7 + 8 + 9,
+        1,
+    );
+    Ok(())
+}
+
+#[test]
+fn a_client_is_cut_off(rt: HostRuntime) -> Result<(), Fail> {
+    attend(
+        &rt,
+        rt.alloc(),
+        Kind::Client,
+        b"hello 1 1 u:r:a:s0\nhello 1 1 u:r:a:s0\nversion\ntak",
+        b"failed too-many-clients\nclient 1\nown 3\nfault cut\n",
+        3,
+        1 + 2 + 3,
+        1,
+    );
+    Ok(())
+}
+
+#[test]
+fn a_refused_client_isnt_ended(rt: HostRuntime) -> Result<(), Fail> {
+    attend(
+        &rt,
+        rt.alloc(),
+        Kind::Client,
+        b"hello 1 1 u:r:a:s0\nbye\n",
+        b"failed too-many-clients\nmalformed\n",
+        1,
+        1,
+        0,
+    );
+    Ok(())
+}
+
+#[test]
+fn an_administrator(rt: HostRuntime) -> Result<(), Fail> {
+    attend(
+        &rt,
+        rt.alloc(),
+        Kind::Admin,
+        b"hello 1 1 u:r:a:s0\ntake\nversion\ndenials\nreload 8 2 1\nabcreload 8 1 0\nxver",
+        b"malformed\nmalformed\nown 1\ndenials 0\nreloaded 8\nrefused contexts: undeclared type at line 7\nfault cut\n",
+        4,
+        3 + 4 + 5 + 6,
+        0,
+    );
+    Ok(())
+}
