@@ -69,7 +69,7 @@ pub const RULE_FOR_DEFAULTS: &[u8] =
 /// A further rule, which breaks the neverallow rule of a device's.
 pub const BROKEN_RULE: &[u8] = b"allow untrusted_app activity_service:service_manager add;\n";
 
-/// A device's rules, and this one behind them.
+/// A device's rules, and this one behind them. `Err`: memory was refused.
 pub fn device_rules_with(alloc: Global, rule: &[u8]) -> Result<Vec<u8>, AllocError>
     ensures { IfOk result (λ v. v.items ≡ DEVICE_RULES.now ++ rule.now) }
 {
