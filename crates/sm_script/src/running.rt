@@ -88,9 +88,10 @@ fn opened_manager(alloc: Global, policy: Prepared, places: Places) -> Result<Man
     }
 }
 
-// Process 1 with the user number of the system, in servicemanager's domain.
+/// The identity of the manager of a run or a server: process 1 with the user number of the system, in servicemanager's
+/// domain.
 #[tactic(auto, unfolding(sm_kinds::specs::Contexts::is_context))]
-fn manager_identity(alloc: Global) -> Result<Identity, AllocError>
+pub fn manager_identity(alloc: Global) -> Result<Identity, AllocError>
     ensures { IfOk result (λ who. who ≡ the_manager) }
 {
     match Context::read(alloc, b"u:r:servicemanager:s0") {

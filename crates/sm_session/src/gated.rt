@@ -12,7 +12,7 @@ use std::alloc::{AllocError, Global};
 use std::marker::Model;
 
 /// A sitting that tells a gate of each line that it asks.
-pub struct Gated<'a, D, G> {
+pub struct Gated<'a, D: Desk, G> {
     alloc: Global,
     sitting: Sitting<D>,
     gate: &'a G,
@@ -20,17 +20,20 @@ pub struct Gated<'a, D, G> {
     entered: bool,
 }
 
-impl<'a, D, G> Model for Gated<'a, D, G> {
+impl<'a, D: Desk, G> Model for Gated<'a, D, G> {
     ghost use Rattle.sm_session.specs.declared.sitting.Sitting.{Sitting};
 
     ghost Value = { Sitting D };
 
     ghost view = { λ g. g.sitting };
+
+    ghost invariant = { λ g. D.can_answer g.sitting.desk };
 }
 
 impl<'a, D: Desk, G: Gate> Gated<'a, D, G> {
     /// A session before its first line.
     pub fn new(alloc: Global, kind: Kind, desk: D, gate: &'a G) -> Gated<'a, D, G>
+        requires { D.can_answer desk }
         ensures { result ≡ begins kind desk }
     {
         Gated {

@@ -23,6 +23,7 @@ pub fn session<D: Desk, G: Gate, R: Read, W: Write>(
     gate: &G,
     bound: u32,
 ) -> (D, Result<(), Fault>)
+    requires can { D.can_answer desk }
     requires reader { failures_of reader.old < greatest }
     requires writer { failures_of writer.old < greatest }
     ensures attends { Attends kind D.answers D.leaves result.1 bound desk

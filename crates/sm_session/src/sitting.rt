@@ -48,6 +48,8 @@ impl<D: Desk> Sitting<D> {
         item: Item,
         replies: &mut Vec<u8>,
     ) -> Result<(), AllocError>
+        requires can { D.can_answer self.old.desk }
+        ensures can { D.can_answer self.new.desk }
         ensures ok { OnOk result (Adds (λ text. SitsThrough D.answers self.old item text self.new)
             replies.old.items replies.new.items) }
         ensures err { OnErr result (Loses (SitsThrough D.answers self.old item) self.old self.new) }
@@ -69,6 +71,8 @@ impl<D: Desk> Sitting<D> {
         request: Request,
         replies: &mut Vec<u8>,
     ) -> Result<(), AllocError>
+        requires can { D.can_answer self.old.desk }
+        ensures can { D.can_answer self.new.desk }
         ensures ok { OnOk result (Adds (λ text. TakesItem D.answers self.old (Asked request) text self.new)
             replies.old.items replies.new.items) }
         ensures err { OnErr result (Loses (TakesItem D.answers self.old (Asked request)) self.old self.new) }
@@ -87,6 +91,8 @@ impl<D: Desk> Sitting<D> {
         texts: &PolicyTexts,
         replies: &mut Vec<u8>,
     ) -> Result<(), AllocError>
+        requires can { D.can_answer self.old.desk }
+        ensures can { D.can_answer self.new.desk }
         ensures ok { OnOk result (Adds (λ text. TakesItem D.answers self.old (Policy texts.now) text self.new)
             replies.old.items replies.new.items) }
         ensures err { OnErr result (Loses (TakesItem D.answers self.old (Policy texts.now)) self.old self.new) }
@@ -100,7 +106,9 @@ impl<D: Desk> Sitting<D> {
 
     // Asks the desk once.
     fn ask(&mut self, request: Request) -> Response
-        ensures { Asks D.answers self.old (Asked request) result self.new }
+        requires can { D.can_answer self.old.desk }
+        ensures can { D.can_answer self.new.desk }
+        ensures asks { Asks D.answers self.old (Asked request) result self.new }
     {
         match request {
             Request::Hello(who) => self.hello(who),
@@ -121,7 +129,9 @@ impl<D: Desk> Sitting<D> {
 
     // Asks for a client, and sees whether there is one now.
     fn hello(&mut self, who: Identity) -> Response
-        ensures { Asks D.answers self.old (Asked (Hello who)) result self.new }
+        requires can { D.can_answer self.old.desk }
+        ensures can { D.can_answer self.new.desk }
+        ensures asks { Asks D.answers self.old (Asked (Hello who)) result self.new }
     {
         let response = self.desk.hello(who);
         self.connected = is_connected(&response) | self.connected;
@@ -130,7 +140,9 @@ impl<D: Desk> Sitting<D> {
 
     // Asks for a change, and sees whether the client has left.
     fn change(&mut self, client: Option<ClientId>, event: Event) -> Response
-        ensures { Asks D.answers self.old (Asked (Change client event)) result self.new }
+        requires can { D.can_answer self.old.desk }
+        ensures can { D.can_answer self.new.desk }
+        ensures asks { Asks D.answers self.old (Asked (Change client event)) result self.new }
     {
         let leaving = is_die(&event);
         let response = self.desk.ask(Request::Change(client, event));
@@ -139,7 +151,9 @@ impl<D: Desk> Sitting<D> {
     }
 
     fn reload(&mut self, texts: &PolicyTexts) -> Response
-        ensures { Asks D.answers self.old (Policy texts.now) result self.new }
+        requires can { D.can_answer self.old.desk }
+        ensures can { D.can_answer self.new.desk }
+        ensures asks { Asks D.answers self.old (Policy texts.now) result self.new }
     {
         self.desk
             .reload(texts.expected(), texts.rules(), texts.contexts())

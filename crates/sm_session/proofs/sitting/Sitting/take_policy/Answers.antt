@@ -14,7 +14,7 @@ returns-clause-ok g c =
     on_ok_weaker c.push_response.result (λ added. (
       response_text (told_in Whole) c.reload-response.result,
       asked_once g.D.Desk.answers c.args.self.now (Policy c.args.texts.now) c.reload-response.result _ (told_in Whole)
-          (sym c.may_reload.ensures ∙ c.if-not-may_reload.false) (λ r. refl) c.reload-response.ensures,
+          (sym c.may_reload.ensures ∙ c.if-not-may_reload.false) (λ r. refl) c.reload-response.ensures.asks,
       added,
     ))
     c.push_response.ensures
@@ -25,5 +25,5 @@ returns-clause-err g c =
     on_err c.push_response.result (inr (
       response_text (told_in Whole) c.reload-response.result,
       asked_once g.D.Desk.answers c.args.self.now (Policy c.args.texts.now) c.reload-response.result _ (told_in Whole)
-          (sym c.may_reload.ensures ∙ c.if-not-may_reload.false) (λ r. refl) c.reload-response.ensures,
+          (sym c.may_reload.ensures ∙ c.if-not-may_reload.false) (λ r. refl) c.reload-response.ensures.asks,
     ))

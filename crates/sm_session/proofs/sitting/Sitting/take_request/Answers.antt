@@ -14,7 +14,7 @@ returns-clause-ok g c =
       response_text (told_in c.telling-telling.result) c.ask-response.result,
       asked_once g.D.Desk.answers c.args.self.now (Asked c.args.request) c.ask-response.result _
           (told_in c.telling-telling.result) (sym c.may_ask.ensures ∙ c.if-not-may_ask.false) c.telling-telling.ensures
-          c.ask-response.ensures,
+          c.ask-response.ensures.asks,
       added,
     ))
     c.push_response.ensures
@@ -26,5 +26,5 @@ returns-clause-err g c =
       response_text (told_in c.telling-telling.result) c.ask-response.result,
       asked_once g.D.Desk.answers c.args.self.now (Asked c.args.request) c.ask-response.result _
           (told_in c.telling-telling.result) (sym c.may_ask.ensures ∙ c.if-not-may_ask.false) c.telling-telling.ensures
-          c.ask-response.ensures,
+          c.ask-response.ensures.asks,
     ))
