@@ -1,2 +1,3 @@
 pub mod Rule
 pub mod Opening
+pub mod Chairs

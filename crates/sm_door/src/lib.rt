@@ -13,6 +13,7 @@
 
 mod actor;
 mod admin;
+mod chair;
 mod desk;
 mod door;
 mod opening;
@@ -24,6 +25,7 @@ mod token;
 
 pub use actor::Actor;
 pub use admin::Admin;
+pub use chair::Chair;
 pub use desk::Desk;
 pub use door::Door;
 pub use opening::ADMINS;

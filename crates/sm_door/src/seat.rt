@@ -1,7 +1,7 @@
 //! Places for clients.
 
 ghost use Rattle.std.specs.Prelude.{◌≡◌};
-ghost use Rattle.sm_history.specs.declared.by.By.TheVariants.{Client};
+ghost use Rattle.sm_history.specs.declared.by.By.TheVariants.{Manager, Client};
 ghost use Rattle.sm_history.specs.Histories.{turn_of};
 ghost use Rattle.sm_view.specs.Tokens.{token};
 
@@ -29,6 +29,14 @@ impl<J: Naming> Model for Seat<J> {
 }
 
 impl<J: Naming> Seat<J> {
+    /// Its place.
+    pub(crate) fn into_actor(self) -> Actor<J>
+        ensures { token Manager result.seen result.reads ≡ self }
+    {
+        let Seat { actor } = self;
+        actor
+    }
+
     /// The session of a client that made so many changes.
     pub(crate) fn into_session(self, client: ClientId, turn: u64) -> Session<J>
         requires { turn ≡ turn_of self.seen.history (Client client) }

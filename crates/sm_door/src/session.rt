@@ -46,6 +46,14 @@ impl<J: Naming> Session<J> {
         self.client
     }
 
+    /// Its place.
+    pub(crate) fn into_actor(self) -> Actor<J>
+        ensures { result ≡ self }
+    {
+        let Session { client: _, actor } = self;
+        actor
+    }
+
     /// The free place of a client that has left.
     pub(crate) fn into_seat(self) -> Seat<J>
         ensures { result ≡ token Manager self.seen self.reads }

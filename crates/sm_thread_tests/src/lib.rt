@@ -3,3 +3,5 @@
 
 #[cfg(test)]
 mod door;
+#[cfg(test)]
+mod server;

@@ -1,0 +1,65 @@
+//! A client's place at the door, with or without a client.
+
+ghost use Rattle.std.specs.Prelude.{◌≡◌, MatchResult};
+
+use crate::actor::Actor;
+use crate::seat::Seat;
+use crate::session::Session;
+use sm_kinds::ClientId;
+use sm_roll::Naming;
+use std::marker::Model;
+
+/// A client's place at the door, with or without a client: what a server keeps for a connection that may have said
+/// nothing yet. Contracts see it as the free seat or the session that it was made of.
+#[derive(Drop)]
+pub struct Chair<J: Naming> {
+    client: Option<ClientId>,
+    actor: Actor<J>,
+}
+
+impl<J: Naming> Model for Chair<J> {
+    ghost use Rattle.std.specs.Prelude.{◌≡◌, MatchOption};
+    ghost use Rattle.sm_history.specs.declared.by.By.TheVariants.{Client};
+    ghost use Rattle.sm_view.specs.Tokens.{Knows};
+    ghost use Rattle.sm_door.specs.Chairs.{sits};
+
+    ghost Value = { Knows };
+
+    ghost view = { λ c. sits c.client c.actor };
+
+    ghost invariant = { λ c. MatchOption c.client (Unit {0}) (λ n. c.actor.by ≡ Client n) };
+}
+
+impl<J: Naming> Chair<J> {
+    /// A free seat.
+    pub fn of_seat(seat: Seat<J>) -> Chair<J>
+        ensures { result ≡ seat }
+    {
+        Chair {
+            client: None,
+            actor: seat.into_actor(),
+        }
+    }
+
+    /// A client's session.
+    pub fn of_session(session: Session<J>) -> Chair<J>
+        ensures { result ≡ session }
+    {
+        let client = session.client();
+        Chair {
+            client: Some(client),
+            actor: session.into_actor(),
+        }
+    }
+
+    /// The session of its client. `Err`: it has none, and is a free seat.
+    pub fn taken(self) -> Result<Session<J>, Seat<J>>
+        ensures { MatchResult result (λ session. session ≡ self) (λ seat. seat ≡ self) }
+    {
+        let Chair { client, actor } = self;
+        match client {
+            Some(client) => Ok(Session::new(client, actor)),
+            None => Err(Seat { actor }),
+        }
+    }
+}

@@ -1,0 +1,83 @@
+use denote.Exit.{no}
+use denote.Param.{param}
+use denote.Param.Send.{IsSend, IsSync, sendable, shr_send, struct_send, recorded_send, param_send, param_sync, arg_send, arg_sync}
+use denote.Struct.Field as Field
+use denote.Struct.Tuple as Tuple
+use denote.Struct.Declared as struct
+use mir.Syntax.{named}
+use Rattle.std.specs.Prelude.{codes, [], ◌∷◌}
+use Rattle.std.proofs.Crossing.{crosses}
+use Rattle.std.specs.contracts.alloc.Global as Global
+use Rattle.std.specs.contracts.sync.Mutex as Mutex
+use Rattle.std.specs.contracts.option.Option as Option
+use Rattle.sm_roll.specs.contracts.roll.Roll as Roll
+use Rattle.sm_door.specs.contracts.door.Door as Door
+use Rattle.sm_door.specs.contracts.published.ShownAbsorbArcPage.TheImpl as Absorb
+use Rattle.sm_serve.specs.contracts.serve_fault.ServeFault as ServeFault
+use Rattle.sm_serve.specs.contracts.shared_admin.SharedAdmin as SharedAdmin
+use Rattle.sm_core.proofs.Crossing.{view_send, view_sync}
+use Rattle.sm_core.proofs.CrossingManager.{manager_send}
+use Rattle.sm_door.proofs.Crossing.{actor_send, desk_send, page_row, reader_row, writer_row}
+use Rattle.sm_serve.proofs.serving.fn.serve.scope.Goals as goal
+
+pub crosses-requires-send-X : goal.crosses-requires-send-X
+crosses-requires-send-X g c κs = param_send 0 _ (arg_send _ no _ view_send)
+
+pub crosses-requires-sync-X : goal.crosses-requires-sync-X
+crosses-requires-sync-X g c κs = param_sync 0 _ (arg_sync _ no _ view_sync)
+
+pub sends-requires-3-send-X : goal.sends-requires-3-send-X
+sends-requires-3-send-X g c κs within =
+    let J = param 0 g.row.J in
+    let r : IsSend (reader_row J g.J.Naming) = search (sendable, crosses, c.sends.ensures) depth 60 fits 20000 in
+    param_send 0 _ (arg_send _ no _ (actor_send J g.J.Naming r))
+
+pub sends-requires-9-send-X : goal.sends-requires-9-send-X
+sends-requires-9-send-X g c κs within =
+    let J = param 0 g.row.J in
+    let page : IsSend (page_row J g.J.Naming) = search (sendable, crosses, c.crosses-4.ensures.0) depth 60 fits 20000 in
+    let w : IsSend (writer_row J g.J.Naming) = search (sendable, crosses, c.sends-6.ensures) depth 60 fits 20000 in
+    let roll : IsSend (Roll.the_row J g.J.Naming) = search (sendable, crosses, c.sends-8.ensures) depth 60 fits 20000 in
+    param_send 0 _ (arg_send _ no _ (desk_send J g.J.Naming manager_send roll page w))
+
+pub spawn-requires-2-send-F : goal.spawn-requires-2-send-F
+spawn-requires-2-send-F g c κs within =
+    let J = param 0 g.row.J in
+    let bounds = c.requires.1.1.1.1.1 in
+    let absorbs = Absorb.ghosts J g.J.Naming Absorb.no_dict in
+    let entrance : IsSend (param 3 g.row.A) = param_send 3 _ bounds.2 in
+    let handle : IsSync (param 4 g.row.R) = param_sync 4 _ bounds.5 in
+    let memory : IsSend Global.the_row = search (sendable, crosses) depth 60 fits 20000 in
+    let door : IsSync (Door.the_row J (param 1 g.row.G) g.J.Naming absorbs) =
+    search (sendable, crosses, c.shares.ensures) depth 60 fits 20000 in
+    let admin : IsSync (SharedAdmin.the_row J g.J.Naming) =
+    search (sendable, crosses, c.shares-4.ensures) depth 60 fits 20000 in
+    let faults : IsSync (Mutex.the_row (Option.the_row ServeFault.the_row)) =
+    search (sendable, crosses) depth 60 fits 20000 in
+    let number : IsSend Field.u64-field.row = search sendable depth 20 in
+    let held = Tuple.type_at (codes "sm_serve::serving::fn::serve::fn::scope::spawn+2+Self")
+    (param 3 g.row.A
+    ∷ (Field.shr_ref_field (record { mir = named 5; lft = κs.1.1.1.1.1.0 }) (param 4 g.row.R) tt).row
+    ∷ Global.the_row
+    ∷ (Field.shr_ref_field (record { mir = named 6; lft = κs.1.1.1.1.1.1.0 })
+    (Door.the_row J (param 1 g.row.G) g.J.Naming absorbs) tt).row
+    ∷ (Field.shr_ref_field (record { mir = named 7; lft = κs.1.1.1.1.1.1.1.0 }) (SharedAdmin.the_row J g.J.Naming) tt).row
+    ∷ (Field.shr_ref_field (record { mir = named 8; lft = κs.1.1.1.1.1.1.1.1.0 })
+    (Mutex.the_row (Option.the_row ServeFault.the_row)) tt).row
+    ∷ Field.u64-field.row ∷ []) in
+    param_send 1 _ (arg_send _ no _ (recorded_send _ _ _ held.to_one (struct_send (struct.shape held) (
+      entrance,
+      (
+        shr_send _ _ _ handle,
+        (
+          memory,
+          (
+            shr_send _ _ _ door,
+            (
+              shr_send _ _ _ admin,
+              (shr_send _ _ _ faults, (number, tt)),
+            ),
+          ),
+        ),
+      ),
+    ))))

@@ -1,0 +1,86 @@
+//! An administrator's connection at the door.
+
+use crate::asked::Asked;
+use crate::refusals::not_yours;
+use crate::shared_admin::SharedAdmin;
+use sm_door::Door;
+use sm_history::{Outcome, Query, Refusal, Reply};
+use sm_policy::Prepared;
+use sm_roll::Naming;
+use sm_session::Response;
+use sm_view::Gate;
+use sm_wire::Request;
+use std::sync::Wait;
+
+/// An administrator's connection at the door, under the token that all connections of administrators share.
+pub struct Administrator<'a, J: Naming, G: Gate, R> {
+    rt: &'a R,
+    door: &'a Door<J, G>,
+    admin: &'a SharedAdmin<J>,
+}
+
+impl<'a, J: Naming, G: Gate, R> Drop for Administrator<'a, J, G, R> {
+    fn drop(self) {
+        let Administrator {
+            rt: _,
+            door: _,
+            admin: _,
+        } = self;
+    }
+}
+
+impl<'a, J: Naming, G: Gate + Drop, R: Wait> Administrator<'a, J, G, R> {
+    /// A connection that has said nothing.
+    pub fn new(
+        rt: &'a R,
+        door: &'a Door<J, G>,
+        admin: &'a SharedAdmin<J>,
+    ) -> Administrator<'a, J, G, R> {
+        Administrator { rt, door, admin }
+    }
+
+    /// What is answered.
+    pub fn answer(&self, asked: Asked) -> Response {
+        match asked {
+            Asked::Line(Request::Look(_, query)) => Response::Replied(self.look(query)),
+            Asked::Line(Request::Denials) => self.denials(),
+            Asked::Install { expected, prepared } => {
+                Response::Replied(self.install(expected, prepared))
+            }
+            _ => Response::Replied(not_yours()),
+        }
+    }
+
+    fn look(&self, query: Query) -> Reply {
+        let mut guard = self.admin.lock(self.rt);
+        let admin = &mut *guard;
+        match query {
+            Query::Version => self.door.version(admin),
+            Query::Explain {
+                source,
+                target,
+                class,
+                perm,
+            } => self.door.explain(admin, source, target, class, perm),
+            Query::List(_) => not_yours(),
+        }
+    }
+
+    fn denials(&self) -> Response {
+        let mut guard = self.admin.lock(self.rt);
+        let admin = &mut *guard;
+        match self.door.denials(self.rt, admin) {
+            Ok(records) => Response::Denied(records),
+            Err(_) => Response::Replied(Reply::Refused(Refusal::Memory)),
+        }
+    }
+
+    fn install(&self, expected: u64, prepared: Prepared) -> Reply {
+        let mut guard = self.admin.lock(self.rt);
+        let admin = &mut *guard;
+        match self.door.install(self.rt, admin, expected, prepared) {
+            Ok(version) => Reply::Done(Outcome::Reloaded(version)),
+            Err((refusal, _)) => Reply::Refused(refusal),
+        }
+    }
+}

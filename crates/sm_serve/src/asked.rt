@@ -1,0 +1,18 @@
+//! What a session asks at a door.
+
+use sm_kinds::Identity;
+use sm_policy::Prepared;
+use sm_wire::Request;
+
+/// What a session asks at a door.
+#[derive(Drop)]
+pub enum Asked {
+    /// A process connects as a client.
+    Hello(Identity),
+    /// A line of a client or an administrator other than a `hello` or a `reload`.
+    Line(Request),
+    /// An administrator replaces the policy where the one in force has the expected version.
+    Install { expected: u64, prepared: Prepared },
+    /// The session of a client has ended.
+    End,
+}

@@ -1,0 +1,152 @@
+//! A client's connection at the door.
+
+use crate::asked::Asked;
+use crate::held_chair::HeldChair;
+use crate::refusals::{not_connected, not_yours};
+use sm_door::{Chair, Door, Seat, Session};
+use sm_history::{Event, Outcome, Query, Refusal, Reply};
+use sm_kinds::Identity;
+use sm_roll::Naming;
+use sm_session::Response;
+use sm_view::{Gate, is_death};
+use sm_wire::Request;
+use std::sync::Wait;
+
+/// How often a client that is gone tries to leave. Only want of memory refuses it, which may pass.
+const TRIES: u32 = 16;
+
+/// A client's connection at the door. What it has there lies in its chair.
+pub struct Client<'a, J: Naming, G: Gate, R> {
+    rt: &'a R,
+    door: &'a Door<J, G>,
+    chair: &'a HeldChair<J>,
+}
+
+impl<'a, J: Naming, G: Gate, R> Drop for Client<'a, J, G, R> {
+    fn drop(self) {
+        let Client {
+            rt: _,
+            door: _,
+            chair: _,
+        } = self;
+    }
+}
+
+impl<'a, J: Naming, G: Gate + Drop, R: Wait> Client<'a, J, G, R> {
+    /// The connection that has this chair.
+    pub fn new(rt: &'a R, door: &'a Door<J, G>, chair: &'a HeldChair<J>) -> Client<'a, J, G, R> {
+        Client { rt, door, chair }
+    }
+
+    /// What is answered. Nobody reads what is answered to the end.
+    pub fn answer(&self, asked: Asked) -> Response {
+        match asked {
+            Asked::Hello(who) => Response::Replied(self.hello(who)),
+            Asked::Line(request) => Response::Replied(self.line(request)),
+            Asked::Install { .. } => Response::Replied(not_yours()),
+            Asked::End => Response::Replied(self.end()),
+        }
+    }
+
+    fn hello(&self, who: Identity) -> Reply {
+        let Some(chair) = self.chair.take(self.rt) else {
+            return Reply::Refused(Refusal::TooManyClients);
+        };
+        match chair.taken() {
+            Ok(session) => {
+                self.keep(session);
+                not_yours()
+            }
+            Err(seat) => self.connect(seat, who),
+        }
+    }
+
+    fn connect(&self, seat: Seat<J>, who: Identity) -> Reply {
+        match self.door.connect(self.rt, seat, who) {
+            Ok(session) => {
+                let client = session.client();
+                self.keep(session);
+                Reply::Done(Outcome::Connected(client))
+            }
+            Err((refusal, seat)) => {
+                self.chair.put(self.rt, Chair::of_seat(seat));
+                Reply::Refused(refusal)
+            }
+        }
+    }
+
+    fn keep(&self, session: Session<J>) {
+        self.chair.put(self.rt, Chair::of_session(session));
+    }
+
+    // The session is taken from the chair, to be kept there again.
+    fn session(&self) -> Option<Session<J>> {
+        match self.chair.take(self.rt)?.taken() {
+            Ok(session) => Some(session),
+            Err(seat) => {
+                self.chair.put(self.rt, Chair::of_seat(seat));
+                None
+            }
+        }
+    }
+
+    fn line(&self, request: Request) -> Reply {
+        match request {
+            Request::Change(_, event) => self.change(event),
+            Request::Look(_, query) => self.look(query),
+            _ => not_yours(),
+        }
+    }
+
+    fn change(&self, event: Event) -> Reply {
+        if is_death(&event) {
+            return self.leave();
+        }
+        let Some(mut session) = self.session() else {
+            return not_connected();
+        };
+        let reply = self.door.submit(self.rt, &mut session, event);
+        self.keep(session);
+        reply
+    }
+
+    fn look(&self, query: Query) -> Reply {
+        let Some(mut session) = self.session() else {
+            return not_connected();
+        };
+        let reply = match query {
+            Query::List(mask) => self.door.list(&mut session, mask),
+            Query::Version => self.door.version(&mut session),
+            Query::Explain { .. } => not_yours(),
+        };
+        self.keep(session);
+        reply
+    }
+
+    fn leave(&self) -> Reply {
+        let Some(session) = self.session() else {
+            return not_connected();
+        };
+        match self.door.leave(self.rt, session) {
+            Ok(seat) => {
+                self.chair.put(self.rt, Chair::of_seat(seat));
+                Reply::Done(Outcome::Died)
+            }
+            Err((refusal, session)) => {
+                self.keep(session);
+                Reply::Refused(refusal)
+            }
+        }
+    }
+
+    // Leaves, unless the client has left.
+    fn end(&self) -> Reply {
+        for _ in 0..TRIES {
+            let reply = self.leave();
+            if !matches!(reply, Reply::Refused(Refusal::Memory)) {
+                return reply;
+            }
+        }
+        Reply::Refused(Refusal::Memory)
+    }
+}

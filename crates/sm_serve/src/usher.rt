@@ -1,0 +1,71 @@
+//! Gives a connection a seat, and takes back one that it doesn't need.
+
+use crate::free_seats::FreeSeats;
+use crate::held_chair::HeldChair;
+use sm_door::Chair;
+use sm_roll::Naming;
+use std::sync::Wait;
+
+/// What a connection needs.
+#[derive(Clone, Copy, Debug, PartialEq, Eq)]
+pub enum Seating {
+    /// A seat, since a process says `hello`.
+    Wanted,
+    /// None, unless it has a client.
+    Spare,
+}
+
+/// Gives a connection a seat, and takes back one that it doesn't need.
+pub struct Usher<'a, J: Naming, R> {
+    rt: &'a R,
+    seats: &'a FreeSeats<J>,
+    chair: &'a HeldChair<J>,
+}
+
+impl<'a, J: Naming, R> Drop for Usher<'a, J, R> {
+    fn drop(self) {
+        let Usher {
+            rt: _,
+            seats: _,
+            chair: _,
+        } = self;
+    }
+}
+
+impl<'a, J: Naming, R: Wait> Usher<'a, J, R> {
+    /// The usher of this connection's chair.
+    pub fn new(rt: &'a R, seats: &'a FreeSeats<J>, chair: &'a HeldChair<J>) -> Usher<'a, J, R> {
+        Usher { rt, seats, chair }
+    }
+
+    /// Does what the connection needs, as far as there are seats.
+    pub fn see_to(&self, seating: Seating) {
+        match seating {
+            Seating::Wanted => self.give(),
+            Seating::Spare => self.take_back(),
+        }
+    }
+
+    fn give(&self) {
+        match self.chair.take(self.rt) {
+            Some(chair) => self.chair.put(self.rt, chair),
+            None => self.give_another(),
+        }
+    }
+
+    fn give_another(&self) {
+        if let Some(seat) = self.seats.take(self.rt) {
+            self.chair.put(self.rt, Chair::of_seat(seat));
+        }
+    }
+
+    fn take_back(&self) {
+        let Some(chair) = self.chair.take(self.rt) else {
+            return;
+        };
+        match chair.taken() {
+            Ok(session) => self.chair.put(self.rt, Chair::of_session(session)),
+            Err(seat) => self.seats.give_back(self.rt, seat),
+        }
+    }
+}

@@ -1,0 +1,694 @@
+//! A server over Unix sockets: what clients and an administrator are answered, and what a lost connection leaves.
+
+ghost use Rattle.std.specs.Prelude.{◌≡◌};
+ghost use Rattle.sm_core.specs.Opening.{opened};
+
+use crossbeam_utils::Backoff;
+use sm_door::Door;
+use sm_kinds::{Context, Identity, Places};
+use sm_policy::Prepared;
+use sm_roll::{Blank, Naming};
+use sm_samples::{DEVICE_LABELS, DEVICE_RULES, STRICTER_RULES};
+use sm_serve::{Entrance, FreeSeats, Numbers, ServeFault, serve};
+use sm_view::{Gate, NoGate};
+use std::alloc::Global;
+use std::io::{ErrorKind, Read, Write};
+use std::marker::Brand;
+use std::net::{Net, Shutdown};
+use std::os::unix::net::UnixStream;
+use std::process::Abort;
+use std::sync::Wait;
+use std::sync::atomic::{AtomicU64, Ordering};
+use std::test::Fail;
+use std::thread::Threads;
+use std::time::Duration;
+use std::{io, thread};
+
+/// Connections that were made before the server began; behind the last one its listener fails.
+#[derive(Drop)]
+struct Waiting {
+    streams: Vec<UnixStream>,
+}
+
+impl Entrance for Waiting {
+    fn accept(&mut self) -> io::Result<UnixStream> {
+        self.streams.pop().ok_or(io::Error::from(ErrorKind::Other))
+    }
+}
+
+/// What is said over connections while the server runs, from their other ends.
+trait Talk {
+    /// Whether all was answered as it should be.
+    fn is_answered(&mut self) -> bool;
+}
+
+/// Whether these bytes are answered by those.
+fn answers(stream: &UnixStream, sent: &[u8], wanted: &[u8]) -> bool {
+    let mut stream = stream;
+    let mut got = [0; 512];
+    if wanted.len() > 512 || stream.write_all(sent).is_err() {
+        return false;
+    }
+    let got = &mut got[..wanted.len()];
+    stream.read_exact(got).is_ok() && *got == *wanted
+}
+
+/// Whether the server has ended the connection.
+fn is_over(stream: &UnixStream) -> bool {
+    let mut stream = stream;
+    matches!(stream.read(&mut [0]), Ok(0))
+}
+
+/// Two ends of a connection, the client's and the server's. A client waits 20 seconds for an answer.
+fn connection<R: Net + Abort>(rt: &R) -> (UnixStream, UnixStream) {
+    let (near, far) = UnixStream::pair(rt).ok().expect(rt, "a connection");
+    let patience = Some(Duration::from_secs(20));
+    assert!(rt; near.set_read_timeout(patience).is_ok());
+    (near, far)
+}
+
+/// A gate of which is told in the end whether all came through it.
+trait Watched: Gate {
+    /// Whether nobody was held for longer than a test waits.
+    fn is_well(&self) -> bool;
+}
+
+impl Watched for NoGate {
+    fn is_well(&self) -> bool {
+        true
+    }
+}
+
+/// The connections of a test, of which the last one comes first.
+struct Visits {
+    clients: Waiting,
+    admins: Waiting,
+    numbers: Numbers,
+}
+
+/// What is left when a server has ended.
+#[derive(Clone, Copy, Debug, PartialEq, Eq)]
+struct Left {
+    answered: bool,
+    came_through: bool,
+    ending: Result<(), ServeFault>,
+    free: usize,
+}
+
+/// What is left of a server that met all that was said.
+const ALL_IS_WELL: Left = Left {
+    answered: true,
+    came_through: true,
+    ending: Ok(()),
+    free: 64,
+};
+
+/// Serves these connections, at a door whose journal has so many places, while the talk goes on.
+fn at_a_door<
+    T: Talk + Send + Drop,
+    G: Watched + Drop + Send + Sync,
+    R: Threads + Wait + Abort + Sync,
+>(rt: &R, alloc: Global, places: u32, gate: G, visits: Visits, talk: T) -> Left {
+    let places = Places::new(places).expect(rt, "places");
+    let who = manager(rt, alloc);
+    let rules = policy(rt, alloc);
+    serves::<Brand, T, G, R>(
+        rt,
+        alloc,
+        Blank::new(),
+        who,
+        rules,
+        places,
+        gate,
+        visits,
+        talk,
+    )
+}
+
+fn serves<
+    J: Naming + Send + Sync,
+    T: Talk + Send + Drop,
+    G: Watched + Drop + Send + Sync,
+    R: Threads + Wait + Abort + Sync,
+>(
+    rt: &R,
+    alloc: Global,
+    blank: Blank,
+    who: Identity,
+    policy: Prepared,
+    places: Places,
+    gate: G,
+    visits: Visits,
+    mut talk: T,
+) -> Left
+    requires roll { blank.seen.book ≡ J.roll }
+    requires opening { J.opening ≡ opened places who policy }
+{
+    let (door, seats, mut tokens) = Door::<J, G>::open(rt, alloc, blank, who, policy, places, gate)
+        .ok()
+        .expect(rt, "a door");
+    let seats = FreeSeats::new(seats);
+    let admin = tokens.pop().expect(rt, "an administrator");
+    let Visits {
+        mut clients,
+        admins,
+        numbers,
+    } = visits;
+    let (answered, ending) = thread::join(
+        rt,
+        move || talk.is_answered(),
+        || serve(
+            rt,
+            alloc,
+            &mut clients,
+            admins,
+            &door,
+            &seats,
+            admin,
+            numbers,
+        ),
+    );
+    let free = seats.count(rt);
+    let came_through = door.gate().is_well();
+    door.close(rt);
+    Left {
+        answered,
+        came_through,
+        ending,
+        free,
+    }
+}
+
+fn policy(rt: &impl Abort, alloc: Global) -> Prepared {
+    Prepared::from_texts(alloc, DEVICE_RULES, DEVICE_LABELS)
+        .ok()
+        .expect(rt, "a policy")
+}
+
+fn manager(rt: &impl Abort, alloc: Global) -> Identity {
+    let context = Context::read(alloc, b"u:r:servicemanager:s0");
+    Identity {
+        pid: 1,
+        uid: 1000,
+        context: context.ok().expect(rt, "a context"),
+    }
+}
+
+/// A system service and an application beside each other, and an administrator after them.
+struct Visit {
+    service: UnixStream,
+    application: UnixStream,
+    admin: UnixStream,
+}
+
+impl Drop for Visit {
+    fn drop(self) {
+        let Visit {
+            service: _,
+            application: _,
+            admin: _,
+        } = self;
+    }
+}
+
+impl Talk for Visit {
+    fn is_answered(&mut self) -> bool {
+        answers(
+            &self.service,
+            b"hello 100 1000 u:r:system_server:s0\n",
+            b"client 1\n",
+        ) && answers(&self.service, b"add activity o1 0 8\n", b"ok\n")
+            && answers(
+                &self.application,
+                b"hello 200 10007 u:r:untrusted_app:s0\n",
+                b"client 2\n",
+            )
+            && answers(&self.application, b"get activity\n", b"handle 1\n")
+            && answers(&self.application, b"get activity\n", b"handle 1\n")
+            && answers(&self.admin, b"version\n", b"version 1 6\n")
+            && answers(&self.service, b"bye\n", b"bye\n")
+            && answers(&self.application, b"get activity\n", b"null\n")
+            && answers(&self.application, b"bye\n", b"bye\n")
+            && is_over(&self.service)
+            && is_over(&self.application)
+            && self.admin.shutdown(Shutdown::Write).is_ok()
+            && is_over(&self.admin)
+    }
+}
+
+#[test]
+fn two_clients_and_an_administrator(rt: HostRuntime) -> Result<(), Fail> {
+    let alloc = rt.alloc();
+    let (service, one) = connection(&rt);
+    let (application, two) = connection(&rt);
+    let (admin, three) = connection(&rt);
+    let visits = Visits {
+        clients: Waiting {
+            streams: vec![in alloc; two, one]?,
+        },
+        admins: Waiting {
+            streams: vec![in alloc; three]?,
+        },
+        numbers: Numbers {
+            workers: 2,
+            clients: 2,
+            admins: 1,
+        },
+    };
+    let talk = Visit {
+        service,
+        application,
+        admin,
+    };
+    assert_eq!(rt;
+        at_a_door(&rt, alloc, 1000, NoGate, visits, talk),
+        ALL_IS_WELL
+    );
+    Ok(())
+}
+
+const HELLO: &[u8] = b"hello 100 1000 u:r:system_server:s0\n";
+
+/// A connection that is cut inside a line, and one after it, where the journal has four places.
+struct Cut {
+    first: UnixStream,
+    second: UnixStream,
+    admin: UnixStream,
+}
+
+impl Drop for Cut {
+    fn drop(self) {
+        let Cut {
+            first: _,
+            second: _,
+            admin: _,
+        } = self;
+    }
+}
+
+impl Talk for Cut {
+    fn is_answered(&mut self) -> bool {
+        answers(&self.first, HELLO, b"client 1\n")
+            && answers(&self.first, b"add activity o1 0 8\nadd activ", b"ok\n")
+            && self.first.shutdown(Shutdown::Write).is_ok()
+            && answers(&self.first, b"", b"fault cut\n")
+            && is_over(&self.first)
+            && answers(
+                &self.second,
+                b"hello 200 10007 u:r:untrusted_app:s0\n",
+                b"failed journal-full\n",
+            )
+            && answers(&self.admin, b"version\n", b"version 1 4\n")
+            && self.second.shutdown(Shutdown::Write).is_ok()
+            && self.admin.shutdown(Shutdown::Write).is_ok()
+    }
+}
+
+#[test]
+fn a_connection_that_is_cut_ends_its_client(rt: HostRuntime) -> Result<(), Fail> {
+    let alloc = rt.alloc();
+    let (first, one) = connection(&rt);
+    let (second, two) = connection(&rt);
+    let (admin, three) = connection(&rt);
+    let visits = Visits {
+        clients: Waiting {
+            streams: vec![in alloc; two, one]?,
+        },
+        admins: Waiting {
+            streams: vec![in alloc; three]?,
+        },
+        numbers: Numbers {
+            workers: 1,
+            clients: 2,
+            admins: 1,
+        },
+    };
+    let talk = Cut {
+        first,
+        second,
+        admin,
+    };
+    assert_eq!(rt; at_a_door(&rt, alloc, 4, NoGate, visits, talk), ALL_IS_WELL);
+    Ok(())
+}
+
+/// A connection that vanishes inside a line, and one after it.
+struct Vanished {
+    first: Option<UnixStream>,
+    second: UnixStream,
+}
+
+impl Drop for Vanished {
+    fn drop(self) {
+        let Vanished {
+            first: _,
+            second: _,
+        } = self;
+    }
+}
+
+impl Talk for Vanished {
+    fn is_answered(&mut self) -> bool {
+        let Some(first) = self.first.take() else {
+            return false;
+        };
+        if !answers(&first, HELLO, b"client 1\n")
+            || !answers(&first, b"add activity o1 0 8\nget activ", b"ok\n")
+        {
+            return false;
+        }
+        drop(first);
+        answers(&self.second, HELLO, b"client 2\n")
+            && answers(&self.second, b"get activity\n", b"null\n")
+            && answers(&self.second, b"bye\n", b"bye\n")
+    }
+}
+
+#[test]
+fn the_service_of_a_client_that_vanished_is_gone(rt: HostRuntime) -> Result<(), Fail> {
+    let alloc = rt.alloc();
+    let (first, one) = connection(&rt);
+    let (second, two) = connection(&rt);
+    let visits = Visits {
+        clients: Waiting {
+            streams: vec![in alloc; two, one]?,
+        },
+        admins: Waiting {
+            streams: Vec::new(alloc),
+        },
+        numbers: Numbers {
+            workers: 1,
+            clients: 2,
+            admins: 0,
+        },
+    };
+    let talk = Vanished {
+        first: Some(first),
+        second,
+    };
+    assert_eq!(rt;
+        at_a_door(&rt, alloc, 1000, NoGate, visits, talk),
+        ALL_IS_WELL
+    );
+    Ok(())
+}
+
+/// One client more than there are seats.
+struct Crowd {
+    clients: Vec<UnixStream>,
+    late: UnixStream,
+}
+
+impl Drop for Crowd {
+    fn drop(self) {
+        let Crowd {
+            clients: _,
+            late: _,
+        } = self;
+    }
+}
+
+impl Talk for Crowd {
+    fn is_answered(&mut self) -> bool {
+        for client in &self.clients {
+            let mut line = [0; 7];
+            let mut stream = client;
+            if stream.write_all(HELLO).is_err()
+                || stream.read_exact(&mut line).is_err()
+                || line != *b"client "
+            {
+                return false;
+            }
+        }
+        let Some(first) = self.clients.first() else {
+            return false;
+        };
+        answers(&self.late, HELLO, b"failed too-many-clients\n")
+            && answers(first, b"", b"1\n")
+            && answers(first, b"bye\n", b"bye\n")
+            && answers(&self.late, HELLO, b"client 65\n")
+    }
+}
+
+#[test]
+fn one_client_too_many(rt: HostRuntime) -> Result<(), Fail> {
+    let alloc = rt.alloc();
+    let mut clients = Vec::new(alloc);
+    let mut streams = Vec::new(alloc);
+    for _ in 0..64 {
+        let (near, far) = connection(&rt);
+        clients.push(near)?;
+        streams.push(far)?;
+    }
+    let (late, far) = connection(&rt);
+    streams.push(far)?;
+    let visits = Visits {
+        clients: Waiting { streams },
+        admins: Waiting {
+            streams: Vec::new(alloc),
+        },
+        numbers: Numbers {
+            workers: 65,
+            clients: 65,
+            admins: 0,
+        },
+    };
+    let talk = Crowd { clients, late };
+    assert_eq!(rt;
+        at_a_door(&rt, alloc, 1000, NoGate, visits, talk),
+        ALL_IS_WELL
+    );
+    Ok(())
+}
+
+/// A service, an application that is denied, and an administrator who asks for that and takes the rule away by which
+/// the application found the service.
+struct Change {
+    service: UnixStream,
+    application: UnixStream,
+    admin: UnixStream,
+}
+
+impl Drop for Change {
+    fn drop(self) {
+        let Change {
+            service: _,
+            application: _,
+            admin: _,
+        } = self;
+    }
+}
+
+const DENIALS: &[u8] =
+    b"denials 1\njournal=5 version=1 clause: denied app for pid=200 uid=10007 name=activity scontext=u:r:untrusted_app:s0\n";
+
+impl Talk for Change {
+    fn is_answered(&mut self) -> bool {
+        answers(&self.service, HELLO, b"client 1\n")
+            && answers(&self.service, b"add activity o1 0 8\n", b"ok\n")
+            && answers(
+                &self.application,
+                b"hello 200 10007 u:r:untrusted_app:s0\n",
+                b"client 2\n",
+            )
+            && answers(&self.application, b"get activity\n", b"handle 1\n")
+            && answers(
+                &self.application,
+                b"add activity o1 0 8\n",
+                b"exception -1 app 10007\n",
+            )
+            && answers(&self.admin, b"denials\n", DENIALS)
+            && answers(
+                &self.admin,
+                b"explain untrusted_app activity_service service_manager find\n",
+                b"allowed 1 13\n",
+            )
+            && reloads(&self.admin)
+            && answers(&self.application, b"get activity\n", b"null\n")
+            && answers(&self.admin, b"version\n", b"version 2 6\n")
+            && self.admin.shutdown(Shutdown::Write).is_ok()
+            && self.service.shutdown(Shutdown::Write).is_ok()
+            && self.application.shutdown(Shutdown::Write).is_ok()
+    }
+}
+
+/// Whether the stricter policy is taken, which comes in pieces.
+fn reloads(admin: &UnixStream) -> bool {
+    let mut stream = admin;
+    stream.write_all(b"reload 1 705 89\n").is_ok()
+        && stream.write_all(STRICTER_RULES).is_ok()
+        && answers(admin, DEVICE_LABELS, b"reloaded 2\n")
+}
+
+#[test]
+fn a_policy_is_replaced_while_clients_are_connected(rt: HostRuntime) -> Result<(), Fail> {
+    let alloc = rt.alloc();
+    let (service, one) = connection(&rt);
+    let (application, two) = connection(&rt);
+    let (admin, three) = connection(&rt);
+    let visits = Visits {
+        clients: Waiting {
+            streams: vec![in alloc; two, one]?,
+        },
+        admins: Waiting {
+            streams: vec![in alloc; three]?,
+        },
+        numbers: Numbers {
+            workers: 2,
+            clients: 2,
+            admins: 1,
+        },
+    };
+    let talk = Change {
+        service,
+        application,
+        admin,
+    };
+    assert_eq!(rt;
+        at_a_door(&rt, alloc, 1000, NoGate, visits, talk),
+        ALL_IS_WELL
+    );
+    Ok(())
+}
+
+/// The first session that comes to this line is held until another has been answered it.
+const HELD_LINE: u64 = 2;
+
+/// So many turns the held session waits.
+const TURNS: u32 = 1_000_000;
+
+/// Holds the first session that comes to its second line, until another session's second line is answered.
+#[derive(Drop)]
+struct Second {
+    came: AtomicU64,
+    answered: AtomicU64,
+    given_up: AtomicU64,
+}
+
+impl Second {
+    fn new() -> Second {
+        Second {
+            came: AtomicU64::new(0),
+            answered: AtomicU64::new(0),
+            given_up: AtomicU64::new(0),
+        }
+    }
+
+    fn hold(&self) {
+        let backoff = Backoff::new();
+        for _ in 0..TURNS {
+            if self.answered.load(Ordering::SeqCst) > 0 {
+                return;
+            }
+            backoff.snooze();
+        }
+        self.given_up.store(1, Ordering::SeqCst);
+    }
+}
+
+impl Watched for Second {
+    fn is_well(&self) -> bool {
+        self.came.load(Ordering::SeqCst) == 2 && self.given_up.load(Ordering::SeqCst) == 0
+    }
+}
+
+impl Gate for Second {
+    fn enter(&self, line: u64) {
+        if line == HELD_LINE && self.came.fetch_add(1, Ordering::SeqCst) == 0 {
+            self.hold();
+        }
+    }
+
+    fn inside(&self) {}
+
+    fn leave(&self, line: u64) {
+        if line == HELD_LINE {
+            self.answered.fetch_add(1, Ordering::SeqCst);
+        }
+    }
+}
+
+/// Two clients that ask at once.
+struct Both {
+    first: UnixStream,
+    second: UnixStream,
+}
+
+impl Drop for Both {
+    fn drop(self) {
+        let Both {
+            first: _,
+            second: _,
+        } = self;
+    }
+}
+
+impl Talk for Both {
+    fn is_answered(&mut self) -> bool {
+        let mut first = &self.first;
+        answers(&self.first, HELLO, b"client 1\n")
+            && answers(&self.second, HELLO, b"client 2\n")
+            && first.write_all(b"version\n").is_ok()
+            && answers(&self.second, b"version\n", b"version 1 3\n")
+            && answers(&self.first, b"", b"version 1 3\n")
+            && self.first.shutdown(Shutdown::Write).is_ok()
+            && self.second.shutdown(Shutdown::Write).is_ok()
+    }
+}
+
+#[test]
+fn a_call_is_held_until_another_is_answered(rt: HostRuntime) -> Result<(), Fail> {
+    let alloc = rt.alloc();
+    let (first, one) = connection(&rt);
+    let (second, two) = connection(&rt);
+    let visits = Visits {
+        clients: Waiting {
+            streams: vec![in alloc; two, one]?,
+        },
+        admins: Waiting {
+            streams: Vec::new(alloc),
+        },
+        numbers: Numbers {
+            workers: 2,
+            clients: 2,
+            admins: 0,
+        },
+    };
+    let talk = Both { first, second };
+    assert_eq!(rt;
+        at_a_door(&rt, alloc, 1000, Second::new(), visits, talk),
+        ALL_IS_WELL
+    );
+    Ok(())
+}
+
+/// Nothing is said.
+#[derive(Drop)]
+struct Silence;
+
+impl Talk for Silence {
+    fn is_answered(&mut self) -> bool {
+        true
+    }
+}
+
+#[test]
+fn a_listener_that_fails_ends_the_server(rt: HostRuntime) -> Result<(), Fail> {
+    let alloc = rt.alloc();
+    let visits = Visits {
+        clients: Waiting {
+            streams: Vec::new(alloc),
+        },
+        admins: Waiting {
+            streams: Vec::new(alloc),
+        },
+        numbers: Numbers {
+            workers: 2,
+            clients: 1,
+            admins: 0,
+        },
+    };
+    let left = at_a_door(&rt, alloc, 1000, NoGate, visits, Silence);
+    assert!(rt; left.ending == Err(ServeFault::AcceptFault));
+    Ok(())
+}
