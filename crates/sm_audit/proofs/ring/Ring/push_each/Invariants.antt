@@ -1,7 +1,7 @@
 use Rattle.std.proofs.Common.{◌≡◌, ◌≤◌, ◌++◌, length}
 use Rattle.sm_audit.specs.Rings.{newest_of}
 use Rattle.sm_audit.specs.declared.ring.TheConstants.{MOST_RECORDS}
-use Rattle.sm_audit.proofs.ring.Ring.push_all.Given as goal
+use Rattle.sm_audit.proofs.ring.Ring.push_each.Given as goal
 
 -- The records that are still to come make the ring what it is to be; no more are kept than a ring holds.
 abbrev pub invariant-loop-newest : goal.invariant-loop-newest

@@ -2,7 +2,7 @@ use Rattle.std.proofs.Common.{◌≡◌, ◌∷◌, ◌++◌, [], sym, ◌∙◌
 use Rattle.std.proofs.Common.{rules}
 use Rattle.sm_audit.specs.Rings.{newest_of}
 use Rattle.sm_audit.proofs.Newest.{newest_of_next, newest_of_length}
-use Rattle.sm_audit.proofs.ring.Ring.push_all.Goals as goal
+use Rattle.sm_audit.proofs.ring.Ring.push_each.Goals as goal
 
 -- What the ring lets go now, it would let go with the later records, too.
 pub loop-newest-preserved : goal.loop-newest-preserved
