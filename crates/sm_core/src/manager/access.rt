@@ -13,6 +13,7 @@ ghost use Rattle.sm_core.specs.Judging.{IsRuled, noted, clause_noted};
 ghost use Rattle.sm_core.specs.Judging as spec;
 ghost use Rattle.sm_core.specs.Tables.{process_at};
 
+use crate::halt::Halt;
 use crate::manager::replying::denial;
 use crate::manager::{Manager, wanted};
 use crate::notes::Notes;
@@ -20,10 +21,19 @@ use crate::process::Process;
 use sm_history::{Denial, Record, Stop};
 use sm_kinds::{Class, Context, Identity, Name, Perms};
 use sm_policy::Decision;
-use std::alloc::AllocError;
+use std::alloc::{AllocError, Global};
 
 /// That no allow rule gives a permission from a process to a context, which is the label of a name or not.
-fn unruled(who: &Identity, target: &Context, name: Option<&Name>, class: Class, perm: Perms) -> Stop
+#[cold]
+#[inline(never)]
+fn unruled(
+    alloc: Global,
+    who: &Identity,
+    target: &Context,
+    name: Option<&Name>,
+    class: Class,
+    perm: Perms,
+) -> Halt
     ensures { (result ≡ spec.wanted)
         ⊎ (result ≡ Unruled class perm who.now target.now (option_map (λ n. n.now) name.entry)) }
 {
@@ -40,13 +50,14 @@ fn unruled(who: &Identity, target: &Context, name: Option<&Name>, class: Class, 
             Err(_) => return wanted(),
         },
     };
-    Stop::Unruled {
+    let stop = Stop::Unruled {
         class,
         perm,
         who,
         target,
         name,
-    }
+    };
+    Halt::whole(alloc, stop)
 }
 
 impl Manager {
@@ -61,7 +72,7 @@ impl Manager {
         class: Class,
         perm: Perms,
         notes: &mut Notes,
-    ) -> Result<(), Stop>
+    ) -> Result<(), Halt>
         requires { made ≡ decision (policy_at (effects_of self.now.book.history)) (type_of who.now.context) (type_of target.now) class perm }
         ensures { MatchResult result (λ done. notes.new ≡ noted (moment_of self.now.book.history) notes.old class perm who.now target.now (option_map (λ n. n.now) name.entry))
             (λ s. s ≡ spec.wanted) }
@@ -69,7 +80,27 @@ impl Manager {
         if !made.audited {
             return Ok(());
         }
-        let Ok(denied) = self.missing(who, target, name, class, perm, made.allowed) else {
+        self.record(made.allowed, who, target, name, class, perm, notes)
+    }
+
+    /// Notes the record of a rule that isn't there. Few checks leave one, and the others don't pay for its room.
+    #[cold]
+    #[inline(never)]
+    fn record(
+        &self,
+        permissive: bool,
+        who: &Identity,
+        target: &Context,
+        name: Option<&Name>,
+        class: Class,
+        perm: Perms,
+        notes: &mut Notes,
+    ) -> Result<(), Halt>
+        requires { permissive ≡ allowed (policy_at (effects_of self.now.book.history)) (type_of who.now.context) (type_of target.now) class perm }
+        ensures { MatchResult result (λ done. notes.new ≡ notes.old ++ rule_record (moment_of self.now.book.history) class perm who.now target.now (option_map (λ n. n.now) name.entry) ∷ [])
+            (λ s. s ≡ spec.wanted) }
+    {
+        let Ok(denied) = self.missing(who, target, name, class, perm, permissive) else {
             return Err(wanted());
         };
         match notes.note(denied) {
@@ -108,14 +139,16 @@ impl Manager {
     }
 
     /// That a clause on the user number bars a request, which is noted.
-    pub fn barred(&self, denial: Denial, who: &Identity, name: &Name, notes: &mut Notes) -> Stop
+    #[cold]
+    #[inline(never)]
+    pub fn barred(&self, denial: Denial, who: &Identity, name: &Name, notes: &mut Notes) -> Halt
         ensures { (result ≡ spec.wanted) ⊎ ((result ≡ Barred denial who.now name.now)
             × (notes.new ≡ clause_noted (moment_of self.now.book.history) notes.old denial who.now name.now)) }
     {
-        let Ok(stop) = self.bars(denial, who, name, notes) else {
-            return wanted();
-        };
-        stop
+        match self.bars(denial, who, name, notes) {
+            Ok(stop) => Halt::whole(self.alloc, stop),
+            Err(_) => wanted(),
+        }
     }
 
     /// The same; or memory is wanted.
@@ -148,7 +181,7 @@ impl Manager {
     }
 
     /// A process may send a transaction to the manager.
-    pub fn can_call_manager(&self, who: &Process, notes: &mut Notes) -> Result<(), Stop>
+    pub fn can_call_manager(&self, who: &Process, notes: &mut Notes) -> Result<(), Halt>
         requires { who.now ≡ process_at (effects_of self.now.book.history) who.now.who }
         ensures { IsRuled (moment_of self.now.book.history) notes.old notes.new Binder calling who.now.who (manager_at (effects_of self.now.book.history)).context None result }
     {
@@ -156,7 +189,7 @@ impl Manager {
     }
 
     /// A process may pass a reference to the manager.
-    pub fn can_transfer_to_manager(&self, who: &Process, notes: &mut Notes) -> Result<(), Stop>
+    pub fn can_transfer_to_manager(&self, who: &Process, notes: &mut Notes) -> Result<(), Halt>
         requires { who.now ≡ process_at (effects_of self.now.book.history) who.now.who }
         ensures { IsRuled (moment_of self.now.book.history) notes.old notes.new Binder transferring who.now.who (manager_at (effects_of self.now.book.history)).context None result }
     {
@@ -164,7 +197,7 @@ impl Manager {
     }
 
     /// The manager may send a transaction to a process.
-    pub fn can_call_from_manager(&self, who: &Process, notes: &mut Notes) -> Result<(), Stop>
+    pub fn can_call_from_manager(&self, who: &Process, notes: &mut Notes) -> Result<(), Halt>
         requires { who.now ≡ process_at (effects_of self.now.book.history) who.now.who }
         ensures { IsRuled (moment_of self.now.book.history) notes.old notes.new Binder calling (manager_at (effects_of self.now.book.history)) who.now.who.context None result }
     {
@@ -172,7 +205,7 @@ impl Manager {
     }
 
     /// The manager may pass a reference to a process.
-    pub fn can_transfer_from_manager(&self, who: &Process, notes: &mut Notes) -> Result<(), Stop>
+    pub fn can_transfer_from_manager(&self, who: &Process, notes: &mut Notes) -> Result<(), Halt>
         requires { who.now ≡ process_at (effects_of self.now.book.history) who.now.who }
         ensures { IsRuled (moment_of self.now.book.history) notes.old notes.new Binder transferring (manager_at (effects_of self.now.book.history)) who.now.who.context None result }
     {
@@ -185,7 +218,7 @@ impl Manager {
         who: &Process,
         other: &Process,
         notes: &mut Notes,
-    ) -> Result<(), Stop>
+    ) -> Result<(), Halt>
         requires who { who.now ≡ process_at (effects_of self.now.book.history) who.now.who }
         requires other { other.now ≡ process_at (effects_of self.now.book.history) other.now.who }
         ensures { IsRuled (moment_of self.now.book.history) notes.old notes.new Binder calling who.now.who other.now.who.context None result }
@@ -199,7 +232,7 @@ impl Manager {
         who: &Process,
         other: &Process,
         notes: &mut Notes,
-    ) -> Result<(), Stop>
+    ) -> Result<(), Halt>
         requires who { who.now ≡ process_at (effects_of self.now.book.history) who.now.who }
         requires other { other.now ≡ process_at (effects_of self.now.book.history) other.now.who }
         ensures { IsRuled (moment_of self.now.book.history) notes.old notes.new Binder transferring who.now.who other.now.who.context None result }
@@ -208,7 +241,7 @@ impl Manager {
     }
 
     /// A process may add a service under a name, whose label is the target.
-    pub fn can_add(&self, who: &Process, name: &Name, notes: &mut Notes) -> Result<(), Stop>
+    pub fn can_add(&self, who: &Process, name: &Name, notes: &mut Notes) -> Result<(), Halt>
         requires { who.now ≡ process_at (effects_of self.now.book.history) who.now.who }
         ensures { IsRuled (moment_of self.now.book.history) notes.old notes.new ServiceManager adding who.now.who (label_at (effects_of self.now.book.history) name.now) (Some name.now) result }
     {
@@ -216,7 +249,7 @@ impl Manager {
     }
 
     /// A process may find the service under a name, whose label is the target.
-    pub fn can_find(&self, who: &Process, name: &Name, notes: &mut Notes) -> Result<(), Stop>
+    pub fn can_find(&self, who: &Process, name: &Name, notes: &mut Notes) -> Result<(), Halt>
         requires { who.now ≡ process_at (effects_of self.now.book.history) who.now.who }
         ensures { IsRuled (moment_of self.now.book.history) notes.old notes.new ServiceManager finding who.now.who (label_at (effects_of self.now.book.history) name.now) (Some name.now) result }
     {
@@ -224,7 +257,7 @@ impl Manager {
     }
 
     /// A process may list the names; the manager's own context is the target.
-    pub fn can_list(&self, who: &Process, notes: &mut Notes) -> Result<(), Stop>
+    pub fn can_list(&self, who: &Process, notes: &mut Notes) -> Result<(), Halt>
         requires { who.now ≡ process_at (effects_of self.now.book.history) who.now.who }
         ensures { IsRuled (moment_of self.now.book.history) notes.old notes.new ServiceManager listing who.now.who (manager_at (effects_of self.now.book.history)).context None result }
     {
@@ -248,7 +281,7 @@ impl Manager {
         target: &Process,
         perm: Perms,
         notes: &mut Notes,
-    ) -> Result<(), Stop>
+    ) -> Result<(), Halt>
         requires source { source.now ≡ process_at (effects_of self.now.book.history) source.now.who }
         requires target { target.now ≡ process_at (effects_of self.now.book.history) target.now.who }
         ensures { IsRuled (moment_of self.now.book.history) notes.old notes.new Binder perm source.now.who target.now.who.context None result }
@@ -272,7 +305,7 @@ impl Manager {
         name: &Name,
         perm: Perms,
         notes: &mut Notes,
-    ) -> Result<(), Stop>
+    ) -> Result<(), Halt>
         requires { source.now ≡ process_at (effects_of self.now.book.history) source.now.who }
         ensures { IsRuled (moment_of self.now.book.history) notes.old notes.new ServiceManager perm source.now.who (label_at (effects_of self.now.book.history) name.now) (Some name.now) result }
     {
@@ -300,7 +333,7 @@ impl Manager {
         class: Class,
         perm: Perms,
         notes: &mut Notes,
-    ) -> Result<(), Stop>
+    ) -> Result<(), Halt>
         requires source { source.now ≡ process_at (effects_of self.now.book.history) source.now.who }
         requires target { index ≡ type_index (policy_at (effects_of self.now.book.history)) (type_of target.now) }
         ensures { IsRuled (moment_of self.now.book.history) notes.old notes.new class perm source.now.who target.now (option_map (λ n. n.now) name.entry) result }
@@ -311,6 +344,6 @@ impl Manager {
         if decision.allowed {
             return Ok(());
         }
-        Err(unruled(&source.who, target, name, class, perm))
+        Err(unruled(self.alloc, &source.who, target, name, class, perm))
     }
 }

@@ -18,13 +18,11 @@ ghost use Rattle.sm_core.specs.Judging as spec;
 ghost use Rattle.sm_core.specs.Calling.{Sends, gives_of, passing_checks, target_checks};
 
 use crate::client::ClientRow;
+use crate::halt::{Halt, Plain};
 use crate::manager::{Manager, wanted};
 use crate::notes::Notes;
 use crate::plan::Plan;
-use sm_history::{
-    BoxedDelivery, Delivery, Effect, Failure, Given, GivenRefs, Instead, Message, Outcome, Refusal,
-    Stop,
-};
+use sm_history::{BoxedDelivery, Delivery, Effect, Failure, Given, GivenRefs, Message, Outcome};
 use sm_kinds::{Identity, Node, ObjRef, Payload, Refs};
 use std::alloc::{AllocError, Global};
 
@@ -120,7 +118,7 @@ impl Manager {
         payload: &Payload,
         refs: &Refs,
         notes: &mut Notes,
-    ) -> Result<Plan, Stop>
+    ) -> Result<Plan, Halt>
         requires { is_live (effects_of self.now.book.history) client ≡ true }
         ensures { Judged self.now.book.history notes.old notes.new client (Call handle payload.now refs.now) result }
     {
@@ -139,13 +137,13 @@ impl Manager {
             return Err(wanted());
         };
         if !self.has_room(target.owner.0, nodes.as_slice()) {
-            return Err(Stop::Unmet(Instead::Refused(Refusal::Failed(Failure::TargetFull))));
+            return Err(Halt::unmet(Plain::Failed(Failure::TargetFull)));
         }
         self.plan_call(row, target, payload, named.as_slice(), nodes.as_slice())
     }
 
     /// The object that is called: the caller may call the process that owns it, which lives.
-    fn judge_target(&self, row: &ClientRow, handle: u32, notes: &mut Notes) -> Result<Node, Stop>
+    fn judge_target(&self, row: &ClientRow, handle: u32, notes: &mut Notes) -> Result<Node, Halt>
         requires { row.now ≡ client_row (effects_of self.now.book.history) row.now.id }
         ensures { MatchResult result
             (λ n. AllPass (moment_of self.now.book.history) notes.old notes.new
@@ -156,10 +154,10 @@ impl Manager {
             (target_checks (effects_of self.now.book.history) row.now.id (node_at (effects_of self.now.book.history) row.now.id handle))) }
     {
         let Some(node) = self.resolved(row.id, ObjRef::Handle(handle)) else {
-            return Err(Stop::Unmet(Instead::Refused(Refusal::Failed(Failure::BadHandle))));
+            return Err(Halt::unmet(Plain::Failed(Failure::BadHandle)));
         };
         let Some(owner) = self.caller(node.owner.0) else {
-            return Err(Stop::Unmet(Instead::Refused(Refusal::Dead)));
+            return Err(Halt::unmet(Plain::Dead));
         };
         if let Err(stop) = self.can_call_client(&row.process, &owner.process, notes) {
             return Err(stop);
@@ -174,7 +172,7 @@ impl Manager {
         receiver: u32,
         refs: &[ObjRef],
         notes: &mut Notes,
-    ) -> Result<Vec<Option<Node>>, Stop>
+    ) -> Result<Vec<Option<Node>>, Halt>
         requires row { row.now ≡ client_row (effects_of self.now.book.history) row.now.id }
         requires live { is_live (effects_of self.now.book.history) receiver ≡ true }
         ensures { MatchResult result
@@ -202,7 +200,7 @@ impl Manager {
         receiver: u32,
         obj: ObjRef,
         notes: &mut Notes,
-    ) -> Result<Option<Node>, Stop>
+    ) -> Result<Option<Node>, Halt>
         requires row { row.now ≡ client_row (effects_of self.now.book.history) row.now.id }
         requires live { is_live (effects_of self.now.book.history) receiver ≡ true }
         ensures { MatchResult result
@@ -224,7 +222,7 @@ impl Manager {
         receiver: u32,
         node: Option<Node>,
         notes: &mut Notes,
-    ) -> Result<Option<Node>, Stop>
+    ) -> Result<Option<Node>, Halt>
         requires row { row.now ≡ client_row (effects_of self.now.book.history) row.now.id }
         requires live { is_live (effects_of self.now.book.history) receiver ≡ true }
         ensures { MatchResult result
@@ -233,7 +231,7 @@ impl Manager {
             (Halts (moment_of self.now.book.history) notes.old notes.new (passing_checks (effects_of self.now.book.history) row.now.id receiver node)) }
     {
         if node.is_none() {
-            return Err(Stop::Unmet(Instead::Refused(Refusal::Failed(Failure::BadHandle))));
+            return Err(Halt::unmet(Plain::Failed(Failure::BadHandle)));
         }
         let Some(other) = self.caller(receiver) else {
             unreachable!();
@@ -268,7 +266,7 @@ impl Manager {
         payload: &Payload,
         named: &[Option<Node>],
         nodes: &[Node],
-    ) -> Result<Plan, Stop>
+    ) -> Result<Plan, Halt>
         requires row { row.now ≡ client_row (effects_of self.now.book.history) row.now.id }
         requires live { is_live (effects_of self.now.book.history) target.owner.0 ≡ true }
         requires few { length nodes.now ≤ MOST_REFS }

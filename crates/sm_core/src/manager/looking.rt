@@ -11,10 +11,11 @@ ghost use Rattle.sm_core.specs.Managed.{LooksAs, look_leaves};
 ghost use Rattle.sm_history.specs.Records.{moment_of};
 ghost use Rattle.sm_core.specs.Judging.{AllPass, Halts};
 
+use crate::halt::{Halt, Plain};
 use crate::manager::replying::{answer, is_memory};
 use crate::manager::{Manager, wanted};
 use crate::notes::Notes;
-use sm_history::{Answer, By, Failure, Instead, NameList, Query, Record, Refusal, Reply, Stop};
+use sm_history::{Answer, By, Failure, NameList, Query, Record, Reply};
 use sm_kinds::Name;
 use std::alloc::AllocError;
 
@@ -71,17 +72,17 @@ impl Manager {
     }
 
     /// What stops a query, or what it finds out.
-    pub fn judge_query(&self, by: By, query: &Query, notes: &mut Notes) -> Result<Answer, Stop>
+    pub fn judge_query(&self, by: By, query: &Query, notes: &mut Notes) -> Result<Answer, Halt>
         ensures { MatchResult result
             (λ found. AllPass (moment_of self.now.book.history) notes.old notes.new (checks_of_query self.now.book.history by query.now)
             × (found ≡ found_out (effects_of self.now.book.history) query.now))
             (Halts (moment_of self.now.book.history) notes.old notes.new (checks_of_query self.now.book.history by query.now)) }
     {
         if !may_ask(by, query) {
-            return Err(Stop::Unmet(Instead::Refused(Refusal::Failed(Failure::NotYours))));
+            return Err(Halt::unmet(Plain::Failed(Failure::NotYours)));
         }
         if !self.is_there(by) {
-            return Err(Stop::Unmet(Instead::Refused(Refusal::Failed(Failure::NotConnected))));
+            return Err(Halt::unmet(Plain::Failed(Failure::NotConnected)));
         }
         match query {
             Query::List(mask) => match by {
@@ -103,7 +104,7 @@ impl Manager {
     }
 
     /// `listServices`: `list` is checked against the manager's own context.
-    fn list(&self, client: u32, mask: u32, notes: &mut Notes) -> Result<Answer, Stop>
+    fn list(&self, client: u32, mask: u32, notes: &mut Notes) -> Result<Answer, Halt>
         requires { is_live (effects_of self.now.book.history) client ≡ true }
         ensures { MatchResult result
             (λ found. AllPass (moment_of self.now.book.history) notes.old notes.new (query_checks (effects_of self.now.book.history) client (ListNames mask))

@@ -8,21 +8,22 @@ ghost use Rattle.std.specs.Prelude.{List};
 ghost use Rattle.sm_history.specs.declared.records.Record.{Record};
 ghost use Rattle.sm_core.specs.Judging.{Judged};
 
+use crate::halt::{Halt, Plain};
 use crate::manager::Manager;
 use crate::manager::judging::one;
 use crate::notes::Notes;
 use crate::plan::Plan;
-use sm_history::{Effect, Failure, Instead, Outcome, Refusal, Stop};
+use sm_history::{Effect, Failure, Outcome};
 use sm_kinds::ObjRef;
 
 impl Manager {
     /// A client gives back one grant of a handle. The last one frees its number.
-    pub fn judge_release(&self, client: u32, handle: u32) -> Result<Plan, Stop>
+    pub fn judge_release(&self, client: u32, handle: u32) -> Result<Plan, Halt>
         requires { is_live (effects_of self.now.book.history) client ≡ true }
         ensures { (old : List Record) → Judged self.now.book.history old old client (Release handle) result }
     {
         let Some(node) = self.resolved(client, ObjRef::Handle(handle)) else {
-            return Err(Stop::Unmet(Instead::Refused(Refusal::Failed(Failure::BadHandle))));
+            return Err(Halt::unmet(Plain::Failed(Failure::BadHandle)));
         };
         let effects = one(self.alloc, Effect::Releases { client, node })?;
         Ok(Plan {

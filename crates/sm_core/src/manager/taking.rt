@@ -9,11 +9,12 @@ ghost use Rattle.std.specs.Prelude.{List};
 ghost use Rattle.sm_history.specs.declared.records.Record.{Record};
 ghost use Rattle.sm_core.specs.Judging.{Judged};
 
+use crate::halt::{Halt, Plain};
 use crate::manager::judging::one;
 use crate::manager::{Manager, wanted};
 use crate::notes::Notes;
 use crate::plan::Plan;
-use sm_history::{BoxedDelivery, Effect, Instead, Outcome, Refusal, Stop};
+use sm_history::{BoxedDelivery, Effect, Outcome};
 
 impl Manager {
     /// The delivery that has waited longest for a client.
@@ -26,12 +27,12 @@ impl Manager {
     }
 
     /// A client takes the delivery that has waited longest in its inbox.
-    pub fn judge_take(&self, client: u32) -> Result<Plan, Stop>
+    pub fn judge_take(&self, client: u32) -> Result<Plan, Halt>
         requires { is_live (effects_of self.now.book.history) client ≡ true }
         ensures { (old : List Record) → Judged self.now.book.history old old client Take result }
     {
         let Some(oldest) = self.oldest(client) else {
-            return Err(Stop::Unmet(Instead::Refused(Refusal::Empty)));
+            return Err(Halt::unmet(Plain::Empty));
         };
         let Ok(outcome) = oldest.clone() else {
             return Err(wanted());

@@ -15,19 +15,20 @@ ghost use Rattle.sm_core.specs.Judging.{AllPass, Halts};
 ghost use Rattle.sm_core.specs.Judging as spec;
 ghost use Rattle.sm_core.specs.Telling.{told_checks, left_at, IsTelling, GoesOn, GoesFar, MayPrecede, Tells};
 
+use crate::halt::{Halt, Plain};
 use crate::manager::replying::reason;
 use crate::manager::{Manager, wanted};
 use crate::notes::Notes;
 use crate::plan::Plan;
 use crate::telling::{Telling, boxed_twice, listed_twice};
-use sm_history::{Effect, Failure, Given, Instead, Notice, Outcome, Refusal, Stop, Told, Watch};
+use sm_history::{Effect, Failure, Given, Notice, Outcome, Told, Watch};
 use sm_kinds::{ClientId, Name, Node};
 
 /// That a watcher's inbox or its handles have no room.
-fn full() -> Stop
+fn full() -> Halt
     ensures { result ≡ spec.full }
 {
-    Stop::Unmet(Instead::Refused(Refusal::Failed(Failure::TargetFull)))
+    Halt::unmet(Plain::Failed(Failure::TargetFull))
 }
 
 impl Manager {
@@ -75,7 +76,7 @@ impl Manager {
         node: Node,
         left: usize,
         notes: &mut Notes,
-    ) -> Result<Given, Stop>
+    ) -> Result<Given, Halt>
         requires { is_live (effects_of self.now.book.history) watch.now.client ≡ true }
         ensures { MatchResult result
             (λ g. AllPass (moment_of self.now.book.history) notes.old notes.new (told_checks (effects_of self.now.book.history) node watch.now left)
@@ -98,7 +99,7 @@ impl Manager {
     }
 
     /// Tells a watcher, or finds why it may not be told.
-    fn tell(&self, watch: &Watch, node: Node, telling: &mut Telling) -> Result<Told, Stop>
+    fn tell(&self, watch: &Watch, node: Node, telling: &mut Telling) -> Result<Told, Halt>
         requires live { is_live (effects_of self.now.book.history) watch.now.client ≡ true }
         requires telling { IsTelling (effects_of self.now.book.history) node telling.old }
         ensures { MatchResult result
@@ -121,7 +122,7 @@ impl Manager {
     }
 
     /// Tells a watcher that an object was put under the name, and gives it the object; or says why it may not be told.
-    pub fn notify(&self, watch: &Watch, node: Node, telling: &mut Telling) -> Result<Notice, Stop>
+    pub fn notify(&self, watch: &Watch, node: Node, telling: &mut Telling) -> Result<Notice, Halt>
         requires live { is_live (effects_of self.now.book.history) watch.now.client ≡ true }
         requires telling { IsTelling (effects_of self.now.book.history) node telling.old }
         ensures { MatchResult result
@@ -144,7 +145,7 @@ impl Manager {
         watches: &[Watch],
         node: Node,
         telling: &mut Telling,
-    ) -> Result<Vec<Notice>, Stop>
+    ) -> Result<Vec<Notice>, Halt>
         requires live { list_all (λ w. is_live (effects_of self.now.book.history) w.client) watches.now ≡ true }
         requires telling { IsTelling (effects_of self.now.book.history) node telling.old }
         ensures { MatchResult result
@@ -178,7 +179,7 @@ impl Manager {
         watch: &Watch,
         node: Node,
         effects: Vec<Effect>,
-    ) -> Result<Plan, Stop>
+    ) -> Result<Plan, Halt>
         requires live { is_live (effects_of self.now.book.history) watch.now.client ≡ true }
         requires before { MayPrecede (effects_of self.now.book.history) node effects.items }
         ensures { MatchResult result
@@ -202,7 +203,7 @@ impl Manager {
     }
 
     /// What an accepted Add does behind these effects: all who watch the name are told, or it is said why not.
-    pub fn plan_added(&self, name: &Name, node: Node, effects: Vec<Effect>) -> Result<Plan, Stop>
+    pub fn plan_added(&self, name: &Name, node: Node, effects: Vec<Effect>) -> Result<Plan, Halt>
         requires { MayPrecede (effects_of self.now.book.history) node effects.items }
         ensures { MatchResult result
             (λ plan. (plan.outcome ≡ Added (notices_at (followed (effects_of self.now.book.history) effects.items) node

@@ -13,18 +13,19 @@ ghost use Rattle.sm_history.specs.Records.{moment_of};
 ghost use Rattle.sm_core.specs.Judging.{AllPass, Halts, Judged, removal_checks};
 
 use crate::client::ClientRow;
+use crate::halt::{Halt, Plain};
 use crate::manager::judging::one;
 use crate::manager::{Manager, wanted};
 use crate::notes::Notes;
 use crate::plan::Plan;
-use sm_history::{Effect, Exception, Instead, Outcome, Refusal, Stop};
+use sm_history::{Effect, Exception, Outcome};
 use sm_kinds::{Name, Node, ObjRef};
 
 /// That a call of the service manager fails by one of Binder's exceptions.
-fn failed(exception: Exception) -> Stop
+fn failed(exception: Exception) -> Halt
     ensures { result ≡ Unmet (Refused (Excepted exception)) }
 {
-    Stop::Unmet(Instead::Refused(Refusal::Exception(exception)))
+    Halt::unmet(Plain::Exception(exception))
 }
 
 impl Manager {
@@ -35,7 +36,7 @@ impl Manager {
         name: &Name,
         obj: ObjRef,
         notes: &mut Notes,
-    ) -> Result<Plan, Stop>
+    ) -> Result<Plan, Halt>
         requires { is_live (effects_of self.now.book.history) client ≡ true }
         ensures { Judged self.now.book.history notes.old notes.new client (Unregister name.now obj) result }
     {
@@ -66,7 +67,7 @@ impl Manager {
         name: &Name,
         node: Option<Node>,
         notes: &mut Notes,
-    ) -> Result<(), Stop>
+    ) -> Result<(), Halt>
         requires { row.now ≡ client_row (effects_of self.now.book.history) row.now.id }
         ensures { MatchResult result
             (λ done. AllPass (moment_of self.now.book.history) notes.old notes.new (removal_checks (effects_of self.now.book.history) row.now.id name.now node))

@@ -14,15 +14,16 @@ ghost use Rattle.sm_core.specs.Judging.{AllPass, Halts, Judged};
 ghost use Rattle.sm_core.specs.Judging as spec;
 
 use crate::client::ClientRow;
+use crate::halt::{Halt, Plain};
 use crate::manager::judging::one;
 use crate::manager::{Manager, wanted};
 use crate::notes::Notes;
 use crate::plan::Plan;
-use sm_history::{Denial, Effect, Exception, Instead, MOST_WATCHES, Outcome, Refusal, Stop, Watch};
+use sm_history::{Denial, Effect, Exception, MOST_WATCHES, Outcome, Watch};
 use sm_kinds::{Name, is_isolated, valid_name};
 
 /// A client's object as one that watches a name.
-fn watch_of(client: u32, name: &Name, object: u32) -> Result<Watch, Stop>
+fn watch_of(client: u32, name: &Name, object: u32) -> Result<Watch, Halt>
     ensures { MatchResult result (λ w. w ≡ watch client name.now object) (λ s. s ≡ spec.wanted) }
 {
     match name.clone() {
@@ -43,7 +44,7 @@ impl Manager {
         name: &Name,
         object: u32,
         notes: &mut Notes,
-    ) -> Result<Plan, Stop>
+    ) -> Result<Plan, Halt>
         requires { is_live (effects_of self.now.book.history) client ≡ true }
         ensures { Judged self.now.book.history notes.old notes.new client (WatchName name.now object) result }
     {
@@ -68,7 +69,7 @@ impl Manager {
     }
 
     /// Whether a client may watch a name.
-    fn judge_watching(&self, row: &ClientRow, name: &Name, notes: &mut Notes) -> Result<(), Stop>
+    fn judge_watching(&self, row: &ClientRow, name: &Name, notes: &mut Notes) -> Result<(), Halt>
         requires { row.now ≡ client_row (effects_of self.now.book.history) row.now.id }
         ensures { MatchResult result
             (λ done. AllPass (moment_of self.now.book.history) notes.old notes.new (watch_checks (effects_of self.now.book.history) row.now.id name.now)
@@ -83,10 +84,10 @@ impl Manager {
             return Err(self.barred(denial, &row.process.who, name, notes));
         }
         if !valid_name(name.bytes()) {
-            return Err(Stop::Unmet(Instead::Refused(Refusal::Exception(Exception::InvalidName))));
+            return Err(Halt::unmet(Plain::Exception(Exception::InvalidName)));
         }
         if self.watches() >= MOST_WATCHES {
-            return Err(Stop::Unmet(Instead::Refused(Refusal::Exception(Exception::TableFull))));
+            return Err(Halt::unmet(Plain::Exception(Exception::TableFull)));
         }
         Ok(())
     }
@@ -106,7 +107,7 @@ impl Manager {
         name: &Name,
         object: u32,
         notes: &mut Notes,
-    ) -> Result<Plan, Stop>
+    ) -> Result<Plan, Halt>
         requires { is_live (effects_of self.now.book.history) client ≡ true }
         ensures { Judged self.now.book.history notes.old notes.new client (Unwatch name.now object) result }
     {
@@ -117,9 +118,7 @@ impl Manager {
         self.can_transfer_to_manager(&row.process, notes)?;
         self.can_find(&row.process, name, notes)?;
         if !self.is_watching(client, name.bytes(), object) {
-            return Err(Stop::Unmet(Instead::Refused(Refusal::Exception(
-                Exception::NothingToUnregister,
-            ))));
+            return Err(Halt::unmet(Plain::Exception(Exception::NothingToUnregister)));
         }
         let ended = self.watching(client, name.bytes(), object);
         let watch = watch_of(client, name, object)?;

@@ -45,8 +45,9 @@ returns-then-not-has_room c =
     sym (ap (λ (ns : List Node). has_inbox_room d k && fits_handles (after_grants d k ns) k) nodes) ∙
     sym c.has_room.ensures ∙ c.if-not-has_room.true in
     let m = moment_of c.args.self.now.book.history in
-    room_halts m _ _ _ d c.args.client c.args.handle c.in-Ok.target c.args.refs.now named target.0 target.1 sound
-    target.2 refs.1 refs.0 full
+    rw c.unmet.ensures
+    (room_halts m _ _ _ d c.args.client c.args.handle c.in-Ok.target c.args.refs.now named target.0 target.1 sound
+    target.2 refs.1 refs.0 full)
 
 pub plan_call-requires-clause-few : goal.plan_call-requires-clause-few
 plan_call-requires-clause-few c =

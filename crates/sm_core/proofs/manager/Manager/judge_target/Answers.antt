@@ -6,7 +6,8 @@ use Rattle.sm_core.proofs.CallChecks.{target_stops}
 use Rattle.sm_core.proofs.manager.Manager.judge_target.Goals as goal
 
 pub returns-in_default-caller : goal.returns-in_default-caller
-returns-in_default-caller c = inr (rw (sym c.in-Some.ensures, c.in_default-caller.ensures) refl)
+returns-in_default-caller c =
+    inr (rw (sym c.in-Some.ensures, c.in_default-caller.ensures, c.unmet-in_default-caller.ensures) refl)
 
 pub returns-in-Err : goal.returns-in-Err
 returns-in-Err c =
