@@ -92,49 +92,23 @@ fn first_free_in(words: &[u64], first: usize) -> usize
     64 * words.len()
 }
 
-/// Sets a bit in the bytes of those numbers of a set that are in one of its words.
-fn mark_word(bytes: &mut [u8], row: &BitRow, word: usize, bit: u32)
-    requires bit { bit < 8 }
-    requires room { length bytes.old ≤ 64 * length row.now }
-    requires few { length row.now < 2 ^ 32 }
-    requires word { word < length row.now }
-    ensures marked { (j b : ℕ) → j < length bytes.old → j / 64 ≡ word
-        → has_bit (slice_index bytes.new j) b
-        ≡ (has_bit (slice_index bytes.old j) b || (has row.now j && nat_eq b bit)) }
-    ensures same { (j : ℕ) → j < length bytes.old → (j / 64 ≡ word → ⊥)
-        → slice_index bytes.new j ≡ slice_index bytes.old j }
-{
-    if row.words[word] == 0 {
-        return;
-    }
-    let end = bytes.len().min(64 * word + 64);
-    for j in 64 * word..end {
-        if row.has(j) {
-            bytes[j] = with_bit(bytes[j], bit);
-        }
-    }
-}
-
 /// The least number from `from` on.
-fn next_in(row: &BitRow, from: usize) -> Option<usize>
-    requires { length row.now < 2 ^ 32 }
-    ensures none { IfNone result ((j : ℕ) → from ≤ j → has row.now j ≡ false) }
-    ensures some { IfSome result (λ i. (from ≤ i) × (i < 64 * length row.now)
-        × (has row.now i ≡ true)) }
-    ensures first { IfSome result (λ i. (j : ℕ) → from ≤ j → j < i → has row.now j ≡ false) }
+fn next_in(words: &[u64], from: usize) -> Option<usize>
+    requires { length words.now < 2 ^ 32 }
+    ensures none { IfNone result ((j : ℕ) → from ≤ j → has words.now j ≡ false) }
+    ensures some { IfSome result (λ i. (from ≤ i) × (i < 64 * length words.now)
+        × (has words.now i ≡ true)) }
+    ensures first { IfSome result (λ i. (j : ℕ) → from ≤ j → j < i → has words.now j ≡ false) }
 {
-    let end = 64 * row.words.len();
+    let end = 64 * words.len();
     let mut i = from;
     while i < end {
-        if row.has(i) {
-            return Some(i);
+        // The bits of a word from that of `i` on: where all are 0, none of them is looked at.
+        let rest = words[i / 64] >> (i % 64);
+        if rest != 0 {
+            return Some(i + rest.trailing_zeros() as usize);
         }
-        // Of a word that is 0, the other bits aren't looked at.
-        i = if row.words[i / 64] == 0 {
-            64 * (i / 64) + 64
-        } else {
-            i + 1
-        };
+        i = 64 * (i / 64) + 64;
     }
     None
 }
@@ -189,7 +163,7 @@ impl BitRow {
             × (has self.now i ≡ true)) }
         ensures first { IfSome result (λ i. (j : ℕ) → from ≤ j → j < i → has self.now j ≡ false) }
     {
-        next_in(self, from)
+        next_in(&self.words, from)
     }
 
     /// Whether both rows have the same words.
@@ -306,8 +280,13 @@ impl BitRow {
         ensures { (j b : ℕ) → j < length bytes.old → has_bit (slice_index bytes.new j) b
             ≡ (has_bit (slice_index bytes.old j) b || (has self.now j && nat_eq b bit)) }
     {
-        for word in 0..self.words.len() {
-            mark_word(bytes, self, word, bit);
+        let mut from = 0;
+        while let Some(j) = self.next(from) {
+            if j >= bytes.len() {
+                return;
+            }
+            bytes[j] = with_bit(bytes[j], bit);
+            from = j + 1;
         }
     }
 }
