@@ -1,6 +1,6 @@
 //! Which types a set denotes.
 
-ghost use Rattle.std.specs.Prelude.{◌≡◌, ◌||◌, ◌&&◌, ◌<◌, ◌≤◌, ◌+◌, ◌/◌, ℕ, List, length, IfOk, IfErr, IsTrue, nat_lt, false, true};
+ghost use Rattle.std.specs.Prelude.{◌≡◌, ◌||◌, ◌&&◌, ◌<◌, ◌≤◌, ◌+◌, ◌/◌, ℕ, List, length, IfOk, IfErr, IfSome, IsTrue, nat_eq, nat_lt, false, true};
 ghost use Rattle.std.specs.List.{list_any};
 ghost use Rattle.std.specs.Str.{bytes_eq};
 ghost use Rattle.sm_bits.specs.Bits.{has};
@@ -78,6 +78,21 @@ fn add_members(table: &Table, set: &mut BitRow, word: &[u8]) -> bool
     }
 }
 
+/// The type that a word names, if it names no attribute.
+pub fn only_type(table: &Table, word: &[u8]) -> Option<usize>
+    ensures inside { IfSome result (λ t. t < length table.now.symbols.types) }
+    ensures named { IfSome result (λ t. (policy : List TheStatement) → IsOf policy table.now → (i : ℕ)
+        → i < length table.now.symbols.types
+        → is_named policy (at table.now.symbols.types i) word.now ≡ nat_eq i t) }
+    ensures known { IfSome result (λ t. is_declared table.now.symbols word.now ≡ true) }
+{
+    let t = table.symbols.types.index(word)?;
+    match table.symbols.attributes.index(word) {
+        Some(_) => None,
+        None => Some(t),
+    }
+}
+
 /// Adds the types that a word names. `false`: the word isn't declared.
 fn add_named(table: &Table, set: &mut BitRow, word: &[u8]) -> bool
     requires fits { Fits table.now.members.items table.now.symbols }
@@ -139,6 +154,25 @@ fn all_or_none(alloc: Global, table: &Table, is_all: bool) -> Result<BitRow, All
         return all_types(alloc, table);
     }
     BitRow::empty(alloc, table.symbols.types.len() / 64 + 1)
+}
+
+/// The type that a set denotes, if the set is written as the name of a type alone.
+#[tactic(auto, unfolding(crate::specs::Denoting::chosen))]
+pub fn only_chosen(table: &Table, set: &Set) -> Option<usize>
+    ensures inside { IfSome result (λ t. t < length table.now.symbols.types) }
+    ensures denoted { IfSome result (λ t. (policy : List TheStatement) → IsOf policy table.now
+        → (i : ℕ) → i < length table.now.symbols.types
+        → chosen policy set.now (at table.now.symbols.types i) ≡ nat_eq i t) }
+    ensures known { IfSome result (λ t. (all_declared table.now.symbols set.now.plus
+        && all_declared table.now.symbols set.now.minus) ≡ true) }
+{
+    if set.all || set.complement {
+        return None;
+    }
+    match (set.plus.list(), set.minus.list()) {
+        ([name], []) => only_type(table, name.bytes()),
+        _ => None,
+    }
 }
 
 /// The types that the items of a set choose.

@@ -1,6 +1,6 @@
 //! The types of a rule text.
 
-ghost use Rattle.std.specs.Prelude.{◌≡◌, ◌<◌, ◌≤◌, ◌+◌, ◌/◌, ℕ, List, length, position, slice_get, option_map, IfOk, IfErr, IfSome, Some, is_some, false, true};
+ghost use Rattle.std.specs.Prelude.{◌≡◌, ◌<◌, ◌≤◌, ◌+◌, ◌/◌, ℕ, List, length, position, slice_get, option_map, IfOk, IfErr, IfSome, Some, is_some, nat_eq, false, true};
 ghost use Rattle.std.specs.Str.{bytes_eq};
 ghost use Rattle.sm_bits.specs.Bits.{has};
 ghost use Rattle.sm_kinds.specs.Reading.{Fails};
@@ -12,7 +12,7 @@ ghost use Rattle.sm_types.specs.Members.{IsOf};
 ghost use Rattle.sm_types.specs.declared.TheConstants.{MOST_TYPES};
 ghost use Rattle.sm_types.specs.declared.fault.TypesFault.TheVariants.{Unknown};
 
-use crate::table::{Table, chosen_types, table_of};
+use crate::table::{Table, chosen_types, only_chosen, table_of};
 use crate::{TypeCount, TypesFault};
 use sm_bits::BitRow;
 use sm_ruletext::{Set, Statement};
@@ -100,6 +100,20 @@ impl Types {
     {
         let name = self.table.symbols.types.name(usize::from(index))?;
         Some(name)
+    }
+
+    /// The number of the type that a set denotes, if the set is written as the name of a type alone. `None` says
+    /// nothing of the set: [`expand`](Types::expand) has its types.
+    pub fn only(&self, set: &Set) -> Option<u16>
+        ensures inside { IfSome result (λ t. t < length self.now.symbols.types) }
+        ensures denoted { IfSome result (λ t. (policy : List TheStatement) → IsOf policy self.now
+            → (i : ℕ) → i < length self.now.symbols.types
+            → in_set policy set.now (at self.now.symbols.types i) ≡ nat_eq i t) }
+        ensures known { IfSome result (λ t. (policy : List TheStatement) → IsOf policy self.now
+            → all_known policy set.now ≡ true) }
+    {
+        let t = only_chosen(&self.table, set)?;
+        Some(t as u16)
     }
 
     /// The types that a set denotes, as bits by their numbers.
