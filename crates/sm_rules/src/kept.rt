@@ -113,6 +113,9 @@ fn expand(
         → all_known policy set.now ≡ false))) }
 {
     prove!(types.type_count().words() < 100);
+    if let Some(number) = types.only(set) {
+        return Ok(SharedSet::one(number, types.type_count().words()));
+    }
     match types.expand(alloc, set) {
         Ok(row) => Ok(pool.share(alloc, row)?),
         Err(TypesFault::Memory) => Err(RulesFault::Memory),
