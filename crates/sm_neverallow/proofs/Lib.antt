@@ -8,3 +8,4 @@ pub mod Broken
 pub mod Sifting
 pub mod Consistent
 pub mod Firsts
+pub mod Choosing

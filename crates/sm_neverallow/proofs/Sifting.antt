@@ -34,22 +34,38 @@ one_more_place rules places P i x inside is here before k rule h found = elim (c
 ]
 
 -- the places rise: what holds before one of them holds of all rules of the set before its rule
-pub all_before : (rules : List Kept) (set end : ℕ) (places : List ℕ) (found place : ℕ) (Hit Miss : Kept → Type 0)
-    → Chosen rules set end places → found < length places
+pub all_before : (rules : List Kept) (set end : ℕ) (places : List ℕ) (found place : ℕ) (Skip Hit Miss : Kept → Type 0)
+    → ((rule : Kept) → Skip rule → Miss rule)
+    → Chosen rules set end Skip places → found < length places
     → place ≡ get_or places found place → FindsFirst rules places (length places) found Hit Miss
     → (n : ℕ) (rule : Kept) → n < place → slice_get rules n ≡ Some rule → perm_set rule ≡ set → Miss rule
-all_before rules set end places found place Hit Miss chosen inside is first n rule h here same =
+all_before rules set end places found place Skip Hit Miss skipped chosen inside is first n rule h here same =
     let read : place ≡ get_or places found 0 = is ∙ get_or_default_zero places found place inside in
     let below : get_or places found 0 < end = chosen.below found inside in
-    let k = chosen.all n rule (omega arith) here same in
-    let there : rule_at rules places k.0 ≡ Some rule = rw k.2 here in
-    elim (cases_lt k.0 found) [
-      | inl before ↦ first.first k.0 rule before there
-      | inr behind ↦ elim (cases_eq k.0 found) [
-        | inl it ↦ (let e : n ≡ get_or places found 0 = rw it at (sym k.2) in absurd (omega arith))
-        | inr other ↦ (let more : get_or places found 0 < get_or places k.0 0 =
-            chosen.rising found k.0 (omega arith) k.1 in absurd (omega (arith, k.2)))
-      ]
+    elim (chosen.all n rule (omega arith) here same) [
+      | inr miss ↦ skipped rule miss
+      | inl k ↦ (let there : rule_at rules places k.0 ≡ Some rule = rw k.2 here in
+          elim (cases_lt k.0 found) [
+            | inl before ↦ first.first k.0 rule before there
+            | inr behind ↦ elim (cases_eq k.0 found) [
+              | inl it ↦ (let e : n ≡ get_or places found 0 = rw it at (sym k.2) in absurd (omega arith))
+              | inr other ↦ (let more : get_or places found 0 < get_or places k.0 0 =
+                  chosen.rising found k.0 (omega arith) k.1 in absurd (omega (arith, k.2)))
+            ]
+          ])
+    ]
+
+-- what holds of each of the places holds of all rules of the set
+pub all_through : (rules : List Kept) (set end : ℕ) (places : List ℕ) (found : ℕ) (Skip Hit Miss : Kept → Type 0)
+    → ((rule : Kept) → Skip rule → Miss rule)
+    → Chosen rules set end Skip places → length places ≤ found
+    → FindsFirst rules places (length places) found Hit Miss
+    → (n : ℕ) (rule : Kept) → n < end → slice_get rules n ≡ Some rule → perm_set rule ≡ set → Miss rule
+all_through rules set end places found Skip Hit Miss skipped chosen none first n rule h here same =
+    elim (chosen.all n rule h here same) [
+      | inr miss ↦ skipped rule miss
+      | inl k ↦ (let there : rule_at rules places k.0 ≡ Some rule = rw k.2 here in
+          first.first k.0 rule (omega (arith, k.1, none)) there)
     ]
 
 -- ---- one rule, by groups of sources

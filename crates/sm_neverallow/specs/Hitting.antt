@@ -1,5 +1,5 @@
 -- Neverallow rules against a matrix, by groups of eight sources.
-use Rattle.std.specs.Prelude.{◌≡◌, ℕ, zero, suc, Bool, true, false, ◌&&◌, ◌||◌, ◌+◌, ◌*◌, ◌/◌, ◌^◌, ◌<◌, ◌≤◌, List, length, Option, Some, slice_get}
+use Rattle.std.specs.Prelude.{◌≡◌, ◌⊎◌, ℕ, zero, suc, Bool, true, false, ◌&&◌, ◌||◌, ◌+◌, ◌*◌, ◌/◌, ◌^◌, ◌<◌, ◌≤◌, List, length, Option, Some, slice_get}
 use Rattle.std.proofs.Common.{get_or}
 use Rattle.sm_bits.specs.Bits.{has, row, has_bit}
 use Rattle.sm_neverallow.specs.Matrices.{matrix, perm_set}
@@ -80,6 +80,17 @@ pub record OwnHits (own : List ℕ) (rule : Kept) : Type 0 where
   pub s : ℕ
   pub both : (rule.to_self && (has own s && has rule.sources s)) ≡ true
 
+-- ---- the targets of all sources
+
+-- The row has the targets of each source.
+pub record HaveTargets (rows : List (List ℕ)) (count : ℕ) (targets : List ℕ) : Type 0 where
+  pub all : (s t : ℕ) → s < count → has (row rows s) t ≡ true → has targets t ≡ true
+
+-- The rule joins no source to one of these targets.
+pub record Escapes (targets : List ℕ) (rule : Kept) : Type 0 where
+  pub misses : (t : ℕ) → (has rule.targets t && has targets t) ≡ false
+  pub alone : OwnMisses targets rule
+
 -- ---- some of the rules, by their places
 
 -- Each place is that of a rule.
@@ -90,12 +101,12 @@ pub record ArePlaces (rules : List Kept) (places : List ℕ) : Type 0 where
 abbrev pub rule_at : List Kept → List ℕ → ℕ → Option Kept
 rule_at rules places k = slice_get rules (get_or places k 0)
 
--- The places of the rules below n with exactly these permissions, in their order.
-pub record Chosen (rules : List Kept) (set n : ℕ) (places : List ℕ) : Type 0 where
+-- The places of the rules below n with exactly these permissions, in their order, but for some that miss.
+pub record Chosen (rules : List Kept) (set n : ℕ) (Miss : Kept → Type 0) (places : List ℕ) : Type 0 where
   pub below : (k : ℕ) → k < length places → get_or places k 0 < n
   pub of_set : (k : ℕ) (rule : Kept) → k < length places → rule_at rules places k ≡ Some rule → perm_set rule ≡ set
   pub all : (m : ℕ) (rule : Kept) → m < n → slice_get rules m ≡ Some rule → perm_set rule ≡ set
-      → (k : ℕ) × (k < length places) × (get_or places k 0 ≡ m)
+      → ((k : ℕ) × (k < length places) × (get_or places k 0 ≡ m)) ⊎ Miss rule
   pub rising : (j k : ℕ) → j < k → k < length places → get_or places j 0 < get_or places k 0
 
 -- The first of the places below the end whose rule hits, if one does: no rule before it does.

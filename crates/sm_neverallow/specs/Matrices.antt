@@ -51,6 +51,11 @@ perm_set rule = rule.perms.0 % 128
 abbrev pub is_of_set : ℕ → Kept → Bool
 is_of_set set rule = nat_eq (perm_set rule) set
 
+-- The row has the sets of permissions that the rules have, with room for all 128.
+pub record AreSetsOf (rules : List Kept) (sets : List ℕ) : Type 0 where
+  pub room : length sets ≡ 2
+  pub says : (set : ℕ) → has sets set ≡ list_any (is_of_set set) rules
+
 -- Some rule has exactly these permissions, and joins the two types.
 abbrev pub joined_by : List Kept → ℕ → ℕ → ℕ → Bool
 joined_by rules set s t = list_any (λ r. joins s t r && is_of_set set r) rules

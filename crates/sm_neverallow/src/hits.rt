@@ -5,12 +5,12 @@
 //! tested with a few groups in turn, since the rules together are larger than a processor's
 //! cache, and the unions of a few groups are not.
 
-ghost use Rattle.std.specs.Prelude.{◌≡◌, ◌<◌, ◌≤◌, ◌+◌, ◌*◌, ◌/◌, ◌++◌, ◌∷◌, [], ℕ, length, ◌&&◌, All, IsTrue, IfOk, Some, slice_get, nat_eq, ◌||◌, false, if◌then◌else◌};
+ghost use Rattle.std.specs.Prelude.{◌≡◌, ◌<◌, ◌≤◌, ◌+◌, ◌*◌, ◌/◌, ◌++◌, ◌∷◌, [], ℕ, length, ◌&&◌, All, IsTrue, IfOk, Some, slice_get, nat_eq, ◌||◌, false, true, if◌then◌else◌};
 ghost use Rattle.sm_bits.specs.Bits.{has, row, has_bit};
 ghost use Rattle.sm_rules.specs.Keeping.{FitsRule};
 ghost use Rattle.sm_neverallow.specs.Matrices.{perm_set, is_of_set, Square, Misses, Hits};
 ghost use Rattle.sm_neverallow.specs.Uniting.{AreWide};
-ghost use Rattle.sm_neverallow.specs.Hitting.{IsPlaceOf, UnionMisses, UnionHits, AreReady, AllUnite, AllMiss, SomeHit, MissesGroups, OwnMisses, OwnHits, ArePlaces, Chosen, FindsFirst};
+ghost use Rattle.sm_neverallow.specs.Hitting.{IsPlaceOf, UnionMisses, UnionHits, AreReady, AllUnite, AllMiss, SomeHit, MissesGroups, OwnMisses, OwnHits, ArePlaces, Escapes, Chosen, FindsFirst};
 ghost use Rattle.sm_rules.specs.declared.kept.Kept.{Kept as TheKept};
 
 use crate::matrix::{GROUP, Matrix};
@@ -225,25 +225,46 @@ fn first_by_rules(matrix: &Matrix, rules: &[Kept], places: &[usize], count: Type
     places.len()
 }
 
-/// Adds the place of a rule, if it has exactly the permissions `set`.
-fn add_place(places: &mut Vec<usize>, rule: &Kept, set: u8, place: usize) -> Result<(), AllocError>
-    ensures { IfOk result (λ done. places.new.items
-        ≡ (if is_of_set set rule.now then places.old.items ++ place ∷ [] else places.old.items)) }
+/// Whether a rule may join a source to one of these targets, which are those of all sources.
+fn may_hit(targets: &BitRow, rule: &Kept) -> bool
+    requires row { length targets.now ≡ length rule.now.targets }
+    requires own { length targets.now ≡ length rule.now.sources }
+    ensures { result ≡ false → Escapes targets.now rule.now }
 {
-    if perm_set(rule) == set {
-        places.push(place)?;
-    }
-    Ok(())
+    rule.targets.meets_row(targets) || is_own_hit(targets, rule)
 }
 
-/// The places of the rules below `end` that have exactly the permissions `set`.
-fn places_of(alloc: Global, rules: &[Kept], set: u8, end: usize) -> Result<Vec<usize>, AllocError>
-    requires { end ≤ length rules.now }
-    ensures { IfOk result (λ places. Chosen rules.now set end places.items) }
+/// Whether a rule has exactly the permissions `set`, and may join a source to one of these targets.
+fn is_candidate(targets: &BitRow, rule: &Kept, count: TypeCount, set: u8) -> bool
+    requires row { length targets.now ≡ count / 64 + 1 }
+    requires rule { FitsRule count rule.now }
+    ensures some { result ≡ true → perm_set rule.now ≡ set }
+    ensures none { result ≡ false → perm_set rule.now ≡ set → Escapes targets.now rule.now }
+{
+    perm_set(rule) == set && may_hit(targets, rule)
+}
+
+/// The places of the rules below `end` that have exactly the permissions `set`, but for some that join no source
+/// to one of these targets, which are those of all sources: most neverallow rules forbid what no rule allows to
+/// any source.
+fn places_of(
+    alloc: Global,
+    rules: &[Kept],
+    targets: &BitRow,
+    count: TypeCount,
+    set: u8,
+    end: usize,
+) -> Result<Vec<usize>, AllocError>
+    requires row { length targets.now ≡ count / 64 + 1 }
+    requires fits { All (FitsRule count) rules.now }
+    requires end { end ≤ length rules.now }
+    ensures { IfOk result (λ places. Chosen rules.now set end (Escapes targets.now) places.items) }
 {
     let mut places = Vec::new(alloc);
     for place in 0..end {
-        add_place(&mut places, &rules[place], set, place)?;
+        if is_candidate(targets, &rules[place], count, set) {
+            places.push(place)?;
+        }
     }
     Ok(places)
 }
@@ -306,7 +327,8 @@ pub fn first_hit(
         → slice_get rules.now n ≡ Some rule → perm_set rule ≡ set
         → Misses matrix.now count rule) }
 {
-    let places = places_of(alloc, rules, set, end)?;
+    let targets = matrix.all_targets(alloc, count)?;
+    let places = places_of(alloc, rules, &targets, count, set, end)?;
     let found = first_of_places(alloc, matrix, rules, &places, count)?;
     if found < places.len() {
         Ok(places[found])

@@ -7,12 +7,12 @@
 ghost use Rattle.std.specs.Prelude.{◌≡◌, ◌<◌, ◌≤◌, ◌+◌, ◌*◌, ◌/◌, ℕ, length, nat_eq, ◌&&◌, ◌||◌, All, IfOk, IsTrue, false, []};
 ghost use Rattle.sm_bits.specs.Bits.{has, row, has_bit};
 ghost use Rattle.sm_rules.specs.Keeping.{joins, FitsRule};
-ghost use Rattle.sm_neverallow.specs.Matrices.{Square, AllSquare, AllCompiled, Grouped, Joined, IsUnion, joined_by};
-ghost use Rattle.sm_neverallow.specs.Hitting.{Unites, IsDiagonal};
+ghost use Rattle.sm_neverallow.specs.Matrices.{Square, AllSquare, AllCompiled, AreSetsOf, Grouped, Joined, IsUnion, joined_by};
+ghost use Rattle.sm_neverallow.specs.Hitting.{Unites, IsDiagonal, HaveTargets};
 ghost use Rattle.sm_neverallow.specs.Uniting.{AreWide, Doubled};
 
 use crate::gathered::{no_pairs, rows_of};
-use crate::perm_sets::{SET_COUNT, any_of_set};
+use crate::perm_sets::{SET_COUNT, sets_of};
 use crate::unions::Unions;
 use sm_bits::{BitRow, has_bit};
 use sm_rules::{Kept, PERM_COUNT};
@@ -136,6 +136,19 @@ fn own_sources(alloc: Global, rows: &[BitRow], count: TypeCount) -> Result<BitRo
     Ok(own)
 }
 
+/// The targets of all sources.
+fn all_targets(alloc: Global, rows: &[BitRow], count: TypeCount) -> Result<BitRow, AllocError>
+    requires square { Square rows.now count }
+    ensures room { IfOk result (λ targets. length targets ≡ count / 64 + 1) }
+    ensures all { IfOk result (λ targets. HaveTargets rows.now count targets) }
+{
+    let mut targets = BitRow::empty(alloc, count.words())?;
+    for s in 0..rows.len() {
+        targets.union_with(&rows[s]);
+    }
+    Ok(targets)
+}
+
 /// A matrix of bits, a row for each source; contracts see it as the list of its rows.
 #[derive(Drop)]
 pub struct Matrix {
@@ -241,6 +254,15 @@ impl Matrix {
         unions_of(alloc, &self.rows, count, group)
     }
 
+    /// The targets of all sources.
+    pub fn all_targets(&self, alloc: Global, count: TypeCount) -> Result<BitRow, AllocError>
+        requires square { Square self.now count }
+        ensures room { IfOk result (λ targets. length targets ≡ count / 64 + 1) }
+        ensures all { IfOk result (λ targets. HaveTargets self.now count targets) }
+    {
+        all_targets(alloc, &self.rows, count)
+    }
+
     /// The sources that the matrix joins to themselves.
     pub fn own_sources(&self, alloc: Global, count: TypeCount) -> Result<BitRow, AllocError>
         requires square { Square self.now count }
@@ -282,16 +304,19 @@ fn add_set(
     alloc: Global,
     matrices: &mut Vec<Matrix>,
     rules: &[Kept],
+    sets: &BitRow,
     count: TypeCount,
     set: u8,
 ) -> Result<(), AllocError>
+    requires set { set < 128 }
+    requires sets { AreSetsOf rules.now sets.now }
     requires number { length matrices.old.items ≡ 7 }
     requires square { AllSquare matrices.old.items count }
     requires fits { All (FitsRule count) rules.now }
     ensures { IfOk result (λ done. Joined matrices.old.items matrices.new.items count set
         (joined_by rules.now set)) }
 {
-    if !any_of_set(rules, set) {
+    if !sets.has(usize::from(set)) {
         return Ok(());
     }
     let group = Matrix::compile(alloc, rules, count, set)?;
@@ -309,8 +334,9 @@ pub fn matrices_of(
     ensures { IfOk result (λ m. AllCompiled rules.now count 7 m.items) }
 {
     let mut matrices = empty_matrices(alloc, count)?;
+    let sets = sets_of(alloc, rules)?;
     for set in 1..SET_COUNT {
-        add_set(alloc, &mut matrices, rules, count, set)?;
+        add_set(alloc, &mut matrices, rules, &sets, count, set)?;
     }
     Ok(matrices)
 }

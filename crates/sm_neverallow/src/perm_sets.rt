@@ -2,11 +2,12 @@
 //! once for its whole set, and not once for each permission in it. There are few such sets, so
 //! that a matrix for each of them costs little.
 
-ghost use Rattle.std.specs.Prelude.{◌≡◌};
-ghost use Rattle.std.specs.List.{list_any};
-ghost use Rattle.sm_neverallow.specs.Matrices.{perm_set, is_of_set};
+ghost use Rattle.std.specs.Prelude.{◌≡◌, IfOk};
+ghost use Rattle.sm_neverallow.specs.Matrices.{perm_set, AreSetsOf};
 
+use sm_bits::BitRow;
 use sm_rules::Kept;
+use std::alloc::{AllocError, Global};
 
 /// How many sets of permissions there are, each a number below this one.
 pub const SET_COUNT: u8 = 128;
@@ -18,9 +19,14 @@ pub fn perm_set(rule: &Kept) -> u8
     rule.perms.0 % SET_COUNT
 }
 
-/// Whether some rule has exactly the permissions `set`.
-pub fn any_of_set(rules: &[Kept], set: u8) -> bool
-    ensures { result ≡ list_any (is_of_set set) rules.now }
+/// The sets of permissions that some rules have, by their numbers: so one pass over the rules tells which sets
+/// have none.
+pub fn sets_of(alloc: Global, rules: &[Kept]) -> Result<BitRow, AllocError>
+    ensures { IfOk result (λ sets. AreSetsOf rules.now sets) }
 {
-    rules.iter().any(|rule| perm_set(rule) == set)
+    let mut sets = BitRow::empty(alloc, 2)?;
+    for rule in rules {
+        sets.insert(usize::from(perm_set(rule)));
+    }
+    Ok(sets)
 }

@@ -6,15 +6,15 @@ ghost use Rattle.sm_ruletext.specs.declared.statement.Statement.{Statement as Th
 ghost use Rattle.sm_types.specs.Names.{at};
 ghost use Rattle.sm_rules.specs.Access.{written, forbidden, IsConsistent};
 ghost use Rattle.sm_rules.specs.Keeping.{FitsRule, RulesOf};
-ghost use Rattle.sm_neverallow.specs.Matrices.{perm_set, AllSquare, AllCompiled, IsClear, IsBroken};
+ghost use Rattle.sm_neverallow.specs.Matrices.{perm_set, AllSquare, AllCompiled, AreSetsOf, IsClear, IsBroken};
 ghost use Rattle.sm_neverallow.specs.Violating.{both_join, AreApart, IsBetween, IsFirstOf, IsFirstAmong, AllApart, IsFirstViolation};
 ghost use Rattle.sm_rules.specs.declared.kept.Kept.{Kept as TheKept};
 
 use crate::hits::first_hit;
 use crate::matrices::Matrices;
 use crate::matrix::Matrix;
-use crate::perm_sets::{SET_COUNT, any_of_set};
-use sm_bits::has_bit;
+use crate::perm_sets::{SET_COUNT, sets_of};
+use sm_bits::{BitRow, has_bit};
 use sm_kinds::{Class, Perms};
 use sm_rules::{Kept, PERM_COUNT, Rules, class_at, perm_at};
 use sm_types::TypeCount;
@@ -165,10 +165,13 @@ fn first_broken_of(
     alloc: Global,
     matrices: &[Matrix],
     neverallows: &[Kept],
+    sets: &BitRow,
     count: TypeCount,
     set: u8,
     end: usize,
 ) -> Result<usize, AllocError>
+    requires set { set < 128 }
+    requires sets { AreSetsOf neverallows.now sets.now }
     requires number { length matrices.now ≡ 7 }
     requires square { AllSquare matrices.now count }
     requires fits { All (FitsRule count) neverallows.now }
@@ -180,7 +183,7 @@ fn first_broken_of(
         → slice_get neverallows.now n ≡ Some never → perm_set never ≡ set
         → IsClear matrices.now count never) }
 {
-    if !any_of_set(neverallows, set) {
+    if !sets.has(usize::from(set)) {
         return Ok(end);
     }
     let joined = Matrix::union_of(alloc, matrices, count, set)?;
@@ -208,9 +211,10 @@ fn first_broken(
     ensures first { IfOk result (λ o. IfSome o (λ place. (n : ℕ) (never : TheKept) → n < place
         → slice_get neverallows.now n ≡ Some never → IsClear matrices.now count never)) }
 {
+    let sets = sets_of(alloc, neverallows)?;
     let mut place = neverallows.len();
     for set in 1..SET_COUNT {
-        place = first_broken_of(alloc, matrices, neverallows, count, set, place)?;
+        place = first_broken_of(alloc, matrices, neverallows, &sets, count, set, place)?;
     }
     if place < neverallows.len() {
         Ok(Some(place))

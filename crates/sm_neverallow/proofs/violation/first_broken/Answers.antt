@@ -17,8 +17,8 @@ returns-then-place-neverallows-clause-first c n never h found =
     sought_all c.args.matrices.now c.args.neverallows.now c.args.count c.loop-set.set c.loop-set.place
     c.loop-set-test.false c.loop-set.invariant n never h found
 
-pub returns-else-place-neverallows-clause-none : goal.returns-else-place-neverallows-clause-none
-returns-else-place-neverallows-clause-none c n never found =
+pub returns-clause-none : goal.returns-clause-none
+returns-clause-none c n never found =
     let inside : n < length c.args.neverallows.now = slice_get_within c.args.neverallows.now n never found in
     sought_all c.args.matrices.now c.args.neverallows.now c.args.count c.loop-set.set c.loop-set.place
     c.loop-set-test.false c.loop-set.invariant n never (omega arith) found

@@ -5,10 +5,10 @@ use Rattle.sm_neverallow.specs.Matrices.{perm_set, Misses, Hits, IsClear, IsBrok
 use Rattle.sm_neverallow.proofs.Broken.{none_of_set, hits_union, misses_union}
 use Rattle.sm_neverallow.proofs.violation.first_broken_of.Goals as goal
 
-pub returns-then-not-any_of_set-clause-first : goal.returns-then-not-any_of_set-clause-first
-returns-then-not-any_of_set-clause-first c n never h found same =
-    absurd (none_of_set c.args.neverallows.now c.args.set n never (sym c.any_of_set.ensures ∙ c.if-not-any_of_set.true)
-    found same)
+pub returns-then-not-has-clause-first : goal.returns-then-not-has-clause-first
+returns-then-not-has-clause-first c n never h found same =
+    absurd (none_of_set c.args.neverallows.now c.args.set n never
+    (sym (c.requires.sets.says c.args.set) ∙ (rw c.from.ensures at (sym c.has.ensures)) ∙ c.if-not-has.true) found same)
 
 pub returns-clause-broken : goal.returns-clause-broken
 returns-clause-broken c =
