@@ -4,14 +4,7 @@ use Rattle.std.proofs.lemmas.Bool.{cases_lt}
 use Rattle.std.proofs.lemmas.List.{get_or_append_left, get_or-append_right}
 use Rattle.sm_bits.specs.Bits.{has, row, has_bit}
 use Rattle.sm_neverallow.specs.Matrices.{matrix}
-
--- the sources below n have their bytes
-pub record Tabled (matrices : List (List (List ℕ))) (count n : ℕ) (places : List ℕ) (rows : List (List ℕ)) : Type 0
-  where
-    pub number : length places ≡ n
-    pub inside : (s : ℕ) → s < n → get_or places s 0 < length rows
-    pub says : (b s t : ℕ) → b < 7 → s < n → t < count
-        → has_bit (get_or (row rows (get_or places s 0)) t 0) b ≡ has (row (matrix matrices b) s) t
+use Rattle.sm_vectors.specs.Tabled.{Tabled}
 
 pub tabled_none : (matrices : List (List (List ℕ))) (count : ℕ) (rows : List (List ℕ)) → Tabled matrices count 0 [] rows
 tabled_none matrices count rows = record {

@@ -1,9 +1,10 @@
 //! A byte for each pair of types.
 
-ghost use Rattle.std.specs.Prelude.{◌≡◌, ◌<◌, ◌≤◌, ◌+◌, ◌/◌, ℕ, List, length, slice_index, IfOk, false};
+ghost use Rattle.std.specs.Prelude.{◌≡◌, ◌<◌, ◌≤◌, ◌+◌, ◌-◌, ◌/◌, ℕ, List, length, slice_index, IfOk, true, false};
 ghost use Rattle.sm_bits.specs.Bits.{has, has_bit, row};
 ghost use Rattle.sm_types.specs.declared.TheConstants.{MOST_TYPES};
 ghost use Rattle.sm_neverallow.specs.Matrices.{matrix, AllSquare};
+ghost use Rattle.sm_vectors.specs.Tabled.{Tabled};
 
 use crate::byte_rows::ByteRows;
 use sm_neverallow::Matrices;
@@ -45,6 +46,51 @@ fn bytes_of(
     let mut bytes = vec![in alloc; 0u8; count.get()]?;
     mark_source(&mut bytes, matrices, count, source);
     Ok(bytes)
+}
+
+/// Whether a source has the targets of the one before it, for each permission.
+fn is_as_before(matrices: &Matrices, count: TypeCount, source: usize) -> bool
+    requires number { length matrices.now ≡ 7 }
+    requires square { AllSquare matrices.now count }
+    requires source { source < count }
+    requires after { 0 < source }
+    ensures { result ≡ true → (b : ℕ) → b < 7
+        → row (matrix matrices.now b) source ≡ row (matrix matrices.now b) (source - 1) }
+{
+    for bit in 0..PERM_COUNT {
+        let before = matrices.targets(bit, source - 1);
+        if !matrices.targets(bit, source).is_same(before) {
+            return false;
+        }
+    }
+    true
+}
+
+/// The place of the bytes of a source, where those before it have theirs. Sources that follow each other are
+/// often the same to all rules, and then no bytes are made.
+fn place_for(
+    alloc: Global,
+    rows: &mut ByteRows,
+    places: &[usize],
+    matrices: &Matrices,
+    count: TypeCount,
+    source: usize,
+) -> Result<usize, AllocError>
+    requires number { length matrices.now ≡ 7 }
+    requires square { AllSquare matrices.now count }
+    requires source { source < count }
+    requires before { Tabled matrices.now count source places.now rows.old }
+    ensures says { IfOk result (λ place. (t b : ℕ) → t < count → b < 7
+        → has_bit (slice_index (row rows.new place) t) b ≡ has (row (matrix matrices.now b) source) t) }
+    ensures inside { IfOk result (λ place. place < length rows.new) }
+    ensures more { IfOk result (λ place. length rows.old ≤ length rows.new) }
+    ensures kept { IfOk result (λ place. (p : ℕ) → p < length rows.old → row rows.new p ≡ row rows.old p) }
+{
+    if source > 0 && is_as_before(matrices, count, source) {
+        return Ok(places[source - 1]);
+    }
+    let bytes = bytes_of(alloc, matrices, count, source)?;
+    rows.place_of(bytes)
 }
 
 /// For each pair of types a byte, with a bit for each permission. A row of equal bytes is kept once.
@@ -95,8 +141,7 @@ impl ByteTable {
         let mut rows = ByteRows::new(alloc);
         let mut places = Vec::new(alloc);
         for source in 0..count.get() {
-            let bytes = bytes_of(alloc, matrices, count, source)?;
-            let place = rows.place_of(bytes)?;
+            let place = place_for(alloc, &mut rows, &places, matrices, count, source)?;
             places.push(place)?;
         }
         Ok(ByteTable { places, rows })

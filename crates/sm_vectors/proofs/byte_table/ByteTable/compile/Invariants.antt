@@ -1,4 +1,4 @@
-use Rattle.sm_vectors.proofs.Tabled.{Tabled}
+use Rattle.sm_vectors.specs.Tabled.{Tabled}
 use Rattle.sm_vectors.proofs.byte_table.ByteTable.compile.Given as goal
 
 abbrev pub invariant-loop-source : goal.invariant-loop-source
