@@ -1,11 +1,9 @@
 -- Reads of the table.
-use Rattle.std.proofs.Common.{◌≡◌, ℕ, ◌<◌, replicate, true, false, List, [], ◌∷◌, get_or, map, slice_get, Option, Some, None, refl, sym, ap, ◌∙◌}
+use Rattle.std.proofs.Common.{◌≡◌, ℕ, ◌<◌, replicate, false, List, [], ◌∷◌, get_or, slice_get, Option, None, refl, sym, ap, ◌∙◌}
 use Rattle.std.specs.List.{list_any}
-use Rattle.std.specs.Str.{bytes_eq}
 use Rattle.std.proofs.lemmas.Bool.{and_right}
-use Rattle.std.proofs.lemmas.List.{get_or-map, get_or-replicate}
-use Rattle.std.proofs.lemmas.Option.{slice_get_within, get_or_from_slice_get, unwrap_or-slice_get}
-use Rattle.std.proofs.lemmas.Slice.Eq.{bytes_eq-Decides}
+use Rattle.std.proofs.lemmas.List.{get_or-replicate}
+use Rattle.std.proofs.lemmas.Option.{unwrap_or-slice_get}
 use Rattle.std.proofs.lemmas.Nat.Bits.{bit_at-zero}
 use Rattle.std.specs.Prelude.{unwrap_or}
 use Rattle.sm_bits.specs.Bits.{row, has_bit}
@@ -19,13 +17,6 @@ use Rattle.sm_ruletext.specs.declared.statement.What.TheVariants.{Attribute, Dec
 use Rattle.sm_types.specs.Names.{Name}
 use Rattle.sm_types.specs.Denoting.{Policy}
 use Rattle.sm_rules.specs.Access.{gives, joins, allowed_by, allows, written}
-
--- the row at the place of an equal key
-pub stored_row : {K : Type 0} (f : K → List ℕ) (keys : List K) (place : ℕ) (k : K) (bytes : List ℕ)
-    → slice_get keys place ≡ Some k → bytes_eq bytes (f k) ≡ true → row (map f keys) place ≡ bytes
-stored_row f keys place k bytes at same =
-    get_or-map f keys place k [] (slice_get_within keys place k at)
-    ∙ (ap f (get_or_from_slice_get keys place k k at) ∙ sym ((bytes_eq-Decides bytes (f k)).0 same))
 
 -- a row that isn't there has no bytes
 pub no_row : (rows : List (List ℕ)) (place t : ℕ) → slice_get rows place ≡ None → get_or (row rows place) t 0 ≡ 0

@@ -1,25 +1,59 @@
 //! Rows of bytes, each kept once.
 
-use indexmap::IndexSet;
+ghost use Rattle.std.specs.Prelude.{◌≡◌};
+
+use indexmap::IndexMap;
 use std::alloc::{AllocError, Global};
 use std::marker::Model;
 
-/// Distinct rows of bytes, found by their hashes. Contracts see them as a list of rows.
+/// A row of bytes.
+#[derive(Drop)]
+struct ByteRow {
+    bytes: Vec<u8>,
+}
+
+impl Model for ByteRow {
+    ghost use Rattle.std.specs.Prelude.{List, ℕ};
+
+    ghost Value = { List ℕ };
+
+    ghost view = { λ r. r.bytes.items };
+}
+
+impl ByteRow {
+    ghost use Rattle.std.specs.Prelude.{◌≡◌};
+
+    fn new(bytes: Vec<u8>) -> ByteRow
+        ensures { result ≡ bytes.items }
+    {
+        ByteRow { bytes }
+    }
+
+    fn bytes(&self) -> &[u8]
+        ensures { result.now ≡ self.now }
+    {
+        &self.bytes
+    }
+}
+
+/// Rows of bytes, found by a number that equal rows have in common. Contracts see them as a list of rows.
 #[derive(Drop)]
 pub struct ByteRows {
-    rows: IndexSet<Vec<u8>>,
+    rows: Vec<ByteRow>,
+    /// For such a number the place of the last row that came with it.
+    places: IndexMap<u64, usize>,
 }
 
 impl Model for ByteRows {
-    ghost use Rattle.std.specs.Prelude.{List, ℕ, map};
+    ghost use Rattle.std.specs.Prelude.{List, ℕ};
 
     ghost Value = { List (List ℕ) };
 
-    ghost view = { λ r. map (λ k. k.items) r.rows.keys };
+    ghost view = { λ r. r.rows.items };
 }
 
 impl ByteRows {
-    ghost use Rattle.std.specs.Prelude.{◌≡◌, ◌<◌, ◌≤◌, ℕ, [], length, slice_get, option_map, OnOk, IfOk};
+    ghost use Rattle.std.specs.Prelude.{◌≡◌, ◌<◌, ◌≤◌, ℕ, [], length, slice_get, option_map, OnOk, IfOk, IfSome};
     ghost use Rattle.sm_bits.specs.Bits.{row};
 
     /// No row.
@@ -27,7 +61,8 @@ impl ByteRows {
         ensures { result ≡ [] }
     {
         ByteRows {
-            rows: IndexSet::new(alloc),
+            rows: Vec::new(alloc),
+            places: IndexMap::new(alloc),
         }
     }
 
@@ -35,20 +70,40 @@ impl ByteRows {
     pub fn get(&self, place: usize) -> Option<&[u8]>
         ensures { option_map (λ r. r.now) result ≡ slice_get self.now place }
     {
-        match self.rows.get_index(place) {
-            Some(row) => Some(row.as_slice()),
+        match self.rows.get(place) {
+            Some(row) => Some(row.bytes()),
             None => None,
         }
     }
 
-    /// The place of a row, which is added where it isn't there yet. The others stay where they are.
-    pub fn place_of(&mut self, bytes: Vec<u8>) -> Result<usize, AllocError>
+    /// The place of a row that came with this number, if it is the same.
+    fn known(&self, digest: u64, bytes: &[u8]) -> Option<usize>
+        ensures inside { IfSome result (λ place. place < length self.now) }
+        ensures same { IfSome result (λ place. row self.now place ≡ bytes.now) }
+    {
+        let place = *self.places.get(&digest)?;
+        if place < self.rows.len() && self.rows[place].bytes() == bytes {
+            return Some(place);
+        }
+        None
+    }
+
+    /// The place of a row, which is added where it isn't there yet. The others stay where they are. The number is
+    /// one that equal rows have in common, such as a digest: it says nothing else, and what is found by it is
+    /// compared.
+    pub fn place_of(&mut self, digest: u64, bytes: Vec<u8>) -> Result<usize, AllocError>
         ensures place { IfOk result (λ place. row self.new place ≡ bytes.items) }
         ensures inside { IfOk result (λ place. place < length self.new) }
         ensures more { OnOk result (length self.old ≤ length self.new) }
         ensures kept { OnOk result ((p : ℕ) → p < length self.old → row self.new p ≡ row self.old p) }
     {
-        let (place, _) = self.rows.insert_full(bytes)?;
+        if let Some(place) = self.known(digest, &bytes) {
+            return Ok(place);
+        }
+        let place = self.rows.len();
+        self.places.insert(digest, place)?;
+        let row = ByteRow::new(bytes);
+        self.rows.push(row)?;
         Ok(place)
     }
 }

@@ -48,6 +48,20 @@ fn bytes_of(
     Ok(bytes)
 }
 
+/// A number that sources with the same targets have in common: it says nothing else.
+fn digest_of(matrices: &Matrices, count: TypeCount, source: usize) -> u64
+    requires number { length matrices.now ≡ 7 }
+    requires square { AllSquare matrices.now count }
+    requires source { source < count }
+{
+    let mut digest = 0u64;
+    for bit in 0..PERM_COUNT {
+        let targets = matrices.targets(bit, source).digest();
+        digest = (digest.rotate_left(5) ^ targets).wrapping_mul(0x9e37_79b9_7f4a_7c15);
+    }
+    digest
+}
+
 /// Whether a source has the targets of the one before it, for each permission.
 fn is_as_before(matrices: &Matrices, count: TypeCount, source: usize) -> bool
     requires number { length matrices.now ≡ 7 }
@@ -90,7 +104,7 @@ fn place_for(
         return Ok(places[source - 1]);
     }
     let bytes = bytes_of(alloc, matrices, count, source)?;
-    rows.place_of(bytes)
+    rows.place_of(digest_of(matrices, count, source), bytes)
 }
 
 /// For each pair of types a byte, with a bit for each permission. A row of equal bytes is kept once.
