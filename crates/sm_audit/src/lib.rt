@@ -3,8 +3,6 @@
 
 mod lines;
 mod ring;
-#[cfg(test)]
-mod tests;
 
 pub use lines::{line, push_line, push_lines};
 pub use ring::{MOST_RECORDS, Ring};

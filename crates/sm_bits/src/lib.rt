@@ -7,8 +7,6 @@ mod bit_row;
 mod byte_bits;
 mod rows;
 mod shared_set;
-#[cfg(test)]
-mod tests;
 
 pub use bit_row::BitRow;
 pub use byte_bits::{has_bit, with_bit};

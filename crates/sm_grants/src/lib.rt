@@ -9,8 +9,6 @@ mod held;
 mod place;
 mod rows;
 mod slots;
-#[cfg(test)]
-mod tests;
 
 pub use grants::Grants;
 pub use held::Held;

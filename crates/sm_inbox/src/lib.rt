@@ -6,7 +6,5 @@
 mod inbox;
 mod inboxes;
 mod places;
-#[cfg(test)]
-mod tests;
 
 pub use inboxes::Inboxes;

@@ -6,8 +6,6 @@
 mod names;
 mod row;
 mod services;
-#[cfg(test)]
-mod tests;
 mod watch_list;
 
 pub use names::Names;

@@ -2,6 +2,8 @@
 #![tactic(auto)]
 
 #[cfg(test)]
+mod bit_rows;
+#[cfg(test)]
 mod declarations;
 #[cfg(test)]
 mod kinds;

@@ -11,8 +11,6 @@
 
 mod roll;
 mod rule;
-#[cfg(test)]
-mod tests;
 
 pub use roll::{Badge, Blank, Naming, Roll};
 pub use rule::{Noted, Shows};

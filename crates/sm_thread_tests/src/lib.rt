@@ -4,4 +4,6 @@
 #[cfg(test)]
 mod door;
 #[cfg(test)]
+mod rolls;
+#[cfg(test)]
 mod server;

@@ -13,8 +13,6 @@
 mod gate;
 pub mod laws;
 mod replies;
-#[cfg(test)]
-mod tests;
 
 pub use gate::{Gate, NoGate};
 pub use replies::{connected, installed, is_death, left, moves};

@@ -1,4 +1,8 @@
-use super::*;
+//! Rows of bits.
+
+ghost use Rattle.std.specs.Prelude.{◌≡◌, ◌<◌, length, IfOk};
+
+use sm_bits::{BitRow, empty_rows};
 use std::alloc::{AllocError, Global};
 use std::test::*;
 
@@ -11,8 +15,6 @@ fn row_of(alloc: Global, first: usize, second: usize) -> Result<BitRow, AllocErr
     row.insert(second);
     Ok(row)
 }
-
-ghost use Rattle.std.specs.Prelude.{◌≡◌, ◌<◌, length, IfOk};
 
 #[test]
 fn sets_of_numbers(rt: HostRuntime) -> Result<(), Fail> {

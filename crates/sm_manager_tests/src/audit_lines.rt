@@ -1,4 +1,6 @@
-use super::*;
+//! The lines of records, and the ring of the newest.
+
+use sm_audit::{Ring, line, push_line, push_lines};
 use sm_history::{Denial, Record};
 use sm_kinds::{Class, Context, Identity, Name, Perms};
 use std::alloc::{AllocError, Global};

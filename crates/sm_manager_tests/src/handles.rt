@@ -1,4 +1,6 @@
-use super::*;
+//! The table of handles.
+
+use sm_grants::Grants;
 use sm_kinds::{ClientId, Node, ObjRef};
 use std::alloc::AllocError;
 use std::test::*;

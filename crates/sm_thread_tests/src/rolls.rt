@@ -3,7 +3,7 @@
 ghost use Rattle.std.specs.Prelude.{◌≡◌};
 ghost use denote.Param.Send.{IsSend, IsSync};
 
-use crate::*;
+use sm_roll::{Badge, Blank, Naming, Roll, Shows};
 use std::marker::Brand;
 use std::process::Abort;
 use std::sync::Wait;

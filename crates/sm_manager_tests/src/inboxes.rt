@@ -1,5 +1,7 @@
-use super::*;
+//! The table of inboxes.
+
 use sm_history::{BoxedDelivery, Delivery, Given, Message};
+use sm_inbox::Inboxes;
 use sm_kinds::Name;
 use std::alloc::{AllocError, Global};
 use std::test::*;

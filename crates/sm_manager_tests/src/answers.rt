@@ -1,8 +1,8 @@
 //! What no contract says: that these calls give what they are called for.
 
-use crate::*;
 use sm_history::{Event, Failure, Outcome, Refusal, Reply};
 use sm_kinds::ClientId;
+use sm_view::{connected, installed, is_death, left, moves};
 use std::process::Abort;
 use std::test::Fail;
 

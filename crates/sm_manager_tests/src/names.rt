@@ -1,6 +1,8 @@
-use super::*;
+//! The table of services and watches.
+
 use sm_history::{Service, Watch};
 use sm_kinds::{ClientId, Name, Node};
+use sm_names::Names;
 use std::alloc::{AllocError, Global};
 use std::test::*;
 

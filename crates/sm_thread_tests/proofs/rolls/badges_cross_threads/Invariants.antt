@@ -1,5 +1,5 @@
 use Rattle.sm_roll.specs.Rolls.{blank_book}
-use Rattle.sm_roll.proofs.tests.badges_cross_threads.Given as goal
+use Rattle.sm_thread_tests.proofs.rolls.badges_cross_threads.Given as goal
 
 -- Any roll.
 abbrev pub ghosts-both_cross : goal.ghosts-both_cross
