@@ -10,9 +10,11 @@ use Rattle.sm_engine.specs.declared.fault.Fault.{Fault}
 use Rattle.sm_engine.specs.declared.fault.Fault.TheVariants as faults
 use Rattle.sm_script.specs.declared.script_fault.ScriptFault.{ScriptFault}
 use Rattle.sm_script.specs.declared.script_fault.ScriptFault.TheVariants.{Policy, Opening, Engine}
+use Rattle.sm_serve.specs.declared.serve_fault.ServeFault.{ServeFault}
+use Rattle.sm_serve.specs.declared.serve_fault.ServeFault.TheVariants as serving
 use Rattle.sm_check.specs.Checking.{refused_line}
 use Rattle.svcmgr.specs.declared.ending.Ending.{Ending}
-use Rattle.svcmgr.specs.declared.ending.Ending.TheVariants.{Memory, File, Script}
+use Rattle.svcmgr.specs.declared.ending.Ending.TheVariants.{Memory, File, Script, Serve}
 
 -- the line for a file: its path, and the words of the operating system
 abbrev pub TellsOfFile : List ℕ → List ℕ → Type 0
@@ -55,8 +57,14 @@ script_line (Policy fault) = refused_line fault
 script_line (Opening refusal) = opening_line refusal
 script_line (Engine fault) = fault_line fault
 
+abbrev pub serve_line : ServeFault → List ℕ
+serve_line serving.AcceptFault = codes "fault: a connection was not accepted\n"
+serve_line serving.NoThread = codes "fault: a thread was not started\n"
+serve_line serving.Memory = no_memory
+
 -- the line says why
 abbrev pub Tells : Ending → List ℕ → Type 0
 Tells Memory line = line ≡ no_memory
 Tells (File path error) line = TellsOfFile path.now line
 Tells (Script fault) line = line ≡ script_line fault
+Tells (Serve fault) line = line ≡ serve_line fault

@@ -10,6 +10,7 @@ use sm_engine::Fault;
 use sm_history::{Denial, Refusal};
 use sm_kinds::{Class, Perms, push_access};
 use sm_script::ScriptFault;
+use sm_serve::ServeFault;
 use std::alloc::{AllocError, Global};
 use std::io::{self, ErrorKind};
 
@@ -25,6 +26,8 @@ pub enum Ending<'a> {
     File { path: &'a str, error: io::Error },
     /// The script was not run, or not to its end; or a check was not written.
     Script(ScriptFault),
+    /// A server ended early.
+    Serve(ServeFault),
 }
 
 impl<'a> From<ScriptFault> for Ending<'a> {
@@ -72,6 +75,7 @@ impl<'a> Ending<'a> {
             Ending::Script(ScriptFault::Engine(fault)) => {
                 Vec::from_slice(alloc, fault_line(*fault))
             }
+            Ending::Serve(fault) => Vec::from_slice(alloc, serve_line(*fault)),
         }
     }
 }
@@ -132,5 +136,15 @@ fn fault_line(fault: Fault) -> &'static [u8]
         Fault::TooManyReads => b"fault: too many reads\n",
         Fault::LineTooLong => b"fault: a line is too long\n",
         Fault::Memory => NO_MEMORY,
+    }
+}
+
+fn serve_line(fault: ServeFault) -> &'static [u8]
+    ensures { result.now ≡ spec.serve_line fault }
+{
+    match fault {
+        ServeFault::AcceptFault => b"fault: a connection was not accepted\n",
+        ServeFault::NoThread => b"fault: a thread was not started\n",
+        ServeFault::Memory => NO_MEMORY,
     }
 }

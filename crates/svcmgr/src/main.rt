@@ -1,38 +1,49 @@
 //! The program `svcmgr`: a service manager on the command line.
 #![tactic(auto)]
 
+mod daemon;
 mod ending;
 mod files;
 mod options;
+mod sockets;
 #[cfg(test)]
 mod tests;
 
 use clap::error::ErrorKind;
+use daemon::serve_policy;
 use ending::{Ending, NO_MEMORY};
-use options::{Mode, Options, options_of, words_of};
+use options::{Mode, Options, Sockets, options_of, words_of};
 use sm_check::check;
 use sm_engine::Counted;
-use sm_script::run_script;
+use sm_policy::Prepared;
+use sm_script::{ScriptFault, run_script};
 use std::process::ExitCode;
+use std::rt::{Files, Net};
+use std::sync::Wait;
+use std::thread::Threads;
 
 /// The greatest number of reads of one run.
 const BOUND: u32 = 16_777_216;
 
 fn main(rt: HostRuntime) -> ExitCode {
     match words_of(&rt) {
-        Ok(words) => answer(&rt, words.as_slice()),
+        Ok(words) => answer(&rt, &rt, words.as_slice()),
         Err(error) => misuse(&rt, &error),
     }
 }
 
-/// Does what the words ask for.
-fn answer(rt: &HostRuntime, words: &[String]) -> ExitCode {
-    match options_of(rt.alloc(), words) {
-        Ok(options) => match perform(rt, &options) {
+/// Does what the words ask for. The second handle is the same one, for what starts threads and waits.
+fn answer<R: Files + Net + Threads + Wait + Sync>(
+    host: &HostRuntime,
+    rt: &R,
+    words: &[String],
+) -> ExitCode {
+    match options_of(host.alloc(), words) {
+        Ok(options) => match perform(host, rt, &options) {
             Ok(code) => code,
-            Err(ending) => fail(rt, &ending),
+            Err(ending) => fail(host, &ending),
         },
-        Err(error) => misuse(rt, &error),
+        Err(error) => misuse(host, &error),
     }
 }
 
@@ -55,10 +66,15 @@ fn fail(rt: &HostRuntime, ending: &Ending) -> ExitCode {
     ExitCode::FAILURE
 }
 
-fn perform<'a>(rt: &HostRuntime, options: &Options<'a>) -> Result<ExitCode, Ending<'a>> {
+fn perform<'a, R: Files + Net + Threads + Wait + Sync>(
+    host: &HostRuntime,
+    rt: &R,
+    options: &Options<'a>,
+) -> Result<ExitCode, Ending<'a>> {
     match options.mode {
-        Mode::Run => serve_script(rt, options),
-        Mode::Check => check_policy(rt, options),
+        Mode::Run => serve_script(host, options),
+        Mode::Check => check_policy(host, options),
+        Mode::Serve(sockets) => serve_sockets(host, rt, options, sockets),
     }
 }
 
@@ -84,6 +100,23 @@ fn serve_script<'a>(rt: &HostRuntime, options: &Options<'a>) -> Result<ExitCode,
         &mut writer,
         &mut audit,
     )?;
+    Ok(ExitCode::SUCCESS)
+}
+
+/// Serves clients and administrators over sockets, until it is killed or a fault ends it.
+fn serve_sockets<'a, R: Files + Net + Threads + Wait + Sync>(
+    host: &HostRuntime,
+    rt: &R,
+    options: &Options<'a>,
+    sockets: Sockets<'a>,
+) -> Result<ExitCode, Ending<'a>> {
+    let rules = text_of(host, options.rules)?;
+    let contexts = text_of(host, options.contexts)?;
+    let policy = match Prepared::from_texts(host.alloc(), &rules, &contexts) {
+        Ok(policy) => policy,
+        Err(fault) => return Err(Ending::Script(ScriptFault::Policy(fault))),
+    };
+    serve_policy(host, rt, policy, options.places, sockets)?;
     Ok(ExitCode::SUCCESS)
 }
 

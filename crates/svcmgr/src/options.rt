@@ -11,18 +11,31 @@ use std::{env, io};
 
 /// What the program is to do.
 #[derive(Clone, Copy, Debug, PartialEq, Eq)]
-pub enum Mode {
+pub enum Mode<'a> {
     /// `svcmgr run [--journal N] RULES CONTEXTS`
     Run,
     /// `svcmgr check RULES CONTEXTS`
     Check,
+    /// `svcmgr serve [--journal N] [--workers W] --socket PATH --admin PATH RULES CONTEXTS`
+    Serve(Sockets<'a>),
+}
+
+/// Where a server listens, and with how many threads it serves clients.
+#[derive(Clone, Copy, Debug, PartialEq, Eq)]
+pub struct Sockets<'a> {
+    /// The path of the clients' socket.
+    pub clients: &'a str,
+    /// The path of the administrators' socket.
+    pub admins: &'a str,
+    /// 1 to 64 threads, each of which serves one client at a time.
+    pub workers: u32,
 }
 
 /// What the command line asks for.
 #[derive(Drop)]
 pub struct Options<'a> {
-    pub mode: Mode,
-    /// The places of the journal of a run.
+    pub mode: Mode<'a>,
+    /// The places of the journal of a run or a server.
     pub places: Places,
     pub rules: &'a str,
     pub contexts: &'a str,
@@ -47,32 +60,64 @@ fn with_files<'a>(alloc: Global, command: Command<'a>) -> Result<Command<'a>, Er
     )
 }
 
+fn journal<'a>(alloc: Global) -> Arg<'a> {
+    Arg::new(alloc, "journal")
+        .long("journal")
+        .value_name("N")
+        .help("The places of the journal, 2 to 1048576")
+        .value_parser(value_parser!(u32).range(2..=1_048_576))
+        .default_value("1048576")
+}
+
+fn workers<'a>(alloc: Global) -> Arg<'a> {
+    Arg::new(alloc, "workers")
+        .long("workers")
+        .value_name("W")
+        .help("How many clients are served at once, 1 to 64")
+        .value_parser(value_parser!(u32).range(1..=64))
+        .default_value("16")
+}
+
+fn socket<'a>(alloc: Global, name: &'a str, help: &'a str) -> Arg<'a> {
+    Arg::new(alloc, name)
+        .long(name)
+        .value_name("PATH")
+        .help(help)
+        .required(true)
+}
+
+fn serve<'a>(alloc: Global) -> Result<Command<'a>, Error> {
+    Ok(
+        Command::new(alloc, "serve")
+            .about("Serves clients and administrators over Unix sockets")
+            .arg(journal(alloc))?
+            .arg(workers(alloc))?
+            .arg(socket(alloc, "socket", "The clients' socket"))?
+            .arg(socket(alloc, "admin", "The administrators' socket"))?,
+    )
+}
+
 fn command<'a>(alloc: Global) -> Result<Command<'a>, Error> {
     let run = Command::new(alloc, "run")
         .about("Runs a script from standard input")
-        .arg(
-            Arg::new(alloc, "journal")
-                .long("journal")
-                .value_name("N")
-                .help("The places of the journal, 2 to 1048576")
-                .value_parser(value_parser!(u32).range(2..=1_048_576))
-                .default_value("1048576"),
-        )?;
+        .arg(journal(alloc))?;
+    let serve = serve(alloc)?;
     let check = Command::new(alloc, "check").about("Tells whether a policy is accepted");
     Ok(
         Command::new(alloc, "svcmgr")
             .about("A service manager with SELinux access control")
             .subcommand_required(true)
             .subcommand(with_files(alloc, run)?)?
-            .subcommand(with_files(alloc, check)?)?,
+            .subcommand(with_files(alloc, check)?)?
+            .subcommand(with_files(alloc, serve)?)?,
     )
 }
 
-fn in_mode<'a>(mode: Mode, matches: &ArgMatches<'a>) -> Option<Options<'a>>
-    ensures { IfSome result (λ options. options.mode ≡ mode) }
+fn in_mode<'a>(mode: Mode<'a>, matches: &ArgMatches<'a>) -> Option<Options<'a>>
+    ensures { IfSome result (λ options. options.mode ≡ mode.exit) }
 {
     let entries = match mode {
-        Mode::Run => matches.get_one::<u32>("journal")?,
+        Mode::Run | Mode::Serve(_) => matches.get_one::<u32>("journal")?,
         Mode::Check => 1_048_576,
     };
     Some(Options {
@@ -80,6 +125,18 @@ fn in_mode<'a>(mode: Mode, matches: &ArgMatches<'a>) -> Option<Options<'a>>
         places: Places::new(entries)?,
         rules: matches.get_str("rules")?,
         contexts: matches.get_str("contexts")?,
+    })
+}
+
+fn served<'a>(matches: &ArgMatches<'a>) -> Option<Options<'a>> {
+    in_mode(Mode::Serve(sockets_of(matches)?), matches)
+}
+
+fn sockets_of<'a>(matches: &ArgMatches<'a>) -> Option<Sockets<'a>> {
+    Some(Sockets {
+        clients: matches.get_str("socket")?,
+        admins: matches.get_str("admin")?,
+        workers: matches.get_one::<u32>("workers")?,
     })
 }
 
@@ -104,6 +161,7 @@ pub fn options_of<'a>(alloc: Global, words: &'a [String]) -> Result<Options<'a>,
     let options = match matches.subcommand() {
         Some(("run", run)) => in_mode(Mode::Run, run),
         Some(("check", check)) => in_mode(Mode::Check, check),
+        Some(("serve", serve)) => served(serve),
         _ => None,
     };
     match options {

@@ -3,7 +3,7 @@
 ghost use Rattle.std.specs.Prelude.{◌≡◌};
 
 use crate::ending::Ending;
-use crate::options::{Mode, options_of, words_of};
+use crate::options::{Mode, Sockets, options_of, words_of};
 use clap::error::ErrorKind;
 use std::alloc::Global;
 use std::env::{Env, FillError};
@@ -38,6 +38,30 @@ fn accepted_command_lines(rt: HostRuntime) -> Result<(), Fail> {
     Ok(())
 }
 
+#[test]
+fn sockets_of_a_server(rt: HostRuntime) -> Result<(), Fail> {
+    let lines = [
+        ("svcmgr serve --socket s --admin a r c", 16, 1_048_576),
+        (
+            "svcmgr serve --workers 64 --journal 2 --admin a --socket s r c",
+            64,
+            2,
+        ),
+    ];
+    for (line, workers, places) in lines {
+        let words = words(rt.alloc(), line)?;
+        let options = options_of(rt.alloc(), &words)?;
+        let wanted = Sockets {
+            clients: "s",
+            admins: "a",
+            workers,
+        };
+        assert!(rt; options.mode == Mode::Serve(wanted));
+        assert_eq!(rt; options.places.entries(), places);
+    }
+    Ok(())
+}
+
 fn refusal(rt: &impl Abort, alloc: Global, line: &str) -> Result<ErrorKind, Fail> {
     let words = words(alloc, line)?;
     let error = options_of(alloc, &words).err().expect(rt, "a refusal");
@@ -57,6 +81,20 @@ fn other_command_lines(rt: HostRuntime) -> Result<(), Fail> {
             ErrorKind::ValueValidation,
         ),
         ("svcmgr check --journal 2 r c", ErrorKind::UnknownArgument),
+        ("svcmgr serve r c", ErrorKind::MissingRequiredArgument),
+        (
+            "svcmgr serve --socket s r c",
+            ErrorKind::MissingRequiredArgument,
+        ),
+        (
+            "svcmgr serve --workers 0 --socket s --admin a r c",
+            ErrorKind::ValueValidation,
+        ),
+        (
+            "svcmgr serve --workers 65 --socket s --admin a r c",
+            ErrorKind::ValueValidation,
+        ),
+        ("svcmgr run --workers 2 r c", ErrorKind::UnknownArgument),
         ("svcmgr --help", ErrorKind::DisplayHelp),
     ];
     for (line, kind) in lines {
