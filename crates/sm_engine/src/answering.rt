@@ -39,15 +39,25 @@ pub fn answer_items<M: Machine, W: Write, A: Write>(
 {
     let mut replies = Vec::new(alloc);
     let mut lines = Vec::new(alloc);
-    let limit = machine.hold_limit();
     for item in items {
         machine.answer(item, &mut replies, &mut lines)?;
+        let limit = machine.hold_limit();
         spill(writer, limit, &mut replies)?;
         spill(audit, limit, &mut lines)?;
-        machine.written();
+        tell_written(machine, &replies);
     }
     write_held(writer, &mut replies)?;
+    machine.written();
     write_held(audit, &mut lines)
+}
+
+/// Tells the machine that its replies are written, if none is held.
+fn tell_written<M: Machine>(machine: &mut M, held: &[u8])
+    ensures { machine.new ≡ machine.old }
+{
+    if held.is_empty() {
+        machine.written();
+    }
 }
 
 /// Writes what is held once it has so many bytes.

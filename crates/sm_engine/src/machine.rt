@@ -34,10 +34,11 @@ pub trait Machine {
     fn is_over(&self) -> bool
         ensures { result ≡ over self.now };
 
-    /// Below so many bytes, a text may wait for the items that are read already. With 0 none waits.
+    /// Below so many bytes, the texts of the answers so far may wait for those to the items that are read already. With 0
+    /// none waits.
     fn hold_limit(&self) -> usize;
 
-    /// Tells, after each answer, that its texts are written, if they may not wait.
+    /// Tells that the replies to all items so far are written.
     fn written(&mut self)
         ensures { self.new ≡ self.old };
 }

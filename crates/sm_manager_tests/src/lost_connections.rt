@@ -96,7 +96,8 @@ impl Connection {
         true
     }
 
-    // The Nth write fails, one byte a write. Whether there was an Nth write.
+    // The Nth write fails, one byte a write. All lines came together, so the replies to them are written when all are
+    // asked. Whether there was an Nth write.
     fn write_fails(&self, rt: &impl Abort, alloc: Global, policy: &Prepared, n: u32) -> bool {
         let writer = FailAt {
             inner: OneByte(Vec::new(alloc)),
@@ -108,7 +109,7 @@ impl Connection {
         let failures = left.writer.failures();
         let replies = left.writer.into_inner().inner.0;
         assert!(rt; self.said.wanted.starts_with(&replies));
-        assert_eq!(rt; left.desk.ends, u32::from(replies.len() >= self.before));
+        assert_eq!(rt; left.desk.ends, u32::from(self.kind == Kind::Client));
         assert!(rt; left.desk.client.is_none());
         if left.ending.is_ok() {
             return false;

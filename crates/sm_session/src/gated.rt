@@ -11,13 +11,17 @@ use sm_wire::{Item, Kind};
 use std::alloc::{AllocError, Global};
 use std::marker::Model;
 
+/// So many bytes of replies are written at once.
+const HELD_LIMIT: usize = 8192;
+
 /// A sitting that tells a gate of each line that it asks.
 pub struct Gated<'a, D: Desk, G> {
     alloc: Global,
     sitting: Sitting<D>,
     gate: &'a G,
     line: u64,
-    entered: bool,
+    // The lines that were asked and whose replies aren't written yet.
+    unwritten: Vec<u64>,
 }
 
 impl<'a, D: Desk, G> Model for Gated<'a, D, G> {
@@ -46,7 +50,7 @@ impl<'a, D: Desk, G: Gate> Gated<'a, D, G> {
             },
             gate,
             line: 0,
-            entered: false,
+            unwritten: Vec::new(alloc),
         }
     }
 
@@ -59,7 +63,7 @@ impl<'a, D: Desk, G: Gate> Gated<'a, D, G> {
             sitting,
             gate: _,
             line: _,
-            entered: _,
+            unwritten: _,
         } = self;
         let Sitting {
             kind: _,
@@ -88,8 +92,10 @@ impl<'a, D: Desk, G: Gate> Machine for Gated<'a, D, G> {
         _audit: &mut Vec<u8>,
     ) -> Result<(), AllocError> {
         self.line = self.line.saturating_add(1);
-        self.entered = self.sitting.will_ask(&item);
-        enter(self.gate, self.entered, self.line);
+        if self.sitting.will_ask(&item) {
+            self.unwritten.push(self.line)?;
+            self.gate.enter(self.line);
+        }
         self.sitting.take(self.alloc, item, replies)
     }
 
@@ -97,25 +103,15 @@ impl<'a, D: Desk, G: Gate> Machine for Gated<'a, D, G> {
         self.sitting.over
     }
 
-    // A reply is written before the next line is asked.
+    // Replies wait for those to the lines that came with theirs.
     fn hold_limit(&self) -> usize {
-        0
+        HELD_LIMIT
     }
 
     fn written(&mut self) {
-        leave(self.gate, self.entered, self.line);
-        self.entered = false;
-    }
-}
-
-fn enter<G: Gate>(gate: &G, is_asked: bool, line: u64) {
-    if is_asked {
-        gate.enter(line);
-    }
-}
-
-fn leave<G: Gate>(gate: &G, was_asked: bool, line: u64) {
-    if was_asked {
-        gate.leave(line);
+        for line in &self.unwritten {
+            self.gate.leave(*line);
+        }
+        self.unwritten.clear();
     }
 }

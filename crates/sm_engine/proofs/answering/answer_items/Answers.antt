@@ -35,7 +35,7 @@ loop-item-preserved g c = record {
   can = tt;
   finite = tt;
   left = sym (joined _ _ _ _ _ c.loop-item.invariant.left c.in-Some.ensures.steps.0);
-  going = rw c.written.ensures (going_spill (going_answer c.loop-item.invariant.going c.in_ok-answer.ensures.ok)
+  going = rw c.tell_written.ensures (going_spill (going_answer c.loop-item.invariant.going c.in_ok-answer.ensures.ok)
       c.in_ok-spill.ensures.ok c.in_ok-spill-2.ensures.ok);
   writer_count = c.in_ok-spill.ensures.count ∙ c.loop-item.invariant.writer_count;
   audit_count = c.in_ok-spill-2.ensures.count ∙ c.loop-item.invariant.audit_count;
@@ -58,11 +58,11 @@ pub returns-clause-ok : goal.returns-clause-ok
 returns-clause-ok g c =
     let it = c.loop-item.item-iterator in
     let empty : length (into_iter_items it) ≡ 0 = omega (arith, it.rest.ok.0, c.in-None.ensures.steps.0) in
-    on_ok_weaker c.write_held-2.result (λ p. going_end c.loop-item.invariant.going _ _
-    c.in_ok-write_held.ensures.ok p _ (none _ _ _ c.loop-item.invariant.left empty)) c.write_held-2.ensures.ok
+    rw c.written.ensures (on_ok_weaker c.write_held-2.result (λ p. going_end c.loop-item.invariant.going _ _
+    c.in_ok-write_held.ensures.ok p _ (none _ _ _ c.loop-item.invariant.left empty)) c.write_held-2.ensures.ok)
 
 pub returns-clause-err : goal.returns-clause-err
 returns-clause-err g c =
-    on_err_weaker c.write_held-2.result (λ f. going_fail_audit c.loop-item.invariant.going _ _
+    rw c.written.ensures (on_err_weaker c.write_held-2.result (λ f. going_fail_audit c.loop-item.invariant.going _ _
     (Spilled-all _ _ _ _ c.in_ok-write_held.ensures.held c.in_ok-write_held.ensures.ok) _ f.0 f.1 _ _
-    (sym c.loop-item.invariant.left)) c.write_held-2.ensures.front
+    (sym c.loop-item.invariant.left)) c.write_held-2.ensures.front)
