@@ -9,7 +9,6 @@ use sm_wire::Kind;
 use std::alloc::Global;
 use std::io::{Read, Write};
 use std::process::Abort;
-use std::test::Fail;
 
 /// What a connection left.
 #[derive(Drop)]
@@ -75,8 +74,8 @@ pub fn holds_at(
     kind: Kind,
     desk: ManagerDesk,
     talk: Talk,
-) -> Result<ManagerDesk, Fail> {
+) -> ManagerDesk {
     let mut said = Said::new(alloc);
-    said.talk(talk)?;
-    Ok(hears(rt, alloc, kind, desk, &said))
+    said.talk(talk).ok().expect(rt, "memory");
+    hears(rt, alloc, kind, desk, &said)
 }

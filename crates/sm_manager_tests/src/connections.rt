@@ -31,12 +31,12 @@ fn device_desk(rt: &impl Abort, alloc: Global, places: u32) -> ManagerDesk {
 }
 
 // The same, where a client beside the connections has put a service under `activity`.
-fn desk_with_activity(rt: &impl Abort, alloc: Global) -> Result<ManagerDesk, Fail> {
+fn desk_with_activity(rt: &impl Abort, alloc: Global) -> ManagerDesk {
     let mut desk = device_desk(rt, alloc, 1000);
     let connect = Event::Connect(server(rt, alloc));
     assert!(rt; desk.does(By::Manager, connect));
-    assert!(rt; desk.does(By::Client(ClientId(1)), add(alloc)?));
-    Ok(desk)
+    assert!(rt; desk.does(By::Client(ClientId(1)), add(rt, alloc)));
+    desk
 }
 
 // After `bye` nothing is answered.
@@ -87,13 +87,12 @@ const WHAT_IT_WAS_DENIED: Talk = &[
 ];
 
 #[test]
-fn an_administrator_reads_what_a_client_was_denied(rt: HostRuntime) -> Result<(), Fail> {
+fn an_administrator_reads_what_a_client_was_denied(rt: HostRuntime) {
     let alloc = rt.alloc();
-    let desk = desk_with_activity(&rt, alloc)?;
-    let desk = holds_at(&rt, alloc, Kind::Client, desk, AN_APPLICATION)?;
-    let desk = holds_at(&rt, alloc, Kind::Admin, desk, WHAT_IT_WAS_DENIED)?;
+    let desk = desk_with_activity(&rt, alloc);
+    let desk = holds_at(&rt, alloc, Kind::Client, desk, AN_APPLICATION);
+    let desk = holds_at(&rt, alloc, Kind::Admin, desk, WHAT_IT_WAS_DENIED);
     assert_eq!(rt; desk.ends, 1);
-    Ok(())
 }
 
 const A_WATCHER: Talk = &[
@@ -127,14 +126,13 @@ const ANOTHER_SERVER: Talk = &[
 ];
 
 #[test]
-fn clients_beside_another(rt: HostRuntime) -> Result<(), Fail> {
+fn clients_beside_another(rt: HostRuntime) {
     let alloc = rt.alloc();
     for talk in [A_WATCHER, A_CALLER, AN_ISOLATED_PROCESS, ANOTHER_SERVER] {
-        let desk = desk_with_activity(&rt, alloc)?;
-        let desk = holds_at(&rt, alloc, Kind::Client, desk, talk)?;
+        let desk = desk_with_activity(&rt, alloc);
+        let desk = holds_at(&rt, alloc, Kind::Client, desk, talk);
         assert_eq!(rt; desk.ends, 1);
     }
-    Ok(())
 }
 
 /// An administrator's connection: a refused policy, one that is accepted, one that comes too late.
@@ -246,15 +244,14 @@ const NOT_OF_AN_ADMINISTRATOR: Talk = &[
 ];
 
 #[test]
-fn lines_out_of_their_place(rt: HostRuntime) -> Result<(), Fail> {
+fn lines_out_of_their_place(rt: HostRuntime) {
     let alloc = rt.alloc();
     let desk = device_desk(&rt, alloc, 1000);
-    let desk = holds_at(&rt, alloc, Kind::Client, desk, BEFORE_A_HELLO)?;
-    let desk = holds_at(&rt, alloc, Kind::Admin, desk, NOT_OF_AN_ADMINISTRATOR)?;
+    let desk = holds_at(&rt, alloc, Kind::Client, desk, BEFORE_A_HELLO);
+    let desk = holds_at(&rt, alloc, Kind::Admin, desk, NOT_OF_AN_ADMINISTRATOR);
     assert_eq!(rt; desk.ends, 0);
-    let desk = holds_at(&rt, alloc, Kind::Client, desk, NOT_OF_A_CLIENT)?;
+    let desk = holds_at(&rt, alloc, Kind::Client, desk, NOT_OF_A_CLIENT);
     assert_eq!(rt; desk.ends, 1);
-    Ok(())
 }
 
 const A_LOST_SERVER: Talk = &[
@@ -271,14 +268,13 @@ const AFTER_A_LOST_SERVER: Talk = &[
 
 // The services of a client that says no `bye` go with its connection.
 #[test]
-fn a_service_goes_with_its_connection(rt: HostRuntime) -> Result<(), Fail> {
+fn a_service_goes_with_its_connection(rt: HostRuntime) {
     let alloc = rt.alloc();
     let desk = device_desk(&rt, alloc, 1000);
-    let desk = holds_at(&rt, alloc, Kind::Client, desk, A_LOST_SERVER)?;
+    let desk = holds_at(&rt, alloc, Kind::Client, desk, A_LOST_SERVER);
     assert!(rt; desk.client.is_none());
-    let desk = holds_at(&rt, alloc, Kind::Client, desk, AFTER_A_LOST_SERVER)?;
+    let desk = holds_at(&rt, alloc, Kind::Client, desk, AFTER_A_LOST_SERVER);
     assert_eq!(rt; desk.ends, 2);
-    Ok(())
 }
 
 const ONE_CLIENT_TOO_MANY: Talk = &[
@@ -297,19 +293,18 @@ const ONE_CLIENT_TOO_MANY: Talk = &[
 const ANOTHER_CLIENT: Talk = &[("hello 100 1000 u:r:system_server:s0", "client 65")];
 
 #[test]
-fn one_client_too_many(rt: HostRuntime) -> Result<(), Fail> {
+fn one_client_too_many(rt: HostRuntime) {
     let alloc = rt.alloc();
     let mut desk = device_desk(&rt, alloc, 1000);
     for _ in 0..64 {
         let connect = Event::Connect(server(&rt, alloc));
         assert!(rt; desk.does(By::Manager, connect));
     }
-    let mut desk = holds_at(&rt, alloc, Kind::Client, desk, ONE_CLIENT_TOO_MANY)?;
+    let mut desk = holds_at(&rt, alloc, Kind::Client, desk, ONE_CLIENT_TOO_MANY);
     assert_eq!(rt; desk.ends, 0);
     assert!(rt; desk.does(By::Client(ClientId(1)), Event::Die));
-    let desk = holds_at(&rt, alloc, Kind::Client, desk, ANOTHER_CLIENT)?;
+    let desk = holds_at(&rt, alloc, Kind::Client, desk, ANOTHER_CLIENT);
     assert_eq!(rt; desk.ends, 1);
-    Ok(())
 }
 
 const ONE_CHANGE_TOO_MANY: Talk = &[
@@ -328,14 +323,13 @@ const NO_PLACE_FOR_A_CLIENT: Talk = &[(
 const THE_JOURNAL_IS_FULL: Talk = &[("version", "version 1 4")];
 
 #[test]
-fn a_full_journal(rt: HostRuntime) -> Result<(), Fail> {
+fn a_full_journal(rt: HostRuntime) {
     let alloc = rt.alloc();
     let desk = device_desk(&rt, alloc, 4);
-    let desk = holds_at(&rt, alloc, Kind::Client, desk, ONE_CHANGE_TOO_MANY)?;
-    let desk = holds_at(&rt, alloc, Kind::Client, desk, NO_PLACE_FOR_A_CLIENT)?;
-    let desk = holds_at(&rt, alloc, Kind::Admin, desk, THE_JOURNAL_IS_FULL)?;
+    let desk = holds_at(&rt, alloc, Kind::Client, desk, ONE_CHANGE_TOO_MANY);
+    let desk = holds_at(&rt, alloc, Kind::Client, desk, NO_PLACE_FOR_A_CLIENT);
+    let desk = holds_at(&rt, alloc, Kind::Admin, desk, THE_JOURNAL_IS_FULL);
     assert_eq!(rt; desk.ends, 1);
-    Ok(())
 }
 
 // The end of the connection takes the place that was kept for the client's death.
@@ -348,8 +342,8 @@ fn a_connection_cut_inside_a_line(rt: HostRuntime) -> Result<(), Fail> {
     said.wanted.extend_from_slice(b"fault cut\n")?;
     let desk = hears(&rt, alloc, Kind::Client, device_desk(&rt, alloc, 4), &said);
     assert_eq!(rt; desk.ends, 1);
-    let desk = holds_at(&rt, alloc, Kind::Client, desk, NO_PLACE_FOR_A_CLIENT)?;
-    let desk = holds_at(&rt, alloc, Kind::Admin, desk, THE_JOURNAL_IS_FULL)?;
+    let desk = holds_at(&rt, alloc, Kind::Client, desk, NO_PLACE_FOR_A_CLIENT);
+    let desk = holds_at(&rt, alloc, Kind::Admin, desk, THE_JOURNAL_IS_FULL);
     assert_eq!(rt; desk.ends, 1);
     Ok(())
 }
@@ -367,6 +361,6 @@ fn a_line_too_long(rt: HostRuntime) -> Result<(), Fail> {
     let (desk, ending) = ending_at(&rt, alloc, Kind::Client, desk, &said);
     assert!(rt; matches!(ending, Err(Fault::LineTooLong)));
     assert_eq!(rt; desk.ends, 1);
-    holds_at(&rt, alloc, Kind::Client, desk, AFTER_A_LOST_SERVER)?;
+    holds_at(&rt, alloc, Kind::Client, desk, AFTER_A_LOST_SERVER);
     Ok(())
 }

@@ -2,7 +2,7 @@
 
 use sm_grants::Grants;
 use sm_kinds::{ClientId, Node, ObjRef};
-use std::alloc::AllocError;
+use std::process::Abort;
 use std::test::*;
 
 fn object(owner: u32, object: u32) -> Node {
@@ -13,83 +13,81 @@ fn object(owner: u32, object: u32) -> Node {
 }
 
 /// A grant as the manager makes it: 0 where there is no room.
-fn give(grants: &mut Grants, client: u32, node: Node) -> Result<u32, AllocError> {
-    grants.reserve(client, 1)?;
+fn give(rt: &impl Abort, grants: &mut Grants, client: u32, node: Node) -> u32 {
+    grants.reserve(client, 1).ok().expect(rt, "memory");
     if grants.is_ready(client, node) {
-        Ok(grants.grant(client, node))
+        grants.grant(client, node)
     } else {
-        Ok(0)
+        0
     }
 }
 
 #[test]
-fn numbers_are_used_again(rt: HostRuntime) -> Result<(), Fail> {
+fn numbers_are_used_again(rt: HostRuntime) {
     let mut grants = Grants::new(rt.alloc());
     assert!(rt; grants.number_for(7, object(1, 5)) == 1);
-    assert!(rt; give(&mut grants, 7, object(1, 5))? == 1);
-    assert!(rt; give(&mut grants, 7, object(1, 6))? == 2);
-    assert!(rt; give(&mut grants, 7, object(1, 5))? == 1);
-    assert!(rt; give(&mut grants, 7, object(2, 5))? == 3);
+    assert!(rt; give(&rt, &mut grants, 7, object(1, 5)) == 1);
+    assert!(rt; give(&rt, &mut grants, 7, object(1, 6)) == 2);
+    assert!(rt; give(&rt, &mut grants, 7, object(1, 5)) == 1);
+    assert!(rt; give(&rt, &mut grants, 7, object(2, 5)) == 3);
     assert!(rt; grants.release(7, 1).is_some());
     assert!(rt; grants.node(7, 1).is_some());
     assert!(rt; grants.release(7, 1).is_some());
     assert!(rt; grants.release(7, 1).is_none());
     assert!(rt; grants.resolve(7, ObjRef::Handle(1)).is_none());
     assert!(rt; grants.resolve(7, ObjRef::Own(4)) == Some(object(7, 4)));
-    assert!(rt; give(&mut grants, 7, object(3, 5))? == 1);
+    assert!(rt; give(&rt, &mut grants, 7, object(3, 5)) == 1);
     assert!(rt; grants.node(7, 1) == Some(object(3, 5)));
     grants.forget(7);
     assert!(rt; grants.node(7, 1).is_none());
     assert!(rt; grants.number_for(7, object(2, 5)) == 1);
-    Ok(())
 }
 
 #[test]
-fn holders_of_an_object(rt: HostRuntime) -> Result<(), Fail> {
+fn holders_of_an_object(rt: HostRuntime) {
     let mut grants = Grants::new(rt.alloc());
     let node = object(1, 5);
-    let _ = give(&mut grants, 7, node)?;
-    let _ = give(&mut grants, 8, node)?;
-    let _ = give(&mut grants, 9, object(1, 6))?;
+    let _ = give(&rt, &mut grants, 7, node);
+    let _ = give(&rt, &mut grants, 8, node);
+    let _ = give(&rt, &mut grants, 9, object(1, 6));
     assert!(rt; grants.holders(node, 1) == 2);
     assert!(rt; grants.holders(node, 7) == 1);
     let _ = grants.release(8, 1);
     assert!(rt; grants.holders(node, 7) == 0);
-    Ok(())
 }
 
 #[test]
-fn references_of_a_call(rt: HostRuntime) -> Result<(), Fail> {
+fn references_of_a_call(rt: HostRuntime) {
     let mut grants = Grants::new(rt.alloc());
     for i in 1..5 {
-        let _ = give(&mut grants, 7, object(1, i))?;
+        let _ = give(&rt, &mut grants, 7, object(1, i));
     }
     let _ = grants.release(7, 2);
     let nodes = [object(2, 1), object(1, 3), object(2, 2), object(2, 1)];
-    let numbers = grants.numbers(rt.alloc(), 7, &nodes)?;
+    let numbers = grants.numbers(rt.alloc(), 7, &nodes).ok();
+    let numbers = numbers.expect(&rt, "memory");
     assert!(rt; numbers.as_slice() == [2, 3, 5, 2].as_slice());
-    let others = grants.numbers(rt.alloc(), 8, &nodes)?;
+    let others = grants.numbers(rt.alloc(), 8, &nodes).ok();
+    let others = others.expect(&rt, "memory");
     assert!(rt; others.as_slice() == [1, 2, 3, 1].as_slice());
     assert!(rt; grants.room(7, &nodes) && grants.room(8, &[]));
-    Ok(())
 }
 
 #[test]
-fn a_full_row(rt: HostRuntime) -> Result<(), Fail> {
+fn a_full_row(rt: HostRuntime) {
     let mut grants = Grants::new(rt.alloc());
     for i in 0..65_536u32 {
-        let _ = give(&mut grants, 7, object(1, i.reverse_bits()))?;
+        let _ = give(&rt, &mut grants, 7, object(1, i.reverse_bits()));
     }
     assert!(rt; grants.node(7, 65_536) == Some(object(1, 65_535u32.reverse_bits())));
     assert!(rt; grants.number_for(7, object(2, 1)) == 65_537);
     assert!(rt; !grants.fits(7, object(2, 1)) && grants.fits(7, object(1, 0)));
-    assert!(rt; give(&mut grants, 7, object(2, 1))? == 0);
+    assert!(rt; give(&rt, &mut grants, 7, object(2, 1)) == 0);
     let _ = grants.release(7, 40_000);
     let _ = grants.release(7, 300);
     assert!(rt; grants.room(7, &[object(2, 1), object(2, 2), object(2, 1)]));
     assert!(rt; !grants.room(7, &[object(2, 1), object(2, 2), object(2, 3)]));
-    assert!(rt; give(&mut grants, 7, object(2, 1))? == 300);
-    assert!(rt; give(&mut grants, 7, object(2, 2))? == 40_000);
-    assert!(rt; give(&mut grants, 7, object(2, 3))? == 0);
-    Ok(())
+    assert!(rt; give(&rt, &mut grants, 7, object(2, 1)) == 300);
+    assert!(rt; give(&rt, &mut grants, 7, object(2, 2)) == 40_000);
+    assert!(rt; give(&rt, &mut grants, 7, object(2, 3)) == 0);
 }

@@ -3,11 +3,12 @@
 use sm_history::{BoxedDelivery, Delivery, Given, Message};
 use sm_inbox::Inboxes;
 use sm_kinds::Name;
-use std::alloc::{AllocError, Global};
+use std::alloc::Global;
+use std::process::Abort;
 use std::test::*;
 
-fn delivery(alloc: Global, object: u32) -> Result<BoxedDelivery, AllocError> {
-    let name = Name::new(alloc, b"power")?;
+fn delivery(rt: &impl Abort, alloc: Global, object: u32) -> BoxedDelivery {
+    let name = Name::new(alloc, b"power").ok().expect(rt, "a name");
     let delivery = Delivery {
         object,
         what: Message::Registered {
@@ -15,23 +16,25 @@ fn delivery(alloc: Global, object: u32) -> Result<BoxedDelivery, AllocError> {
             given: Given::Null,
         },
     };
-    BoxedDelivery::new(alloc, delivery)
+    let boxed = BoxedDelivery::new(alloc, delivery);
+    boxed.ok().expect(rt, "memory")
 }
 
 /// A delivery as the manager makes it, if there is room for it.
 fn deliver(
+    rt: &impl Abort,
     inboxes: &mut Inboxes,
     alloc: Global,
     client: u32,
     object: u32,
-) -> Result<bool, AllocError> {
-    inboxes.reserve(client)?;
+) -> bool {
+    inboxes.reserve(client).ok().expect(rt, "memory");
     if !inboxes.can_put(client) {
-        return Ok(false);
+        return false;
     }
-    let delivery = delivery(alloc, object)?;
+    let delivery = delivery(rt, alloc, object);
     inboxes.put(client, delivery);
-    Ok(true)
+    true
 }
 
 fn oldest(inboxes: &Inboxes, client: u32) -> u32 {
@@ -49,13 +52,13 @@ fn taken(inboxes: &mut Inboxes, client: u32) -> u32 {
 }
 
 #[test]
-fn the_oldest_is_taken_first(rt: HostRuntime) -> Result<(), Fail> {
+fn the_oldest_is_taken_first(rt: HostRuntime) {
     let mut inboxes = Inboxes::new(rt.alloc());
     assert!(rt; !inboxes.can_put(7));
     assert!(rt; inboxes.has_room(7));
-    assert!(rt; deliver(&mut inboxes, rt.alloc(), 7, 1)?);
-    assert!(rt; deliver(&mut inboxes, rt.alloc(), 8, 5)?);
-    assert!(rt; deliver(&mut inboxes, rt.alloc(), 7, 2)?);
+    assert!(rt; deliver(&rt, &mut inboxes, rt.alloc(), 7, 1));
+    assert!(rt; deliver(&rt, &mut inboxes, rt.alloc(), 8, 5));
+    assert!(rt; deliver(&rt, &mut inboxes, rt.alloc(), 7, 2));
     assert!(rt; inboxes.free(7) == 254);
     assert!(rt; oldest(&inboxes, 7) == 1);
     assert!(rt; taken(&mut inboxes, 7) == 1);
@@ -66,21 +69,19 @@ fn the_oldest_is_taken_first(rt: HostRuntime) -> Result<(), Fail> {
     assert!(rt; oldest(&inboxes, 8) == 0);
     assert!(rt; !inboxes.can_put(8));
     assert!(rt; inboxes.can_put(7));
-    Ok(())
 }
 
 #[test]
-fn a_full_inbox(rt: HostRuntime) -> Result<(), Fail> {
+fn a_full_inbox(rt: HostRuntime) {
     let mut inboxes = Inboxes::new(rt.alloc());
     for object in 1..257u32 {
-        assert!(rt; deliver(&mut inboxes, rt.alloc(), 7, object)?);
+        assert!(rt; deliver(&rt, &mut inboxes, rt.alloc(), 7, object));
     }
     assert!(rt; !inboxes.has_room(7));
     assert!(rt; inboxes.free(7) == 0);
-    assert!(rt; !deliver(&mut inboxes, rt.alloc(), 7, 257)?);
-    assert!(rt; deliver(&mut inboxes, rt.alloc(), 8, 1)?);
+    assert!(rt; !deliver(&rt, &mut inboxes, rt.alloc(), 7, 257));
+    assert!(rt; deliver(&rt, &mut inboxes, rt.alloc(), 8, 1));
     assert!(rt; taken(&mut inboxes, 7) == 1);
-    assert!(rt; deliver(&mut inboxes, rt.alloc(), 7, 257)?);
+    assert!(rt; deliver(&rt, &mut inboxes, rt.alloc(), 7, 257));
     assert!(rt; oldest(&inboxes, 7) == 2);
-    Ok(())
 }

@@ -125,9 +125,10 @@ impl Connection {
 #[test]
 fn each_read_fails(rt: HostRuntime) -> Result<(), Fail> {
     let alloc = rt.alloc();
+    let connections = connections(alloc)?;
     let policy = policy(&rt, alloc);
     let ends = [0usize, 1, 1];
-    for (connection, end) in connections(alloc)?.iter().zip(ends) {
+    for (connection, end) in connections.iter().zip(ends) {
         let mut failed = 0u32;
         for n in 1..1000 {
             if !connection.read_fails(&rt, alloc, &policy, n) {
@@ -143,8 +144,9 @@ fn each_read_fails(rt: HostRuntime) -> Result<(), Fail> {
 #[test]
 fn each_write_fails(rt: HostRuntime) -> Result<(), Fail> {
     let alloc = rt.alloc();
+    let connections = connections(alloc)?;
     let policy = policy(&rt, alloc);
-    for connection in &connections(alloc)? {
+    for connection in &connections {
         let mut failed = 0u32;
         for n in 1..1000 {
             if !connection.write_fails(&rt, alloc, &policy, n) {
@@ -182,9 +184,9 @@ fn in_pieces(
 #[test]
 fn pieces_of_each_length(rt: HostRuntime) -> Result<(), Fail> {
     let alloc = rt.alloc();
-    let policy = policy(&rt, alloc);
     let client = with_bye(alloc)?;
     let administrator = an_administrator(alloc)?;
+    let policy = policy(&rt, alloc);
     for most in 1..=64 {
         in_pieces(&rt, alloc, Kind::Client, &policy, &client.said, most);
         in_pieces(&rt, alloc, Kind::Admin, &policy, &administrator, most);

@@ -3,7 +3,8 @@
 use sm_history::{Service, Watch};
 use sm_kinds::{ClientId, Name, Node};
 use sm_names::Names;
-use std::alloc::{AllocError, Global};
+use std::alloc::Global;
+use std::process::Abort;
 use std::test::*;
 
 fn service(owner: u32, object: u32, dump: u32) -> Service {
@@ -19,34 +20,39 @@ fn service(owner: u32, object: u32, dump: u32) -> Service {
 }
 
 /// Puts a service as the manager does.
-fn add(names: &mut Names, alloc: Global, name: &[u8], service: Service) -> Result<(), AllocError> {
-    let name = Name::new(alloc, name)?;
-    names.reserve(1)?;
+fn add(rt: &impl Abort, names: &mut Names, alloc: Global, name: &[u8], service: Service) {
+    let name = Name::new(alloc, name).ok().expect(rt, "a name");
+    names.reserve(1).ok().expect(rt, "memory");
     if names.is_ready() {
         names.put(name, service);
     }
-    Ok(())
 }
 
 /// Watches a name as the manager does: false where there are too many watches.
 fn watch(
+    rt: &impl Abort,
     names: &mut Names,
     alloc: Global,
     client: u32,
     name: &[u8],
     object: u32,
-) -> Result<bool, AllocError> {
-    let watch = Watch {
-        client,
-        name: Name::new(alloc, name)?,
-        object,
-    };
-    names.reserve(1)?;
+) -> bool {
+    let name = Name::new(alloc, name).ok().expect(rt, "a name");
+    names.reserve(1).ok().expect(rt, "memory");
     if names.is_ready() && names.watches() < sm_history::MOST_WATCHES {
-        names.watch(watch);
-        return Ok(true);
+        names.watch(Watch {
+            client,
+            name,
+            object,
+        });
+        return true;
     }
-    Ok(false)
+    false
+}
+
+/// The names whose services have a bit of the mask.
+fn listed(rt: &impl Abort, names: &Names, alloc: Global, mask: u32) -> Vec<Name> {
+    names.by_mask(alloc, mask).ok().expect(rt, "memory")
 }
 
 /// The object under a name.
@@ -64,47 +70,46 @@ fn numbered(n: u32) -> [u8; 4] {
 }
 
 #[test]
-fn services_stand_under_their_names(rt: HostRuntime) -> Result<(), Fail> {
+fn services_stand_under_their_names(rt: HostRuntime) {
     let mut names = Names::new(rt.alloc());
-    add(&mut names, rt.alloc(), b"power", service(1, 5, 1))?;
-    add(&mut names, rt.alloc(), b"audio", service(2, 6, 8))?;
+    add(&rt, &mut names, rt.alloc(), b"power", service(1, 5, 1));
+    add(&rt, &mut names, rt.alloc(), b"audio", service(2, 6, 8));
     assert_eq!(rt; object_at(&names, b"power"), Some(5));
-    add(&mut names, rt.alloc(), b"power", service(2, 7, 9))?;
+    add(&rt, &mut names, rt.alloc(), b"power", service(2, 7, 9));
     assert_eq!(rt; object_at(&names, b"power"), Some(7));
     assert!(rt; names.has_room(b"wifi"));
-    let found = names.by_mask(rt.alloc(), 8)?;
+    let found = listed(&rt, &names, rt.alloc(), 8);
     assert_eq!(rt; found.len(), 2);
     assert!(rt; found[0].bytes() == b"audio".as_slice());
     assert!(rt; found[1].bytes() == b"power".as_slice());
-    assert_eq!(rt; names.by_mask(rt.alloc(), 1)?.len(), 1);
+    assert_eq!(rt; listed(&rt, &names, rt.alloc(), 1).len(), 1);
     names.remove(b"power");
     assert_eq!(rt; object_at(&names, b"power"), None);
     names.forget(2);
     assert_eq!(rt; object_at(&names, b"audio"), None);
-    Ok(())
 }
 
 #[test]
-fn a_copy_of_the_services_goes_its_own_way(rt: HostRuntime) -> Result<(), Fail> {
+fn a_copy_of_the_services_goes_its_own_way(rt: HostRuntime) {
     let mut names = Names::new(rt.alloc());
-    add(&mut names, rt.alloc(), b"power", service(1, 5, 1))?;
-    add(&mut names, rt.alloc(), b"audio", service(2, 6, 8))?;
-    let mut copy = names.services().copy(rt.alloc(), 1)?;
+    add(&rt, &mut names, rt.alloc(), b"power", service(1, 5, 1));
+    add(&rt, &mut names, rt.alloc(), b"audio", service(2, 6, 8));
+    let copy = names.services().copy(rt.alloc(), 1);
+    let mut copy = copy.ok().expect(&rt, "memory");
     copy.remove(b"power");
     assert_eq!(rt; copy.get(b"power").map(|s| s.node.object), None);
     assert_eq!(rt; copy.get(b"audio").map(|s| s.node.object), Some(6));
     assert_eq!(rt; copy.len(), 1);
     assert_eq!(rt; object_at(&names, b"power"), Some(5));
-    Ok(())
 }
 
 #[test]
-fn a_watch_made_twice_is_there_twice(rt: HostRuntime) -> Result<(), Fail> {
+fn a_watch_made_twice_is_there_twice(rt: HostRuntime) {
     let mut names = Names::new(rt.alloc());
-    assert!(rt; watch(&mut names, rt.alloc(), 7, b"power", 1)?);
-    assert!(rt; watch(&mut names, rt.alloc(), 8, b"audio", 1)?);
-    assert!(rt; watch(&mut names, rt.alloc(), 8, b"power", 2)?);
-    assert!(rt; watch(&mut names, rt.alloc(), 7, b"power", 1)?);
+    assert!(rt; watch(&rt, &mut names, rt.alloc(), 7, b"power", 1));
+    assert!(rt; watch(&rt, &mut names, rt.alloc(), 8, b"audio", 1));
+    assert!(rt; watch(&rt, &mut names, rt.alloc(), 8, b"power", 2));
+    assert!(rt; watch(&rt, &mut names, rt.alloc(), 7, b"power", 1));
     assert_eq!(rt; names.watches(), 4);
     assert_eq!(rt; names.watching(7, b"power", 1), 2);
     let watchers = names.watchers(b"power");
@@ -116,24 +121,22 @@ fn a_watch_made_twice_is_there_twice(rt: HostRuntime) -> Result<(), Fail> {
     assert_eq!(rt; names.watchers(b"power").len(), 1);
     names.forget(8);
     assert_eq!(rt; names.watches(), 0);
-    Ok(())
 }
 
 #[test]
-fn a_full_table_lists_its_names_in_order(rt: HostRuntime) -> Result<(), Fail> {
+fn a_full_table_lists_its_names_in_order(rt: HostRuntime) {
     let mut names = Names::new(rt.alloc());
     for n in 0..4096u32 {
         let name = numbered(4095 - n);
         assert!(rt; names.has_room(&name));
-        add(&mut names, rt.alloc(), &name, service(1, n, 1))?;
+        add(&rt, &mut names, rt.alloc(), &name, service(1, n, 1));
     }
     assert!(rt; !names.has_room(b"power"));
     assert!(rt; names.has_room(b"0007"));
-    let listed = names.by_mask(rt.alloc(), 1)?;
-    assert_eq!(rt; listed.len(), 4096);
-    for (n, name) in listed.iter().enumerate() {
+    let found = listed(&rt, &names, rt.alloc(), 1);
+    assert_eq!(rt; found.len(), 4096);
+    for (n, name) in found.iter().enumerate() {
         assert!(rt; n < 4096 && name.bytes() == numbered(n as u32).as_slice());
     }
     assert_eq!(rt; object_at(&names, b"0007"), Some(4088));
-    Ok(())
 }

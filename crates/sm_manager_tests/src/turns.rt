@@ -8,10 +8,9 @@ use sm_kinds::{
 };
 use sm_policy::Prepared;
 use sm_samples::{DEVICE_LABELS, DEVICE_RULES};
-use std::alloc::{AllocError, Global};
+use std::alloc::Global;
 use std::mem::size_of;
 use std::process::Abort;
-use std::test::Fail;
 
 pub fn policy(rt: &impl Abort, alloc: Global) -> Prepared {
     Prepared::from_texts(alloc, DEVICE_RULES, DEVICE_LABELS)
@@ -98,17 +97,21 @@ fn look(manager: &Manager, by: By, query: Query) -> Seen {
     seen_of(&manager.look(by, query))
 }
 
-fn activity(alloc: Global) -> Result<Name, Fail> {
-    Ok(Name::new(alloc, b"activity")?)
+fn name(rt: &impl Abort, alloc: Global, bytes: &[u8]) -> Name {
+    Name::new(alloc, bytes).ok().expect(rt, "a name")
 }
 
-pub fn add(alloc: Global) -> Result<Event, Fail> {
-    Ok(Event::Add {
-        name: activity(alloc)?,
+fn activity(rt: &impl Abort, alloc: Global) -> Name {
+    name(rt, alloc, b"activity")
+}
+
+pub fn add(rt: &impl Abort, alloc: Global) -> Event {
+    Event::Add {
+        name: activity(rt, alloc),
         obj: ObjRef::Own(1),
         allow_isolated: false,
         dump: 8,
-    })
+    }
 }
 
 fn connected(rt: &impl Abort, alloc: Global) -> Manager {
@@ -140,20 +143,22 @@ fn connects_out_of_turn(rt: HostRuntime) {
 }
 
 #[test]
-fn changes_out_of_turn(rt: HostRuntime) -> Result<(), Fail> {
+fn changes_out_of_turn(rt: HostRuntime) {
     let alloc = rt.alloc();
     let mut manager = connected(&rt, alloc);
     let by = By::Client(ClientId(1));
     assert_eq!(rt; step(&mut manager, by, 5, Event::Take), Seen::OutOfTurn(0));
     let get = Event::Get {
-        name: activity(alloc)?,
+        name: activity(&rt, alloc),
     };
     assert_eq!(rt; step(&mut manager, by, 5, get), Seen::OutOfTurn(0));
-    assert_eq!(rt; step(&mut manager, by, 1, add(alloc)?), Seen::OutOfTurn(0));
-    assert_eq!(rt; step(&mut manager, by, 0, add(alloc)?), Seen::Added);
+    assert_eq!(rt;
+        step(&mut manager, by, 1, add(&rt, alloc)),
+        Seen::OutOfTurn(0)
+    );
+    assert_eq!(rt; step(&mut manager, by, 0, add(&rt, alloc)), Seen::Added);
     assert_eq!(rt; manager.turn(by), 1);
     assert_eq!(rt; manager.turn(By::Client(ClientId(2))), 0);
-    Ok(())
 }
 
 fn is_refused_as_another(manager: &mut Manager, by: By, event: Event) -> bool {
@@ -161,7 +166,7 @@ fn is_refused_as_another(manager: &mut Manager, by: By, event: Event) -> bool {
 }
 
 #[test]
-fn openings_and_connects_of_others(rt: HostRuntime) -> Result<(), Fail> {
+fn openings_and_connects_of_others(rt: HostRuntime) {
     let alloc = rt.alloc();
     let mut manager = connected(&rt, alloc);
     let client = By::Client(ClientId(1));
@@ -175,43 +180,40 @@ fn openings_and_connects_of_others(rt: HostRuntime) -> Result<(), Fail> {
         assert!(rt; is_refused_as_another(&mut manager, by, connect));
     }
     assert_eq!(rt; manager.turn(By::Manager), 2);
-    Ok(())
 }
 
 #[test]
-fn reloads_of_others(rt: HostRuntime) -> Result<(), Fail> {
+fn reloads_of_others(rt: HostRuntime) {
     let alloc = rt.alloc();
     let mut manager = connected(&rt, alloc);
     for by in [By::Manager, By::Client(ClientId(1))] {
         let event = reload(&rt, alloc, 1);
         assert!(rt; is_refused_as_another(&mut manager, by, event));
     }
-    Ok(())
 }
 
 #[test]
-fn services_and_watches_of_others(rt: HostRuntime) -> Result<(), Fail> {
+fn services_and_watches_of_others(rt: HostRuntime) {
     let alloc = rt.alloc();
     let mut manager = connected(&rt, alloc);
     for by in [By::Manager, By::Admin(AdminId(1))] {
-        assert!(rt; is_refused_as_another(&mut manager, by, add(alloc)?));
-        let name = activity(alloc)?;
+        assert!(rt; is_refused_as_another(&mut manager, by, add(&rt, alloc)));
+        let name = activity(&rt, alloc);
         assert!(rt; is_refused_as_another(&mut manager, by, Event::Get { name }));
-        let name = activity(alloc)?;
+        let name = activity(&rt, alloc);
         assert!(rt; is_refused_as_another(&mut manager, by, Event::Watch { name, object: 7 }));
-        let name = activity(alloc)?;
+        let name = activity(&rt, alloc);
         assert!(rt; is_refused_as_another(&mut manager, by, Event::Unwatch { name, object: 7 }));
         let unregister = Event::Unregister {
-            name: activity(alloc)?,
+            name: activity(&rt, alloc),
             obj: ObjRef::Own(1),
         };
         assert!(rt; is_refused_as_another(&mut manager, by, unregister));
     }
-    Ok(())
 }
 
 #[test]
-fn handles_and_deaths_of_others(rt: HostRuntime) -> Result<(), Fail> {
+fn handles_and_deaths_of_others(rt: HostRuntime) {
     let alloc = rt.alloc();
     let mut manager = connected(&rt, alloc);
     for by in [By::Manager, By::Admin(AdminId(1))] {
@@ -226,51 +228,48 @@ fn handles_and_deaths_of_others(rt: HostRuntime) -> Result<(), Fail> {
         assert!(rt; is_refused_as_another(&mut manager, by, Event::Take));
         assert!(rt; is_refused_as_another(&mut manager, by, Event::Die));
     }
-    Ok(())
 }
 
 #[test]
-fn a_client_that_has_died(rt: HostRuntime) -> Result<(), Fail> {
+fn a_client_that_has_died(rt: HostRuntime) {
     let alloc = rt.alloc();
     let mut manager = connected(&rt, alloc);
     let client = By::Client(ClientId(1));
-    assert_eq!(rt; step(&mut manager, client, 0, add(alloc)?), Seen::Added);
+    assert_eq!(rt; step(&mut manager, client, 0, add(&rt, alloc)), Seen::Added);
     assert_eq!(rt; step(&mut manager, client, 1, Event::Die), Seen::Died);
     assert_eq!(rt;
-        step(&mut manager, client, 2, add(alloc)?),
+        step(&mut manager, client, 2, add(&rt, alloc)),
         Seen::NotConnected
     );
     assert_eq!(rt; manager.turn(client), 2);
-    Ok(())
 }
 
 #[test]
-fn the_service_of_a_client_that_has_died(rt: HostRuntime) -> Result<(), Fail> {
+fn the_service_of_a_client_that_has_died(rt: HostRuntime) {
     let alloc = rt.alloc();
     let mut manager = connected(&rt, alloc);
     let client = By::Client(ClientId(1));
-    assert_eq!(rt; step(&mut manager, client, 0, add(alloc)?), Seen::Added);
+    assert_eq!(rt; step(&mut manager, client, 0, add(&rt, alloc)), Seen::Added);
     assert_eq!(rt; step(&mut manager, client, 1, Event::Die), Seen::Died);
     let connect = Event::Connect(server(&rt, alloc));
     assert_eq!(rt;
         step(&mut manager, By::Manager, 2, connect),
         Seen::Connected(2)
     );
-    let name = activity(alloc)?;
+    let name = activity(&rt, alloc);
     let get = Event::Get { name };
     assert_eq!(rt;
         step(&mut manager, By::Client(ClientId(2)), 0, get),
         Seen::Null
     );
-    Ok(())
 }
 
 #[test]
-fn a_handle_is_released_as_often_as_it_was_granted(rt: HostRuntime) -> Result<(), Fail> {
+fn a_handle_is_released_as_often_as_it_was_granted(rt: HostRuntime) {
     let alloc = rt.alloc();
     let mut manager = connected(&rt, alloc);
     assert_eq!(rt;
-        step(&mut manager, By::Client(ClientId(1)), 0, add(alloc)?),
+        step(&mut manager, By::Client(ClientId(1)), 0, add(&rt, alloc)),
         Seen::Added
     );
     let connect = Event::Connect(process(&rt, alloc, b"u:r:untrusted_app:s0"));
@@ -280,7 +279,7 @@ fn a_handle_is_released_as_often_as_it_was_granted(rt: HostRuntime) -> Result<()
     );
     let app = By::Client(ClientId(2));
     for turn in 0..2 {
-        let name = activity(alloc)?;
+        let name = activity(&rt, alloc);
         assert_eq!(rt;
             step(&mut manager, app, turn, Event::Get { name }),
             Seen::Granted(1)
@@ -293,11 +292,10 @@ fn a_handle_is_released_as_often_as_it_was_granted(rt: HostRuntime) -> Result<()
     let release = Event::Release { handle: 1 };
     assert_eq!(rt; step(&mut manager, app, 4, release), Seen::BadHandle);
     assert_eq!(rt; step(&mut manager, app, 4, Event::Take), Seen::Empty);
-    Ok(())
 }
 
 #[test]
-fn a_journal_of_a_hundred_thousand(rt: HostRuntime) -> Result<(), Fail> {
+fn a_journal_of_a_hundred_thousand(rt: HostRuntime) {
     let alloc = rt.alloc();
     let places = Places::new(1_048_576).expect(&rt, "places");
     let who = process(&rt, alloc, b"u:r:servicemanager:s0");
@@ -310,13 +308,15 @@ fn a_journal_of_a_hundred_thousand(rt: HostRuntime) -> Result<(), Fail> {
     );
     let client = By::Client(ClientId(1));
     for turn in 0..100_000 {
-        assert_eq!(rt; step(&mut manager, client, turn, add(alloc)?), Seen::Added);
+        assert_eq!(rt;
+            step(&mut manager, client, turn, add(&rt, alloc)),
+            Seen::Added
+        );
     }
     assert_eq!(rt;
         look(&manager, client, Query::Version),
         Seen::Looked(1, 100_002)
     );
-    Ok(())
 }
 
 #[test]
@@ -325,7 +325,7 @@ fn an_entry_is_small(rt: HostRuntime) {
 }
 
 #[test]
-fn queries_of_others(rt: HostRuntime) -> Result<(), Fail> {
+fn queries_of_others(rt: HostRuntime) {
     let alloc = rt.alloc();
     let manager = connected(&rt, alloc);
     assert_eq!(rt; look(&manager, By::Manager, Query::Version), Seen::NotYours);
@@ -334,8 +334,8 @@ fn queries_of_others(rt: HostRuntime) -> Result<(), Fail> {
         Seen::NotYours
     );
     let explain = Query::Explain {
-        source: Name::new(alloc, b"system_server")?,
-        target: Name::new(alloc, b"servicemanager")?,
+        source: name(&rt, alloc, b"system_server"),
+        target: name(&rt, alloc, b"servicemanager"),
         class: Class::Binder,
         perm: Perms::CALL,
     };
@@ -343,7 +343,6 @@ fn queries_of_others(rt: HostRuntime) -> Result<(), Fail> {
         look(&manager, By::Client(ClientId(1)), explain),
         Seen::NotYours
     );
-    Ok(())
 }
 
 fn reload(rt: &impl Abort, alloc: Global, expected: u64) -> Event {
@@ -395,37 +394,41 @@ const MISSING_LIST: &[u8] =
 ";
 
 /// Whether these are the audit lines of the records.
-fn are_told(alloc: Global, records: &[Record], lines: &[u8]) -> Result<bool, AllocError> {
+fn are_told(rt: &impl Abort, alloc: Global, records: &[Record], lines: &[u8]) -> bool {
     let mut told = Vec::new(alloc);
-    push_lines(alloc, &mut told, records)?;
-    Ok(told.as_slice() == lines)
+    let pushed = push_lines(alloc, &mut told, records);
+    pushed.ok().expect(rt, "memory");
+    told.as_slice() == lines
 }
 
 /// Whether the ring has just these records.
-fn are_kept(alloc: Global, manager: &Manager, lines: &[u8]) -> Result<bool, AllocError> {
-    let records = manager.records()?;
-    are_told(alloc, &records, lines)
+fn are_kept(rt: &impl Abort, alloc: Global, manager: &Manager, lines: &[u8]) -> bool {
+    let records = manager.records().ok().expect(rt, "memory");
+    are_told(rt, alloc, &records, lines)
 }
 
-/// Whether an add would leave these records.
-fn add_would_leave(alloc: Global, manager: &Manager, by: By, lines: &[u8]) -> Result<bool, Fail> {
-    let event = add(alloc)?;
-    let records = manager.step_records(by, 0, &event)?;
-    Ok(are_told(alloc, &records, lines)?)
+/// Whether an add by this client would leave these records.
+fn add_would_leave(rt: &impl Abort, alloc: Global, manager: &Manager, lines: &[u8]) -> bool {
+    let records = manager.step_records(APPLICATION, 0, &add(rt, alloc));
+    let records = records.ok().expect(rt, "memory");
+    are_told(rt, alloc, &records, lines)
 }
 
-/// Whether an add leaves these records.
-fn add_leaves(alloc: Global, manager: &mut Manager, by: By, lines: &[u8]) -> Result<bool, Fail> {
-    let (_, records) = manager.step_recorded(by, 0, add(alloc)?);
-    Ok(are_told(alloc, &records, lines)?)
+/// Whether an add by this client leaves these records.
+fn add_leaves(rt: &impl Abort, alloc: Global, manager: &mut Manager, lines: &[u8]) -> bool {
+    let (_, records) = manager.step_recorded(APPLICATION, 0, add(rt, alloc));
+    are_told(rt, alloc, &records, lines)
 }
 
-/// Whether a list leaves these records, by both calls.
-fn list_leaves(alloc: Global, manager: &Manager, by: By, lines: &[u8]) -> Result<bool, AllocError> {
-    let first = manager.look_records(by, &Query::List(15))?;
-    let (_, second) = manager.look_recorded(by, Query::List(15));
-    Ok(are_told(alloc, &first, lines)? && are_told(alloc, &second, lines)?)
+/// Whether a list by this client leaves these records, by both calls.
+fn list_leaves(rt: &impl Abort, alloc: Global, manager: &Manager, lines: &[u8]) -> bool {
+    let first = manager.look_records(APPLICATION, &Query::List(15));
+    let first = first.ok().expect(rt, "memory");
+    let (_, second) = manager.look_recorded(APPLICATION, Query::List(15));
+    are_told(rt, alloc, &first, lines) && are_told(rt, alloc, &second, lines)
 }
+
+const APPLICATION: By = By::Client(ClientId(2));
 
 /// An application's connection, behind that of a system service.
 fn with_application(rt: &impl Abort, alloc: Global) -> Manager {
@@ -438,16 +441,17 @@ fn with_application(rt: &impl Abort, alloc: Global) -> Manager {
 
 // A refused add leaves one record in the ring; what is only asked for, and a query, leave none there.
 #[test]
-fn records(rt: HostRuntime) -> Result<(), Fail> {
+fn records(rt: HostRuntime) {
     let alloc = rt.alloc();
     let mut manager = with_application(&rt, alloc);
-    let by = By::Client(ClientId(2));
-    assert!(rt; add_would_leave(alloc, &manager, by, BARRED_ADD)?);
-    assert!(rt; list_leaves(alloc, &manager, by, MISSING_LIST)?);
-    assert!(rt; are_kept(alloc, &manager, b"")?);
-    assert_eq!(rt; step(&mut manager, by, 0, add(alloc)?), Seen::Another);
-    assert!(rt; are_kept(alloc, &manager, BARRED_ADD)?);
-    assert!(rt; add_leaves(alloc, &mut manager, by, BARRED_ADD)?);
-    assert!(rt; are_kept(alloc, &manager, TWO_BARRED_ADDS)?);
-    Ok(())
+    assert!(rt; add_would_leave(&rt, alloc, &manager, BARRED_ADD));
+    assert!(rt; list_leaves(&rt, alloc, &manager, MISSING_LIST));
+    assert!(rt; are_kept(&rt, alloc, &manager, b""));
+    assert_eq!(rt;
+        step(&mut manager, APPLICATION, 0, add(&rt, alloc)),
+        Seen::Another
+    );
+    assert!(rt; are_kept(&rt, alloc, &manager, BARRED_ADD));
+    assert!(rt; add_leaves(&rt, alloc, &mut manager, BARRED_ADD));
+    assert!(rt; are_kept(&rt, alloc, &manager, TWO_BARRED_ADDS));
 }

@@ -8,7 +8,6 @@ use sm_policy::Prepared;
 use sm_samples::{DEVICE_LABELS, DEVICE_RULES};
 use std::alloc::Global;
 use std::process::Abort;
-use std::test::Fail;
 
 fn policy(rt: &impl Abort, alloc: Global, rules: &[u8]) -> Prepared {
     Prepared::from_texts(alloc, rules, DEVICE_LABELS)
@@ -58,13 +57,13 @@ fn connect(rt: &impl Abort, alloc: Global, pid: u32) -> Event {
     Event::Connect(process(rt, alloc, pid, b"u:r:system_server:s0"))
 }
 
-fn add(alloc: Global) -> Result<Event, Fail> {
-    Ok(Event::Add {
-        name: Name::new(alloc, b"activity")?,
+fn add(rt: &impl Abort, alloc: Global) -> Event {
+    Event::Add {
+        name: Name::new(alloc, b"activity").ok().expect(rt, "a name"),
         obj: ObjRef::Own(1),
         allow_isolated: false,
         dump: 8,
-    })
+    }
 }
 
 /// What these tests ask of a reply.
@@ -102,34 +101,33 @@ const FIRST: By = By::Client(ClientId(1));
 
 // Two connect, the first adds a name twice: the other one's views list it, and the earlier ones stay as they were.
 #[test]
-fn a_name_is_listed_from_its_change_on(rt: HostRuntime) -> Result<(), Fail> {
+fn a_name_is_listed_from_its_change_on(rt: HostRuntime) {
     let alloc = rt.alloc();
     let mut manager = opened(&rt, alloc);
-    let opening = manager.view()?;
+    let opening = manager.view().ok().expect(&rt, "memory");
     let one = connect(&rt, alloc, 100);
     let one = shown(&rt, &mut manager, &opening, By::Manager, 1, one);
     let two = connect(&rt, alloc, 101);
     let two = shown(&rt, &mut manager, &one, By::Manager, 2, two);
-    let added = shown(&rt, &mut manager, &two, FIRST, 0, add(alloc)?);
-    let again = shown(&rt, &mut manager, &added, FIRST, 1, add(alloc)?);
+    let added = shown(&rt, &mut manager, &two, FIRST, 0, add(&rt, alloc));
+    let again = shown(&rt, &mut manager, &added, FIRST, 1, add(&rt, alloc));
     assert_eq!(rt; list(&opening, 2), Seen::NotConnected);
     assert_eq!(rt; list(&two, 2), Seen::Names(1, 3, 0));
     assert_eq!(rt; list(&added, 2), Seen::Names(1, 4, 1));
     assert_eq!(rt; list(&again, 2), Seen::Names(1, 5, 1));
     assert_eq!(rt; again.turn(FIRST), 2);
     assert_eq!(rt; two.turn(FIRST), 0);
-    Ok(())
 }
 
 // The names of a client that dies go, and it isn't there any more.
 #[test]
-fn a_death_takes_its_names(rt: HostRuntime) -> Result<(), Fail> {
+fn a_death_takes_its_names(rt: HostRuntime) {
     let alloc = rt.alloc();
     let mut manager = opened(&rt, alloc);
-    let opening = manager.view()?;
+    let opening = manager.view().ok().expect(&rt, "memory");
     let one = connect(&rt, alloc, 100);
     let one = shown(&rt, &mut manager, &opening, By::Manager, 1, one);
-    let added = shown(&rt, &mut manager, &one, FIRST, 0, add(alloc)?);
+    let added = shown(&rt, &mut manager, &one, FIRST, 0, add(&rt, alloc));
     let dead = shown(&rt, &mut manager, &added, FIRST, 1, Event::Die);
     assert_eq!(rt; list(&added, 1), Seen::Names(1, 3, 1));
     assert_eq!(rt; list(&dead, 1), Seen::NotConnected);
@@ -137,15 +135,14 @@ fn a_death_takes_its_names(rt: HostRuntime) -> Result<(), Fail> {
     let two = shown(&rt, &mut manager, &dead, By::Manager, 2, two);
     assert_eq!(rt; list(&two, 2), Seen::Names(1, 5, 0));
     assert_eq!(rt; two.turn(FIRST), 2);
-    Ok(())
 }
 
 // A view of the policy before a reload answers by it.
 #[test]
-fn a_reload_is_seen_from_its_change_on(rt: HostRuntime) -> Result<(), Fail> {
+fn a_reload_is_seen_from_its_change_on(rt: HostRuntime) {
     let alloc = rt.alloc();
     let mut manager = opened(&rt, alloc);
-    let opening = manager.view()?;
+    let opening = manager.view().ok().expect(&rt, "memory");
     let admin = By::Admin(AdminId(0));
     let event = Event::Reload {
         expected: 1,
@@ -160,5 +157,4 @@ fn a_reload_is_seen_from_its_change_on(rt: HostRuntime) -> Result<(), Fail> {
         seen_of(&reloaded.look(admin, Query::Version)),
         Seen::Version(2, 2)
     );
-    Ok(())
 }

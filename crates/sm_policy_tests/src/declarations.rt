@@ -1,20 +1,17 @@
 //! The declarations of rule texts: which are refused, and the types that sets denote.
 
-use sm_ruletext::{Statement, What, read};
+use sm_ruletext::{What, read};
 use sm_types::{Types, TypesFault};
 use std::alloc::{AllocError, Global};
 use std::process::Abort;
 use std::test::*;
 
-fn statements(alloc: Global, text: &[u8]) -> Result<Vec<Statement>, &'static str> {
-    read(alloc, text).ok().ok_or("read")
-}
-
 #[test]
-fn numbers_and_sets(rt: HostRuntime) -> Result<(), Fail> {
+fn numbers_and_sets(rt: HostRuntime) {
     let text = b"attribute d;\ntype a, d;\ntype b;\nallow { * -a } ~d:binder *;\n";
-    let statements = statements(rt.alloc(), text)?;
-    let types = Types::build(rt.alloc(), &statements).ok().ok_or("built")?;
+    let statements = read(rt.alloc(), text).ok().expect(&rt, "statements");
+    let types = Types::build(rt.alloc(), &statements);
+    let types = types.ok().expect(&rt, "types");
     assert_eq!(rt; types.count(), 2);
     assert_eq!(rt; types.attribute_count(), 1);
     assert_eq!(rt; types.index(b"b"), Some(1));
@@ -23,16 +20,21 @@ fn numbers_and_sets(rt: HostRuntime) -> Result<(), Fail> {
     assert_eq!(rt; types.name(2), None);
     for statement in &statements {
         if let What::Allow(rule) = &statement.what {
-            let sources = types.expand(rt.alloc(), &rule.source).ok().ok_or("known")?;
+            let sources = types
+                .expand(rt.alloc(), &rule.source)
+                .ok()
+                .expect(&rt, "known");
             assert!(rt; !sources.has(0) && sources.has(1) && !sources.has(2));
-            let targets = types.expand(rt.alloc(), &rule.target).ok().ok_or("known")?;
+            let targets = types
+                .expand(rt.alloc(), &rule.target)
+                .ok()
+                .expect(&rt, "known");
             assert!(rt; !targets.has(0) && targets.has(1));
             // The classes' names are no types.
             let class = types.expand(rt.alloc(), &rule.class).err();
             assert_eq!(rt; class, Some(TypesFault::Unknown(4)));
         }
     }
-    Ok(())
 }
 
 #[test]

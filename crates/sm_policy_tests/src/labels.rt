@@ -74,7 +74,8 @@ fn faults(rt: HostRuntime) {
 fn labels(rt: HostRuntime) -> Result<(), Fail> {
     let text =
         b"# labels\n\nactivity\tu:object_r:activity_service:s0\n* u:object_r:default_android_service:s0\r\nactivity u:object_r:activity_service:s0\nphone u:r:radio:s0:c1,c2";
-    let contexts = Contexts::read(rt.alloc(), text).ok().ok_or("accepted")?;
+    let contexts = Contexts::read(rt.alloc(), text).ok();
+    let contexts = contexts.expect(&rt, "contexts");
     assert_eq!(rt; contexts.count(), 3);
     assert_eq!(rt;
         contexts.label(b"activity").type_name(),

@@ -6,7 +6,13 @@ use sm_rules::{PERM_COUNT, class_at, perm_at, written_plainly};
 use sm_ruletext::{Statement, read};
 use sm_samples::{DEVICE_LABELS, DEVICE_RULES};
 use std::alloc::{AllocError, Global};
+use std::process::Abort;
 use std::test::*;
+
+fn prepared(rt: &impl Abort, alloc: Global, rules: &[u8], labels: &[u8]) -> Prepared {
+    let prepared = Prepared::from_texts(alloc, rules, labels);
+    prepared.ok().expect(rt, "a policy")
+}
 
 fn refusal(alloc: Global, rules: &[u8], labels: &[u8]) -> Result<Vec<u8>, AllocError> {
     match Prepared::from_texts(alloc, rules, labels) {
@@ -120,16 +126,14 @@ fn violations(rt: HostRuntime) -> Result<(), Fail> {
 }
 
 #[test]
-fn answers(rt: HostRuntime) -> Result<(), Fail> {
-    let prepared = Prepared::from_texts(rt.alloc(), DEVICE_RULES, DEVICE_LABELS)
-        .ok()
-        .ok_or("accepted")?;
+fn answers(rt: HostRuntime) {
+    let prepared = prepared(&rt, rt.alloc(), DEVICE_RULES, DEVICE_LABELS);
     let counts = prepared.counts();
     assert_eq!(rt;
         (counts.types, counts.attributes, counts.rules, counts.labels),
         (6, 2, 8, 2)
     );
-    let snapshot = Snapshot::new(prepared.share()?, 7);
+    let snapshot = Snapshot::new(prepared.share().ok().expect(&rt, "memory"), 7);
     assert_eq!(rt; snapshot.version(), 7);
     assert_eq!(rt;
         snapshot.label(b"x").text(),
@@ -161,14 +165,11 @@ fn answers(rt: HostRuntime) -> Result<(), Fail> {
     assert!(rt; snapshot.allows(server, service, Class::ServiceManager, Perms::ADD));
     assert!(rt; !snapshot.allows(app, service, Class::ServiceManager, Perms::ADD));
     assert!(rt; !snapshot.allows(b"domain", manager, Class::Binder, Perms::CALL));
-    Ok(())
 }
 
 #[test]
-fn types_by_number(rt: HostRuntime) -> Result<(), Fail> {
-    let prepared = Prepared::from_texts(rt.alloc(), DEVICE_RULES, DEVICE_LABELS)
-        .ok()
-        .ok_or("accepted")?;
+fn types_by_number(rt: HostRuntime) {
+    let prepared = prepared(&rt, rt.alloc(), DEVICE_RULES, DEVICE_LABELS);
     let snapshot = Snapshot::new(prepared, 1);
     assert_eq!(rt; snapshot.type_index(b"untrusted_app"), Some(2));
     assert_eq!(rt; snapshot.type_index(b"system_server"), Some(1));
@@ -178,17 +179,14 @@ fn types_by_number(rt: HostRuntime) -> Result<(), Fail> {
     assert!(rt; !snapshot.allows_at(2, 1, Class::ServiceManager, Perms::CALL));
     assert!(rt; !snapshot.allows_at(6, 1, Class::Binder, Perms::CALL));
     assert!(rt; !snapshot.allows_at(1, 6, Class::Binder, Perms::CALL));
-    Ok(())
 }
 
 #[test]
-fn self_joins_a_type_to_itself(rt: HostRuntime) -> Result<(), Fail> {
+fn self_joins_a_type_to_itself(rt: HostRuntime) {
     let rules =
         b"type a;\ntype b;\nallow { a b } self:binder call;\nallow a { self }:service_manager find;\n\
         allow b { self a }:binder transfer;\n";
-    let prepared = Prepared::from_texts(rt.alloc(), rules, b"* u:r:a\n")
-        .ok()
-        .ok_or("accepted")?;
+    let prepared = prepared(&rt, rt.alloc(), rules, b"* u:r:a\n");
     let of = |source, target| {
         (
             prepared.allows_at(source, target, Class::Binder, Perms::CALL),
@@ -200,7 +198,6 @@ fn self_joins_a_type_to_itself(rt: HostRuntime) -> Result<(), Fail> {
     assert_eq!(rt; of(0, 1), (false, false, false));
     assert_eq!(rt; of(1, 0), (false, false, true));
     assert_eq!(rt; of(1, 1), (true, false, true));
-    Ok(())
 }
 
 // Types 0 to 2 are a, b and c. No neverallow rule is held against what a permissive type may do.
@@ -209,10 +206,8 @@ const PERMISSIVE_RULES: &[u8] = b"type a;\ntype b;\ntype c;\npermissive b;\nperm
     dontaudit a c:{ binder service_manager } { call find };\n";
 
 #[test]
-fn permissive_and_dontaudit(rt: HostRuntime) -> Result<(), Fail> {
-    let prepared = Prepared::from_texts(rt.alloc(), PERMISSIVE_RULES, b"* u:r:a\n")
-        .ok()
-        .ok_or("accepted")?;
+fn permissive_and_dontaudit(rt: HostRuntime) {
+    let prepared = prepared(&rt, rt.alloc(), PERMISSIVE_RULES, b"* u:r:a\n");
     let of = |source, target| {
         (
             prepared.allows_at(source, target, Class::Binder, Perms::CALL),
@@ -227,14 +222,11 @@ fn permissive_and_dontaudit(rt: HostRuntime) -> Result<(), Fail> {
     assert_eq!(rt; of(2, 0), (false, true));
     assert_eq!(rt; of(1, 3), (false, true));
     assert_eq!(rt; of(3, 1), (false, true));
-    Ok(())
 }
 
 #[test]
-fn permissive_and_dontaudit_by_name(rt: HostRuntime) -> Result<(), Fail> {
-    let prepared = Prepared::from_texts(rt.alloc(), PERMISSIVE_RULES, b"* u:r:a\n")
-        .ok()
-        .ok_or("accepted")?;
+fn permissive_and_dontaudit_by_name(rt: HostRuntime) {
+    let prepared = prepared(&rt, rt.alloc(), PERMISSIVE_RULES, b"* u:r:a\n");
     let snapshot = Snapshot::new(prepared, 1);
     let of = |source: &[u8], target: &[u8], class, perm| {
         (
@@ -250,14 +242,11 @@ fn permissive_and_dontaudit_by_name(rt: HostRuntime) -> Result<(), Fail> {
     // A permission of the other class is none of this one.
     assert_eq!(rt; of(b"b", b"c", manages, Perms::CALL), (false, true));
     assert_eq!(rt; snapshot.why(b"b", b"a", Class::Binder, Perms::CALL), None);
-    Ok(())
 }
 
 #[test]
-fn decisions(rt: HostRuntime) -> Result<(), Fail> {
-    let prepared = Prepared::from_texts(rt.alloc(), PERMISSIVE_RULES, b"* u:r:a\n")
-        .ok()
-        .ok_or("accepted")?;
+fn decisions(rt: HostRuntime) {
+    let prepared = prepared(&rt, rt.alloc(), PERMISSIVE_RULES, b"* u:r:a\n");
     let snapshot = Snapshot::new(prepared, 1);
     let of = |source, target| {
         let decision = snapshot.decide_at(source, target, Class::Binder, Perms::CALL);
@@ -267,7 +256,6 @@ fn decisions(rt: HostRuntime) -> Result<(), Fail> {
     assert_eq!(rt; of(Some(1), Some(0)), (true, true));
     assert_eq!(rt; of(Some(1), None), (false, true));
     assert_eq!(rt; of(None, Some(1)), (false, true));
-    Ok(())
 }
 
 fn letter(n: u32) -> u8 {
@@ -350,10 +338,8 @@ fn agree(prepared: &Prepared, statements: &[Statement], source: u32, target: u32
 #[test]
 fn bytes_say_what_is_written(rt: HostRuntime) -> Result<(), Fail> {
     let text = generated(rt.alloc())?;
-    let statements = read(rt.alloc(), &text).ok().ok_or("read")?;
-    let prepared = Prepared::from_texts(rt.alloc(), &text, b"* u:r:a\n")
-        .ok()
-        .ok_or("accepted")?;
+    let statements = read(rt.alloc(), &text).ok().expect(&rt, "statements");
+    let prepared = prepared(&rt, rt.alloc(), &text, b"* u:r:a\n");
     for source in 0..24u32 {
         for target in 0..24u32 {
             assert!(rt; agree(&prepared, &statements, source, target));

@@ -62,21 +62,18 @@ fn faults(rt: HostRuntime) {
 }
 
 #[test]
-fn permissive_and_silenced(rt: HostRuntime) -> Result<(), Fail> {
+fn permissive_and_silenced(rt: HostRuntime) {
     let text = b"type a;\ntype b;\npermissive a;\ndontaudit b self:binder call;\n";
-    let statements = read(rt.alloc(), text).ok().ok_or("read")?;
-    let Ok(types) = Types::build(rt.alloc(), &statements) else {
-        return Err("types")?;
-    };
-    let rules = Rules::build(rt.alloc(), &statements, &types)
-        .ok()
-        .ok_or("rules")?;
+    let statements = read(rt.alloc(), text).ok().expect(&rt, "statements");
+    let types = Types::build(rt.alloc(), &statements);
+    let types = types.ok().expect(&rt, "types");
+    let rules = Rules::build(rt.alloc(), &statements, &types);
+    let rules = rules.ok().expect(&rt, "rules");
     assert!(rt; rules.permissive(0) && !rules.permissive(1) && !rules.permissive(2));
     let of = |source, target| rules.silenced(source, target, Class::Binder, Perms::CALL);
     assert!(rt; of(1, 1) && !of(1, 0) && !of(0, 0) && !of(2, 2));
     assert!(rt; !rules.silenced(1, 1, Class::ServiceManager, Perms::CALL));
     assert_eq!(rt; rules.count(), 0);
-    Ok(())
 }
 
 fn line(
@@ -322,23 +319,19 @@ fn sets_of_permissions(rt: HostRuntime) -> Result<(), Fail> {
     Ok(())
 }
 
-fn violation(alloc: Global, text: &[u8]) -> Result<Option<Violation>, &'static str> {
-    let statements = read(alloc, text).ok().ok_or("read")?;
-    let types = Types::build(alloc, &statements).ok().ok_or("types")?;
-    let rules = Rules::build(alloc, &statements, &types)
-        .ok()
-        .ok_or("rules")?;
-    let Ok(matrices) = Matrices::compile(alloc, &rules) else {
-        return Err("memory");
-    };
-    first_violation(alloc, &rules, &matrices)
-        .ok()
-        .ok_or("memory")
+fn violation(rt: &impl Abort, alloc: Global, text: &[u8]) -> Option<Violation> {
+    let statements = read(alloc, text).ok().expect(rt, "statements");
+    let types = Types::build(alloc, &statements).ok().expect(rt, "types");
+    let rules = Rules::build(alloc, &statements, &types);
+    let rules = rules.ok().expect(rt, "rules");
+    let matrices = Matrices::compile(alloc, &rules).ok().expect(rt, "memory");
+    let found = first_violation(alloc, &rules, &matrices);
+    found.ok().expect(rt, "memory")
 }
 
 #[test]
 fn violations(rt: HostRuntime) -> Result<(), Fail> {
-    assert_eq!(rt; violation(rt.alloc(), POLICY)?, None);
+    assert_eq!(rt; violation(&rt, rt.alloc(), POLICY), None);
     let mut text = Vec::from_slice(rt.alloc(), POLICY)?;
     text.extend_from_slice(b"allow untrusted_app activity_service:service_manager add;\n")?;
     let broken = Violation {
@@ -349,7 +342,7 @@ fn violations(rt: HostRuntime) -> Result<(), Fail> {
         class: Class::ServiceManager,
         perm: Perms(1),
     };
-    assert_eq!(rt; violation(rt.alloc(), &text)?, Some(broken));
+    assert_eq!(rt; violation(&rt, rt.alloc(), &text), Some(broken));
     // The first neverallow rule that is broken, by the first allow rule, then the least of each.
     let text = b"type a;\ntype b;\nallow b { b a }:binder { transfer call };\nallow * *:binder *;\n\
         neverallow * *:service_manager *;\nneverallow { a b } *:binder { call transfer };\nneverallow * *:binder *;\n";
@@ -361,7 +354,7 @@ fn violations(rt: HostRuntime) -> Result<(), Fail> {
         class: Class::Binder,
         perm: Perms(16),
     };
-    assert_eq!(rt; violation(rt.alloc(), text)?, Some(broken));
+    assert_eq!(rt; violation(&rt, rt.alloc(), text), Some(broken));
     // The first rule of the text, though that of fewer permissions is broken too. Each of its
     // permissions counts, whichever allow rule gives it.
     let text =
@@ -375,7 +368,7 @@ fn violations(rt: HostRuntime) -> Result<(), Fail> {
         class: Class::Binder,
         perm: Perms(64),
     };
-    assert_eq!(rt; violation(rt.alloc(), text)?, Some(broken));
+    assert_eq!(rt; violation(&rt, rt.alloc(), text), Some(broken));
     // `self` alone meets itself.
     let text = b"type a;\ntype b;\nallow b self:binder call;\nneverallow * self:binder call;\n";
     let broken = Violation {
@@ -386,7 +379,7 @@ fn violations(rt: HostRuntime) -> Result<(), Fail> {
         class: Class::Binder,
         perm: Perms(16),
     };
-    assert_eq!(rt; violation(rt.alloc(), text)?, Some(broken));
+    assert_eq!(rt; violation(&rt, rt.alloc(), text), Some(broken));
     Ok(())
 }
 
@@ -437,11 +430,11 @@ fn many_allow_rules(rt: HostRuntime) -> Result<(), Fail> {
         let mut other = text.clone()?;
         let never = format!(in alloc; "neverallow t69 t{i}:binder call;\n")?;
         other.extend_from_slice(never.as_bytes())?;
-        assert_eq!(rt; violation(alloc, &other)?, call(91, allow_line, 69, i));
+        assert_eq!(rt; violation(&rt, alloc, &other), call(91, allow_line, 69, i));
         let mut own = text.clone()?;
         let never = format!(in alloc; "neverallow t{i} {{ t{i} t20 t69 }}:binder call;\n")?;
         own.extend_from_slice(never.as_bytes())?;
-        assert_eq!(rt; violation(alloc, &own)?, None);
+        assert_eq!(rt; violation(&rt, alloc, &own), None);
     }
     Ok(())
 }
@@ -465,7 +458,7 @@ fn many_allow_rules_with_self(rt: HostRuntime) -> Result<(), Fail> {
     for (never, wanted) in cases {
         let mut text = text.clone()?;
         text.extend_from_slice(never)?;
-        assert_eq!(rt; violation(alloc, &text)?, wanted);
+        assert_eq!(rt; violation(&rt, alloc, &text), wanted);
     }
     Ok(())
 }
@@ -513,7 +506,7 @@ fn many_neverallow_rules(rt: HostRuntime) -> Result<(), Fail> {
             (40, far.as_bytes()),
             (149, never.as_bytes()),
         )?;
-        assert_eq!(rt; violation(alloc, &text)?, call(221, 71, source, 5));
+        assert_eq!(rt; violation(&rt, alloc, &text), call(221, 71, source, 5));
         let text = with_nevers(
             alloc,
             allow.as_bytes(),
@@ -521,7 +514,7 @@ fn many_neverallow_rules(rt: HostRuntime) -> Result<(), Fail> {
             (40, far.as_bytes()),
             (149, same.as_bytes()),
         )?;
-        assert_eq!(rt; violation(alloc, &text)?, None);
+        assert_eq!(rt; violation(&rt, alloc, &text), None);
     }
     Ok(())
 }
@@ -535,19 +528,19 @@ fn first_of_many_neverallow_rules(rt: HostRuntime) -> Result<(), Fail> {
     let first_group = b"neverallow t2 t0:binder call;\n";
     // The later rule of the text is hit by an earlier group of sources, and the other way round.
     let text = with_nevers(alloc, allows, same, (50, last_group), (60, first_group))?;
-    assert_eq!(rt; violation(alloc, &text)?, call(123, 71, 69, 0));
+    assert_eq!(rt; violation(&rt, alloc, &text), call(123, 71, 69, 0));
     let text = with_nevers(alloc, allows, same, (50, first_group), (60, last_group))?;
-    assert_eq!(rt; violation(alloc, &text)?, call(123, 72, 2, 0));
+    assert_eq!(rt; violation(&rt, alloc, &text), call(123, 72, 2, 0));
     // By `self` alone, on either side, and the first of the two ways.
     let allows = b"allow t66 self:binder call;\nallow t2 t0:binder call;\n";
     let same = b"neverallow { * -t66 -t2 } { self t66 }:binder call;\n";
     let own = b"neverallow { t66 t3 } self:binder call;\n";
     let text = with_nevers(alloc, allows, same, (50, first_group), (60, own))?;
-    assert_eq!(rt; violation(alloc, &text)?, call(123, 72, 2, 0));
+    assert_eq!(rt; violation(&rt, alloc, &text), call(123, 72, 2, 0));
     let text = with_nevers(alloc, allows, same, (50, own), (60, first_group))?;
-    assert_eq!(rt; violation(alloc, &text)?, call(123, 71, 66, 66));
+    assert_eq!(rt; violation(&rt, alloc, &text), call(123, 71, 66, 66));
     let text = with_nevers(alloc, allows, same, (50, own), (60, own))?;
-    assert_eq!(rt; violation(alloc, &text)?, call(123, 71, 66, 66));
+    assert_eq!(rt; violation(&rt, alloc, &text), call(123, 71, 66, 66));
     let text = with_nevers(
         alloc,
         b"allow * t4:binder call;\n",
@@ -555,6 +548,6 @@ fn first_of_many_neverallow_rules(rt: HostRuntime) -> Result<(), Fail> {
         (50, own),
         (60, own),
     )?;
-    assert_eq!(rt; violation(alloc, &text)?, None);
+    assert_eq!(rt; violation(&rt, alloc, &text), None);
     Ok(())
 }

@@ -3,7 +3,12 @@
 use sm_ruletext::*;
 use sm_samples::DEVICE_RULES;
 use std::alloc::{AllocError, Global};
+use std::process::Abort;
 use std::test::*;
+
+fn accepted(rt: &impl Abort, alloc: Global, text: &[u8]) -> Vec<Statement> {
+    read(alloc, text).ok().expect(rt, "statements")
+}
 
 fn repeated(alloc: Global, text: &mut Vec<u8>, piece: &[u8], times: u32) -> Result<(), AllocError> {
     for _ in 0..times {
@@ -13,8 +18,8 @@ fn repeated(alloc: Global, text: &mut Vec<u8>, piece: &[u8], times: u32) -> Resu
 }
 
 #[test]
-fn whole_text(rt: HostRuntime) -> Result<(), Fail> {
-    let statements = read(rt.alloc(), DEVICE_RULES).ok().ok_or("accepted")?;
+fn whole_text(rt: HostRuntime) {
+    let statements = accepted(&rt, rt.alloc(), DEVICE_RULES);
     assert_eq!(rt; statements.len(), 16);
     let mut line = 0;
     for statement in &statements {
@@ -23,15 +28,12 @@ fn whole_text(rt: HostRuntime) -> Result<(), Fail> {
     }
     assert_eq!(rt; line, 16);
     // Without the last newline, and without the last semicolon.
-    let cut = read(rt.alloc(), &DEVICE_RULES[..685])
-        .ok()
-        .ok_or("accepted")?;
+    let cut = accepted(&rt, rt.alloc(), &DEVICE_RULES[..685]);
     assert_eq!(rt; cut.len(), 16);
     assert_eq!(rt;
         read(rt.alloc(), &DEVICE_RULES[..684]).err(),
         Some(RuleTextFault::Syntax(16))
     );
-    Ok(())
 }
 
 #[test]
@@ -86,7 +88,7 @@ fn skipped_statements(rt: HostRuntime) -> Result<(), Fail> {
     ] {
         let mut text = Vec::from_slice(rt.alloc(), word)?;
         text.extend_from_slice(b" x y:z { w } \"a;b # c\" # d;\n;\ntype a;\n")?;
-        let statements = read(rt.alloc(), &text).ok().ok_or("accepted")?;
+        let statements = accepted(&rt, rt.alloc(), &text);
         assert_eq!(rt; statements.len(), 1);
         assert_eq!(rt; statements[0].line, 3);
     }
@@ -94,10 +96,10 @@ fn skipped_statements(rt: HostRuntime) -> Result<(), Fail> {
 }
 
 #[test]
-fn sets(rt: HostRuntime) -> Result<(), Fail> {
+fn sets(rt: HostRuntime) {
     let text =
         b"attribute d;\ntype a, d;\ntype b;\nallow { * -a } ~d:binder *;\nallow x y:file read;";
-    let statements = read(rt.alloc(), text).ok().ok_or("accepted")?;
+    let statements = accepted(&rt, rt.alloc(), text);
     // The rule of another class is skipped.
     assert_eq!(rt; statements.len(), 4);
     for statement in &statements {
@@ -108,13 +110,12 @@ fn sets(rt: HostRuntime) -> Result<(), Fail> {
             assert!(rt; rule.is_kept() && rule.class.selects(b"binder"));
         }
     }
-    Ok(())
 }
 
 #[test]
-fn permissive_and_dontaudit(rt: HostRuntime) -> Result<(), Fail> {
+fn permissive_and_dontaudit(rt: HostRuntime) {
     let text = b"dontaudit a { self b }:binder *;\ndontaudit x y:file read;\npermissive a;";
-    let statements = read(rt.alloc(), text).ok().ok_or("accepted")?;
+    let statements = accepted(&rt, rt.alloc(), text);
     // The rule of another class is skipped.
     assert_eq!(rt; statements.len(), 2);
     for statement in &statements {
@@ -130,7 +131,6 @@ fn permissive_and_dontaudit(rt: HostRuntime) -> Result<(), Fail> {
             _ => assert!(rt; false),
         }
     }
-    Ok(())
 }
 
 #[test]
@@ -140,7 +140,7 @@ fn nested_braces(rt: HostRuntime) -> Result<(), Fail> {
     text.extend_from_slice(b"a")?;
     repeated(rt.alloc(), &mut text, b"}", 1_000_000)?;
     text.extend_from_slice(b" a:binder call;")?;
-    let statements = read(rt.alloc(), &text).ok().ok_or("accepted")?;
+    let statements = accepted(&rt, rt.alloc(), &text);
     assert_eq!(rt; statements.len(), 2);
     Ok(())
 }
@@ -149,7 +149,7 @@ fn nested_braces(rt: HostRuntime) -> Result<(), Fail> {
 fn most_rules(rt: HostRuntime) -> Result<(), Fail> {
     let mut text = Vec::from_slice(rt.alloc(), b"type a;\n")?;
     repeated(rt.alloc(), &mut text, b"allow a a:binder call;\n", 65_536)?;
-    let statements = read(rt.alloc(), &text).ok().ok_or("accepted")?;
+    let statements = accepted(&rt, rt.alloc(), &text);
     assert_eq!(rt; statements.len(), 65_537);
     assert!(rt; !statements[0].what.is_rule() && statements[1].what.is_rule());
     text.extend_from_slice(b"allow a a:binder call;\n")?;
@@ -161,7 +161,7 @@ fn most_rules(rt: HostRuntime) -> Result<(), Fail> {
 fn longest_text(rt: HostRuntime) -> Result<(), Fail> {
     let mut text = Vec::new(rt.alloc());
     repeated(rt.alloc(), &mut text, b"                ", 262_144)?;
-    assert_eq!(rt; read(rt.alloc(), &text).ok().ok_or("accepted")?.len(), 0);
+    assert_eq!(rt; accepted(&rt, rt.alloc(), &text).len(), 0);
     text.push(b' ')?;
     assert_eq!(rt;
         read(rt.alloc(), &text).err(),

@@ -28,9 +28,8 @@ fn tells(
 }
 
 #[test]
-fn an_accepted_policy(rt: HostRuntime) -> Result<(), Fail> {
+fn an_accepted_policy(rt: HostRuntime) {
     tells(&rt, rt.alloc(), DEVICE_RULES, DEVICE_LABELS, ACCEPTED, true);
-    Ok(())
 }
 
 // What is skipped isn't counted, nor is a dontaudit rule. An allow rule with a kept class is, also if it allows
@@ -74,11 +73,10 @@ const SMALL_POLICIES: Told = &[
 ];
 
 #[test]
-fn small_policies(rt: HostRuntime) -> Result<(), Fail> {
+fn small_policies(rt: HostRuntime) {
     for (rules, contexts, line) in SMALL_POLICIES {
         tells(&rt, rt.alloc(), rules, contexts, line, true);
     }
-    Ok(())
 }
 
 #[test]
@@ -150,11 +148,10 @@ const REFUSED: Told = &[
 ];
 
 #[test]
-fn texts_that_are_refused(rt: HostRuntime) -> Result<(), Fail> {
+fn texts_that_are_refused(rt: HostRuntime) {
     for (rules, contexts, line) in REFUSED {
         tells(&rt, rt.alloc(), rules, contexts, line, false);
     }
-    Ok(())
 }
 
 // So many times the words, then those behind them.
@@ -245,7 +242,7 @@ fn write_fails(rt: &impl Abort, alloc: Global, n: u32) -> bool {
 }
 
 #[test]
-fn each_write_of_a_check_fails(rt: HostRuntime) -> Result<(), Fail> {
+fn each_write_of_a_check_fails(rt: HostRuntime) {
     let mut failed = 0u32;
     for n in 1..1000 {
         if !write_fails(&rt, rt.alloc(), n) {
@@ -254,5 +251,4 @@ fn each_write_of_a_check_fails(rt: HostRuntime) -> Result<(), Fail> {
         failed = n;
     }
     assert_eq!(rt; failed as usize, ACCEPTED.len());
-    Ok(())
 }

@@ -24,22 +24,20 @@ fault cut
 ";
 
 #[test]
-fn one_byte_a_call(rt: HostRuntime) -> Result<(), Fail> {
+fn one_byte_a_call(rt: HostRuntime) {
     let writer = OneByte(Vec::new(rt.alloc()));
     let left = Fixture::device().run(&rt, rt.alloc(), OneByte(SCRIPT), writer);
     assert!(rt; left.ending.is_ok());
     assert_eq!(rt; left.writer.into_inner().0.as_slice(), REPLIES);
-    Ok(())
 }
 
 #[test]
-fn too_many_reads(rt: HostRuntime) -> Result<(), Fail> {
+fn too_many_reads(rt: HostRuntime) {
     let policy = Fixture::device().with_reads(3);
     let left = policy.run(&rt, rt.alloc(), OneByte(SCRIPT), Vec::new(rt.alloc()));
     assert!(rt; matches!(&left.ending, Err(ScriptFault::Engine(Fault::TooManyReads))));
     assert_eq!(rt; left.reader.into_inner().0.len(), SCRIPT.len() - 3);
     assert_eq!(rt; left.writer.into_inner().len(), 0);
-    Ok(())
 }
 
 // The Nth read fails, one byte a read. Whether there was an Nth read.
@@ -59,7 +57,7 @@ fn read_fails(rt: &impl Abort, alloc: Global, n: u32) -> bool {
 }
 
 #[test]
-fn each_read_fails(rt: HostRuntime) -> Result<(), Fail> {
+fn each_read_fails(rt: HostRuntime) {
     let mut failed = 0u32;
     for n in 1..1000 {
         if !read_fails(&rt, rt.alloc(), n) {
@@ -68,7 +66,6 @@ fn each_read_fails(rt: HostRuntime) -> Result<(), Fail> {
         failed = n;
     }
     assert_eq!(rt; failed as usize, SCRIPT.len() + 1);
-    Ok(())
 }
 
 // The Nth write fails, one byte a write. Whether there was an Nth write.
@@ -91,7 +88,7 @@ fn write_fails(rt: &impl Abort, alloc: Global, n: u32) -> bool {
 }
 
 #[test]
-fn each_write_fails(rt: HostRuntime) -> Result<(), Fail> {
+fn each_write_fails(rt: HostRuntime) {
     let mut failed = 0u32;
     for n in 1..1000 {
         if !write_fails(&rt, rt.alloc(), n) {
@@ -100,5 +97,4 @@ fn each_write_fails(rt: HostRuntime) -> Result<(), Fail> {
         failed = n;
     }
     assert_eq!(rt; failed as usize, REPLIES.len());
-    Ok(())
 }

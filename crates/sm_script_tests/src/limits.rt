@@ -13,10 +13,9 @@ use std::alloc::Global;
 use std::test::Fail;
 
 #[test]
-fn input_that_ends_inside_a_line(rt: HostRuntime) -> Result<(), Fail> {
+fn input_that_ends_inside_a_line(rt: HostRuntime) {
     let script = b"hello 100 1000 u:r:system_server:s0\n1 lis";
     Fixture::device().replies(&rt, rt.alloc(), script, b"client 1\nfault cut\n");
-    Ok(())
 }
 
 #[test]
@@ -131,7 +130,7 @@ client 65
 }
 
 #[test]
-fn journals_without_a_place_for_a_client(rt: HostRuntime) -> Result<(), Fail> {
+fn journals_without_a_place_for_a_client(rt: HostRuntime) {
     let script = b"hello 100 1000 u:r:system_server:s0
 1 list 15
 1 add activity o1 0 8
@@ -166,11 +165,10 @@ version 1 2
     Fixture::device()
         .with_places(3)
         .replies(&rt, alloc, script, one);
-    Ok(())
 }
 
 #[test]
-fn journals_without_a_place_for_a_handle(rt: HostRuntime) -> Result<(), Fail> {
+fn journals_without_a_place_for_a_handle(rt: HostRuntime) {
     let script = b"hello 100 1000 u:r:system_server:s0
 1 add activity o1 0 8
 hello 200 10007 u:r:untrusted_app:s0
@@ -206,7 +204,6 @@ version 1 5
     Fixture::device()
         .with_places(7)
         .replies(&rt, alloc, script, one);
-    Ok(())
 }
 
 // Whether the opening was denied by the rule that is needed to become the manager.
@@ -255,7 +252,7 @@ fn managers_without_set_context_mgr(rt: HostRuntime) -> Result<(), Fail> {
 }
 
 #[test]
-fn a_refused_policy_is_not_run(rt: HostRuntime) -> Result<(), Fail> {
+fn a_refused_policy_is_not_run(rt: HostRuntime) {
     let script = b"hello 100 1000 u:r:system_server:s0\n".as_slice();
     let policy = Fixture::new(PLAIN_RULES, DEVICE_LABELS);
     let left = policy.run(&rt, rt.alloc(), script, Vec::new(rt.alloc()));
@@ -267,5 +264,4 @@ fn a_refused_policy_is_not_run(rt: HostRuntime) -> Result<(), Fail> {
     );
     assert_eq!(rt; left.writer.into_inner().len(), 0);
     assert_eq!(rt; left.reader.into_inner().len(), script.len());
-    Ok(())
 }

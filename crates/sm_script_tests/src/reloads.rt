@@ -96,7 +96,7 @@ reloaded 2
 
 // Where the line is malformed, what was meant as texts is read as lines.
 #[test]
-fn texts_read_as_lines(rt: HostRuntime) -> Result<(), Fail> {
+fn texts_read_as_lines(rt: HostRuntime) {
     let script = b"reload 18446744073709551616 8 65
 type a;
 # labels
@@ -128,7 +128,6 @@ malformed
 malformed
 ";
     Fixture::device().replies(&rt, rt.alloc(), script, wanted);
-    Ok(())
 }
 
 // One place is for the opening. A reload takes one, and a client two.
@@ -172,7 +171,7 @@ version 2 3
 }
 
 #[test]
-fn explanations(rt: HostRuntime) -> Result<(), Fail> {
+fn explanations(rt: HostRuntime) {
     let script = b"explain untrusted_app system_server binder call
 explain system_server untrusted_app binder call
 explain untrusted_app servicemanager binder call
@@ -192,7 +191,6 @@ malformed
 malformed
 ";
     Fixture::device().replies(&rt, rt.alloc(), script, wanted);
-    Ok(())
 }
 
 #[test]
@@ -213,7 +211,7 @@ fn texts_cut_short(rt: HostRuntime) -> Result<(), Fail> {
 }
 
 #[test]
-fn texts_too_long(rt: HostRuntime) -> Result<(), Fail> {
+fn texts_too_long(rt: HostRuntime) {
     let alloc = rt.alloc();
     let scripts = [
         b"reload 1 4194305 0\n".as_slice(),
@@ -225,5 +223,4 @@ fn texts_too_long(rt: HostRuntime) -> Result<(), Fail> {
     }
     let wanted = b"refused contexts: no default\n";
     Fixture::device().replies(&rt, alloc, b"reload 1 0 0\n", wanted);
-    Ok(())
 }

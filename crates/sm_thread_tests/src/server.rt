@@ -673,7 +673,7 @@ impl Talk for Silence {
 }
 
 #[test]
-fn a_listener_that_fails_ends_the_server(rt: HostRuntime) -> Result<(), Fail> {
+fn a_listener_that_fails_ends_the_server(rt: HostRuntime) {
     let alloc = rt.alloc();
     let visits = Visits {
         clients: Waiting {
@@ -690,5 +690,4 @@ fn a_listener_that_fails_ends_the_server(rt: HostRuntime) -> Result<(), Fail> {
     };
     let left = at_a_door(&rt, alloc, 1000, NoGate, visits, Silence);
     assert!(rt; left.ending == Err(ServeFault::AcceptFault));
-    Ok(())
 }

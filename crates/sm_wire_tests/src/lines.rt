@@ -355,7 +355,7 @@ fn replies_to_requests(rt: HostRuntime) {
 }
 
 #[test]
-fn lines_in_pieces(rt: HostRuntime) -> Result<(), Fail> {
+fn lines_in_pieces(rt: HostRuntime) {
     let alloc = rt.alloc();
     let mut lines = Lines::new(alloc, Kind::Script);
     assert!(rt; !lines.rest() && !lines.is_dead());
@@ -376,7 +376,6 @@ fn lines_in_pieces(rt: HostRuntime) -> Result<(), Fail> {
         assert_eq!(rt; texts.contexts(), b"c".as_slice());
     }
     assert!(rt; !lines.rest());
-    Ok(())
 }
 
 #[test]

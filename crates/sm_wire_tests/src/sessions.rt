@@ -174,7 +174,7 @@ fn attend(
 // Before a client is made all else is malformed, and a refused `hello` may be tried again; so may a refused `bye`.
 // After `bye` nothing is answered.
 #[test]
-fn a_client_says_bye(rt: HostRuntime) -> Result<(), Fail> {
+fn a_client_says_bye(rt: HostRuntime) {
     attend(
         &rt,
         rt.alloc(),
@@ -185,11 +185,10 @@ fn a_client_says_bye(rt: HostRuntime) -> Result<(), Fail> {
         2 + 4 + 7 + 8 + 9,
         1,
     );
-    Ok(())
 }
 
 #[test]
-fn a_client_is_cut_off(rt: HostRuntime) -> Result<(), Fail> {
+fn a_client_is_cut_off(rt: HostRuntime) {
     attend(
         &rt,
         rt.alloc(),
@@ -200,11 +199,10 @@ fn a_client_is_cut_off(rt: HostRuntime) -> Result<(), Fail> {
         1 + 2 + 3,
         1,
     );
-    Ok(())
 }
 
 #[test]
-fn a_refused_client_isnt_ended(rt: HostRuntime) -> Result<(), Fail> {
+fn a_refused_client_isnt_ended(rt: HostRuntime) {
     attend(
         &rt,
         rt.alloc(),
@@ -215,11 +213,10 @@ fn a_refused_client_isnt_ended(rt: HostRuntime) -> Result<(), Fail> {
         1,
         0,
     );
-    Ok(())
 }
 
 #[test]
-fn an_administrator(rt: HostRuntime) -> Result<(), Fail> {
+fn an_administrator(rt: HostRuntime) {
     attend(
         &rt,
         rt.alloc(),
@@ -230,5 +227,4 @@ fn an_administrator(rt: HostRuntime) -> Result<(), Fail> {
         3 + 4 + 5 + 6,
         0,
     );
-    Ok(())
 }

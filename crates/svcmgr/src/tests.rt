@@ -131,12 +131,11 @@ impl Env for NoText {
 }
 
 #[test]
-fn a_word_that_is_no_text(rt: HostRuntime) -> Result<(), Fail> {
+fn a_word_that_is_no_text(rt: HostRuntime) {
     let error = words_of(&(NoText, rt.alloc()))
         .err()
         .expect(&rt, "a refusal");
     assert!(rt; error.kind() == ErrorKind::ValueValidation);
-    Ok(())
 }
 
 #[test]
