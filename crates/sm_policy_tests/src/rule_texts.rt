@@ -324,7 +324,9 @@ fn violation(rt: &impl Abort, alloc: Global, text: &[u8]) -> Option<Violation> {
     let types = Types::build(alloc, &statements).ok().expect(rt, "types");
     let rules = Rules::build(alloc, &statements, &types);
     let rules = rules.ok().expect(rt, "rules");
-    let matrices = Matrices::compile(alloc, &rules).ok().expect(rt, "memory");
+    let Ok(matrices) = Matrices::compile(alloc, &rules) else {
+        panic!(rt; "memory");
+    };
     let found = first_violation(alloc, &rules, &matrices);
     found.ok().expect(rt, "memory")
 }

@@ -18,7 +18,6 @@ use std::marker::Brand;
 use std::process::Abort;
 use std::sync::atomic::{AtomicU64, Ordering};
 use std::sync::{Arc, Mutex, Wait};
-use std::test::Fail;
 use std::thread;
 use std::thread::Threads;
 
@@ -102,12 +101,12 @@ fn are(list: &[Name], names: &[&[u8]]) -> bool {
 }
 
 #[test]
-fn a_change_is_seen_after_a_meeting_and_without_one(rt: HostRuntime) -> Result<(), Fail> {
+fn a_change_is_seen_after_a_meeting_and_without_one(rt: HostRuntime) {
     let alloc = rt.alloc();
     let who = manager(&rt, alloc);
     let rules = policy(&rt, alloc, DEVICE_RULES);
     let places = Places::new(1000).expect(&rt, "places");
-    meets::<Brand, _>(&rt, alloc, Blank::new(), who, rules, places)
+    meets::<Brand, _>(&rt, alloc, Blank::new(), who, rules, places);
 }
 
 fn meets<J: Naming, R: Wait + Abort>(
@@ -117,7 +116,7 @@ fn meets<J: Naming, R: Wait + Abort>(
     who: Identity,
     policy: Prepared,
     places: Places,
-) -> Result<(), Fail>
+)
     requires roll { blank.seen.book ≡ J.roll }
     requires opening { J.opening ≡ opened places who policy }
 {
@@ -136,7 +135,6 @@ fn meets<J: Naming, R: Wait + Abort>(
     assert!(rt; is_added(&door.submit(rt, &mut a, activity(rt, alloc))));
     assert!(rt; lists(&door.list(&mut b, 15), 5, &[b"activity"]));
     door.close(rt);
-    Ok(())
 }
 
 /// Holds the first change that comes once it is armed, until it is let go.
@@ -199,12 +197,12 @@ impl Gate for Hold {
 }
 
 #[test]
-fn a_change_is_held_until_a_list_is_answered(rt: HostRuntime) -> Result<(), Fail> {
+fn a_change_is_held_until_a_list_is_answered(rt: HostRuntime) {
     let alloc = rt.alloc();
     let who = manager(&rt, alloc);
     let rules = policy(&rt, alloc, DEVICE_RULES);
     let places = Places::new(1000).expect(&rt, "places");
-    held::<Brand, _>(&rt, alloc, Blank::new(), who, rules, places)
+    held::<Brand, _>(&rt, alloc, Blank::new(), who, rules, places);
 }
 
 fn held<J: Naming + Send + Sync, R: Threads + Wait + Abort + Sync>(
@@ -214,7 +212,7 @@ fn held<J: Naming + Send + Sync, R: Threads + Wait + Abort + Sync>(
     who: Identity,
     policy: Prepared,
     places: Places,
-) -> Result<(), Fail>
+)
     requires roll { blank.seen.book ≡ J.roll }
     requires opening { J.opening ≡ opened places who policy }
 {
@@ -235,7 +233,6 @@ fn held<J: Naming + Send + Sync, R: Threads + Wait + Abort + Sync>(
     assert!(rt; door.gate().is(LET_GO));
     assert!(rt; lists(&door.list(&mut b, 15), 4, &[b"activity"]));
     door.close(rt);
-    Ok(())
 }
 
 /// One adds a service, and another lists while that change is held.
@@ -288,12 +285,12 @@ fn looks<J: Naming>(door: &Door<J, Hold>, me: &mut Session<J>) -> bool {
 }
 
 #[test]
-fn versions_never_go_back(rt: HostRuntime) -> Result<(), Fail> {
+fn versions_never_go_back(rt: HostRuntime) {
     let alloc = rt.alloc();
     let who = manager(&rt, alloc);
     let rules = policy(&rt, alloc, DEVICE_RULES);
     let places = Places::new(1000).expect(&rt, "places");
-    grows::<Brand, _>(&rt, alloc, Blank::new(), who, rules, places)
+    grows::<Brand, _>(&rt, alloc, Blank::new(), who, rules, places);
 }
 
 fn grows<J: Naming + Send + Sync, R: Threads + Wait + Abort + Sync>(
@@ -303,7 +300,7 @@ fn grows<J: Naming + Send + Sync, R: Threads + Wait + Abort + Sync>(
     who: Identity,
     policy: Prepared,
     places: Places,
-) -> Result<(), Fail>
+)
     requires roll { blank.seen.book ≡ J.roll }
     requires opening { J.opening ≡ opened places who policy }
 {
@@ -323,7 +320,6 @@ fn grows<J: Naming + Send + Sync, R: Threads + Wait + Abort + Sync>(
     let reply = finds(rt, alloc, &door, &mut three);
     assert!(rt; rightly_found(&reply) == Some(101));
     door.close(rt);
-    Ok(())
 }
 
 fn is_version(reply: &Reply, wanted: u64, entries: u64) -> bool {
@@ -458,12 +454,12 @@ fn reads<J: Naming, R: Wait + Abort>(
 }
 
 #[test]
-fn one_of_two_installs_is_done(rt: HostRuntime) -> Result<(), Fail> {
+fn one_of_two_installs_is_done(rt: HostRuntime) {
     let alloc = rt.alloc();
     let who = manager(&rt, alloc);
     let rules = policy(&rt, alloc, DEVICE_RULES);
     let places = Places::new(1000).expect(&rt, "places");
-    rivals::<Brand, _>(&rt, alloc, Blank::new(), who, rules, places)
+    rivals::<Brand, _>(&rt, alloc, Blank::new(), who, rules, places);
 }
 
 fn rivals<J: Naming, R: Wait + Abort>(
@@ -473,7 +469,7 @@ fn rivals<J: Naming, R: Wait + Abort>(
     who: Identity,
     policy: Prepared,
     places: Places,
-) -> Result<(), Fail>
+)
     requires roll { blank.seen.book ≡ J.roll }
     requires opening { J.opening ≡ opened places who policy }
 {
@@ -490,7 +486,6 @@ fn rivals<J: Naming, R: Wait + Abort>(
     assert!(rt; matches!(refused, Err((Refusal::VersionMoved(2), _))));
     assert!(rt; is_version(&door.version(&mut second), 2, 2));
     door.close(rt);
-    Ok(())
 }
 
 fn shares<X: Sync>()

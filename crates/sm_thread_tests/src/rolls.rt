@@ -7,7 +7,6 @@ use sm_roll::{Badge, Blank, Naming, Roll, Shows};
 use std::marker::Brand;
 use std::process::Abort;
 use std::sync::Wait;
-use std::test::Fail;
 
 /// A number shows the book of so many places.
 struct Places;
@@ -20,35 +19,27 @@ impl Shows<u32> for Places {
 }
 
 #[test]
-fn numbers_tell_badges_apart(rt: HostRuntime) -> Result<(), Fail> {
-    three_badges::<Brand, _>(&rt, Blank::new())
+fn numbers_tell_badges_apart(rt: HostRuntime) {
+    three_badges::<Brand, _>(&rt, Blank::new());
 }
 
-fn three_badges<J: Naming, R: Wait + Abort>(rt: &R, blank: Blank) -> Result<(), Fail>
+fn three_badges<J: Naming, R: Wait + Abort>(rt: &R, blank: Blank)
     requires { blank.seen.book ≡ J.roll }
 {
     let mut roll = blank.named::<J>();
-    let Some(one) = roll.add::<u32, Places, R>(rt, &1) else {
-        return Err("refused")?;
-    };
-    let Some(two) = roll.add::<u32, Places, R>(rt, &2) else {
-        return Err("refused")?;
-    };
-    let Some(again) = roll.add::<u32, Places, R>(rt, &1) else {
-        return Err("refused")?;
-    };
+    let one = roll.add::<u32, Places, R>(rt, &1).expect(rt, "a badge");
+    let two = roll.add::<u32, Places, R>(rt, &2).expect(rt, "a badge");
+    let again = roll.add::<u32, Places, R>(rt, &1).expect(rt, "a badge");
     assert!(rt; one.is(&one.again()));
     assert!(rt; !one.is(&two));
     assert!(rt; !two.is(&one));
     assert!(rt; !one.is(&again));
     assert!(rt; two.again().is(&two));
-    Ok(())
 }
 
 #[test]
-fn badges_cross_threads(_rt: HostRuntime) -> Result<(), Fail> {
+fn badges_cross_threads(_rt: HostRuntime) {
     both_cross::<Brand>();
-    Ok(())
 }
 
 fn both_cross<J: Naming + Send + Sync>() {
