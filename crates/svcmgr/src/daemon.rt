@@ -3,9 +3,8 @@
 ghost use Rattle.std.specs.Prelude.{◌≡◌};
 ghost use Rattle.sm_core.specs.Opening.{opened};
 
-use crate::ending::Ending;
-use crate::options::Sockets;
 use crate::sockets::{listener, private_listener};
+use sm_command::{Ending, Sockets};
 use sm_door::{Admin, Door};
 use sm_kinds::{Identity, Places};
 use sm_policy::Prepared;

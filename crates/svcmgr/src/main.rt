@@ -2,18 +2,12 @@
 #![tactic(auto)]
 
 mod daemon;
-mod ending;
-mod files;
-mod options;
 mod sockets;
-#[cfg(test)]
-mod tests;
 
 use clap::error::ErrorKind;
 use daemon::serve_policy;
-use ending::{Ending, NO_MEMORY};
-use options::{Mode, Options, Sockets, options_of, words_of};
 use sm_check::check;
+use sm_command::{Ending, Mode, NO_MEMORY, Options, Sockets, options_of, read_limited, words_of};
 use sm_engine::Counted;
 use sm_policy::Prepared;
 use sm_script::{ScriptFault, run_script};
@@ -80,7 +74,7 @@ fn perform<'a, R: Files + Net + Threads + Wait + Sync>(
 
 /// The text of a file of the policy.
 fn text_of<'a>(rt: &HostRuntime, path: &'a str) -> Result<Vec<u8>, Ending<'a>> {
-    files::read_limited(rt, path).map_err(|error| Ending::of_file(path, error))
+    read_limited(rt, path).map_err(|error| Ending::of_file(path, error))
 }
 
 /// Runs the script that comes on standard input. Replies go to standard output, audit lines to standard error.

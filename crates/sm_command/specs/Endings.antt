@@ -13,8 +13,8 @@ use Rattle.sm_script.specs.declared.script_fault.ScriptFault.TheVariants.{Policy
 use Rattle.sm_serve.specs.declared.serve_fault.ServeFault.{ServeFault}
 use Rattle.sm_serve.specs.declared.serve_fault.ServeFault.TheVariants as serving
 use Rattle.sm_check.specs.Checking.{refused_line}
-use Rattle.svcmgr.specs.declared.ending.Ending.{Ending}
-use Rattle.svcmgr.specs.declared.ending.Ending.TheVariants.{Memory, File, Script, Serve}
+use Rattle.sm_command.specs.declared.ending.Ending.{Ending}
+use Rattle.sm_command.specs.declared.ending.Ending.TheVariants.{Memory, File, Script, Serve}
 
 -- the line for a file: its path, and the words of the operating system
 abbrev pub TellsOfFile : List ℕ → List ℕ → Type 0

@@ -1,5 +1,5 @@
-use Rattle.svcmgr.proofs.files.first_bytes.Goals as goal
-use Rattle.svcmgr.proofs.Fronts.{front}
+use Rattle.sm_command.proofs.files.first_bytes.Goals as goal
+use Rattle.sm_command.proofs.Fronts.{front}
 
 -- what was read is the front of what there was, and it is cut off at the same limit
 pub returns-clause-known : goal.returns-clause-known

@@ -2,8 +2,8 @@
 
 ghost use Rattle.std.specs.Prelude.{◌≡◌, ◌≢◌, IfOk};
 ghost use Rattle.std.specs.IoError.{error_kind};
-ghost use Rattle.svcmgr.specs.Endings as spec;
-ghost use Rattle.svcmgr.specs.Endings.{Tells};
+ghost use Rattle.sm_command.specs.Endings as spec;
+ghost use Rattle.sm_command.specs.Endings.{Tells};
 
 use sm_check::refused_line;
 use sm_engine::Fault;
@@ -31,7 +31,7 @@ pub enum Ending<'a> {
 }
 
 impl<'a> From<ScriptFault> for Ending<'a> {
-    ghost use Rattle.svcmgr.specs.declared.ending.Ending.TheVariants.{Script};
+    ghost use Rattle.sm_command.specs.declared.ending.Ending.TheVariants.{Script};
 
     ghost from_gives = { λ fault ending. ending ≡ Script fault };
 
@@ -41,7 +41,7 @@ impl<'a> From<ScriptFault> for Ending<'a> {
 }
 
 impl<'a> From<Fault> for Ending<'a> {
-    ghost use Rattle.svcmgr.specs.declared.ending.Ending.TheVariants.{Script};
+    ghost use Rattle.sm_command.specs.declared.ending.Ending.TheVariants.{Script};
     ghost use Rattle.sm_script.specs.declared.script_fault.ScriptFault.TheVariants.{Engine};
 
     ghost from_gives = { λ fault ending. ending ≡ Script (Engine fault) };
