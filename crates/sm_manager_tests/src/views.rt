@@ -104,7 +104,9 @@ const FIRST: By = By::Client(ClientId(1));
 fn a_name_is_listed_from_its_change_on(rt: HostRuntime) {
     let alloc = rt.alloc();
     let mut manager = opened(&rt, alloc);
-    let opening = manager.view().ok().expect(&rt, "memory");
+    let Ok(opening) = manager.view() else {
+        panic!(rt; "no memory for a view");
+    };
     let one = connect(&rt, alloc, 100);
     let one = shown(&rt, &mut manager, &opening, By::Manager, 1, one);
     let two = connect(&rt, alloc, 101);
@@ -124,7 +126,9 @@ fn a_name_is_listed_from_its_change_on(rt: HostRuntime) {
 fn a_death_takes_its_names(rt: HostRuntime) {
     let alloc = rt.alloc();
     let mut manager = opened(&rt, alloc);
-    let opening = manager.view().ok().expect(&rt, "memory");
+    let Ok(opening) = manager.view() else {
+        panic!(rt; "no memory for a view");
+    };
     let one = connect(&rt, alloc, 100);
     let one = shown(&rt, &mut manager, &opening, By::Manager, 1, one);
     let added = shown(&rt, &mut manager, &one, FIRST, 0, add(&rt, alloc));
@@ -142,7 +146,9 @@ fn a_death_takes_its_names(rt: HostRuntime) {
 fn a_reload_is_seen_from_its_change_on(rt: HostRuntime) {
     let alloc = rt.alloc();
     let mut manager = opened(&rt, alloc);
-    let opening = manager.view().ok().expect(&rt, "memory");
+    let Ok(opening) = manager.view() else {
+        panic!(rt; "no memory for a view");
+    };
     let admin = By::Admin(AdminId(0));
     let event = Event::Reload {
         expected: 1,
