@@ -92,6 +92,10 @@ impl Names {
         ensures ok { OnOk result (self.new ≡ self.old ++ name ∷ []) }
         ensures err { OnErr result (self.new ≡ self.old) }
     {
+        if self.list.is_empty() {
+            // Most lists have one name, for which `push` alone would make room for four.
+            self.list.reserve_exact(1)?;
+        }
         self.list.push(name)?;
         Ok(())
     }
