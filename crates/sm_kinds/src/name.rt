@@ -118,7 +118,13 @@ impl Names {
 fn is_name_byte(b: u8) -> bool
     ensures { result ≡ is_name_byte b }
 {
-    b.is_ascii_alphanumeric() || b == b'_' || b == b'-' || b == b'.' || b == b'/'
+    // Small letters first, since most bytes of a name are.
+    b.is_ascii_lowercase()
+        || b.is_ascii_alphanumeric()
+        || b == b'_'
+        || b == b'-'
+        || b == b'.'
+        || b == b'/'
 }
 
 fn all_name_bytes(bytes: &[u8]) -> bool
