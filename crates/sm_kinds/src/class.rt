@@ -2,6 +2,8 @@
 
 ghost use Rattle.std.specs.Prelude.{◌≡◌};
 
+use crate::word::spells;
+
 /// An object class, in the order of SELinux's `security_classes` as this product uses it.
 #[derive(Clone, Copy, Debug, PartialEq, Eq)]
 pub enum Class {
@@ -16,9 +18,9 @@ impl Class {
     pub fn read(word: &[u8]) -> Option<Class>
         ensures { result ≡ class_read word.now }
     {
-        if word == b"service_manager".as_slice() {
+        if spells(word, b"service_manager") {
             Some(Class::ServiceManager)
-        } else if word == b"binder".as_slice() {
+        } else if spells(word, b"binder") {
             Some(Class::Binder)
         } else {
             None

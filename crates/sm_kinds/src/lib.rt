@@ -34,4 +34,4 @@ pub use user::{
     AID_APP_START, AID_ISOLATED_END, AID_ISOLATED_START, AID_USER_OFFSET, app_number,
     is_barred_app, is_isolated,
 };
-pub use word::Word;
+pub use word::{Word, spells};

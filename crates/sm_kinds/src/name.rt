@@ -5,6 +5,7 @@ ghost use Rattle.std.specs.List.{list_all};
 ghost use Rattle.sm_kinds.specs.Names.{is_name_byte, is_valid_name};
 
 use crate::limits::MOST_NAME_BYTES;
+use crate::word::spells;
 use bytes::Bytes;
 use std::alloc::{AllocError, Global};
 use std::marker::Model;
@@ -111,7 +112,7 @@ impl Names {
     pub fn contains(&self, name: &[u8]) -> bool
         ensures { result ≡ contains self.now name.now }
     {
-        self.list.iter().any(|n| n.bytes() == name)
+        self.list.iter().any(|n| spells(n.bytes(), name))
     }
 }
 

@@ -3,6 +3,7 @@
 ghost use Rattle.std.specs.Prelude.{⊤, ◌≡◌, [], ◌∷◌, codes};
 
 use crate::class::Class;
+use crate::word::spells;
 use bitflags::{Flag, Flags, bitflag_items};
 
 /// A set of permissions. Those of `service_manager` are bits 0 to 2, those of `binder` bits 3 to 6.
@@ -80,11 +81,11 @@ ghost use Rattle.sm_kinds.specs.declared.class.Class.TheVariants.{ServiceManager
 fn service_manager_perm(word: &[u8]) -> Option<Perms>
     ensures { result ≡ perm_read ServiceManager word.now }
 {
-    if word == b"add".as_slice() {
+    if spells(word, b"add") {
         Some(Perms(1))
-    } else if word == b"find".as_slice() {
+    } else if spells(word, b"find") {
         Some(Perms(2))
-    } else if word == b"list".as_slice() {
+    } else if spells(word, b"list") {
         Some(Perms(4))
     } else {
         None
@@ -94,13 +95,13 @@ fn service_manager_perm(word: &[u8]) -> Option<Perms>
 fn binder_perm(word: &[u8]) -> Option<Perms>
     ensures { result ≡ perm_read Binder word.now }
 {
-    if word == b"impersonate".as_slice() {
+    if spells(word, b"impersonate") {
         Some(Perms(8))
-    } else if word == b"call".as_slice() {
+    } else if spells(word, b"call") {
         Some(Perms(16))
-    } else if word == b"set_context_mgr".as_slice() {
+    } else if spells(word, b"set_context_mgr") {
         Some(Perms(32))
-    } else if word == b"transfer".as_slice() {
+    } else if spells(word, b"transfer") {
         Some(Perms(64))
     } else {
         None

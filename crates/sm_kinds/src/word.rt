@@ -1,5 +1,8 @@
 //! A word of a text.
 
+ghost use Rattle.std.specs.Prelude.{◌≡◌};
+ghost use Rattle.std.specs.Str.{bytes_eq};
+
 use std::marker::Model;
 
 /// A word of a text, which contracts see as its bytes.
@@ -32,4 +35,11 @@ impl<'a> Word<'a> {
     {
         self.bytes
     }
+}
+
+/// Whether the bytes spell this text. Their number is compared first, in place, since it tells most words apart.
+pub fn spells(bytes: &[u8], text: &[u8]) -> bool
+    ensures { result ≡ bytes_eq bytes.now text.now }
+{
+    bytes.len() == text.len() && bytes == text
 }
