@@ -3,6 +3,8 @@
 ghost use Rattle.std.specs.Prelude.{◌≡◌};
 ghost use Rattle.sm_ruletext.specs.Words as spec;
 
+use sm_kinds::spells;
+
 /// What a statement begins with.
 #[derive(Clone, Copy, Debug)]
 pub enum Keyword {
@@ -21,20 +23,20 @@ pub enum Keyword {
 pub fn is_self(word: &[u8]) -> bool
     ensures { result ≡ spec.is_self word.now }
 {
-    word == b"self".as_slice()
+    spells(word, b"self")
 }
 
 #[tactic(auto, unfolding(crate::specs::Words::is_skipped))]
 fn is_skipped(word: &[u8]) -> bool
     ensures { result ≡ spec.is_skipped word.now }
 {
-    word == b"auditallow".as_slice()
-        || word == b"type_transition".as_slice()
-        || word == b"expandattribute".as_slice()
-        || word == b"allowxperm".as_slice()
-        || word == b"auditallowxperm".as_slice()
-        || word == b"dontauditxperm".as_slice()
-        || word == b"neverallowxperm".as_slice()
+    spells(word, b"auditallow")
+        || spells(word, b"type_transition")
+        || spells(word, b"expandattribute")
+        || spells(word, b"allowxperm")
+        || spells(word, b"auditallowxperm")
+        || spells(word, b"dontauditxperm")
+        || spells(word, b"neverallowxperm")
 }
 
 /// What a statement that begins with this word is.
@@ -42,19 +44,19 @@ fn is_skipped(word: &[u8]) -> bool
 pub fn keyword_of(word: &[u8]) -> Keyword
     ensures { result ≡ spec.keyword_of word.now }
 {
-    if word == b"attribute".as_slice() {
+    if spells(word, b"attribute") {
         Keyword::Attribute
-    } else if word == b"type".as_slice() {
+    } else if spells(word, b"type") {
         Keyword::Types
-    } else if word == b"typeattribute".as_slice() {
+    } else if spells(word, b"typeattribute") {
         Keyword::Typeattribute
-    } else if word == b"allow".as_slice() {
+    } else if spells(word, b"allow") {
         Keyword::Allow
-    } else if word == b"neverallow".as_slice() {
+    } else if spells(word, b"neverallow") {
         Keyword::Neverallow
-    } else if word == b"dontaudit".as_slice() {
+    } else if spells(word, b"dontaudit") {
         Keyword::Dontaudit
-    } else if word == b"permissive".as_slice() {
+    } else if spells(word, b"permissive") {
         Keyword::Permissive
     } else if is_skipped(word) {
         Keyword::Skipped
