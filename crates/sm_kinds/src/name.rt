@@ -89,6 +89,7 @@ impl Names {
     /// # Errors
     ///
     /// An error where memory was refused; the list is as it was then.
+    #[inline(always)]
     pub fn push(&mut self, name: Name) -> Result<(), AllocError>
         ensures ok { OnOk result (self.new ≡ self.old ++ name ∷ []) }
         ensures err { OnErr result (self.new ≡ self.old) }

@@ -91,6 +91,7 @@ pub fn names(
 }
 
 #[tactic(auto, unfolding(crate::specs::Grammar::with_word))]
+#[inline(always)]
 fn add_word(
     alloc: Global,
     tokens: &mut Tokens,
@@ -164,6 +165,7 @@ fn group(
 }
 
 #[tactic(auto, unfolding(crate::specs::Grammar::items_from))]
+#[inline(always)]
 fn items_from(
     alloc: Global,
     tokens: &mut Tokens,
