@@ -113,6 +113,48 @@ fn next_in(words: &[u64], from: usize) -> Option<usize>
     None
 }
 
+/// Sets a bit in the byte of each number of one word.
+fn mark_word(bytes: &mut [u8], words: &[u64], place: usize, bit: u32)
+    requires bit { bit < 8 }
+    requires place { place < length words.now }
+    requires few { length words.now < 2 ^ 32 }
+    ensures inside { (j b : ℕ) → j < length bytes.old → j / 64 ≡ place → has_bit (slice_index bytes.new j) b
+        ≡ (has_bit (slice_index bytes.old j) b || (has words.now j && nat_eq b bit)) }
+    ensures below { (j : ℕ) → j < length bytes.old → j / 64 < place
+        → slice_index bytes.new j ≡ slice_index bytes.old j }
+    ensures above { (j : ℕ) → j < length bytes.old → place < j / 64
+        → slice_index bytes.new j ≡ slice_index bytes.old j }
+{
+    let word = words[place];
+    let mut from = 0;
+    while from < 64 {
+        let rest = word >> from;
+        if rest == 0 {
+            return;
+        }
+        let k = from + rest.trailing_zeros() as usize;
+        let j = 64 * place + k;
+        if j >= bytes.len() {
+            return;
+        }
+        bytes[j] = with_bit(bytes[j], bit);
+        from = k + 1;
+    }
+}
+
+/// Sets a bit in the byte of each number of some words.
+fn mark_words(bytes: &mut [u8], words: &[u64], bit: u32)
+    requires bit { bit < 8 }
+    requires room { length bytes.old ≤ 64 * length words.now }
+    requires few { length words.now < 2 ^ 32 }
+    ensures { (j b : ℕ) → j < length bytes.old → has_bit (slice_index bytes.new j) b
+        ≡ (has_bit (slice_index bytes.old j) b || (has words.now j && nat_eq b bit)) }
+{
+    for place in 0..words.len() {
+        mark_word(bytes, words, place, bit);
+    }
+}
+
 impl BitRow {
     ghost use Rattle.std.specs.Prelude.{◌≡◌, ℕ, ◌*◌, ◌^◌, ◌<◌, ◌≤◌, ◌&&◌, ◌||◌, not, false, true, nat_eq, length, slice_index, IfOk, IfSome, IfNone, IsTrue, count_ones};
     ghost use Rattle.std.specs.List.{sum_by};
@@ -280,13 +322,6 @@ impl BitRow {
         ensures { (j b : ℕ) → j < length bytes.old → has_bit (slice_index bytes.new j) b
             ≡ (has_bit (slice_index bytes.old j) b || (has self.now j && nat_eq b bit)) }
     {
-        let mut from = 0;
-        while let Some(j) = self.next(from) {
-            if j >= bytes.len() {
-                return;
-            }
-            bytes[j] = with_bit(bytes[j], bit);
-            from = j + 1;
-        }
+        mark_words(bytes, &self.words, bit);
     }
 }
