@@ -1,7 +1,8 @@
 //! The permissions of a rule as bits.
 
 ghost use Rattle.std.specs.Prelude.{◌≡◌, ℕ, ◌<◌, ◌≤◌, ◌&&◌, ◌||◌, nat_eq, IfSome, IfNone, is_some, true, false};
-ghost use Rattle.sm_kinds.specs.Permissions.{perm_of};
+ghost use Rattle.sm_kinds.specs.Permissions.{class_word, perm_of};
+ghost use Rattle.sm_ruletext.specs.Sets.{selects};
 ghost use Rattle.sm_rules.specs.Access.{gives};
 ghost use Rattle.sm_bits.specs.Bits.{has_bit};
 ghost use Rattle.sm_rules.specs.Keeping.{class_at, perm_at};
@@ -63,13 +64,15 @@ pub fn number_of(class: Class, perm: Perms) -> Option<u32>
     }
 }
 
-/// Adds a permission, if the rule gives it.
-fn with_perm(byte: u8, rule: &Rule, bit: u32) -> u8
-    requires { bit < 7 }
+/// Adds a permission, if the rule gives it; whether the rule selects the permission's class is known.
+#[tactic(auto, unfolding(crate::specs::Access::gives))]
+fn with_perm(byte: u8, rule: &Rule, of_class: bool, bit: u32) -> u8
+    requires range { bit < 7 }
+    requires class { of_class ≡ selects rule.now.class (class_word (class_at bit)) }
     ensures { (b : ℕ) → has_bit result b ≡ (has_bit byte b || (nat_eq b bit
         && gives (class_at bit) (perm_at bit) rule.now)) }
 {
-    if plain::gives(rule, class_at(bit), perm_at(bit)) {
+    if of_class && plain::picks(&rule.perm, class_at(bit), perm_at(bit)) {
         with_bit(byte, bit)
     } else {
         byte
@@ -81,9 +84,12 @@ pub fn perms_of(rule: &Rule) -> Perms
     ensures given { (b : ℕ) → b < 7 → has_bit result.0 b ≡ gives (class_at b) (perm_at b) rule.now }
     ensures other { (b : ℕ) → 7 ≤ b → has_bit result.0 b ≡ false }
 {
+    let of_manager = rule.class.selects(Class::ServiceManager.word());
+    let of_binder = rule.class.selects(Class::Binder.word());
     let mut perms = 0u8;
     for bit in 0..PERM_COUNT {
-        perms = with_perm(perms, rule, bit);
+        let of_class = if bit < 3 { of_manager } else { of_binder };
+        perms = with_perm(perms, rule, of_class, bit);
     }
     Perms(perms)
 }

@@ -95,15 +95,22 @@ fn word_of(class: Class, perm: Perms) -> Option<&'static [u8]>
     }
 }
 
-/// Whether a rule is of this class and has this permission.
-#[tactic(auto, unfolding(crate::specs::Access::gives))]
-pub fn gives(rule: &Rule, class: Class, perm: Perms) -> bool
-    ensures { result ≡ spec.gives class perm rule.now }
+/// Whether a set of permissions has this single permission of the class.
+pub fn picks(set: &Set, class: Class, perm: Perms) -> bool
+    ensures { result ≡ spec.picks set.now (perm_of class perm) }
 {
     match word_of(class, perm) {
-        Some(word) => rule.class.selects(class.word()) && rule.perm.selects(word),
+        Some(word) => set.selects(word),
         None => false,
     }
+}
+
+/// Whether a rule is of this class and has this permission.
+#[tactic(auto, unfolding(crate::specs::Access::gives))]
+fn gives(rule: &Rule, class: Class, perm: Perms) -> bool
+    ensures { result ≡ spec.gives class perm rule.now }
+{
+    rule.class.selects(class.word()) && picks(&rule.perm, class, perm)
 }
 
 fn covers(
