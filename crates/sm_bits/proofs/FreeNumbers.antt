@@ -1,9 +1,11 @@
 -- The least number that isn't in a row; a number that is taken away.
-use Rattle.std.proofs.Common.{inl, inr, ◌≡◌, ℕ, ◌+◌, ◌-◌, ◌*◌, ◌/◌, ◌%◌, ◌^◌, ◌<◌, ◌≤◌, true, false, not, ◌&&◌, eqb, List, length, get_or, set, refl, sym, ap, ◌∙◌, arith, w64}
+use Rattle.std.proofs.Common.{inl, inr, ◌≡◌, ℕ, ◌+◌, ◌-◌, ◌*◌, ◌/◌, ◌%◌, ◌^◌, ◌<◌, ◌≤◌, true, false, not, ◌&&◌, eqb}
+use Rattle.std.proofs.Common.{List, length, get_or, set, refl, sym, ap, ◌∙◌, arith, w64}
 use Rattle.std.specs.Int.{bit_at, bit_not, trailing_ones}
 use Rattle.std.specs.Prelude.{bit_and}
 use Rattle.std.proofs.lemmas.Bool.{cases_eq, cases_lt, eq-eqb, ne_eqb}
-use Rattle.std.proofs.lemmas.Nat.Bits.{bit_at-zero, bit_at_not, bit_at_clear_same, bit_at_clear_other, bit_at-trailing_ones}
+use Rattle.std.proofs.lemmas.Nat.Bits.{bit_at-zero, bit_at_not, bit_at_clear_same, bit_at_clear_other}
+use Rattle.std.proofs.lemmas.Nat.Bits.{bit_at-trailing_ones}
 use Rattle.std.proofs.lemmas.List.{get_or-set_other, get_or-set_same}
 use Rattle.sm_bits.specs.Bits.{has}
 use Rattle.sm_bits.proofs.Words.{bit_is, has_is}

@@ -1,5 +1,6 @@
 -- The least number of a row from a place on, by the bits of its word that are left from there.
-use Rattle.std.proofs.Common.{inl, inr, ◌≡◌, ℕ, ◌+◌, ◌-◌, ◌*◌, ◌/◌, ◌%◌, ◌^◌, ◌<◌, ◌≤◌, true, false, List, get_or, refl, sym, ap, ◌∙◌, arith, w64}
+use Rattle.std.proofs.Common.{inl, inr, ◌≡◌, ℕ, ◌+◌, ◌-◌, ◌*◌, ◌/◌, ◌%◌, ◌^◌, ◌<◌, ◌≤◌, true, false, List, get_or}
+use Rattle.std.proofs.Common.{refl, sym, ap, ◌∙◌, arith, w64}
 use Rattle.std.specs.Int.{bit_at, trailing_zeros}
 use Rattle.std.proofs.Math.Nat.{div-div-eq-div-mul, div-le_self}
 use Rattle.std.proofs.lemmas.Nat.{pow-add}
@@ -10,7 +11,8 @@ use Rattle.sm_bits.proofs.Words.{bit_is, has_is}
 
 -- the bits of a word from the kth on
 pub bit_behind : (n k b : ℕ) → bit_at (n / 2 ^ k) b ≡ bit_at n (k + b)
-bit_behind n k b = ap (λ (m : ℕ). m % 2) (div-div-eq-div-mul n (2 ^ k) (2 ^ b) ∙ ap (λ (m : ℕ). n / m) (sym (pow-add 2 k b)))
+bit_behind n k b =
+    ap (λ (m : ℕ). m % 2) (div-div-eq-div-mul n (2 ^ k) (2 ^ b) ∙ ap (λ (m : ℕ). n / m) (sym (pow-add 2 k b)))
 
 -- What bit b of the rest says of number i + b, if that is in the same word.
 bit_of_rest : (words : List ℕ) (i b rest : ℕ) → rest ≡ get_or words (i / 64) 0 / 2 ^ (i % 64) → i % 64 + b < 64

@@ -1,5 +1,6 @@
 -- A set that is kept as a single number.
-use Rattle.std.proofs.Common.{inl, inr, ◌≡◌, ℕ, ◌<◌, ◌≤◌, ◌/◌, Bool, true, false, ◌&&◌, eqb, List, length, refl, subst, sym, ap, ◌∙◌}
+use Rattle.std.proofs.Common.{inl, inr, ◌≡◌, ℕ, ◌<◌, ◌≤◌, ◌/◌, Bool, true, false, ◌&&◌, eqb, List, length, refl}
+use Rattle.std.proofs.Common.{subst, sym, ap, ◌∙◌}
 use Rattle.std.specs.Bool.{IsTrue}
 use Rattle.std.proofs.lemmas.Bool.{eq-eqb, ne_eqb, cases_eq, cases_lt, and_right}
 use Rattle.sm_bits.specs.Bits.{has}

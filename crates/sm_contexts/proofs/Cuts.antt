@@ -1,5 +1,6 @@
 -- The first line of a text, and the rest.
-use Rattle.std.proofs.Common.{◌≡◌, ℕ, suc, ◌+◌, ◌<◌, ◌≤◌, true, false, not, cond, eqb, List, [], ◌∷◌, length, take, drop, refl, arith}
+use Rattle.std.proofs.Common.{◌≡◌, ℕ, suc, ◌+◌, ◌<◌, ◌≤◌, true, false, not, cond, eqb, List, [], ◌∷◌, length, take}
+use Rattle.std.proofs.Common.{drop, refl, arith}
 use Rattle.std.specs.List.{prefix_len}
 use Rattle.sm_contexts.specs.Lines.{lines, is_in_line, onto_first}
 

@@ -1,5 +1,6 @@
 -- The loops over lines.
-use Rattle.std.proofs.Common.{Option, Some, None, ◌≡◌, ℕ, ◌+◌, List, [], ◌∷◌, Ok, Err, refl, sym, ◌∙◌, Bool, true, false, cond}
+use Rattle.std.proofs.Common.{Option, Some, None, ◌≡◌, ℕ, ◌+◌, List, [], ◌∷◌, Ok, Err, refl, sym, ◌∙◌, Bool, true}
+use Rattle.std.proofs.Common.{false, cond}
 use Rattle.std.specs.List.{list_any}
 use Rattle.std.specs.Prelude.{find, option_map, ◌||◌}
 use Rattle.std.proofs.lemmas.Bool.{false≢true}

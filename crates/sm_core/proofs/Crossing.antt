@@ -1,17 +1,8 @@
 -- What readers see of a manager crosses to other threads, and threads share it.
 use denote.RattleType.{RattleType}
 use denote.Param.Send as cross
-use denote.Param.Send.{
-  IsSend,
-  IsSync,
-  sendable,
-  recorded_send,
-  recorded_sync,
-  struct_send,
-  struct_sync,
-  enum_send,
-  enum_sync,
-}
+use denote.Param.Send.{IsSend, IsSync, sendable, recorded_send, recorded_sync, struct_send, struct_sync, enum_send}
+use denote.Param.Send.{enum_sync}
 use denote.Struct.Field as Field
 use denote.Struct.Declared as struct
 use denote.Enum.Declared as enum
@@ -119,12 +110,34 @@ pub view_send : IsSend View.the_row
 view_send =
     cross.view_send ViewInside.the_row _ _ _ _
     (recorded_send _ _ _ ViewInside.the_type.to_one
-    (struct_send (struct.shape ViewInside.the_type)
-    (global_send, (u32_send, (u64_send, (Arc-send People.the_row people_send people_sync, (services_send, (tally_send, (journal_send, (next_send, tt))))))))))
+    (struct_send (struct.shape ViewInside.the_type) (
+      global_send,
+      (
+        u32_send,
+        (
+          u64_send,
+          (
+            Arc-send People.the_row people_send people_sync,
+            (services_send, (tally_send, (journal_send, (next_send, tt)))),
+          ),
+        ),
+      ),
+    )))
 
 pub view_sync : IsSync View.the_row
 view_sync =
     cross.view_sync ViewInside.the_row _ _ _ _
     (recorded_sync _ _ _ ViewInside.the_type.to_one
-    (struct_sync (struct.shape ViewInside.the_type)
-    (global_sync, (u32_sync, (u64_sync, (Arc-sync People.the_row people_send people_sync, (services_sync, (tally_sync, (journal_sync, (next_sync, tt))))))))))
+    (struct_sync (struct.shape ViewInside.the_type) (
+      global_sync,
+      (
+        u32_sync,
+        (
+          u64_sync,
+          (
+            Arc-sync People.the_row people_send people_sync,
+            (services_sync, (tally_sync, (journal_sync, (next_sync, tt)))),
+          ),
+        ),
+      ),
+    )))

@@ -1,9 +1,12 @@
 -- What a view's parts are after more effects, and what it answers.
-use Rattle.std.proofs.Common.{◌≡◌, ℕ, ◌+◌, ◌||◌, Bool, true, false, List, [], ◌∷◌, refl, ap, sym, subst, ◌∙◌, length, inr, if◌then◌else◌, arith}
+use Rattle.std.proofs.Common.{◌≡◌, ℕ, ◌+◌, ◌||◌, Bool, true, false, List, [], ◌∷◌, refl, ap, sym, subst, ◌∙◌, length}
+use Rattle.std.proofs.Common.{inr, if◌then◌else◌, arith}
 use Rattle.std.specs.List.{list_any}
 use Rattle.std.proofs.lemmas.Bool.{true≢false}
 use Rattle.sm_history.specs.declared.effect.Effect.{Effect}
-use Rattle.sm_history.specs.declared.effect.Effect.TheVariants.{Opens, Sets, Connects, Dies, Adds, Removes, Gives, Releases, Watches, Unwatches, Delivers, Takes, Resumes}
+use Rattle.sm_history.specs.declared.effect.Effect.TheVariants.{Opens, Sets, Connects, Dies, Adds, Removes, Gives}
+use Rattle.sm_history.specs.declared.effect.Effect.TheVariants.{Releases, Watches, Unwatches, Delivers, Takes}
+use Rattle.sm_history.specs.declared.effect.Effect.TheVariants.{Resumes}
 use Rattle.sm_history.specs.Effects.{Effects}
 use Rattle.sm_history.specs.Following.{MayFollow, MayAll, followed}
 use Rattle.sm_history.specs.Histories.{History, effects_of, entered, turn_of}
@@ -85,8 +88,8 @@ people_stay (x ∷ xs) d p h s =
     people_stay xs (x ∷ d) p (none_rest (moves_people x) (list_any moves_people xs) h)
     (same_people x d p (none_first (moves_people x) (list_any moves_people xs) h) s)
 
-pub services_stay : (xs : List Effect) (d : Effects) (rows : List NameRow) → list_any moves_services xs ≡ false → Sound d
-    → MayAll d xs → TracksRows d rows → TracksRows (followed d xs) rows
+pub services_stay : (xs : List Effect) (d : Effects) (rows : List NameRow) → list_any moves_services xs ≡ false
+    → Sound d → MayAll d xs → TracksRows d rows → TracksRows (followed d xs) rows
 services_stay [] d rows h s m tr = tr
 services_stay (x ∷ xs) d rows h s m tr =
     services_stay xs (x ∷ d) rows (none_rest (moves_services x) (list_any moves_services xs) h)
@@ -115,7 +118,8 @@ gone P d xs left is g = subst P (ap (followed g.0) (sym is) ∙ g.4) g.2
 pub viewed_now : (places : ℕ) (h : History) (turns : Turns) (s : State) (len : ℕ) (people : People)
     (services : Services) (base : Turns) (since : List By)
     → Kept places h turns s [] → len ≡ length h.entries
-    → ((d : Effects) → Stands d s → StandPeople d people) → ((d : Effects) → Stands d s → TracksRows d services.rows.items)
+    → ((d : Effects) → Stands d s → StandPeople d people)
+    → ((d : Effects) → Stands d s → TracksRows d services.rows.items)
     → ((b : By) → counted_in base since b ≡ made turns b)
     → Viewed places h len people services base since
 viewed_now places h turns s len people services base since k is asks named counts = record {

@@ -102,6 +102,7 @@ pub record Viewed (places : ℕ) (h : History) (length : ℕ) (people : People) 
 pub record IsComing (places : ℕ) (h : History) (version : ℕ) (r : Ready) : Type 0 where
   pub done : verdict places h r.entry.by r.entry.turn r.entry.event ≡ Done r.entry.outcome
   pub sound : HasSoundPolicy r.entry.event
-  pub effects : followed (effects_of h) r.effects.items ≡ after_event (effects_of h) (client_of r.entry.by) r.entry.event
+  pub effects : followed (effects_of h) r.effects.items
+      ≡ after_event (effects_of h) (client_of r.entry.by) r.entry.event
   pub may : MayAll (effects_of h) r.effects.items
   pub numbers : version + list_length r.effects.items ≤ 4194304

@@ -40,7 +40,8 @@ module _ (T : RattleType) (g : Ghosts T.Denot) where
       let page = Arc.the_row (Page.the_row T g) Global.the_row Heap.ghosts in
       let absorbs = Absorb.ghosts T g Absorb.no_dict in
       let rule = Rule.ghosts T g Rule.no_dict in
-      Writer.the_row shown page Known.the_row (OneHistory.the_row T) Global.the_row View.the_row absorbs rule Heap.ghosts
+      Writer.the_row shown page Known.the_row (OneHistory.the_row T) Global.the_row View.the_row
+      absorbs rule Heap.ghosts
 
   option_send : (R : RattleType) → IsSend R → IsSend (Option.the_field R).row
   option_send R r = enum_send (enum.shape (Option.the_type R)) (tt, ((r, tt), tt))

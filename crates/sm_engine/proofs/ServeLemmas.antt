@@ -1,6 +1,7 @@
 -- How an engine's promise follows from read to read.
 use Rattle.std.proofs.Common.{◌≡◌, Bool, true, false, ℕ, ◌+◌, ◌<◌, ◌≤◌, length, length-append, arith, List, [], ◌++◌}
-use Rattle.std.proofs.Common.{take, Option, Result, Ok, Err, OnOk, OnErr, refl, sym, append_assoc, subst, inl, inr, ◌⊎◌, drop}
+use Rattle.std.proofs.Common.{take, Option, Result, Ok, Err, OnOk, OnErr, refl, sym, append_assoc, subst, inl, inr}
+use Rattle.std.proofs.Common.{◌⊎◌, drop}
 use Rattle.std.proofs.lemmas.List.{append-nil, take-append-drop}
 use Rattle.std.specs.Io.KnownBytes.{Appends, Consumes, Keeps}
 use Rattle.sm_wire.specs.declared.item.Item.{Item}

@@ -122,7 +122,8 @@ ByResult kind (Err WriteFault) bound answers over old bytes w w_new a a_new new 
 ByResult kind (Err Memory) bound answers over old bytes w w_new a a_new new =
     Fronts kind answers old bytes w w_new a a_new new
 
--- an engine for lines of this kind that may make `bound` reads read these bytes, at least one a read, and wrote for them
+-- an engine for lines of this kind that may make `bound` reads read these bytes, at least one a read, and wrote for
+-- them
 pub record Served {S : Type 0} (kind : Kind) (answers : S → Item → List ℕ → List ℕ → S
     → Type 0) (over : S → Bool) (result : Result (Unit {0}) Fault)
     (bound : ℕ) (old : S) (r r_new w w_new a a_new : Option (List ℕ)) (new : S) : Type 0 where

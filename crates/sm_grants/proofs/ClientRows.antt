@@ -1,5 +1,7 @@
 -- The rows of clients, and what effects make of them.
-use Rattle.std.proofs.Common.{◌≡◌, ℕ, zero, suc, ◌+◌, ◌-◌, ◌<◌, Bool, true, false, ◌&&◌, ◌||◌, ◌==◌, List, [], ◌∷◌, ◌++◌, refl, ap, sym, ◌∙◌, subst, length, map, set, Option, Some, None, if◌then◌else◌, arith, get_or}
+use Rattle.std.proofs.Common.{◌≡◌, ℕ, zero, suc, ◌+◌, ◌-◌, ◌<◌, Bool, true, false, ◌&&◌, ◌||◌, ◌==◌, List, [], ◌∷◌}
+use Rattle.std.proofs.Common.{◌++◌, refl, ap, sym, ◌∙◌, subst, length, map, set, Option, Some, None, if◌then◌else◌}
+use Rattle.std.proofs.Common.{arith, get_or}
 use Rattle.std.specs.Prelude.{not, ◌≤◌}
 use Rattle.std.specs.List.{list_any, remove}
 use Rattle.std.proofs.lemmas.Bool.{true≢false, or_from, or_parts}
@@ -16,10 +18,12 @@ use Rattle.sm_history.proofs.AfterClients.{list_dies}
 use Rattle.sm_history.proofs.Sound.{once_more, once_filter}
 use Rattle.sm_grants.specs.declared.held.Held.{Held}
 use Rattle.sm_grants.specs.declared.rows.ClientHandles.{ClientHandles}
-use Rattle.sm_grants.specs.Slots.{Slots, slot, node_of, held_in, IsPut, IsAbsent, granted_slot, released_slot, IsGranted, IsNumberFor, HandleTable}
+use Rattle.sm_grants.specs.Slots.{Slots, slot, node_of, held_in, IsPut, IsAbsent, granted_slot, released_slot}
+use Rattle.sm_grants.specs.Slots.{IsGranted, IsNumberFor, HandleTable}
 use Rattle.sm_grants.specs.Tracking.{TracksSlots}
 use Rattle.sm_grants.specs.Rows.{table_of, index_from, slots_in, slots_of, spare_in, spare_of, TracksRows, CanGrantRow}
-use Rattle.sm_grants.proofs.Tracked.{not_held, tracked_gives, tracked_releases, tracked_same, tracked_none, node_is_slot, node_zero, free_is}
+use Rattle.sm_grants.proofs.Tracked.{not_held, tracked_gives, tracked_releases, tracked_same, tracked_none}
+use Rattle.sm_grants.proofs.Tracked.{node_is_slot, node_zero, free_is}
 use Rattle.sm_grants.proofs.Small.{self_same, lt_test, zero_test}
 
 -- ---- rows

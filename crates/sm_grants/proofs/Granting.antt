@@ -1,5 +1,6 @@
 -- When a grant can be made, in words of the effects.
-use Rattle.std.proofs.Common.{◌≡◌, ℕ, ◌+◌, ◌-◌, ◌≤◌, ◌<◌, ◌^◌, ◌∷◌, Bool, true, false, refl, ap, sym, ◌∙◌, length, Option, Some, None, if◌then◌else◌, arith}
+use Rattle.std.proofs.Common.{◌≡◌, ℕ, ◌+◌, ◌-◌, ◌≤◌, ◌<◌, ◌^◌, ◌∷◌, Bool, true, false, refl, ap, sym, ◌∙◌, length}
+use Rattle.std.proofs.Common.{Option, Some, None, if◌then◌else◌, arith}
 use Rattle.std.specs.Prelude.{nat_le, is_some}
 use Rattle.std.proofs.lemmas.Bool.Decides.{nat_tests}
 use Rattle.std.proofs.lemmas.List.Sums.{count_by-le-length}

@@ -1,5 +1,7 @@
 -- What is kept beside the slots, after a change.
-use Rattle.std.proofs.Common.{inl, inr, ◌≡◌, ℕ, zero, suc, ◌+◌, ◌≤◌, ◌<◌, Bool, true, false, not, ◌&&◌, ◌||◌, ◌==◌, List, [], ◌∷◌, refl, ap, sym, ◌∙◌, subst, length, Option, Some, None, if◌then◌else◌, arith}
+use Rattle.std.proofs.Common.{inl, inr, ◌≡◌, ℕ, zero, suc, ◌+◌, ◌≤◌, ◌<◌, Bool, true, false, not, ◌&&◌, ◌||◌, ◌==◌}
+use Rattle.std.proofs.Common.{List, [], ◌∷◌, refl, ap, sym, ◌∙◌, subst, length, Option, Some, None, if◌then◌else◌}
+use Rattle.std.proofs.Common.{arith}
 use Rattle.std.specs.Prelude.{is_some, cond, nat_le, nat_lt, MatchOption, IfSome, IsOk, IfOk, OnOk, Result, Ok, Err}
 use Rattle.std.proofs.lemmas.Bool.{true≢false, cases_lt}
 use Rattle.std.proofs.lemmas.Bool.Decides.{nat_tests}
@@ -11,7 +13,8 @@ use Rattle.sm_history.specs.Effects.{same_node}
 use Rattle.sm_history.proofs.Balanced.{node_same, number_same}
 use Rattle.sm_history.proofs.Grants.{same_self}
 use Rattle.sm_grants.specs.declared.held.Held.{Held}
-use Rattle.sm_grants.specs.Slots.{Slots, slot, node_of, held_in, key_of, same_key, AreIndexed, AreHandles, IsPut, IsAbsent, granted_slot, released_slot, count_of}
+use Rattle.sm_grants.specs.Slots.{Slots, slot, node_of, held_in, key_of, same_key, AreIndexed, AreHandles, IsPut}
+use Rattle.sm_grants.specs.Slots.{IsAbsent, granted_slot, released_slot, count_of}
 use Rattle.sm_grants.proofs.Small.{some_node, none_some, no_node, left_over}
 
 abbrev Nodes : Type 0

@@ -1,5 +1,6 @@
 -- The first place of an object in a list.
-use Rattle.std.proofs.Common.{◌≡◌, ℕ, zero, suc, ◌≤◌, ◌<◌, Bool, true, false, List, [], ◌∷◌, refl, sym, ◌∙◌, length, get_or, Option, Some, None, arith}
+use Rattle.std.proofs.Common.{◌≡◌, ℕ, zero, suc, ◌≤◌, ◌<◌, Bool, true, false, List, [], ◌∷◌, refl, sym, ◌∙◌, length}
+use Rattle.std.proofs.Common.{get_or, Option, Some, None, arith}
 use Rattle.std.specs.Prelude.{MatchOption, nat_lt, is_some, position, cond}
 use Rattle.std.specs.List.{list_any, position_or_len}
 use Rattle.std.proofs.lemmas.Bool.{true≢false, or_from, or_parts}

@@ -1,5 +1,6 @@
 -- What slots say of a client's holdings, and how they follow a grant and a release.
-use Rattle.std.proofs.Common.{inl, inr, ◌≡◌, ℕ, zero, suc, ◌+◌, ◌-◌, ◌≤◌, ◌<◌, Bool, true, false, ◌||◌, ◌==◌, [], ◌∷◌, refl, ap, sym, ◌∙◌, subst, length, Option, Some, None, if◌then◌else◌, arith}
+use Rattle.std.proofs.Common.{inl, inr, ◌≡◌, ℕ, zero, suc, ◌+◌, ◌-◌, ◌≤◌, ◌<◌, Bool, true, false, ◌||◌, ◌==◌, [], ◌∷◌}
+use Rattle.std.proofs.Common.{refl, ap, sym, ◌∙◌, subst, length, Option, Some, None, if◌then◌else◌, arith}
 use Rattle.std.specs.Prelude.{is_some, is_none, cond, nat_le, unwrap_or, MatchOption}
 use Rattle.std.specs.List.{list_any, find, range_with_len}
 use Rattle.std.proofs.lemmas.Bool.{true≢false, cases_lt}
@@ -13,7 +14,8 @@ use Rattle.sm_history.proofs.Balanced.{node_same, number_same}
 use Rattle.sm_history.proofs.Grants.{same_self, IsDistinct, given_distinct}
 use Rattle.sm_history.proofs.HeldAlike.{node_is, node_held, fewer, distinct_filter, among_held, held_among}
 use Rattle.sm_grants.specs.declared.held.Held.{Held}
-use Rattle.sm_grants.specs.Slots.{Slots, slot, node_of, held_in, nodes_in, is_in, IsPut, IsAbsent, IsFirstFree, granted_slot, released_slot}
+use Rattle.sm_grants.specs.Slots.{Slots, slot, node_of, held_in, nodes_in, is_in, IsPut, IsAbsent, IsFirstFree}
+use Rattle.sm_grants.specs.Slots.{granted_slot, released_slot}
 use Rattle.sm_grants.specs.Tracking.{AreTracked, TracksSlots}
 use Rattle.sm_grants.proofs.Indexed.{taken_front}
 use Rattle.sm_grants.proofs.Small.{some_node, left_over, test_lt, lt_test}

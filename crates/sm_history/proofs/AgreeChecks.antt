@@ -1,5 +1,6 @@
 -- Where tables agree, so do the checks of an event of a live client, as far as the first that fails.
-use Rattle.std.proofs.Common.{◌≡◌, ℕ, ◌+◌, Bool, true, false, ◌||◌, ◌&&◌, ◌==◌, List, [], ◌∷◌, ◌++◌, refl, ap, sym, ◌∙◌, length, Option, Some, None}
+use Rattle.std.proofs.Common.{◌≡◌, ℕ, ◌+◌, Bool, true, false, ◌||◌, ◌&&◌, ◌==◌, List, [], ◌∷◌, ◌++◌, refl, ap, sym}
+use Rattle.std.proofs.Common.{◌∙◌, length, Option, Some, None}
 use Rattle.std.specs.Prelude.{nat_lt, nat_le, not, is_some}
 use Rattle.std.specs.List.{list_any}
 use Rattle.std.proofs.lemmas.Bool.{true≢false}
@@ -11,11 +12,15 @@ use Rattle.sm_kinds.specs.Users.{is_barred, is_isolated_user}
 use Rattle.sm_policy.specs.Policy.{Policy}
 use Rattle.sm_history.specs.declared.stop.Instead.{Instead}
 use Rattle.sm_history.specs.declared.event.Event.{Event}
-use Rattle.sm_history.specs.declared.event.Event.TheVariants.{Open, Connect, Add, Get, Watch as WatchName, Unwatch, Unregister, Call, Release, Take, Die, Reload}
+use Rattle.sm_history.specs.declared.event.Event.TheVariants.{Open, Connect, Add, Get, Watch as WatchName, Unwatch}
+use Rattle.sm_history.specs.declared.event.Event.TheVariants.{Unregister, Call, Release, Take, Die, Reload}
 use Rattle.sm_history.specs.declared.denial.Denial.TheVariants.{App, Isolated}
-use Rattle.sm_history.specs.declared.refusal.Refusal.TheVariants.{Exception, Failed, Dead, Empty, TooManyClients, VersionMoved}
+use Rattle.sm_history.specs.declared.refusal.Refusal.TheVariants.{Exception, Failed, Dead, Empty, TooManyClients}
+use Rattle.sm_history.specs.declared.refusal.Refusal.TheVariants.{VersionMoved}
 use Rattle.sm_history.specs.declared.refusal.Failure.TheVariants.{BadHandle, TargetFull}
-use Rattle.sm_history.specs.declared.refusal.Exception.TheVariants.{NotAdder, DeadOwner, TableFull, NothingToUnregister, NotRegistered, OtherObject, InUse}
+use Rattle.sm_history.specs.declared.refusal.Exception.TheVariants.{NotAdder, DeadOwner, TableFull}
+use Rattle.sm_history.specs.declared.refusal.Exception.TheVariants.{NothingToUnregister, NotRegistered, OtherObject}
+use Rattle.sm_history.specs.declared.refusal.Exception.TheVariants.{InUse}
 use Rattle.sm_history.specs.declared.stop.Instead.TheVariants.{GotNull, Refused}
 use Rattle.sm_history.specs.declared.delivery.Delivery.{Delivery}
 use Rattle.sm_history.specs.Effects.{Effects, Service, Watch, same_node}
@@ -23,12 +28,18 @@ use Rattle.sm_history.specs.Clients.{is_live, live_clients}
 use Rattle.sm_history.specs.Holdings.{is_held, node_at, resolve_at, handed, fits_handles, is_in_use}
 use Rattle.sm_history.specs.Services.{service_at, has_name_room, same_watch}
 use Rattle.sm_history.specs.Inboxes.{has_inbox_room}
-use Rattle.sm_history.specs.Checks.{Check, Spares, Wants, first_failing, to_client, adding, finding, calling, transferring}
+use Rattle.sm_history.specs.Checks.{Check, Spares, Wants, first_failing, to_client, adding, finding, calling}
+use Rattle.sm_history.specs.Checks.{transferring}
 use Rattle.sm_history.specs.Histories.{found, handed_refs, watch}
-use Rattle.sm_history.specs.Verdict.{event_checks, not_barred, not_isolated, passes_to_manager, passes_to_client, all_pass_to_client, owner_lives, service_meets, naming_checks, add_checks, handing_checks, get_checks, watch_checks, unwatch_checks, unregister_checks, object_checks, call_checks}
+use Rattle.sm_history.specs.Verdict.{event_checks, not_barred, not_isolated, passes_to_manager, passes_to_client}
+use Rattle.sm_history.specs.Verdict.{all_pass_to_client, owner_lives, service_meets, naming_checks, add_checks}
+use Rattle.sm_history.specs.Verdict.{handing_checks, get_checks, watch_checks, unwatch_checks, unregister_checks}
+use Rattle.sm_history.specs.Verdict.{object_checks, call_checks}
 use Rattle.sm_history.proofs.Rising.{names_alike}
 use Rattle.sm_history.proofs.AgreeEffects.{Sim, sim_held, sim_nodes}
-use Rattle.sm_history.proofs.AgreeNotices.{both, wants_alike, cons_alike, to_manager_alike, from_manager_alike, to_client_alike, to_label_alike, sim_handed, fits_alike, room_alike, resolve_alike, sim_refs}
+use Rattle.sm_history.proofs.AgreeNotices.{both, wants_alike, cons_alike, to_manager_alike, from_manager_alike}
+use Rattle.sm_history.proofs.AgreeNotices.{to_client_alike, to_label_alike, sim_handed, fits_alike, room_alike}
+use Rattle.sm_history.proofs.AgreeNotices.{resolve_alike, sim_refs}
 use Rattle.sm_history.specs.declared.limits.TheConstants.{MOST_NAMES, MOST_WATCHES, MOST_CLIENTS, LAST_CLIENT}
 
 append_alike : {xs ys us vs : List Check} → xs ≡ ys → us ≡ vs → xs ++ us ≡ ys ++ vs

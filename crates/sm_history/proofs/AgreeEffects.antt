@@ -1,12 +1,14 @@
 -- Tables that agree go on to agree, effect by effect.
-use Rattle.std.proofs.Common.{◌≡◌, ℕ, ◌+◌, ◌-◌, Bool, true, false, ◌&&◌, ◌==◌, List, [], ◌∷◌, ◌++◌, refl, ap, sym, ◌∙◌, length, drop, Option, Some, None, if◌then◌else◌}
+use Rattle.std.proofs.Common.{◌≡◌, ℕ, ◌+◌, ◌-◌, Bool, true, false, ◌&&◌, ◌==◌, List, [], ◌∷◌, ◌++◌, refl, ap, sym}
+use Rattle.std.proofs.Common.{◌∙◌, length, drop, Option, Some, None, if◌then◌else◌}
 use Rattle.std.specs.Prelude.{nat_lt, not, filter, bytes_eq, unwrap_or}
 use Rattle.std.proofs.lemmas.List.Elements.{filter_agree}
 use Rattle.sm_kinds.specs.declared.number.Node.{Node}
 use Rattle.sm_kinds.specs.declared.identity.Identity.{Identity}
 use Rattle.sm_policy.specs.Policy.{Policy}
 use Rattle.sm_history.specs.declared.delivery.Delivery.{Delivery}
-use Rattle.sm_history.specs.Effects.{Effects, Service, Watch, Opens, Sets, Connects, Dies, Adds, Removes, Gives, Releases, Watches, Unwatches, Delivers, Takes, same_node}
+use Rattle.sm_history.specs.Effects.{Effects, Service, Watch, Opens, Sets, Connects, Dies, Adds, Removes, Gives}
+use Rattle.sm_history.specs.Effects.{Releases, Watches, Unwatches, Delivers, Takes, same_node}
 use Rattle.sm_history.specs.Clients.{is_live, next_client, identity_at}
 use Rattle.sm_history.specs.Holdings.{refs_at, is_held, number_at, node_at, free_number}
 use Rattle.sm_history.specs.Services.{same_watch, service_at, watches_at}
@@ -19,7 +21,9 @@ use Rattle.sm_history.proofs.AfterHoldings.{refs_connects, refs_dies, refs_gives
 use Rattle.sm_history.proofs.AfterNames.{service_connects, service_dies, unless_owned, service_adds, service_removes}
 use Rattle.sm_history.proofs.AfterWatches.{watches_connects, watches_dies, watches_watches, watches_unwatches}
 use Rattle.sm_history.proofs.AfterInboxes.{inbox_connects, inbox_dies, inbox_delivers, inbox_takes}
-use Rattle.sm_history.proofs.Sound.{Numbers, Waits, held_connects, held_dies, held_releases, is_new, sound_opens, sound_sets, sound_connects, sound_dies, sound_adds, sound_removes, sound_gives, sound_releases, sound_watches, sound_unwatches, sound_delivers, sound_takes}
+use Rattle.sm_history.proofs.Sound.{Numbers, Waits, held_connects, held_dies, held_releases, is_new, sound_opens}
+use Rattle.sm_history.proofs.Sound.{sound_sets, sound_connects, sound_dies, sound_adds, sound_removes, sound_gives}
+use Rattle.sm_history.proofs.Sound.{sound_releases, sound_watches, sound_unwatches, sound_delivers, sound_takes}
 use Rattle.std.proofs.lemmas.Bool.{and_parts}
 use Rattle.sm_history.specs.Sound.{Sound}
 

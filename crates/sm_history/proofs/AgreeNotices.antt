@@ -1,5 +1,6 @@
 -- What is handed out and told is the same where tables agree, and they agree after it.
-use Rattle.std.proofs.Common.{◌≡◌, ℕ, Bool, true, false, ◌&&◌, ◌==◌, List, [], ◌∷◌, refl, ap, sym, ◌∙◌, subst, length, Option, Some, None, if◌then◌else◌}
+use Rattle.std.proofs.Common.{◌≡◌, ℕ, Bool, true, false, ◌&&◌, ◌==◌, List, [], ◌∷◌, refl, ap, sym, ◌∙◌, subst, length}
+use Rattle.std.proofs.Common.{Option, Some, None, if◌then◌else◌}
 use Rattle.std.specs.Prelude.{nat_lt, nat_le, filter, is_none, bytes_eq}
 use Rattle.std.specs.List.{list_all}
 use Rattle.std.proofs.lemmas.Bool.{true≢false, and_parts}
@@ -24,11 +25,14 @@ use Rattle.sm_history.specs.declared.delivery.Given.TheVariants.{Handle, Own}
 use Rattle.sm_history.specs.declared.delivery.Message.TheVariants.{Registered}
 use Rattle.sm_history.specs.Effects.{Effects, Watch, Gives, Delivers}
 use Rattle.sm_history.specs.Clients.{is_live}
-use Rattle.sm_history.specs.Holdings.{is_held, number_at, node_at, free_number, number_for, given_to, handed, fits_handles, resolve_at}
+use Rattle.sm_history.specs.Holdings.{is_held, number_at, node_at, free_number, number_for, given_to, handed}
+use Rattle.sm_history.specs.Holdings.{fits_handles, resolve_at}
 use Rattle.sm_history.specs.Services.{watches_at, watchers_at, watches_made}
 use Rattle.sm_history.specs.Inboxes.{has_inbox_room}
-use Rattle.sm_history.specs.Checks.{Check, Needs, Wants, first_failing, to_manager, from_manager, to_client, to_label, finding, calling, transferring}
-use Rattle.sm_history.specs.Notices.{notice_checks, first_missing, registration, notice_at, told_of, after_told, after_notice, after_notices, notices_at}
+use Rattle.sm_history.specs.Checks.{Check, Needs, Wants, first_failing, to_manager, from_manager, to_client, to_label}
+use Rattle.sm_history.specs.Checks.{finding, calling, transferring}
+use Rattle.sm_history.specs.Notices.{notice_checks, first_missing, registration, notice_at, told_of, after_told}
+use Rattle.sm_history.specs.Notices.{after_notice, after_notices, notices_at}
 use Rattle.sm_history.specs.Histories.{given_ref, handed_ref, given_refs, handed_refs}
 use Rattle.sm_history.proofs.LeastFree.{free_is_free}
 use Rattle.sm_history.proofs.Fresh.{all_filtered, all_filtered_again}

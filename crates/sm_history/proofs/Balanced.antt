@@ -1,12 +1,14 @@
 -- No more is released than was granted.
-use Rattle.std.proofs.Common.{◌≡◌, ℕ, ◌+◌, ◌-◌, ◌≤◌, ◌<◌, Bool, true, false, ◌&&◌, ◌==◌, List, [], ◌∷◌, refl, ap, sym, ◌∙◌, subst, Option, Some, None, if◌then◌else◌, arith}
+use Rattle.std.proofs.Common.{◌≡◌, ℕ, ◌+◌, ◌-◌, ◌≤◌, ◌<◌, Bool, true, false, ◌&&◌, ◌==◌, List, [], ◌∷◌, refl, ap, sym}
+use Rattle.std.proofs.Common.{◌∙◌, subst, Option, Some, None, if◌then◌else◌, arith}
 use Rattle.std.specs.Prelude.{filter, is_some, cond, nat_lt}
 use Rattle.std.specs.List.{find}
 use Rattle.std.proofs.lemmas.Bool.Decides.{nat_tests}
 use Rattle.std.proofs.lemmas.Bool.{true≢false, and_parts}
 use Rattle.std.proofs.lemmas.List.Sums.{sum_by-cons}
 use Rattle.sm_kinds.specs.declared.number.Node.{Node}
-use Rattle.sm_history.specs.Effects.{Effect, Effects, same_node, Opens, Sets, Connects, Dies, Adds, Removes, Gives, Releases, Watches, Unwatches, Delivers, Takes, Resumes}
+use Rattle.sm_history.specs.Effects.{Effect, Effects, same_node, Opens, Sets, Connects, Dies, Adds, Removes, Gives}
+use Rattle.sm_history.specs.Effects.{Releases, Watches, Unwatches, Delivers, Takes, Resumes}
 use Rattle.sm_history.specs.Clients.{is_live}
 use Rattle.sm_history.specs.Holdings.{is_held, given_nodes, number_at, node_at, number_given, is_release_of}
 use Rattle.sm_history.specs.Histories.{found}

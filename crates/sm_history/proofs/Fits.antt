@@ -1,11 +1,13 @@
 -- An accepted change, a death too, leaves the places for the deaths to come.
-use Rattle.std.proofs.Common.{◌≡◌, ℕ, ◌+◌, ◌≤◌, true, false, ◌==◌, List, [], ◌∷◌, refl, ap, ◌∙◌, length, arith, if◌then◌else◌}
+use Rattle.std.proofs.Common.{◌≡◌, ℕ, ◌+◌, ◌≤◌, true, false, ◌==◌, List, [], ◌∷◌, refl, ap, ◌∙◌, length, arith}
+use Rattle.std.proofs.Common.{if◌then◌else◌}
 use Rattle.std.specs.Prelude.{filter, not}
 use Rattle.std.specs.List.{list_any}
 use Rattle.std.proofs.lemmas.Bool.Decides.{nat_tests}
 use Rattle.sm_history.specs.declared.by.By.{By}
 use Rattle.sm_history.specs.declared.event.Event.{Event}
-use Rattle.sm_history.specs.declared.event.Event.TheVariants.{Open, Connect, Add, Get, Watch as WatchName, Unwatch, Unregister, Call, Release, Take, Die, Reload}
+use Rattle.sm_history.specs.declared.event.Event.TheVariants.{Open, Connect, Add, Get, Watch as WatchName, Unwatch}
+use Rattle.sm_history.specs.declared.event.Event.TheVariants.{Unregister, Call, Release, Take, Die, Reload}
 use Rattle.sm_history.specs.declared.outcome.Outcome.{Outcome}
 use Rattle.sm_history.specs.declared.reply.Reply.TheVariants.{Done}
 use Rattle.sm_history.specs.Clients.{live_clients, is_live}

@@ -1,5 +1,6 @@
 -- An accepted change leaves the places for the deaths to come.
-use Rattle.std.proofs.Common.{◌≡◌, ℕ, ◌+◌, ◌-◌, ◌≤◌, true, false, List, [], ◌∷◌, ◌++◌, refl, ap, sym, ◌∙◌, length, arith}
+use Rattle.std.proofs.Common.{◌≡◌, ℕ, ◌+◌, ◌-◌, ◌≤◌, true, false, List, [], ◌∷◌, ◌++◌, refl, ap, sym, ◌∙◌, length}
+use Rattle.std.proofs.Common.{arith}
 use Rattle.std.specs.Prelude.{nat_le}
 use Rattle.std.proofs.lemmas.Bool.Decides.{nat_tests}
 use Rattle.std.proofs.lemmas.Bool.{true≢false}
@@ -7,15 +8,18 @@ use Rattle.std.proofs.lemmas.List.{length-append}
 use Rattle.sm_policy.specs.Policy.{Policy}
 use Rattle.sm_history.specs.declared.entry.Entry.{Entry}
 use Rattle.sm_history.specs.declared.event.Event.{Event}
-use Rattle.sm_history.specs.declared.event.Event.TheVariants.{Open, Connect, Add, Get, Watch as WatchName, Unwatch, Unregister, Call, Release, Take, Die, Reload}
+use Rattle.sm_history.specs.declared.event.Event.TheVariants.{Open, Connect, Add, Get, Watch as WatchName, Unwatch}
+use Rattle.sm_history.specs.declared.event.Event.TheVariants.{Unregister, Call, Release, Take, Die, Reload}
 use Rattle.sm_history.specs.declared.reply.Reply.TheVariants.{Done}
 use Rattle.sm_history.specs.declared.stop.Instead.TheVariants.{Refused}
 use Rattle.sm_history.specs.declared.refusal.Refusal.TheVariants.{JournalFull}
-use Rattle.sm_history.specs.Effects.{Effects, Opens, Sets, Connects, Dies, Adds, Removes, Gives, Releases, Watches, Unwatches, Delivers, Takes, Resumes}
+use Rattle.sm_history.specs.Effects.{Effects, Opens, Sets, Connects, Dies, Adds, Removes, Gives, Releases, Watches}
+use Rattle.sm_history.specs.Effects.{Unwatches, Delivers, Takes, Resumes}
 use Rattle.sm_history.specs.Checks.{Check, Wants}
 use Rattle.sm_history.specs.Clients.{policy_at, live_clients, next_client}
 use Rattle.sm_history.specs.Histories.{History, effects_of, entered, client_of}
-use Rattle.sm_history.specs.Verdict.{verdict, checks, has_place, places_needed, is_die, outcome_of, actor_checks, event_checks}
+use Rattle.sm_history.specs.Verdict.{verdict, checks, has_place, places_needed, is_die, outcome_of, actor_checks}
+use Rattle.sm_history.specs.Verdict.{event_checks}
 use Rattle.sm_history.specs.Lawful.{FitsPlaces}
 use Rattle.sm_history.proofs.Keeps.{Lasts, LeftToKeep, event_keeps}
 use Rattle.sm_history.proofs.Owners.{AllHold, all_hold}

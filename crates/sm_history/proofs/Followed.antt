@@ -1,8 +1,11 @@
 -- Effects that may come next keep what holds of lawful histories.
 use Rattle.std.proofs.Common.{ℕ, ◌∷◌}
-use Rattle.sm_history.specs.Effects.{Effect, Effects, Opens, Sets, Connects, Dies, Adds, Removes, Gives, Releases, Watches, Unwatches, Delivers, Takes, Resumes}
+use Rattle.sm_history.specs.Effects.{Effect, Effects, Opens, Sets, Connects, Dies, Adds, Removes, Gives, Releases}
+use Rattle.sm_history.specs.Effects.{Watches, Unwatches, Delivers, Takes, Resumes}
 use Rattle.sm_history.specs.Following.{MayFollow}
-use Rattle.sm_history.proofs.Sound.{Numbers, sound_opens, sound_sets, sound_connects, sound_dies, sound_adds, sound_removes, sound_gives, sound_releases, sound_watches, sound_unwatches, sound_delivers, sound_takes}
+use Rattle.sm_history.proofs.Sound.{Numbers, sound_opens, sound_sets, sound_connects, sound_dies, sound_adds}
+use Rattle.sm_history.proofs.Sound.{sound_removes, sound_gives, sound_releases, sound_watches, sound_unwatches}
+use Rattle.sm_history.proofs.Sound.{sound_delivers, sound_takes}
 use Rattle.sm_history.proofs.AgreeNotices.{number_for_is}
 use Rattle.std.proofs.Common.{sym, subst}
 use Rattle.sm_history.specs.Sound.{Sound}

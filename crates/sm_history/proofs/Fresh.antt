@@ -1,20 +1,24 @@
 -- No effect names a client that has not connected.
-use Rattle.std.proofs.Common.{◌≡◌, ℕ, ◌≤◌, ◌<◌, Bool, true, false, ◌==◌, List, [], ◌∷◌, refl, sym, ◌∙◌, subst, arith, Option, Some, None, if◌then◌else◌}
+use Rattle.std.proofs.Common.{◌≡◌, ℕ, ◌≤◌, ◌<◌, Bool, true, false, ◌==◌, List, [], ◌∷◌, refl, sym, ◌∙◌, subst, arith}
+use Rattle.std.proofs.Common.{Option, Some, None, if◌then◌else◌}
 use Rattle.std.specs.List.{list_any}
 use Rattle.std.proofs.lemmas.Bool.Decides.{nat_tests}
 use Rattle.std.proofs.lemmas.Bool.{and_parts, or_from, or_parts}
 use Rattle.sm_kinds.specs.declared.number.Node.{Node}
 use Rattle.sm_history.specs.declared.stop.Stop.{Stop}
-use Rattle.sm_history.specs.Effects.{Effect, Effects, Watch, Opens, Sets, Connects, Dies, Adds, Removes, Gives, Releases, Watches, Unwatches, Delivers, Takes}
+use Rattle.sm_history.specs.Effects.{Effect, Effects, Watch, Opens, Sets, Connects, Dies, Adds, Removes, Gives}
+use Rattle.sm_history.specs.Effects.{Releases, Watches, Unwatches, Delivers, Takes}
 use Rattle.sm_history.specs.Clients.{is_live, next_client, is_connect_of}
 use Rattle.sm_kinds.specs.declared.number.ObjRef.{ObjRef}
 use Rattle.sm_history.specs.declared.event.Event.{Event}
-use Rattle.sm_history.specs.declared.event.Event.TheVariants.{Open, Connect, Add, Get, Watch as WatchName, Unwatch, Unregister, Call, Release, Take, Die, Reload}
+use Rattle.sm_history.specs.declared.event.Event.TheVariants.{Open, Connect, Add, Get, Watch as WatchName, Unwatch}
+use Rattle.sm_history.specs.declared.event.Event.TheVariants.{Unregister, Call, Release, Take, Die, Reload}
 use Rattle.sm_history.specs.Effects.{Service}
 use Rattle.sm_history.specs.Holdings.{handed, number_for, resolve_at, node_at}
 use Rattle.sm_history.specs.Services.{service_at, watchers_at, watches_at, watches_made}
 use Rattle.sm_history.specs.Notices.{after_told, after_notice, after_notices, first_missing, registration}
-use Rattle.sm_history.specs.Histories.{found, handed_ref, handed_refs, after_event, after_watch, after_get, call_delivery, watch, service}
+use Rattle.sm_history.specs.Histories.{found, handed_ref, handed_refs, after_event, after_watch, after_get}
+use Rattle.sm_history.specs.Histories.{call_delivery, watch, service}
 use Rattle.std.specs.Prelude.{filter, bytes_eq}
 use Rattle.std.specs.List.{list_all}
 use Rattle.std.specs.Prelude.{nat_lt}

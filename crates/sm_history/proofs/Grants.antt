@@ -1,5 +1,6 @@
 -- How many objects are held after a grant.
-use Rattle.std.proofs.Common.{◌≡◌, ℕ, ◌+◌, ◌-◌, ◌≤◌, ◌<◌, Bool, true, false, ◌||◌, ◌&&◌, ◌==◌, List, [], ◌∷◌, refl, ap, sym, ◌∙◌, subst, length, Option, Some, None, if◌then◌else◌, arith}
+use Rattle.std.proofs.Common.{◌≡◌, ℕ, ◌+◌, ◌-◌, ◌≤◌, ◌<◌, Bool, true, false, ◌||◌, ◌&&◌, ◌==◌, List, [], ◌∷◌, refl}
+use Rattle.std.proofs.Common.{ap, sym, ◌∙◌, subst, length, Option, Some, None, if◌then◌else◌, arith}
 use Rattle.std.specs.Prelude.{filter, nat_lt, is_some, cond}
 use Rattle.std.specs.List.{list_any}
 use Rattle.std.proofs.lemmas.Bool.Decides.{nat_tests}
@@ -8,7 +9,8 @@ use Rattle.std.proofs.lemmas.List.Sums.{sum_by-cons}
 use Rattle.sm_kinds.specs.declared.number.Node.{Node}
 use Rattle.sm_history.specs.Effects.{Effect, Effects, Gives, same_node}
 use Rattle.sm_history.specs.Clients.{is_live}
-use Rattle.sm_history.specs.Holdings.{is_held, held_nodes, given_nodes, with_node, node_given, number_given, is_release_of}
+use Rattle.sm_history.specs.Holdings.{is_held, held_nodes, given_nodes, with_node, node_given, number_given}
+use Rattle.sm_history.specs.Holdings.{is_release_of}
 use Rattle.sm_history.proofs.Balanced.{node_same}
 use Rattle.std.proofs.lemmas.List.Elements.{filter_agree}
 use Rattle.sm_history.specs.Sound.{IsBalanced, granted, released}

@@ -1,6 +1,7 @@
 -- Who holds the same objects under the same numbers holds as many, and finds the same under each number,
 -- in whatever order they were given.
-use Rattle.std.proofs.Common.{◌≡◌, ℕ, ◌+◌, ◌≤◌, Bool, true, false, ◌||◌, ◌==◌, List, [], ◌∷◌, refl, ap, sym, ◌∙◌, subst, length, Option, Some, None, if◌then◌else◌, arith}
+use Rattle.std.proofs.Common.{◌≡◌, ℕ, ◌+◌, ◌≤◌, Bool, true, false, ◌||◌, ◌==◌, List, [], ◌∷◌, refl, ap, sym, ◌∙◌}
+use Rattle.std.proofs.Common.{subst, length, Option, Some, None, if◌then◌else◌, arith}
 use Rattle.std.specs.Prelude.{filter, not, is_none, unwrap_or}
 use Rattle.std.specs.List.{list_any, find, range_with_len}
 use Rattle.std.proofs.lemmas.Bool.Decides.{nat_tests}

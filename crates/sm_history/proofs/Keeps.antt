@@ -5,13 +5,16 @@ use Rattle.sm_kinds.specs.declared.number.Node.{Node}
 use Rattle.sm_kinds.specs.declared.number.ObjRef.{ObjRef}
 use Rattle.sm_history.specs.declared.stop.Stop.{Stop}
 use Rattle.sm_history.specs.declared.event.Event.{Event}
-use Rattle.sm_history.specs.declared.event.Event.TheVariants.{Open, Connect, Add, Get, Watch as WatchName, Unwatch, Unregister, Call, Release, Take, Die, Reload}
-use Rattle.sm_history.specs.Effects.{Effect, Effects, Service, Watch, Opens, Sets, Connects, Dies, Adds, Removes, Gives, Releases, Watches, Unwatches, Delivers, Takes, Resumes}
+use Rattle.sm_history.specs.declared.event.Event.TheVariants.{Open, Connect, Add, Get, Watch as WatchName, Unwatch}
+use Rattle.sm_history.specs.declared.event.Event.TheVariants.{Unregister, Call, Release, Take, Die, Reload}
+use Rattle.sm_history.specs.Effects.{Effect, Effects, Service, Watch, Opens, Sets, Connects, Dies, Adds, Removes}
+use Rattle.sm_history.specs.Effects.{Gives, Releases, Watches, Unwatches, Delivers, Takes, Resumes}
 use Rattle.sm_history.specs.Clients.{next_client}
 use Rattle.sm_history.specs.Holdings.{handed, number_for, resolve_at, node_at}
 use Rattle.sm_history.specs.Services.{service_at, watchers_at}
 use Rattle.sm_history.specs.Notices.{after_told, after_notice, after_notices, first_missing, registration}
-use Rattle.sm_history.specs.Histories.{found, handed_ref, handed_refs, after_event, after_watch, after_get, call_delivery, watch, service}
+use Rattle.sm_history.specs.Histories.{found, handed_ref, handed_refs, after_event, after_watch, after_get}
+use Rattle.sm_history.specs.Histories.{call_delivery, watch, service}
 
 abbrev pub is_plain : Effect → Bool
 is_plain (Connects c who) = false

@@ -1,5 +1,6 @@
 -- Every lawful manager was opened, and what is true of a history stays true of the histories that begin with it.
-use Rattle.std.proofs.Common.{◌≡◌, ℕ, ◌+◌, ◌-◌, ◌≤◌, List, [], ◌∷◌, ◌++◌, length, length-append, drop, refl, ap, sym, ◌∙◌, subst, arith}
+use Rattle.std.proofs.Common.{◌≡◌, ℕ, ◌+◌, ◌-◌, ◌≤◌, List, [], ◌∷◌, ◌++◌, length, length-append, drop, refl, ap, sym}
+use Rattle.std.proofs.Common.{◌∙◌, subst, arith}
 use Rattle.std.specs.List.{All, list_any}
 use Rattle.std.proofs.Math.Seq.{drop-append-add}
 use Rattle.std.proofs.lemmas.Bool.{or_right}
@@ -7,12 +8,16 @@ use Rattle.sm_history.specs.declared.by.By.{By}
 use Rattle.sm_history.specs.declared.entry.Entry.{Entry}
 use Rattle.sm_history.specs.declared.event.Event.{Event}
 use Rattle.sm_history.specs.declared.records.Record.{Record}
-use Rattle.sm_history.specs.Effects.{Effect, Effects, Watch, Opens, Sets, Connects, Dies, Adds, Gives, Releases, Watches, Delivers}
+use Rattle.sm_history.specs.Effects.{Effect, Effects, Watch, Opens, Sets, Connects, Dies, Adds, Gives, Releases}
+use Rattle.sm_history.specs.Effects.{Watches, Delivers}
 use Rattle.sm_history.specs.Clients.{version_at, next_client}
 use Rattle.sm_history.specs.Holdings.{resolve_at, node_at}
 use Rattle.sm_history.specs.Histories.{History, whole, length_of, client_of, effects_of, after_event, found, service}
-use Rattle.sm_history.specs.declared.event.Event.TheVariants.{Open, Connect, Add, Get, Watch as WatchName, Unwatch, Unregister, Call, Release, Take, Die, Reload}
-use Rattle.sm_history.specs.Rows.{LiveRow, HeldRow, NamedRow, WaitingRow, Rows, rows_at, put_all, put_live, put_named, put_held, put_watch, put_waiting, live_put, names_put, held_put, watches_put, resumed}
+use Rattle.sm_history.specs.declared.event.Event.TheVariants.{Open, Connect, Add, Get, Watch as WatchName, Unwatch}
+use Rattle.sm_history.specs.declared.event.Event.TheVariants.{Unregister, Call, Release, Take, Die, Reload}
+use Rattle.sm_history.specs.Rows.{LiveRow, HeldRow, NamedRow, WaitingRow, Rows, rows_at, put_all, put_live, put_named}
+use Rattle.sm_history.specs.Rows.{put_held, put_watch, put_waiting, live_put, names_put, held_put, watches_put}
+use Rattle.sm_history.specs.Rows.{resumed}
 use Rattle.sm_history.specs.Lawful.{IsLawful, IsOpening}
 use Rattle.sm_history.specs.Beginning.{BeginsWith}
 use Rattle.sm_history.specs.Records.{records, prefix_at, Stands, IsDeniedBy, IsTrueOf}

@@ -1,5 +1,6 @@
 -- The outcomes of a lawful history list just the deliveries, the numbers of handles and the clients of its effects.
-use Rattle.std.proofs.Common.{inl, inr, ◌≡◌, ℕ, Bool, true, false, ◌==◌, List, [], ◌∷◌, ◌++◌, refl, ap, sym, ◌∙◌, subst, Option, Some, None, if◌then◌else◌}
+use Rattle.std.proofs.Common.{inl, inr, ◌≡◌, ℕ, Bool, true, false, ◌==◌, List, [], ◌∷◌, ◌++◌, refl, ap, sym, ◌∙◌}
+use Rattle.std.proofs.Common.{subst, Option, Some, None, if◌then◌else◌}
 use Rattle.std.specs.Prelude.{filter_map, reverse, not, is_some}
 use Rattle.std.proofs.lemmas.Bool.{true≢false}
 use Rattle.std.proofs.lemmas.List.{reverse-append, append_assoc, append-nil}
@@ -10,7 +11,8 @@ use Rattle.sm_history.specs.declared.delivery.Delivery.{Delivery}
 use Rattle.sm_history.specs.declared.outcome.Outcome.{Outcome}
 use Rattle.sm_history.specs.declared.entry.Entry.{Entry}
 use Rattle.sm_history.specs.declared.event.Event.{Event}
-use Rattle.sm_history.specs.declared.event.Event.TheVariants.{Open, Connect, Add, Get, Watch as WatchName, Unwatch, Unregister, Call, Release, Take, Die, Reload}
+use Rattle.sm_history.specs.declared.event.Event.TheVariants.{Open, Connect, Add, Get, Watch as WatchName, Unwatch}
+use Rattle.sm_history.specs.declared.event.Event.TheVariants.{Unregister, Call, Release, Take, Die, Reload}
 use Rattle.sm_history.specs.declared.reply.Reply.TheVariants.{Done}
 use Rattle.sm_history.specs.declared.stop.Stop.{Stop}
 use Rattle.sm_history.specs.Effects.{Effect, Effects, Service, Watch, Adds, Gives, Watches}
@@ -20,14 +22,19 @@ use Rattle.sm_history.specs.Services.{service_at, watchers_at}
 use Rattle.sm_history.specs.Notices.{after_told, after_notices, first_missing, notices_at, registration, told_of}
 use Rattle.sm_history.specs.Rows.{resumed}
 use Rattle.sm_history.specs.Openings.{Opening}
-use Rattle.sm_history.specs.Histories.{History, whole, entered, effects_of, after_event, after_get, after_watch, client_of, turn_of, found, given_ref, given_refs, handed_ref, handed_refs, call_delivery, service, watch}
-use Rattle.sm_history.specs.Verdict.{answered, checks, handing_checks, has_place, outcome_of, number_of, notice_of_watch}
+use Rattle.sm_history.specs.Histories.{History, whole, entered, effects_of, after_event, after_get, after_watch}
+use Rattle.sm_history.specs.Histories.{client_of, turn_of, found, given_ref, given_refs, handed_ref, handed_refs}
+use Rattle.sm_history.specs.Histories.{call_delivery, service, watch}
+use Rattle.sm_history.specs.Verdict.{answered, checks, handing_checks, has_place, outcome_of, number_of}
+use Rattle.sm_history.specs.Verdict.{notice_of_watch}
 use Rattle.sm_history.specs.Checks.{Wants, first_failing}
 use Rattle.sm_history.specs.declared.stop.Instead.TheVariants.{Refused}
 use Rattle.sm_history.specs.declared.refusal.Refusal.TheVariants.{JournalFull}
 use Rattle.sm_history.specs.declared.outcome.Outcome.TheVariants.{Watched}
 use Rattle.sm_history.specs.Lawful.{AreLawful, IsLawful}
-use Rattle.sm_history.specs.Listing.{told_deliveries, notice_deliveries, listed_deliveries, number_in, numbers_in, message_numbers, delivery_numbers, listed_numbers, listed_clients, all_listed, delivery_made, number_made, ListsEffects}
+use Rattle.sm_history.specs.Listing.{told_deliveries, notice_deliveries, listed_deliveries, number_in, numbers_in}
+use Rattle.sm_history.specs.Listing.{message_numbers, delivery_numbers, listed_numbers, listed_clients, all_listed}
+use Rattle.sm_history.specs.Listing.{delivery_made, number_made, ListsEffects}
 use Rattle.sm_history.proofs.Owners.{not_done, AllHold}
 use Rattle.sm_history.proofs.AgreeEvents.{Passes}
 use Rattle.sm_history.proofs.SoundHistory.{met}

@@ -5,7 +5,8 @@ use Rattle.std.proofs.lemmas.Bool.{true≢false}
 use Rattle.sm_policy.specs.Policy.{Policy}
 use Rattle.sm_history.specs.declared.outcome.Outcome.{Outcome}
 use Rattle.sm_history.specs.declared.reply.Reply.TheVariants.{Done}
-use Rattle.sm_history.specs.Effects.{Effects, Service, Opens, Sets, Connects, Dies, Adds, Removes, Gives, Releases, Watches, Unwatches, Delivers, Takes, Resumes}
+use Rattle.sm_history.specs.Effects.{Effects, Service, Opens, Sets, Connects, Dies, Adds, Removes, Gives, Releases}
+use Rattle.sm_history.specs.Effects.{Watches, Unwatches, Delivers, Takes, Resumes}
 use Rattle.sm_history.specs.Clients.{next_client}
 use Rattle.sm_history.specs.Services.{last_said, Silent, Gone, Here, said_or}
 use Rattle.sm_history.specs.Checks.{Check, holds, answer_of, first_failing, stop_of}

@@ -1,5 +1,6 @@
 -- What rows leave in each table when they are put onto effects.
-use Rattle.std.proofs.Common.{◌≡◌, ℕ, zero, suc, ◌+◌, Bool, true, false, ◌||◌, ◌&&◌, ◌==◌, List, [], ◌∷◌, ◌++◌, refl, ap, sym, ◌∙◌, map, Option, Some, None, if◌then◌else◌, arith}
+use Rattle.std.proofs.Common.{◌≡◌, ℕ, zero, suc, ◌+◌, Bool, true, false, ◌||◌, ◌&&◌, ◌==◌, List, [], ◌∷◌, ◌++◌, refl}
+use Rattle.std.proofs.Common.{ap, sym, ◌∙◌, map, Option, Some, None, if◌then◌else◌, arith}
 use Rattle.std.specs.Prelude.{nat_lt, filter_map, reverse, bytes_eq, is_some, unwrap_or, cond, option_map}
 use Rattle.std.specs.List.{list_any, flat_map, sum_by, cons_option}
 use Rattle.std.proofs.lemmas.Bool.Decides.{nat_tests}
@@ -12,7 +13,9 @@ use Rattle.sm_history.specs.Effects.{Effect, Effects, Service, Watch, Adds, Give
 use Rattle.sm_history.specs.Clients.{identity_at, connected, is_connect_of}
 use Rattle.sm_history.specs.Holdings.{number_at, number_given}
 use Rattle.sm_history.specs.Services.{service_at, last_said, said_or, Here, Silent, watches_made}
-use Rattle.sm_history.specs.Rows.{Rows, LiveRow, HeldRow, WaitingRow, live_row, named_under, named_row, waiting_row, put_all, times, put_live, put_named, put_held, put_watch, put_waiting, live_put, names_put, held_put, watches_put, waiting_put}
+use Rattle.sm_history.specs.Rows.{Rows, LiveRow, HeldRow, WaitingRow, live_row, named_under, named_row, waiting_row}
+use Rattle.sm_history.specs.Rows.{put_all, times, put_live, put_named, put_held, put_watch, put_waiting, live_put}
+use Rattle.sm_history.specs.Rows.{names_put, held_put, watches_put, waiting_put}
 use Rattle.sm_history.proofs.Balanced.{number_same}
 use Rattle.sm_history.proofs.Rising.{same_bytes, is_in}
 use Rattle.sm_history.specs.Sound.{deliveries, granted}

@@ -1,5 +1,6 @@
 -- Names in rising byte order: two such lists of the same names are one.
-use Rattle.std.proofs.Common.{◌≡◌, ℕ, Bool, true, false, ◌||◌, ◌&&◌, List, [], ◌∷◌, refl, ap, sym, ◌∙◌, subst, Option, None, if◌then◌else◌}
+use Rattle.std.proofs.Common.{◌≡◌, ℕ, Bool, true, false, ◌||◌, ◌&&◌, List, [], ◌∷◌, refl, ap, sym, ◌∙◌, subst, Option}
+use Rattle.std.proofs.Common.{None, if◌then◌else◌}
 use Rattle.std.specs.Prelude.{bytes_eq, filter, is_some}
 use Rattle.std.specs.List.{list_any, list_all}
 use Rattle.std.specs.Ordering.{nat_cmp, is_eq, is_lt, ordering_reverse}
@@ -14,7 +15,8 @@ use Rattle.std.proofs.lemmas.Slice.Eq.{bytes_eq-Decides}
 use Rattle.sm_history.specs.declared.service.Service.{Service}
 use Rattle.sm_history.specs.Effects.{Effects, Adds, Removes}
 use Rattle.sm_history.specs.Rising.{AllAfter, IsRising}
-use Rattle.sm_history.specs.Services.{service_at, last_said, names_added, current_names, placed, placed_by, said_or, Silent, Gone}
+use Rattle.sm_history.specs.Services.{service_at, last_said, names_added, current_names, placed, placed_by, said_or}
+use Rattle.sm_history.specs.Services.{Silent, Gone}
 
 pub same_bytes : (a b : List ℕ) → bytes_eq a b ≡ true → a ≡ b
 same_bytes a b e = (bytes_eq-Decides a b).0 e

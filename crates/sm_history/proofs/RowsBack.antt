@@ -1,5 +1,6 @@
 -- The rows of effects leave what the effects left.
-use Rattle.std.proofs.Common.{◌≡◌, ℕ, zero, suc, ◌+◌, ◌-◌, ◌≤◌, ◌<◌, Bool, true, false, ◌||◌, ◌&&◌, ◌==◌, List, [], ◌∷◌, ◌++◌, refl, ap, sym, ◌∙◌, map, drop, Option, Some, None, if◌then◌else◌, arith}
+use Rattle.std.proofs.Common.{◌≡◌, ℕ, zero, suc, ◌+◌, ◌-◌, ◌≤◌, ◌<◌, Bool, true, false, ◌||◌, ◌&&◌, ◌==◌, List, []}
+use Rattle.std.proofs.Common.{◌∷◌, ◌++◌, refl, ap, sym, ◌∙◌, map, drop, Option, Some, None, if◌then◌else◌, arith}
 use Rattle.std.specs.Prelude.{nat_lt, not, filter, filter_map, reverse, is_some, option_map, max}
 use Rattle.std.specs.List.{list_any, flat_map, sum_by, cons_option, range_with_len}
 use Rattle.std.proofs.lemmas.Bool.Decides.{nat_tests}
@@ -10,18 +11,24 @@ use Rattle.std.proofs.lemmas.List.Elements.{filter_map-append, filter_agree}
 use Rattle.sm_kinds.specs.declared.number.Node.{Node}
 use Rattle.sm_history.specs.declared.delivery.Delivery.{Delivery}
 use Rattle.sm_history.specs.Effects.{Effects, Service, Watch, Opens, Sets, same_node}
-use Rattle.sm_history.specs.Clients.{policy_at, manager_at, is_live, live_clients, identity_at, connected, is_connect_of, is_death_of}
+use Rattle.sm_history.specs.Clients.{policy_at, manager_at, is_live, live_clients, identity_at, connected}
+use Rattle.sm_history.specs.Clients.{is_connect_of, is_death_of}
 use Rattle.sm_history.specs.Holdings.{refs_at, is_held, number_at, node_at, held_nodes}
 use Rattle.sm_history.specs.Services.{service_at, last_said, if_owner_lives, current_names, watches_made, watches_at}
 use Rattle.sm_history.specs.Inboxes.{inbox_at}
 use Rattle.sm_history.specs.Agreeing.{Agree}
-use Rattle.sm_history.specs.Rows.{LiveRow, HeldRow, live_row, greatest, top_number, held_under, held_row, held_rows, waiting_rows, rows_at, put_live, live_put, names_put, held_put, watches_put, resumed}
+use Rattle.sm_history.specs.Rows.{LiveRow, HeldRow, live_row, greatest, top_number, held_under, held_row, held_rows}
+use Rattle.sm_history.specs.Rows.{waiting_rows, rows_at, put_live, live_put, names_put, held_put, watches_put}
+use Rattle.sm_history.specs.Rows.{resumed}
 use Rattle.sm_history.proofs.Balanced.{number_same, node_same}
 use Rattle.sm_history.proofs.Grants.{same_self}
 use Rattle.sm_history.proofs.Rising.{in_current}
 use Rattle.sm_history.proofs.HeldAlike.{node_held, node_not_held, held_among}
 use Rattle.sm_history.proofs.AfterClients.{filter_both}
-use Rattle.sm_history.proofs.PutRows.{quiet, past_waiting, past_watches, past_held, past_names, AllOf, IfSomeOf, all_each, all_flat, all_filter_map, connects_put, connected_put, among, identity_put, said_put, watches_made_put, for_client, deliveries_put, for_one, weight, granted_put, HasNumber, number_put}
+use Rattle.sm_history.proofs.PutRows.{quiet, past_waiting, past_watches, past_held, past_names, AllOf, IfSomeOf}
+use Rattle.sm_history.proofs.PutRows.{all_each, all_flat, all_filter_map, connects_put, connected_put, among}
+use Rattle.sm_history.proofs.PutRows.{identity_put, said_put, watches_made_put, for_client, deliveries_put, for_one}
+use Rattle.sm_history.proofs.PutRows.{weight, granted_put, HasNumber, number_put}
 use Rattle.sm_history.specs.Sound.{HasOneEach, IsOnce, Sound, deliveries, granted, released, takes}
 use Rattle.sm_history.proofs.Living.{any_live}
 

@@ -1,20 +1,26 @@
 -- The effects of rows are as those of a lawful history; and where tables agree, their rows are the same.
-use Rattle.std.proofs.Common.{◌≡◌, ℕ, ◌+◌, ◌≤◌, Bool, true, false, ◌==◌, List, [], ◌∷◌, refl, ap, sym, ◌∙◌, subst, map, Option, Some, None, if◌then◌else◌, arith}
+use Rattle.std.proofs.Common.{◌≡◌, ℕ, ◌+◌, ◌≤◌, Bool, true, false, ◌==◌, List, [], ◌∷◌, refl, ap, sym, ◌∙◌, subst}
+use Rattle.std.proofs.Common.{map, Option, Some, None, if◌then◌else◌, arith}
 use Rattle.std.specs.Prelude.{filter, filter_map, option_map, reverse}
 use Rattle.std.specs.List.{list_any, flat_map, range_with_len}
 use Rattle.sm_kinds.specs.declared.number.Node.{Node}
 use Rattle.sm_kinds.specs.declared.identity.Identity.{Identity}
-use Rattle.sm_history.specs.Effects.{Effect, Effects, Service, Watch, Opens, Sets, Connects, Adds, Gives, Watches, Delivers}
+use Rattle.sm_history.specs.Effects.{Effect, Effects, Service, Watch, Opens, Sets, Connects, Adds, Gives, Watches}
+use Rattle.sm_history.specs.Effects.{Delivers}
 use Rattle.sm_history.specs.Clients.{is_live, live_clients, next_client, connected}
 use Rattle.sm_history.specs.Holdings.{is_held, number_at, node_at, held_nodes, given_nodes}
 use Rattle.sm_history.specs.Services.{last_said, if_owner_lives, current_names, watches_at, watches_made}
 use Rattle.sm_history.specs.Inboxes.{inbox_at}
-use Rattle.sm_history.specs.Rows.{LiveRow, HeldRow, NamedRow, WaitingRow, live_row, greatest, top_number, held_under, held_row, held_rows, named_under, named_row, waiting_row, waiting_rows, rows_at, put_live, put_named, put_held, put_watch, put_waiting, live_put, names_put, held_put, watches_put, resumed}
+use Rattle.sm_history.specs.Rows.{LiveRow, HeldRow, NamedRow, WaitingRow, live_row, greatest, top_number, held_under}
+use Rattle.sm_history.specs.Rows.{held_row, held_rows, named_under, named_row, waiting_row, waiting_rows, rows_at}
+use Rattle.sm_history.specs.Rows.{put_live, put_named, put_held, put_watch, put_waiting, live_put, names_put}
+use Rattle.sm_history.specs.Rows.{held_put, watches_put, resumed}
 use Rattle.sm_history.proofs.Fresh.{live_below, below}
 use Rattle.sm_history.proofs.Rising.{names_alike}
 use Rattle.sm_history.proofs.HeldAlike.{held_among}
 use Rattle.sm_history.proofs.AgreeEffects.{Sim, sim_held, sim_nodes, held_alike}
-use Rattle.sm_history.proofs.PutRows.{AllOf, IfSomeOf, all_each, all_map, all_flat, all_filter_map, kept_all, kept_times}
+use Rattle.sm_history.proofs.PutRows.{AllOf, IfSomeOf, all_each, all_map, all_flat, all_filter_map, kept_all}
+use Rattle.sm_history.proofs.PutRows.{kept_times}
 use Rattle.sm_history.proofs.RowsBack.{agree_rows, list_back, said_back, takes_back, released_back, below_top}
 use Rattle.std.proofs.lemmas.Bool.{or_from}
 use Rattle.sm_history.specs.Sound.{IsFresh, IsOnce, Sound, names}

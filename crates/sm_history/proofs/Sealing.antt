@@ -1,6 +1,7 @@
 -- The rows that a lawful history leaves are those that lawful changes left from the beginning: a sealed history may
 -- be gone on from.
-use Rattle.std.proofs.Common.{inl, inr, ◌⊎◌, ◌≡◌, ℕ, Bool, true, false, List, [], ◌∷◌, ◌++◌, refl, ap, sym, ◌∙◌, subst, map, Option, None, if◌then◌else◌, arith}
+use Rattle.std.proofs.Common.{inl, inr, ◌⊎◌, ◌≡◌, ℕ, Bool, true, false, List, [], ◌∷◌, ◌++◌, refl, ap, sym, ◌∙◌}
+use Rattle.std.proofs.Common.{subst, map, Option, None, if◌then◌else◌, arith}
 use Rattle.std.specs.Prelude.{filter}
 use Rattle.std.specs.List.{list_any}
 use Rattle.std.proofs.lemmas.Bool.{true≢false}
@@ -24,7 +25,8 @@ use Rattle.sm_history.specs.Openings.{Opening, TurnRow, nothing, is_same}
 use Rattle.sm_history.specs.Histories.{History, whole, length_of, effects_of, client_of, turn_of}
 use Rattle.sm_history.specs.Verdict.{answered, outcome_of, event_checks, has_place}
 use Rattle.sm_history.specs.Lawful.{AreLawfulApart, AreLawful, IsLawful, IsLeft, HasSoundPolicy}
-use Rattle.sm_history.specs.Segments.{is_admin, with_admin, admins_after, admins_of, client, actors_of, turn_row, rows_of, segment_of, judged, all_checks, verdict_apart}
+use Rattle.sm_history.specs.Segments.{is_admin, with_admin, admins_after, admins_of, client, actors_of, turn_row}
+use Rattle.sm_history.specs.Segments.{rows_of, segment_of, judged, all_checks, verdict_apart}
 use Rattle.sm_history.proofs.Owners.{AllHold, all_hold}
 use Rattle.sm_history.proofs.PutRows.{AllOf, all_append, all_map}
 use Rattle.sm_history.proofs.RowsSound.{rows_alike, map_alike, all_imply, all_filter}

@@ -1,5 +1,6 @@
 -- A history is read like the segment of its older part's rows and its newer part.
-use Rattle.std.proofs.Common.{inl, inr, ◌⊎◌, ◌≡◌, ℕ, ◌+◌, ◌≤◌, Bool, true, false, ◌||◌, ◌==◌, List, [], ◌∷◌, ◌++◌, refl, ap, sym, ◌∙◌, map, Option, Some, None, if◌then◌else◌, arith}
+use Rattle.std.proofs.Common.{inl, inr, ◌⊎◌, ◌≡◌, ℕ, ◌+◌, ◌≤◌, Bool, true, false, ◌||◌, ◌==◌, List, [], ◌∷◌, ◌++◌}
+use Rattle.std.proofs.Common.{refl, ap, sym, ◌∙◌, map, Option, Some, None, if◌then◌else◌, arith}
 use Rattle.std.specs.Prelude.{filter, cond}
 use Rattle.std.specs.List.{list_any}
 use Rattle.std.proofs.lemmas.Bool.Decides.{nat_tests}
@@ -36,8 +37,10 @@ use Rattle.sm_history.proofs.TurnRows.{same_actor, turn_rows}
 use Rattle.sm_history.proofs.HistoryLaws.{no_turns_apart}
 use Rattle.sm_history.proofs.Induction.{sound_apart}
 use Rattle.sm_history.specs.Verdict.{is_there, service_meets, verdict, has_place}
-use Rattle.sm_history.specs.Queries.{is_their_query, query_checks, list_checks, found_out, names_by_mask, shares_bit, query_verdict, looked, checks_of_query}
-use Rattle.sm_history.specs.Segments.{with_admin, admins_after, admins_of, client, actors_of, rows_of, segment_of, judged, looked_at, asked, verdict_apart}
+use Rattle.sm_history.specs.Queries.{is_their_query, query_checks, list_checks, found_out, names_by_mask, shares_bit}
+use Rattle.sm_history.specs.Queries.{query_verdict, looked, checks_of_query}
+use Rattle.sm_history.specs.Segments.{with_admin, admins_after, admins_of, client, actors_of, rows_of, segment_of}
+use Rattle.sm_history.specs.Segments.{judged, looked_at, asked, verdict_apart}
 use Rattle.sm_history.proofs.LawfulLaws.{next_after}
 use Rattle.sm_history.proofs.Rising.{names_alike}
 use Rattle.sm_history.proofs.AgreeEffects.{Sim}

@@ -1,5 +1,7 @@
 -- What holds of the effects of every lawful history, effect by effect.
-use Rattle.std.proofs.Common.{◌≡◌, ℕ, ◌+◌, ◌-◌, ◌≤◌, ◌<◌, Bool, true, false, ◌||◌, ◌&&◌, ◌==◌, List, [], ◌∷◌, ◌++◌, refl, ap, sym, ◌∙◌, subst, length, drop, Option, Some, None, if◌then◌else◌, arith, length-drop}
+use Rattle.std.proofs.Common.{◌≡◌, ℕ, ◌+◌, ◌-◌, ◌≤◌, ◌<◌, Bool, true, false, ◌||◌, ◌&&◌, ◌==◌, List, [], ◌∷◌, ◌++◌}
+use Rattle.std.proofs.Common.{refl, ap, sym, ◌∙◌, subst, length, drop, Option, Some, None, if◌then◌else◌, arith}
+use Rattle.std.proofs.Common.{length-drop}
 use Rattle.std.specs.Prelude.{nat_lt, not, cond, reverse, filter, filter_map}
 use Rattle.std.specs.List.{list_any, cons_option}
 use Rattle.std.proofs.lemmas.Bool.Decides.{nat_tests}
@@ -10,7 +12,8 @@ use Rattle.sm_kinds.specs.declared.number.Node.{Node}
 use Rattle.sm_kinds.specs.declared.identity.Identity.{Identity}
 use Rattle.sm_policy.specs.Policy.{Policy}
 use Rattle.sm_history.specs.declared.delivery.Delivery.{Delivery}
-use Rattle.sm_history.specs.Effects.{Effect, Effects, Service, Watch, Opens, Sets, Connects, Dies, Adds, Removes, Gives, Releases, Watches, Unwatches, Delivers, Takes, same_node}
+use Rattle.sm_history.specs.Effects.{Effect, Effects, Service, Watch, Opens, Sets, Connects, Dies, Adds, Removes}
+use Rattle.sm_history.specs.Effects.{Gives, Releases, Watches, Unwatches, Delivers, Takes, same_node}
 use Rattle.sm_history.specs.Clients.{is_live, next_client, live_clients, connected}
 use Rattle.std.proofs.lemmas.List.Folds.{list_any-append}
 use Rattle.sm_history.proofs.Lists.{any_filter}
@@ -23,7 +26,8 @@ use Rattle.sm_history.proofs.Grants.{held_gives}
 use Rattle.sm_history.proofs.HeldAlike.{node_not_held}
 use Rattle.sm_history.proofs.AfterClients.{IsNew, list_connects, list_dies, none_new}
 use Rattle.sm_history.proofs.AfterHoldings.{refs_connects, refs_dies, refs_releases, number_gives}
-use Rattle.sm_history.specs.Sound.{HasOneEach, IsBalanced, IsFresh, IsOnce, IsTakenFrom, Sound, deliveries, names, takes}
+use Rattle.sm_history.specs.Sound.{HasOneEach, IsBalanced, IsFresh, IsOnce, IsTakenFrom, Sound, deliveries, names}
+use Rattle.sm_history.specs.Sound.{takes}
 
 -- ---- held before, held after
 

@@ -1,5 +1,6 @@
 -- What checks leave is true of the history in which they are made.
-use Rattle.std.proofs.Common.{inl, inr, ◌≡◌, ℕ, ◌-◌, suc, Bool, true, false, ◌==◌, List, [], ◌∷◌, ◌++◌, drop, refl, ap, sym, ◌∙◌, subst, Option, Some, None, unwrap_or, if◌then◌else◌, arith}
+use Rattle.std.proofs.Common.{inl, inr, ◌≡◌, ℕ, ◌-◌, suc, Bool, true, false, ◌==◌, List, [], ◌∷◌, ◌++◌, drop, refl}
+use Rattle.std.proofs.Common.{ap, sym, ◌∙◌, subst, Option, Some, None, unwrap_or, if◌then◌else◌, arith}
 use Rattle.std.specs.Prelude.{not, ◌&&◌, ◌||◌, is_none}
 use Rattle.std.specs.List.{All, Contains, list_any, list_all}
 use Rattle.std.proofs.lemmas.Bool.{true≢false, and_parts}
@@ -18,7 +19,8 @@ use Rattle.sm_history.specs.declared.by.By.TheVariants.{Manager, Client, Admin}
 use Rattle.sm_history.specs.declared.denial.Denial.{Denial}
 use Rattle.sm_history.specs.declared.denial.Denial.TheVariants.{Rule, App, Isolated}
 use Rattle.sm_history.specs.declared.event.Event.{Event}
-use Rattle.sm_history.specs.declared.event.Event.TheVariants.{Open, Connect, Add, Get, Watch as WatchName, Unwatch, Unregister, Call, Release, Take, Die, Reload}
+use Rattle.sm_history.specs.declared.event.Event.TheVariants.{Open, Connect, Add, Get, Watch as WatchName, Unwatch}
+use Rattle.sm_history.specs.declared.event.Event.TheVariants.{Unregister, Call, Release, Take, Die, Reload}
 use Rattle.sm_history.specs.declared.query.Query.{Query}
 use Rattle.sm_history.specs.declared.query.Query.TheVariants.{List as ListNames, Version, Explain}
 use Rattle.sm_history.specs.declared.records.Record.{Record}
@@ -28,15 +30,19 @@ use Rattle.sm_history.specs.declared.stop.Stop.{Stop}
 use Rattle.sm_history.specs.declared.refusal.Refusal.TheVariants.{Failed, JournalFull}
 use Rattle.sm_history.specs.declared.refusal.Failure.TheVariants.{NotYours, NotConnected, OutOfTurn}
 use Rattle.sm_history.specs.Effects.{Effect, Effects, Service, Watch, Opens, Connects, Adds, Watches, Gives}
-use Rattle.sm_history.specs.Clients.{manager_at, identity_at, is_live, is_connect_of, is_death_of, policy_at, version_at}
+use Rattle.sm_history.specs.Clients.{manager_at, identity_at, is_live, is_connect_of, is_death_of, policy_at}
+use Rattle.sm_history.specs.Clients.{version_at}
 use Rattle.sm_history.specs.Checks.{Check, Needs, Spares, Wants, holds, first_failing}
 use Rattle.sm_history.specs.Holdings.{resolve_at, node_at, handed, number_for}
 use Rattle.sm_history.specs.Services.{service_at, watchers_at}
 use Rattle.sm_history.specs.Notices.{notice_checks, first_missing, after_told, after_notice}
 use Rattle.sm_history.specs.Histories.{History, length_of, turn_of, client_of, effects_of, found, service, watch}
-use Rattle.sm_history.specs.Verdict.{event_checks, is_theirs, is_there, has_place, passes_to_manager, passes_to_client, all_pass_to_client, handing_checks}
+use Rattle.sm_history.specs.Verdict.{event_checks, is_theirs, is_there, has_place, passes_to_manager}
+use Rattle.sm_history.specs.Verdict.{passes_to_client, all_pass_to_client, handing_checks}
 use Rattle.sm_history.specs.Queries.{query_checks, is_their_query}
-use Rattle.sm_history.specs.Records.{moment_of, rule_record, clause_record, left_by, left_by_all, left_by_notices, left_by_watch, left_by_telling, records, query_records, prefix_at, Stands, IsDeniedBy, IsTrueOf}
+use Rattle.sm_history.specs.Records.{moment_of, rule_record, clause_record, left_by, left_by_all, left_by_notices}
+use Rattle.sm_history.specs.Records.{left_by_watch, left_by_telling, records, query_records, prefix_at, Stands}
+use Rattle.sm_history.specs.Records.{IsDeniedBy, IsTrueOf}
 use Rattle.sm_history.proofs.AgreeChecks.{Acts}
 use Rattle.sm_history.proofs.AgreeEvents.{acts_of}
 use Rattle.sm_history.proofs.AgreeNotices.{AllLive, watchers_live}

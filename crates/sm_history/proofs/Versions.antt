@@ -1,11 +1,13 @@
 -- No more policies came into force than changes were made.
-use Rattle.std.proofs.Common.{◌≡◌, ℕ, ◌+◌, ◌≤◌, true, false, ◌==◌, List, [], ◌∷◌, refl, sym, ◌∙◌, subst, Option, Some, None, if◌then◌else◌, arith}
+use Rattle.std.proofs.Common.{◌≡◌, ℕ, ◌+◌, ◌≤◌, true, false, ◌==◌, List, [], ◌∷◌, refl, sym, ◌∙◌, subst, Option, Some}
+use Rattle.std.proofs.Common.{None, if◌then◌else◌, arith}
 use Rattle.sm_kinds.specs.declared.number.Node.{Node}
 use Rattle.sm_kinds.specs.declared.number.ObjRef.{ObjRef}
 use Rattle.sm_policy.specs.Policy.{Policy}
 use Rattle.sm_history.specs.declared.stop.Stop.{Stop}
 use Rattle.sm_history.specs.declared.event.Event.{Event}
-use Rattle.sm_history.specs.declared.event.Event.TheVariants.{Open, Connect, Add, Get, Watch as WatchName, Unwatch, Unregister, Call, Release, Take, Die, Reload}
+use Rattle.sm_history.specs.declared.event.Event.TheVariants.{Open, Connect, Add, Get, Watch as WatchName, Unwatch}
+use Rattle.sm_history.specs.declared.event.Event.TheVariants.{Unregister, Call, Release, Take, Die, Reload}
 use Rattle.sm_history.specs.declared.entry.Entry.{Entry}
 use Rattle.sm_history.specs.declared.service.Service.{Service}
 use Rattle.sm_history.specs.Effects.{Effects, Watch, Sets, Opens, Adds, Gives, Watches}
@@ -13,7 +15,8 @@ use Rattle.sm_history.specs.Clients.{version_at}
 use Rattle.sm_history.specs.Holdings.{handed, number_for, resolve_at, node_at}
 use Rattle.sm_history.specs.Services.{service_at, watchers_at}
 use Rattle.sm_history.specs.Notices.{after_told, after_notice, after_notices, first_missing}
-use Rattle.sm_history.specs.Histories.{History, whole, length_of, effects_of, client_of, found, handed_ref, handed_refs, after_event, after_watch, after_get, watch, service}
+use Rattle.sm_history.specs.Histories.{History, whole, length_of, effects_of, client_of, found, handed_ref}
+use Rattle.sm_history.specs.Histories.{handed_refs, after_event, after_watch, after_get, watch, service}
 use Rattle.sm_history.specs.Lawful.{IsLawful, IsOpening}
 use Rattle.sm_history.proofs.Induction.{holds_lawful}
 

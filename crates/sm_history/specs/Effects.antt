@@ -4,7 +4,9 @@ use Rattle.sm_kinds.specs.declared.number.Node.{Node}
 pub use Rattle.sm_history.specs.declared.service.Service.{Service}
 pub use Rattle.sm_history.specs.declared.effect.Watch.{Watch}
 pub use Rattle.sm_history.specs.declared.effect.Effect.{Effect}
-pub use Rattle.sm_history.specs.declared.effect.Effect.TheVariants.{Opens, Sets, Connects, Dies, Adds, Removes, Gives, Releases, Watches, Unwatches, Delivers, Takes, Resumes}
+pub use Rattle.sm_history.specs.declared.effect.Effect.TheVariants.{Opens, Sets, Connects, Dies, Adds, Removes, Gives}
+pub use Rattle.sm_history.specs.declared.effect.Effect.TheVariants.{Releases, Watches, Unwatches, Delivers, Takes}
+pub use Rattle.sm_history.specs.declared.effect.Effect.TheVariants.{Resumes}
 
 -- What was done so far, the newest first.
 abbrev pub Effects : Type 0

@@ -1,6 +1,7 @@
 -- Which effects may come next, and lists of effects that come in order.
 use Rattle.std.specs.Prelude.{◌≡◌, true, false, ◌==◌, List, [], ◌∷◌, nat_lt, length}
-use Rattle.sm_history.specs.Effects.{Effect, Effects, Connects, Dies, Adds, Gives, Releases, Watches, Unwatches, Delivers, Takes, Resumes}
+use Rattle.sm_history.specs.Effects.{Effect, Effects, Connects, Dies, Adds, Gives, Releases, Watches, Unwatches}
+use Rattle.sm_history.specs.Effects.{Delivers, Takes, Resumes}
 use Rattle.sm_history.specs.Clients.{is_live, next_client}
 use Rattle.sm_history.specs.Holdings.{is_held, number_for, fits_handles}
 use Rattle.sm_history.specs.Inboxes.{inbox_at, has_inbox_room}

@@ -1,5 +1,6 @@
 -- The records of what no rule gives.
-use Rattle.std.specs.Prelude.{ℕ, true, false, ◌-◌, ◌≡◌, ◌≤◌, List, [], ◌∷◌, ◌++◌, ◌⊎◌, Option, Some, None, is_none, drop, if◌then◌else◌}
+use Rattle.std.specs.Prelude.{ℕ, true, false, ◌-◌, ◌≡◌, ◌≤◌, List, [], ◌∷◌, ◌++◌, ◌⊎◌, Option, Some, None, is_none}
+use Rattle.std.specs.Prelude.{drop, if◌then◌else◌}
 use Rattle.std.specs.List.{Contains}
 use Rattle.sm_kinds.specs.Users.{is_barred, is_isolated_user}
 use Rattle.sm_kinds.specs.Contexts.{type_of}

@@ -1,10 +1,12 @@
 -- What the effects of every lawful history are: nothing is said of a client that hasn't connected,
 -- and nothing is given back or taken that wasn't there.
-use Rattle.std.specs.Prelude.{ℕ, ◌≡◌, ◌≤◌, ◌<◌, Bool, true, false, ◌==◌, List, [], ◌∷◌, Some, is_some, count_by, filter_map, length}
+use Rattle.std.specs.Prelude.{ℕ, ◌≡◌, ◌≤◌, ◌<◌, Bool, true, false, ◌==◌, List, [], ◌∷◌, Some, is_some, count_by}
+use Rattle.std.specs.Prelude.{filter_map, length}
 use Rattle.std.specs.List.{list_any}
 use Rattle.sm_kinds.specs.declared.number.Node.{Node}
 use Rattle.sm_history.specs.declared.delivery.Delivery.{Delivery}
-use Rattle.sm_history.specs.Effects.{Effect, Effects, Service, Connects, Dies, Gives, Releases, Watches, Unwatches, Delivers, Takes}
+use Rattle.sm_history.specs.Effects.{Effect, Effects, Service, Connects, Dies, Gives, Releases, Watches, Unwatches}
+use Rattle.sm_history.specs.Effects.{Delivers, Takes}
 use Rattle.sm_history.specs.Clients.{next_client, live_clients}
 use Rattle.sm_history.specs.Holdings.{number_given, is_release_of, is_held, number_at}
 use Rattle.sm_history.specs.Services.{last_said}

@@ -1,5 +1,6 @@
 -- The answer to each event: the first check that fails, or what the event does.
-use Rattle.std.specs.Prelude.{ℕ, ◌+◌, Bool, true, false, ◌&&◌, ◌||◌, not, ◌==◌, nat_lt, nat_le, List, [], ◌∷◌, ◌++◌, Option, Some, None, is_some, length, count_by}
+use Rattle.std.specs.Prelude.{ℕ, ◌+◌, Bool, true, false, ◌&&◌, ◌||◌, not, ◌==◌, nat_lt, nat_le, List, [], ◌∷◌, ◌++◌}
+use Rattle.std.specs.Prelude.{Option, Some, None, is_some, length, count_by}
 use Rattle.std.specs.List.{list_any}
 use Rattle.sm_kinds.specs.declared.number.Node.{Node}
 use Rattle.sm_kinds.specs.declared.number.ObjRef.{ObjRef}
@@ -10,13 +11,20 @@ use Rattle.sm_history.specs.declared.stop.Stop.{Stop}
 use Rattle.sm_history.specs.declared.by.By.{By}
 use Rattle.sm_history.specs.declared.by.By.TheVariants.{Manager, Client, Admin}
 use Rattle.sm_history.specs.declared.event.Event.{Event}
-use Rattle.sm_history.specs.declared.event.Event.TheVariants.{Open, Connect, Add, Get, Watch as WatchName, Unwatch, Unregister, Call, Release, Take, Die, Reload}
+use Rattle.sm_history.specs.declared.event.Event.TheVariants.{Open, Connect, Add, Get, Watch as WatchName, Unwatch}
+use Rattle.sm_history.specs.declared.event.Event.TheVariants.{Unregister, Call, Release, Take, Die, Reload}
 use Rattle.sm_history.specs.declared.outcome.Outcome.{Outcome}
-use Rattle.sm_history.specs.declared.outcome.Outcome.TheVariants.{Opened, Connected, Added, Granted, Watched, Unwatched, Unregistered, Sent, Released, Taken, Died, Reloaded}
+use Rattle.sm_history.specs.declared.outcome.Outcome.TheVariants.{Opened, Connected, Added, Granted, Watched}
+use Rattle.sm_history.specs.declared.outcome.Outcome.TheVariants.{Unwatched, Unregistered, Sent, Released, Taken}
+use Rattle.sm_history.specs.declared.outcome.Outcome.TheVariants.{Died, Reloaded}
 use Rattle.sm_history.specs.declared.denial.Denial.TheVariants.{App, Isolated}
-use Rattle.sm_history.specs.declared.refusal.Refusal.TheVariants.{Exception, Failed, Dead, Empty, TooManyClients, VersionMoved, JournalFull}
-use Rattle.sm_history.specs.declared.refusal.Failure.TheVariants.{NotYours, NotConnected, OutOfTurn, BadHandle, TargetFull}
-use Rattle.sm_history.specs.declared.refusal.Exception.TheVariants.{NotAdder, InvalidName, NullService, NullBinder, DeadOwner, TableFull, NothingToUnregister, NotRegistered, OtherObject, InUse}
+use Rattle.sm_history.specs.declared.refusal.Refusal.TheVariants.{Exception, Failed, Dead, Empty, TooManyClients}
+use Rattle.sm_history.specs.declared.refusal.Refusal.TheVariants.{VersionMoved, JournalFull}
+use Rattle.sm_history.specs.declared.refusal.Failure.TheVariants.{NotYours, NotConnected, OutOfTurn, BadHandle}
+use Rattle.sm_history.specs.declared.refusal.Failure.TheVariants.{TargetFull}
+use Rattle.sm_history.specs.declared.refusal.Exception.TheVariants.{NotAdder, InvalidName, NullService, NullBinder}
+use Rattle.sm_history.specs.declared.refusal.Exception.TheVariants.{DeadOwner, TableFull, NothingToUnregister}
+use Rattle.sm_history.specs.declared.refusal.Exception.TheVariants.{NotRegistered, OtherObject, InUse}
 use Rattle.sm_history.specs.declared.reply.Reply.{Reply}
 use Rattle.sm_history.specs.declared.reply.Reply.TheVariants.{Done}
 use Rattle.sm_history.specs.declared.stop.Instead.TheVariants.{GotNull, GotOwn, Refused}
@@ -27,9 +35,11 @@ use Rattle.sm_history.specs.Clients.{policy_at, version_at, identity_at, is_live
 use Rattle.sm_history.specs.Holdings.{resolve_at, node_at, handed, number_for, fits_handles, is_in_use}
 use Rattle.sm_history.specs.Services.{service_at, watchers_at, watches_at, same_watch, has_name_room}
 use Rattle.sm_history.specs.Inboxes.{inbox_at, has_inbox_room}
-use Rattle.sm_history.specs.Checks.{Check, Spares, Wants, answer_of, first_failing, to_manager, from_manager, to_client, to_label, adding, finding, calling, transferring}
+use Rattle.sm_history.specs.Checks.{Check, Spares, Wants, answer_of, first_failing, to_manager, from_manager}
+use Rattle.sm_history.specs.Checks.{to_client, to_label, adding, finding, calling, transferring}
 use Rattle.sm_history.specs.Notices.{notice_at, notices_at}
-use Rattle.sm_history.specs.Histories.{History, turn_of, client_of, found, handed_refs, call_delivery, service, watch, effects_of}
+use Rattle.sm_history.specs.Histories.{History, turn_of, client_of, found, handed_refs, call_delivery, service, watch}
+use Rattle.sm_history.specs.Histories.{effects_of}
 use Rattle.sm_history.specs.declared.limits.TheConstants.{MOST_WATCHES, MOST_CLIENTS, LAST_CLIENT}
 
 -- Clauses on the user number.

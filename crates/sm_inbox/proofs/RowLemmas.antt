@@ -1,5 +1,7 @@
 -- The rows of clients: where one stands, and what a change of one leaves.
-use Rattle.std.proofs.Common.{◌≡◌, ℕ, zero, suc, ◌+◌, ◌-◌, ◌<◌, ◌≤◌, Bool, true, false, ◌==◌, List, [], ◌∷◌, ◌++◌, refl, ap, sym, ◌∙◌, subst, length, get_or, set, drop, cond, Option, Some, None, if◌then◌else◌, arith, length-append, length-drop}
+use Rattle.std.proofs.Common.{◌≡◌, ℕ, zero, suc, ◌+◌, ◌-◌, ◌<◌, ◌≤◌, Bool, true, false, ◌==◌, List, [], ◌∷◌, ◌++◌}
+use Rattle.std.proofs.Common.{refl, ap, sym, ◌∙◌, subst, length, get_or, set, drop, cond, Option, Some, None}
+use Rattle.std.proofs.Common.{if◌then◌else◌, arith, length-append, length-drop}
 use Rattle.std.specs.Prelude.{nat_lt, not, filter, position, slice_get, is_some, MatchOption, IsTrue, IsSome, IfSome}
 use Rattle.std.specs.Borrow.{Bor}
 use Rattle.std.specs.List.{position_or_len}

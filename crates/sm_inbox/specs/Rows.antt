@@ -1,5 +1,6 @@
 -- The rows of a table of inboxes.
-use Rattle.std.specs.Prelude.{ℕ, ◌-◌, ◌<◌, ◌≡◌, false, ◌==◌, List, [], Option, Some, None, length, slice_index_or, slice_set}
+use Rattle.std.specs.Prelude.{ℕ, ◌-◌, ◌<◌, ◌≡◌, false, ◌==◌, List, [], Option, Some, None, length, slice_index_or}
+use Rattle.std.specs.Prelude.{slice_set}
 use Rattle.std.specs.List.{find}
 use Rattle.sm_history.specs.declared.delivery.Delivery.{Delivery}
 use Rattle.sm_history.specs.declared.limits.TheConstants.{MOST_DELIVERIES}

@@ -1,5 +1,6 @@
 -- Contexts: user:role:type or user:role:type:range.
-use Rattle.std.specs.Prelude.{◌≡◌, ℕ, ◌+◌, Bool, false, not, ◌&&◌, ◌||◌, ◌==◌, nat_le, if◌then◌else◌, List, length, take, drop, Option, Some, None, option_map}
+use Rattle.std.specs.Prelude.{◌≡◌, ℕ, ◌+◌, Bool, false, not, ◌&&◌, ◌||◌, ◌==◌, nat_le, if◌then◌else◌, List, length}
+use Rattle.std.specs.Prelude.{take, drop, Option, Some, None, option_map}
 use Rattle.std.specs.List.{prefix_len, list_all}
 use Rattle.std.specs.Borrow.{Bor}
 

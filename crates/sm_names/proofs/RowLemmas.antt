@@ -1,5 +1,7 @@
 -- Rows whose names rise: where a name's row stands, and what a change of one leaves.
-use Rattle.std.proofs.Common.{◌≡◌, ℕ, zero, suc, ◌<◌, ◌≤◌, Bool, true, false, ◌||◌, List, [], ◌∷◌, refl, ap, sym, ◌∙◌, subst, length, map, get_or, set, cond, Option, Some, None, Result, Ok, Err, if◌then◌else◌, arith, add-one}
+use Rattle.std.proofs.Common.{◌≡◌, ℕ, zero, suc, ◌<◌, ◌≤◌, Bool, true, false, ◌||◌, List, [], ◌∷◌, refl, ap, sym, ◌∙◌}
+use Rattle.std.proofs.Common.{subst, length, map, get_or, set, cond, Option, Some, None, Result, Ok, Err}
+use Rattle.std.proofs.Common.{if◌then◌else◌, arith, add-one}
 use Rattle.std.specs.Prelude.{bytes_eq, filter, insert, remove, is_some, MatchResult}
 use Rattle.std.specs.List.{AllWithin}
 use Rattle.std.specs.List.Sorted.{IsSortedBy, IsSearchInRange, IsBinarySearchResult}
@@ -12,7 +14,8 @@ use Rattle.sm_history.specs.declared.service.Service.{Service}
 use Rattle.sm_history.specs.Queries.{shares_bit}
 use Rattle.sm_history.specs.Verdict.{service_meets}
 use Rattle.sm_history.specs.Rising.{AllAfter, IsRising}
-use Rattle.sm_history.proofs.Rising.{is_in, same_bytes, own_bytes, equal_names, apart_names, swapped, turned, head_after, tail_after, more_after, all_after}
+use Rattle.sm_history.proofs.Rising.{is_in, same_bytes, own_bytes, equal_names, apart_names, swapped, turned}
+use Rattle.sm_history.proofs.Rising.{head_after, tail_after, more_after, all_after}
 use Rattle.sm_names.specs.declared.row.NameRow.{NameRow}
 use Rattle.sm_names.specs.Rows.{row_in, service_of, names_of, matching_names, IsChanged, IsPlace, IsGap}
 

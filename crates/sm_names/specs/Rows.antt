@@ -1,5 +1,6 @@
 -- The rows of names that have a service.
-use Rattle.std.specs.Prelude.{ℕ, ◌<◌, ◌≡◌, false, List, Option, Some, None, bytes_eq, filter, map, option_map, length, insert, remove, slice_index_or, slice_set}
+use Rattle.std.specs.Prelude.{ℕ, ◌<◌, ◌≡◌, false, List, Option, Some, None, bytes_eq, filter, map, option_map, length}
+use Rattle.std.specs.Prelude.{insert, remove, slice_index_or, slice_set}
 use Rattle.std.specs.List.{find}
 use Rattle.sm_history.specs.declared.service.Service.{Service}
 use Rattle.sm_history.specs.Effects.{Effects}

@@ -1,5 +1,6 @@
 -- Neverallow rules against all allow rules, by number.
-use Rattle.std.proofs.Common.{inl, inr, ◌≡◌, ℕ, ◌<◌, Bool, true, false, ◌&&◌, ◌||◌, List, Option, Some, None, refl, sym, ◌∙◌, arith, slice_get, true≢false}
+use Rattle.std.proofs.Common.{inl, inr, ◌≡◌, ℕ, ◌<◌, Bool, true, false, ◌&&◌, ◌||◌, List, Option, Some, None, refl}
+use Rattle.std.proofs.Common.{sym, ◌∙◌, arith, slice_get, true≢false}
 use Rattle.std.specs.Option.{IfNone}
 use Rattle.std.proofs.lemmas.Bool.{cases_lt, ne_eqb, false_from_ne_true, and_parts, and_from}
 use Rattle.sm_bits.specs.Bits.{has, has_bit}

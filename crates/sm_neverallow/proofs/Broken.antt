@@ -1,11 +1,13 @@
 -- Neverallow rules against matrices, by the sets of their permissions.
-use Rattle.std.proofs.Common.{inl, inr, ◌≡◌, ℕ, ◌+◌, ◌<◌, ◌≤◌, true, false, ◌&&◌, List, length, Some, sym, ap, ◌∙◌, arith, slice_get, true≢false}
+use Rattle.std.proofs.Common.{inl, inr, ◌≡◌, ℕ, ◌+◌, ◌<◌, ◌≤◌, true, false, ◌&&◌, List, length, Some, sym, ap, ◌∙◌}
+use Rattle.std.proofs.Common.{arith, slice_get, true≢false}
 use Rattle.std.specs.List.{list_any}
 use Rattle.std.proofs.lemmas.Bool.{cases_eq, cases_lt, eq-eqb, and_parts, and_from, false_from_ne_true}
 use Rattle.sm_bits.specs.Bits.{has, row, has_bit}
 use Rattle.sm_rules.specs.declared.kept.Kept.{Kept}
 use Rattle.sm_rules.specs.Keeping.{joins, covers}
-use Rattle.sm_neverallow.specs.Matrices.{matrix, AllCompiled, perm_set, is_of_set, IsUnion, Misses, Hits, IsClear, IsBroken}
+use Rattle.sm_neverallow.specs.Matrices.{matrix, AllCompiled, perm_set, is_of_set, IsUnion, Misses, Hits, IsClear}
+use Rattle.sm_neverallow.specs.Matrices.{IsBroken}
 use Rattle.sm_neverallow.specs.Violating.{IsApart, Meets}
 use Rattle.sm_bits.proofs.ByteBits.{no_bits}
 use Rattle.sm_neverallow.proofs.Searches.{any_at}

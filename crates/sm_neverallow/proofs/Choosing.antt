@@ -1,5 +1,7 @@
 -- The places of the rules of a set, but for those that join no source to a target of any.
-use Rattle.std.proofs.Common.{inl, inr, ◌≡◌, ℕ, ◌+◌, ◌-◌, ◌<◌, Bool, true, false, ◌&&◌, ◌||◌, eqb, List, [], ◌∷◌, ◌++◌, length, get_or, Some, refl, sym, ◌∙◌, arith, subst, slice_get, true≢false, length-append}
+use Rattle.std.proofs.Common.{inl, inr, ◌≡◌, ℕ, ◌+◌, ◌-◌, ◌<◌, Bool, true, false, ◌&&◌, ◌||◌, eqb, List, [], ◌∷◌}
+use Rattle.std.proofs.Common.{◌++◌, length, get_or, Some, refl, sym, ◌∙◌, arith, subst, slice_get, true≢false}
+use Rattle.std.proofs.Common.{length-append}
 use Rattle.std.proofs.lemmas.Bool.{cases_eq, cases_lt, eqb-true, and_parts, and_from, false_from_ne_true}
 use Rattle.std.proofs.lemmas.List.{get_or_append_left, get_or-append_right}
 use Rattle.std.proofs.lemmas.Option.{slice_get_read}
@@ -67,7 +69,8 @@ chosen_more rules set n Miss places new x is h at this before = rw is (record {
   of_set = λ k rule small found. elim (cases_lt k (length places)) [
     | inl old ↦ before.of_set k rule old (rw (place_old places n k old) at found)
     | inr end ↦ (let e : k ≡ length places = omega (arith, length-append places (n ∷ []), small) in
-        let same : x ≡ rule = is_read rules n (get_or (places ++ n ∷ []) k 0) x rule h at (place_new places n k e) found in
+        let same : x ≡ rule =
+        is_read rules n (get_or (places ++ n ∷ []) k 0) x rule h at (place_new places n k e) found in
         subst (λ (r : Kept). perm_set r ≡ set) same this)
   ];
   all = λ m rule low found same. elim (cases_eq m n) [

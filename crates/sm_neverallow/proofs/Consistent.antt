@@ -1,5 +1,6 @@
 -- Rules by number that are apart are rules by name that are consistent.
-use Rattle.std.proofs.Common.{inl, inr, ◌≡◌, ℕ, ◌<◌, Bool, true, false, ◌&&◌, ◌||◌, List, [], ◌∷◌, length, Option, Some, None, refl, sym, ap, ◌∙◌, arith, true≢false}
+use Rattle.std.proofs.Common.{inl, inr, ◌≡◌, ℕ, ◌<◌, Bool, true, false, ◌&&◌, ◌||◌, List, [], ◌∷◌, length, Option}
+use Rattle.std.proofs.Common.{Some, None, refl, sym, ap, ◌∙◌, arith, true≢false}
 use Rattle.std.specs.List.{list_any, cons_option}
 use Rattle.std.specs.Str.{bytes_eq}
 use Rattle.std.proofs.lemmas.Bool.{cases_eq, false_from_ne_true, ne_eqb, and_parts, and_from}
@@ -12,12 +13,14 @@ use Rattle.sm_kinds.specs.declared.perms.Perms.{Perms}
 use Rattle.sm_ruletext.specs.Sets.{selects}
 use Rattle.sm_ruletext.specs.declared.rule.Rule.{Rule}
 use Rattle.sm_ruletext.specs.declared.statement.What.{What}
-use Rattle.sm_ruletext.specs.declared.statement.What.TheVariants.{Attribute, Declared, Member, Allow, Neverallow, Dontaudit, Permissive}
+use Rattle.sm_ruletext.specs.declared.statement.What.TheVariants.{Attribute, Declared, Member, Allow, Neverallow}
+use Rattle.sm_ruletext.specs.declared.statement.What.TheVariants.{Dontaudit, Permissive}
 use Rattle.sm_types.specs.Names.{Name, at}
 use Rattle.sm_types.specs.Denoting.{Policy, types, declares, chosen, in_set, type_of, is_type_named}
 use Rattle.sm_rules.specs.Access as access
 use Rattle.sm_rules.specs.Access.{gives, written, forbidden, picks, IsConsistent}
-use Rattle.sm_rules.specs.Keeping.{class_at, perm_at, covers, covered, AllSay, KeptRules, RulesOf, allow_rules, neverallow_rules}
+use Rattle.sm_rules.specs.Keeping.{class_at, perm_at, covers, covered, AllSay, KeptRules, RulesOf, allow_rules}
+use Rattle.sm_rules.specs.Keeping.{neverallow_rules}
 use Rattle.sm_neverallow.specs.Violating.{AllApart}
 use Rattle.sm_neverallow.proofs.Searches.{some_at}
 

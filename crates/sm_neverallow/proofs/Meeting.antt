@@ -1,5 +1,6 @@
 -- What two rules have in common, and walks over rules.
-use Rattle.std.proofs.Common.{inl, inr, ◌≡◌, ℕ, ◌+◌, ◌<◌, ◌≤◌, Bool, true, false, ◌&&◌, List, length, get_or, Some, refl, sym, ◌∙◌, arith, subst, slice_get, true≢false}
+use Rattle.std.proofs.Common.{inl, inr, ◌≡◌, ℕ, ◌+◌, ◌<◌, ◌≤◌, Bool, true, false, ◌&&◌, List, length, get_or, Some}
+use Rattle.std.proofs.Common.{refl, sym, ◌∙◌, arith, subst, slice_get, true≢false}
 use Rattle.std.proofs.lemmas.Bool.{cases_eq}
 use Rattle.std.proofs.lemmas.Option.{slice_get_read, slice_get_within}
 use Rattle.sm_rules.specs.declared.kept.Kept.{Kept}

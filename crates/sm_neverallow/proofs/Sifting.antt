@@ -1,6 +1,8 @@
 -- The first rule that joins a pair of a matrix, among some, and by groups of sources.
-use Rattle.std.proofs.Common.{inl, inr, ◌≡◌, ℕ, ◌+◌, ◌-◌, ◌*◌, ◌/◌, ◌%◌, ◌<◌, ◌≤◌, Bool, true, false, ◌&&◌, ◌||◌, eqb, List, length, get_or, Some, All, refl, sym, ◌∙◌, arith, subst, slice_get, true≢false}
-use Rattle.std.proofs.lemmas.Bool.{cases_eq, cases_lt, eq-eqb, eqb-true, and_parts, and_from, or_left, or_right, false_from_ne_true}
+use Rattle.std.proofs.Common.{inl, inr, ◌≡◌, ℕ, ◌+◌, ◌-◌, ◌*◌, ◌/◌, ◌%◌, ◌<◌, ◌≤◌, Bool, true, false, ◌&&◌, ◌||◌, eqb}
+use Rattle.std.proofs.Common.{List, length, get_or, Some, All, refl, sym, ◌∙◌, arith, subst, slice_get, true≢false}
+use Rattle.std.proofs.lemmas.Bool.{cases_eq, cases_lt, eq-eqb, eqb-true, and_parts, and_from, or_left, or_right}
+use Rattle.std.proofs.lemmas.Bool.{false_from_ne_true}
 use Rattle.std.proofs.lemmas.Grind.{get_or_default_zero}
 use Rattle.std.proofs.lemmas.List.Elements.{All-get_or}
 use Rattle.std.proofs.lemmas.Option.{slice_get_read, slice_get_within, get_or_from_slice_get}
@@ -8,7 +10,8 @@ use Rattle.sm_bits.specs.Bits.{has, row}
 use Rattle.sm_rules.specs.declared.kept.Kept.{Kept}
 use Rattle.sm_rules.specs.Keeping.{joins, FitsRule}
 use Rattle.sm_neverallow.specs.Matrices.{matrix, perm_set, Misses, Hits}
-use Rattle.sm_neverallow.specs.Hitting.{Unites, UnionMisses, UnionHits, MissesGroup, AllUnite, AllMiss, SomeHit, MissesGroups, IsDiagonal, OwnMisses, OwnHits, rule_at, Chosen, FindsFirst}
+use Rattle.sm_neverallow.specs.Hitting.{Unites, UnionMisses, UnionHits, MissesGroup, AllUnite, AllMiss, SomeHit}
+use Rattle.sm_neverallow.specs.Hitting.{MissesGroups, IsDiagonal, OwnMisses, OwnHits, rule_at, Chosen, FindsFirst}
 use Rattle.sm_neverallow.proofs.Doubling.{any_at, some_row}
 use Rattle.sm_neverallow.proofs.Meeting.{some_same}
 

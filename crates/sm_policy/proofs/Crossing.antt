@@ -1,5 +1,6 @@
 -- A policy crosses to another thread, and threads share one.
-use denote.Param.Send.{IsSend, IsSync, sendable, view_send, view_sync, recorded_send, recorded_sync, struct_send, struct_sync}
+use denote.Param.Send.{IsSend, IsSync, sendable, view_send, view_sync, recorded_send, recorded_sync, struct_send}
+use denote.Param.Send.{struct_sync}
 use denote.Struct.Declared.{shape}
 use Rattle.std.proofs.Crossing.{crosses, Arc-send, Arc-sync}
 use Rattle.std.specs.contracts.alloc.Global as Global
@@ -28,15 +29,37 @@ parts_send : IsSend Parts.the_row
 parts_send =
     view_send PartsInside.the_row _ _ _ _
     (recorded_send _ _ _ PartsInside.the_type.to_one
-    (struct_send (shape PartsInside.the_type)
-    (statements_send, (Counts.the_field_send, (Types.the_send, (Rules.the_send, (Vectors.the_send, (Contexts.the_send, tt))))))))
+    (struct_send (shape PartsInside.the_type) (
+      statements_send,
+      (
+        Counts.the_field_send,
+        (
+          Types.the_send,
+          (
+            Rules.the_send,
+            (Vectors.the_send, (Contexts.the_send, tt)),
+          ),
+        ),
+      ),
+    )))
 
 parts_sync : IsSync Parts.the_row
 parts_sync =
     view_sync PartsInside.the_row _ _ _ _
     (recorded_sync _ _ _ PartsInside.the_type.to_one
-    (struct_sync (shape PartsInside.the_type)
-    (statements_sync, (Counts.the_field_sync, (Types.the_sync, (Rules.the_sync, (Vectors.the_sync, (Contexts.the_sync, tt))))))))
+    (struct_sync (shape PartsInside.the_type) (
+      statements_sync,
+      (
+        Counts.the_field_sync,
+        (
+          Types.the_sync,
+          (
+            Rules.the_sync,
+            (Vectors.the_sync, (Contexts.the_sync, tt)),
+          ),
+        ),
+      ),
+    )))
 
 pub prepared_send : IsSend Prepared.the_row
 prepared_send =

@@ -1,5 +1,6 @@
 -- A rule text has no more statements than bytes.
-use Rattle.std.proofs.Common.{◌≡◌, ℕ, zero, suc, ◌+◌, ◌≤◌, Bool, true, false, ◌&&◌, cond, List, [], ◌∷◌, ◌++◌, length, length-append, Option, None, Some, Ok, Err, refl, ap, arith}
+use Rattle.std.proofs.Common.{◌≡◌, ℕ, zero, suc, ◌+◌, ◌≤◌, Bool, true, false, ◌&&◌, cond, List, [], ◌∷◌, ◌++◌, length}
+use Rattle.std.proofs.Common.{length-append, Option, None, Some, Ok, Err, refl, ap, arith}
 use Rattle.std.specs.Prelude.{nat_lt, nat_le}
 use Rattle.std.proofs.lemmas.Bool.{ltb-false}
 use Rattle.sm_kinds.specs.Reading.{◌>>=◌}
@@ -10,10 +11,12 @@ use Rattle.sm_ruletext.specs.declared.fault.RuleTextFault.TheVariants.{TooLarge,
 use Rattle.sm_ruletext.specs.declared.statement.What.{What}
 use Rattle.sm_ruletext.specs.declared.statement.Statement.{Statement}
 use Rattle.sm_ruletext.specs.declared.token.Kind.{Kind}
-use Rattle.sm_ruletext.specs.declared.token.Kind.TheVariants.{Word, Semicolon, Comma, Colon, Open, Close, Star, Tilde, Dash, Other}
+use Rattle.sm_ruletext.specs.declared.token.Kind.TheVariants.{Word, Semicolon, Comma, Colon, Open, Close, Star, Tilde}
+use Rattle.sm_ruletext.specs.declared.token.Kind.TheVariants.{Dash, Other}
 use Rattle.sm_ruletext.specs.Lexing.{Tokens, tokens}
 use Rattle.sm_ruletext.specs.Words.{keyword_of}
-use Rattle.sm_ruletext.specs.Statements.{what_at, with_statement, statement_from, statements_within, statements_of, read, is_rule, rule_count}
+use Rattle.sm_ruletext.specs.Statements.{what_at, with_statement, statement_from, statements_within, statements_of}
+use Rattle.sm_ruletext.specs.Statements.{read, is_rule, rule_count}
 use Rattle.sm_ruletext.proofs.Cuts.{length-tokens}
 
 one_more : (line : ℕ) (sts more : List Statement) (w : Option What) → with_statement line sts w ≡ Ok more

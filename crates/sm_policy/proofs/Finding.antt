@@ -1,5 +1,6 @@
 -- What is found, and where.
-use Rattle.std.proofs.Common.{◌≡◌, ℕ, zero, suc, ◌+◌, ◌≤◌, drop, length, Bool, true, false, ◌||◌, cond, List, [], ◌∷◌, Option, None, Some, is_some, refl, arith}
+use Rattle.std.proofs.Common.{◌≡◌, ℕ, zero, suc, ◌+◌, ◌≤◌, drop, length, Bool, true, false, ◌||◌, cond, List, [], ◌∷◌}
+use Rattle.std.proofs.Common.{Option, None, Some, is_some, refl, arith}
 use Rattle.std.specs.Prelude.{find, option_map, not, slice_get}
 use Rattle.std.specs.Option.{option_or}
 use Rattle.std.specs.List.{list_any, filter_map, cons_option}

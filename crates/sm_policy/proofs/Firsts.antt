@@ -1,5 +1,6 @@
 -- The first violation by number is the first violation by name.
-use Rattle.std.proofs.Common.{◌≡◌, ℕ, zero, suc, ◌<◌, Bool, true, false, ◌&&◌, ◌||◌, List, [], ◌∷◌, length, Option, None, Some, refl, sym, ◌∙◌, arith, slice_get}
+use Rattle.std.proofs.Common.{◌≡◌, ℕ, zero, suc, ◌<◌, Bool, true, false, ◌&&◌, ◌||◌, List, [], ◌∷◌, length, Option}
+use Rattle.std.proofs.Common.{None, Some, refl, sym, ◌∙◌, arith, slice_get}
 use Rattle.std.specs.List.{list_any}
 use Rattle.std.proofs.lemmas.Option.{get_or_from_slice_get, slice_get_within, slice_get-get_or}
 use Rattle.sm_kinds.specs.declared.class.Class.{Class}
@@ -14,7 +15,8 @@ use Rattle.sm_rules.specs.Keeping.{allow_rules, neverallow_rules, class_at, perm
 use Rattle.sm_neverallow.specs.Violating.{breaks, IsFirstViolation}
 use Rattle.sm_neverallow.specs.declared.violation.Violation.{Violation as Numbered}
 use Rattle.sm_policy.specs.declared.violation.Violation.{Violation}
-use Rattle.sm_policy.specs.Violating.{first_some, perm_numbers, clash, clash_of_pair, clash_of_source, first_clash, clash_of_never, first_violation, named_violation}
+use Rattle.sm_policy.specs.Violating.{first_some, perm_numbers, clash, clash_of_pair, clash_of_source, first_clash}
+use Rattle.sm_policy.specs.Violating.{clash_of_never, first_violation, named_violation}
 
 -- ---- the first that is given
 

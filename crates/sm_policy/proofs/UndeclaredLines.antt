@@ -1,5 +1,6 @@
 -- The first entry with an undeclared type stands on the first entry line with an undeclared type.
-use Rattle.std.proofs.Common.{◌≡◌, ℕ, ◌+◌, Bool, true, false, not, ◌&&◌, cond, if◌then◌else◌, List, [], ◌∷◌, ◌++◌, length, Option, None, Some, Ok, Err, refl, sym, ap, ◌∙◌}
+use Rattle.std.proofs.Common.{◌≡◌, ℕ, ◌+◌, Bool, true, false, not, ◌&&◌, cond, if◌then◌else◌, List, [], ◌∷◌, ◌++◌}
+use Rattle.std.proofs.Common.{length, Option, None, Some, Ok, Err, refl, sym, ap, ◌∙◌}
 use Rattle.std.specs.Prelude.{find, option_map, nat_lt, count_by}
 use Rattle.std.specs.List.{list_any}
 use Rattle.std.specs.Option.{option_or}
@@ -10,10 +11,12 @@ use Rattle.sm_kinds.specs.Reading.{◌>>=◌}
 use Rattle.sm_kinds.specs.declared.limits.TheConstants.{MOST_TEXT_BYTES}
 use Rattle.sm_ruletext.specs.declared.statement.Statement.{Statement}
 use Rattle.sm_types.specs.Denoting.{declares}
-use Rattle.sm_contexts.specs.declared.fault.ContextsFault.TheVariants.{TooLarge, BadLine, Conflict, TwoDefaults, NoDefault}
+use Rattle.sm_contexts.specs.declared.fault.ContextsFault.TheVariants.{TooLarge, BadLine, Conflict, TwoDefaults}
+use Rattle.sm_contexts.specs.declared.fault.ContextsFault.TheVariants.{NoDefault}
 use Rattle.sm_contexts.specs.Lines.{lines, first_word, after_word}
 use Rattle.sm_contexts.specs.declared.limits.TheConstants.{MOST_ENTRY_LINES}
-use Rattle.sm_contexts.specs.Reading.{Entry, Read, has_key, default_key, is_entry, placed, with_entry, with_line, entries_from, read}
+use Rattle.sm_contexts.specs.Reading.{Entry, Read, has_key, default_key, is_entry, placed, with_entry, with_line}
+use Rattle.sm_contexts.specs.Reading.{entries_from, read}
 use Rattle.sm_policy.specs.Preparing.{is_undeclared_line, undeclared_from}
 use Rattle.sm_policy.specs.Undeclared.{first_undeclared, is_undeclared}
 

@@ -5,7 +5,8 @@ use Rattle.sm_rules.specs.Access.{written, forbidden, IsConsistent}
 use Rattle.sm_policy.specs.Preparing.{rules_of}
 use Rattle.sm_policy.specs.declared.violation.Violation.{Violation}
 use Rattle.sm_policy.specs.declared.fault.PolicyFault.{PolicyFault}
-use Rattle.sm_policy.specs.declared.fault.PolicyFault.TheVariants.{Rules, Types, Access, Contexts, UndeclaredLabel, Neverallow, Memory}
+use Rattle.sm_policy.specs.declared.fault.PolicyFault.TheVariants.{Rules, Types, Access, Contexts, UndeclaredLabel}
+use Rattle.sm_policy.specs.declared.fault.PolicyFault.TheVariants.{Neverallow, Memory}
 
 -- A claim on a violation, where that is the fault.
 abbrev pub IfNeverallow : PolicyFault → (Violation → Type 0) → Type 0

@@ -1,5 +1,6 @@
 -- What comes of the two texts of a policy: a policy, or the first refusal.
-use Rattle.std.specs.Prelude.{ℕ, ◌+◌, Bool, true, false, not, ◌&&◌, if◌then◌else◌, List, [], ◌∷◌, Option, Some, None, Result, Ok, Err}
+use Rattle.std.specs.Prelude.{ℕ, ◌+◌, Bool, true, false, not, ◌&&◌, if◌then◌else◌, List, [], ◌∷◌, Option, Some, None}
+use Rattle.std.specs.Prelude.{Result, Ok, Err}
 use Rattle.sm_kinds.specs.Contexts.{type_of}
 use Rattle.sm_kinds.specs.Reading.{◌>>=◌}
 use Rattle.sm_ruletext.specs.declared.fault.RuleTextFault.{RuleTextFault}
@@ -20,7 +21,8 @@ use Rattle.sm_contexts.specs.Lines.{lines, first_word, after_word}
 use Rattle.sm_contexts.specs.Reading.{Entry, is_entry}
 use Rattle.sm_contexts.specs.Reading as contexts
 use Rattle.sm_policy.specs.declared.fault.PolicyFault.{PolicyFault}
-use Rattle.sm_policy.specs.declared.fault.PolicyFault.TheVariants.{Rules, Types, Access, Contexts, UndeclaredLabel, Neverallow, Memory}
+use Rattle.sm_policy.specs.declared.fault.PolicyFault.TheVariants.{Rules, Types, Access, Contexts, UndeclaredLabel}
+use Rattle.sm_policy.specs.declared.fault.PolicyFault.TheVariants.{Neverallow, Memory}
 use Rattle.sm_policy.specs.Policy.{Policy}
 use Rattle.sm_policy.specs.Violating.{first_violation}
 

@@ -11,7 +11,8 @@ use Rattle.sm_contexts.specs.declared.fault.ContextsFault.{ContextsFault}
 use Rattle.sm_contexts.specs.declared.fault.ContextsFault.TheVariants as labels
 use Rattle.sm_policy.specs.declared.violation.Violation.{Violation}
 use Rattle.sm_policy.specs.declared.fault.PolicyFault.{PolicyFault}
-use Rattle.sm_policy.specs.declared.fault.PolicyFault.TheVariants.{Rules, Types, Access, Contexts, UndeclaredLabel, Neverallow, Memory}
+use Rattle.sm_policy.specs.declared.fault.PolicyFault.TheVariants.{Rules, Types, Access, Contexts, UndeclaredLabel}
+use Rattle.sm_policy.specs.declared.fault.PolicyFault.TheVariants.{Neverallow, Memory}
 
 abbrev pub text_words : RuleTextFault → List ℕ
 text_words text.TooLarge = codes "rules: too large"

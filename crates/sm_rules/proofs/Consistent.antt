@@ -1,5 +1,6 @@
 -- What is written is what the kept rules cover, in whichever way they are listed.
-use Rattle.std.proofs.Common.{◌≡◌, ℕ, zero, suc, ◌<◌, Bool, true, false, ◌||◌, List, [], ◌∷◌, length, Some, None, refl, sym, ◌∙◌, slice_get, cond}
+use Rattle.std.proofs.Common.{◌≡◌, ℕ, zero, suc, ◌<◌, Bool, true, false, ◌||◌, List, [], ◌∷◌, length, Some, None}
+use Rattle.std.proofs.Common.{refl, sym, ◌∙◌, slice_get, cond}
 use Rattle.std.specs.List.{list_any, cons_option}
 use Rattle.std.proofs.lemmas.Bool.{and_right}
 use Rattle.sm_kinds.specs.Permissions.{perm_of}
@@ -8,13 +9,16 @@ use Rattle.sm_kinds.specs.declared.perms.Perms.{Perms}
 use Rattle.sm_ruletext.specs.Sets.{is_kept}
 use Rattle.sm_ruletext.specs.declared.rule.Rule.{Rule}
 use Rattle.sm_ruletext.specs.declared.statement.What.{What}
-use Rattle.sm_ruletext.specs.declared.statement.What.TheVariants.{Attribute, Declared, Member, Allow, Neverallow, Dontaudit, Permissive}
+use Rattle.sm_ruletext.specs.declared.statement.What.TheVariants.{Attribute, Declared, Member, Allow, Neverallow}
+use Rattle.sm_ruletext.specs.declared.statement.What.TheVariants.{Dontaudit, Permissive}
 use Rattle.sm_ruletext.specs.declared.statement.Statement.{Statement}
 use Rattle.sm_types.specs.Names.{Name, at, Distinct}
 use Rattle.sm_types.specs.Denoting.{Policy}
 use Rattle.sm_rules.specs.Access as access
 use Rattle.sm_rules.specs.Access.{gives, written, forbidden, silenced}
-use Rattle.sm_rules.specs.Keeping.{class_at, perm_at, covered, StandsFor, AllStandFor, Says, AllSay, KeptRules, RulesOf, allow_in, neverallow_in, dontaudit_in, allow_rules, neverallow_rules, dontaudit_rules, kept_only}
+use Rattle.sm_rules.specs.Keeping.{class_at, perm_at, covered, StandsFor, AllStandFor, Says, AllSay, KeptRules}
+use Rattle.sm_rules.specs.Keeping.{RulesOf, allow_in, neverallow_in, dontaudit_in, allow_rules, neverallow_rules}
+use Rattle.sm_rules.specs.Keeping.{dontaudit_rules, kept_only}
 use Rattle.sm_rules.specs.declared.kept.Kept.{Kept}
 use Rattle.sm_rules.proofs.Lines.{unkept, unnamed, stands_covers}
 

@@ -1,5 +1,6 @@
 -- The first rule that covers a tuple, by number and by name.
-use Rattle.std.proofs.Common.{◌≡◌, ℕ, ◌<◌, Bool, true, false, cond, eqb, List, [], ◌∷◌, length, find, option_map, Option, Some, None, refl, sym, ap, ◌∙◌, inl, inr, true≢false}
+use Rattle.std.proofs.Common.{◌≡◌, ℕ, ◌<◌, Bool, true, false, cond, eqb, List, [], ◌∷◌, length, find, option_map}
+use Rattle.std.proofs.Common.{Option, Some, None, refl, sym, ap, ◌∙◌, inl, inr, true≢false}
 use Rattle.std.specs.List.{cons_option}
 use Rattle.std.specs.Str.{bytes_eq}
 use Rattle.std.proofs.lemmas.Bool.{cases_eq, eq-eqb, ne_eqb, false_from_ne_true, or_parts, and_right}
@@ -11,13 +12,15 @@ use Rattle.sm_kinds.specs.declared.perms.Perms.{Perms}
 use Rattle.sm_ruletext.specs.Sets.{selects, is_kept}
 use Rattle.sm_ruletext.specs.declared.rule.Rule.{Rule}
 use Rattle.sm_ruletext.specs.declared.statement.What.{What}
-use Rattle.sm_ruletext.specs.declared.statement.What.TheVariants.{Attribute, Declared, Member, Allow, Neverallow, Dontaudit, Permissive}
+use Rattle.sm_ruletext.specs.declared.statement.What.TheVariants.{Attribute, Declared, Member, Allow, Neverallow}
+use Rattle.sm_ruletext.specs.declared.statement.What.TheVariants.{Dontaudit, Permissive}
 use Rattle.sm_ruletext.specs.declared.statement.Statement.{Statement}
 use Rattle.sm_types.specs.Names.{Name, at, Distinct}
 use Rattle.sm_types.specs.Denoting.{Policy}
 use Rattle.sm_rules.specs.Access as access
 use Rattle.sm_rules.specs.Access.{gives, allows, written_line, picks}
-use Rattle.sm_rules.specs.Keeping.{covers, covered_line, class_at, perm_at, StandsFor, AllStandFor, KeptRules, RulesOf, allow_in, allow_rules}
+use Rattle.sm_rules.specs.Keeping.{covers, covered_line, class_at, perm_at, StandsFor, AllStandFor, KeptRules}
+use Rattle.sm_rules.specs.Keeping.{RulesOf, allow_in, allow_rules}
 use Rattle.sm_rules.specs.declared.kept.Kept.{Kept}
 
 -- a rule that isn't kept gives nothing

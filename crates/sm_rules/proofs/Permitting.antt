@@ -1,5 +1,6 @@
 -- The types that the statements make permissive.
-use Rattle.std.proofs.Common.{◌≡◌, ℕ, ◌+◌, ◌<◌, Bool, true, false, ◌||◌, cond, List, [], ◌∷◌, ◌++◌, length, get_or, take, Option, None, Some, refl, sym, ap, ◌∙◌, add-one, eqb}
+use Rattle.std.proofs.Common.{◌≡◌, ℕ, ◌+◌, ◌<◌, Bool, true, false, ◌||◌, cond, List, [], ◌∷◌, ◌++◌, length, get_or}
+use Rattle.std.proofs.Common.{take, Option, None, Some, refl, sym, ap, ◌∙◌, add-one, eqb}
 use Rattle.std.specs.Option.{option_or}
 use Rattle.std.specs.Str.{bytes_eq}
 use Rattle.std.proofs.Math.Seq.{take-suc}
@@ -9,7 +10,8 @@ use Rattle.std.proofs.lemmas.Slice.Eq.{bytes_eq-Decides}
 use Rattle.std.specs.Prelude.{slice_get}
 use Rattle.sm_bits.specs.Bits.{has}
 use Rattle.sm_ruletext.specs.declared.statement.What.{What}
-use Rattle.sm_ruletext.specs.declared.statement.What.TheVariants.{Attribute, Declared, Member, Allow, Neverallow, Dontaudit, Permissive}
+use Rattle.sm_ruletext.specs.declared.statement.What.TheVariants.{Attribute, Declared, Member, Allow, Neverallow}
+use Rattle.sm_ruletext.specs.declared.statement.What.TheVariants.{Dontaudit, Permissive}
 use Rattle.sm_ruletext.specs.declared.statement.Statement.{Statement}
 use Rattle.sm_types.specs.Names.{Name, at, Distinct}
 use Rattle.sm_types.specs.Denoting.{Policy, declares}

@@ -1,10 +1,12 @@
 -- Each fault inside a statement is at its line, and which fault a text has.
-use Rattle.std.proofs.Common.{inl, inr, ◌⊎◌, ◌≡◌, ℕ, zero, suc, ◌≤◌, Bool, true, false, cond, ◌&&◌, leb, ltb, ◌<◌, List, [], ◌∷◌, ◌++◌, length, Option, Some, None, Ok, Err, refl, ap, ◌∙◌, arith}
+use Rattle.std.proofs.Common.{inl, inr, ◌⊎◌, ◌≡◌, ℕ, zero, suc, ◌≤◌, Bool, true, false, cond, ◌&&◌, leb, ltb, ◌<◌}
+use Rattle.std.proofs.Common.{List, [], ◌∷◌, ◌++◌, length, Option, Some, None, Ok, Err, refl, ap, ◌∙◌, arith}
 use Rattle.std.proofs.lemmas.List.{length-append}
 use Rattle.std.proofs.lemmas.Bool.{ltb-true}
 use Rattle.std.specs.Prelude.{IfErr}
 use Rattle.sm_ruletext.specs.declared.token.Kind.{Kind}
-use Rattle.sm_ruletext.specs.declared.token.Kind.TheVariants.{Word, Semicolon, Comma, Colon, Open, Close, Star, Tilde, Dash, Other}
+use Rattle.sm_ruletext.specs.declared.token.Kind.TheVariants.{Word, Semicolon, Comma, Colon, Open, Close, Star, Tilde}
+use Rattle.sm_ruletext.specs.declared.token.Kind.TheVariants.{Dash, Other}
 use Rattle.sm_ruletext.specs.declared.fault.RuleTextFault.{RuleTextFault}
 use Rattle.sm_ruletext.specs.declared.fault.RuleTextFault.TheVariants.{Syntax, TooLarge, Unsupported, TooMany, Memory}
 use Rattle.sm_ruletext.specs.declared.items.Items.{Items}
@@ -19,8 +21,10 @@ use Rattle.sm_kinds.specs.Reading.{◌>>=◌, Gives}
 use Rattle.sm_kinds.specs.declared.limits.TheConstants.{MOST_TEXT_BYTES}
 use Rattle.sm_kinds.proofs.Readers.{went_well}
 use Rattle.sm_ruletext.specs.declared.limits.TheConstants.{MOST_RULES}
-use Rattle.sm_ruletext.specs.Grammar.{Step, Read, is_memory, no_items, set_of, with_word, kind_at, name_at, names_at, semicolon_at, colon_at, group_at, items_from, set_from, set_at, rule_at}
-use Rattle.sm_ruletext.specs.Statements.{is_rule, rule_count, skipped_at, what_at, with_statement, statement_from, statements_within, statements_of, read}
+use Rattle.sm_ruletext.specs.Grammar.{Step, Read, is_memory, no_items, set_of, with_word, kind_at, name_at, names_at}
+use Rattle.sm_ruletext.specs.Grammar.{semicolon_at, colon_at, group_at, items_from, set_from, set_at, rule_at}
+use Rattle.sm_ruletext.specs.Statements.{is_rule, rule_count, skipped_at, what_at, with_statement, statement_from}
+use Rattle.sm_ruletext.specs.Statements.{statements_within, statements_of, read}
 use Rattle.sm_ruletext.specs.Spelling.{SpellsStatement, SpellsNone, BeginsNoStatement, HasFault, IsFaultOf}
 use Rattle.sm_ruletext.proofs.Turns.{ok_parts}
 use Rattle.sm_ruletext.proofs.Stated.{what_again, what_taken, placed, added}

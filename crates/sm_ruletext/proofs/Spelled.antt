@@ -1,8 +1,10 @@
 -- What is read is spelled so, and what is spelled so is read.
-use Rattle.std.proofs.Common.{inl, inr, ◌⊎◌, ◌≡◌, ℕ, zero, suc, Bool, true, false, cond, List, [], ◌∷◌, ◌++◌, Ok, Err, refl, sym, ap, subst, ◌∙◌, append_assoc}
+use Rattle.std.proofs.Common.{inl, inr, ◌⊎◌, ◌≡◌, ℕ, zero, suc, Bool, true, false, cond, List, [], ◌∷◌, ◌++◌, Ok, Err}
+use Rattle.std.proofs.Common.{refl, sym, ap, subst, ◌∙◌, append_assoc}
 use Rattle.std.proofs.lemmas.List.{append-nil}
 use Rattle.sm_ruletext.specs.declared.token.Kind.{Kind}
-use Rattle.sm_ruletext.specs.declared.token.Kind.TheVariants.{Word, Semicolon, Comma, Colon, Open, Close, Star, Tilde, Dash, Other}
+use Rattle.sm_ruletext.specs.declared.token.Kind.TheVariants.{Word, Semicolon, Comma, Colon, Open, Close, Star, Tilde}
+use Rattle.sm_ruletext.specs.declared.token.Kind.TheVariants.{Dash, Other}
 use Rattle.sm_ruletext.specs.declared.fault.RuleTextFault.{RuleTextFault}
 use Rattle.sm_ruletext.specs.declared.fault.RuleTextFault.TheVariants.{Syntax}
 use Rattle.sm_ruletext.specs.declared.items.Items.{Items}
@@ -12,7 +14,8 @@ use Rattle.sm_ruletext.specs.Lexing.{Tokens}
 use Rattle.sm_ruletext.specs.Words.{is_self}
 use Rattle.sm_kinds.specs.Reading.{◌>>=◌}
 use Rattle.sm_kinds.proofs.Readers.{went_well}
-use Rattle.sm_ruletext.specs.Grammar.{Step, Read, no_items, with_word, group_at, items_from, set_of, set_from, set_at, kind_at, colon_at, semicolon_at, rule_at}
+use Rattle.sm_ruletext.specs.Grammar.{Step, Read, no_items, with_word, group_at, items_from, set_of, set_from, set_at}
+use Rattle.sm_ruletext.specs.Grammar.{kind_at, colon_at, semicolon_at, rule_at}
 use Rattle.sm_ruletext.proofs.Turns.{ok_parts}
 use Rattle.sm_ruletext.specs.Spelling.{SpellsItems, SpellsSimple, SpellsSet, SpellsRule}
 

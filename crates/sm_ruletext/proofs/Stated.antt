@@ -1,9 +1,11 @@
 -- The same of statements and of a whole text.
-use Rattle.std.proofs.Common.{◌≡◌, ℕ, zero, suc, ◌≤◌, IfOk, ltb, Bool, true, false, cond, List, [], ◌∷◌, ◌++◌, length, Option, Some, None, Ok, Err, refl, sym, ap, subst, ◌∙◌, append_assoc, arith}
+use Rattle.std.proofs.Common.{◌≡◌, ℕ, zero, suc, ◌≤◌, IfOk, ltb, Bool, true, false, cond, List, [], ◌∷◌, ◌++◌, length}
+use Rattle.std.proofs.Common.{Option, Some, None, Ok, Err, refl, sym, ap, subst, ◌∙◌, append_assoc, arith}
 use Rattle.std.proofs.lemmas.List.{append-nil, length-append}
 use Rattle.std.proofs.lemmas.Bool.{le-ltb}
 use Rattle.sm_ruletext.specs.declared.token.Kind.{Kind}
-use Rattle.sm_ruletext.specs.declared.token.Kind.TheVariants.{Word, Semicolon, Comma, Colon, Open, Close, Star, Tilde, Dash, Other}
+use Rattle.sm_ruletext.specs.declared.token.Kind.TheVariants.{Word, Semicolon, Comma, Colon, Open, Close, Star, Tilde}
+use Rattle.sm_ruletext.specs.declared.token.Kind.TheVariants.{Dash, Other}
 use Rattle.sm_ruletext.specs.declared.fault.RuleTextFault.TheVariants.{Syntax, TooLarge}
 use Rattle.sm_ruletext.specs.declared.set.Set.{Set}
 use Rattle.sm_ruletext.specs.declared.rule.Rule.{Rule}
@@ -19,7 +21,8 @@ use Rattle.sm_kinds.specs.declared.limits.TheConstants.{MOST_TEXT_BYTES}
 use Rattle.sm_kinds.proofs.Readers.{went_well}
 use Rattle.sm_ruletext.specs.Grammar.{Step, Read, is_memory, name_at, names_at, semicolon_at, colon_at, set_at, rule_at}
 use Rattle.sm_ruletext.specs.Sets.{is_kept}
-use Rattle.sm_ruletext.specs.Statements.{skipped_at, what_at, with_statement, statement_from, statements_within, statements_of, read}
+use Rattle.sm_ruletext.specs.Statements.{skipped_at, what_at, with_statement, statement_from, statements_within}
+use Rattle.sm_ruletext.specs.Statements.{statements_of, read}
 use Rattle.sm_ruletext.specs.Spelling.{SpellsRule, SpellsNames, HasNoSemicolon, SpellsStatement, SpellsText}
 use Rattle.sm_ruletext.proofs.Turns.{ok_parts, name_taken}
 use Rattle.sm_ruletext.proofs.Spelled.{dash_cases, set_taken, rule_again}

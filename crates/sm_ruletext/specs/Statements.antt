@@ -1,5 +1,6 @@
 -- The statements of a rule text.
-use Rattle.std.specs.Prelude.{ℕ, zero, suc, Bool, true, false, ◌&&◌, nat_le, nat_lt, count_by, if◌then◌else◌, List, [], ◌∷◌, ◌++◌, length, Option, Some, None, Ok, Err}
+use Rattle.std.specs.Prelude.{ℕ, zero, suc, Bool, true, false, ◌&&◌, nat_le, nat_lt, count_by, if◌then◌else◌, List}
+use Rattle.std.specs.Prelude.{[], ◌∷◌, ◌++◌, length, Option, Some, None, Ok, Err}
 use Rattle.sm_kinds.specs.Reading.{◌>>=◌}
 use Rattle.sm_kinds.specs.declared.limits.TheConstants.{MOST_TEXT_BYTES}
 use Rattle.sm_ruletext.specs.declared.limits.TheConstants.{MOST_RULES}

@@ -2,7 +2,8 @@
 use Rattle.std.specs.Prelude.{ℕ, Bool, ◌||◌, if◌then◌else◌, List, codes}
 use Rattle.std.specs.Str.{bytes_eq}
 use Rattle.sm_ruletext.specs.declared.keyword.Keyword.{Keyword}
-use Rattle.sm_ruletext.specs.declared.keyword.Keyword.TheVariants.{Attribute, Types, Typeattribute, Allow, Neverallow, Dontaudit, Permissive, Skipped, Unknown}
+use Rattle.sm_ruletext.specs.declared.keyword.Keyword.TheVariants.{Attribute, Types, Typeattribute, Allow, Neverallow}
+use Rattle.sm_ruletext.specs.declared.keyword.Keyword.TheVariants.{Dontaudit, Permissive, Skipped, Unknown}
 
 abbrev pub is_self : List ℕ → Bool
 is_self w = bytes_eq w (codes "self")

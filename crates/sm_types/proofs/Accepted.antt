@@ -1,20 +1,25 @@
 -- What is known of a policy in which nothing is refused.
-use Rattle.std.proofs.Common.{◌≡◌, ℕ, Bool, true, false, not, ◌||◌, List, [], ◌∷◌, ◌++◌, find, option_map, Option, Some, None, Ok, Err, refl, sym, ap, ◌∙◌, append_assoc, true≢false, cond, length, ◌<◌, nat_le}
+use Rattle.std.proofs.Common.{◌≡◌, ℕ, Bool, true, false, not, ◌||◌, List, [], ◌∷◌, ◌++◌, find, option_map, Option}
+use Rattle.std.proofs.Common.{Some, None, Ok, Err, refl, sym, ap, ◌∙◌, append_assoc, true≢false, cond, length, ◌<◌}
+use Rattle.std.proofs.Common.{nat_le}
 use Rattle.std.specs.List.{list_any, cons_option}
 use Rattle.std.specs.Str.{bytes_eq}
 use Rattle.std.proofs.lemmas.Bool.{and_parts, and_right, false_from_ne_true}
 use Rattle.std.proofs.lemmas.List.{append-nil}
 use Rattle.std.proofs.lemmas.List.Folds.{list_any_at}
 use Rattle.sm_ruletext.specs.declared.statement.What.{What}
-use Rattle.sm_ruletext.specs.declared.statement.What.TheVariants.{Attribute, Declared, Member, Allow, Neverallow, Dontaudit, Permissive}
+use Rattle.sm_ruletext.specs.declared.statement.What.TheVariants.{Attribute, Declared, Member, Allow, Neverallow}
+use Rattle.sm_ruletext.specs.declared.statement.What.TheVariants.{Dontaudit, Permissive}
 use Rattle.sm_ruletext.specs.declared.statement.Statement.{Statement}
 use Rattle.sm_types.specs.declared.TheConstants.{MOST_TYPES, MOST_ATTRIBUTES}
 use Rattle.sm_types.specs.declared.symbols.Symbols.{Symbols}
 use Rattle.sm_types.specs.declared.fault.TypesFault.{TypesFault}
 use Rattle.sm_types.specs.declared.fault.TypesFault.TheVariants.{Twice, TooMany}
 use Rattle.sm_types.specs.Names.{Name, at}
-use Rattle.sm_types.specs.Declaring.{Step, nothing, declared, symbols_of, first_unknown, unless, members_known, all_attributes, is_declared, with_declaration, with_type, with_attribute}
-use Rattle.sm_types.specs.Denoting.{gives_attribute, has_attribute, declares, is_type_named, type_of, attribute_of, types, attributes}
+use Rattle.sm_types.specs.Declaring.{Step, nothing, declared, symbols_of, first_unknown, unless, members_known}
+use Rattle.sm_types.specs.Declaring.{all_attributes, is_declared, with_declaration, with_type, with_attribute}
+use Rattle.sm_types.specs.Denoting.{gives_attribute, has_attribute, declares, is_type_named, type_of, attribute_of}
+use Rattle.sm_types.specs.Denoting.{types, attributes}
 use Rattle.sm_types.specs.Members.{IsOf}
 use Rattle.sm_kinds.specs.Names.{contains}
 use Rattle.sm_kinds.specs.Reading.{◌>>=◌}

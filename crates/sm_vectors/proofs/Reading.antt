@@ -1,5 +1,6 @@
 -- Reads of the table.
-use Rattle.std.proofs.Common.{◌≡◌, ℕ, ◌<◌, replicate, false, List, [], ◌∷◌, get_or, slice_get, Option, None, refl, sym, ap, ◌∙◌}
+use Rattle.std.proofs.Common.{◌≡◌, ℕ, ◌<◌, replicate, false, List, [], ◌∷◌, get_or, slice_get, Option, None, refl}
+use Rattle.std.proofs.Common.{sym, ap, ◌∙◌}
 use Rattle.std.specs.List.{list_any}
 use Rattle.std.proofs.lemmas.Bool.{and_right}
 use Rattle.std.proofs.lemmas.List.{get_or-replicate}
@@ -13,7 +14,8 @@ use Rattle.sm_kinds.specs.declared.perms.Perms.{Perms}
 use Rattle.sm_ruletext.specs.Sets.{selects}
 use Rattle.sm_ruletext.specs.declared.rule.Rule.{Rule}
 use Rattle.sm_ruletext.specs.declared.statement.What.{What}
-use Rattle.sm_ruletext.specs.declared.statement.What.TheVariants.{Attribute, Declared, Member, Allow, Neverallow, Dontaudit, Permissive}
+use Rattle.sm_ruletext.specs.declared.statement.What.TheVariants.{Attribute, Declared, Member, Allow, Neverallow}
+use Rattle.sm_ruletext.specs.declared.statement.What.TheVariants.{Dontaudit, Permissive}
 use Rattle.sm_types.specs.Names.{Name}
 use Rattle.sm_types.specs.Denoting.{Policy}
 use Rattle.sm_rules.specs.Access.{gives, joins, allowed_by, allows, written}

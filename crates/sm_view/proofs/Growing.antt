@@ -1,15 +1,19 @@
 -- Histories that go on have no less: the length, the version of the policy, and each actor's changes.
-use Rattle.std.proofs.Common.{◌≡◌, ℕ, ◌+◌, ◌≤◌, ◌++◌, Bool, cond, List, [], ◌∷◌, length, length-append, sym, subst, arith}
+use Rattle.std.proofs.Common.{◌≡◌, ℕ, ◌+◌, ◌≤◌, ◌++◌, Bool, cond, List, [], ◌∷◌, length, length-append, sym, subst}
+use Rattle.std.proofs.Common.{arith}
 use Rattle.std.proofs.lemmas.Bool.{true≢false}
 use Rattle.std.proofs.lemmas.List.Sums.{sum_by-cons}
 use Rattle.std.specs.Prelude.{count_by}
 use Rattle.sm_history.specs.declared.entry.Entry.{Entry}
 use Rattle.sm_history.specs.declared.event.Event.{Event}
-use Rattle.sm_history.specs.declared.event.Event.TheVariants.{Open, Connect, Add, Get, Watch as WatchName, Unwatch, Unregister, Call, Release, Take, Die, Reload}
+use Rattle.sm_history.specs.declared.event.Event.TheVariants.{Open, Connect, Add, Get, Watch as WatchName, Unwatch}
+use Rattle.sm_history.specs.declared.event.Event.TheVariants.{Unregister, Call, Release, Take, Die, Reload}
 use Rattle.sm_history.specs.Books.{Book}
 use Rattle.sm_history.specs.Clients.{version_at}
 use Rattle.sm_history.specs.Effects.{Effects}
-use Rattle.sm_history.specs.declared.effect.Effect.TheVariants.{Opens, Sets, Connects, Dies, Adds, Removes, Gives, Releases, Watches, Unwatches, Delivers, Takes, Resumes}
+use Rattle.sm_history.specs.declared.effect.Effect.TheVariants.{Opens, Sets, Connects, Dies, Adds, Removes, Gives}
+use Rattle.sm_history.specs.declared.effect.Effect.TheVariants.{Releases, Watches, Unwatches, Delivers, Takes}
+use Rattle.sm_history.specs.declared.effect.Effect.TheVariants.{Resumes}
 use Rattle.sm_history.specs.Histories.{History, client_of, after_event, effects_after}
 use Rattle.sm_history.specs.Openings.{Opening, is_same}
 use Rattle.sm_history.proofs.Keeps.{Lasts, LeftToKeep, event_keeps}

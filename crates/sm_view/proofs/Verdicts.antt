@@ -1,5 +1,6 @@
 -- What a verdict tells of the actor's turn.
-use Rattle.std.proofs.Common.{◌≡◌, ◌≢◌, ℕ, ◌==◌, ◌++◌, ◌&&◌, Bool, true, false, List, [], ◌∷◌, Option, Some, None, refl, sym, ap, ◌∙◌, arith, if◌then◌else◌}
+use Rattle.std.proofs.Common.{◌≡◌, ◌≢◌, ℕ, ◌==◌, ◌++◌, ◌&&◌, Bool, true, false, List, [], ◌∷◌, Option, Some, None}
+use Rattle.std.proofs.Common.{refl, sym, ap, ◌∙◌, arith, if◌then◌else◌}
 use Rattle.std.specs.List.{list_all}
 use Rattle.std.proofs.lemmas.Bool.{true≢false, and_parts}
 use Rattle.std.proofs.lemmas.Bool.Decides.{nat_tests}
@@ -8,7 +9,8 @@ use Rattle.sm_kinds.specs.declared.number.ObjRef.TheVariants.{Own as OwnRef, Han
 use Rattle.sm_policy.specs.Policy.{Policy}
 use Rattle.sm_history.specs.declared.by.By.{By}
 use Rattle.sm_history.specs.declared.event.Event.{Event}
-use Rattle.sm_history.specs.declared.event.Event.TheVariants.{Open, Connect, Add, Get, Watch as WatchName, Unwatch, Unregister, Call, Release, Take, Die, Reload}
+use Rattle.sm_history.specs.declared.event.Event.TheVariants.{Open, Connect, Add, Get, Watch as WatchName, Unwatch}
+use Rattle.sm_history.specs.declared.event.Event.TheVariants.{Unregister, Call, Release, Take, Die, Reload}
 use Rattle.sm_history.specs.declared.outcome.Outcome.{Outcome}
 use Rattle.sm_history.specs.declared.refusal.Refusal.TheVariants.{Failed}
 use Rattle.sm_history.specs.declared.refusal.Failure.TheVariants.{NotYours, NotConnected, OutOfTurn}
@@ -23,7 +25,8 @@ use Rattle.sm_history.specs.Services.{service_at}
 use Rattle.sm_history.specs.Holdings.{node_at}
 use Rattle.sm_history.specs.Checks.{Check, Needs, Spares, Wants, holds, stop_of, answer_of, instead_of, first_failing}
 use Rattle.sm_history.specs.Histories.{History, effects_of, turn_of, client_of, found}
-use Rattle.sm_history.specs.Verdict.{verdict, answered, is_theirs, is_there, outcome_of, handing_checks, passes_to_client, all_pass_to_client}
+use Rattle.sm_history.specs.Verdict.{verdict, answered, is_theirs, is_there, outcome_of, handing_checks}
+use Rattle.sm_history.specs.Verdict.{passes_to_client, all_pass_to_client}
 use Rattle.sm_history.proofs.Passed.{actor_done, later_checks}
 use Rattle.sm_history.proofs.Balanced.{number_same}
 

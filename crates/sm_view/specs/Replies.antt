@@ -4,7 +4,8 @@ use Rattle.sm_history.specs.declared.outcome.Outcome.TheVariants.{Connected, Die
 use Rattle.sm_history.specs.declared.query.Query.{Query}
 use Rattle.sm_history.specs.declared.query.Query.TheVariants.{List as ListNames, Version as AskVersion, Explain}
 use Rattle.sm_history.specs.declared.refusal.Refusal.{Refusal}
-use Rattle.sm_history.specs.declared.refusal.Refusal.TheVariants.{Failed, TooManyClients, VersionMoved, JournalFull, Memory}
+use Rattle.sm_history.specs.declared.refusal.Refusal.TheVariants.{Failed, TooManyClients, VersionMoved, JournalFull}
+use Rattle.sm_history.specs.declared.refusal.Refusal.TheVariants.{Memory}
 use Rattle.sm_history.specs.declared.refusal.Failure.{Failure}
 use Rattle.sm_history.specs.declared.refusal.Failure.TheVariants.{NotYours, NotConnected, OutOfTurn}
 use Rattle.sm_history.specs.declared.reply.Reply.{Reply}

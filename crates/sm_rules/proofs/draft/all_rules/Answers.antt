@@ -4,7 +4,8 @@ use Rattle.std.proofs.lemmas.List.{drop_all, drop_more}
 use Rattle.sm_ruletext.specs.declared.statement.Statement.{Statement}
 use Rattle.sm_types.specs.Members.{IsOf}
 use Rattle.sm_rules.specs.Faults.{first_fault, fault_of}
-use Rattle.sm_rules.specs.Keeping.{allow_in, neverallow_in, dontaudit_in, allow_rules, neverallow_rules, dontaudit_rules}
+use Rattle.sm_rules.specs.Keeping.{allow_in, neverallow_in, dontaudit_in, allow_rules, neverallow_rules}
+use Rattle.sm_rules.specs.Keeping.{dontaudit_rules}
 use Rattle.sm_rules.proofs.Standing.{picked_more, extended}
 use Rattle.sm_rules.proofs.Walks.{passed, stopped, none_left, unless_map}
 use Rattle.sm_rules.proofs.Permitting.{permitted_more}

@@ -1,6 +1,7 @@
 use Rattle.std.proofs.Common.{◌≡◌, ◌≤◌, ◌+◌, ◌/◌, drop, take, length}
 use Rattle.sm_rules.specs.Faults.{fault_among}
-use Rattle.sm_rules.specs.Keeping.{AllStandFor, FitsRules, SaysPermissive, allow_rules, neverallow_rules, dontaudit_rules}
+use Rattle.sm_rules.specs.Keeping.{AllStandFor, FitsRules, SaysPermissive, allow_rules, neverallow_rules}
+use Rattle.sm_rules.specs.Keeping.{dontaudit_rules}
 use Rattle.sm_rules.proofs.draft.all_rules.Given as goal
 
 abbrev pub invariant-loop-statement : goal.invariant-loop-statement

@@ -1,7 +1,8 @@
 use Rattle.std.proofs.Common.{◌<◌, arith}
 use Rattle.sm_bits.proofs.Shared.{IsOne, one_is, one_here, one_elsewhere}
 use Rattle.sm_bits.proofs.shared_set.SharedSet.next.Goals as goal
-use Rattle.sm_bits.proofs.shared_set.SharedSet.next.Goals.{else-from-i-via-then-from-i+else-i-self, else-from-i-via-else-from-i}
+use Rattle.sm_bits.proofs.shared_set.SharedSet.next.Goals.{else-from-i-via-then-from-i+else-i-self}
+use Rattle.sm_bits.proofs.shared_set.SharedSet.next.Goals.{else-from-i-via-else-from-i}
 
 pub returns-then-i-self-clause-some : goal.returns-then-i-self-clause-some
 returns-then-i-self-clause-some c =

@@ -3,7 +3,8 @@ use Rattle.std.specs.Prelude.{Option}
 use Rattle.sm_grants.specs.declared.rows.ClientHandles.{ClientHandles}
 use Rattle.sm_grants.specs.Slots.{HandleTable}
 use Rattle.sm_grants.specs.Rows.{index_from, slots_in, spare_in, spare_of}
-use Rattle.sm_grants.proofs.ClientRows.{tracks_room, row_here, row_changed, no_row, tracks_pushed, changed_own, spare_pushed, spare_kept, spare_more}
+use Rattle.sm_grants.proofs.ClientRows.{tracks_room, row_here, row_changed, no_row, tracks_pushed, changed_own}
+use Rattle.sm_grants.proofs.ClientRows.{spare_pushed, spare_kept, spare_more}
 use Rattle.sm_grants.proofs.grants.Grants.reserve.Goals as goal
 
 pub returns-in-Some-clause-same : goal.returns-in-Some-clause-same

@@ -1,6 +1,7 @@
 use denote.Exit.{no}
 use denote.Param.{param}
-use denote.Param.Send.{IsSend, IsSync, sendable, shr_send, struct_send, recorded_send, param_send, param_sync, arg_send, arg_sync}
+use denote.Param.Send.{IsSend, IsSync, sendable, shr_send, struct_send, recorded_send, param_send, param_sync}
+use denote.Param.Send.{arg_send, arg_sync}
 use denote.Struct.Field as Field
 use denote.Struct.Tuple as Tuple
 use denote.Struct.Declared as struct
@@ -61,7 +62,8 @@ spawn-requires-2-send-F g c κs within =
     ∷ Global.the_row
     ∷ (Field.shr_ref_field (record { mir = named 6; lft = κs.1.1.1.1.1.1.0 })
     (Door.the_row J (param 1 g.row.G) g.J.Naming absorbs) tt).row
-    ∷ (Field.shr_ref_field (record { mir = named 7; lft = κs.1.1.1.1.1.1.1.0 }) (SharedAdmin.the_row J g.J.Naming) tt).row
+    ∷ (Field.shr_ref_field (record { mir = named 7; lft = κs.1.1.1.1.1.1.1.0 })
+    (SharedAdmin.the_row J g.J.Naming) tt).row
     ∷ (Field.shr_ref_field (record { mir = named 8; lft = κs.1.1.1.1.1.1.1.1.0 })
     (Mutex.the_row (Option.the_row ServeFault.the_row)) tt).row
     ∷ Field.u64-field.row ∷ []) in
