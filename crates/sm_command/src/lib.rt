@@ -5,8 +5,6 @@
 mod ending;
 mod files;
 mod options;
-#[cfg(test)]
-mod tests;
 
 pub use ending::{Ending, NO_MEMORY};
 pub use files::read_limited;

@@ -1,8 +1,11 @@
-//! Tests of whole scripts, over readers and writers that give little or fail: what the contracts leave to a run.
+//! Tests of whole scripts, over readers and writers that give little or fail, and of command lines: what the contracts
+//! leave to a run.
 #![tactic(auto)]
 
 #[cfg(test)]
 mod checks;
+#[cfg(test)]
+mod command_lines;
 #[cfg(test)]
 mod crowds;
 #[cfg(test)]

@@ -1,10 +1,7 @@
 //! Command lines, and what is told of a file that isn't read.
 
-ghost use Rattle.std.specs.Prelude.{◌≡◌};
-
-use crate::ending::Ending;
-use crate::options::{Mode, Sockets, options_of, words_of};
 use clap::error::ErrorKind;
+use sm_command::{Ending, Mode, Sockets, options_of, words_of};
 use std::alloc::Global;
 use std::env::{Env, FillError};
 use std::io;
