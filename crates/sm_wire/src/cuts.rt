@@ -1,7 +1,7 @@
 //! Cuts bytes into items.
 
-ghost use Rattle.std.specs.Prelude.{◌≡◌, ◌≤◌, ◌+◌, ◌++◌, [], length, drop, IfOk, OnOk};
-ghost use Rattle.sm_wire.specs.Items.{Makes, policy_item, text_start, line_end, scan_after, items_after};
+ghost use Rattle.std.specs.Prelude.{◌≡◌, ◌≤◌, ◌+◌, ◌++◌, ◌∷◌, [], length, drop, IfOk, OnOk};
+ghost use Rattle.sm_wire.specs.Items.{Makes, policy_item, scan_start, text_start, line_end, scan_after, items_after};
 ghost use Rattle.sm_wire.specs.Ends.{IsWhole, whole_step, never_items};
 
 use crate::announced::Announced;
@@ -10,6 +10,7 @@ use crate::fields::split_fields;
 use crate::grammar::fields_request;
 use crate::item::Item;
 use crate::kind::Kind;
+use crate::looks::{push_look, quick_look};
 use crate::mode::Mode;
 use crate::read_error::ReadError;
 use crate::request::Request;
@@ -111,18 +112,52 @@ fn whole_item<'a>(
 {
     match mode {
         Mode::Line => line(alloc, kind, &bytes[..bytes.len() - 1], fields, items),
-        Mode::Texts(announced) => {
-            let item = policy(alloc, announced, bytes)?;
-            items.push(item)?;
-            Ok(Mode::Line)
-        }
+        Mode::Texts(announced) => texts(alloc, kind, announced, bytes, items),
         Mode::Dead => Ok(Mode::Dead),
     }
 }
 
-// A line, without its newline.
-#[tactic(auto, unfolding(crate::specs::Items::line_end, crate::specs::Items::item_of, crate::specs::Grammar::announced_of, crate::specs::Grammar::request_of))]
+// The texts behind a `reload` line.
+#[inline(never)]
+fn texts(
+    alloc: Global,
+    kind: Kind,
+    announced: Announced,
+    bytes: &[u8],
+    items: &mut Vec<Item>,
+) -> Result<Mode, AllocError>
+    requires { length bytes.now ≡ announced.rules + announced.contexts }
+    ensures { IfOk result (λ m. Makes (scan_start kind, policy_item announced bytes.now ∷ []) kind m [] items.old.items items.new.items) }
+{
+    let item = policy(alloc, announced, bytes)?;
+    items.push(item)?;
+    Ok(Mode::Line)
+}
+
+// A line, without its newline. A look is read before all else.
+#[tactic(auto, using(crate::proofs::LookLemmas::look_ends))]
 fn line<'a>(
+    alloc: Global,
+    kind: Kind,
+    line: &'a [u8],
+    fields: &mut Vec<&'a [u8]>,
+    items: &mut Vec<Item>,
+) -> Result<Mode, AllocError>
+    ensures { IfOk result (λ m. Makes (line_end kind line.now) kind m [] items.old.items items.new.items) }
+{
+    match quick_look(kind, line) {
+        Some(look) => {
+            push_look(look, items)?;
+            Ok(Mode::Line)
+        }
+        None => wide_line(alloc, kind, line, fields, items),
+    }
+}
+
+// A line that may ask for anything.
+#[inline(never)]
+#[tactic(auto, unfolding(crate::specs::Items::line_end, crate::specs::Items::item_of, crate::specs::Grammar::announced_of, crate::specs::Grammar::request_of))]
+fn wide_line<'a>(
     alloc: Global,
     kind: Kind,
     line: &'a [u8],

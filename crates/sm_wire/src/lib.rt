@@ -15,6 +15,7 @@ mod item;
 mod kind;
 mod laws;
 mod lines;
+mod looks;
 mod mode;
 mod names;
 mod numbers;

@@ -1,6 +1,8 @@
 //! Reply lines.
 
-ghost use Rattle.std.specs.Prelude.{◌≡◌, ◌++◌, OnOk, IfOk};
+ghost use Rattle.std.specs.Prelude.{◌≡◌, ◌++◌, OnOk, IfOk, codes};
+ghost use Rattle.std.specs.Fmt.{decimal};
+ghost use Rattle.sm_kinds.specs.Messages.{numbered};
 ghost use Rattle.sm_wire.specs.Replies.{names_text, why_text, answer_text, outcome_text, answered_text, told_text, told_in};
 ghost use Rattle.sm_history.specs.Told.{told_to_get};
 
@@ -105,12 +107,31 @@ fn push_answer(
 {
     match answer {
         Answer::Names(names) => push_listing(alloc, out, version, count, names.list()),
-        Answer::Version => {
-            push_numbered(out, b"version ", version)?;
-            push_numbered(out, b" ", count)
-        }
+        Answer::Version => push_version(out, version, count),
         Answer::Why(line) => push_why(out, version, *line),
     }
+}
+
+// `version VERSION LENGTH`
+fn push_version(out: &mut Vec<u8>, version: u64, count: u64) -> Result<(), AllocError>
+    ensures { OnOk result (out.new.items ≡ out.old.items ++ numbered (codes "version ") version ++ numbered (codes " ") count) }
+{
+    out.extend_from_slice(b"version ")?;
+    push_decimal(out, version)?;
+    out.push(b' ')?;
+    push_decimal(out, count)
+}
+
+// A number in decimal digits. A single digit takes no buffer.
+#[tactic(auto, using(std::proofs::lemmas::Fmt::decimal_digit))]
+fn push_decimal(out: &mut Vec<u8>, n: u64) -> Result<(), AllocError>
+    ensures { OnOk result (out.new.items ≡ out.old.items ++ decimal n) }
+{
+    if n < 10 {
+        out.push(b'0' + n as u8)?;
+        return Ok(());
+    }
+    push_numbered(out, b"", n)
 }
 
 #[tactic(auto, unfolding(crate::specs::Replies::names_text))]
