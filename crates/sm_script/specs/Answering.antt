@@ -2,6 +2,7 @@
 use Rattle.std.specs.Prelude.{◌≡◌, ◌⊎◌, ℕ, List, [], ◌++◌, Ok, codes, Option, Some, None}
 use Rattle.std.specs.List.{flat_map}
 use Rattle.sm_kinds.specs.declared.number.AdminId.{AdminId}
+use Rattle.sm_kinds.specs.declared.number.ClientId.{ClientId}
 use Rattle.sm_policy.specs.declared.fault.PolicyFault.{PolicyFault}
 use Rattle.sm_policy.specs.Policy.{Policy}
 use Rattle.sm_kinds.specs.Reading.{Fails}
@@ -29,8 +30,6 @@ use Rattle.sm_wire.specs.declared.item.Item.TheVariants as items
 use Rattle.sm_wire.specs.declared.telling.Telling.{Telling}
 use Rattle.sm_wire.specs.Replies.{denials_text, policy_refused_text, reply_text, told_text, told_in}
 use Rattle.sm_wire.specs.Texts.{Texts}
-use Rattle.sm_script.specs.declared.judging.Judgement.{Judgement}
-use Rattle.sm_script.specs.declared.judging.Judgement.TheVariants as judgements
 
 -- a manager as its script sees it: its book, and its newest records, the oldest first
 pub record Recorded : Type 0 where
@@ -78,29 +77,16 @@ IsUnasked (Look client query) = ⊥
 IsUnasked (requests.Reload expected rules contexts) = Unit {0}
 IsUnasked Denials = ⊥
 
--- what is found of a request: the reply and its records, the newest records, or that no line of a script asks it
-abbrev pub Judged : Recorded → Request → Judgement → Recorded → Type 0
-Judged old request (judgements.Replied reply noted) new = Judges old request reply noted.items new
-Judged old request (judgements.Denials newest) new = (request ≡ Denials) × (newest.items ≡ old.ring) × (new ≡ old)
-Judged old request judgements.Unasked new = IsUnasked request × (new ≡ old)
+-- who asks for a look: a client, or, where none is named, the administrator
+abbrev pub asker_of : Option ClientId → By
+asker_of (Some client) = Client client
+asker_of None = Admin the_administrator
 
--- there is a reply of this kind, with its records
-abbrev pub IsReplied : (Reply → List Record → Recorded → Type 0) → Judgement → Recorded → Type 0
-IsReplied Is (judgements.Replied reply noted) new = Is reply noted.items new
-IsReplied Is (judgements.Denials newest) new = ⊥
-IsReplied Is judgements.Unasked new = ⊥
-
--- the reply lines of what is found
-abbrev pub judged_text : Telling → Judgement → List ℕ
-judged_text telling (judgements.Replied reply noted) = told_text (told_in telling reply)
-judged_text telling (judgements.Denials newest) = denials_text newest.items
-judged_text telling judgements.Unasked = codes "malformed\n"
-
--- its audit lines
-abbrev pub judged_lines : Judgement → List ℕ
-judged_lines (judgements.Replied reply noted) = flat_map audit_line noted.items
-judged_lines (judgements.Denials newest) = []
-judged_lines judgements.Unasked = []
+-- what is told of a reply stands at the end of one text, and the lines of its records at the end of another
+pub record Told (telling : Telling) (reply : Reply) (noted : List Record)
+    (replies replies_new audit audit_new : List ℕ) : Type 0 where
+  pub replied : replies_new ≡ replies ++ told_text (told_in telling reply)
+  pub audited : audit_new ≡ audit ++ flat_map audit_line noted
 
 -- the texts are those of a policy, and this is the answer to the administrator who replaces the one in force by it
 pub record Reloads (old : Recorded) (texts : Texts) (line lines : List ℕ) (new : Recorded) : Type 0 where

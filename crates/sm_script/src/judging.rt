@@ -1,88 +1,147 @@
-//! Requests, judged by a manager at the turns that their actors have.
+//! Requests, answered by a manager at the turns that their actors have: the words of a reply go to the end of one text,
+//! the lines of its records to the end of another.
 
-ghost use Rattle.sm_history.specs.declared.by.By.TheVariants.{Admin};
-ghost use Rattle.sm_history.specs.declared.event.Event.TheVariants.{Reload};
-ghost use Rattle.sm_wire.specs.declared.request.Request.TheVariants.{Denials};
-ghost use Rattle.sm_script.specs.Answering.{AnswersNow, AnswersQuery, IsReplied, Judged, recorded, the_administrator};
+ghost use Rattle.std.specs.Prelude.{◌≡◌, ◌⊎◌, ◌++◌, List, OnOk, OnErr, codes};
+ghost use Rattle.sm_history.specs.declared.by.By.TheVariants.{Admin, Manager as ByManager, Client as ByClient};
+ghost use Rattle.sm_history.specs.declared.event.Event.TheVariants.{Connect, Reload};
+ghost use Rattle.sm_history.specs.declared.records.Record.{Record};
+ghost use Rattle.sm_history.specs.declared.refusal.Refusal.TheVariants.{Memory};
+ghost use Rattle.sm_history.specs.declared.reply.Reply.{Reply};
+ghost use Rattle.sm_history.specs.declared.reply.Reply.TheVariants.{Refused};
+ghost use Rattle.sm_wire.specs.declared.telling.Telling.TheVariants.{Whole};
+ghost use Rattle.sm_wire.specs.Replies.{denials_text, told_text};
+ghost use Rattle.sm_script.specs.Answering.{AnswersNow, AnswersQuery, Told, asker_of, recorded, the_administrator};
 
+use sm_audit::push_lines;
 use sm_core::Manager;
 use sm_history::{By, Event, Query, Record, Refusal, Reply};
-use sm_kinds::AdminId;
+use sm_kinds::{AdminId, ClientId, Identity};
 use sm_policy::Prepared;
-use sm_wire::Request;
-use std::alloc::Global;
+use sm_wire::{Telling, push_denials, push_reply};
+use std::alloc::{AllocError, Global};
 
 /// The administrator of a script.
 const ADMINISTRATOR: AdminId = AdminId(1);
 
-/// What is found of a request.
-pub enum Judgement {
-    /// The reply, and the records that were made for it, in the order of the checks.
-    Replied(Reply, Vec<Record>),
-    /// The newest records, the oldest first.
-    Denials(Vec<Record>),
-    /// No line of a script asks this.
-    Unasked,
-}
-
-impl Drop for Judgement {
-    fn drop(self) {
-        match self {
-            Judgement::Replied(_, _) => (),
-            Judgement::Denials(_) => (),
-            Judgement::Unasked => (),
-        }
-    }
-}
-
-/// What a manager finds of a request.
-pub fn judge(alloc: Global, manager: &mut Manager, request: Request) -> Judgement
-    ensures { Judged (recorded manager.old) request result (recorded manager.new) }
+/// Answers a process that connects.
+#[inline(never)]
+pub fn answer_hello(
+    alloc: Global,
+    manager: &mut Manager,
+    who: Identity,
+    replies: &mut Vec<u8>,
+    audit: &mut Vec<u8>,
+) -> Result<(), AllocError>
+    ensures ok { OnOk result ((reply : Reply) × (noted : List Record)
+        × AnswersNow (recorded manager.old) ByManager (Connect who) reply noted (recorded manager.new)
+        × Told Whole reply noted replies.old.items replies.new.items audit.old.items audit.new.items) }
+    ensures err { OnErr result ((reply : Reply) × (noted : List Record)
+        × AnswersNow (recorded manager.old) ByManager (Connect who) reply noted (recorded manager.new)) }
 {
-    match request {
-        Request::Hello(who) => change(manager, By::Manager, Event::Connect(who)),
-        Request::Change(Some(client), event) => change(manager, By::Client(client), event),
-        Request::Look(Some(client), query) => look(manager, By::Client(client), query),
-        Request::Look(None, query) => look(manager, By::Admin(ADMINISTRATOR), query),
-        Request::Denials => newest(alloc, manager),
-        Request::Change(None, _) => Judgement::Unasked,
-        Request::Reload { .. } => Judgement::Unasked,
-    }
-}
-
-/// The reply to the administrator who replaces the policy, and its records.
-pub fn reload(manager: &mut Manager, expected: u64, policy: Prepared) -> (Reply, Vec<Record>)
-    ensures { AnswersNow (recorded manager.old) (Admin the_administrator) (Reload expected policy) result.0 result.1.items (recorded manager.new) }
-{
-    let prepared = policy;
-    step(
+    let event = Event::Connect(who);
+    answer_event(
+        alloc,
         manager,
-        By::Admin(ADMINISTRATOR),
-        Event::Reload { expected, prepared },
+        By::Manager,
+        event,
+        Telling::Whole,
+        replies,
+        audit,
     )
 }
 
-fn change(manager: &mut Manager, by: By, event: Event) -> Judgement
-    ensures { IsReplied (AnswersNow (recorded manager.old) by event) result (recorded manager.new) }
+/// Answers a client's change, and tells as much of the reply as `telling` says.
+#[inline(never)]
+pub fn answer_change(
+    alloc: Global,
+    manager: &mut Manager,
+    client: ClientId,
+    event: Event,
+    telling: Telling,
+    replies: &mut Vec<u8>,
+    audit: &mut Vec<u8>,
+) -> Result<(), AllocError>
+    ensures ok { OnOk result ((reply : Reply) × (noted : List Record)
+        × AnswersNow (recorded manager.old) (ByClient client) event reply noted (recorded manager.new)
+        × Told telling reply noted replies.old.items replies.new.items audit.old.items audit.new.items) }
+    ensures err { OnErr result ((reply : Reply) × (noted : List Record)
+        × AnswersNow (recorded manager.old) (ByClient client) event reply noted (recorded manager.new)) }
+{
+    answer_event(
+        alloc,
+        manager,
+        By::Client(client),
+        event,
+        telling,
+        replies,
+        audit,
+    )
+}
+
+/// Answers the administrator who replaces the policy.
+#[inline(never)]
+pub fn answer_prepared(
+    alloc: Global,
+    manager: &mut Manager,
+    expected: u64,
+    policy: Prepared,
+    replies: &mut Vec<u8>,
+    audit: &mut Vec<u8>,
+) -> Result<(), AllocError>
+    ensures ok { OnOk result ((reply : Reply) × (noted : List Record)
+        × AnswersNow (recorded manager.old) (Admin the_administrator) (Reload expected policy) reply noted (recorded manager.new)
+        × Told Whole reply noted replies.old.items replies.new.items audit.old.items audit.new.items) }
+    ensures err { OnErr result ((reply : Reply) × (noted : List Record)
+        × AnswersNow (recorded manager.old) (Admin the_administrator) (Reload expected policy) reply noted (recorded manager.new)) }
+{
+    let by = By::Admin(ADMINISTRATOR);
+    let prepared = policy;
+    let event = Event::Reload { expected, prepared };
+    answer_event(alloc, manager, by, event, Telling::Whole, replies, audit)
+}
+
+// Answers an actor's event, at the turn that the actor has, and tells as much of the reply as `telling` says.
+fn answer_event(
+    alloc: Global,
+    manager: &mut Manager,
+    by: By,
+    event: Event,
+    telling: Telling,
+    replies: &mut Vec<u8>,
+    audit: &mut Vec<u8>,
+) -> Result<(), AllocError>
+    ensures ok { OnOk result ((reply : Reply) × (noted : List Record)
+        × AnswersNow (recorded manager.old) by event reply noted (recorded manager.new)
+        × Told telling reply noted replies.old.items replies.new.items audit.old.items audit.new.items) }
+    ensures err { OnErr result ((reply : Reply) × (noted : List Record)
+        × AnswersNow (recorded manager.old) by event reply noted (recorded manager.new)) }
 {
     let (reply, records) = step(manager, by, event);
-    Judgement::Replied(reply, records)
+    let told = tell(alloc, telling, &reply, &records, replies, audit);
+    let_go(reply, records);
+    told
 }
 
-fn look(manager: &Manager, by: By, query: Query) -> Judgement
-    ensures { IsReplied (AnswersQuery (recorded manager.now) by query) result (recorded manager.now) }
+/// Answers what a client asks to be told, or, where no client is named, the administrator.
+#[inline(never)]
+pub fn answer_query(
+    alloc: Global,
+    manager: &Manager,
+    client: Option<ClientId>,
+    query: Query,
+    replies: &mut Vec<u8>,
+    audit: &mut Vec<u8>,
+) -> Result<(), AllocError>
+    ensures ok { OnOk result ((reply : Reply) × (noted : List Record)
+        × AnswersQuery (recorded manager.now) (asker_of client) query reply noted (recorded manager.now)
+        × Told Whole reply noted replies.old.items replies.new.items audit.old.items audit.new.items) }
+    ensures err { OnErr result ((reply : Reply) × (noted : List Record)
+        × AnswersQuery (recorded manager.now) (asker_of client) query reply noted (recorded manager.now)) }
 {
-    let (reply, records) = manager.look_recorded(by, query);
-    Judgement::Replied(reply, records)
-}
-
-fn newest(alloc: Global, manager: &Manager) -> Judgement
-    ensures { Judged (recorded manager.now) Denials result (recorded manager.now) }
-{
-    match manager.records() {
-        Ok(records) => Judgement::Denials(records),
-        Err(_) => Judgement::Replied(Reply::Refused(Refusal::Memory), Vec::new(alloc)),
-    }
+    let (reply, records) = look(manager, asker(client), query);
+    let told = tell(alloc, Telling::Whole, &reply, &records, replies, audit);
+    let_go(reply, records);
+    told
 }
 
 // An actor's event, at the turn that the actor has.
@@ -92,3 +151,80 @@ fn step(manager: &mut Manager, by: By, event: Event) -> (Reply, Vec<Record>)
     let turn = manager.turn(by);
     manager.step_recorded(by, turn, event)
 }
+
+fn look(manager: &Manager, by: By, query: Query) -> (Reply, Vec<Record>)
+    ensures { AnswersQuery (recorded manager.now) by query result.0 result.1.items (recorded manager.now) }
+{
+    manager.look_recorded(by, query)
+}
+
+// Who asks.
+fn asker(client: Option<ClientId>) -> By
+    ensures { result ≡ asker_of client }
+{
+    match client {
+        Some(client) => By::Client(client),
+        None => By::Admin(ADMINISTRATOR),
+    }
+}
+
+/// Answers the administrator who asks for the last denials.
+#[inline(never)]
+pub fn answer_denials(
+    alloc: Global,
+    manager: &Manager,
+    replies: &mut Vec<u8>,
+) -> Result<(), AllocError>
+    ensures { OnOk result ((replies.new.items ≡ replies.old.items ++ denials_text manager.now.ring)
+        ⊎ (replies.new.items ≡ replies.old.items ++ told_text (Refused Memory))) }
+{
+    match manager.records() {
+        Ok(records) => push_denials(alloc, replies, &records),
+        Err(_) => push_reply(
+            alloc,
+            replies,
+            Telling::Whole,
+            &Reply::Refused(Refusal::Memory),
+        ),
+    }
+}
+
+/// Answers a change of no client, which no line of a script asks.
+#[cold]
+#[inline(never)]
+pub fn answer_nobody(_event: Event, replies: &mut Vec<u8>) -> Result<(), AllocError>
+    ensures { OnOk result (replies.new.items ≡ replies.old.items ++ codes "malformed\n") }
+{
+    answer_unasked(replies)
+}
+
+/// Answers what no line of a script asks.
+#[cold]
+#[inline(never)]
+pub fn answer_unasked(replies: &mut Vec<u8>) -> Result<(), AllocError>
+    ensures { OnOk result (replies.new.items ≡ replies.old.items ++ codes "malformed\n") }
+{
+    replies.extend_from_slice(b"malformed\n")
+}
+
+// Adds what is told of a reply, and the lines of its records.
+fn tell(
+    alloc: Global,
+    telling: Telling,
+    reply: &Reply,
+    records: &[Record],
+    replies: &mut Vec<u8>,
+    audit: &mut Vec<u8>,
+) -> Result<(), AllocError>
+    ensures { OnOk result (Told telling reply.now records.now replies.old.items replies.new.items audit.old.items audit.new.items) }
+{
+    push_reply(alloc, replies, telling, reply)?;
+    if records.is_empty() {
+        return Ok(());
+    }
+    push_lines(alloc, audit, records)
+}
+
+// Lets a reply and its records go: for a caller's proof one step, where their drops would each make its cases.
+#[inline(always)]
+fn let_go(_reply: Reply, _records: Vec<Record>) {}

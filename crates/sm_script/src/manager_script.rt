@@ -1,17 +1,19 @@
 //! A service manager that answers the items of a script.
 
-ghost use Rattle.std.specs.Prelude.{◌≡◌, ◌++◌, [], OnOk, OnErr, Ok};
+ghost use Rattle.std.specs.Prelude.{◌≡◌, OnOk, OnErr, Ok};
 ghost use Rattle.sm_wire.specs.declared.item.Item.TheVariants.{Asked, Policy};
 ghost use Rattle.sm_policy.specs.Preparing.{prepared};
-ghost use Rattle.sm_script.specs.Answering.{AnswersItem, judged_lines, judged_text, recorded};
+ghost use Rattle.sm_script.specs.Answering.{AnswersItem, recorded};
 ghost use Rattle.sm_engine.specs.Running.{Answered, GaveUp, never};
 
-use crate::judging::{Judgement, judge, reload};
-use sm_audit::push_lines;
+use crate::judging::{
+    answer_change, answer_denials, answer_hello, answer_nobody, answer_prepared, answer_query,
+    answer_unasked,
+};
 use sm_core::Manager;
 use sm_engine::Machine;
 use sm_policy::Prepared;
-use sm_wire::{Item, PolicyTexts, Request, Telling, push_denials, push_policy_refused, push_reply};
+use sm_wire::{Item, PolicyTexts, Request, push_policy_refused};
 use std::alloc::{AllocError, Global};
 use std::marker::Model;
 
@@ -46,7 +48,7 @@ impl Machine for Script {
     ) -> Result<(), AllocError> {
         match item {
             Item::Asked(request) => self.answer_request(request, replies, audit),
-            Item::Policy(texts) => self.answer_policy(&texts, replies, audit),
+            Item::Policy(texts) => self.answer_policy(texts, replies, audit),
             Item::Malformed => replies.extend_from_slice(b"malformed\n"),
             Item::LineTooLong => replies.extend_from_slice(b"fault long\n"),
         }
@@ -81,23 +83,37 @@ impl Script {
             audit.old.items audit.new.items self.new) }
         ensures err { OnErr result (GaveUp AnswersItem self.old (Asked request) self.new) }
     {
+        let alloc = self.alloc;
         let telling = request.telling();
-        let judgement = judge(self.alloc, &mut self.manager, request);
-        push_judged(self.alloc, replies, audit, telling, &judgement)
+        let manager = &mut self.manager;
+        match request {
+            Request::Hello(who) => answer_hello(alloc, manager, who, replies, audit),
+            Request::Change(Some(client), event) => {
+                answer_change(alloc, manager, client, event, telling, replies, audit)
+            }
+            Request::Change(None, event) => answer_nobody(event, replies),
+            Request::Look(client, query) => {
+                answer_query(alloc, manager, client, query, replies, audit)
+            }
+            Request::Reload { .. } => answer_unasked(replies),
+            Request::Denials => answer_denials(alloc, manager, replies),
+        }
     }
 
+    #[cold]
+    #[inline(never)]
     fn answer_policy(
         &mut self,
-        texts: &PolicyTexts,
+        texts: PolicyTexts,
         replies: &mut Vec<u8>,
         audit: &mut Vec<u8>,
     ) -> Result<(), AllocError>
-        ensures ok { OnOk result (Answered AnswersItem self.old (Policy texts.now) replies.old.items replies.new.items
+        ensures ok { OnOk result (Answered AnswersItem self.old (Policy texts) replies.old.items replies.new.items
             audit.old.items audit.new.items self.new) }
-        ensures err { OnErr result (GaveUp AnswersItem self.old (Policy texts.now) self.new) }
+        ensures err { OnErr result (GaveUp AnswersItem self.old (Policy texts) self.new) }
     {
         match Prepared::from_texts(self.alloc, texts.rules(), texts.contexts()) {
-            Ok(policy) => self.answer_reload(texts, policy, replies, audit),
+            Ok(policy) => self.answer_reload(&texts, policy, replies, audit),
             Err(fault) => push_policy_refused(self.alloc, replies, &fault),
         }
     }
@@ -114,29 +130,8 @@ impl Script {
             audit.old.items audit.new.items self.new) }
         ensures err { OnErr result (GaveUp AnswersItem self.old (Policy texts.now) self.new) }
     {
-        let (reply, records) = reload(&mut self.manager, texts.expected(), policy);
-        let judgement = Judgement::Replied(reply, records);
-        push_judged(self.alloc, replies, audit, Telling::Whole, &judgement)
-    }
-}
-
-// Adds the reply lines and the audit lines of what was found.
-fn push_judged(
-    alloc: Global,
-    replies: &mut Vec<u8>,
-    audit: &mut Vec<u8>,
-    telling: Telling,
-    judgement: &Judgement,
-) -> Result<(), AllocError>
-    ensures replies { OnOk result (replies.new.items ≡ replies.old.items ++ judged_text telling judgement.now) }
-    ensures audit { OnOk result (audit.new.items ≡ audit.old.items ++ judged_lines judgement.now) }
-{
-    match judgement {
-        Judgement::Replied(reply, records) => {
-            push_reply(alloc, replies, telling, reply)?;
-            push_lines(alloc, audit, records)
-        }
-        Judgement::Denials(records) => push_denials(alloc, replies, records),
-        Judgement::Unasked => replies.extend_from_slice(b"malformed\n"),
+        let alloc = self.alloc;
+        let expected = texts.expected();
+        answer_prepared(alloc, &mut self.manager, expected, policy, replies, audit)
     }
 }

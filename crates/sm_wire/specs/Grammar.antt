@@ -4,7 +4,8 @@ use Rattle.std.specs.Str.{bytes_eq}
 use Rattle.sm_kinds.specs.declared.number.ClientId.{ClientId}
 use Rattle.sm_kinds.specs.Permissions.{class_read}
 use Rattle.sm_history.specs.declared.event.Event.{Event}
-use Rattle.sm_history.specs.declared.event.Event.TheVariants.{Add, Get, Watch, Unwatch, Unregister, Call, Release, Take, Die}
+use Rattle.sm_history.specs.declared.event.Event.TheVariants.{Add, Get, Watch, Unwatch, Unregister, Call, Release}
+use Rattle.sm_history.specs.declared.event.Event.TheVariants.{Take, Die}
 use Rattle.sm_history.specs.declared.query.Query.{Query}
 use Rattle.sm_history.specs.declared.query.Query.TheVariants as queries
 use Rattle.sm_wire.specs.declared.request.Request.{Request}

@@ -1,5 +1,5 @@
-//! The lines by which clients look, read from their bytes. A function pays for the width of its locals when it is entered,
-//! so a look stays small until it is added to the items.
+//! The lines by which clients look, read from their bytes. A function pays for the width of its locals when it is
+//! entered, so a look stays small until it is added to the items.
 
 ghost use Rattle.std.specs.Prelude.{◌≡◌, ◌==◌, ◌++◌, ◌∷◌, [], OnOk, position};
 ghost use Rattle.sm_wire.specs.declared.item.Item.TheVariants.{Asked};

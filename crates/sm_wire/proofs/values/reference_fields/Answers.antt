@@ -1,4 +1,5 @@
-use Rattle.std.proofs.Common.{◌≡◌, ◌<◌, ◌≤◌, ◌+◌, ◌++◌, ◌∷◌, [], List, Option, Some, None, append_assoc, append-nil, refl, sym, ap, map, drop, length, get_or, Bor, ℕ, arith, rules, Err}
+use Rattle.std.proofs.Common.{◌≡◌, ◌<◌, ◌≤◌, ◌+◌, ◌++◌, ◌∷◌, [], List, Option, Some, None, append_assoc, append-nil}
+use Rattle.std.proofs.Common.{refl, sym, ap, map, drop, length, get_or, Bor, ℕ, arith, rules, Err}
 use Rattle.std.specs.Option.{option_map, option_and_then}
 use Rattle.std.proofs.lemmas.Grind.{common_steps}
 use Rattle.std.proofs.lemmas.List.{at_drop_more, at_drop_all}
