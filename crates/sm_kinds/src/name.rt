@@ -117,16 +117,21 @@ impl Names {
     }
 }
 
+// Each byte of a name stands at its own place, and a comma at every other place: one load tells them apart.
+static NAME_MAP: [u8; 256] = *b"\
+    ,,,,,,,,,,,,,,,,,,,,,,,,,,,,,,,,\
+    ,,,,,,,,,,,,,-./0123456789,,,,,,\
+    ,ABCDEFGHIJKLMNOPQRSTUVWXYZ,,,,_\
+    ,abcdefghijklmnopqrstuvwxyz,,,,,\
+    ,,,,,,,,,,,,,,,,,,,,,,,,,,,,,,,,\
+    ,,,,,,,,,,,,,,,,,,,,,,,,,,,,,,,,\
+    ,,,,,,,,,,,,,,,,,,,,,,,,,,,,,,,,\
+    ,,,,,,,,,,,,,,,,,,,,,,,,,,,,,,,,";
+
 fn is_name_byte(b: u8) -> bool
     ensures { result ≡ is_name_byte b }
 {
-    // Small letters first, since most bytes of a name are.
-    b.is_ascii_lowercase()
-        || b.is_ascii_alphanumeric()
-        || b == b'_'
-        || b == b'-'
-        || b == b'.'
-        || b == b'/'
+    NAME_MAP[b as usize] != b','
 }
 
 fn all_name_bytes(bytes: &[u8]) -> bool
