@@ -2,7 +2,7 @@ pub mod CutLemmas
 pub mod FieldLemmas
 pub mod ItemLemmas
 pub mod NumberLemmas
-pub mod LookLemmas
+pub mod QuickLemmas
 pub mod SpellingLemmasContexts
 pub mod SpellingLemmasFields
 pub mod SpellingLemmasLines

@@ -67,10 +67,10 @@ byte_chosen b c x y z e = elim (chosen (b == c) x y z e) [
   | inr h ↦ inr h
 ]
 
-other_byte : {A : Type 0} (b c : ℕ) (x y : A) → b ≢ c → (if b == c then x else y) ≡ y
+pub other_byte : {A : Type 0} (b c : ℕ) (x y : A) → b ≢ c → (if b == c then x else y) ≡ y
 other_byte b c x y ne = grind (arith, nat_tests)
 
-if_true : {A : Type 0} (t : Bool) (x y : A) → (if t then Some x else None) ≡ Some y → (t ≡ true) × (x ≡ y)
+pub if_true : {A : Type 0} (t : Bool) (x y : A) → (if t then Some x else None) ≡ Some y → (t ≡ true) × (x ≡ y)
 if_true true x y e = (refl, same_Some x y e)
 if_true false x y e = absurd (none-some y e)
 
@@ -292,7 +292,7 @@ name_read _ _ (SpellsName.plain b bs ne h) =
     other_byte b 37 (result_ok (decode_of bs)) (plain_name_of (b ∷ bs)) ne ∙ rw g refl
 name_read _ _ (SpellsName.coded digits name s) = bytes_read digits name s
 
-plain_spelled : (b : ℕ) (bs n : List ℕ) → b ≢ 37 → plain_name_of (b ∷ bs) ≡ Some n → SpellsName (b ∷ bs) n
+pub plain_spelled : (b : ℕ) (bs n : List ℕ) → b ≢ 37 → plain_name_of (b ∷ bs) ≡ Some n → SpellsName (b ∷ bs) n
 unfolding plain_name_of
 plain_spelled b bs n ne e =
     let h = if_true (list_all is_graphic (b ∷ bs)) (b ∷ bs) n e in

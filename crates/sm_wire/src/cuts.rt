@@ -10,9 +10,10 @@ use crate::fields::split_fields;
 use crate::grammar::fields_request;
 use crate::item::Item;
 use crate::kind::Kind;
-use crate::looks::{push_look, quick_look};
 use crate::mode::Mode;
+use crate::quick::{push_quick, quick_request};
 use crate::read_error::ReadError;
+use crate::recent_names::RecentNames;
 use crate::request::Request;
 use crate::texts::PolicyTexts;
 use std::alloc::{AllocError, Global};
@@ -33,6 +34,7 @@ pub fn cut(
     kind: Kind,
     mode: Mode,
     bytes: &[u8],
+    recent: &mut RecentNames,
     items: &mut Vec<Item>,
 ) -> Result<Remainder, AllocError>
     ensures start { IfOk result (λ c. c.start ≤ length bytes.now) }
@@ -53,6 +55,7 @@ pub fn cut(
                     mode,
                     &bytes[start..start + n],
                     &mut fields,
+                    recent,
                     items,
                 )?;
                 start += n;
@@ -75,13 +78,14 @@ pub fn lone_item(
     kind: Kind,
     mode: Mode,
     bytes: &[u8],
+    recent: &mut RecentNames,
     items: &mut Vec<Item>,
 ) -> Result<Mode, AllocError>
     requires { IsWhole mode bytes.now }
     ensures { IfOk result (λ m. Makes (whole_step kind mode bytes.now) kind m [] items.old.items items.new.items) }
 {
     let mut fields = Vec::new(alloc);
-    whole_item(alloc, kind, mode, bytes, &mut fields, items)
+    whole_item(alloc, kind, mode, bytes, &mut fields, recent, items)
 }
 
 /// Says of a line that is too long that it is, once.
@@ -105,13 +109,21 @@ fn whole_item<'a>(
     mode: Mode,
     bytes: &'a [u8],
     fields: &mut Vec<&'a [u8]>,
+    recent: &mut RecentNames,
     items: &mut Vec<Item>,
 ) -> Result<Mode, AllocError>
     requires { IsWhole mode bytes.now }
     ensures { IfOk result (λ m. Makes (whole_step kind mode bytes.now) kind m [] items.old.items items.new.items) }
 {
     match mode {
-        Mode::Line => line(alloc, kind, &bytes[..bytes.len() - 1], fields, items),
+        Mode::Line => line(
+            alloc,
+            kind,
+            &bytes[..bytes.len() - 1],
+            fields,
+            recent,
+            items,
+        ),
         Mode::Texts(announced) => texts(alloc, kind, announced, bytes, items),
         Mode::Dead => Ok(Mode::Dead),
     }
@@ -134,20 +146,21 @@ fn texts(
     Ok(Mode::Line)
 }
 
-// A line, without its newline. A look is read before all else.
-#[tactic(auto, using(crate::proofs::LookLemmas::look_ends))]
+// A line, without its newline. What clients send most is read before all else.
+#[tactic(auto, using(crate::proofs::QuickLemmas::quick_ends))]
 fn line<'a>(
     alloc: Global,
     kind: Kind,
     line: &'a [u8],
     fields: &mut Vec<&'a [u8]>,
+    recent: &mut RecentNames,
     items: &mut Vec<Item>,
 ) -> Result<Mode, AllocError>
     ensures { IfOk result (λ m. Makes (line_end kind line.now) kind m [] items.old.items items.new.items) }
 {
-    match quick_look(kind, line) {
-        Some(look) => {
-            push_look(look, items)?;
+    match quick_request(kind, line) {
+        Some(quick) => {
+            push_quick(alloc, quick, recent, items)?;
             Ok(Mode::Line)
         }
         None => wide_line(alloc, kind, line, fields, items),

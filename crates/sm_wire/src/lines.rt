@@ -10,6 +10,7 @@ use crate::ends::{End, item_end};
 use crate::item::Item;
 use crate::kind::Kind;
 use crate::mode::Mode;
+use crate::recent_names::RecentNames;
 use std::alloc::{AllocError, Global};
 use std::marker::Model;
 
@@ -40,6 +41,7 @@ pub struct Lines {
     kind: Kind,
     mode: Mode,
     held: Vec<u8>,
+    recent: RecentNames,
 }
 
 impl Model for Lines {
@@ -60,6 +62,7 @@ impl Lines {
             kind,
             mode: Mode::Line,
             held: Vec::new(alloc),
+            recent: RecentNames::new(alloc),
         }
     }
 
@@ -113,8 +116,22 @@ impl Lines {
     {
         let held = self.held.len();
         self.held.extend_from_slice(&piece[..n])?;
-        let mode = lone_item(self.alloc, self.kind, self.mode, &self.held, items)?;
-        let Remainder { mode, start } = cut(self.alloc, self.kind, mode, &piece[n..], items)?;
+        let mode = lone_item(
+            self.alloc,
+            self.kind,
+            self.mode,
+            &self.held,
+            &mut self.recent,
+            items,
+        )?;
+        let Remainder { mode, start } = cut(
+            self.alloc,
+            self.kind,
+            mode,
+            &piece[n..],
+            &mut self.recent,
+            items,
+        )?;
         self.held.extend_from_slice(&piece[n + start..])?;
         drop_front(&mut self.held, held + n);
         self.mode = mode;

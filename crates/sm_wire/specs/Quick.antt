@@ -1,0 +1,73 @@
+-- The lines that clients send most, by their bytes. That they ask for the same by the grammar is `quick_asked` of
+-- proofs/QuickLemmas.antt.
+use Rattle.std.specs.Prelude.{ℕ, ◌+◌, List, [], ◌∷◌, take, drop, Option, Some, None, ◌==◌, if◌then◌else◌, codes}
+use Rattle.std.specs.Prelude.{position}
+use Rattle.std.specs.List.{list_all}
+use Rattle.std.specs.Str.{bytes_eq}
+use Rattle.sm_kinds.specs.declared.number.ClientId.{ClientId}
+use Rattle.sm_kinds.specs.Contexts.{is_graphic}
+use Rattle.sm_history.specs.declared.event.Event.TheVariants as events
+use Rattle.sm_history.specs.declared.query.Query.TheVariants as queries
+use Rattle.sm_wire.specs.declared.request.Request.{Request}
+use Rattle.sm_wire.specs.declared.request.Request.TheVariants as requests
+use Rattle.sm_wire.specs.declared.kind.Kind.{Kind}
+use Rattle.sm_wire.specs.declared.kind.Kind.TheVariants.{Client, Admin, Script}
+use Rattle.sm_wire.specs.declared.quick.Quick.{Quick}
+use Rattle.sm_wire.specs.declared.quick.Wanted.{Wanted}
+use Rattle.sm_wire.specs.declared.quick.Wanted.TheVariants.{List as Listing, Version, Get}
+use Rattle.sm_wire.specs.Number.{u32_max, number_of}
+use Rattle.sm_wire.specs.Reading.{◌>>=◌}
+
+-- what is wanted as a request
+abbrev pub asked_in : Option ClientId → Wanted → Request
+asked_in client (Listing mask) = requests.Look client (queries.List mask)
+asked_in client Version = requests.Look client queries.Version
+asked_in client (Get name) = requests.Change client (events.Get name)
+
+abbrev pub asked_by : Quick → Request
+asked_by quick = asked_in quick.client quick.wanted
+
+abbrev pub plain_of : List ℕ → Option Wanted
+plain_of name = if list_all is_graphic name then Some (Get name) else None
+
+-- NAME, in plain bytes, which don't begin with `%` (37)
+unfoldable pub named_of : List ℕ → Option Wanted
+named_of [] = None
+named_of (b ∷ bs) = if b == 37 then None else plain_of (b ∷ bs)
+
+-- MASK
+unfoldable pub listed_of : List ℕ → Option Wanted
+listed_of mask = do
+  m ← number_of u32_max mask
+  Some (Listing m)
+
+-- `check NAME`
+unfoldable pub checked_of : List ℕ → Option Wanted
+checked_of words = if bytes_eq (take 6 words) (codes "check ") then named_of (drop 6 words) else None
+
+-- `version`, `list MASK` or `check NAME`
+unfoldable pub other_of : List ℕ → Option Wanted
+other_of words = if bytes_eq words (codes "version") then Some Version
+    else (if bytes_eq (take 5 words) (codes "list ") then listed_of (drop 5 words) else checked_of words)
+
+-- `get NAME`, or another of these
+unfoldable pub wanted_of : List ℕ → Option Wanted
+wanted_of words = if bytes_eq (take 4 words) (codes "get ") then named_of (drop 4 words) else other_of words
+
+unfoldable pub request_by : Option ClientId → List ℕ → Option Quick
+request_by client words = do
+  wanted ← wanted_of words
+  Some (record { client = client; wanted = wanted })
+
+-- a client's number, a space, and one of these
+unfoldable pub numbered_of : List ℕ → Option Quick
+numbered_of line = do
+  place ← position (λ b. b == 32) line
+  n ← number_of u32_max (take place line)
+  request_by (Some (record { 0 = n })) (drop (place + 1) line)
+
+-- what a line of this kind asks, if it is one of these
+unfoldable pub quick_of : Kind → List ℕ → Option Quick
+quick_of Client line = request_by None line
+quick_of Admin line = None
+quick_of Script line = numbered_of line

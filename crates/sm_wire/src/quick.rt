@@ -1,0 +1,169 @@
+//! The lines that clients send most, read from their bytes. A function pays for the width of its locals when it is
+//! entered, so such a line stays small until its request is added to the items.
+
+ghost use Rattle.std.specs.Prelude.{◌≡◌, ◌==◌, ◌++◌, ◌∷◌, [], OnOk, IfOk, position};
+ghost use Rattle.sm_wire.specs.declared.item.Item.TheVariants.{Asked};
+ghost use Rattle.sm_wire.specs.Quick.{asked_by, named_of, plain_of, checked_of, listed_of, other_of, wanted_of, request_by, numbered_of, quick_of};
+
+use crate::item::Item;
+use crate::kind::Kind;
+use crate::numbers::number;
+use crate::recent_names::RecentNames;
+use crate::request::Request;
+use sm_history::{Event, Query};
+use sm_kinds::{ClientId, Word, all_graphic};
+use std::alloc::{AllocError, Global};
+
+/// What a client may ask in such a line.
+#[derive(Drop)]
+pub enum Wanted<'a> {
+    /// `list MASK`
+    List(u32),
+    /// `version`
+    Version,
+    /// `get NAME` or `check NAME`, whose name stands in plain bytes
+    Get(Word<'a>),
+}
+
+/// What such a line asks. A script names the client.
+#[derive(Drop)]
+pub struct Quick<'a> {
+    pub client: Option<ClientId>,
+    pub wanted: Wanted<'a>,
+}
+
+/// What a line of this kind asks, if it is one of these. The line has no newline.
+#[tactic(auto, unfolding(crate::specs::Quick::quick_of))]
+pub fn quick_request<'a>(kind: Kind, line: &'a [u8]) -> Option<Quick<'a>>
+    ensures { result ≡ quick_of kind line.now }
+{
+    match kind {
+        Kind::Client => request_by(None, line),
+        Kind::Admin => None,
+        Kind::Script => numbered(line),
+    }
+}
+
+// `N REQUEST`
+#[tactic(auto, unfolding(crate::specs::Quick::numbered_of))]
+fn numbered<'a>(line: &'a [u8]) -> Option<Quick<'a>>
+    ensures { result ≡ numbered_of line.now }
+{
+    let place = space_place(line)?;
+    let n = number(&line[..place], 0xffff_ffff)?;
+    request_by(Some(ClientId(n as u32)), &line[place + 1..])
+}
+
+// Where the first space stands.
+fn space_place(line: &[u8]) -> Option<usize>
+    ensures { result ≡ position (λ b. b == 32) line.now }
+{
+    line.iter().position(|b| *b == b' ')
+}
+
+#[tactic(auto, unfolding(crate::specs::Quick::request_by))]
+fn request_by<'a>(client: Option<ClientId>, words: &'a [u8]) -> Option<Quick<'a>>
+    ensures { result ≡ request_by client words.now }
+{
+    let wanted = wanted_by(words)?;
+    Some(Quick { client, wanted })
+}
+
+// `get NAME`, or another of these
+#[tactic(auto, unfolding(crate::specs::Quick::wanted_of))]
+fn wanted_by<'a>(words: &'a [u8]) -> Option<Wanted<'a>>
+    ensures { result ≡ wanted_of words.now }
+{
+    if words.starts_with(b"get ".as_slice()) {
+        return named(&words[4..]);
+    }
+    other(words)
+}
+
+// `version`, `list MASK` or `check NAME`
+#[tactic(auto, unfolding(crate::specs::Quick::other_of))]
+fn other<'a>(words: &'a [u8]) -> Option<Wanted<'a>>
+    ensures { result ≡ other_of words.now }
+{
+    if words == b"version".as_slice() {
+        return Some(Wanted::Version);
+    }
+    if words.starts_with(b"list ".as_slice()) {
+        return listed(&words[5..]);
+    }
+    checked(words)
+}
+
+// `check NAME`
+#[tactic(auto, unfolding(crate::specs::Quick::checked_of))]
+fn checked<'a>(words: &'a [u8]) -> Option<Wanted<'a>>
+    ensures { result ≡ checked_of words.now }
+{
+    if !words.starts_with(b"check ".as_slice()) {
+        return None;
+    }
+    named(&words[6..])
+}
+
+// MASK
+#[tactic(auto, unfolding(crate::specs::Quick::listed_of))]
+fn listed<'a>(mask: &'a [u8]) -> Option<Wanted<'a>>
+    ensures { result ≡ listed_of mask.now }
+{
+    let mask = number(mask, 0xffff_ffff)?;
+    Some(Wanted::List(mask as u32))
+}
+
+// NAME, in plain bytes
+#[tactic(auto, unfolding(crate::specs::Quick::named_of))]
+fn named<'a>(name: &'a [u8]) -> Option<Wanted<'a>>
+    ensures { result ≡ named_of name.now }
+{
+    match name {
+        [] => None,
+        [b'%', ..] => None,
+        [_, ..] => plain(name),
+    }
+}
+
+fn plain<'a>(name: &'a [u8]) -> Option<Wanted<'a>>
+    ensures { result ≡ plain_of name.now }
+{
+    if !all_graphic(name) {
+        return None;
+    }
+    Some(Wanted::Get(Word::new(name)))
+}
+
+/// Adds the item of such a line.
+///
+/// # Errors
+///
+/// An error where memory was refused; the items are as they were then.
+pub fn push_quick(
+    alloc: Global,
+    quick: Quick,
+    recent: &mut RecentNames,
+    items: &mut Vec<Item>,
+) -> Result<(), AllocError>
+    ensures { OnOk result (items.new.items ≡ items.old.items ++ Asked (asked_by quick.entry) ∷ []) }
+{
+    let request = asked(alloc, quick, recent)?;
+    items.push(Item::Asked(request))?;
+    Ok(())
+}
+
+// Such a line as a request.
+fn asked(alloc: Global, quick: Quick, recent: &mut RecentNames) -> Result<Request, AllocError>
+    ensures { IfOk result (λ r. r ≡ asked_by quick.entry) }
+{
+    let client = quick.client;
+    match quick.wanted {
+        Wanted::List(mask) => Ok(Request::Look(client, Query::List(mask))),
+        Wanted::Version => Ok(Request::Look(client, Query::Version)),
+        Wanted::Get(word) => {
+            let name = recent.name(alloc, word.bytes())?;
+            Ok(Request::Change(client, Event::Get { name }))
+        }
+    }
+}
