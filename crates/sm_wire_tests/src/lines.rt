@@ -378,6 +378,33 @@ fn lines_in_pieces(rt: HostRuntime) {
     assert!(rt; !lines.rest());
 }
 
+// What the lines of a client's stream are read as, in words, each on a line of its own.
+fn streamed(rt: &impl Abort, alloc: Global, stream: &[u8]) -> Result<Vec<u8>, AllocError> {
+    let mut lines = Lines::new(alloc, Kind::Client);
+    let mut out = Vec::new(alloc);
+    let items = lines.feed(stream).expect(rt, "items");
+    for item in &items {
+        match item {
+            Item::Asked(request) => push_request(&mut out, request)?,
+            _ => out.extend_from_slice(b"malformed")?,
+        }
+        out.extend_from_slice(b"\n")?;
+    }
+    Ok(out)
+}
+
+// Of the names that a stream keeps, `Aa` and `BB` have the same place.
+#[test]
+fn names_that_come_again(rt: HostRuntime) -> Result<(), Fail> {
+    let stream =
+        b"get Aa\nget BB\ncheck Aa\nget Aa\nget %4242\nget a b\nget \nget \x7f\ncheck BB\n";
+    let words = streamed(&rt, rt.alloc(), stream)?;
+    let wanted =
+        b" gets Aa\n gets BB\n gets Aa\n gets Aa\n gets BB\nmalformed\nmalformed\nmalformed\n gets BB\n";
+    assert_eq!(rt; words.as_slice(), wanted.as_slice());
+    Ok(())
+}
+
 #[test]
 fn no_line_behind_one_that_is_too_long(rt: HostRuntime) -> Result<(), Fail> {
     let alloc = rt.alloc();
