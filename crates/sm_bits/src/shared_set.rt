@@ -1,7 +1,7 @@
 //! Sets that many keep.
 
 use crate::BitRow;
-use std::alloc::Global;
+use std::alloc::{AllocError, Global};
 use std::marker::Model;
 use std::sync::Arc;
 
@@ -36,6 +36,24 @@ impl Model for SharedSet {
 impl Drop for SharedSet {
     fn drop(self) {
         let SharedSet { words: _, shape: _ } = self;
+    }
+}
+
+impl Clone for SharedSet {
+    ghost use Rattle.std.specs.Prelude.{◌≡◌};
+
+    ghost is_clone = { λ s copy. copy ≡ s };
+
+    /// One more owner of the same row.
+    fn clone(&self) -> Result<SharedSet, AllocError> {
+        let shape = match &self.shape {
+            Shape::One(number) => Shape::One(*number),
+            Shape::Many(row) => Shape::Many(Arc::try_clone(row)?),
+        };
+        Ok(SharedSet {
+            words: self.words,
+            shape,
+        })
     }
 }
 

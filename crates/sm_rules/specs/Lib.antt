@@ -1,3 +1,4 @@
 pub mod Access
 pub mod Faults
 pub mod Keeping
+pub mod Pooling

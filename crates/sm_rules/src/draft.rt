@@ -8,6 +8,7 @@ ghost use Rattle.sm_types.specs.Names.{at};
 ghost use Rattle.sm_types.specs.Members.{IsOf};
 ghost use Rattle.sm_rules.specs.Faults.{UnlessMemory, first_fault, fault_if_kept, permissive_fault, fault_of};
 ghost use Rattle.sm_rules.specs.Keeping.{FitsRule, FitsRules, Extends, Permits, SaysPermissive, kept_only, allow_in, neverallow_in, dontaudit_in, allow_rules, neverallow_rules, dontaudit_rules, AllStandFor};
+ghost use Rattle.sm_rules.specs.Pooling.{HasMembers};
 
 use crate::RulesFault;
 use crate::kept::{Kept, keep};
@@ -36,6 +37,8 @@ fn add_rule(
     line: u32,
     rule: &Rule,
 ) -> Result<(), RulesFault>
+    requires { HasMembers types.now pool.old }
+    ensures pool { pool.new ≡ pool.old }
     ensures refused { IfErr result (λ e. UnlessMemory e ((policy : List TheStatement)
         → IsOf policy types.now → fault_if_kept policy line rule.now ≡ Some e)) }
     ensures accepted { IfOk result (λ done. (policy : List TheStatement) → IsOf policy types.now
@@ -83,6 +86,7 @@ fn add_statement(
     draft: &mut Draft,
     statement: &Statement,
 ) -> Result<(), RulesFault>
+    requires members { HasMembers types.now pool.old }
     requires room { length draft.old.permissive ≡ length types.now.symbols.types / 64 + 1 }
     ensures refused { IfErr result (λ e. UnlessMemory e ((policy : List TheStatement)
         → IsOf policy types.now
@@ -101,6 +105,7 @@ fn add_statement(
     ensures permissive { IfOk result (λ done. (policy : List TheStatement) → IsOf policy types.now
         → Permits types.now.symbols.types statement.now.what draft.old.permissive draft.new.permissive) }
     ensures same { length draft.new.permissive ≡ length draft.old.permissive }
+    ensures pool { pool.new ≡ pool.old }
     ensures few { IfOk result (λ done. length draft.new.allows.items + length draft.new.neverallows.items
         ≤ length draft.old.allows.items + length draft.old.neverallows.items + 1) }
     ensures fits { FitsRules (length types.now.symbols.types)
@@ -145,7 +150,7 @@ pub fn all_rules(
         silences: Vec::new(alloc),
         permissive: BitRow::empty(alloc, types.type_count().words())?,
     };
-    let mut pool = RowPool::new(alloc);
+    let mut pool = RowPool::new(alloc, types)?;
     for statement in statements {
         add_statement(alloc, types, &mut pool, &mut draft, statement)?;
     }

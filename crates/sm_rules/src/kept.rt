@@ -10,6 +10,7 @@ ghost use Rattle.sm_types.specs.Members.{IsOf};
 ghost use Rattle.sm_rules.specs.Faults as spec;
 ghost use Rattle.sm_rules.specs.Faults.{UnlessMemory, rule_fault};
 ghost use Rattle.sm_rules.specs.Keeping.{joins, covers, FitsRule, StandsFor};
+ghost use Rattle.sm_rules.specs.Pooling.{HasMembers};
 ghost use Rattle.sm_rules.specs.declared.fault.RulesFault.TheVariants.{Unknown};
 
 use crate::RulesFault;
@@ -100,6 +101,8 @@ fn expand(
     line: u32,
     set: &Set,
 ) -> Result<SharedSet, RulesFault>
+    requires { HasMembers types.now pool.old }
+    ensures pool { pool.new ≡ pool.old }
     ensures room { IfOk result (λ row. length row ≡ length types.now.symbols.types / 64 + 1) }
     ensures denoted { IfOk result (λ row. (policy : List TheStatement) → IsOf policy types.now
         → (i : ℕ) → i < length types.now.symbols.types
@@ -115,6 +118,9 @@ fn expand(
     prove!(types.type_count().words() < 100);
     if let Some(number) = types.only(set) {
         return Ok(SharedSet::one(number, types.type_count().words()));
+    }
+    if let Some(attribute) = types.only_attribute(set) {
+        return Ok(pool.members(attribute)?);
     }
     match types.expand(alloc, set) {
         Ok(row) => Ok(pool.share(alloc, row)?),
@@ -132,6 +138,8 @@ pub fn keep(
     line: u32,
     rule: &Rule,
 ) -> Result<Kept, RulesFault>
+    requires { HasMembers types.now pool.old }
+    ensures pool { pool.new ≡ pool.old }
     ensures refused { IfErr result (λ e. UnlessMemory e ((policy : List TheStatement)
         → IsOf policy types.now → rule_fault policy line rule.now ≡ Some e)) }
     ensures accepted { IfOk result (λ k. (policy : List TheStatement) → IsOf policy types.now

@@ -1,12 +1,15 @@
 //! The rows of sets, each kept once.
 
-ghost use Rattle.std.specs.Prelude.{◌≡◌, ◌<◌, ◌^◌, ◌*◌, ℕ, length, IfOk, IfSome, nat_eq};
+ghost use Rattle.std.specs.Prelude.{◌≡◌, ◌<◌, ◌+◌, ◌^◌, ◌*◌, ℕ, length, IfOk, IfSome, nat_eq};
 ghost use Rattle.std.specs.Arc.{arc_value};
-ghost use Rattle.sm_bits.specs.Bits.{has};
+ghost use Rattle.sm_bits.specs.Bits.{has, row};
+ghost use Rattle.sm_rules.specs.Pooling.{HasMembersBefore, HasMembers};
 
 use indexmap::IndexMap;
 use sm_bits::{BitRow, SharedSet};
+use sm_types::Types;
 use std::alloc::{AllocError, Global};
+use std::marker::Model;
 use std::sync::Arc;
 
 /// The number of a set that has no other.
@@ -22,18 +25,63 @@ fn only_number(row: &BitRow) -> Option<usize>
     }
 }
 
-/// Rows by their digests. Two rows of one digest are compared before one is taken for the other.
+/// The set of each attribute by its number, and rows by their digests. Two rows of one digest are compared before one
+/// is taken for the other.
+///
+/// Contracts see the sets of the attributes.
 #[derive(Drop)]
 pub struct RowPool {
+    members: Vec<SharedSet>,
     rows: IndexMap<u64, Arc<BitRow, Global>>,
 }
 
+impl Model for RowPool {
+    ghost use Rattle.std.specs.Prelude.{List, ℕ};
+
+    ghost Value = { List (List ℕ) };
+
+    ghost view = { λ p. p.members.items };
+}
+
 impl RowPool {
-    /// No row.
-    pub fn new(alloc: Global) -> RowPool {
-        RowPool {
+    /// The sets of the attributes, and no other row.
+    pub fn new(alloc: Global, types: &Types) -> Result<RowPool, AllocError>
+        ensures { IfOk result (λ pool. HasMembers types.now pool) }
+    {
+        let mut pool = RowPool {
+            members: Vec::new(alloc),
             rows: IndexMap::new(alloc),
+        };
+        for attribute in 0..types.attribute_count() {
+            pool.add_members(alloc, types, attribute)?;
         }
+        Ok(pool)
+    }
+
+    /// Adds the set of the attribute that comes next.
+    fn add_members(
+        &mut self,
+        alloc: Global,
+        types: &Types,
+        attribute: usize,
+    ) -> Result<(), AllocError>
+        requires inside { attribute < length types.now.symbols.attributes }
+        requires before { HasMembersBefore attribute types.now self.old }
+        ensures { IfOk result (λ done. HasMembersBefore (attribute + 1) types.now self.new) }
+    {
+        let mut row = BitRow::empty(alloc, types.type_count().words())?;
+        row.union_with(types.members(attribute));
+        let set = self.share(alloc, row)?;
+        self.members.push(set)?;
+        Ok(())
+    }
+
+    /// The set of an attribute.
+    pub fn members(&self, attribute: usize) -> Result<SharedSet, AllocError>
+        requires { attribute < length self.now }
+        ensures { IfOk result (λ set. set ≡ row self.now attribute) }
+    {
+        self.members[attribute].clone()
     }
 
     /// The same row as one that was shared before, if there is one.
@@ -55,7 +103,8 @@ impl RowPool {
 
     /// The row, shared with the same one from before, if there was one.
     fn shared_row(&mut self, alloc: Global, row: BitRow) -> Result<Arc<BitRow, Global>, AllocError>
-        ensures { IfOk result (λ shared. arc_value shared ≡ row) }
+        ensures members { self.new ≡ self.old }
+        ensures row { IfOk result (λ shared. arc_value shared ≡ row) }
     {
         let digest = row.digest();
         if let Some(shared) = self.known(digest, &row)? {
@@ -70,6 +119,7 @@ impl RowPool {
     /// The set of a row: a single number, or a row that may be shared.
     pub fn share(&mut self, alloc: Global, row: BitRow) -> Result<SharedSet, AllocError>
         requires { length row < 2 ^ 32 }
+        ensures members { self.new ≡ self.old }
         ensures room { IfOk result (λ set. length set ≡ length row) }
         ensures same { IfOk result (λ set. (j : ℕ) → has set j ≡ has row j) }
     {

@@ -1,12 +1,15 @@
 -- What is known of a policy in which nothing is refused.
 use Rattle.std.proofs.Common.{◌≡◌, ℕ, Bool, true, false, not, ◌||◌, List, [], ◌∷◌, ◌++◌, find, option_map, Option}
 use Rattle.std.proofs.Common.{Some, None, Ok, Err, refl, sym, ap, ◌∙◌, append_assoc, true≢false, cond, length, ◌<◌}
-use Rattle.std.proofs.Common.{nat_le}
+use Rattle.std.proofs.Common.{nat_le, position}
 use Rattle.std.specs.List.{list_any, cons_option}
 use Rattle.std.specs.Str.{bytes_eq}
-use Rattle.std.proofs.lemmas.Bool.{and_parts, and_right, false_from_ne_true}
+use Rattle.std.proofs.lemmas.Bool.{and_parts, and_right, or_parts, false_from_ne_true}
+use Rattle.std.proofs.Math.Bool.{or-false}
 use Rattle.std.proofs.lemmas.List.{append-nil}
-use Rattle.std.proofs.lemmas.List.Folds.{list_any_at}
+use Rattle.std.proofs.lemmas.List.Quantifiers.{position-Some}
+use Rattle.sm_bits.specs.Bits.{has, row}
+use Rattle.std.proofs.lemmas.List.Folds.{list_any_at, list_any-append}
 use Rattle.sm_ruletext.specs.declared.statement.What.{What}
 use Rattle.sm_ruletext.specs.declared.statement.What.TheVariants.{Attribute, Declared, Member, Allow, Neverallow}
 use Rattle.sm_ruletext.specs.declared.statement.What.TheVariants.{Dontaudit, Permissive}
@@ -19,12 +22,12 @@ use Rattle.sm_types.specs.Names.{Name, at}
 use Rattle.sm_types.specs.Declaring.{Step, nothing, declared, symbols_of, first_unknown, unless, members_known}
 use Rattle.sm_types.specs.Declaring.{all_attributes, is_declared, with_declaration, with_type, with_attribute}
 use Rattle.sm_types.specs.Denoting.{gives_attribute, has_attribute, declares, is_type_named, type_of, attribute_of}
-use Rattle.sm_types.specs.Denoting.{types, attributes}
+use Rattle.sm_types.specs.Denoting.{types, attributes, is_named}
 use Rattle.sm_types.specs.Members.{IsOf}
 use Rattle.sm_kinds.specs.Names.{contains}
 use Rattle.sm_kinds.specs.Reading.{◌>>=◌}
 use Rattle.sm_types.specs.declared.table.Table.{Table}
-use Rattle.sm_types.proofs.NameLemmas.{same_name, name_same}
+use Rattle.sm_types.proofs.NameLemmas.{same_name, name_same, absent_at}
 
 unlisted_names : (symbols : Symbols) (word : Name) → list_any (bytes_eq word) symbols.attributes ≡ false
     → (names : List Name) → all_attributes symbols names ≡ true → contains names word ≡ false
@@ -115,6 +118,87 @@ step_names symbols next line (Dontaudit r) h = let e : symbols ≡ next = cc h i
     (rw (← e) (sym (append-nil symbols.types)), rw (← e) (sym (append-nil symbols.attributes)))
 step_names symbols next line (Permissive n) h = let e : symbols ≡ next = cc h in
     (rw (← e) (sym (append-nil symbols.types)), rw (← e) (sym (append-nil symbols.attributes)))
+
+-- no word stands in both lists
+abbrev Apart : List Name → List Name → Type 0
+Apart xs ys = (word : Name) → list_any (bytes_eq word) xs ≡ true → list_any (bytes_eq word) ys ≡ true → ⊥
+
+apart_more : (xs ys : List Name) (name : Name) → Apart xs ys → list_any (bytes_eq name) ys ≡ false
+    → Apart (xs ++ name ∷ []) ys
+apart_more xs ys name before new word h g = by (bytes_eq word name) refl where
+  by : (b : Bool) → bytes_eq word name ≡ b → ⊥
+  by true e = true≢false (sym g ∙ rw (same_name word name e) new)
+  by false e = before word (sym (or-false _) ∙ (rw (list_any-append (bytes_eq word) xs (name ∷ []), e) at h)) g
+
+declared_new : (next : Symbols) (b d : Bool) (f g : TypesFault) (x : Symbols)
+    → cond b (Err f) (cond d (Err g) (Ok x)) ≡ Ok next → b ≡ false
+declared_new next true d f g x h = absurd (cc h)
+declared_new next false d f g x h = refl
+
+step_apart : (symbols next : Symbols) (line : ℕ) (what : What) → with_declaration symbols line what ≡ Ok next
+    → Apart symbols.types symbols.attributes → Apart next.types next.attributes
+unfolding with_declaration with_type with_attribute
+step_apart symbols next line (Attribute n) h before =
+    let x : Symbols = record { types = symbols.types; attributes = symbols.attributes ++ n ∷ [] } in
+    let new = declared_new next (is_declared symbols n) (nat_le MOST_ATTRIBUTES (length symbols.attributes))
+    (Twice line) TooMany x h in
+    let e = taken symbols next (is_declared symbols n) (nat_le MOST_ATTRIBUTES (length symbols.attributes)) (Twice line)
+    TooMany x h in
+    rw (← e) (λ word t a. apart_more symbols.attributes symbols.types n (λ w p q. before w q p)
+    (or_parts (list_any (bytes_eq n) symbols.types) (list_any (bytes_eq n) symbols.attributes) new).0 word a t)
+step_apart symbols next line (Declared n names) h before =
+    let x : Symbols = record { types = symbols.types ++ n ∷ []; attributes = symbols.attributes } in
+    let new = declared_new next (is_declared symbols n) (nat_le MOST_TYPES (length symbols.types)) (Twice line) TooMany
+    x h in
+    let e = taken symbols next (is_declared symbols n) (nat_le MOST_TYPES (length symbols.types)) (Twice line) TooMany
+    x h in
+    rw (← e) (apart_more symbols.types symbols.attributes n before
+    (or_parts (list_any (bytes_eq n) symbols.types) (list_any (bytes_eq n) symbols.attributes) new).1)
+step_apart symbols next line (Member n names) h before = let e : symbols ≡ next = cc h in rw (← e) before
+step_apart symbols next line (Allow r) h before = let e : symbols ≡ next = cc h in rw (← e) before
+step_apart symbols next line (Neverallow r) h before = let e : symbols ≡ next = cc h in rw (← e) before
+step_apart symbols next line (Dontaudit r) h before = let e : symbols ≡ next = cc h in rw (← e) before
+step_apart symbols next line (Permissive n) h before = let e : symbols ≡ next = cc h in rw (← e) before
+
+all_apart : (sts : List Statement) (symbols last : Symbols) → declared symbols sts ≡ Ok last
+    → Apart symbols.types symbols.attributes → Apart last.types last.attributes
+unfolding declared
+all_apart [] symbols last h before = let e : symbols ≡ last = cc h in rw (← e) before
+all_apart (st ∷ sts) symbols last h before = by (with_declaration symbols st.line st.what) refl h
+    (λ next g. all_apart sts next last g) where
+      by : (r : Step Symbols) → with_declaration symbols st.line st.what ≡ r
+          → (r >>= λ next. declared next sts) ≡ Ok last
+          → ((next : Symbols) → declared next sts ≡ Ok last → Apart next.types next.attributes
+          → Apart last.types last.attributes)
+          → Apart last.types last.attributes
+      by (Ok next) e h rest = rest next h (step_apart symbols next st.line st.what e before)
+      by (Err f) e h rest = absurd (cc h)
+
+-- no word names both a type and an attribute of an accepted policy
+pub apart : (policy : List Statement) (table : Table) (word : Name) → IsOf policy table
+    → list_any (bytes_eq word) table.symbols.types ≡ true → list_any (bytes_eq word) table.symbols.attributes ≡ false
+apart policy table word is h = false_from_ne_true (list_any (bytes_eq word) table.symbols.attributes)
+    (λ g. all_apart policy nothing table.symbols (accepted policy table.symbols is.accepted).0
+    (λ w t a. true≢false (sym t)) word h g)
+
+-- a word that names a type gives no attribute
+pub named_type : (policy : List Statement) (table : Table) (word t : Name) → IsOf policy table
+    → list_any (bytes_eq word) table.symbols.types ≡ true → is_named policy t word ≡ bytes_eq word t
+named_type policy table word t is h =
+    rw (unlisted policy table word t is (apart policy table word is h)) (or-false (bytes_eq word t))
+
+-- a word that names an attribute names the types of that attribute's row
+pub named_attribute : (policy : List Statement) (table : Table) (word : Name) (a i : ℕ) → IsOf policy table
+    → position (bytes_eq word) table.symbols.attributes ≡ Some a → i < length table.symbols.types
+    → is_named policy (at table.symbols.types i) word ≡ has (row table.members.items a) i
+named_attribute policy table word a i is found inside =
+    let names = table.symbols.attributes in
+    let p = position-Some (bytes_eq word) names a [] found in
+    let none = false_from_ne_true (list_any (bytes_eq word) table.symbols.types)
+    (λ t. true≢false (sym (list_any_at (bytes_eq word) names a [] p.0 p.1) ∙ apart policy table word is t)) in
+    rw (absent_at (bytes_eq word) table.symbols.types i [] none inside)
+    (ap (λ (n : Name). has_attribute policy (at table.symbols.types i) n) (same_name word (at names a) p.1)
+    ∙ sym (is.rows.says a i p.0 inside))
 
 behind : (xs : List Name) (o : Option Name) (ys : List Name) → (xs ++ cons_option o []) ++ ys ≡ xs ++ cons_option o ys
 behind xs None ys = ap (λ (zs : List Name). zs ++ ys) (append-nil xs)

@@ -1,5 +1,6 @@
 -- What a rule text declares and what its sets denote, by the names in its statements.
-use Rattle.std.specs.Prelude.{Bool, false, not, ◌&&◌, ◌||◌, if◌then◌else◌, List, filter, Option, Some, None}
+use Rattle.std.specs.Prelude.{◌≡◌, Bool, false, not, ◌&&◌, ◌||◌, if◌then◌else◌, List, [], ◌∷◌, filter, Option, Some}
+use Rattle.std.specs.Prelude.{None}
 use Rattle.std.specs.List.{list_any, list_all, filter_map}
 use Rattle.std.specs.Str.{bytes_eq}
 use Rattle.sm_kinds.specs.Names.{contains}
@@ -53,6 +54,13 @@ unfoldable pub chosen : Policy → Set → Name → Bool
 chosen policy set t =
     let among = (set.all || list_any (is_named policy t) set.plus) && not (list_any (is_named policy t) set.minus) in
     if set.complement then not among else among
+
+-- The set is written as that word alone.
+pub record IsWord (word : Name) (set : Set) : Type 0 where
+  pub all : set.all ≡ false
+  pub complement : set.complement ≡ false
+  pub plus : set.plus ≡ word ∷ []
+  pub minus : set.minus ≡ []
 
 -- A set denotes declared types alone.
 abbrev pub in_set : Policy → Set → Name → Bool

@@ -1,5 +1,5 @@
 -- Rows of bits that say which type has which attribute.
-use Rattle.std.specs.Prelude.{◌≡◌, ℕ, false, ◌&&◌, ◌||◌, nat_eq, ◌<◌, ◌≤◌, ◌/◌, ◌+◌, List, length, Ok}
+use Rattle.std.specs.Prelude.{◌≡◌, ℕ, false, ◌&&◌, ◌||◌, nat_eq, nat_lt, ◌<◌, ◌≤◌, ◌/◌, ◌+◌, List, length, Ok}
 use Rattle.sm_bits.specs.Bits.{has, row}
 use Rattle.sm_kinds.specs.Names.{contains}
 use Rattle.sm_types.specs.Names.{Name, at, Distinct}
@@ -23,10 +23,16 @@ pub record Fits (members : List (List ℕ)) (symbols : Symbols) : Type 0 where
   pub room : (a : ℕ) → a < length symbols.attributes → length (row members a) ≡ length symbols.types / 64 + 1
   pub past : (a i : ℕ) → a < length symbols.attributes → length symbols.types ≤ i → has (row members a) i ≡ false
 
+-- The row has every type and nothing else.
+pub record HasAll (symbols : Symbols) (row : List ℕ) : Type 0 where
+  pub room : length row ≡ length symbols.types / 64 + 1
+  pub full : (i : ℕ) → has row i ≡ nat_lt i (length symbols.types)
+
 -- What is true of every table.
 pub record IsSound (table : Table) : Type 0 where
   pub few : length table.symbols.types ≤ MOST_TYPES
   pub fits : Fits table.members.items table.symbols
+  pub all : HasAll table.symbols table.all
 
 -- The rows say which type has which attribute in the policy.
 pub record MembersOf (policy : Policy) (symbols : Symbols) (members : List (List ℕ)) : Type 0 where

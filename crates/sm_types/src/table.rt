@@ -1,15 +1,15 @@
 //! Which types a set denotes.
 
-ghost use Rattle.std.specs.Prelude.{◌≡◌, ◌||◌, ◌&&◌, ◌<◌, ◌≤◌, ◌+◌, ◌/◌, ℕ, List, length, IfOk, IfErr, IfSome, IsTrue, nat_eq, nat_lt, false, true};
+ghost use Rattle.std.specs.Prelude.{◌≡◌, ◌||◌, ◌&&◌, ◌<◌, ◌≤◌, ◌+◌, ◌/◌, ℕ, List, length, IfOk, IfErr, IfSome, IsTrue, not, nat_eq, nat_lt, false, true};
 ghost use Rattle.std.specs.List.{list_any};
 ghost use Rattle.std.specs.Str.{bytes_eq};
-ghost use Rattle.sm_bits.specs.Bits.{has};
+ghost use Rattle.sm_bits.specs.Bits.{has, row};
 ghost use Rattle.sm_kinds.specs.Reading.{Fails};
 ghost use Rattle.sm_ruletext.specs.declared.statement.Statement.{Statement as TheStatement};
 ghost use Rattle.sm_types.specs.Names.{at};
 ghost use Rattle.sm_types.specs.Declaring.{is_memory, symbols_of, is_declared, all_declared, UnlessMemory};
-ghost use Rattle.sm_types.specs.Denoting.{is_named, has_attribute, chosen, in_set};
-ghost use Rattle.sm_types.specs.Members.{Fits, IsOf};
+ghost use Rattle.sm_types.specs.Denoting.{is_named, has_attribute, chosen, in_set, IsWord};
+ghost use Rattle.sm_types.specs.Members.{Fits, HasAll, IsOf};
 ghost use Rattle.sm_types.specs.declared.TheConstants.{MOST_TYPES};
 ghost use Rattle.sm_types.specs.declared.fault.TypesFault.TheVariants.{Unknown};
 
@@ -26,6 +26,8 @@ use std::alloc::{AllocError, Global};
 pub struct Table {
     pub symbols: Symbols,
     pub members: Vec<BitRow>,
+    /// The row of all types.
+    pub all: BitRow,
 }
 
 /// The table of a rule text, or the first refusal.
@@ -33,10 +35,16 @@ pub fn table_of(alloc: Global, statements: &[Statement]) -> Result<Table, TypesF
     ensures refused { IfErr result (λ e. Fails is_memory e (symbols_of statements.now)) }
     ensures built { IfOk result (λ t. IsOf statements.now t) }
     ensures few { IfOk result (λ t. length t.symbols.types ≤ MOST_TYPES) }
+    ensures all { IfOk result (λ t. HasAll t.symbols t.all) }
 {
     let symbols = symbols_of(alloc, statements)?;
     let members = members_of(alloc, &symbols, statements)?;
-    Ok(Table { symbols, members })
+    let all = all_types(alloc, &symbols)?;
+    Ok(Table {
+        symbols,
+        members,
+        all,
+    })
 }
 
 /// Adds the type of that name. `false`: there is none.
@@ -78,8 +86,8 @@ fn add_members(table: &Table, set: &mut BitRow, word: &[u8]) -> bool
     }
 }
 
-/// The type that a word names, if it names no attribute.
-pub fn only_type(table: &Table, word: &[u8]) -> Option<usize>
+/// The type that a word names.
+fn named_type(table: &Table, word: &[u8]) -> Option<usize>
     ensures inside { IfSome result (λ t. t < length table.now.symbols.types) }
     ensures named { IfSome result (λ t. (policy : List TheStatement) → IsOf policy table.now → (i : ℕ)
         → i < length table.now.symbols.types
@@ -87,10 +95,19 @@ pub fn only_type(table: &Table, word: &[u8]) -> Option<usize>
     ensures known { IfSome result (λ t. is_declared table.now.symbols word.now ≡ true) }
 {
     let t = table.symbols.types.index(word)?;
-    match table.symbols.attributes.index(word) {
-        Some(_) => None,
-        None => Some(t),
-    }
+    Some(t)
+}
+
+/// The attribute that a word names.
+fn named_attribute(table: &Table, word: &[u8]) -> Option<usize>
+    ensures inside { IfSome result (λ a. a < length table.now.symbols.attributes) }
+    ensures named { IfSome result (λ a. (policy : List TheStatement) → IsOf policy table.now → (i : ℕ)
+        → i < length table.now.symbols.types
+        → is_named policy (at table.now.symbols.types i) word.now ≡ has (row table.now.members.items a) i) }
+    ensures known { IfSome result (λ a. is_declared table.now.symbols word.now ≡ true) }
+{
+    let a = table.symbols.attributes.index(word)?;
+    Some(a)
 }
 
 /// Adds the types that a word names. `false`: the word isn't declared.
@@ -105,9 +122,7 @@ fn add_named(table: &Table, set: &mut BitRow, word: &[u8]) -> bool
         || is_named policy (at table.now.symbols.types i) word.now) }
     ensures past { (i : ℕ) → length table.now.symbols.types ≤ i → has set.new i ≡ has set.old i }
 {
-    let is_type = add_type(table, set, word);
-    let is_attribute = add_members(table, set, word);
-    is_type || is_attribute
+    add_type(table, set, word) || add_members(table, set, word)
 }
 
 /// Adds the types that words name. `false`: some word isn't declared.
@@ -131,12 +146,10 @@ fn add_all(table: &Table, set: &mut BitRow, words: &Names) -> bool
 }
 
 /// All types.
-fn all_types(alloc: Global, table: &Table) -> Result<BitRow, AllocError>
-    ensures room { IfOk result (λ row. length row ≡ length table.now.symbols.types / 64 + 1) }
-    ensures all { IfOk result (λ row. (i : ℕ) → has row i
-        ≡ nat_lt i (length table.now.symbols.types)) }
+fn all_types(alloc: Global, symbols: &Symbols) -> Result<BitRow, AllocError>
+    ensures { IfOk result (λ row. HasAll symbols.now row) }
 {
-    let count = table.symbols.types.len();
+    let count = symbols.types.len();
     let mut set = BitRow::empty(alloc, count / 64 + 1)?;
     for t in 0..count {
         set.insert(t);
@@ -146,14 +159,76 @@ fn all_types(alloc: Global, table: &Table) -> Result<BitRow, AllocError>
 
 /// All types, or none.
 fn all_or_none(alloc: Global, table: &Table, is_all: bool) -> Result<BitRow, AllocError>
+    requires { HasAll table.now.symbols table.now.all }
     ensures room { IfOk result (λ row. length row ≡ length table.now.symbols.types / 64 + 1) }
     ensures all { IfOk result (λ row. (i : ℕ) → has row i
         ≡ (is_all && nat_lt i (length table.now.symbols.types))) }
 {
+    let mut set = BitRow::empty(alloc, table.symbols.types.len() / 64 + 1)?;
     if is_all {
-        return all_types(alloc, table);
+        set.union_with(&table.all);
     }
-    BitRow::empty(alloc, table.symbols.types.len() / 64 + 1)
+    Ok(set)
+}
+
+/// Removes the types that a word names. `false`: the word isn't declared.
+fn remove_named(table: &Table, set: &mut BitRow, word: &[u8]) -> bool
+    requires fits { Fits table.now.members.items table.now.symbols }
+    requires room { length set.old ≡ length table.now.symbols.types / 64 + 1 }
+    ensures room { length set.new ≡ length set.old }
+    ensures known { result ≡ is_declared table.now.symbols word.now }
+    ensures left { (policy : List TheStatement) → IsOf policy table.now → (i : ℕ)
+        → i < length table.now.symbols.types
+        → has set.new i ≡ (has set.old i
+        && not (is_named policy (at table.now.symbols.types i) word.now)) }
+    ensures past { (i : ℕ) → length table.now.symbols.types ≤ i → has set.old i ≡ false
+        → has set.new i ≡ false }
+{
+    if let Some(t) = table.symbols.types.index(word) {
+        set.remove(t);
+        return true;
+    }
+    match table.symbols.attributes.index(word) {
+        Some(a) => {
+            set.subtract(&table.members[a]);
+            true
+        }
+        None => false,
+    }
+}
+
+/// Removes the types that words name. `false`: some word isn't declared.
+fn remove_all(table: &Table, set: &mut BitRow, words: &Names) -> bool
+    requires fits { Fits table.now.members.items table.now.symbols }
+    requires room { length set.old ≡ length table.now.symbols.types / 64 + 1 }
+    ensures room { length set.new ≡ length set.old }
+    ensures known { result ≡ all_declared table.now.symbols words.now }
+    ensures left { IsTrue result → (policy : List TheStatement) → IsOf policy table.now → (i : ℕ)
+        → i < length table.now.symbols.types
+        → has set.new i ≡ (has set.old i
+        && not (list_any (is_named policy (at table.now.symbols.types i)) words.now)) }
+    ensures past { (i : ℕ) → length table.now.symbols.types ≤ i → has set.old i ≡ false
+        → has set.new i ≡ false }
+{
+    for word in words.list() {
+        if !remove_named(table, set, word.bytes()) {
+            return false;
+        }
+    }
+    true
+}
+
+/// The word of a set that is written as one word alone.
+fn only_word(set: &Set) -> Option<&[u8]>
+    ensures { IfSome result (λ word. IsWord word.now set.now) }
+{
+    if set.all || set.complement {
+        return None;
+    }
+    match (set.plus.list(), set.minus.list()) {
+        ([name], []) => Some(name.bytes()),
+        _ => None,
+    }
 }
 
 /// The type that a set denotes, if the set is written as the name of a type alone.
@@ -166,19 +241,27 @@ pub fn only_chosen(table: &Table, set: &Set) -> Option<usize>
     ensures known { IfSome result (λ t. (all_declared table.now.symbols set.now.plus
         && all_declared table.now.symbols set.now.minus) ≡ true) }
 {
-    if set.all || set.complement {
-        return None;
-    }
-    match (set.plus.list(), set.minus.list()) {
-        ([name], []) => only_type(table, name.bytes()),
-        _ => None,
-    }
+    named_type(table, only_word(set)?)
+}
+
+/// The attribute that a set denotes, if the set is written as the name of an attribute alone.
+#[tactic(auto, unfolding(crate::specs::Denoting::chosen))]
+pub fn only_attribute(table: &Table, set: &Set) -> Option<usize>
+    ensures inside { IfSome result (λ a. a < length table.now.symbols.attributes) }
+    ensures denoted { IfSome result (λ a. (policy : List TheStatement) → IsOf policy table.now
+        → (i : ℕ) → i < length table.now.symbols.types
+        → chosen policy set.now (at table.now.symbols.types i) ≡ has (row table.now.members.items a) i) }
+    ensures known { IfSome result (λ a. (all_declared table.now.symbols set.now.plus
+        && all_declared table.now.symbols set.now.minus) ≡ true) }
+{
+    named_attribute(table, only_word(set)?)
 }
 
 /// The types that the items of a set choose.
 #[tactic(auto, unfolding(crate::specs::Denoting::chosen))]
 pub fn chosen_types(alloc: Global, table: &Table, set: &Set) -> Result<BitRow, TypesFault>
-    requires { Fits table.now.members.items table.now.symbols }
+    requires fits { Fits table.now.members.items table.now.symbols }
+    requires all { HasAll table.now.symbols table.now.all }
     ensures room { IfOk result (λ row. length row ≡ length table.now.symbols.types / 64 + 1) }
     ensures denoted { IfOk result (λ row. (policy : List TheStatement) → IsOf policy table.now
         → (i : ℕ) → i < length table.now.symbols.types
@@ -195,15 +278,13 @@ pub fn chosen_types(alloc: Global, table: &Table, set: &Set) -> Result<BitRow, T
     if !add_all(table, &mut chosen, &set.plus) {
         return Err(TypesFault::Unknown(set.line));
     }
-    let mut minus = all_or_none(alloc, table, false)?;
-    if !add_all(table, &mut minus, &set.minus) {
+    if !remove_all(table, &mut chosen, &set.minus) {
         return Err(TypesFault::Unknown(set.line));
     }
-    chosen.subtract(&minus);
     if !set.complement {
         return Ok(chosen);
     }
-    let mut others = all_types(alloc, table)?;
+    let mut others = all_or_none(alloc, table, true)?;
     others.subtract(&chosen);
     Ok(others)
 }

@@ -2,7 +2,7 @@
 
 ghost use Rattle.std.specs.Prelude.{◌≡◌, ◌<◌, ◌≤◌, ◌+◌, ◌/◌, ℕ, List, length, position, slice_get, option_map, IfOk, IfErr, IfSome, Some, is_some, nat_eq, false, true};
 ghost use Rattle.std.specs.Str.{bytes_eq};
-ghost use Rattle.sm_bits.specs.Bits.{has};
+ghost use Rattle.sm_bits.specs.Bits.{has, row};
 ghost use Rattle.sm_kinds.specs.Reading.{Fails};
 ghost use Rattle.sm_ruletext.specs.declared.statement.Statement.{Statement as TheStatement};
 ghost use Rattle.sm_types.specs.Names.{at, is_at};
@@ -12,7 +12,7 @@ ghost use Rattle.sm_types.specs.Members.{IsOf};
 ghost use Rattle.sm_types.specs.declared.TheConstants.{MOST_TYPES};
 ghost use Rattle.sm_types.specs.declared.fault.TypesFault.TheVariants.{Unknown};
 
-use crate::table::{Table, chosen_types, only_chosen, table_of};
+use crate::table::{Table, chosen_types, only_attribute, only_chosen, table_of};
 use crate::{TypeCount, TypesFault};
 use sm_bits::BitRow;
 use sm_ruletext::{Set, Statement};
@@ -114,6 +114,30 @@ impl Types {
     {
         let t = only_chosen(&self.table, set)?;
         Some(t as u16)
+    }
+
+    /// The number of the attribute that a set denotes, if the set is written as the name of an attribute alone. `None`
+    /// says nothing of the set: [`expand`](Types::expand) has its types.
+    pub fn only_attribute(&self, set: &Set) -> Option<usize>
+        ensures inside { IfSome result (λ a. a < length self.now.symbols.attributes) }
+        ensures denoted { IfSome result (λ a. (policy : List TheStatement) → IsOf policy self.now
+            → (i : ℕ) → i < length self.now.symbols.types
+            → has (row self.now.members.items a) i ≡ in_set policy set.now (at self.now.symbols.types i)) }
+        ensures known { IfSome result (λ a. (policy : List TheStatement) → IsOf policy self.now
+            → all_known policy set.now ≡ true) }
+    {
+        let a = only_attribute(&self.table, set)?;
+        Some(a)
+    }
+
+    /// The types that have an attribute, as bits by their numbers.
+    pub fn members(&self, attribute: usize) -> &BitRow
+        requires { attribute < length self.now.symbols.attributes }
+        ensures row { result.now ≡ row self.now.members.items attribute }
+        ensures room { length result.now ≡ length self.now.symbols.types / 64 + 1 }
+        ensures past { (i : ℕ) → length self.now.symbols.types ≤ i → has result.now i ≡ false }
+    {
+        &self.table.members[attribute]
     }
 
     /// The types that a set denotes, as bits by their numbers.

@@ -36,6 +36,7 @@ loop-statement-preserved c =
           (c.in_ok-add_statement.ensures.silences sts c.requires));
       permissive = permitted_more names sts i st old.permissive new.permissive (omega arith) c.statement-item.is
           c.loop-statement.invariant.permissive (c.in_ok-add_statement.ensures.permissive sts c.requires);
+      pool = rw c.add_statement.ensures.pool c.loop-statement.invariant.pool;
       room = c.add_statement.ensures.same ∙ c.loop-statement.invariant.room;
       few = omega (arith, c.loop-statement.invariant.few, c.in_ok-add_statement.ensures.few);
       fits = c.in_ok-add_statement.ensures.fits c.loop-statement.invariant.fits;

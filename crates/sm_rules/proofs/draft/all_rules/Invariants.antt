@@ -2,6 +2,7 @@ use Rattle.std.proofs.Common.{◌≡◌, ◌≤◌, ◌+◌, ◌/◌, drop, take
 use Rattle.sm_rules.specs.Faults.{fault_among}
 use Rattle.sm_rules.specs.Keeping.{AllStandFor, FitsRules, SaysPermissive, allow_rules, neverallow_rules}
 use Rattle.sm_rules.specs.Keeping.{dontaudit_rules}
+use Rattle.sm_rules.specs.Pooling.{HasMembers}
 use Rattle.sm_rules.proofs.draft.all_rules.Given as goal
 
 abbrev pub invariant-loop-statement : goal.invariant-loop-statement
@@ -14,6 +15,7 @@ invariant-loop-statement l = record {
   silencing : AllStandFor l.statements l.types.symbols.types (dontaudit_rules (take l.statement-index l.statements))
       l.draft.silences.items;
   permissive : SaysPermissive (take l.statement-index l.statements) l.types.symbols.types l.draft.permissive;
+  pool : HasMembers l.types l.pool;
   room : length l.draft.permissive ≡ length l.types.symbols.types / 64 + 1;
   few : length l.draft.allows.items + length l.draft.neverallows.items ≤ l.statement-index;
   fits : FitsRules (length l.types.symbols.types) l.draft.allows.items l.draft.neverallows.items l.draft.silences.items;
