@@ -1,13 +1,15 @@
 -- What the table of the keys finds is what the list of the entries has.
-use Rattle.std.proofs.Common.{◌≡◌, ℕ, Bool, true, false, ◌||◌, cond, List, [], ◌∷◌, ◌++◌, map, Option, None, Some, Ok}
+use Rattle.std.proofs.Common.{◌≡◌, ℕ, ◌+◌, Bool, true, false, ◌||◌, cond, List, [], ◌∷◌, ◌++◌, map, Option, None}
+use Rattle.std.proofs.Common.{Some, Ok}
 use Rattle.std.proofs.Common.{is_some, refl, sym, ap, ◌∙◌}
-use Rattle.std.specs.Prelude.{find, option_map, option_copied}
-use Rattle.std.specs.List.{list_any}
+use Rattle.std.specs.Prelude.{find, not, option_map, option_copied, position}
+use Rattle.std.specs.List.{list_any, position_or_len}
 use Rattle.std.specs.Str.{bytes_eq}
-use Rattle.std.specs.Map.{lookup}
+use Rattle.std.specs.Map.{keys_of, lookup}
 use Rattle.indexmap.specs.IndexMap.{insert_entry}
 use Rattle.std.specs.Global.{Vec}
 use Rattle.std.specs.Borrow.{Bor}
+use Rattle.std.proofs.lemmas.List.{length-map}
 use Rattle.std.proofs.lemmas.Slice.Eq.{bytes_eq-Decides}
 use Rattle.sm_contexts.specs.declared.entries.FirstLine.{FirstLine}
 use Rattle.sm_contexts.specs.Reading.{Entry, has_key, with_entry}
@@ -47,6 +49,16 @@ any_lookup key (e ∷ es) = by (bytes_eq key e.0.items) (any_lookup key es) wher
       → is_some (cond b (Some e.1) (lookup (holds key) es)) ≡ (b || list_any (has_key key) (map entry_of es))
   by true rest = refl
   by false rest = rest
+
+-- at the same place
+place_same : (key : List ℕ) (es : List (Vec ℕ × FirstLine))
+    → position_or_len (holds key) (keys_of es) ≡ position_or_len (has_key key) (map entry_of es)
+place_same key [] = refl
+place_same key (e ∷ es) = ap (λ n. cond (not (bytes_eq key e.0.items)) (1 + n) 0) (place_same key es)
+
+pub placed : (key : List ℕ) (es : List (Vec ℕ × FirstLine))
+    → position (holds key) (keys_of es) ≡ position (has_key key) (map entry_of es)
+placed key es = rw (place_same key es, length-map es entry_of, length-map es (λ e. e.0)) refl
 
 abbrev same : Vec ℕ → Vec ℕ → Bool
 same x y = bytes_eq x.items y.items

@@ -1,7 +1,8 @@
 -- The entries of a contexts text, and the label of a name.
 use Rattle.std.specs.Prelude.{◌≡◌, ◌≤◌, ℕ, ◌+◌, Bool, true, false, not, ◌&&◌, ◌||◌, ◌==◌, nat_lt, if◌then◌else◌, List}
 use Rattle.std.specs.Prelude.{[], ◌∷◌, ◌++◌, length, count_by, find, slice_index, Option, Some, None, Result, Ok, Err}
-use Rattle.std.specs.Prelude.{codes, option_map}
+use Rattle.std.specs.Prelude.{codes, option_map, position}
+use Rattle.std.specs.Option.{option_or}
 use Rattle.std.specs.List.{list_any}
 use Rattle.std.specs.Str.{bytes_eq}
 use Rattle.std.specs.Borrow.{Bor}
@@ -85,6 +86,11 @@ pub record IsWhole (entries : List Entry) : Type 0 where
   pub has_default : list_any (has_key default_key) entries ≡ true
   pub few : length entries ≤ MOST_TEXT_BYTES
 
+-- Whole entries, and the place of the one for `*`.
+pub record IsKept (entries : List Entry) (default : ℕ) : Type 0 where
+  pub whole : IsWhole entries
+  pub placed : position (has_key default_key) entries ≡ Some default
+
 -- What an entry says of its key.
 abbrev pub line_and_context : Entry → ℕ × List ℕ
 line_and_context e = (e.line, e.context)
@@ -101,6 +107,10 @@ or_default entries (Some e) = Some e
 -- The context of a name: that on the line with this key, else that on the line `*`.
 abbrev pub label : List Entry → List ℕ → Option (List ℕ)
 label entries name = option_map (λ e. e.context) (or_default entries (find (has_key name) entries))
+
+-- The place of that entry.
+abbrev pub label_place : List Entry → List ℕ → Option ℕ
+label_place entries name = option_or (position (has_key name) entries) (position (has_key default_key) entries)
 
 -- Whether a line gives a context to a name.
 abbrev pub is_line_of : List ℕ → List ℕ → Bool

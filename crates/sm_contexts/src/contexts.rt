@@ -12,6 +12,8 @@ use std::marker::Model;
 #[derive(Debug, Drop)]
 pub struct Contexts {
     entries: Entries,
+    /// The place of the entry for `*`.
+    default: u32,
 }
 
 impl Model for Contexts {
@@ -20,17 +22,17 @@ impl Model for Contexts {
 
     ghost Value = { List Entry };
 
-    ghost use Rattle.sm_contexts.specs.Reading.{IsWhole};
+    ghost use Rattle.sm_contexts.specs.Reading.{IsKept};
 
     ghost view = { λ c. c.entries };
 
-    ghost invariant = { λ c. IsWhole c.entries };
+    ghost invariant = { λ c. IsKept c.entries c.default };
 }
 
 impl Contexts {
-    ghost use Rattle.std.specs.Prelude.{◌≡◌, Some, IfOk, length, option_map, slice_get};
+    ghost use Rattle.std.specs.Prelude.{◌≡◌, ◌<◌, Some, IfOk, length, option_map, slice_get};
     ghost use Rattle.sm_kinds.specs.Reading.{Gives};
-    ghost use Rattle.sm_contexts.specs.Reading.{AreFirstLines, is_memory, label, line_and_context, read, seen};
+    ghost use Rattle.sm_contexts.specs.Reading.{AreFirstLines, is_memory, label, label_place, line_and_context, read, seen};
 
     /// Reads a text: `service_contexts` of AOSP's system/sepolicy, of which each line has a key and a context,
     /// parted by spaces, tabs and carriage returns. A line without words, or whose first word begins with
@@ -40,15 +42,33 @@ impl Contexts {
         ensures first_lines { IfOk result (AreFirstLines text.now) }
     {
         let entries = entries_of(alloc, text)?;
-        Ok(Contexts { entries })
+        let Some(default) = entries.place(b"*") else {
+            unreachable!();
+        };
+        Ok(Contexts {
+            entries,
+            default: default as u32,
+        })
+    }
+
+    /// The place of a name's entry, by which `entry` asks: that of the line with this key, else that of the line `*`.
+    pub fn place(&self, name: &[u8]) -> u32
+        ensures place { label_place self.now name.now ≡ Some result }
+        ensures within { result < length self.now }
+        ensures labelled { option_map (λ e. e.context) (slice_get self.now result) ≡ label self.now name.now }
+    {
+        match self.entries.place(name) {
+            Some(place) => place as u32,
+            None => self.default,
+        }
     }
 
     /// The context of a name: that of the line with this key, else that of the line `*`.
     pub fn label(&self, name: &[u8]) -> &Context
         ensures { label self.now name.now ≡ Some result.now }
     {
-        match self.entries.label(name) {
-            Some(context) => context,
+        match self.entry(self.place(name)) {
+            Some((_, context)) => context,
             None => unreachable!(),
         }
     }

@@ -32,10 +32,10 @@ impl Model for Entries {
 }
 
 impl Entries {
-    ghost use Rattle.std.specs.Prelude.{◌≡◌, ◌≤◌, ◌+◌, [], find, length, option_map, slice_get, OnOk, OnErr};
+    ghost use Rattle.std.specs.Prelude.{◌≡◌, ◌<◌, ◌≤◌, ◌+◌, [], find, length, option_map, position, slice_get, IfSome, OnOk};
     ghost use Rattle.std.specs.List.{list_any};
     ghost use Rattle.sm_kinds.specs.Reading.{Gives};
-    ghost use Rattle.sm_contexts.specs.Reading.{is_memory, with_entry, has_key, default_key, label};
+    ghost use Rattle.sm_contexts.specs.Reading.{is_memory, with_entry, has_key, default_key};
     ghost use Rattle.sm_contexts.specs.Keyed.{entry, first_line};
 
     /// No entry.
@@ -93,17 +93,12 @@ impl Entries {
         Ok(())
     }
 
-    /// The context of the line with that key, else that of the line `*`.
-    pub fn label(&self, name: &[u8]) -> Option<&Context>
-        ensures { option_map (λ n. n.now) result ≡ label self.now name.now }
+    /// The place of the entry of a key.
+    pub fn place(&self, key: &[u8]) -> Option<usize>
+        ensures place { result ≡ position (has_key key.now) self.now }
+        ensures within { IfSome result (λ i. i < length self.now) }
     {
-        match self.find(name) {
-            Some(first) => Some(&first.context),
-            None => match self.find(b"*") {
-                Some(first) => Some(&first.context),
-                None => None,
-            },
-        }
+        self.by_key.get_index_of(key)
     }
 
     /// The line and the context of an entry, by its place.

@@ -13,7 +13,7 @@ use Rattle.sm_policy.proofs.counts.Counts.TheSendSync as Counts
 use Rattle.sm_types.proofs.types.Types.TheSendSync as Types
 use Rattle.sm_rules.proofs.rules.Rules.TheSendSync as Rules
 use Rattle.sm_vectors.proofs.vectors.Vectors.TheSendSync as Vectors
-use Rattle.sm_contexts.proofs.contexts.Contexts.TheSendSync as Contexts
+use Rattle.sm_policy.proofs.labels.Labels.TheSendSync as Labels
 use Rattle.sm_policy.specs.contracts.parts.Parts as Parts
 use Rattle.sm_policy.specs.contracts.parts.Parts.TheInside as PartsInside
 use Rattle.sm_policy.specs.contracts.prepared.Prepared as Prepared
@@ -37,7 +37,7 @@ parts_send =
           Types.the_send,
           (
             Rules.the_send,
-            (Vectors.the_send, (Contexts.the_send, tt)),
+            (Vectors.the_send, (Labels.the_field_send, tt)),
           ),
         ),
       ),
@@ -55,7 +55,7 @@ parts_sync =
           Types.the_sync,
           (
             Rules.the_sync,
-            (Vectors.the_sync, (Contexts.the_sync, tt)),
+            (Vectors.the_sync, (Labels.the_field_sync, tt)),
           ),
         ),
       ),

@@ -3,6 +3,7 @@
 
 mod counts;
 mod fault;
+mod labels;
 mod parts;
 mod prepared;
 mod preparing;
@@ -12,6 +13,7 @@ mod violation;
 
 pub use counts::Counts;
 pub use fault::PolicyFault;
+pub use labels::Label;
 pub use prepared::Prepared;
 pub use refused::refused_text;
 pub use sm_vectors::Decision;

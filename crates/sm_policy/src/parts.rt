@@ -2,8 +2,8 @@
 
 use crate::PolicyFault;
 use crate::counts::{Counts, counted};
-use crate::preparing::{labels_of, refuse_violation, rules_of};
-use sm_contexts::Contexts;
+use crate::labels::{Label, Labels, labels_of};
+use crate::preparing::{refuse_violation, rules_of};
 use sm_kinds::{Class, Context, Perms};
 use sm_neverallow::Matrices;
 use sm_rules::Rules;
@@ -23,7 +23,7 @@ pub struct Parts {
     types: Types,
     rules: Rules,
     vectors: Vectors,
-    contexts: Contexts,
+    labels: Labels,
 }
 
 impl Model for Parts {
@@ -32,9 +32,9 @@ impl Model for Parts {
 
     ghost Value = { Policy };
 
-    ghost view = { λ p. record { statements = p.statements.value.items; entries = p.contexts } };
+    ghost view = { λ p. record { statements = p.statements.value.items; entries = p.labels.contexts } };
 
-    ghost invariant = { λ p. AreOneText p.statements.value.items p.contexts p.types p.rules p.vectors p.counts };
+    ghost invariant = { λ p. AreOneText p.statements.value.items p.labels.contexts p.types p.rules p.vectors p.counts p.labels.indexes.items };
 }
 
 /// The statements as contracts see them. They themselves are let go.
@@ -47,7 +47,8 @@ fn seen(statements: Vec<Statement>) -> snapshot::Snapshot<Vec<Statement>>
 ghost use Rattle.std.specs.Prelude.{◌≡◌};
 
 impl Parts {
-    ghost use Rattle.std.specs.Prelude.{◌≡◌, ℕ, List, IfOk, IfErr};
+    ghost use Rattle.std.specs.Prelude.{◌≡◌, ℕ, List, Some, IfOk, IfErr};
+    ghost use Rattle.sm_kinds.specs.Contexts.{type_of};
     ghost use Rattle.sm_policy.specs.Policy.{IsConsistent, label_of, written_at, allowed, audits, decision, allowed_at, audits_at, type_index};
     ghost use Rattle.sm_policy.specs.Breaking.{IfNeverallow, IsBrokenText};
     ghost use Rattle.sm_policy.specs.Counting.{counts_of};
@@ -64,8 +65,8 @@ impl Parts {
         let statements = rules_of(alloc, rules)?;
         let types = Types::build(alloc, &statements)?;
         let rules = Rules::build(alloc, &statements, &types)?;
-        let contexts = labels_of(alloc, &types, contexts)?;
-        let counts = counted(&statements, &types, &contexts);
+        let labels = labels_of(alloc, &types, contexts)?;
+        let counts = counted(&statements, &types, &labels.contexts);
         let statements = seen(statements);
         let matrices = Matrices::compile(alloc, &rules)?;
         refuse_violation(alloc, &types, &rules, &matrices)?;
@@ -76,7 +77,7 @@ impl Parts {
             types,
             rules,
             vectors,
-            contexts,
+            labels,
         })
     }
 
@@ -154,7 +155,24 @@ impl Parts {
     pub fn label(&self, name: &[u8]) -> &Context
         ensures { result.now ≡ label_of self.now name.now }
     {
-        self.contexts.label(name)
+        self.labels.contexts.label(name)
+    }
+
+    /// The label of a name, with the number of its type.
+    #[tactic(auto, unfolding(crate::specs::Policy::label_of))]
+    pub fn labelled(&self, name: &[u8]) -> Label<'_>
+        ensures context { result.context.now ≡ label_of self.now name.now }
+        ensures index { type_index self.now (type_of (label_of self.now name.now)) ≡ Some result.index }
+    {
+        let labels = &self.labels;
+        let place = labels.contexts.place(name);
+        match labels.contexts.entry(place) {
+            Some((_, context)) => Label {
+                context,
+                index: labels.indexes[place as usize],
+            },
+            None => unreachable!(),
+        }
     }
 
     /// The sizes of the policy.

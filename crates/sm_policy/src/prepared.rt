@@ -2,7 +2,7 @@
 
 use crate::counts::Counts;
 use crate::parts::Parts;
-use crate::{Decision, PolicyFault};
+use crate::{Decision, Label, PolicyFault};
 use sm_kinds::{Class, Context, Perms};
 use std::alloc::{AllocError, Global};
 use std::marker::Model;
@@ -36,7 +36,8 @@ impl Drop for Prepared {
 }
 
 impl Prepared {
-    ghost use Rattle.std.specs.Prelude.{◌≡◌, ℕ, List, IfOk, IfErr};
+    ghost use Rattle.std.specs.Prelude.{◌≡◌, ℕ, List, Some, IfOk, IfErr};
+    ghost use Rattle.sm_kinds.specs.Contexts.{type_of};
     ghost use Rattle.sm_policy.specs.Policy.{allowed, audits, decision, allowed_at, audits_at, type_index, label_of, written_at, IsConsistent};
     ghost use Rattle.sm_policy.specs.Breaking.{IfNeverallow, IsBrokenText};
     ghost use Rattle.sm_policy.specs.Counting.{counts_of};
@@ -129,6 +130,14 @@ impl Prepared {
         ensures { result.now ≡ label_of self.now name.now }
     {
         self.parts.label(name)
+    }
+
+    /// The same, with the number of its type: all types in contexts are declared.
+    pub fn labelled(&self, name: &[u8]) -> Label<'_>
+        ensures context { result.context.now ≡ label_of self.now name.now }
+        ensures index { type_index self.now (type_of (label_of self.now name.now)) ≡ Some result.index }
+    {
+        self.parts.labelled(name)
     }
 
     /// What `svcmgr check` tells of the policy.

@@ -1,6 +1,6 @@
 //! Reads the two texts of a policy.
 
-ghost use Rattle.std.specs.Prelude.{◌≡◌, ◌≤◌, List, IfOk, IfErr, OnOk, length, slice_get};
+ghost use Rattle.std.specs.Prelude.{◌≡◌, ◌≤◌, List, IfOk, IfErr, OnOk, length};
 ghost use Rattle.sm_kinds.specs.Reading.{Gives};
 ghost use Rattle.sm_kinds.specs.declared.limits.TheConstants.{MOST_TEXT_BYTES};
 ghost use Rattle.sm_ruletext.specs.declared.statement.Statement.{Statement as TheStatement};
@@ -10,13 +10,11 @@ ghost use Rattle.sm_rules.specs.Access.{IsConsistent};
 ghost use Rattle.sm_rules.specs.Keeping.{RulesOf};
 ghost use Rattle.sm_policy.specs.Preparing as spec;
 ghost use Rattle.sm_policy.specs.Preparing.{is_memory};
-ghost use Rattle.sm_policy.specs.Undeclared.{first_undeclared, undeclared_line};
 ghost use Rattle.sm_policy.specs.Violating.{named_violation};
 ghost use Rattle.sm_policy.specs.Breaking.{IfNeverallow, IsBroken};
 ghost use Rattle.sm_neverallow.specs.Matrices.{AllCompiled};
 
 use crate::{PolicyFault, Violation};
-use sm_contexts::Contexts;
 use sm_kinds::Name;
 use sm_neverallow::{Matrices, first_violation};
 use sm_rules::Rules;
@@ -33,45 +31,6 @@ pub fn rules_of(alloc: Global, text: &[u8]) -> Result<Vec<Statement>, PolicyFaul
 {
     let statements = sm_ruletext::read(alloc, text)?;
     Ok(statements)
-}
-
-/// The line of an entry, if its type isn't declared.
-fn undeclared_line(types: &Types, contexts: &Contexts, i: u32) -> Option<u32>
-    ensures { (policy : List TheStatement) → IsOf policy types.now
-        → result ≡ undeclared_line policy (slice_get contexts.now i) }
-{
-    let (line, context) = contexts.entry(i)?;
-    match types.index(context.type_name()) {
-        Some(_) => None,
-        None => Some(line),
-    }
-}
-
-/// The first entry line whose type isn't declared.
-fn first_undeclared(types: &Types, contexts: &Contexts) -> Option<u32>
-    ensures { (policy : List TheStatement) → IsOf policy types.now
-        → result ≡ first_undeclared policy contexts.now }
-{
-    for i in 0..contexts.count() {
-        if let Some(line) = undeclared_line(types, contexts, i) {
-            return Some(line);
-        }
-    }
-    None
-}
-
-/// The labels of a contexts text.
-#[tactic(auto, unfolding(crate::specs::Preparing::labels_of))]
-pub fn labels_of(alloc: Global, types: &Types, text: &[u8]) -> Result<Contexts, PolicyFault>
-    ensures exact { (policy : List TheStatement) → IsOf policy types.now
-        → Gives is_memory (λ c. c) result (spec.labels_of policy text.now) }
-    ensures other { IfErr result (λ e. IfNeverallow e (λ _. ⊥)) }
-{
-    let contexts = Contexts::read(alloc, text)?;
-    match first_undeclared(types, &contexts) {
-        Some(line) => Err(PolicyFault::UndeclaredLabel(line)),
-        None => Ok(contexts),
-    }
 }
 
 /// The name of a type by its number, empty where there is none.

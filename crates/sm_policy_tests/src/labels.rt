@@ -91,6 +91,11 @@ fn labels(rt: HostRuntime) -> Result<(), Fail> {
             b"default_android_service".as_slice()
         );
     }
+    assert_eq!(rt;
+        (contexts.place(b"activity"), contexts.place(b"phone")),
+        (0, 2)
+    );
+    assert_eq!(rt; (contexts.place(b"*"), contexts.place(b"activit")), (1, 1));
     let (line, context) = contexts.entry(2).ok_or("a third key")?;
     assert_eq!(rt; line, 6);
     assert_eq!(rt; context.type_name(), b"radio".as_slice());

@@ -182,6 +182,23 @@ fn types_by_number(rt: HostRuntime) {
 }
 
 #[test]
+fn labels_with_their_types(rt: HostRuntime) {
+    let prepared = prepared(&rt, rt.alloc(), DEVICE_RULES, DEVICE_LABELS);
+    let activity = prepared.labelled(b"activity");
+    assert_eq!(rt;
+        activity.context.text(),
+        b"u:object_r:activity_service:s0".as_slice()
+    );
+    assert_eq!(rt; activity.index, 4);
+    let other = prepared.labelled(b"phone");
+    assert_eq!(rt;
+        other.context.text(),
+        b"u:object_r:default_android_service:s0".as_slice()
+    );
+    assert_eq!(rt; other.index, 5);
+}
+
+#[test]
 fn self_joins_a_type_to_itself(rt: HostRuntime) {
     let rules =
         b"type a;\ntype b;\nallow { a b } self:binder call;\nallow a { self }:service_manager find;\n\

@@ -309,12 +309,11 @@ impl Manager {
         requires { source.now ≡ process_at (effects_of self.now.book.history) source.now.who }
         ensures { IsRuled (moment_of self.now.book.history) notes.old notes.new ServiceManager perm source.now.who (label_at (effects_of self.now.book.history) name.now) (Some name.now) result }
     {
-        let label = self.state.policy.label(name.bytes());
-        let index = self.state.policy.type_index(label.type_name());
+        let label = self.state.policy.labelled(name.bytes());
         self.needs(
             source,
-            label,
-            index,
+            label.context,
+            Some(label.index),
             Some(name),
             Class::ServiceManager,
             perm,

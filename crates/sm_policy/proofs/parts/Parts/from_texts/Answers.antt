@@ -7,7 +7,7 @@ returns-in_err-statements-clause-broken c =
     other c.from_residual.result c.in_err-statements.field-0.0 (IsBrokenText c.args.rules.now)
     c.from_residual.ensures.1 c.in_err-statements.ensures.other
 
-pub returns-in_err-contexts-clause-broken : goal.returns-in_err-contexts-clause-broken
-returns-in_err-contexts-clause-broken c =
-    other c.from_residual-in_err-contexts.result c.in_err-contexts.field-0.0 (IsBrokenText c.args.rules.now)
-    c.from_residual-in_err-contexts.ensures.1 c.in_err-contexts.ensures.other
+pub returns-in_err-labels-clause-broken : goal.returns-in_err-labels-clause-broken
+returns-in_err-labels-clause-broken c =
+    other c.from_residual-in_err-labels.result c.in_err-labels.field-0.0 (IsBrokenText c.args.rules.now)
+    c.from_residual-in_err-labels.ensures.1 c.in_err-labels.ensures.other
