@@ -46,6 +46,9 @@ impl Notes {
     {
         let Notes { mut records } = self;
         let Notes { records: mut more } = more;
+        if more.is_empty() {
+            return Ok(records);
+        }
         records.append(&mut more)?;
         Ok(records)
     }
@@ -68,6 +71,17 @@ impl Notes {
 
 /// A copy of some records, each of which gets one more owner. `Err`: memory was refused.
 pub fn copies_of(alloc: Global, records: &[Record]) -> Result<Vec<Record>, AllocError>
+    ensures { IfOk result (λ v. v.items ≡ records.now) }
+{
+    if records.is_empty() {
+        return Ok(Vec::new(alloc));
+    }
+    copy_each(alloc, records)
+}
+
+/// The same, where there are records: mostly there are none, and then their room on the stack isn't paid for.
+#[inline(never)]
+fn copy_each(alloc: Global, records: &[Record]) -> Result<Vec<Record>, AllocError>
     ensures { IfOk result (λ v. v.items ≡ records.now) }
 {
     let mut copies = Vec::new(alloc);

@@ -223,6 +223,6 @@ impl Handles {
         ensures absent { IsAbsent self.now.slots node → result ≡ nat_lt (held_in self.now.slots) MOST_HANDLES }
         ensures held { (i : ℕ) → node_of (slot self.now.slots i) ≡ Some node → IsTrue result × (held_in self.now.slots ≤ MOST_HANDLES) }
     {
-        self.index_of(node).is_some() || self.numbers.len() < MOST_HANDLES
+        self.numbers.len() < MOST_HANDLES || self.index_of(node).is_some()
     }
 }

@@ -1,28 +1,13 @@
-use Rattle.std.proofs.Common.{arith, ap, length}
-use Rattle.sm_history.specs.declared.effect.Effect.{Effect}
-use Rattle.sm_core.proofs.Small.{small_version, small_next}
-use Rattle.sm_history.specs.Histories.{effects_of}
-use Rattle.sm_core.proofs.Keeping.{kept_room}
+use Rattle.std.proofs.Common.{refl, rules}
+use Rattle.sm_core.proofs.Keeping.{ready_planned}
 use Rattle.sm_core.proofs.manager.Manager.prepare.Goals as goal
 
-pub reserve-requires-3 : goal.reserve-requires-3
-reserve-requires-3 c =
-    let v = small_version _ _ _ _ c.self.invariant in
-    let n = small_next _ _ _ _ c.self.invariant in
-    let few = c.requires.plan.few in
-    let len = ap (length {A = Effect}) c.as_slice.ensures.value in
-    (omega (arith, v, few, len), omega (arith, n, few, len))
-
-pub invariant_of-self-then-is_err-2 : goal.invariant_of-self-then-is_err-2
-invariant_of-self-then-is_err-2 c =
-    kept_room _ _ _ _ _ _ _ c.self.invariant c.reserve.ensures.same c.reserve-2.ensures.same c.self.invariant.stands
-
-pub invariant_of-self-then-is_err-3 : goal.invariant_of-self-then-is_err-3
-invariant_of-self-then-is_err-3 c =
-    kept_room _ _ _ _ _ _ _ c.self.invariant c.reserve.ensures.same c.reserve-2.ensures.same
-    (c.reserve-3.ensures.stands (effects_of c.self.inside.journal.history) c.self.invariant.stands)
-
-pub invariant_of-self-2 : goal.invariant_of-self-2
-invariant_of-self-2 c =
-    kept_room _ _ _ _ _ _ _ c.self.invariant c.reserve.ensures.same c.reserve-2.ensures.same
-    (c.reserve-3.ensures.stands (effects_of c.self.inside.journal.history) c.self.invariant.stands)
+pub returns-clause-ready : goal.returns-clause-ready
+returns-clause-ready c = (
+  ready_planned c.args.self.now.book c.make_room.new.self c.args.by c.args.turn c.args.event c.args.plan
+      c.args.plan.told c.in-Ok.records c.make_room.ensures.same c.requires.pass c.requires.plan c.requires.plan.told
+      (search rules) (search rules) (search rules),
+  refl,
+  refl,
+  refl,
+)
