@@ -1,19 +1,15 @@
 -- What readers see of a manager crosses to other threads, and threads share it.
-use denote.RattleType.{RattleType}
 use denote.Param.Send as cross
 use denote.Param.Send.{IsSend, IsSync, sendable, recorded_send, recorded_sync, struct_send, struct_sync, enum_send}
 use denote.Param.Send.{enum_sync}
 use denote.Struct.Field as Field
 use denote.Struct.Declared as struct
-use denote.Enum.Declared as enum
 use Rattle.std.proofs.Crossing.{crosses, Arc-send, Arc-sync, Vec-send, Vec-sync}
 use Rattle.std.specs.contracts.alloc.Global as Global
 use Rattle.std.specs.contracts.impls.GlobalAllocator.TheImpl as Heap
 use Rattle.std.specs.contracts.option.Option as Option
 use Rattle.std.specs.contracts.snapshot.Snapshot as Snapshot
 use Rattle.std.specs.contracts.sync.Arc as Arc
-use Rattle.std.specs.contracts.vec.Vec as Vec
-use Rattle.sm_policy.specs.contracts.prepared.Prepared as Prepared
 use Rattle.sm_policy.proofs.Crossing.{prepared_send, prepared_sync}
 use Rattle.sm_history.specs.contracts.by.By as By
 use Rattle.sm_history.specs.contracts.entry.Entry as Entry

@@ -1,6 +1,6 @@
 -- What a query is answered, and the records that it leaves.
-use Rattle.std.proofs.Common.{◌≡◌, ◌⊎◌, inl, inr, ℕ, Bool, true, false, ◌↔◌, List}
-use Rattle.std.proofs.Common.{[], ◌++◌, Some, None, sym, ap, ◌∙◌, if◌then◌else◌}
+use Rattle.std.proofs.Common.{◌≡◌, ◌⊎◌, inl, inr, ℕ, Bool, false, ◌↔◌, List}
+use Rattle.std.proofs.Common.{[], Some, None, sym, ap, ◌∙◌}
 use Rattle.std.specs.Prelude.{IsTrue}
 use Rattle.std.proofs.lemmas.Bool.{true≢false}
 use Rattle.sm_history.specs.declared.by.By.{By}

@@ -39,7 +39,7 @@ use Rattle.sm_core.specs.declared.telling.Telling.{Telling}
 use Rattle.sm_core.specs.Stands.{is_death}
 use Rattle.sm_core.specs.Judging.{Halts, AllPass, wanted}
 use Rattle.sm_history.specs.declared.records.Record.{Record}
-use Rattle.sm_history.specs.Records.{Moment, moment_of, left_by_all}
+use Rattle.sm_history.specs.Records.{moment_of, left_by_all}
 use Rattle.sm_history.specs.Histories.{History, effects_of}
 use Rattle.sm_core.proofs.Stopping.{asked_is}
 use Rattle.sm_core.specs.Telling.{told_checks, gives_of, told_to, free_at, AsBefore}

@@ -16,7 +16,7 @@ use Rattle.sm_history.specs.declared.service.Service.{Service}
 use Rattle.sm_history.specs.declared.stop.Stop.{Stop}
 use Rattle.sm_history.specs.declared.limits.TheConstants.{MOST_WATCHES}
 use Rattle.sm_history.specs.Effects.{Effects}
-use Rattle.sm_history.specs.Clients.{is_live, policy_at}
+use Rattle.sm_history.specs.Clients.{is_live}
 use Rattle.sm_history.specs.Checks.{Check}
 use Rattle.sm_history.specs.Following.{followed}
 use Rattle.sm_history.specs.Holdings.{resolve_at}

@@ -1,10 +1,10 @@
 -- An Unregister, judged part by part.
-use Rattle.std.proofs.Common.{◌≡◌, ℕ, true, List, [], ◌∷◌, Option, refl, ap, sym, ◌∙◌, subst}
+use Rattle.std.proofs.Common.{◌≡◌, ℕ, List, [], ◌∷◌, Option, refl, ap, sym, ◌∙◌, subst}
 use Rattle.std.specs.Prelude.{is_some, not, ◌==◌}
 use Rattle.sm_kinds.specs.declared.number.Node.{Node}
 use Rattle.sm_kinds.specs.declared.number.ObjRef.{ObjRef}
 use Rattle.sm_kinds.specs.declared.number.ObjRef.TheVariants.{Null as NullRef, Own as OwnRef, Handle as HandleRef}
-use Rattle.sm_history.specs.Records.{Moment, left_by_telling}
+use Rattle.sm_history.specs.Records.{Moment}
 use Rattle.sm_history.specs.declared.records.Record.{Record}
 use Rattle.sm_history.specs.declared.event.Event.TheVariants.{Unregister}
 use Rattle.sm_history.specs.declared.effect.Effect.TheVariants.{Removes}

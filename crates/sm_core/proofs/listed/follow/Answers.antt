@@ -1,6 +1,6 @@
 use Rattle.std.proofs.Common.{ℕ, List, ◌∷◌, subst}
 use Rattle.sm_names.specs.Rows.{TracksRows}
-use Rattle.sm_history.specs.declared.effect.Effect.TheVariants.{Adds, Removes, Dies}
+use Rattle.sm_history.specs.declared.effect.Effect.TheVariants.{Adds, Removes}
 use Rattle.sm_core.proofs.listed.follow.Goals as goal
 
 pub returns-in_ok-name-in-Adds-clause-tracks : goal.returns-in_ok-name-in-Adds-clause-tracks

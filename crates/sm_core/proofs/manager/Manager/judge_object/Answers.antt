@@ -1,4 +1,4 @@
-use Rattle.std.proofs.Common.{inr, refl, sym, ap, ◌∙◌, rules}
+use Rattle.std.proofs.Common.{inr, rules}
 use Rattle.sm_core.proofs.manager.Manager.judge_object.Goals as goal
 
 pub returns-then-is_none : goal.returns-then-is_none

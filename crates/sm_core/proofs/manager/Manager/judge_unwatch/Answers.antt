@@ -1,11 +1,5 @@
 use Rattle.std.proofs.Common.{ℕ, List, ap, ◌∙◌, refl, rules, count_by}
-use Rattle.std.specs.List.{list_any}
 use Rattle.sm_history.specs.declared.outcome.Outcome.TheVariants.{Unwatched}
-use Rattle.sm_history.specs.declared.stop.Instead.TheVariants.{Refused}
-use Rattle.sm_history.specs.declared.refusal.Refusal.TheVariants.{Exception}
-use Rattle.sm_history.specs.declared.refusal.Exception.TheVariants.{NothingToUnregister}
-use Rattle.sm_history.specs.Checks.{Wants, to_manager, to_label, calling, transferring, finding}
-use Rattle.sm_history.specs.Clients.{policy_at}
 use Rattle.sm_history.specs.Histories.{effects_of, watch}
 use Rattle.sm_history.specs.Services.{same_watch, watches_at}
 use Rattle.sm_history.specs.Records.{moment_of}

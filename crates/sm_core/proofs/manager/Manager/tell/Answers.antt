@@ -3,7 +3,6 @@ use Rattle.sm_history.specs.declared.delivery.Delivery.{Delivery}
 use Rattle.sm_history.specs.declared.effect.Effect.TheVariants.{Delivers}
 use Rattle.sm_core.specs.Telling.{gives_of}
 use Rattle.sm_core.specs.declared.telling.Telling.{Telling}
-use Rattle.sm_history.specs.Histories.{effects_of}
 use Rattle.sm_core.proofs.TellingOne.{tells, tells_not}
 use Rattle.sm_core.proofs.manager.Manager.tell.Goals as goal
 

@@ -1,4 +1,4 @@
-use Rattle.std.proofs.Common.{◌≡◌, ◌+◌, ◌∷◌, drop, ap, ◌∙◌, rules, suc, length, arith}
+use Rattle.std.proofs.Common.{◌≡◌, ◌+◌, ◌∷◌, drop, ap, ◌∙◌, rules, suc, arith}
 use Rattle.std.proofs.Math.Seq.{drop-cons}
 use Rattle.sm_core.specs.Viewing.{StandPeople}
 use Rattle.sm_core.proofs.Viewing.{goes_on}

@@ -1,4 +1,4 @@
-use Rattle.std.proofs.Common.{◌≡◌, ◌∙◌, ap, sym, subst, List, ℕ}
+use Rattle.std.proofs.Common.{◌≡◌, ◌∙◌, ap, sym, subst, List}
 use Rattle.std.specs.Arc.{arc_value}
 use Rattle.sm_core.specs.Journals.{Written}
 use Rattle.sm_core.specs.Viewing.{Viewed, StandPeople}
