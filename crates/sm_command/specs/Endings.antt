@@ -10,8 +10,8 @@ use Rattle.sm_engine.specs.declared.fault.Fault.{Fault}
 use Rattle.sm_engine.specs.declared.fault.Fault.TheVariants as faults
 use Rattle.sm_script.specs.declared.script_fault.ScriptFault.{ScriptFault}
 use Rattle.sm_script.specs.declared.script_fault.ScriptFault.TheVariants.{Policy, Opening, Engine}
-use Rattle.sm_serve.specs.declared.serve_fault.ServeFault.{ServeFault}
-use Rattle.sm_serve.specs.declared.serve_fault.ServeFault.TheVariants as serving
+use Rattle.sm_engine.specs.declared.serve_fault.ServeFault.{ServeFault}
+use Rattle.sm_engine.specs.declared.serve_fault.ServeFault.TheVariants as serving
 use Rattle.sm_check.specs.Checking.{refused_line}
 use Rattle.sm_command.specs.declared.ending.Ending.{Ending}
 use Rattle.sm_command.specs.declared.ending.Ending.TheVariants.{Memory, File, Script, Serve}

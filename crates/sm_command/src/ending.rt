@@ -6,11 +6,10 @@ ghost use Rattle.sm_command.specs.Endings as spec;
 ghost use Rattle.sm_command.specs.Endings.{Tells};
 
 use sm_check::refused_line;
-use sm_engine::Fault;
+use sm_engine::{Fault, ServeFault};
 use sm_history::{Denial, Refusal};
 use sm_kinds::{Class, Perms, push_access};
 use sm_script::ScriptFault;
-use sm_serve::ServeFault;
 use std::alloc::{AllocError, Global};
 use std::io::{self, ErrorKind};
 

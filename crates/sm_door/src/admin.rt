@@ -11,6 +11,7 @@ use std::marker::Model;
 /// An administrator's token. It can't be copied, and serves the door that made it.
 #[derive(Drop)]
 pub struct Admin<J: Naming> {
+    /// The number of its place. It is read by the invariant alone.
     number: AdminId,
     pub(crate) actor: Actor<J>,
 }
@@ -34,12 +35,5 @@ impl<J: Naming> Admin<J> {
         ensures { result ≡ actor }
     {
         Admin { number, actor }
-    }
-
-    /// The administrator's number, from 0.
-    pub fn number(&self) -> AdminId
-        ensures { self.now.by ≡ TheAdmin result }
-    {
-        self.number
     }
 }

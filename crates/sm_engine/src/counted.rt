@@ -29,14 +29,7 @@ impl<T> Counted<T> {
         }
     }
 
-    /// How many reads and writes were made. At the greatest `u64` the count stays.
-    pub fn calls(&self) -> u64
-        ensures { result ≡ calls_of self.now }
-    {
-        self.calls
-    }
-
-    /// How many reads failed, and how many writes failed or took no byte. At the greatest `u64` the count stays.
+    /// The number of reads that failed, and of writes that failed or took no byte. It saturates at `u64::MAX`.
     pub fn failures(&self) -> u64
         ensures { result ≡ failures_of self.now }
     {

@@ -7,10 +7,12 @@ mod counted;
 mod fault;
 mod machine;
 mod running;
+mod serve_fault;
 mod writing;
 
 pub use counted::Counted;
 pub use fault::Fault;
 pub use machine::Machine;
 pub use running::run;
+pub use serve_fault::ServeFault;
 pub use writing::write_whole;

@@ -86,99 +86,16 @@ fn a_missing_rule_names_both_contexts(rt: HostRuntime) {
 }
 
 #[test]
-fn a_permissive_source_is_said(rt: HostRuntime) {
+fn lines_come_behind_what_is_there_in_their_order(rt: HostRuntime) -> Result<(), Fail> {
     let alloc = rt.alloc();
-    let record = find_missing(&rt, alloc, b"activity", true);
-    let line = line_of(&rt, alloc, &record);
-    assert!(rt; line.ends_with(b" permissive=1\n"));
-}
-
-#[test]
-fn a_rule_of_binder_names_no_service(rt: HostRuntime) {
-    let alloc = rt.alloc();
-    let denial = rule(
-        &rt,
-        alloc,
-        b"system_server",
-        b"untrusted_app",
-        Class::Binder,
-        Perms::CALL,
-    );
-    let record = Record {
-        length: 7,
-        version: 1,
-        denial,
-        permissive: false,
-        who: process(&rt, alloc, 100, 1000, b"u:r:system_server:s0"),
-        target: Some(context(&rt, alloc, b"u:r:untrusted_app:s0")),
-        name: None,
-    };
-    let line = line_of(&rt, alloc, &record);
-    assert_eq!(rt;
-        line.as_slice(),
-        b"journal=7 version=1 avc: denied { call } for pid=100 uid=1000 scontext=u:r:system_server:s0 tcontext=u:r:untrusted_app:s0 tclass=binder permissive=0\n".as_slice()
-    );
-}
-
-#[test]
-fn a_clause_has_no_target(rt: HostRuntime) {
-    let alloc = rt.alloc();
-    let app = app_barred(&rt, alloc, 6);
-    let app_line = line_of(&rt, alloc, &app);
-    assert_eq!(rt;
-        app_line.as_slice(),
-        b"journal=6 version=1 clause: denied app for pid=200 uid=10007 name=activity scontext=u:r:untrusted_app:s0\n".as_slice()
-    );
-    let isolated = Record {
-        length: 4,
-        version: 1,
-        denial: Denial::Isolated(99001),
-        permissive: false,
-        who: process(&rt, alloc, 300, 99001, b"u:r:isolated_app:s0"),
-        target: None,
-        name: Some(name(&rt, alloc, b"activity")),
-    };
-    let isolated_line = line_of(&rt, alloc, &isolated);
-    assert_eq!(rt;
-        isolated_line.as_slice(),
-        b"journal=4 version=1 clause: denied isolated for pid=300 uid=99001 name=activity scontext=u:r:isolated_app:s0\n".as_slice()
-    );
-}
-
-#[test]
-fn a_name_cannot_forge_a_second_line(rt: HostRuntime) {
-    let alloc = rt.alloc();
-    let record = find_missing(&rt, alloc, b"a\njournal=1", false);
-    let line = line_of(&rt, alloc, &record);
-    assert!(rt;
-        line.starts_with(
-            b"journal=5 version=2 avc: denied { find } for pid=200 uid=10007 name=%610a6a6f75726e616c3d31 scontext="
-        )
-    );
-    let ends = line.iter().filter(|byte| **byte == 10).count();
-    assert!(rt; ends == 1);
-}
-
-#[test]
-fn a_line_goes_behind_what_is_there(rt: HostRuntime) -> Result<(), Fail> {
-    let alloc = rt.alloc();
-    let mut out = Vec::from_slice(alloc, b"denials 1\n")?;
-    let record = app_barred(&rt, alloc, 6);
-    push_line(alloc, &mut out, &record)?;
-    assert_eq!(rt;
-        out.as_slice(),
-        b"denials 1\njournal=6 version=1 clause: denied app for pid=200 uid=10007 name=activity scontext=u:r:untrusted_app:s0\n".as_slice()
-    );
-    Ok(())
-}
-
-#[test]
-fn lines_come_in_the_order_of_the_records(rt: HostRuntime) -> Result<(), Fail> {
-    let alloc = rt.alloc();
-    let mut records = Vec::new(alloc);
-    records.push(find_missing(&rt, alloc, b"activity", false))?;
-    records.push(app_barred(&rt, alloc, 6))?;
     let mut out = Vec::from_slice(alloc, b"denials 2\n")?;
+    push_line(
+        alloc,
+        &mut out,
+        &find_missing(&rt, alloc, b"activity", false),
+    )?;
+    let mut records = Vec::new(alloc);
+    records.push(app_barred(&rt, alloc, 6))?;
     push_lines(alloc, &mut out, &records)?;
     assert_eq!(rt;
         out.as_slice(),

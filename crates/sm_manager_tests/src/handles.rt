@@ -72,22 +72,3 @@ fn references_of_a_call(rt: HostRuntime) {
     assert!(rt; others.as_slice() == [1, 2, 3, 1].as_slice());
     assert!(rt; grants.room(7, &nodes) && grants.room(8, &[]));
 }
-
-#[test]
-fn a_full_row(rt: HostRuntime) {
-    let mut grants = Grants::new(rt.alloc());
-    for i in 0..65_536u32 {
-        let _ = give(&rt, &mut grants, 7, object(1, i.reverse_bits()));
-    }
-    assert!(rt; grants.node(7, 65_536) == Some(object(1, 65_535u32.reverse_bits())));
-    assert!(rt; grants.number_for(7, object(2, 1)) == 65_537);
-    assert!(rt; !grants.fits(7, object(2, 1)) && grants.fits(7, object(1, 0)));
-    assert!(rt; give(&rt, &mut grants, 7, object(2, 1)) == 0);
-    let _ = grants.release(7, 40_000);
-    let _ = grants.release(7, 300);
-    assert!(rt; grants.room(7, &[object(2, 1), object(2, 2), object(2, 1)]));
-    assert!(rt; !grants.room(7, &[object(2, 1), object(2, 2), object(2, 3)]));
-    assert!(rt; give(&rt, &mut grants, 7, object(2, 1)) == 300);
-    assert!(rt; give(&rt, &mut grants, 7, object(2, 2)) == 40_000);
-    assert!(rt; give(&rt, &mut grants, 7, object(2, 3)) == 0);
-}

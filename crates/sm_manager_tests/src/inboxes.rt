@@ -70,18 +70,3 @@ fn the_oldest_is_taken_first(rt: HostRuntime) {
     assert!(rt; !inboxes.can_put(8));
     assert!(rt; inboxes.can_put(7));
 }
-
-#[test]
-fn a_full_inbox(rt: HostRuntime) {
-    let mut inboxes = Inboxes::new(rt.alloc());
-    for object in 1..257u32 {
-        assert!(rt; deliver(&rt, &mut inboxes, rt.alloc(), 7, object));
-    }
-    assert!(rt; !inboxes.has_room(7));
-    assert!(rt; inboxes.free(7) == 0);
-    assert!(rt; !deliver(&rt, &mut inboxes, rt.alloc(), 7, 257));
-    assert!(rt; deliver(&rt, &mut inboxes, rt.alloc(), 8, 1));
-    assert!(rt; taken(&mut inboxes, 7) == 1);
-    assert!(rt; deliver(&rt, &mut inboxes, rt.alloc(), 7, 257));
-    assert!(rt; oldest(&inboxes, 7) == 2);
-}

@@ -20,6 +20,8 @@ mod manager_desk;
 #[cfg(test)]
 mod names;
 #[cfg(test)]
+mod notices;
+#[cfg(test)]
 mod turns;
 #[cfg(test)]
 mod views;

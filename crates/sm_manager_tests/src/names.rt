@@ -60,15 +60,6 @@ fn object_at(names: &Names, name: &[u8]) -> Option<u32> {
     names.get(name).map(|s| s.node.object)
 }
 
-fn digit(n: u32) -> u8 {
-    b'0' + (n % 10) as u8
-}
-
-/// A name of four digits.
-fn numbered(n: u32) -> [u8; 4] {
-    [digit(n / 1000), digit(n / 100), digit(n / 10), digit(n)]
-}
-
 #[test]
 fn services_stand_under_their_names(rt: HostRuntime) {
     let mut names = Names::new(rt.alloc());
@@ -121,22 +112,4 @@ fn a_watch_made_twice_is_there_twice(rt: HostRuntime) {
     assert_eq!(rt; names.watchers(b"power").len(), 1);
     names.forget(8);
     assert_eq!(rt; names.watches(), 0);
-}
-
-#[test]
-fn a_full_table_lists_its_names_in_order(rt: HostRuntime) {
-    let mut names = Names::new(rt.alloc());
-    for n in 0..4096u32 {
-        let name = numbered(4095 - n);
-        assert!(rt; names.has_room(&name));
-        add(&rt, &mut names, rt.alloc(), &name, service(1, n, 1));
-    }
-    assert!(rt; !names.has_room(b"power"));
-    assert!(rt; names.has_room(b"0007"));
-    let found = listed(&rt, &names, rt.alloc(), 1);
-    assert_eq!(rt; found.len(), 4096);
-    for (n, name) in found.iter().enumerate() {
-        assert!(rt; n < 4096 && name.bytes() == numbered(n as u32).as_slice());
-    }
-    assert_eq!(rt; object_at(&names, b"0007"), Some(4088));
 }

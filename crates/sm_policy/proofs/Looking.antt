@@ -1,6 +1,6 @@
 -- What is decided of types by their numbers, and of names that aren't declared.
-use Rattle.std.proofs.Common.{inl, inr, ◌≡◌, ℕ, ◌<◌, ◌≤◌, Bool, true, false, not, ◌&&◌, ◌||◌, ltb, List, [], ◌∷◌}
-use Rattle.std.proofs.Common.{length, Option, Some, None, is_some, refl, sym, ap, subst, ◌∙◌, arith, true≢false}
+use Rattle.std.proofs.Common.{inl, inr, ◌≡◌, ℕ, ◌<◌, ◌≤◌, Bool, true, false, ◌&&◌, ◌||◌, ltb, List, [], ◌∷◌}
+use Rattle.std.proofs.Common.{length, Some, None, is_some, refl, sym, ap, subst, ◌∙◌, arith, true≢false}
 use Rattle.std.specs.Prelude.{position, slice_get}
 use Rattle.std.specs.List.{list_any}
 use Rattle.std.specs.Str.{bytes_eq}
@@ -138,23 +138,6 @@ pub at_is : (policy : Policy) (names : List Name) (tables : Tables) (s t : ℕ) 
     → result ≡ ((ltb s (length (types policy)) && ltb t (length (types policy)))
     && allowed policy (at (types policy) s) (at (types policy) t) class perm)
 at_is policy names tables s t class perm result named of says past_s past_t =
-    rw (← named) (elim (cases_lt s (length names)) [
-      | inl hs ↦ elim (cases_lt t (length names)) [
-        | inl ht ↦ rw (lt-ltb s (length names) hs, lt-ltb t (length names) ht) (says hs ht)
-        | inr ht ↦ (let past : tables.count ≤ t = omega (arith, of.count) in
-            rw (past_t past, lt-ltb s (length names) hs, le-ltb t (length names) ht) refl)
-      ]
-      | inr hs ↦ (let past : tables.count ≤ s = omega (arith, of.count) in
-          rw (past_s past, le-ltb s (length names) hs) refl)
-    ])
-
-pub audited_at_is : (policy : Policy) (names : List Name) (tables : Tables) (s t : ℕ) (class : Class) (perm : Perms)
-    (result : Bool) → names ≡ types policy → TablesOf policy names tables
-    → (s < length names → t < length names → result ≡ audits policy (at names s) (at names t) class perm)
-    → (tables.count ≤ s → result ≡ true) → (tables.count ≤ t → result ≡ true)
-    → result ≡ (not (ltb s (length (types policy)) && ltb t (length (types policy)))
-    || audits policy (at (types policy) s) (at (types policy) t) class perm)
-audited_at_is policy names tables s t class perm result named of says past_s past_t =
     rw (← named) (elim (cases_lt s (length names)) [
       | inl hs ↦ elim (cases_lt t (length names)) [
         | inl ht ↦ rw (lt-ltb s (length names) hs, lt-ltb t (length names) ht) (says hs ht)

@@ -64,12 +64,6 @@ allowed_at policy source target class perm =
     (nat_lt source (length (types policy.statements)) && nat_lt target (length (types policy.statements)))
     && allowed policy (at (types policy.statements) source) (at (types policy.statements) target) class perm
 
--- The same as `audits` for the types of these numbers; all is audited where there is no such type.
-abbrev pub audits_at : Policy → ℕ → ℕ → Class → Perms → Bool
-audits_at policy source target class perm =
-    not (nat_lt source (length (types policy.statements)) && nat_lt target (length (types policy.statements)))
-    || audits policy (at (types policy.statements) source) (at (types policy.statements) target) class perm
-
 -- The context of the services of a name.
 unfoldable pub label_of : Policy → List ℕ → List ℕ
 label_of policy name = unwrap_or (label policy.entries name) []

@@ -49,7 +49,7 @@ ghost use Rattle.std.specs.Prelude.{◌≡◌};
 impl Parts {
     ghost use Rattle.std.specs.Prelude.{◌≡◌, ℕ, List, Some, IfOk, IfErr};
     ghost use Rattle.sm_kinds.specs.Contexts.{type_of};
-    ghost use Rattle.sm_policy.specs.Policy.{IsConsistent, label_of, written_at, allowed, audits, decision, allowed_at, audits_at, type_index};
+    ghost use Rattle.sm_policy.specs.Policy.{IsConsistent, label_of, written_at, decision, allowed_at, type_index};
     ghost use Rattle.sm_policy.specs.Breaking.{IfNeverallow, IsBrokenText};
     ghost use Rattle.sm_policy.specs.Counting.{counts_of};
     ghost use Rattle.sm_kinds.specs.Reading.{Gives};
@@ -93,13 +93,6 @@ impl Parts {
         ensures { result ≡ allowed_at self.now source target class perm }
     {
         self.vectors.allows(source, target, class, perm)
-    }
-
-    /// Whether a check of the permission on the types of these numbers leaves a record.
-    pub fn audits_at(&self, source: u16, target: u16, class: Class, perm: Perms) -> bool
-        ensures { result ≡ audits_at self.now source target class perm }
-    {
-        self.vectors.audits(source, target, class, perm)
     }
 
     /// The decision on types that may have a number.

@@ -38,7 +38,7 @@ impl Drop for Prepared {
 impl Prepared {
     ghost use Rattle.std.specs.Prelude.{◌≡◌, ℕ, List, Some, IfOk, IfErr};
     ghost use Rattle.sm_kinds.specs.Contexts.{type_of};
-    ghost use Rattle.sm_policy.specs.Policy.{allowed, audits, decision, allowed_at, audits_at, type_index, label_of, written_at, IsConsistent};
+    ghost use Rattle.sm_policy.specs.Policy.{allowed, audits, decision, allowed_at, type_index, label_of, written_at, IsConsistent};
     ghost use Rattle.sm_policy.specs.Breaking.{IfNeverallow, IsBrokenText};
     ghost use Rattle.sm_policy.specs.Counting.{counts_of};
     ghost use Rattle.sm_kinds.specs.Reading.{Gives};
@@ -80,9 +80,8 @@ impl Prepared {
         self.parts.decide(source, target, class, perm).audited
     }
 
-    /// The number of a type, by which `allows_at`, `audits_at` and `decide_at` ask: 0 for the first that is
-    /// declared. `None`: the rule text declares no type of that name. Another policy may give the type another
-    /// number.
+    /// The index of a type, by which `allows_at` and `decide_at` ask: 0 for the first that is declared. `None` if the
+    /// rule text declares no type of that name. Another policy may give the type another index.
     pub fn type_index(&self, name: &[u8]) -> Option<u16>
         ensures { result ≡ type_index self.now name.now }
     {
@@ -96,15 +95,9 @@ impl Prepared {
         self.parts.allows_at(source, target, class, perm)
     }
 
-    /// The same as `audits` for the types of these numbers. `true` where there is no type of such a number.
-    pub fn audits_at(&self, source: u16, target: u16, class: Class, perm: Perms) -> bool
-        ensures { result ≡ audits_at self.now source target class perm }
-    {
-        self.parts.audits_at(source, target, class, perm)
-    }
-
-    /// What `allows` and `audits` say of two types whose `type_index` is `source` and `target`, in one look where an
-    /// allow rule gives the permission. Where a type isn't declared, nothing passes, and all leaves a record.
+    /// The decision on two types whose `type_index` is `source` and `target`: whether the access is allowed, and
+    /// whether it is audited. An access is audited if no allow rule grants it and no dontaudit rule covers it. Where
+    /// an index is `None`, nothing is allowed and everything is audited.
     pub fn decide_at(
         &self,
         source: Option<u16>,

@@ -1,6 +1,6 @@
 //! A policy in force.
 
-use crate::{Decision, Prepared};
+use crate::Prepared;
 use sm_kinds::{Class, Context, Perms};
 use std::marker::Model;
 
@@ -20,9 +20,9 @@ impl Model for Snapshot {
 }
 
 impl Snapshot {
-    ghost use Rattle.std.specs.Prelude.{◌≡◌, ℕ, List};
+    ghost use Rattle.std.specs.Prelude.{◌≡◌};
     ghost use Rattle.sm_kinds.specs.Contexts.{type_of};
-    ghost use Rattle.sm_policy.specs.Policy.{allowed, audits, decision, allowed_at, audits_at, type_index, label_of, written_at};
+    ghost use Rattle.sm_policy.specs.Policy.{allowed, audits, allowed_at, type_index, label_of, written_at};
 
     /// A policy with its version.
     pub fn new(prepared: Prepared, version: u64) -> Snapshot
@@ -81,28 +81,6 @@ impl Snapshot {
         ensures { result ≡ allowed_at self.now.policy source target class perm }
     {
         self.prepared.allows_at(source, target, class, perm)
-    }
-
-    /// The same as `audits` for the types of these numbers in this policy. `true` where there is no type of such a
-    /// number.
-    pub fn audits_at(&self, source: u16, target: u16, class: Class, perm: Perms) -> bool
-        ensures { result ≡ audits_at self.now.policy source target class perm }
-    {
-        self.prepared.audits_at(source, target, class, perm)
-    }
-
-    /// What `allows` and `audits` say of two types whose `type_index` is `source` and `target`.
-    pub fn decide_at(
-        &self,
-        source: Option<u16>,
-        target: Option<u16>,
-        class: Class,
-        perm: Perms,
-    ) -> Decision
-        ensures { (s t : List ℕ) → source ≡ type_index self.now.policy s → target ≡ type_index self.now.policy t
-            → result ≡ decision self.now.policy s t class perm }
-    {
-        self.prepared.decide_at(source, target, class, perm)
     }
 
     /// The line of the first allow rule that gives it.

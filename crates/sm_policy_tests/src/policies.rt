@@ -1,10 +1,12 @@
 //! Policies from their two texts: what is refused, what is counted, who may do what.
 
+use sm_contexts::ContextsFault;
 use sm_kinds::{Class, Perms};
 use sm_policy::*;
 use sm_rules::{PERM_COUNT, class_at, perm_at, written_plainly};
-use sm_ruletext::{Statement, read};
+use sm_ruletext::{RuleTextFault, Statement, read};
 use sm_samples::{DEVICE_LABELS, DEVICE_RULES};
+use sm_types::TypesFault;
 use std::alloc::{AllocError, Global};
 use std::process::Abort;
 use std::test::*;
@@ -104,6 +106,31 @@ fn refusals(rt: HostRuntime) -> Result<(), Fail> {
     Ok(())
 }
 
+// Texts over their limits are made in the tests of each reader.
+#[test]
+fn words_for_texts_over_their_limits(rt: HostRuntime) -> Result<(), Fail> {
+    let cases: [(PolicyFault, &[u8]); 4] = [
+        (
+            PolicyFault::Rules(RuleTextFault::TooLarge),
+            b"rules: too large",
+        ),
+        (
+            PolicyFault::Rules(RuleTextFault::TooMany),
+            b"rules: too many",
+        ),
+        (PolicyFault::Types(TypesFault::TooMany), b"rules: too many"),
+        (
+            PolicyFault::Contexts(ContextsFault::TooLarge),
+            b"contexts: too large",
+        ),
+    ];
+    for (fault, expected) in &cases {
+        let text = refused_text(rt.alloc(), fault)?;
+        assert_eq!(rt; text.as_slice(), *expected);
+    }
+    Ok(())
+}
+
 #[test]
 fn violations(rt: HostRuntime) -> Result<(), Fail> {
     let cases: [(&[u8], &[u8]); 2] = [
@@ -198,26 +225,40 @@ fn labels_with_their_types(rt: HostRuntime) {
     assert_eq!(rt; other.index, 5);
 }
 
+/// What a policy decides of two types, by their names: whether the access is allowed, and whether it is audited.
+fn decided(
+    prepared: &Prepared,
+    source: &[u8],
+    target: &[u8],
+    class: Class,
+    perm: Perms,
+) -> (bool, bool) {
+    let source = prepared.type_index(source);
+    let target = prepared.type_index(target);
+    let decision = prepared.decide_at(source, target, class, perm);
+    (decision.allowed, decision.audited)
+}
+
 #[test]
 fn self_joins_a_type_to_itself(rt: HostRuntime) {
     let rules =
         b"type a;\ntype b;\nallow { a b } self:binder call;\nallow a { self }:service_manager find;\n\
         allow b { self a }:binder transfer;\n";
     let prepared = prepared(&rt, rt.alloc(), rules, b"* u:r:a\n");
-    let of = |source, target| {
+    let of = |source: &[u8], target: &[u8]| {
         (
-            prepared.allows_at(source, target, Class::Binder, Perms::CALL),
-            prepared.allows_at(source, target, Class::ServiceManager, Perms::FIND),
-            prepared.allows_at(source, target, Class::Binder, Perms::TRANSFER),
+            prepared.allows(source, target, Class::Binder, Perms::CALL),
+            prepared.allows(source, target, Class::ServiceManager, Perms::FIND),
+            prepared.allows(source, target, Class::Binder, Perms::TRANSFER),
         )
     };
-    assert_eq!(rt; of(0, 0), (true, true, false));
-    assert_eq!(rt; of(0, 1), (false, false, false));
-    assert_eq!(rt; of(1, 0), (false, false, true));
-    assert_eq!(rt; of(1, 1), (true, false, true));
+    assert_eq!(rt; of(b"a", b"a"), (true, true, false));
+    assert_eq!(rt; of(b"a", b"b"), (false, false, false));
+    assert_eq!(rt; of(b"b", b"a"), (false, false, true));
+    assert_eq!(rt; of(b"b", b"b"), (true, false, true));
 }
 
-// Types 0 to 2 are a, b and c. No neverallow rule is held against what a permissive type may do.
+// No neverallow rule is held against what a permissive type may do.
 const PERMISSIVE_RULES: &[u8] = b"type a;\ntype b;\ntype c;\npermissive b;\npermissive b;\n\
     allow a b:binder call;\nneverallow b a:binder call;\ndontaudit * self:binder call;\n\
     dontaudit a c:{ binder service_manager } { call find };\n";
@@ -225,54 +266,33 @@ const PERMISSIVE_RULES: &[u8] = b"type a;\ntype b;\ntype c;\npermissive b;\nperm
 #[test]
 fn permissive_and_dontaudit(rt: HostRuntime) {
     let prepared = prepared(&rt, rt.alloc(), PERMISSIVE_RULES, b"* u:r:a\n");
-    let of = |source, target| {
-        (
-            prepared.allows_at(source, target, Class::Binder, Perms::CALL),
-            prepared.audits_at(source, target, Class::Binder, Perms::CALL),
-        )
-    };
-    assert_eq!(rt; of(0, 1), (true, false));
-    assert_eq!(rt; of(0, 0), (false, false));
-    assert_eq!(rt; of(0, 2), (false, false));
-    assert_eq!(rt; of(1, 0), (true, true));
-    assert_eq!(rt; of(1, 1), (true, false));
-    assert_eq!(rt; of(2, 0), (false, true));
-    assert_eq!(rt; of(1, 3), (false, true));
-    assert_eq!(rt; of(3, 1), (false, true));
-}
-
-#[test]
-fn permissive_and_dontaudit_by_name(rt: HostRuntime) {
-    let prepared = prepared(&rt, rt.alloc(), PERMISSIVE_RULES, b"* u:r:a\n");
+    let calls: [(&[u8], &[u8], (bool, bool)); 8] = [
+        (b"a", b"b", (true, false)),
+        (b"a", b"a", (false, false)),
+        (b"a", b"c", (false, false)),
+        (b"b", b"a", (true, true)),
+        (b"b", b"b", (true, false)),
+        (b"c", b"a", (false, true)),
+        // Neither is declared.
+        (b"b", b"x", (false, true)),
+        (b"x", b"b", (false, true)),
+    ];
+    for (source, target, wanted) in calls {
+        let decided = decided(&prepared, source, target, Class::Binder, Perms::CALL);
+        assert_eq!(rt; decided, wanted);
+    }
+    assert_eq!(rt; prepared.why(b"b", b"a", Class::Binder, Perms::CALL), None);
     let snapshot = Snapshot::new(prepared, 1);
-    let of = |source: &[u8], target: &[u8], class, perm| {
+    let of = |source: &[u8], target: &[u8], perm| {
         (
-            snapshot.allows(source, target, class, perm),
-            snapshot.audits(source, target, class, perm),
+            snapshot.allows(source, target, Class::ServiceManager, perm),
+            snapshot.audits(source, target, Class::ServiceManager, perm),
         )
     };
-    let manages = Class::ServiceManager;
-    assert_eq!(rt; of(b"a", b"c", manages, Perms::FIND), (false, false));
-    assert_eq!(rt; of(b"b", b"c", manages, Perms::FIND), (true, true));
-    assert_eq!(rt; of(b"b", b"x", manages, Perms::FIND), (false, true));
-    assert_eq!(rt; of(b"x", b"b", manages, Perms::FIND), (false, true));
+    assert_eq!(rt; of(b"a", b"c", Perms::FIND), (false, false));
+    assert_eq!(rt; of(b"b", b"c", Perms::FIND), (true, true));
     // A permission of the other class is none of this one.
-    assert_eq!(rt; of(b"b", b"c", manages, Perms::CALL), (false, true));
-    assert_eq!(rt; snapshot.why(b"b", b"a", Class::Binder, Perms::CALL), None);
-}
-
-#[test]
-fn decisions(rt: HostRuntime) {
-    let prepared = prepared(&rt, rt.alloc(), PERMISSIVE_RULES, b"* u:r:a\n");
-    let snapshot = Snapshot::new(prepared, 1);
-    let of = |source, target| {
-        let decision = snapshot.decide_at(source, target, Class::Binder, Perms::CALL);
-        (decision.allowed, decision.audited)
-    };
-    assert_eq!(rt; of(Some(0), Some(1)), (true, false));
-    assert_eq!(rt; of(Some(1), Some(0)), (true, true));
-    assert_eq!(rt; of(Some(1), None), (false, true));
-    assert_eq!(rt; of(None, Some(1)), (false, true));
+    assert_eq!(rt; of(b"b", b"c", Perms::CALL), (false, true));
 }
 
 fn letter(n: u32) -> u8 {
@@ -343,9 +363,8 @@ fn agree(prepared: &Prepared, statements: &[Statement], source: u32, target: u32
             class,
             perm,
         );
-        let s = (source % 24) as u16;
-        let t = (target % 24) as u16;
-        if prepared.allows_at(s, t, class, perm) != written.is_some() {
+        let (allowed, _) = decided(prepared, &[letter(source)], &[letter(target)], class, perm);
+        if allowed != written.is_some() {
             return false;
         }
     }

@@ -5,6 +5,7 @@ use sm_neverallow::{Matrices, Violation, first_violation};
 use sm_rules::{Rules, RulesFault, written_plainly};
 use sm_ruletext::read;
 use sm_types::Types;
+use sm_vectors::Vectors;
 use std::alloc::Global;
 use std::process::Abort;
 use std::test::*;
@@ -61,6 +62,7 @@ fn faults(rt: HostRuntime) {
     );
 }
 
+// Rules and vectors are asked by the indexes of types; there is no third one.
 #[test]
 fn permissive_and_silenced(rt: HostRuntime) {
     let text = b"type a;\ntype b;\npermissive a;\ndontaudit b self:binder call;\n";
@@ -73,7 +75,21 @@ fn permissive_and_silenced(rt: HostRuntime) {
     let of = |source, target| rules.silenced(source, target, Class::Binder, Perms::CALL);
     assert!(rt; of(1, 1) && !of(1, 0) && !of(0, 0) && !of(2, 2));
     assert!(rt; !rules.silenced(1, 1, Class::ServiceManager, Perms::CALL));
-    assert_eq!(rt; rules.count(), 0);
+    let Ok(matrices) = Matrices::compile(rt.alloc(), &rules) else {
+        panic!(rt; "memory");
+    };
+    let vectors = Vectors::compile(rt.alloc(), &rules, &matrices);
+    let vectors = vectors.ok().expect(&rt, "vectors");
+    let of = |source, target| {
+        (
+            vectors.allows(source, target, Class::Binder, Perms::CALL),
+            vectors.audits(source, target, Class::Binder, Perms::CALL),
+        )
+    };
+    assert_eq!(rt; of(0, 1), (true, true));
+    assert_eq!(rt; of(1, 1), (false, false));
+    assert_eq!(rt; of(0, 2), (false, true));
+    assert_eq!(rt; of(2, 0), (false, true));
 }
 
 fn line(
@@ -150,24 +166,6 @@ fn lines(rt: HostRuntime) {
     // The attribute is given behind the rule that names it.
     let later = b"attribute d;\ntype a;\nallow d d:binder call;\ntypeattribute a d;\n";
     assert_eq!(rt; line(later, b"a", b"a", Class::Binder, Perms(16)), Some(3));
-}
-
-#[test]
-fn own_pairs(rt: HostRuntime) {
-    let text = b"type a;\ntype b;\nallow { a b } self:binder call;\n";
-    let line = |source: &[u8], target: &[u8]| {
-        line(
-            &rt,
-            rt.alloc(),
-            text,
-            (source, target),
-            Class::Binder,
-            Perms(16),
-        )
-    };
-    assert_eq!(rt; line(b"a", b"a"), Some(3));
-    assert_eq!(rt; line(b"b", b"b"), Some(3));
-    assert_eq!(rt; line(b"a", b"b"), None);
 }
 
 /// A source, a target, a class and a permission, behind a letter that stands for them.
@@ -385,8 +383,7 @@ fn violations(rt: HostRuntime) -> Result<(), Fail> {
     Ok(())
 }
 
-/// How many types the texts of the following tests declare: eight groups of eight, and a part of
-/// one more.
+/// The number of types in the text of the test below: eight groups of eight, and a part of one more.
 const TYPES: u32 = 70;
 
 // The types t0, t1 and so on, a line for each.
@@ -409,64 +406,7 @@ fn call(never_line: u32, allow_line: u32, source: u16, target: u16) -> Option<Vi
     })
 }
 
-#[test]
-fn many_allow_rules(rt: HostRuntime) -> Result<(), Fail> {
-    let alloc = rt.alloc();
-    let mut text = numbered(alloc)?;
-    for i in 0..20 {
-        let rule = format!(in alloc; "allow {{ * -t{i} }} t{i}:binder call;\n")?;
-        text.extend_from_slice(rule.as_bytes())?;
-    }
-    // Rules at both ends of each eight, and the last one.
-    let rules: [(u32, u16); 8] = [
-        (71, 0),
-        (78, 7),
-        (79, 8),
-        (80, 9),
-        (86, 15),
-        (87, 16),
-        (88, 17),
-        (90, 19),
-    ];
-    for (allow_line, i) in rules {
-        let mut other = text.clone()?;
-        let never = format!(in alloc; "neverallow t69 t{i}:binder call;\n")?;
-        other.extend_from_slice(never.as_bytes())?;
-        assert_eq!(rt; violation(&rt, alloc, &other), call(91, allow_line, 69, i));
-        let mut own = text.clone()?;
-        let never = format!(in alloc; "neverallow t{i} {{ t{i} t20 t69 }}:binder call;\n")?;
-        own.extend_from_slice(never.as_bytes())?;
-        assert_eq!(rt; violation(&rt, alloc, &own), None);
-    }
-    Ok(())
-}
-
-#[test]
-fn many_allow_rules_with_self(rt: HostRuntime) -> Result<(), Fail> {
-    let alloc = rt.alloc();
-    let mut text = numbered(alloc)?;
-    for _ in 0..8 {
-        text.extend_from_slice(b"allow { * -t0 } t1:binder call;\n")?;
-    }
-    text.extend_from_slice(b"allow { * -t2 } self:binder call;\nallow t68 self:binder call;\n")?;
-    let cases: [(&[u8], Option<Violation>); 6] = [
-        (b"neverallow t69 t69:binder call;\n", call(81, 79, 69, 69)),
-        (b"neverallow * self:binder call;\n", call(81, 71, 1, 1)),
-        (b"neverallow t0 t0:binder call;\n", call(81, 79, 0, 0)),
-        (b"neverallow t2 t2:binder call;\n", None),
-        (b"neverallow t2 self:binder call;\n", None),
-        (b"neverallow * { t68 -t68 }:binder call;\n", None),
-    ];
-    for (never, wanted) in cases {
-        let mut text = text.clone()?;
-        text.extend_from_slice(never)?;
-        assert_eq!(rt; violation(&rt, alloc, &text), wanted);
-    }
-    Ok(())
-}
-
-/// How many neverallow rules the texts of the following tests have, so many that they are tested
-/// by groups of sources.
+/// The number of neverallow rules in it: enough for them to be checked by groups of sources.
 const NEVERS: u32 = 220;
 
 // Allow rules, and neverallow rules that are all the same but for two, each behind its place.
@@ -490,35 +430,6 @@ fn with_nevers(
         text.extend_from_slice(never)?;
     }
     Ok(text)
-}
-
-#[test]
-fn many_neverallow_rules(rt: HostRuntime) -> Result<(), Fail> {
-    let alloc = rt.alloc();
-    // A source in each group, the last of which is not whole.
-    for source in [0u16, 7, 8, 31, 32, 63, 64, 69] {
-        let allow = format!(in alloc; "allow t{source} t5:binder call;\n")?;
-        let same = format!(in alloc; "neverallow {{ * -t{source} }} *:binder call;\n")?;
-        let never = format!(in alloc; "neverallow {{ t{source} t1 }} {{ t5 t6 }}:binder call;\n")?;
-        let far = format!(in alloc; "neverallow t{source} {{ * -t5 }}:binder call;\n")?;
-        let text = with_nevers(
-            alloc,
-            allow.as_bytes(),
-            same.as_bytes(),
-            (40, far.as_bytes()),
-            (149, never.as_bytes()),
-        )?;
-        assert_eq!(rt; violation(&rt, alloc, &text), call(221, 71, source, 5));
-        let text = with_nevers(
-            alloc,
-            allow.as_bytes(),
-            same.as_bytes(),
-            (40, far.as_bytes()),
-            (149, same.as_bytes()),
-        )?;
-        assert_eq!(rt; violation(&rt, alloc, &text), None);
-    }
-    Ok(())
 }
 
 #[test]

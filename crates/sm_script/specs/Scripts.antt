@@ -1,7 +1,6 @@
 -- What a script's run leaves.
-use Rattle.std.specs.Prelude.{◌≡◌, ◌⊎◌, ℕ, List, [], false, Option, Result, Ok, Err, codes}
+use Rattle.std.specs.Prelude.{◌≡◌, ◌⊎◌, ℕ, List, [], false, Option, Result, Ok, Err}
 use Rattle.sm_kinds.specs.declared.class.Class.TheVariants.{Binder}
-use Rattle.sm_kinds.specs.declared.identity.Identity.{Identity}
 use Rattle.sm_kinds.specs.Contexts.{type_of}
 use Rattle.sm_policy.specs.Policy.{Policy, allowed}
 use Rattle.sm_kinds.specs.Reading.{Fails}
@@ -11,17 +10,13 @@ use Rattle.sm_history.specs.declared.refusal.Refusal.TheVariants.{Memory}
 use Rattle.sm_history.specs.Checks.{managing}
 use Rattle.sm_history.specs.Lawful.{MayOpen}
 use Rattle.sm_history.specs.Books.{Book}
-use Rattle.sm_core.specs.Opening.{opened, opening_denial}
+use Rattle.sm_core.specs.Opening.{opened, opening_denial, the_manager}
 use Rattle.sm_engine.specs.declared.fault.Fault.{Fault}
 use Rattle.sm_engine.specs.Running.{Served, never}
 use Rattle.sm_wire.specs.declared.kind.Kind.TheVariants.{Script}
 use Rattle.sm_script.specs.declared.script_fault.ScriptFault.{ScriptFault}
 use Rattle.sm_script.specs.declared.script_fault.ScriptFault.TheVariants.{Policy as PolicyRefused, Opening, Engine}
 use Rattle.sm_script.specs.Answering.{AnswersItem, Recorded}
-
--- the identity of a script's manager
-abbrev pub the_manager : Identity
-the_manager = record { pid = 1; uid = 1000; context = codes "u:r:servicemanager:s0" }
 
 -- a manager that was just opened
 abbrev pub opened_manager : ℕ → Policy → Book

@@ -8,5 +8,5 @@ mod running;
 mod script_fault;
 
 pub use manager_script::Script;
-pub use running::{manager_identity, run_script};
+pub use running::run_script;
 pub use script_fault::ScriptFault;

@@ -4,17 +4,18 @@ ghost use Rattle.std.specs.Prelude.{◌≡◌, ◌<◌, ◌≤◌, ◌+◌, [], 
 ghost use Rattle.std.specs.Io.KnownBytes.{IsAtEnd};
 ghost use Rattle.sm_history.specs.Lawful.{MayOpen};
 ghost use Rattle.sm_engine.specs.Counts.{failures_of, calls_of, inner_of, greatest};
-ghost use Rattle.sm_script.specs.Scripts.{the_manager, opened_manager, MayNotOpen, Opens, NotRun, RunsScript, IfNotRun};
+ghost use Rattle.sm_core.specs.Opening.{the_manager};
+ghost use Rattle.sm_script.specs.Scripts.{opened_manager, MayNotOpen, Opens, NotRun, RunsScript, IfNotRun};
 
 use crate::manager_script::Script;
 use crate::script_fault::ScriptFault;
-use sm_core::Manager;
+use sm_core::{Manager, manager_identity};
 use sm_engine::{Counted, Fault, run};
 use sm_history::Refusal;
-use sm_kinds::{Context, ContextError, Identity, Places};
+use sm_kinds::Places;
 use sm_policy::Prepared;
 use sm_wire::Kind;
-use std::alloc::{AllocError, Global};
+use std::alloc::Global;
 use std::io::{Read, Write};
 
 /// Runs a script under the policy of these texts: answers the requests that come from the reader until its end, a
@@ -85,22 +86,5 @@ fn opened_manager(alloc: Global, policy: Prepared, places: Places) -> Result<Man
     match manager_identity(alloc) {
         Ok(who) => Manager::open(alloc, who, policy, places),
         Err(_) => Err(Refusal::Memory),
-    }
-}
-
-/// The identity of the manager of a run or a server: process 1 with the user number of the system, in servicemanager's
-/// domain.
-#[tactic(auto, unfolding(sm_kinds::specs::Contexts::is_context))]
-pub fn manager_identity(alloc: Global) -> Result<Identity, AllocError>
-    ensures { IfOk result (λ who. who ≡ the_manager) }
-{
-    match Context::read(alloc, b"u:r:servicemanager:s0") {
-        Ok(context) => Ok(Identity {
-            pid: 1,
-            uid: 1000,
-            context,
-        }),
-        Err(ContextError::Memory) => Err(AllocError),
-        Err(ContextError::BadContext) => unreachable!(),
     }
 }

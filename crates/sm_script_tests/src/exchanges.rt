@@ -33,19 +33,6 @@ const REFERENCES_OF_A_CALL: Talk = &[
     ("1 release 1", "failed bad-handle"),
 ];
 
-const A_CALL_THAT_THE_POLICY_DENIES: Talk = &[
-    ("hello 100 1000 u:r:system_server:s0", "client 1"),
-    ("1 add activity o1 0 8", "ok"),
-    ("hello 200 10007 u:r:untrusted_app:s0", "client 2"),
-    ("2 get activity", "handle 1"),
-    ("2 call 1 00 o5 o5", "ok"),
-    ("1 take", "call o1 200 10007 00 h1 h1"),
-    (
-        "1 call 1 00",
-        "failed denied system_server untrusted_app binder call",
-    ),
-];
-
 // The number of a handle that was given back is that of the next new object.
 const NUMBERS_ARE_USED_AGAIN: Talk = &[
     ("hello 100 1000 u:r:system_server:s0", "client 1"),
@@ -192,7 +179,6 @@ fn exchanges(rt: HostRuntime) -> Result<(), Fail> {
     for talk in [
         A_HANDLE_COUNTS,
         REFERENCES_OF_A_CALL,
-        A_CALL_THAT_THE_POLICY_DENIES,
         NUMBERS_ARE_USED_AGAIN,
         UNREGISTERING,
         WHO_MAY_UNREGISTER,
@@ -223,31 +209,6 @@ const A_FULL_JOURNAL: Talk = &[
 fn a_place_for_each_death(rt: HostRuntime) -> Result<(), Fail> {
     let policy = Fixture::device().with_places(4);
     holds(&rt, rt.alloc(), policy, A_FULL_JOURNAL)
-}
-
-const A_WATCHER_CONNECTS: Talk = &[
-    ("hello 100 1000 u:r:system_server:s0", "client 1"),
-    ("hello 200 10007 u:r:untrusted_app:s0", "client 2"),
-    ("2 watch activity o7", "ok"),
-];
-
-const A_WATCHER_IS_NOT_TOLD: Talk = &[("1 add activity o1 0 8", "ok"), ("2 take", "empty")];
-
-// The policy of the registration counts, not that of the watch: applications may no longer find `activity`.
-#[test]
-fn a_watcher_that_may_no_longer_find(rt: HostRuntime) -> Result<(), Fail> {
-    let alloc = rt.alloc();
-    let rules = device_rules_but(
-        alloc,
-        b"allow binderuser activity_service:service_manager find;",
-        b"allow { binderuser -untrusted_app } activity_service:service_manager find;",
-    )?;
-    let mut said = Said::new(alloc);
-    said.talk(A_WATCHER_CONNECTS)?;
-    said.reload(b"reload 1 705 89\n", &rules, DEVICE_LABELS, b"reloaded 2\n")?;
-    said.talk(A_WATCHER_IS_NOT_TOLD)?;
-    Fixture::device().hears(&rt, alloc, &said);
-    Ok(())
 }
 
 const A_SERVER_DIES: Talk = &[

@@ -130,44 +130,6 @@ client 65
 }
 
 #[test]
-fn journals_without_a_place_for_a_client(rt: HostRuntime) {
-    let script = b"hello 100 1000 u:r:system_server:s0
-1 list 15
-1 add activity o1 0 8
-hello 101 1000 u:r:system_server:s0
-2 add activity o1 0 8
-hello 102 1000 u:r:system_server:s0
-1 get activity
-1 version
-";
-    let alloc = rt.alloc();
-    let none = b"failed journal-full
-failed not-connected
-failed not-connected
-failed journal-full
-failed not-connected
-failed journal-full
-failed not-connected
-failed not-connected
-";
-    Fixture::device()
-        .with_places(2)
-        .replies(&rt, alloc, script, none);
-    let one = b"client 1
-names 1 2 0
-failed journal-full
-failed journal-full
-failed not-connected
-failed journal-full
-null
-version 1 2
-";
-    Fixture::device()
-        .with_places(3)
-        .replies(&rt, alloc, script, one);
-}
-
-#[test]
 fn journals_without_a_place_for_a_handle(rt: HostRuntime) {
     let script = b"hello 100 1000 u:r:system_server:s0
 1 add activity o1 0 8

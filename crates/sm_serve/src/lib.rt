@@ -11,12 +11,10 @@ mod free_seats;
 mod held_chair;
 mod queue;
 mod refusals;
-mod serve_fault;
 mod serving;
 mod shared_admin;
 mod usher;
 
 pub use entrance::Entrance;
 pub use free_seats::FreeSeats;
-pub use serve_fault::ServeFault;
 pub use serving::{Numbers, serve};

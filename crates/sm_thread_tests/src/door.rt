@@ -120,10 +120,11 @@ fn meets<J: Naming, R: Wait + Abort>(
     requires roll { blank.seen.book ≡ J.roll }
     requires opening { J.opening ≡ opened places who policy }
 {
-    let (door, mut seats, _admins) = Door::<J, NoGate>::open(
+    let (door, mut seats, mut admins) = Door::<J, NoGate>::open(
         rt, alloc, blank, who, policy, places, NoGate,
     ).ok()
         .expect(rt, "a door");
+    let mut admin = admins.pop().expect(rt, "an administrator");
     let mut a = joined(rt, &door, seats.pop(), server(rt, alloc, 100));
     let mut b = joined(rt, &door, seats.pop(), server(rt, alloc, 101));
     assert!(rt; a.client().0 == 1);
@@ -134,6 +135,8 @@ fn meets<J: Naming, R: Wait + Abort>(
     assert!(rt; lists(&door.list(&mut b, 15), 4, &[b"activity"]));
     assert!(rt; is_added(&door.submit(rt, &mut a, activity(rt, alloc))));
     assert!(rt; lists(&door.list(&mut b, 15), 5, &[b"activity"]));
+    door.meet_admin(rt, &mut admin, &mut a);
+    assert!(rt; is_version(&door.version(&mut admin), 1, 5));
     door.close(rt);
 }
 

@@ -5,11 +5,12 @@ ghost use Rattle.sm_core.specs.Opening.{opened};
 
 use crossbeam_utils::Backoff;
 use sm_door::Door;
+use sm_engine::ServeFault;
 use sm_kinds::{Context, Identity, Places};
 use sm_policy::Prepared;
 use sm_roll::{Blank, Naming};
 use sm_samples::{DEVICE_LABELS, DEVICE_RULES, STRICTER_RULES};
-use sm_serve::{Entrance, FreeSeats, Numbers, ServeFault, serve};
+use sm_serve::{Entrance, FreeSeats, Numbers, serve};
 use sm_view::{Gate, NoGate};
 use std::alloc::Global;
 use std::io::{ErrorKind, Read, Write};

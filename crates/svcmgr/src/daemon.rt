@@ -5,11 +5,12 @@ ghost use Rattle.sm_core.specs.Opening.{opened};
 
 use crate::sockets::{listener, private_listener};
 use sm_command::{Ending, Sockets};
+use sm_core::manager_identity;
 use sm_door::{Admin, Door};
 use sm_kinds::{Identity, Places};
 use sm_policy::Prepared;
 use sm_roll::{Blank, Naming};
-use sm_script::{ScriptFault, manager_identity};
+use sm_script::ScriptFault;
 use sm_serve::{FreeSeats, Numbers, serve};
 use sm_view::NoGate;
 use std::marker::Brand;

@@ -14,7 +14,7 @@ use Rattle.std.specs.contracts.option.Option as Option
 use Rattle.sm_roll.specs.contracts.roll.Roll as Roll
 use Rattle.sm_door.specs.contracts.door.Door as Door
 use Rattle.sm_door.specs.contracts.published.ShownAbsorbArcPage.TheImpl as Absorb
-use Rattle.sm_serve.specs.contracts.serve_fault.ServeFault as ServeFault
+use Rattle.sm_engine.specs.contracts.serve_fault.ServeFault as ServeFault
 use Rattle.sm_serve.specs.contracts.shared_admin.SharedAdmin as SharedAdmin
 use Rattle.sm_core.proofs.Crossing.{view_send, view_sync}
 use Rattle.sm_core.proofs.CrossingManager.{manager_send}
