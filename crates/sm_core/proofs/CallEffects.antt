@@ -21,7 +21,7 @@ use Rattle.sm_history.specs.Clients.{is_live, identity_at}
 use Rattle.sm_history.specs.Holdings.{node_at, number_for, fits_handles, held_nodes, is_held}
 use Rattle.sm_history.specs.Histories.{History, effects_of, found, handed_refs, call_delivery}
 use Rattle.sm_history.specs.Inboxes.{has_inbox_room}
-use Rattle.sm_history.specs.Following.{MayFollow, MayAll, followed}
+use Rattle.sm_history.specs.Following.{MayFollowApart, MayAllApart, followed}
 use Rattle.sm_history.specs.Sound.{Sound}
 use Rattle.sm_history.specs.Verdict.{all_pass_to_client}
 use Rattle.sm_history.proofs.AgreeNotices.{number_for_is}
@@ -121,8 +121,8 @@ others_foreign k (Some n ∷ os) =
     ] refl
 
 may_gives : (d : Effects) (k : ℕ) (ns : List Node) (x : Effect) → Sound d → is_live d k ≡ true → AreForeign k ns
-    → fits_handles (after_grants d k ns) k ≡ true → MayFollow (after_grants d k ns) x
-    → MayAll d (gives_of k ns (numbers_for d k ns) ++ x ∷ [])
+    → fits_handles (after_grants d k ns) k ≡ true → MayFollowApart (after_grants d k ns) x
+    → MayAllApart d (gives_of k ns (numbers_for d k ns) ++ x ∷ [])
 may_gives d k [] x s live foreign fits may = (may, tt)
 may_gives d k (n ∷ ns) x s live foreign fits may =
     let e = Gives k n (number_for d k n) ∷ d in
@@ -163,7 +163,7 @@ call_plan m d c handle n payload refs named plan at s live are few room fits sen
           ∙ ap (λ (e : Effects). Delivers k x ∷ e) (sym (handed_are d c k refs named s live are).1)
           ∙ ap (λ (v : Delivery). Delivers k v ∷ handed_refs d c k refs) is
           ∙ rw at refl;
-      may = subst (MayAll d) (sym sends.effects)
+      may = subst (MayAllApart d) (sym sends.effects)
           (may_gives d k ns (Delivers k x) s live (others_foreign k named) fits
           (live_granted d k ns k ∙ live, inbox_granted d k ns k ∙ room));
       last = subst DeathIsLast (sym sends.effects) (last_delivers k ns (numbers_for d k ns) k x);

@@ -1,10 +1,12 @@
 -- Entries that lie in chunks.
-use Rattle.std.proofs.Common.{◌≡◌, ◌+◌, List, [], ◌∷◌, ◌++◌, ap, sym, ◌∙◌, length, append_assoc, append-nil}
+use Rattle.std.proofs.Common.{◌≡◌, ℕ, ◌+◌, List, [], ◌∷◌, ◌++◌, ap, sym, ◌∙◌, length, append_assoc, append-nil}
 use Rattle.std.specs.Prelude.{reverse}
 use Rattle.std.proofs.lemmas.List.{reverse-append, length-append}
 use Rattle.sm_history.specs.declared.entry.Entry.{Entry}
-use Rattle.sm_history.specs.Histories.{whole, entered}
-use Rattle.sm_core.specs.Journals.{joined}
+use Rattle.sm_history.specs.Histories.{entered}
+use Rattle.sm_history.specs.Openings.{Opening}
+use Rattle.sm_history.specs.Replaying.{joined}
+use Rattle.sm_core.specs.Journals.{segment}
 
 pub joined_more : (cs : List (List Entry)) (c : List Entry) → joined (cs ++ c ∷ []) ≡ joined cs ++ c
 joined_more [] c = append-nil c
@@ -17,10 +19,10 @@ moved_on cs c = append-nil (joined (cs ++ c ∷ [])) ∙ joined_more cs c
 pub pushed : (xs ys : List Entry) (e : Entry) → xs ++ (ys ++ e ∷ []) ≡ (xs ++ ys) ++ e ∷ []
 pushed xs ys e = sym (append_assoc xs ys (e ∷ []))
 
-pub written_more : (xs ys : List Entry) (e : Entry)
-    → whole (reverse (xs ++ (ys ++ e ∷ []))) ≡ entered e (whole (reverse (xs ++ ys)))
-written_more xs ys e = ap (λ (l : List Entry). whole (reverse l)) (pushed xs ys e) ∙
-    ap (λ (l : List Entry). whole l) (reverse-append (xs ++ ys) (e ∷ []))
+pub written_more : (number : ℕ) (o : Opening) (xs ys : List Entry) (e : Entry)
+    → segment number o (reverse (xs ++ (ys ++ e ∷ []))) ≡ entered e (segment number o (reverse (xs ++ ys)))
+written_more number o xs ys e = ap (λ (l : List Entry). segment number o (reverse l)) (pushed xs ys e) ∙
+    ap (λ (l : List Entry). segment number o l) (reverse-append (xs ++ ys) (e ∷ []))
 
 pub length_more : (xs ys : List Entry) (e : Entry) → length (xs ++ (ys ++ e ∷ [])) ≡ length (xs ++ ys) + 1
 length_more xs ys e = ap (length {A = Entry}) (pushed xs ys e) ∙ length-append (xs ++ ys) (e ∷ [])

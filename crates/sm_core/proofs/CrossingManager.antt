@@ -4,7 +4,7 @@ use denote.Param.Send.{IsSend, sendable, recorded_send, struct_send, enum_send}
 use denote.Struct.Field as Field
 use denote.Struct.Declared as struct
 use denote.Enum.Declared as enum
-use Rattle.std.proofs.Crossing.{Vec-send}
+use Rattle.std.proofs.Crossing.{crosses, Vec-send}
 use Rattle.sm_kinds.proofs.identity.Identity.TheSendSync as Identity
 use Rattle.sm_kinds.proofs.name.Name.TheSendSync as Name
 use Rattle.sm_kinds.proofs.payload.Payload.TheSendSync as Payload
@@ -22,10 +22,24 @@ use Rattle.sm_audit.proofs.ring.Ring.TheSendSync as Ring
 use Rattle.sm_core.specs.contracts.client.ClientRow as ClientRow
 use Rattle.sm_core.proofs.process.Process.TheSendSync as Process
 use Rattle.sm_core.proofs.turns.Turns.TheSendSync as Turns
-use Rattle.sm_core.specs.contracts.journal.Chunk as Chunk
-use Rattle.sm_core.specs.contracts.journal.Chunk.TheInside as ChunkInside
+use Rattle.sm_history.specs.contracts.chunk.Chunk as Chunk
+use Rattle.sm_history.specs.contracts.chunk.Chunk.TheInside as ChunkInside
 use Rattle.sm_core.specs.contracts.journal.Journal as Journal
 use Rattle.sm_core.specs.contracts.journal.Journal.TheInside as JournalInside
+use Rattle.std.specs.contracts.option.Option as Option
+use Rattle.sm_history.specs.contracts.client_row.ClientRow as Rowed
+use Rattle.sm_history.proofs.client_row.ClientRow.TheSendSync as RowedCrosses
+use Rattle.sm_history.specs.contracts.named_row.NamedRow as Named
+use Rattle.sm_history.proofs.named_row.NamedRow.TheSendSync as NamedCrosses
+use Rattle.sm_history.specs.contracts.effect.Watch as Watch
+use Rattle.sm_history.proofs.effect.Watch.TheSendSync as WatchCrosses
+use Rattle.sm_history.specs.contracts.turn.TurnRow as Turn
+use Rattle.sm_history.proofs.turn.TurnRow.TheSendSync as TurnCrosses
+use Rattle.sm_kinds.specs.contracts.identity.Identity as Who
+use Rattle.sm_policy.specs.contracts.prepared.Prepared as Prepared
+use Rattle.sm_history.specs.contracts.tables.Tables as Tables
+use Rattle.sm_history.specs.contracts.rows.Rows as Rows
+use Rattle.sm_history.specs.contracts.rows.Rows.TheInside as RowsInside
 use Rattle.sm_core.specs.contracts.state.State as State
 use Rattle.sm_core.specs.contracts.manager.Manager as Manager
 use Rattle.sm_core.specs.contracts.manager.Manager.TheInside as ManagerInside
@@ -81,12 +95,62 @@ chunk_send =
     (recorded_send _ _ _ ChunkInside.the_type.to_one
     (struct_send (struct.shape ChunkInside.the_type) (Vec-send Entry.the_row entry_send, tt)))
 
+rowed_send : IsSend Rowed.the_row
+rowed_send = recorded_send _ _ _ Rowed.the_type.to_one RowedCrosses.the_field_send
+
+named_send : IsSend Named.the_row
+named_send = recorded_send _ _ _ Named.the_type.to_one NamedCrosses.the_field_send
+
+watch_send : IsSend Watch.the_row
+watch_send = recorded_send _ _ _ Watch.the_type.to_one WatchCrosses.the_field_send
+
+turn_send : IsSend Turn.the_row
+turn_send = recorded_send _ _ _ Turn.the_type.to_one TurnCrosses.the_field_send
+
+who_send : IsSend Who.the_row
+who_send = recorded_send _ _ _ Who.the_type.to_one Identity.the_field_send
+
+maybe_manager_send : IsSend (Option.the_field Who.the_row).row
+maybe_manager_send = search (sendable, crosses, who_send) depth 20
+
+maybe_policy_send : IsSend (Option.the_field Prepared.the_row).row
+maybe_policy_send = search (sendable, crosses, prepared_send) depth 20
+
+tables_send : IsSend Tables.the_field.row
+tables_send =
+    struct_send (struct.shape Tables.the_type) (
+      global_send,
+      (
+        maybe_manager_send,
+        (
+          maybe_policy_send,
+          (
+            u64_send,
+            (
+              u32_send,
+              (
+                Vec-send Rowed.the_row rowed_send,
+                (Vec-send Named.the_row named_send, (Vec-send Watch.the_row watch_send, tt)),
+              ),
+            ),
+          ),
+        ),
+      ),
+    )
+
+rows_send : IsSend Rows.the_row
+rows_send =
+    cross.view_send RowsInside.the_row _ _ _ _
+    (recorded_send _ _ _ RowsInside.the_type.to_one
+    (struct_send (struct.shape RowsInside.the_type)
+    (tables_send, (Vec-send Turn.the_row turn_send, (u64_send, tt)))))
+
 journal_send : IsSend Journal.the_row
 journal_send =
     cross.view_send JournalInside.the_row _ _ _ _
     (recorded_send _ _ _ JournalInside.the_type.to_one
     (struct_send (struct.shape JournalInside.the_type)
-    (global_send, (Vec-send Chunk.the_row chunk_send, (Vec-send Entry.the_row entry_send, (usize_send, tt))))))
+    (global_send, (u64_send, (rows_send, (Vec-send Chunk.the_row chunk_send, (Vec-send Entry.the_row entry_send, (usize_send, tt))))))))
 
 state_send : IsSend State.the_field.row
 state_send =
@@ -97,7 +161,7 @@ state_send =
         (
           u64_send,
           (
-            u32_send,
+            u64_send,
             (
               Vec-send ClientRow.the_row client_send,
               (Names.the_field_send, (Grants.the_field_send, (Inboxes.the_field_send, tt))),

@@ -20,6 +20,7 @@ use Rattle.sm_grants.specs.Rows.{spare_for}
 use Rattle.sm_names.specs.declared.names.Names.{Names}
 use Rattle.sm_names.specs.Tracking.{HasRoom as HasNameRoom}
 use Rattle.sm_core.specs.Stands.{gives_to, HasRoom}
+use Rattle.sm_core.proofs.Numbers.{sets_first, connects_first}
 
 number_same : (a b : ℕ) → (a == b) ≡ true → a ≡ b
 number_same a b e = grind (arith, nat_tests)
@@ -123,8 +124,8 @@ room_one x rest s r =
     record {
       clients = let a = r.clients in omega (arith, a);
       names = fewer_names (length (x ∷ rest)) 1 s.names (omega arith) r.names;
-      version = let a = r.version in omega (arith, a);
-      next = let a = r.next in omega (arith, a);
+      version = let a = r.version in let b = sets_first x rest in omega (arith, a, b);
+      next = let a = r.next in let b = connects_first x rest in omega (arith, a, b);
       handles = λ c any. let a = r.handles c (first_of (gives_to c) x rest any) in omega (arith, a);
       inboxes = λ c any. r.inboxes c (first_of (is_connect_of c) x rest any);
     }
@@ -136,8 +137,8 @@ pub room_left : (x : Effect) (rest : List Effect) (s : State) (t : Names)
 room_left x rest s t left r = record {
   clients = let a = r.clients in omega (arith, a);
   names = left (fewer_names (length (x ∷ rest)) (length rest + 1) s.names (omega arith) r.names);
-  version = let a = r.version in omega (arith, a);
-  next = let a = r.next in omega (arith, a);
+  version = let a = r.version in let b = sets_first x rest in omega (arith, a, b);
+  next = let a = r.next in let b = connects_first x rest in omega (arith, a, b);
   handles = spare_kept x rest (spare_for s.grants) (spare_for s.grants) (λ k. omega arith) r.handles;
   inboxes = λ c any. r.inboxes c (later (is_connect_of c) x rest any);
 }

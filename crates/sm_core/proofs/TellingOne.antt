@@ -30,7 +30,7 @@ use Rattle.sm_history.specs.Holdings.{number_for, handed, fits_handles, given_to
 use Rattle.sm_history.specs.Inboxes.{inbox_at, has_inbox_room}
 use Rattle.sm_history.specs.Checks.{Check, Needs, Wants, holds, stop_of, first_failing, from_manager}
 use Rattle.sm_history.specs.Checks.{to_label, finding, calling, transferring}
-use Rattle.sm_history.specs.Following.{followed, MayAll}
+use Rattle.sm_history.specs.Following.{followed, MayAllApart}
 use Rattle.sm_history.specs.Notices.{notice_checks, first_missing, told_of, reason_of, registration, after_told}
 use Rattle.sm_history.specs.Sound.{IsTakenFrom}
 use Rattle.sm_history.proofs.AfterInboxes.{inbox_delivers}
@@ -52,7 +52,7 @@ pub followed_more : (d : Effects) (xs ys : List Effect) → followed d (xs ++ ys
 followed_more d [] ys = refl
 followed_more d (x ∷ xs) ys = followed_more (x ∷ d) xs ys
 
-pub may_more : (d : Effects) (xs ys : List Effect) → MayAll d xs → MayAll (followed d xs) ys → MayAll d (xs ++ ys)
+pub may_more : (d : Effects) (xs ys : List Effect) → MayAllApart d xs → MayAllApart (followed d xs) ys → MayAllApart d (xs ++ ys)
 may_more d [] ys a b = b
 may_more d (x ∷ xs) ys a b = (a.0, may_more (x ∷ d) xs ys a.1 b)
 

@@ -1,5 +1,5 @@
 -- What a view's parts are after more effects, and what it answers.
-use Rattle.std.proofs.Common.{◌≡◌, ℕ, ◌+◌, ◌||◌, Bool, true, false, List, [], ◌∷◌, refl, ap, sym, subst, ◌∙◌, length}
+use Rattle.std.proofs.Common.{◌≡◌, ℕ, ◌+◌, ◌<◌, ◌||◌, Bool, true, false, List, [], ◌∷◌, refl, ap, sym, subst, ◌∙◌}
 use Rattle.std.proofs.Common.{inr, if◌then◌else◌, arith}
 use Rattle.std.specs.List.{list_any}
 use Rattle.std.proofs.lemmas.Bool.{true≢false}
@@ -8,12 +8,15 @@ use Rattle.sm_history.specs.declared.effect.Effect.TheVariants.{Opens, Sets, Con
 use Rattle.sm_history.specs.declared.effect.Effect.TheVariants.{Releases, Watches, Unwatches, Delivers, Takes}
 use Rattle.sm_history.specs.declared.effect.Effect.TheVariants.{Resumes}
 use Rattle.sm_history.specs.Effects.{Effects}
-use Rattle.sm_history.specs.Following.{MayFollow, MayAll, followed}
-use Rattle.sm_history.specs.Histories.{History, effects_of, entered, turn_of}
-use Rattle.sm_history.specs.Openings.{Opening, is_same}
+use Rattle.sm_history.specs.Following.{MayFollowApart, MayAllApart, followed}
+use Rattle.sm_history.specs.Histories.{History, effects_of, entered, length_of, turn_of}
+use Rattle.sm_history.specs.Openings.{is_same}
 use Rattle.sm_history.specs.Sound.{Sound}
 use Rattle.sm_history.specs.declared.by.By.{By}
+use Rattle.sm_history.specs.declared.limits.TheConstants.{GREATEST}
 use Rattle.sm_history.proofs.Fits.{fits_any}
+use Rattle.sm_history.proofs.HistoryLaws.{turns_small}
+use Rattle.sm_history.proofs.NumbersFit.{numbers_fit}
 use Rattle.sm_history.proofs.LawfulLaws.{turn_more, turn_same}
 use Rattle.sm_names.specs.declared.services.Services.{Services}
 use Rattle.sm_core.specs.declared.ready.Ready.{Ready}
@@ -23,7 +26,7 @@ use Rattle.sm_core.specs.Counting.{made}
 use Rattle.sm_core.specs.Kept.{Kept}
 use Rattle.sm_core.specs.Stands.{Stands}
 use Rattle.sm_history.proofs.AfterNames.{service_connects}
-use Rattle.sm_history.proofs.Followed.{sound_follows}
+use Rattle.sm_history.proofs.Counted.{apart_sound}
 use Rattle.sm_names.specs.declared.row.NameRow.{NameRow}
 use Rattle.sm_names.specs.Rows.{TracksRows}
 use Rattle.sm_names.proofs.Others.{same_rows}
@@ -56,7 +59,7 @@ same_people (Takes c) d p h s =
     record { manager = s.manager; policy = s.policy; version = s.version; clients = s.clients }
 
 pub same_services : (x : Effect) (d : Effects) (rows : List NameRow) → moves_services x ≡ false → Sound d
-    → MayFollow d x → TracksRows d rows → TracksRows (x ∷ d) rows
+    → MayFollowApart d x → TracksRows d rows → TracksRows (x ∷ d) rows
 same_services (Adds name t) d rows h s m tr = absurd (true≢false h)
 same_services (Removes name) d rows h s m tr = absurd (true≢false h)
 same_services (Dies c) d rows h s m tr = absurd (true≢false h)
@@ -89,24 +92,24 @@ people_stay (x ∷ xs) d p h s =
     (same_people x d p (none_first (moves_people x) (list_any moves_people xs) h) s)
 
 pub services_stay : (xs : List Effect) (d : Effects) (rows : List NameRow) → list_any moves_services xs ≡ false
-    → Sound d → MayAll d xs → TracksRows d rows → TracksRows (followed d xs) rows
+    → Sound d → MayAllApart d xs → TracksRows d rows → TracksRows (followed d xs) rows
 services_stay [] d rows h s m tr = tr
 services_stay (x ∷ xs) d rows h s m tr =
     services_stay xs (x ∷ d) rows (none_rest (moves_services x) (list_any moves_services xs) h)
-    (sound_follows d x s m.0) m.1
+    (apart_sound d x s m.0) m.1
     (same_services x d rows (none_first (moves_services x) (list_any moves_services xs) h) s m.0 tr)
 
 -- ---- effects one by one
 
 -- What holds of the effects so far, where these are left of all.
 abbrev pub Going : (Effects → Type 0) → Effects → List Effect → List Effect → Type 0
-Going P d xs left = (e : Effects) × Sound e × P e × MayAll e left × (followed e left ≡ followed d xs)
+Going P d xs left = (e : Effects) × Sound e × P e × MayAllApart e left × (followed e left ≡ followed d xs)
 
 pub goes_on : (P Q : Effects → Type 0) (d : Effects) (xs left rest : List Effect) (x : Effect) → left ≡ x ∷ rest
-    → ((e : Effects) → Sound e → MayFollow e x → P e → Q (x ∷ e)) → Going P d xs left → Going Q d xs rest
+    → ((e : Effects) → Sound e → MayFollowApart e x → P e → Q (x ∷ e)) → Going P d xs left → Going Q d xs rest
 goes_on P Q d xs left rest x is step g =
-    let may : MayAll g.0 (x ∷ rest) = subst (MayAll g.0) is g.3 in
-    (x ∷ g.0, sound_follows g.0 x g.1 may.0, step g.0 g.1 may.0 g.2, may.1, ap (followed g.0) (sym is) ∙ g.4)
+    let may : MayAllApart g.0 (x ∷ rest) = subst (MayAllApart g.0) is g.3 in
+    (x ∷ g.0, apart_sound g.0 x g.1 may.0, step g.0 g.1 may.0 g.2, may.1, ap (followed g.0) (sym is) ∙ g.4)
 
 pub gone : (P : Effects → Type 0) (d : Effects) (xs left : List Effect) → left ≡ [] → Going P d xs left
     → P (followed d xs)
@@ -117,17 +120,16 @@ gone P d xs left is g = subst P (ap (followed g.0) (sym is) ∙ g.4) g.2
 -- The parts of a view of what there is now.
 pub viewed_now : (places : ℕ) (h : History) (turns : Turns) (s : State) (len : ℕ) (people : People)
     (services : Services) (base : Turns) (since : List By)
-    → Kept places h turns s [] → len ≡ length h.entries
+    → Kept places h turns s [] → len ≡ length_of h
     → ((d : Effects) → Stands d s → StandPeople d people)
     → ((d : Effects) → Stands d s → TracksRows d services.rows.items)
     → ((b : By) → counted_in base since b ≡ made turns b)
     → Viewed places h len people services base since
 viewed_now places h turns s len people services base since k is asks named counts = record {
   lawful = k.lawful;
-  first = k.first;
   fits = k.fits;
   few = k.few;
-  length_is = let z = ap (λ (o : Opening). o.length) k.first in omega (arith, z, is);
+  length_is = is;
   asks = asks (effects_of h) k.stands;
   named = named (effects_of h) k.stands;
   turns = λ by. counts by ∙ k.turns_are by;
@@ -137,16 +139,15 @@ viewed_now places h turns s len people services base since k is asks named count
 pub viewed_more : (places : ℕ) (h : History) (turns : Turns) (s : State) (r : Ready) (len : ℕ)
     (people people' : People) (services services' : Services) (base base' : Turns) (since since' : List By)
     → Kept places h turns s [] → IsComing places h s.version r → Viewed places h len people services base since
-    → ((d : Effects) → Stands d s → StandPeople d people → MayAll d r.effects.items
+    → ((d : Effects) → Stands d s → StandPeople d people → MayAllApart d r.effects.items
     → StandPeople (followed d r.effects.items) people')
-    → ((d : Effects) → Sound d → TracksRows d services.rows.items → MayAll d r.effects.items
+    → ((d : Effects) → Sound d → TracksRows d services.rows.items → MayAllApart d r.effects.items
     → TracksRows (followed d r.effects.items) services'.rows.items)
     → ((b : By) → counted_in base' since' b ≡ (if is_same b r.entry.by then made turns b + 1 else made turns b))
     → Viewed places (entered r.entry h) (len + 1) people' services' base' since'
 viewed_more places h turns s r len people people' services services' base base' since since' k coming v asks named
     counts = let e = r.entry in let d = effects_of h in record {
       lawful = inr (k.lawful, coming.done, coming.sound);
-      first = k.first;
       fits = fits_any places h e.by e.turn e.event e.outcome k.stands.sound k.fits coming.done;
       few = k.few;
       length_is = let was = v.length_is in omega (arith, was);
@@ -160,3 +161,19 @@ viewed_more places h turns s r len people people' services services' base base' 
             | false ↦ λ q. k.turns_are by ∙ sym (turn_more e h by q)
           ] refl;
     }
+
+-- The counts of a view are below the greatest number, and so is its length.
+pub viewed_length : (places : ℕ) (h : History) (len : ℕ) (people : People) (services : Services) (base : Turns)
+    (since : List By) → Viewed places h len people services base since → len < GREATEST
+viewed_length places h len people services base since v =
+    let fits = (numbers_fit places h v.lawful).lengths in
+    let is = v.length_is in
+    omega (arith, fits, is)
+
+pub viewed_turns : (places : ℕ) (h : History) (len : ℕ) (people : People) (services : Services) (base : Turns)
+    (since : List By) (by : By) → Viewed places h len people services base since → counted_in base since by < GREATEST
+viewed_turns places h len people services base since by v =
+    let fits = (numbers_fit places h v.lawful).lengths in
+    let few = turns_small places h v.lawful by in
+    let are = v.turns by in
+    omega (arith, fits, few, are)

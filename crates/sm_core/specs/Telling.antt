@@ -20,7 +20,7 @@ use Rattle.sm_history.specs.Clients.{policy_at, manager_at, identity_at, is_live
 use Rattle.sm_history.specs.Holdings.{handed, number_for, fits_handles}
 use Rattle.sm_history.specs.Inboxes.{inbox_at}
 use Rattle.sm_history.specs.Checks.{Check, Wants, from_manager, to_label, finding, calling, transferring}
-use Rattle.sm_history.specs.Following.{followed, MayAll}
+use Rattle.sm_history.specs.Following.{followed, MayAllApart}
 use Rattle.sm_history.specs.Records.{Moment, left_by_all, left_by_notices}
 use Rattle.sm_history.specs.Notices.{notice_checks, after_notice, after_notices}
 use Rattle.sm_history.specs.Sound.{Sound}
@@ -63,7 +63,7 @@ pub record AsBefore (d e : Effects) (n : Node) : Type 0 where
 -- Effects that may be put onto d, and tell of n alone.
 pub record MayTell (d : Effects) (n : Node) (xs : List Effect) : Type 0 where
   pub before : AsBefore d (followed d xs) n
-  pub may : MayAll d xs
+  pub may : MayAllApart d xs
   pub none_dies : list_any is_death xs ≡ false
 
 -- How many deliveries still fit into an inbox, where it was told.
@@ -101,6 +101,6 @@ pub record MayPrecede (d : Effects) (n : Node) (xs : List Effect) : Type 0 where
 pub record Tells (d : Effects) (xs : List Effect) (most : ℕ) (after : Effects) (plan : Plan) : Type 0 where
   pub told : plan.told ≡ plan.outcome
   pub effects : followed d plan.effects.items ≡ after
-  pub may : MayAll d plan.effects.items
+  pub may : MayAllApart d plan.effects.items
   pub none_dies : list_any is_death plan.effects.items ≡ false
   pub few : length plan.effects.items ≤ length xs + most

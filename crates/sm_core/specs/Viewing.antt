@@ -1,6 +1,5 @@
 -- What a view is of, and what its parts say.
-use Rattle.std.specs.Prelude.{ℕ, ◌≡◌, ◌≤◌, ◌+◌, ◌⊎◌, Bool, true, false, List, Option, Some, None, count_by}
-use Rattle.std.specs.Prelude.{length as list_length}
+use Rattle.std.specs.Prelude.{ℕ, ◌≡◌, ◌≤◌, ◌<◌, ◌+◌, ◌⊎◌, Bool, true, false, List, Option, Some, None, count_by}
 use Rattle.sm_kinds.specs.Contexts.{type_of}
 use Rattle.sm_kinds.specs.declared.class.Class.{Class}
 use Rattle.sm_kinds.specs.declared.class.Class.TheVariants.{Binder, ServiceManager}
@@ -17,9 +16,9 @@ use Rattle.sm_history.specs.declared.effect.Effect.TheVariants.{Opens, Sets, Con
 use Rattle.sm_history.specs.Effects.{Effects}
 use Rattle.sm_history.specs.Clients.{policy_at, version_at, manager_at}
 use Rattle.sm_history.specs.declared.reply.Reply.TheVariants.{Done}
-use Rattle.sm_history.specs.Following.{MayAll, followed}
+use Rattle.sm_history.specs.Following.{MayAllApart, followed}
 use Rattle.sm_history.specs.Histories.{History, after_event, client_of, effects_of, entered, length_of, turn_of}
-use Rattle.sm_history.specs.Openings.{is_same, nothing}
+use Rattle.sm_history.specs.Openings.{is_same}
 use Rattle.sm_history.specs.Lawful.{IsLawful, FitsPlaces, HasSoundPolicy}
 use Rattle.sm_history.specs.Verdict.{verdict}
 use Rattle.sm_kinds.specs.declared.limits.TheConstants.{MOST_PLACES}
@@ -29,6 +28,8 @@ use Rattle.sm_core.specs.declared.people.People.{People}
 use Rattle.sm_core.specs.declared.ready.Ready.{Ready}
 use Rattle.sm_core.specs.declared.turns.Turns.{Turns}
 use Rattle.sm_core.specs.Counting.{made}
+use Rattle.sm_core.specs.Stands.{sets_in}
+use Rattle.sm_history.specs.declared.limits.TheConstants.{GREATEST}
 use Rattle.sm_core.specs.Tables.{process_at, client_rows}
 
 -- A history, and the change that comes next where there is one.
@@ -90,7 +91,6 @@ counted_in base since by = made base by + count_by (is_same by) since
 pub record Viewed (places : ℕ) (h : History) (length : ℕ) (people : People) (services : Services) (base : Turns)
     (since : List By) : Type 0 where
   pub lawful : IsLawful places h
-  pub first : h.opening ≡ nothing
   pub fits : FitsPlaces places h
   pub few : places ≤ MOST_PLACES
   pub length_is : length ≡ length_of h
@@ -104,5 +104,5 @@ pub record IsComing (places : ℕ) (h : History) (version : ℕ) (r : Ready) : T
   pub sound : HasSoundPolicy r.entry.event
   pub effects : followed (effects_of h) r.effects.items
       ≡ after_event (effects_of h) (client_of r.entry.by) r.entry.event
-  pub may : MayAll (effects_of h) r.effects.items
-  pub numbers : version + list_length r.effects.items ≤ 4194304
+  pub may : MayAllApart (effects_of h) r.effects.items
+  pub numbers : version + sets_in r.effects.items < GREATEST

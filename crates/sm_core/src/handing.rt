@@ -4,10 +4,10 @@ ghost use Rattle.std.specs.Prelude.{◌≡◌, ◌≤◌, ◌<◌, ◌+◌, ◌-
 ghost use Rattle.std.specs.List.{list_any};
 ghost use Rattle.sm_history.specs.Effects.{Effects};
 ghost use Rattle.sm_history.specs.declared.effect.Effect.TheVariants.{Gives, Releases, Delivers, Takes, Watches};
-ghost use Rattle.sm_history.specs.declared.limits.TheConstants.{MOST_WATCHES};
+ghost use Rattle.sm_history.specs.declared.limits.TheConstants.{MOST_WATCHES, GREATEST};
 ghost use Rattle.sm_history.specs.Services.{watches_at};
 ghost use Rattle.sm_history.specs.Clients.{is_live, is_connect_of};
-ghost use Rattle.sm_history.specs.Holdings.{is_held, fits_handles, number_for};
+ghost use Rattle.sm_history.specs.Holdings.{refs_at, is_held, fits_handles, number_for};
 ghost use Rattle.sm_history.specs.Inboxes.{inbox_at, has_inbox_room};
 ghost use Rattle.sm_history.specs.Sound.{HasOneEach};
 ghost use Rattle.sm_grants.specs.Rows.{Tracks, spare_for};
@@ -25,7 +25,8 @@ use std::alloc::AllocError;
 /// One grant of an object.
 pub fn give(grants: &mut Grants, client: u32, node: Node)
     ensures tracks { (d : Effects) (r : ℕ) → Tracks d grants.old → is_live d client ≡ true → r ≡ number_for d client node
-        → fits_handles (Gives client node r ∷ d) client ≡ true → 0 < spare_for grants.old client → length d < 2 ^ 64 - 1
+        → fits_handles (Gives client node r ∷ d) client ≡ true → 0 < spare_for grants.old client
+        → nat_lt (refs_at d client node + 1) GREATEST ≡ true
         → Tracks (Gives client node r ∷ d) grants.new }
     ensures spare { spare_for grants.old client ≤ spare_for grants.new client + 1 }
     ensures others { (k : ℕ) → (client == k) ≡ false → spare_for grants.new k ≡ spare_for grants.old k }

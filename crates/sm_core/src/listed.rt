@@ -4,7 +4,7 @@ ghost use Rattle.std.specs.Prelude.{◌≡◌, ◌≤◌, ◌+◌, ◌∷◌, �
 ghost use Rattle.std.specs.List.{list_any};
 ghost use Rattle.std.specs.Vec.{vec_capacity};
 ghost use Rattle.sm_history.specs.Effects.{Effects};
-ghost use Rattle.sm_history.specs.Following.{MayFollow, MayAll, followed};
+ghost use Rattle.sm_history.specs.Following.{MayFollowApart, MayAllApart, followed};
 ghost use Rattle.sm_history.specs.Sound.{Sound};
 ghost use Rattle.sm_names.specs.Rows.{TracksRows};
 ghost use Rattle.sm_core.specs.Viewing as spec;
@@ -42,7 +42,7 @@ pub fn services_after(
     last: &Services,
     effects: &[Effect],
 ) -> Result<Services, AllocError>
-    ensures { IfOk result (λ s. (d : Effects) → Sound d → TracksRows d last.now.rows.items → MayAll d effects.now
+    ensures { IfOk result (λ s. (d : Effects) → Sound d → TracksRows d last.now.rows.items → MayAllApart d effects.now
         → TracksRows (followed d effects.now) s.rows.items) }
 {
     let mut services = last.copy(alloc, effects.len())?;
@@ -55,7 +55,7 @@ pub fn services_after(
 /// One effect on.
 fn follow(services: &mut Services, effect: &Effect) -> Result<(), AllocError>
     requires { length services.old.rows.items + 1 ≤ vec_capacity services.old.rows }
-    ensures tracks { OnOk result ((d : Effects) → Sound d → MayFollow d effect.now → TracksRows d services.old.rows.items
+    ensures tracks { OnOk result ((d : Effects) → Sound d → MayFollowApart d effect.now → TracksRows d services.old.rows.items
         → TracksRows (effect.now ∷ d) services.new.rows.items) }
     ensures left { (n : ℕ) → length services.old.rows.items + (n + 1) ≤ vec_capacity services.old.rows
         → length services.new.rows.items + n ≤ vec_capacity services.new.rows }

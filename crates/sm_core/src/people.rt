@@ -1,6 +1,6 @@
 //! Who asks, and under which policy.
 
-ghost use Rattle.std.specs.Prelude.{◌≡◌, ◌≤◌, ◌<◌, ◌+◌, ◌∷◌, length, true, false, IfOk, OnOk, MatchOption, MatchResult, ◌⊎◌};
+ghost use Rattle.std.specs.Prelude.{◌≡◌, ◌≤◌, ◌<◌, ◌+◌, [], ◌∷◌, true, false, IfOk, OnOk, MatchOption, MatchResult, ◌⊎◌};
 ghost use Rattle.std.specs.List.{list_any};
 ghost use Rattle.sm_history.specs.Effects.{Effects};
 ghost use Rattle.sm_history.specs.Books.{Book};
@@ -10,11 +10,12 @@ ghost use Rattle.sm_history.specs.Histories.{effects_of, length_of};
 ghost use Rattle.sm_history.specs.Queries.{found_out};
 ghost use Rattle.sm_names.specs.Rows.{TracksRows};
 ghost use Rattle.sm_view.specs.Promises.{Looks};
-ghost use Rattle.sm_history.specs.Following.{MayFollow, MayAll, followed};
+ghost use Rattle.sm_history.specs.Following.{MayFollowApart, MayAllApart, followed};
 ghost use Rattle.sm_history.specs.Sound.{Sound};
 ghost use Rattle.sm_history.specs.Verdict.{is_there};
 ghost use Rattle.sm_history.specs.declared.refusal.Refusal.TheVariants.{Memory};
-ghost use Rattle.sm_core.specs.Stands.{Stands};
+ghost use Rattle.sm_history.specs.declared.limits.TheConstants.{GREATEST};
+ghost use Rattle.sm_core.specs.Stands.{Stands, sets_in};
 ghost use Rattle.sm_core.specs.Tables.{client_row, process_at};
 ghost use Rattle.sm_core.specs.Viewing as spec;
 ghost use Rattle.sm_core.specs.Viewing.{StandPeople};
@@ -88,8 +89,8 @@ impl People {
     ///
     /// An error where memory was refused.
     pub fn after(alloc: Global, state: &State, effects: &[Effect]) -> Result<People, AllocError>
-        requires { state.now.version + length effects.now ≤ 4194304 }
-        ensures { IfOk result (λ p. (d : Effects) → Stands d state.now → MayAll d effects.now
+        requires { state.now.version + sets_in effects.now < GREATEST }
+        ensures { IfOk result (λ p. (d : Effects) → Stands d state.now → MayAllApart d effects.now
             → StandPeople (followed d effects.now) p) }
     {
         let mut people = People::of(alloc, state)?;
@@ -101,10 +102,10 @@ impl People {
 
     /// One effect on.
     fn follow(&mut self, effect: &Effect) -> Result<(), AllocError>
-        requires { self.old.version < 4194304 }
-        ensures stand { OnOk result ((d : Effects) → Sound d → MayFollow d effect.now → StandPeople d self.old
+        requires { self.old.version + sets_in (effect.now ∷ []) < GREATEST }
+        ensures stand { OnOk result ((d : Effects) → Sound d → MayFollowApart d effect.now → StandPeople d self.old
             → StandPeople (effect.now ∷ d) self.new) }
-        ensures version { self.new.version ≤ self.old.version + 1 }
+        ensures version { self.new.version ≤ self.old.version + sets_in (effect.now ∷ []) }
     {
         match effect {
             Effect::Opens(who) => {

@@ -1,9 +1,10 @@
 //! The changes of actors, as a view tells them.
 
-ghost use Rattle.std.specs.Prelude.{◌≡◌, ◌≤◌, ◌+◌, ◌++◌, ◌∷◌, [], IfOk, count_by, if◌then◌else◌};
+ghost use Rattle.std.specs.Prelude.{◌≡◌, ◌<◌, ◌+◌, ◌++◌, ◌∷◌, [], IfOk, count_by, if◌then◌else◌};
 ghost use Rattle.std.specs.Arc.{arc_value};
 ghost use Rattle.sm_history.specs.declared.by.By.{By};
 ghost use Rattle.sm_history.specs.Openings.{is_same};
+ghost use Rattle.sm_history.specs.declared.limits.TheConstants.{GREATEST};
 ghost use Rattle.sm_core.specs.Counting.{made};
 ghost use Rattle.sm_core.specs.Viewing.{counted_in};
 
@@ -89,7 +90,7 @@ impl Tally {
 
     /// How many changes an actor made.
     pub fn of_actor(&self, by: By) -> u64
-        requires { counted_in (arc_value self.now.base) self.now.since.items by ≤ 4194304 }
+        requires { counted_in (arc_value self.now.base) self.now.since.items by < GREATEST }
         ensures { result ≡ counted_in (arc_value self.now.base) self.now.since.items by }
     {
         self.base.of(by) + times(by, &self.since)

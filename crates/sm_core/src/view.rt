@@ -1,14 +1,15 @@
 //! What readers see.
 
-ghost use Rattle.std.specs.Prelude.{◌≡◌, ◌≤◌, ◌+◌, [], length, IfOk};
+ghost use Rattle.std.specs.Prelude.{◌≡◌, ◌<◌, ◌+◌, [], IfOk};
 ghost use Rattle.std.specs.Arc.{arc_value};
 ghost use Rattle.sm_history.specs.Effects.{Effects};
-ghost use Rattle.sm_history.specs.Following.{MayAll, followed};
+ghost use Rattle.sm_history.specs.Following.{MayAllApart, followed};
 ghost use Rattle.sm_history.specs.Histories.{entered, turn_of};
+ghost use Rattle.sm_history.specs.declared.limits.TheConstants.{GREATEST};
 ghost use Rattle.sm_history.specs.Sound.{Sound};
 ghost use Rattle.sm_names.specs.Rows.{TracksRows};
 ghost use Rattle.sm_core.specs.Kept.{Kept};
-ghost use Rattle.sm_core.specs.Stands.{Stands};
+ghost use Rattle.sm_core.specs.Stands.{Stands, sets_in};
 ghost use Rattle.sm_core.specs.Viewing.{IsComing, StandPeople};
 ghost use Rattle.sm_view.specs.Begins.{IsLawfulBook};
 ghost use Rattle.sm_view.specs.Promises.{Looks};
@@ -34,9 +35,9 @@ fn next_people(
     state: &State,
     effects: &[Effect],
 ) -> Result<Arc<People>, AllocError>
-    requires { state.now.version + length effects.now ≤ 4194304 }
+    requires { state.now.version + sets_in effects.now < GREATEST }
     ensures { IfOk result (λ p. (d : Effects) → Stands d state.now → StandPeople d (arc_value last.now)
-        → MayAll d effects.now → StandPeople (followed d effects.now) (arc_value p)) }
+        → MayAllApart d effects.now → StandPeople (followed d effects.now) (arc_value p)) }
 {
     if !moves_any_people(effects) {
         return Arc::try_clone(last);
@@ -51,7 +52,7 @@ fn next_services(
     effects: &[Effect],
 ) -> Result<Arc<Services>, AllocError>
     ensures { IfOk result (λ s. (d : Effects) → Sound d → TracksRows d (arc_value last.now).rows.items
-        → MayAll d effects.now → TracksRows (followed d effects.now) (arc_value s).rows.items) }
+        → MayAllApart d effects.now → TracksRows (followed d effects.now) (arc_value s).rows.items) }
 {
     if !moves_any_services(effects) {
         return Arc::try_clone(last);
@@ -106,7 +107,7 @@ impl View {
         Ok(View {
             alloc,
             places,
-            length: journal.len() as u64,
+            length: journal.length(),
             people,
             services,
             tally,

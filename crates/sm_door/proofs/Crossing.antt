@@ -1,6 +1,6 @@
 -- What crosses to another thread.
 use denote.RattleType.{RattleType}
-use denote.Param.Send.{IsSend, IsSync, sendable, view_send, enum_send, struct_send, recorded_send}
+use denote.Param.Send.{IsSend, sendable, view_send, enum_send, struct_send, recorded_send}
 use denote.Struct.Field as Field
 use denote.Struct.Declared as struct
 use denote.Enum.Declared as enum

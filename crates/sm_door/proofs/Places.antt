@@ -6,7 +6,8 @@ use lib.ListN.{get_elem?}
 use Rattle.crossbeam_utils.specs.Register.{Admits, TurnsAt}
 use Rattle.atomic_table.proofs.Lists.{at_set, at_snoc}
 use Rattle.sm_history.specs.Books.{Book}
-use Rattle.sm_history.specs.Histories.{entered}
+use Rattle.sm_history.specs.Histories.{History, entered}
+use Rattle.sm_history.specs.Segments.{sealed}
 use Rattle.sm_history.specs.Verdict.{verdict}
 use Rattle.sm_history.specs.declared.by.By.{By}
 use Rattle.sm_history.specs.declared.event.Event.{Event}
@@ -16,7 +17,7 @@ use Rattle.sm_history.specs.declared.reply.Reply.{Reply}
 use Rattle.sm_history.specs.declared.reply.Reply.TheVariants.{Done, Refused}
 use Rattle.sm_core.specs.Managed.{IsSame, IsAnswer}
 use Rattle.sm_view.specs.Begins.{Begins}
-use Rattle.sm_view.specs.Steps.{Steps}
+use Rattle.sm_view.specs.Steps.{Steps, Seals}
 use Rattle.sm_view.proofs.Books.{book_itself, book_through}
 use Rattle.sm_door.specs.declared.published.Known.{Known}
 use Rattle.sm_door.specs.Rule.{Keeps, Enters, known}
@@ -116,3 +117,12 @@ steps_done b b' e by turn event r v x y z is places history =
             ∙ λ j. entered (record { by = x j; turn = y j; event = z j; outcome = e.outcome }) b.history) i;
       },
     ))
+
+-- A segment that was closed.
+pub seals_done : (b b' : Book) (segment : History) → b.history.entries ≢ [] → segment ≡ b.history
+    → b'.places ≡ b.places → b'.history ≡ sealed b.history → Seals b segment b'
+seals_done b b' segment made is places history = record {
+  segment_is = is;
+  some = made;
+  opens = λ i. record { places = places i; history = history i };
+}

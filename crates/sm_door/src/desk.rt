@@ -5,16 +5,17 @@ ghost use Rattle.std.specs.List.{All};
 ghost use Rattle.std.specs.Arc.{arc_value};
 ghost use Rattle.left_right.specs.Sides.{view as place_view};
 ghost use Rattle.sm_core.specs.Readying.{IsReady};
+ghost use Rattle.sm_core.specs.SealReady.{IsReadySeal};
 ghost use Rattle.sm_history.specs.Histories.{turn_of};
-ghost use Rattle.sm_history.specs.Records.{IsTrueOf};
-ghost use Rattle.sm_view.specs.Begins.{Begins, IsLawfulBook, extended};
-ghost use Rattle.sm_view.specs.Steps.{Steps};
+ghost use Rattle.sm_history.specs.Records.{IsTrueSince};
+ghost use Rattle.sm_view.specs.Begins.{Begins, IsLawfulBook, extended, sealed_book};
+ghost use Rattle.sm_view.specs.Steps.{Steps, Seals, StaysOpen};
 
 use crate::page::Page;
 use crate::published::{Publishes, Sees, Shown, ViewReader, ViewWriter};
 use left_right::Absorb;
-use sm_core::{Manager, Ready, View};
-use sm_history::{By, Event, Record, Refusal, Reply};
+use sm_core::{Manager, Ready, ReadySeal, View};
+use sm_history::{By, Event, Record, Refusal, Reply, Segment};
 use sm_roll::{Naming, Roll};
 use std::alloc::{AllocError, Global};
 use std::marker::Model;
@@ -31,7 +32,7 @@ where
     roll: Roll<J>,
     /// The page that is published.
     page: Arc<Page<J>>,
-    /// The writer. It is away within `step` alone.
+    /// The writer. It is away within `step` and `seal` alone.
     writer: Option<ViewWriter<J>>,
 }
 
@@ -64,6 +65,21 @@ fn page_after<J: Naming, R: Wait>(
     ensures { IfOk result (λ p. arc_value p ≡ extended manager.now.book ready.now.entry) }
 {
     let view = manager.view_after(ready, last.view())?;
+    Page::new(rt, alloc, roll, view)
+}
+
+/// The page of what a seal leaves. `Err`: memory was refused, or no badge is left.
+fn page_behind<J: Naming, R: Wait>(
+    rt: &R,
+    alloc: Global,
+    manager: &Manager,
+    roll: &mut Roll<J>,
+    ready: &ReadySeal,
+) -> Result<Arc<Page<J>>, AllocError>
+    requires { IsReadySeal manager.now ready.now }
+    ensures { IfOk result (λ p. arc_value p ≡ sealed_book manager.now.book) }
+{
+    let view = manager.view_sealed(ready)?;
     Page::new(rt, alloc, roll, view)
 }
 
@@ -151,6 +167,34 @@ impl<J: Naming> Desk<J> {
         }
     }
 
+    /// Closes the open segment, and gives it. What stands behind it is published, and only then is it closed: where that
+    /// is refused, nothing is closed, and the answer is `Memory`. `Empty`: it has no changes.
+    pub fn seal<R: Wait>(&mut self, rt: &R) -> Result<Segment, Refusal>
+        ensures { MatchResult result (λ s. Seals self.old s self.new) (λ r. StaysOpen self.old r self.new) }
+    {
+        let ready = match self.manager.ready_seal() {
+            Ok(ready) => ready,
+            Err(refusal) => return Err(refusal),
+        };
+        let made = page_behind(rt, self.alloc, &self.manager, &mut self.roll, &ready);
+        let Ok(page) = made else {
+            return Err(Refusal::Memory);
+        };
+        let Ok(kept) = Arc::try_clone(&page) else {
+            return Err(Refusal::Memory);
+        };
+        let writer = self.writer.take().unwrap();
+        let (writer, shown) = show(rt, writer, page);
+        put(&mut self.writer, writer);
+        match shown {
+            Ok(()) => {
+                self.page = kept;
+                Ok(self.manager.commit_seal(ready))
+            }
+            Err(_) => Err(Refusal::Memory),
+        }
+    }
+
     /// How many changes an actor made. The history may come about.
     pub fn turn(&self, by: By) -> u64
         ensures turn { result ≡ turn_of self.now.history by }
@@ -160,10 +204,11 @@ impl<J: Naming> Desk<J> {
         self.manager.turn(by)
     }
 
-    /// The newest records, at most 1,024, the oldest first; each is true of the history. `Err`: memory was refused.
+    /// The newest records, at most 1,024, the oldest first; each that was made in the open segment is true of the
+    /// history. `Err`: memory was refused.
     pub fn records(&self) -> Result<Vec<Record>, AllocError>
         ensures few { IfOk result (λ v. length v.items ≤ 1024) }
-        ensures true_records { IfOk result (λ v. All (IsTrueOf self.now.history) v.items) }
+        ensures true_records { IfOk result (λ v. All (IsTrueSince self.now.history) v.items) }
     {
         self.manager.lawful();
         self.manager.records()

@@ -14,7 +14,7 @@ ghost use Rattle.sm_history.specs.Checks.{managing};
 ghost use Rattle.sm_history.specs.Lawful.{MayOpen};
 ghost use Rattle.sm_history.specs.Verdict.{is_die};
 ghost use Rattle.sm_core.specs.Opening.{opened, opening_denial};
-ghost use Rattle.sm_view.specs.Promises.{Submitted, Accepted, Read, Joined, TellsRecords, Turned};
+ghost use Rattle.sm_view.specs.Promises.{Submitted, Accepted, Read, Joined, TellsRecords, Turned, Closed, NotClosed};
 ghost use Rattle.sm_view.specs.Replies.{OfConnect, OfLeave, OfInstall};
 ghost use Rattle.sm_view.specs.Tokens.{Grows, token};
 ghost use Rattle.sm_history.specs.declared.limits.TheConstants.{MOST_CLIENTS};
@@ -32,7 +32,7 @@ use crate::session::Session;
 use crate::token::Token;
 use left_right::Absorb;
 use sm_core::{Manager, View};
-use sm_history::{By, Event, Failure, Query, Record, Refusal, Reply};
+use sm_history::{By, Event, Failure, Query, Record, Refusal, Reply, Segment};
 use sm_kinds::{Class, Identity, Name, Perms, Places};
 use sm_policy::Prepared;
 use sm_roll::{Blank, Naming};
@@ -206,8 +206,8 @@ impl<J: Naming, G: Gate + Drop> Door<J, G> {
         }
     }
 
-    /// The newest records of denials, at most 1,024, the oldest first. Each is true of what the token sees now. `Err`:
-    /// memory was refused, and the token stays.
+    /// The newest records of denials, at most 1,024, the oldest first. Each that was made in the segment which the token
+    /// sees now is true of it. `Err`: memory was refused, and the token stays.
     pub fn denials<R: Wait>(&self, rt: &R, me: &mut Admin<J>) -> Result<Vec<Record>, AllocError>
         ensures { MatchResult result (λ v. TellsRecords me.old me.new v.items) (λ _. me.new ≡ me.old) }
     {
@@ -222,6 +222,34 @@ impl<J: Naming, G: Gate + Drop> Door<J, G> {
             Err(error) => {
                 MutexGuard::unlock(guard);
                 Err(error)
+            }
+        }
+    }
+
+    /// Closes the open segment, and gives it: what the token sees from then on is the one behind it, without changes.
+    /// `Empty`: there were none to be closed. What stood before the seal it has seen in any case.
+    pub fn seal<R: Wait>(&self, rt: &R, me: &mut Admin<J>) -> Result<Segment, Refusal>
+        ensures { MatchResult result (λ s. Closed me.old me.new s) (λ r. NotClosed me.old me.new r) }
+    {
+        self.seal_for(rt, &mut me.actor)
+    }
+
+    fn seal_for<R: Wait>(&self, rt: &R, me: &mut Actor<J>) -> Result<Segment, Refusal>
+        ensures { MatchResult result (λ s. Closed me.old me.new s) (λ r. NotClosed me.old me.new r) }
+    {
+        let mut guard = self.desk.lock(rt);
+        self.gate.inside();
+        let desk = &mut *guard;
+        me.see(rt, desk);
+        match desk.seal(rt) {
+            Ok(segment) => {
+                me.see(rt, desk);
+                MutexGuard::unlock(guard);
+                Ok(segment)
+            }
+            Err(refusal) => {
+                MutexGuard::unlock(guard);
+                Err(refusal)
             }
         }
     }

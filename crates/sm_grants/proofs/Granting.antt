@@ -1,16 +1,13 @@
 -- When a grant can be made, in words of the effects.
 use Rattle.std.proofs.Common.{◌≡◌, ℕ, ◌+◌, ◌-◌, ◌≤◌, ◌<◌, ◌^◌, ◌∷◌, Bool, true, false, refl, ap, sym, ◌∙◌, length}
-use Rattle.std.proofs.Common.{Option, Some, None, if◌then◌else◌, arith}
-use Rattle.std.specs.Prelude.{nat_le, is_some}
+use Rattle.std.proofs.Common.{Option, Some, None, arith}
+use Rattle.std.specs.Prelude.{nat_le}
 use Rattle.std.proofs.lemmas.Bool.Decides.{nat_tests}
-use Rattle.std.proofs.lemmas.List.Sums.{count_by-le-length}
 use Rattle.sm_kinds.specs.declared.number.Node.{Node}
-use Rattle.sm_history.specs.declared.effect.Effect.{Effect}
 use Rattle.sm_history.specs.Effects.{Effects}
 use Rattle.sm_history.specs.declared.effect.Effect.TheVariants.{Gives}
 use Rattle.sm_history.specs.Clients.{is_live}
-use Rattle.sm_history.specs.Holdings.{refs_at, number_at, number_given, is_held, held_nodes, fits_handles}
-use Rattle.sm_history.specs.Sound.{granted, released}
+use Rattle.sm_history.specs.Holdings.{refs_at, number_at, is_held, held_nodes, fits_handles}
 use Rattle.sm_history.proofs.Grants.{count_gives}
 use Rattle.sm_grants.specs.declared.grants.Grants.{Grants}
 use Rattle.sm_grants.specs.declared.held.Held.{Held}
@@ -18,15 +15,6 @@ use Rattle.sm_grants.specs.Slots.{slot, node_of, count_of, held_in}
 use Rattle.sm_grants.specs.Rows.{slots_of, spare_for, Tracks, CanGrant}
 use Rattle.sm_grants.proofs.Tracked.{not_held, held_count}
 use Rattle.sm_grants.proofs.Small.{zero_test}
-
-refs_case : (live : Bool) (g r m : ℕ) → g ≤ m → (if live then g - r else 0) ≤ m
-refs_case true g r m le = omega (arith, le)
-refs_case false g r m le = omega arith
-
--- An object is held no more often than there are effects.
-pub refs_few : (d : Effects) (c : ℕ) (n : Node) → refs_at d c n ≤ length d
-refs_few d c n = refs_case (is_live d c) (granted d c n) (released d c n) (length d)
-    (count_by-le-length (λ (x : Effect). is_some (number_given c n x)) d)
 
 fits_more : (many : ℕ) → nat_le (many + 1) 65536 ≡ true → many < 65536
 fits_more many h = grind (arith, nat_tests)
@@ -36,10 +24,10 @@ count_is : (o : Option Held) (n : Node) (refs : Node → ℕ) → node_of o ≡ 
 count_is None n refs here are = cc
 count_is (Some h) n refs here are = let node : h.node ≡ n = cc in sym (are h refl) ∙ ap refs node
 
--- A grant can be made where the client has room for it, there is memory if the object is new, and the effects are few.
+-- A grant can be made where the client has room for it, there is memory if the object is new, and its count can rise.
 pub can_grant : (d : Effects) (g : Grants) (c : ℕ) (n : Node) (r : ℕ) → Tracks d g → is_live d c ≡ true
-    → fits_handles (Gives c n r ∷ d) c ≡ true → (is_held d c n ≡ false → 0 < spare_for g c) → length d < 2 ^ 64 - 1
-    → CanGrant g c n
+    → fits_handles (Gives c n r ∷ d) c ≡ true → (is_held d c n ≡ false → 0 < spare_for g c)
+    → refs_at d c n < 2 ^ 64 - 1 → CanGrant g c n
 can_grant d g c n r tr live fits spare few =
     let s = slots_of g.rows.items c in
     let t = tr.slots c in
@@ -54,6 +42,5 @@ can_grant d g c n r tr live fits spare few =
           (fits_more (held_in s) (sym (ap (λ (k : ℕ). nat_le k 65536) many) ∙ fits), spare none);
       few = λ i here.
           let count = count_is (slot s i) n (refs_at d c) here (λ h e. (t.held i h e).0) in
-          let most = refs_few d c n in
-          omega (arith, count, most, few);
+          omega (arith, count, few);
     }

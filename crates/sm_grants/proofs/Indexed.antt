@@ -278,3 +278,7 @@ pub few_at : (s : Slots) (i j : ℕ) (x : Held) (m : ℕ) → j ≡ i → Some x
 few_at s i j x m same at lt =
     let less : x.count < m = grind (arith, nat_tests) in
     subst (λ (o : Option Held). count_of o < m) (at ∙ ap (λ (v : ℕ). slot s v) (sym same)) less
+
+pub count_at : (s : Slots) (i j : ℕ) (x : Held) → j ≡ i → Some x ≡ slot s i → x.count ≡ count_of (slot s j)
+count_at s i j x same at =
+    ap (λ (o : Option Held). count_of o) (at ∙ ap (λ (v : ℕ). slot s v) (sym same))

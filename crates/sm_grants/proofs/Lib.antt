@@ -10,3 +10,4 @@ pub mod NewObjects
 pub mod HolderCounts
 pub mod Granting
 pub mod Handing
+pub mod Listed

@@ -4,3 +4,4 @@ pub mod Tracking
 pub mod Several
 pub mod Holders
 pub mod Handing
+pub mod Listed

@@ -7,16 +7,17 @@ ghost use Rattle.sm_kinds.specs.declared.limits.TheConstants.{MOST_REFS};
 ghost use Rattle.sm_history.specs.Effects.{Effects, same_node};
 ghost use Rattle.sm_history.specs.declared.effect.Effect.TheVariants.{Gives, Releases, Dies};
 ghost use Rattle.sm_history.specs.Clients.{is_live};
-ghost use Rattle.sm_history.specs.Holdings.{resolve_at, node_at, number_for, fits_handles, is_in_use};
+ghost use Rattle.sm_history.specs.Holdings.{refs_at, resolve_at, node_at, number_for, fits_handles, is_in_use};
 ghost use Rattle.sm_grants.specs.Slots.{Slots, slot, node_of, held_in, is_in, IsAbsent, IsNumberFor};
 ghost use Rattle.sm_grants.specs.Rows.{slots_of, Tracks, CanGrant, spare_for};
 ghost use Rattle.sm_grants.specs.Several.{after_grants, numbers_for, new_among, with_grant, Along};
 ghost use Rattle.sm_grants.specs.Holders.{holders_at};
+ghost use Rattle.sm_history.specs.Tables.{slot as row_slot, slot_at};
 
 use crate::handles::Handles;
 use crate::place::place_of;
 use crate::rows::{ClientHandles, handles_of, holders_in, row_of};
-use sm_history::MOST_HANDLES;
+use sm_history::{Held as Listed, MOST_HANDLES};
 use sm_kinds::{ClientId, Node, ObjRef};
 use std::alloc::{AllocError, Global};
 
@@ -160,6 +161,30 @@ impl Grants {
         match handles_of(&self.rows, client) {
             Some(handles) => handles.number_for(node),
             None => 1,
+        }
+    }
+
+    /// What a client holds under each number, from 0 on.
+    ///
+    /// # Errors
+    ///
+    /// An error where memory was refused.
+    pub fn listed(&self, alloc: Global, client: u32) -> Result<Vec<Option<Listed>>, AllocError>
+        ensures { IfOk result (λ v. (d : Effects) → Tracks d self.now → (k : ℕ) → row_slot v.items k ≡ slot_at d client k) }
+    {
+        match handles_of(&self.rows, client) {
+            Some(handles) => handles.listed(alloc),
+            None => Ok(Vec::new(alloc)),
+        }
+    }
+
+    /// How often an object was granted to a client and not released: 0 where it isn't held.
+    pub fn count(&self, client: u32, node: Node) -> u64
+        ensures { (d : Effects) → Tracks d self.now → result ≡ refs_at d client node }
+    {
+        match handles_of(&self.rows, client) {
+            Some(handles) => handles.count(node),
+            None => 0,
         }
     }
 

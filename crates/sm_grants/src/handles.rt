@@ -27,16 +27,40 @@ impl Model for Handles {
     ghost invariant = { λ h. AreHandles h.slots.items (λ k. hash.get same_key h.numbers k) h.taken (hash.hash_map_len h.numbers) };
 }
 
-ghost use Rattle.std.specs.Prelude.{◌≡◌, ℕ, ◌+◌, ◌-◌, ◌≤◌, ◌<◌, ◌^◌, true, false, is_some, Some, None, [], IfOk, IsOk, max, IfSome, IsTrue, nat_lt, OnOk, MatchOption};
+ghost use Rattle.std.specs.Prelude.{◌≡◌, ℕ, ◌+◌, ◌-◌, ◌≤◌, ◌<◌, ◌^◌, ◌++◌, map, option_map, true, false, is_some, Some, None, [], IfOk, IsOk, max, IfSome, IsTrue, nat_lt, OnOk, MatchOption};
+ghost use Rattle.sm_grants.specs.Listed.{listed, listed_slots};
 ghost use Rattle.sm_grants.specs.Slots.{slot, node_of, count_of, held_in, is_in, IsPut, IsAbsent, IsFirstFree, granted_slot, released_slot, IsGranted, IsNumberFor};
 
 use crate::held::Held;
 use crate::slots::{add_one, empty, fill, take_one};
 use sm_bits::BitRow;
-use sm_history::MOST_HANDLES;
+use sm_history::{Held as Listed, MOST_HANDLES};
 use sm_kinds::Node;
 use std::alloc::{AllocError, Global};
 use std::collections::HashMap;
+
+/// What slots have, behind a list.
+fn append_slots(list: &mut Vec<Option<Listed>>, slots: &[Option<Held>]) -> Result<(), AllocError>
+    ensures { OnOk result (list.new.items ≡ list.old.items ++ map (option_map listed) slots.now) }
+{
+    for slot in slots {
+        list.push(listed_slot(*slot))?;
+    }
+    Ok(())
+}
+
+/// What a slot has, in a row's words.
+fn listed_slot(slot: Option<Held>) -> Option<Listed>
+    ensures { result ≡ option_map listed slot }
+{
+    match slot {
+        Some(held) => Some(Listed {
+            node: held.node,
+            count: held.count,
+        }),
+        None => None,
+    }
+}
 
 impl Handles {
     /// No handles.
@@ -100,6 +124,20 @@ impl Handles {
         ensures small { result ≤ max from MOST_HANDLES }
     {
         self.taken.first_free_from(from)
+    }
+
+    /// What is held under each number, from 0 on.
+    ///
+    /// # Errors
+    ///
+    /// An error where memory was refused.
+    pub fn listed(&self, alloc: Global) -> Result<Vec<Option<Listed>>, AllocError>
+        ensures { IfOk result (λ v. v.items ≡ listed_slots self.now.slots) }
+    {
+        let mut list = Vec::with_capacity(alloc, 1)?;
+        list.push_reserved(None);
+        append_slots(&mut list, &self.slots)?;
+        Ok(list)
     }
 
     /// How many objects are held.
@@ -184,6 +222,21 @@ impl Handles {
                 i + 1
             }
             None => self.grant_new(node) + 1,
+        }
+    }
+
+    /// How often an object was granted and not released: 0 where it isn't held.
+    pub fn count(&self, node: Node) -> u64
+        ensures absent { IsAbsent self.now.slots node → result ≡ 0 }
+        ensures held { (i : ℕ) → node_of (slot self.now.slots i) ≡ Some node → result ≡ count_of (slot self.now.slots i) }
+    {
+        let _ = &self.slots;
+        match self.index_of(node) {
+            Some(i) => match self.at(i as usize) {
+                Some(held) => held.count,
+                None => 0,
+            },
+            None => 0,
         }
     }
 

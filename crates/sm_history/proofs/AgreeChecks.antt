@@ -36,6 +36,7 @@ use Rattle.sm_history.specs.Verdict.{all_pass_to_client, owner_lives, service_me
 use Rattle.sm_history.specs.Verdict.{handing_checks, get_checks, watch_checks, unwatch_checks, unregister_checks}
 use Rattle.sm_history.specs.Verdict.{object_checks, call_checks}
 use Rattle.sm_history.proofs.Rising.{names_alike}
+pub use Rattle.sm_history.specs.Entering.{Acts}
 use Rattle.sm_history.proofs.AgreeEffects.{Sim, sim_held, sim_nodes}
 use Rattle.sm_history.proofs.AgreeNotices.{both, wants_alike, cons_alike, to_manager_alike, from_manager_alike}
 use Rattle.sm_history.proofs.AgreeNotices.{to_client_alike, to_label_alike, sim_handed, fits_alike, room_alike}
@@ -222,13 +223,6 @@ call_alike d e c handle refs p rest s live =
     (sim_nodes d e c handle s)
     ∙ behind_alike p (Refused (Failed BadHandle)) (is_some n) (is_some n) (object_checks d c refs (found n) ++ rest)
     (object_checks e c refs (found n) ++ rest) refl (λ some. object_alike d e c refs (found n) p rest s live)
-
--- Who makes an event is live, where it is a client's.
-abbrev pub Acts : Effects → ℕ → Event → Type 0
-Acts d c (Open who policy) = Unit {0}
-Acts d c (Connect who) = Unit {0}
-Acts d c (Reload expected policy) = Unit {0}
-Acts d c _ = is_live d c ≡ true
 
 pub checks_alike : (d e : Effects) (c : ℕ) (event : Event) (p : Policy) (rest : List Check) → Sim d e → Acts d c event
     → first_failing p (event_checks d c event ++ rest) ≡ first_failing p (event_checks e c event ++ rest)

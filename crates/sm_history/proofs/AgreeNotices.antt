@@ -220,12 +220,12 @@ given_ref_alike : (d e : Effects) (to : ℕ) (o : Option Node) → Sim d e → g
 given_ref_alike d e to None s = refl
 given_ref_alike d e to (Some n) s = given_alike d e to n s
 
-sim_ref : (d e : Effects) (to : ℕ) (o : Option Node) → is_live d to ≡ true → Sim d e
+pub sim_ref : (d e : Effects) (to : ℕ) (o : Option Node) → is_live d to ≡ true → Sim d e
     → Sim (handed_ref d to o) (handed_ref e to o)
 sim_ref d e to None live s = s
 sim_ref d e to (Some n) live s = sim_handed d e to n live s
 
-live_ref : (d : Effects) (to : ℕ) (o : Option Node) (k : ℕ) → is_live (handed_ref d to o) k ≡ is_live d k
+pub live_ref : (d : Effects) (to : ℕ) (o : Option Node) (k : ℕ) → is_live (handed_ref d to o) k ≡ is_live d k
 live_ref d to None k = refl
 live_ref d to (Some n) k = live_handed d to n k
 

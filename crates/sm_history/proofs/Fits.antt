@@ -29,7 +29,7 @@ less c (x ∷ xs) = let i = less c xs in
     elim (c == x) as (λ b. length (if not b then x ∷ filter (λ k. not (c == k)) xs else filter (λ k. not (c == k)) xs)
     ≤ length (x ∷ xs)) [ true ↦ omega (arith, i) | false ↦ omega (arith, i) ]
 
-fewer : (c : ℕ) (xs : List ℕ) → list_any (λ x. x == c) xs ≡ true
+pub fewer : (c : ℕ) (xs : List ℕ) → list_any (λ x. x == c) xs ≡ true
     → length (filter (λ k. not (c == k)) xs) + 1 ≤ length xs
 fewer c [] h = cc
 fewer c (x ∷ xs) h =
@@ -51,7 +51,7 @@ fits_any places h by turn Die outcome s fits done =
     let d = effects_of h in
     let c = client_of by in
     let live : is_live d c ≡ true =
-    (met d (turn_of h by) by turn Die (Wants (has_place places h Die) (Refused JournalFull) ∷ []) outcome
+    (met d (turn_of h by) by turn Die (Wants (has_place places h c Die) (Refused JournalFull) ∷ []) outcome
     done).acts in
     let one = fewer c (live_clients d) (any_live d c ∙ live) in
     let now = ap (length {A = ℕ}) (list_dies d c) in

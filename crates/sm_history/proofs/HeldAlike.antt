@@ -141,7 +141,7 @@ counts_alike d e c same = let a = no_fewer d e c same in let b = no_fewer e d c 
 is_number : (d : Effects) (c r : ℕ) (n : Node) → (number_at d c n == r) ≡ true → number_at d c n ≡ r
 is_number d c r n h = grind (arith, nat_tests)
 
-number_is : (a r : ℕ) → a ≡ r → (a == r) ≡ true
+pub number_is : (a r : ℕ) → a ≡ r → (a == r) ≡ true
 number_is a r e = grind (arith, nat_tests)
 
 pub node_held : (d : Effects) (c r : ℕ) (n : Node) → node_at d c r ≡ Some n

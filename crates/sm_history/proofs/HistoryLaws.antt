@@ -28,7 +28,7 @@ next_small places h l =
     holds_lawful IsSmall (record {
       opens = small_opening;
       goes_on = λ e g m i. let n = (next_after (effects_of g) (client_of e.by) e.event).1 in omega (arith, i, n);
-      resumes = λ a la i. omega (arith, i);
+      resumes = λ number a la i. omega (arith, i);
     }) places h l
 
 -- A client that is still to connect has made no change.
@@ -40,9 +40,9 @@ none_opening : (e : Entry) (k : ℕ) → IsOpening e → turn_of (whole (e ∷ [
 none_opening e k (who, policy, is, may, ok) = subst (λ (x : Entry). turn_of (whole (x ∷ [])) (client k) ≡ 0) (sym is)
     (omega arith)
 
-none_rows : (a : List Entry) (k n : ℕ) → n ≡ 0 → turn_of (whole a) (client k) ≡ n →
-    turn_of (record { opening = rows_of (whole a); entries = [] }) (client k) ≡ 0
-none_rows a k n z is =
+none_rows : (number : ℕ) (a : List Entry) (k n : ℕ) → n ≡ 0 → turn_of (whole a) (client k) ≡ n →
+    turn_of (record { number = number; opening = rows_of (whole a); entries = [] }) (client k) ≡ 0
+none_rows number a k n z is =
     let h = whole a in
     let r = turn_rows h (client k) (actors_of h) in
     let both : (if list_any (is_same (client k)) (actors_of h) then turn_of h (client k) else 0) ≡ 0 =
@@ -60,10 +60,10 @@ holds_none = record {
         let below = actor_below (effects_of h) e.by i.sound.fresh m.there in
         turn_more e h (client k) (not_same k e.by (omega (arith, n, below, le))) ∙ i.none k (omega (arith, n, le));
   };
-  resumes = λ a l i. record {
-    sound = holds_sound.resumes a l i.sound;
+  resumes = λ number a l i. record {
+    sound = holds_sound.resumes number a l i.sound;
     none =
-        λ k le. none_rows a k (turn_of (whole a) (client k)) (i.none k le) refl;
+        λ k le. none_rows number a k (turn_of (whole a) (client k)) (i.none k le) refl;
   };
 }
 
@@ -94,8 +94,9 @@ few_case : (b : Bool) (n t m : ℕ) → t ≡ (if b then n else 0) → n ≤ m �
 few_case true n t m e le = omega (arith, e, le)
 few_case false n t m e le = omega (arith, e)
 
-few_rows : (a : List Entry) → HasFewTurns (whole a) → HasFewTurns (record { opening = rows_of (whole a); entries = [] })
-few_rows a i by =
+few_rows : (number : ℕ) (a : List Entry) → HasFewTurns (whole a)
+    → HasFewTurns (record { number = number; opening = rows_of (whole a); entries = [] })
+few_rows number a i by =
     let h = whole a in
     let le = i by in
     let l = few_case (list_any (is_same by) (actors_of h)) (turn_of h by) _ (length_of h)
@@ -104,4 +105,8 @@ few_rows a i by =
 
 pub turns_small : (places : ℕ) (h : History) → IsLawful places h → (by : By) → turn_of h by ≤ length_of h
 turns_small places h l = holds_lawful HasFewTurns
-    (record { opens = few_opening; goes_on = λ e g m i. few_more e g i; resumes = λ a la i. few_rows a i }) places h l
+    (record {
+      opens = few_opening;
+      goes_on = λ e g m i. few_more e g i;
+      resumes = λ number a la i. few_rows number a i;
+    }) places h l

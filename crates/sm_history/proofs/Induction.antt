@@ -8,7 +8,7 @@ use Rattle.sm_history.specs.declared.stop.Instead.TheVariants.{Refused}
 use Rattle.sm_history.specs.declared.refusal.Refusal.TheVariants.{JournalFull}
 use Rattle.sm_history.specs.Rows.{resumed}
 use Rattle.sm_history.specs.Openings.{Opening, nothing}
-use Rattle.sm_history.specs.Histories.{History, whole, entered, effects_of, turn_of}
+use Rattle.sm_history.specs.Histories.{History, whole, entered, effects_of, turn_of, client_of}
 use Rattle.sm_history.specs.Verdict.{has_place}
 use Rattle.sm_history.specs.Segments.{rows_of}
 use Rattle.sm_history.specs.Lawful.{IsOpening, AreLawfulApart, AreLawful, IsLawful}
@@ -21,8 +21,8 @@ use Rattle.sm_history.specs.Sound.{IsBalanced, IsFresh, IsOwned, Sound}
 pub record Holds (P : History → Type 0) : Type 0 where
   pub opens : (e : Entry) → IsOpening e → P (whole (e ∷ []))
   pub goes_on : (e : Entry) (h : History) → Met (effects_of h) e.by e.event → P h → P (entered e h)
-  pub resumes : (a : List Entry) → AreLawfulApart a → P (whole a) →
-      P (record { opening = rows_of (whole a); entries = [] })
+  pub resumes : (number : ℕ) (a : List Entry) → AreLawfulApart a → P (whole a) →
+      P (record { number = number; opening = rows_of (whole a); entries = [] })
 
 pub holds_apart : (P : History → Type 0) → Holds P → (a : List Entry) → AreLawfulApart a → P (whole a)
 holds_apart P holds [] l = absurd l
@@ -32,21 +32,23 @@ holds_apart P holds (e ∷ f ∷ es) (before, done, ok) =
     holds.goes_on e h (met (effects_of h) (turn_of h e.by) e.by e.turn e.event [] e.outcome done)
     (holds_apart P holds (f ∷ es) before)
 
-holds_after : (P : History → Type 0) → Holds P → (places : ℕ) (o : Opening) (es : List Entry) → AreLawful places o es
-    → P (record { opening = o; entries = es })
-holds_after P holds places o [] (a, l, is) = subst (λ (v : Opening). P (record { opening = v; entries = [] }))
-    (sym is) (holds.resumes a l (holds_apart P holds a l))
-holds_after P holds places o (e ∷ es) (inl (is, none, opens)) =
-    subst (λ (v : Opening). P (record { opening = v; entries = e ∷ es })) (sym is)
-    (subst (λ (v : List Entry). P (whole (e ∷ v))) (sym none) (holds.opens e opens))
-holds_after P holds places o (e ∷ es) (inr (before, done, ok)) =
-    let h : History = record { opening = o; entries = es } in
+holds_after : (P : History → Type 0) → Holds P → (places number : ℕ) (o : Opening) (es : List Entry)
+    → AreLawful places number o es → P (record { number = number; opening = o; entries = es })
+holds_after P holds places number o [] ((a, l, is), fits) =
+    subst (λ (v : Opening). P (record { number = number; opening = v; entries = [] })) (sym is)
+    (holds.resumes number a l (holds_apart P holds a l))
+holds_after P holds places number o (e ∷ es) (inl (first, is, none, opens)) =
+    subst (λ (n : ℕ). P (record { number = n; opening = o; entries = e ∷ es })) (sym first)
+    (subst (λ (v : Opening). P (record { number = 1; opening = v; entries = e ∷ es })) (sym is)
+    (subst (λ (v : List Entry). P (whole (e ∷ v))) (sym none) (holds.opens e opens)))
+holds_after P holds places number o (e ∷ es) (inr (before, done, ok)) =
+    let h : History = record { number = number; opening = o; entries = es } in
     holds.goes_on e h (met (effects_of h) (turn_of h e.by) e.by e.turn e.event
-    (Wants (has_place places h e.event) (Refused JournalFull) ∷ []) e.outcome done)
-    (holds_after P holds places o es before)
+    (Wants (has_place places h (client_of e.by) e.event) (Refused JournalFull) ∷ []) e.outcome done)
+    (holds_after P holds places number o es before)
 
 pub holds_lawful : (P : History → Type 0) → Holds P → (places : ℕ) (h : History) → IsLawful places h → P h
-holds_lawful P holds places h l = holds_after P holds places h.opening h.entries l
+holds_lawful P holds places h l = holds_after P holds places h.number h.opening h.entries l
 
 -- ---- soundness
 
@@ -63,7 +65,7 @@ pub holds_sound : Holds LeavesSound
 holds_sound = record {
   opens = sound_opening;
   goes_on = λ e h m s. sound_event (effects_of h) e.by e.event s m;
-  resumes = λ a l s. sound_back (effects_of (whole a)) s;
+  resumes = λ number a l s. sound_back (effects_of (whole a)) s;
 }
 
 pub sound_apart : (a : List Entry) → AreLawfulApart a → Sound (effects_of (whole a))

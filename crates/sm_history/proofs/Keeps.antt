@@ -32,7 +32,7 @@ pub handed_keeps : (P : Effects → Type 0) → Lasts P → (d : Effects) (c : �
 handed_keeps P lasts d c n h = elim (n.owner.0 == c) as (λ b. P (if b then d else Gives c n (number_for d c n) ∷ d))
     [ true ↦ h | false ↦ lasts (Gives c n (number_for d c n)) d refl h ]
 
-told_keeps : (P : Effects → Type 0) → Lasts P → (d : Effects) (n : Node) (w : Watch) (o : Option Stop) → P d
+pub told_keeps : (P : Effects → Type 0) → Lasts P → (d : Effects) (n : Node) (w : Watch) (o : Option Stop) → P d
     → P (after_told d n w o)
 told_keeps P lasts d n w None h = lasts (Delivers w.client (registration d n w)) (handed d w.client n) refl
     (handed_keeps P lasts d w.client n h)
@@ -44,7 +44,8 @@ notices_keep P lasts d n [] h = h
 notices_keep P lasts d n (w ∷ ws) h = notices_keep P lasts (after_notice d n w) n ws
     (told_keeps P lasts d n w (first_missing d n w) h)
 
-ref_keeps : (P : Effects → Type 0) → Lasts P → (d : Effects) (to : ℕ) (o : Option Node) → P d → P (handed_ref d to o)
+pub ref_keeps : (P : Effects → Type 0) → Lasts P → (d : Effects) (to : ℕ) (o : Option Node) → P d
+    → P (handed_ref d to o)
 ref_keeps P lasts d to None h = h
 ref_keeps P lasts d to (Some n) h = handed_keeps P lasts d to n h
 
@@ -54,11 +55,12 @@ refs_keep P lasts d from to [] h = h
 refs_keep P lasts d from to (r ∷ rs) h = let o = resolve_at d from r in
     refs_keep P lasts (handed_ref d to o) from to rs (ref_keeps P lasts d to o h)
 
-get_keeps : (P : Effects → Type 0) → Lasts P → (d : Effects) (c : ℕ) (o : Option Service) → P d → P (after_get d c o)
+pub get_keeps : (P : Effects → Type 0) → Lasts P → (d : Effects) (c : ℕ) (o : Option Service) → P d
+    → P (after_get d c o)
 get_keeps P lasts d c None h = h
 get_keeps P lasts d c (Some s) h = handed_keeps P lasts d c s.node h
 
-watch_keeps : (P : Effects → Type 0) → Lasts P → (d : Effects) (w : Watch) (o : Option Service) → P d
+pub watch_keeps : (P : Effects → Type 0) → Lasts P → (d : Effects) (w : Watch) (o : Option Service) → P d
     → P (after_watch d w o)
 watch_keeps P lasts d w None h = h
 watch_keeps P lasts d w (Some s) h = told_keeps P lasts d s.node w (first_missing d s.node w) h

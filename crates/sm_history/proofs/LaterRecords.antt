@@ -1,5 +1,5 @@
 -- Every lawful manager was opened, and what is true of a history stays true of the histories that begin with it.
-use Rattle.std.proofs.Common.{◌≡◌, ℕ, ◌+◌, ◌-◌, ◌≤◌, List, [], ◌∷◌, ◌++◌, length, length-append, drop, refl, ap, sym}
+use Rattle.std.proofs.Common.{inl, inr, ◌≡◌, ℕ, ◌+◌, ◌-◌, ◌≤◌, true, false, List, [], ◌∷◌, length, drop, refl, ap, sym}
 use Rattle.std.proofs.Common.{◌∙◌, subst, arith}
 use Rattle.std.specs.List.{All, list_any}
 use Rattle.std.proofs.Math.Seq.{drop-append-add}
@@ -10,23 +10,33 @@ use Rattle.sm_history.specs.declared.event.Event.{Event}
 use Rattle.sm_history.specs.declared.records.Record.{Record}
 use Rattle.sm_history.specs.Effects.{Effect, Effects, Watch, Opens, Sets, Connects, Dies, Adds, Gives, Releases}
 use Rattle.sm_history.specs.Effects.{Watches, Delivers}
-use Rattle.sm_history.specs.Clients.{version_at, next_client}
+use Rattle.sm_kinds.specs.declared.identity.Identity.{Identity}
+use Rattle.sm_policy.specs.Policy.{Policy, written, allowed}
+use Rattle.sm_history.specs.declared.denial.Denial.{Denial}
+use Rattle.sm_history.specs.declared.denial.Denial.TheVariants.{Rule, App, Isolated}
+use Rattle.sm_history.specs.Clients.{version_at, next_client, policy_at, is_opening, is_opened}
 use Rattle.sm_history.specs.Holdings.{resolve_at, node_at}
-use Rattle.sm_history.specs.Histories.{History, whole, length_of, client_of, effects_of, after_event, found, service}
+use Rattle.sm_history.specs.Histories.{History, whole, entered, length_of, client_of, effects_of, after_event, found}
+use Rattle.sm_history.specs.Histories.{service}
+use Rattle.sm_history.specs.Segments.{sealed}
 use Rattle.sm_history.specs.declared.event.Event.TheVariants.{Open, Connect, Add, Get, Watch as WatchName, Unwatch}
 use Rattle.sm_history.specs.declared.event.Event.TheVariants.{Unregister, Call, Release, Take, Die, Reload}
 use Rattle.sm_history.specs.Rows.{LiveRow, HeldRow, NamedRow, WaitingRow, Rows, rows_at, put_all, put_live, put_named}
 use Rattle.sm_history.specs.Rows.{put_held, put_watch, put_waiting, live_put, names_put, held_put, watches_put}
 use Rattle.sm_history.specs.Rows.{resumed}
 use Rattle.sm_history.specs.Lawful.{IsLawful, IsOpening}
-use Rattle.sm_history.specs.Beginning.{BeginsWith}
-use Rattle.sm_history.specs.Records.{records, prefix_at, Stands, IsDeniedBy, IsTrueOf}
+use Rattle.sm_history.specs.Beginning.{Move, Made, Seals, gone_on, BeginsWith}
+use Rattle.sm_history.specs.Records.{records, prefix_at, Stands, IsDeniedBy, IsTrueOf, IsTrueSince}
 use Rattle.sm_history.proofs.Induction.{holds_lawful}
 use Rattle.sm_history.proofs.Keeps.{LeftToKeep, event_keeps}
 use Rattle.sm_history.proofs.PutRows.{kept_times}
-use Rattle.sm_history.proofs.TrueRecords.{is_opening, IsOpened, event_records_true}
+use Rattle.sm_history.proofs.RowsBack.{live_back, who_back, policy_back, manager_back}
+use Rattle.sm_history.proofs.TrueRecords.{prefix_now, true_now, event_records_true}
 
 -- ---- the manager of a lawful history was opened
+
+abbrev IsOpened : Effects → Type 0
+IsOpened d = is_opened d ≡ true
 
 more : (x : Effect) (d : Effects) → IsOpened d → IsOpened (x ∷ d)
 more x d h = or_right (is_opening x) (list_any is_opening d) h
@@ -74,7 +84,7 @@ opened_lawful places h l =
     holds_lawful WasOpened (record {
       opens = was_opened;
       goes_on = λ e g m i. opened_event (effects_of g) (client_of e.by) e.event i;
-      resumes = λ a la i. opened_rows (rows_at (effects_of (whole a)));
+      resumes = λ number a la i. opened_rows (rows_at (effects_of (whole a)));
     }) places h l
 
 -- The records of an event are true of the lawful history in which it is judged.
@@ -85,28 +95,60 @@ records_true places h by turn event l = event_records_true places h by turn even
 -- ---- longer histories
 
 -- The history at a length that it has stays when it goes on.
-prefix_more : (rest : List Entry) (h : History) (n : ℕ) → n ≤ length_of h
-    → prefix_at (record { opening = h.opening; entries = rest ++ h.entries }) n ≡ prefix_at h n
-prefix_more rest h n le =
-    let more : (h.opening.length + length (rest ++ h.entries)) - n ≡ length rest + (length_of h - n) =
-    omega (arith, length-append rest h.entries, le) in
-    ap (λ (es : List Entry). let g : History = record { opening = h.opening; entries = es } in g)
-    (ap (λ (k : ℕ). drop k (rest ++ h.entries)) more ∙ drop-append-add rest h.entries (length_of h - n))
+prefix_more : (e : Entry) (h : History) (n : ℕ) → n ≤ length_of h → prefix_at (entered e h) n ≡ prefix_at h n
+prefix_more e h n le =
+    let more : (h.opening.length + length (e ∷ h.entries)) - n ≡ length (e ∷ []) + (length_of h - n) =
+    omega (arith, le) in
+    ap (λ (es : List Entry). let g : History = record { number = h.number; opening = h.opening; entries = es } in g)
+    (ap (λ (k : ℕ). drop k (e ∷ h.entries)) more ∙ drop-append-add (e ∷ []) h.entries (length_of h - n))
 
-true_more : (rest : List Entry) (h : History) (r : Record) → IsTrueOf h r
-    → IsTrueOf (record { opening = h.opening; entries = rest ++ h.entries }) r
-true_more rest h r t =
-    let same = sym (prefix_more rest h r.length t.within) in record {
+true_more : (e : Entry) (h : History) (r : Record) → IsTrueOf h r → IsTrueOf (entered e h) r
+true_more e h r t =
+    let same = sym (prefix_more e h r.length t.within) in record {
       behind = t.behind;
-      within = omega (arith, length-append rest h.entries, t.within);
+      within = let le = t.within in omega (arith, le);
       version = t.version ∙ ap (λ (g : History). version_at (effects_of g)) same;
       stands = subst (λ (g : History). Stands (effects_of g) r.who) same t.stands;
       denied = subst (λ (g : History). IsDeniedBy (effects_of g) r r.denial) same t.denied;
     }
 
--- What is true of a history is true of every history that begins with it.
-pub stays_true : (new old : History) (r : Record) → BeginsWith new old → IsTrueOf old r → IsTrueOf new r
-stays_true new old r b t =
-    subst (λ (o : _). IsTrueOf (record { opening = o; entries = new.entries }) r) (sym b.opening)
-    (subst (λ (es : List Entry). IsTrueOf (record { opening = old.opening; entries = es }) r) (sym b.entries)
-    (true_more b.rest old r t))
+-- ---- seals
+
+stands_back : (d : Effects) (who : Identity) → Stands d who → Stands (resumed (rows_at d)) who
+stands_back d who (inl (opened, is)) = inl (opened_rows (rows_at d), is ∙ manager_back d)
+stands_back d who (inr (c, live, is)) = inr (c, live_back d c ∙ live, is ∙ who_back d c live)
+
+denied_alike : (d e : Effects) (r : Record) (x : Denial) → policy_at d ≡ policy_at e → IsDeniedBy d r x
+    → IsDeniedBy e r x
+denied_alike d e r (Rule s t class perm) same (target, is, source, of, unwritten, passed) = (
+  target,
+  is,
+  source,
+  of,
+  subst (λ (p : Policy). written p s t class perm ≡ false) same unwritten,
+  subst (λ (p : Policy). r.permissive ≡ allowed p s t class perm) same passed,
+)
+denied_alike d e r (App uid) same denied = denied
+denied_alike d e r (Isolated uid) same denied = denied
+
+true_sealed : (h : History) (r : Record) → length_of h ≤ r.length → IsTrueOf h r → IsTrueOf (sealed h) r
+true_sealed h r le t =
+    let within = t.within in
+    let at : r.length ≡ length_of h = omega (arith, le, within) in
+    let now : prefix_at h r.length ≡ h = ap (prefix_at h) at ∙ prefix_now h in
+    let d = effects_of h in
+    true_now (sealed h) r (omega (arith, at)) (t.version ∙ ap (λ (g : History). version_at (effects_of g)) now)
+    (stands_back d r.who (subst (λ (g : History). Stands (effects_of g) r.who) now t.stands))
+    (denied_alike d (resumed (rows_at d)) r r.denial (policy_back d)
+    (subst (λ (g : History). IsDeniedBy (effects_of g) r r.denial) now t.denied))
+
+stays_on : (old : History) (moves : List Move) (r : Record) → IsTrueSince old r → IsTrueSince (gone_on old moves) r
+stays_on old [] r t le = t le
+stays_on old (Made e ∷ moves) r t le = true_more e (gone_on old moves) r (stays_on old moves r t le)
+stays_on old (Seals ∷ moves) r t le =
+    let h = gone_on old moves in
+    true_sealed h r le (stays_on old moves r t (omega (arith, le)))
+
+-- What is kept of a record is true of every history that begins with the one of which it was true.
+pub stays_true : (new old : History) (r : Record) → BeginsWith new old → IsTrueSince old r → IsTrueSince new r
+stays_true new old r b t = subst (λ (h : History). IsTrueSince h r) (sym b.is) (stays_on old b.moves r t)

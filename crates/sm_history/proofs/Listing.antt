@@ -238,7 +238,7 @@ lists d c (Reload expected policy) a = record { deliveries = refl; numbers = ref
 
 -- ---- histories
 
-outcome_is : (x : Option Stop) (o outcome : Outcome) → answered x o ≡ Done outcome → outcome ≡ o
+pub outcome_is : (x : Option Stop) (o outcome : Outcome) → answered x o ≡ Done outcome → outcome ≡ o
 outcome_is None o outcome done = cc
 outcome_is (Some s) o outcome done = absurd (not_done s outcome done)
 
@@ -250,23 +250,24 @@ one_more of lists_of d e outcome made all before is puts had =
     ∙ sym (append_assoc (reverse (lists_of made)) all before)
     ∙ ap (λ o. (reverse (lists_of o) ++ all) ++ before) (sym is)
 
-lists_after : (places : ℕ) (o : Opening) (es : List Entry) → AreLawful places o es
-    → ListsEffects (record { opening = o; entries = es })
-lists_after places o [] l = record { deliveries = refl; numbers = refl; clients = refl }
-lists_after places o (e ∷ es) (inl (is, none, (who, policy, opens, may, ok))) =
-    subst (λ (v : Opening). ListsEffects (record { opening = v; entries = e ∷ es })) (sym is)
+lists_after : (places number : ℕ) (o : Opening) (es : List Entry) → AreLawful places number o es
+    → ListsEffects (record { number = number; opening = o; entries = es })
+lists_after places number o [] l = record { deliveries = refl; numbers = refl; clients = refl }
+lists_after places number o (e ∷ es) (inl (first, is, none, (who, policy, opens, may, ok))) =
+    subst (λ (n : ℕ). ListsEffects (record { number = n; opening = o; entries = e ∷ es })) (sym first)
+    (subst (λ (v : Opening). ListsEffects (record { number = 1; opening = v; entries = e ∷ es })) (sym is)
     (subst (λ (v : List Entry). ListsEffects (whole (e ∷ v))) (sym none)
     (subst (λ (v : Entry). ListsEffects (whole (v ∷ []))) (sym opens)
-    (record { deliveries = refl; numbers = refl; clients = refl })))
-lists_after places o (e ∷ es) (inr (before, done, ok)) =
-    let h : History = record { opening = o; entries = es } in
+    (record { deliveries = refl; numbers = refl; clients = refl }))))
+lists_after places number o (e ∷ es) (inr (before, done, ok)) =
+    let h : History = record { number = number; opening = o; entries = es } in
     let d = effects_of h in
     let c = client_of e.by in
     let made = outcome_of d c e.event in
-    let last = Wants (has_place places h e.event) (Refused JournalFull) in
+    let last = Wants (has_place places h c e.event) (Refused JournalFull) in
     let l = lists d c e.event (met d (turn_of h e.by) e.by e.turn e.event (last ∷ []) e.outcome done).passes in
     let is = outcome_is (first_failing (policy_at d) (checks places h e.by e.turn e.event)) made e.outcome done in
-    let i = lists_after places o es before in
+    let i = lists_after places number o es before in
     let after = effects_of (entered e h) in
     record {
       deliveries = one_more delivery_made listed_deliveries d after e.outcome made (all_listed listed_deliveries es)
@@ -278,4 +279,4 @@ lists_after places o (e ∷ es) (inr (before, done, ok)) =
     }
 
 pub lists_effects : (places : ℕ) (h : History) → IsLawful places h → ListsEffects h
-lists_effects places h l = lists_after places h.opening h.entries l
+lists_effects places h l = lists_after places h.number h.opening h.entries l

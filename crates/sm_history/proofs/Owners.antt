@@ -3,6 +3,7 @@ use Rattle.std.proofs.Common.{◌≡◌, ℕ, ◌<◌, true, false, List, [], �
 use Rattle.std.specs.Prelude.{bytes_eq}
 use Rattle.std.proofs.lemmas.Bool.{true≢false}
 use Rattle.sm_policy.specs.Policy.{Policy}
+pub use Rattle.sm_history.specs.Entering.{AllHold}
 use Rattle.sm_history.specs.declared.outcome.Outcome.{Outcome}
 use Rattle.sm_history.specs.declared.reply.Reply.TheVariants.{Done}
 use Rattle.sm_history.specs.Effects.{Effects, Service, Opens, Sets, Connects, Dies, Adds, Removes, Gives, Releases}
@@ -16,11 +17,6 @@ use Rattle.sm_history.specs.declared.stop.Stop.TheVariants.{Unruled, Barred, Unm
 use Rattle.sm_history.specs.Verdict.{answered}
 use Rattle.sm_history.proofs.Keeps.{Lasts}
 use Rattle.sm_history.specs.Sound.{IsOwned}
-
--- All checks of a list hold.
-abbrev pub AllHold : Policy → List Check → Type 0
-AllHold p [] = Unit {0}
-AllHold p (x ∷ xs) = (holds p x ≡ true) × AllHold p xs
 
 pub not_done : (x : Stop) (outcome : Outcome) → answer_of x ≡ Done outcome → ⊥
 not_done (Unruled class perm who target name) outcome h = cc

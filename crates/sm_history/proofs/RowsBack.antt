@@ -96,7 +96,7 @@ list_back d =
     ∙ filter_agree (is_live (resumed r)) (is_live d) (λ c. live_back d c) ks
     ∙ filter_again (is_live d) (reverse (filter_map connected d))
 
-who_back : (d : Effects) (c : ℕ) → is_live d c ≡ true → identity_at d c ≡ identity_at (resumed (rows_at d)) c
+pub who_back : (d : Effects) (c : ℕ) → is_live d c ≡ true → identity_at d c ≡ identity_at (resumed (rows_at d)) c
 who_back d c live =
     let r = rows_at d in
     let F = λ (b : Effects). identity_at b c in
@@ -277,7 +277,7 @@ refs_case : (live live' : Bool) (v g s : ℕ) → live' ≡ live → s ≡ 0 →
 refs_case true live' v g s e z is none = let q = is refl in rw e (omega (arith, q, z))
 refs_case false live' v g s e z is none = rw e (none refl)
 
-refs_back : (d : Effects) (c : ℕ) (n : Node) → Sound d → refs_at d c n ≡ refs_at (resumed (rows_at d)) c n
+pub refs_back : (d : Effects) (c : ℕ) (n : Node) → Sound d → refs_at d c n ≡ refs_at (resumed (rows_at d)) c n
 refs_back d c n s =
     refs_case (is_live d c) (is_live (resumed (rows_at d)) c) (refs_at d c n) (granted (resumed (rows_at d)) c n)
     (released (resumed (rows_at d)) c n)
@@ -408,7 +408,7 @@ inbox_back d c s =
 
 -- ---- all of them
 
-policy_back : (d : Effects) → policy_at d ≡ policy_at (resumed (rows_at d))
+pub policy_back : (d : Effects) → policy_at d ≡ policy_at (resumed (rows_at d))
 policy_back d =
     let r = rows_at d in
     let F = policy_at in
@@ -416,7 +416,7 @@ policy_back d =
     past_names F r (λ x s b. refl)
     ∙ quiet F put_live (λ x b. refl) r.live (Sets r.policy ∷ Opens r.manager ∷ []))
 
-manager_back : (d : Effects) → manager_at d ≡ manager_at (resumed (rows_at d))
+pub manager_back : (d : Effects) → manager_at d ≡ manager_at (resumed (rows_at d))
 manager_back d =
     let r = rows_at d in
     let F = manager_at in

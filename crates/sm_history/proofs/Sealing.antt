@@ -34,7 +34,7 @@ use Rattle.sm_history.proofs.SegmentReads.{Speaks, follows, segments_read}
 
 -- ---- the same rows
 
-more_admins : (b : By) (bs : List By) → AllOf (λ v. is_admin v ≡ true) bs
+pub more_admins : (b : By) (bs : List By) → AllOf (λ v. is_admin v ≡ true) bs
     → AllOf (λ v. is_admin v ≡ true) (with_admin b bs)
 more_admins Manager bs all = all
 more_admins (Client c) bs all = all
@@ -149,21 +149,21 @@ pub record Grown (o : Opening) (es : List Entry) : Type 0 where
   pub opens : o ≡ rows_of (whole before)
   pub grown : AreLawfulApart (es ++ before)
 
-goes_on : (o : Opening) (e : Entry) (es : List Entry)
-    → verdict_apart (record { opening = o; entries = es }) e.by e.turn e.event ≡ Done e.outcome
+goes_on : (number : ℕ) (o : Opening) (e : Entry) (es : List Entry)
+    → verdict_apart (record { number = number; opening = o; entries = es }) e.by e.turn e.event ≡ Done e.outcome
     → HasSoundPolicy e.event
     → ((o ≡ nothing) × AreLawfulApart es) ⊎ Grown o es → ((o ≡ nothing) × AreLawfulApart (e ∷ es)) ⊎ Grown o (e ∷ es)
-goes_on o e es done ok (inl (is, l)) =
+goes_on number o e es done ok (inl (is, l)) =
     inl (
       is,
       apart_more e es l
-          (subst (λ (v : Opening). verdict_apart (record { opening = v; entries = es }) e.by e.turn e.event
-          ≡ Done e.outcome) is done) ok,
+          (subst (λ (v : Opening). verdict_apart (record { number = number; opening = v; entries = es }) e.by e.turn
+          e.event ≡ Done e.outcome) is done) ok,
     )
-goes_on o e es done ok (inr g) =
+goes_on number o e es done ok (inr g) =
     let done' : verdict_apart (segment_of g.before es) e.by e.turn e.event ≡ Done e.outcome =
-    subst (λ (v : Opening). verdict_apart (record { opening = v; entries = es }) e.by e.turn e.event ≡ Done e.outcome)
-    g.opens done in
+    subst (λ (v : Opening). verdict_apart (record { number = number; opening = v; entries = es }) e.by e.turn e.event
+    ≡ Done e.outcome) g.opens done in
     inr (record {
       before = g.before;
       lawful = g.lawful;
@@ -172,28 +172,32 @@ goes_on o e es done ok (inr g) =
           ((segments_read g.before es g.lawful g.grown).verdicts e.by e.turn e.event ∙ done') ok;
     })
 
-pub grown_from : (places : ℕ) (o : Opening) (es : List Entry) → AreLawful places o es
+pub grown_from : (places number : ℕ) (o : Opening) (es : List Entry) → AreLawful places number o es
     → ((o ≡ nothing) × AreLawfulApart es) ⊎ Grown o es
-grown_from places o [] (a, l, is) = inr (record { before = a; lawful = l; opens = is; grown = l })
-grown_from places o (e ∷ es) (inl (is, none, opens)) =
+grown_from places number o [] ((a, l, is), fits) = inr (record { before = a; lawful = l; opens = is; grown = l })
+grown_from places number o (e ∷ es) (inl (first, is, none, opens)) =
     inl (is, subst (λ (v : List Entry). AreLawfulApart (e ∷ v)) (sym none) opens)
-grown_from places o (e ∷ es) (inr (before, done, ok)) =
-    let h : History = record { opening = o; entries = es } in
+grown_from places number o (e ∷ es) (inr (before, done, ok)) =
+    let h : History = record { number = number; opening = o; entries = es } in
     let apart : verdict_apart h e.by e.turn e.event ≡ Done e.outcome =
     less_checked (effects_of h) (turn_of h e.by) e.by e.turn e.event
-    (Wants (has_place places h e.event) (Refused JournalFull) ∷ []) e.outcome done in
-    goes_on o e es apart ok (grown_from places o es before)
+    (Wants (has_place places h (client_of e.by) e.event) (Refused JournalFull) ∷ []) e.outcome done in
+    goes_on number o e es apart ok (grown_from places number o es before)
 
 left_by : (h : History) → ((h.opening ≡ nothing) × AreLawfulApart h.entries) ⊎ Grown h.opening h.entries
     → IsLeft (rows_of h)
-left_by h (inl (is, l)) = (h.entries, l, ap (λ (o : Opening). rows_of (record { opening = o; entries = h.entries })) is)
+left_by h (inl (is, l)) = (
+  h.entries,
+  l,
+  ap (λ (o : Opening). rows_of (record { number = h.number; opening = o; entries = h.entries })) is,
+)
 left_by h (inr g) = (
   h.entries ++ g.before,
   g.grown,
-  ap (λ (o : Opening). rows_of (record { opening = o; entries = h.entries })) g.opens ∙
+  ap (λ (o : Opening). rows_of (record { number = h.number; opening = o; entries = h.entries })) g.opens ∙
       replayed g.before h.entries g.lawful g.grown,
 )
 
 -- What a lawful history leaves may be gone on from.
 pub sealed_left : (places : ℕ) (h : History) → IsLawful places h → IsLeft (rows_of h)
-sealed_left places h l = left_by h (grown_from places h.opening h.entries l)
+sealed_left places h l = left_by h (grown_from places h.number h.opening h.entries l)

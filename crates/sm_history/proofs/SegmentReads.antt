@@ -51,7 +51,6 @@ use Rattle.sm_history.proofs.Living.{any_live}
 use Rattle.sm_history.proofs.RowsSound.{sim_rows}
 use Rattle.sm_history.proofs.PutRows.{among}
 use Rattle.sm_history.proofs.SoundHistory.{met, live_or_new}
-use Rattle.sm_history.specs.Sound.{Sound}
 
 -- ---- the turns in rows
 
@@ -61,11 +60,11 @@ turned k j = elim (k == j) as (λ a. (k == j) ≡ a → a ≡ (j == k)) [
   | false ↦ λ e. let f : (j == k) ≡ false = grind (arith, nat_tests) in sym f
 ] refl
 
-any_client : (k : ℕ) (ks : List ℕ) → list_any (is_same (client k)) (map client ks) ≡ among k ks
+pub any_client : (k : ℕ) (ks : List ℕ) → list_any (is_same (client k)) (map client ks) ≡ among k ks
 any_client k [] = refl
 any_client k (j ∷ js) = both (λ a b. a || b) (turned k j) (any_client k js)
 
-with_more : (a b : By) (bys : List By) → list_any (is_same a) (with_admin b bys) ≡ false
+pub with_more : (a b : By) (bys : List By) → list_any (is_same a) (with_admin b bys) ≡ false
     → list_any (is_same a) bys ≡ false
 with_more a Manager bys h = h
 with_more a (Client c) bys h = h
@@ -77,7 +76,7 @@ with_more a (Admin c) bys h =
           (sym (list_any-append (is_same a) bys (Admin c ∷ [])) ∙ e)).0
     ] h
 
-with_own : (a : _) (b : By) (bys : List By) → list_any (is_same (Admin a)) (with_admin b bys) ≡ false
+pub with_own : (a : _) (b : By) (bys : List By) → list_any (is_same (Admin a)) (with_admin b bys) ≡ false
     → is_same (Admin a) b ≡ false
 with_own a Manager bys h = refl
 with_own a (Client c) bys h = refl
@@ -114,7 +113,7 @@ Speaks d Manager = Unit {0}
 Speaks d (Client c) = (is_live d c.0 ≡ true) ⊎ (next_client d ≤ c.0)
 Speaks d (Admin a) = Unit {0}
 
-rows_case : (t : Bool) (v : ℕ) → (t ≡ false → v ≡ 0) → (if t then v else 0) ≡ v
+pub rows_case : (t : Bool) (v : ℕ) → (t ≡ false → v ≡ 0) → (if t then v else 0) ≡ v
 rows_case true v z = refl
 rows_case false v z = sym (z refl)
 
@@ -150,11 +149,11 @@ pub record Follows (a b : List Entry) : Type 0 where
   pub turns : (by : By) → Speaks (effects_of (whole (b ++ a))) by →
       turn_of (whole (b ++ a)) by ≡ turn_of (segment_of a b) by
 
-spoke : (d : Effects) (c : ℕ) (event : Event) (by : By) → Sound d → Speaks (after_event d c event) by → Speaks d by
-spoke d c event Manager s speaks = tt
-spoke d c event (Admin a) s speaks = tt
-spoke d c event (Client k) s (inl live) = live_or_new d c event s k.0 live
-spoke d c event (Client k) s (inr new) = let n = (next_after d c event).0 in inr (omega (arith, n, new))
+spoke : (d : Effects) (c : ℕ) (event : Event) (by : By) → Speaks (after_event d c event) by → Speaks d by
+spoke d c event Manager speaks = tt
+spoke d c event (Admin a) speaks = tt
+spoke d c event (Client k) (inl live) = live_or_new d c event k.0 live
+spoke d c event (Client k) (inr new) = let n = (next_after d c event).0 in inr (omega (arith, n, new))
 
 -- A change of a lawful history is the verdict on the one before.
 next_of : (e : Entry) (h : List Entry) → AreLawfulApart h → AreLawfulApart (e ∷ h)
@@ -186,7 +185,7 @@ follows a (e ∷ b) la l =
           turn_case _ _ _ _ _ (turns_in (rows_of (whole a)).turns by)
           (sum_by-cons (λ (x : Entry). cond (is_same by x.by) 1 0) e (b ++ a))
           (sum_by-cons (λ (x : Entry). cond (is_same by x.by) 1 0) e b)
-          (f.turns by (spoke d (client_of e.by) e.event by f.sim.left speaks));
+          (f.turns by (spoke d (client_of e.by) e.event by speaks));
     }
 
 -- ---- verdicts and answers
@@ -249,7 +248,7 @@ asked_alike d e len by q s =
 -- The words above are those of the verdict.
 verdict_is : (places : ℕ) (h : History) (by : By) (turn : ℕ) (event : Event)
     → verdict places h by turn event ≡ judged (effects_of h) (turn_of h by) by turn event
-    (Wants (has_place places h event) (Refused JournalFull) ∷ [])
+    (Wants (has_place places h (client_of by) event) (Refused JournalFull) ∷ [])
 verdict_is places h by turn event = refl
 
 looked_is : (h : History) (q : Query) (o : Option Stop) → looked h q o ≡ looked_at (effects_of h) (length_of h) q o
@@ -277,13 +276,13 @@ segments_read a b la l =
 -- Where both have a place or neither has, the whole verdicts are the same.
 pub verdicts_read : (p q : ℕ) (a b : List Entry) (by : By) (turn : ℕ) (event : Event) → AreLawfulApart a
     → AreLawfulApart (b ++ a)
-    → has_place p (whole (b ++ a)) event ≡ has_place q (segment_of a b) event
+    → has_place p (whole (b ++ a)) (client_of by) event ≡ has_place q (segment_of a b) (client_of by) event
     → verdict p (whole (b ++ a)) by turn event ≡ verdict q (segment_of a b) by turn event
 verdicts_read p q a b by turn event la l same =
     let f = follows a b la l in
     let h = whole (b ++ a) in
     let g = segment_of a b in
     judged_alike (effects_of h) (effects_of g) (turn_of h by) (turn_of g by) by turn event
-    (Wants (has_place p h event) (Refused JournalFull) ∷ []) f.sim
+    (Wants (has_place p h (client_of by) event) (Refused JournalFull) ∷ []) f.sim
     (λ there. f.turns by (speaks_there (effects_of h) by there))
     ∙ ap (λ (t : Bool). judged (effects_of g) (turn_of g by) by turn event (Wants t (Refused JournalFull) ∷ [])) same

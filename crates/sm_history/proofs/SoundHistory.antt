@@ -1,7 +1,8 @@
 -- What holds of the effects of a history that is lawful apart from the journal's places.
 use Rattle.std.proofs.Common.{inl, inr, ◌⊎◌, ◌≡◌, ℕ, ◌≤◌, ◌<◌, true, false, ◌==◌, List, [], ◌∷◌, refl, sym, ◌∙◌}
-use Rattle.std.proofs.Common.{if◌then◌else◌, arith}
-use Rattle.std.specs.Prelude.{not}
+use Rattle.std.proofs.Common.{arith}
+use Rattle.std.specs.Prelude.{not, ◌&&◌, ◌||◌}
+use Rattle.std.specs.List.{list_any}
 use Rattle.std.proofs.lemmas.Bool.Decides.{nat_tests}
 use Rattle.std.proofs.lemmas.Bool.{true≢false, and_parts}
 use Rattle.sm_history.specs.declared.by.By.{By}
@@ -13,7 +14,7 @@ use Rattle.sm_history.specs.declared.outcome.Outcome.{Outcome}
 use Rattle.sm_history.specs.declared.reply.Reply.TheVariants.{Done}
 use Rattle.sm_history.specs.Effects.{Effects, Opens, Sets, Connects, Dies, Adds, Removes, Gives, Releases, Watches}
 use Rattle.sm_history.specs.Effects.{Unwatches, Delivers, Takes, Resumes}
-use Rattle.sm_history.specs.Clients.{is_live, next_client, policy_at}
+use Rattle.sm_history.specs.Clients.{is_live, next_client, policy_at, is_connect_of, is_death_of}
 use Rattle.sm_history.specs.Checks.{Check}
 use Rattle.sm_history.specs.Histories.{client_of, after_event}
 use Rattle.sm_history.specs.Verdict.{event_checks, is_there, outcome_of}
@@ -22,8 +23,7 @@ use Rattle.sm_history.specs.Segments.{all_checks, judged}
 use Rattle.sm_history.proofs.Fresh.{live_below}
 use Rattle.sm_history.proofs.Owners.{all_hold}
 use Rattle.sm_history.proofs.Keeps.{Lasts, LeftToKeep, event_keeps}
-use Rattle.sm_history.proofs.AfterClients.{live_connects, live_dies}
-use Rattle.sm_history.proofs.Sound.{is_new}
+use Rattle.sm_history.proofs.AfterClients.{live_dies}
 use Rattle.sm_history.proofs.AgreeChecks.{Acts}
 use Rattle.sm_history.proofs.AgreeEvents.{Passes, hold_left, acts_of, sim_event}
 use Rattle.sm_history.specs.Sound.{IsFresh, Sound}
@@ -46,7 +46,7 @@ met d have by turn event rest outcome done =
 
 -- ---- soundness
 
-agree_self : (d : Effects) → Agree d d
+pub agree_self : (d : Effects) → Agree d d
 agree_self d = record {
   policy = refl;
   version = refl;
@@ -108,30 +108,29 @@ lasting b (Resumes v n) d plain h = absurd (true≢false (sym plain))
 same_lives : (d : Effects) → LiveOrNew d d
 same_lives d k live = inl live
 
-connect_lives : (d : Effects) (who : _) → Sound d → LiveOrNew d (Connects (next_client d) who ∷ d)
-connect_lives d who s k live =
+connect_lives : (d : Effects) (who : _) → LiveOrNew d (Connects (next_client d) who ∷ d)
+connect_lives d who k live =
     let n = next_client d in
-    let h : (if n == k then true else is_live d k) ≡ true = sym (live_connects d n who k (is_new d n refl s.fresh)) ∙
-    live in
-    elim (n == k) as (λ b. (n == k) ≡ b → (if b then true else is_live d k) ≡ true →
-    (is_live d k ≡ true) ⊎ (next_client d ≤ k)) [
+    elim (n == k) as (λ b. (n == k) ≡ b
+    → ((b || list_any (is_connect_of k) d) && not (list_any (is_death_of k) d)) ≡ true
+    → (is_live d k ≡ true) ⊎ (next_client d ≤ k)) [
       | true ↦ λ e i. inr (grind (arith, nat_tests))
       | false ↦ λ e i. inl i
-    ] refl h
+    ] refl live
 
-left_lives : (d : Effects) (c : ℕ) (event : Event) → Sound d → LeftToKeep (LiveOrNew d) d c event
-left_lives d c (Open who policy) s = tt
-left_lives d c (Connect who) s = connect_lives d who s
-left_lives d c (Add name obj allow dump) s = same_lives d
-left_lives d c (Get name) s = tt
-left_lives d c (WatchName name object) s = tt
-left_lives d c (Unwatch name object) s = tt
-left_lives d c (Unregister name obj) s = tt
-left_lives d c (Call handle payload refs) s = tt
-left_lives d c (Release handle) s = same_lives d
-left_lives d c Take s = tt
-left_lives d c Die s = λ k live. inl (and_parts (is_live d k) (not (c == k)) (sym (live_dies d c k) ∙ live)).0
-left_lives d c (Reload expected policy) s = tt
+left_lives : (d : Effects) (c : ℕ) (event : Event) → LeftToKeep (LiveOrNew d) d c event
+left_lives d c (Open who policy) = tt
+left_lives d c (Connect who) = connect_lives d who
+left_lives d c (Add name obj allow dump) = same_lives d
+left_lives d c (Get name) = tt
+left_lives d c (WatchName name object) = tt
+left_lives d c (Unwatch name object) = tt
+left_lives d c (Unregister name obj) = tt
+left_lives d c (Call handle payload refs) = tt
+left_lives d c (Release handle) = same_lives d
+left_lives d c Take = tt
+left_lives d c Die = λ k live. inl (and_parts (is_live d k) (not (c == k)) (sym (live_dies d c k) ∙ live)).0
+left_lives d c (Reload expected policy) = tt
 
-pub live_or_new : (d : Effects) (c : ℕ) (event : Event) → Sound d → LiveOrNew d (after_event d c event)
-live_or_new d c event s = event_keeps (LiveOrNew d) (lasting d) d c event (left_lives d c event s) (same_lives d)
+pub live_or_new : (d : Effects) (c : ℕ) (event : Event) → LiveOrNew d (after_event d c event)
+live_or_new d c event = event_keeps (LiveOrNew d) (lasting d) d c event (left_lives d c event) (same_lives d)

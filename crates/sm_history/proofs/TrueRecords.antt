@@ -1,8 +1,8 @@
 -- What checks leave is true of the history in which they are made.
-use Rattle.std.proofs.Common.{inl, inr, ◌≡◌, ℕ, ◌-◌, suc, Bool, true, false, ◌==◌, List, [], ◌∷◌, ◌++◌, drop, refl}
-use Rattle.std.proofs.Common.{ap, sym, ◌∙◌, subst, Option, Some, None, unwrap_or, if◌then◌else◌, arith}
-use Rattle.std.specs.Prelude.{not, ◌&&◌, ◌||◌, is_none}
-use Rattle.std.specs.List.{All, Contains, list_any, list_all}
+use Rattle.std.proofs.Common.{inl, inr, ◌≡◌, ℕ, ◌-◌, Bool, true, false, ◌==◌, List, [], ◌∷◌, ◌++◌, drop, refl}
+use Rattle.std.proofs.Common.{ap, sym, ◌∙◌, subst, Option, Some, None, if◌then◌else◌, arith}
+use Rattle.std.specs.Prelude.{not, ◌&&◌, is_none}
+use Rattle.std.specs.List.{All, list_all}
 use Rattle.std.proofs.lemmas.Bool.{true≢false, and_parts}
 use Rattle.std.proofs.lemmas.List.Elements.{All-append, All-nil, All-cons}
 use Rattle.sm_kinds.specs.Users.{is_barred, is_isolated_user}
@@ -29,8 +29,8 @@ use Rattle.sm_history.specs.declared.stop.Instead.TheVariants.{Refused}
 use Rattle.sm_history.specs.declared.stop.Stop.{Stop}
 use Rattle.sm_history.specs.declared.refusal.Refusal.TheVariants.{Failed, JournalFull}
 use Rattle.sm_history.specs.declared.refusal.Failure.TheVariants.{NotYours, NotConnected, OutOfTurn}
-use Rattle.sm_history.specs.Effects.{Effect, Effects, Service, Watch, Opens, Connects, Adds, Watches, Gives}
-use Rattle.sm_history.specs.Clients.{manager_at, identity_at, is_live, is_connect_of, is_death_of, policy_at}
+use Rattle.sm_history.specs.Effects.{Effects, Service, Watch, Adds, Watches, Gives}
+use Rattle.sm_history.specs.Clients.{manager_at, identity_at, is_live, is_opened, policy_at}
 use Rattle.sm_history.specs.Clients.{version_at}
 use Rattle.sm_history.specs.Checks.{Check, Needs, Spares, Wants, holds, first_failing}
 use Rattle.sm_history.specs.Holdings.{resolve_at, node_at, handed, number_for}
@@ -49,43 +49,11 @@ use Rattle.sm_history.proofs.AgreeNotices.{AllLive, watchers_live}
 
 -- ---- who stands in effects
 
-contains_first : {X : Type 0} (x : X) (xs : List X) → Contains (x ∷ xs) x
-contains_first x xs = (0, omega arith, refl)
-
-contains_later : {X : Type 0} (y x : X) (xs : List X) → Contains xs x → Contains (y ∷ xs) x
-contains_later y x xs (k, lt, is) = (suc k, omega (arith, lt), is)
-
-stands_later : (x : Effect) (d : Effects) (who : Identity) → Stands d who → Stands (x ∷ d) who
-stands_later x d who (inl opens) = inl (contains_later x (Opens who) d opens)
-stands_later x d who (inr (c, connects)) = inr (c, contains_later x (Connects c who) d connects)
-
--- A client that has connected stands there.
-connected_stands : (d : Effects) (c : ℕ) → list_any (is_connect_of c) d ≡ true → Stands d (identity_at d c)
-connected_stands [] c h = absurd (true≢false (sym h))
-connected_stands (Connects k who ∷ d) c h =
-    elim (k == c) as (λ b. (b || list_any (is_connect_of c) d) ≡ true →
-    Stands (Connects k who ∷ d) (unwrap_or (if b then Some who else None) (identity_at d c))) [
-      | true ↦ λ e. inr (k, contains_first (Connects k who) d)
-      | false ↦ λ e. stands_later (Connects k who) d (identity_at d c) (connected_stands d c e)
-    ] h
-connected_stands (x ∷ d) c h = stands_later x d (identity_at d c) (connected_stands d c h)
-
 pub live_stands : (d : Effects) (c : ℕ) → is_live d c ≡ true → Stands d (identity_at d c)
-live_stands d c live = connected_stands d c
-    (and_parts (list_any (is_connect_of c) d) (not (list_any (is_death_of c) d)) live).0
+live_stands d c live = inr (c, live, refl)
 
--- The manager was opened.
-abbrev pub is_opening : Effect → Bool
-is_opening (Opens who) = true
-is_opening _ = false
-
-abbrev pub IsOpened : Effects → Type 0
-IsOpened d = list_any is_opening d ≡ true
-
-pub opened_stands : (d : Effects) → IsOpened d → Stands d (manager_at d)
-opened_stands [] h = absurd (true≢false (sym h))
-opened_stands (Opens who ∷ d) h = inl (contains_first (Opens who) d)
-opened_stands (x ∷ d) h = stands_later x d (manager_at d) (opened_stands d h)
+pub opened_stands : (d : Effects) → is_opened d ≡ true → Stands d (manager_at d)
+opened_stands d opened = inl (opened, refl)
 
 -- ---- checks whose records are true
 
@@ -109,11 +77,12 @@ good_append : (d : Effects) (xs ys : List Check) → AllGood d xs → AllGood d 
 good_append d [] ys gs hs = hs
 good_append d (x ∷ xs) ys (g, gs) hs = (g, good_append d xs ys gs hs)
 
-prefix_now : (h : History) → prefix_at h (length_of h) ≡ h
-prefix_now h = ap (λ (k : ℕ). let g : History = record { opening = h.opening; entries = drop k h.entries } in g)
+pub prefix_now : (h : History) → prefix_at h (length_of h) ≡ h
+prefix_now h = ap (λ (k : ℕ). let g : History =
+    record { number = h.number; opening = h.opening; entries = drop k h.entries } in g)
     (let z : length_of h - length_of h ≡ 0 = omega arith in z)
 
-true_now : (h : History) (r : Record) → r.length ≡ length_of h → r.version ≡ version_at (effects_of h)
+pub true_now : (h : History) (r : Record) → r.length ≡ length_of h → r.version ≡ version_at (effects_of h)
     → Stands (effects_of h) r.who → IsDeniedBy (effects_of h) r r.denial → IsTrueOf h r
 true_now h r at version stands denied =
     let is : h ≡ prefix_at h r.length = sym (ap (prefix_at h) at ∙ prefix_now h) in
@@ -212,7 +181,8 @@ handing_good d c None = tt
 handing_good d c (Some s) = (tt, (tt, tt))
 
 -- The checks of an event of a live client, or of another actor.
-event_good : (d : Effects) (c : ℕ) (event : Event) → IsOpened d → Acts d c event → AllGood d (event_checks d c event)
+event_good : (d : Effects) (c : ℕ) (event : Event) → is_opened d ≡ true → Acts d c event
+    → AllGood d (event_checks d c event)
 event_good d c (Open who policy) opened acts = tt
 event_good d c (Connect who) opened acts = (tt, tt)
 event_good d c (Reload expected policy) opened acts = (tt, tt)
@@ -281,14 +251,16 @@ told_same d e n w None s = let t = handed_same d e w.client n s in
     record { clients = t.clients; manager = t.manager }
 told_same d e n w (Some stop) s = s
 
-notice_good : (d e : Effects) (n : Node) (w : Watch) → SameProcesses d e → IsOpened d → is_live d w.client ≡ true
+notice_good : (d e : Effects) (n : Node) (w : Watch) → SameProcesses d e → is_opened d ≡ true
+    → is_live d w.client ≡ true
     → AllGood d (notice_checks e n w)
 notice_good d e n w s opened live =
     let manager = subst (Stands d) (sym s.manager) (opened_stands d opened) in
     (subst (Stands d) (sym (s.clients w.client)) (live_stands d w.client live), (manager, (manager, (tt, tt))))
 
 notices_true : (h : History) (e : Effects) (n : Node) (ws : List Watch) → SameProcesses (effects_of h) e
-    → IsOpened (effects_of h) → AllLive (effects_of h) ws → All (IsTrueOf h) (left_by_notices (moment_of h) e n ws)
+    → is_opened (effects_of h) ≡ true → AllLive (effects_of h) ws
+    → All (IsTrueOf h) (left_by_notices (moment_of h) e n ws)
 notices_true h e n [] s opened live = All-nil (IsTrueOf h)
 notices_true h e n (w ∷ ws) s opened live =
     let d = effects_of h in
@@ -299,12 +271,12 @@ notices_true h e n (w ∷ ws) s opened live =
     (notices_true h (after_notice e n w) n ws (told_same d e n w (first_missing e n w) s) opened lives.1)
 
 watch_true : (h : History) (e : Effects) (w : Watch) (o : Option Service) → SameProcesses (effects_of h) e
-    → IsOpened (effects_of h) → is_live (effects_of h) w.client ≡ true
+    → is_opened (effects_of h) ≡ true → is_live (effects_of h) w.client ≡ true
     → All (IsTrueOf h) (left_by_watch (moment_of h) e w o)
 watch_true h e w None s opened live = All-nil (IsTrueOf h)
 watch_true h e w (Some t) s opened live = notices_true h e t.node (w ∷ []) s opened (rw live refl)
 
-telling_true : (h : History) (c : ℕ) (event : Event) → IsOpened (effects_of h) → Acts (effects_of h) c event
+telling_true : (h : History) (c : ℕ) (event : Event) → is_opened (effects_of h) ≡ true → Acts (effects_of h) c event
     → All (IsTrueOf h) (left_by_telling (moment_of h) (effects_of h) c event)
 telling_true h c (Add name obj allow dump) opened live =
     let d = effects_of h in
@@ -345,12 +317,13 @@ behind_true h true true i j xs told good tells =
       | false ↦ All-nil (IsTrueOf h)
     ])
 
-pub event_records_true : (places : ℕ) (h : History) (by : By) (turn : ℕ) (event : Event) → IsOpened (effects_of h)
+pub event_records_true : (places : ℕ) (h : History) (by : By) (turn : ℕ) (event : Event)
+    → is_opened (effects_of h) ≡ true
     → All (IsTrueOf h) (records places h by turn event)
 event_records_true places h by turn event opened =
     let d = effects_of h in
     let c = client_of by in
-    let place = Wants (has_place places h event) (Refused JournalFull) ∷ [] in
+    let place = Wants (has_place places h c event) (Refused JournalFull) ∷ [] in
     behind_true h (is_theirs by event) (is_there d by) (Refused (Failed NotYours)) (Refused (Failed NotConnected))
     (Wants (turn == turn_of h by) (Refused (Failed (OutOfTurn (turn_of h by)))) ∷ event_checks d c event ++ place)
     (left_by_telling (moment_of h) d c event)

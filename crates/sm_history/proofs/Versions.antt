@@ -54,22 +54,31 @@ pub version_set : (p : Policy) (d : Effects) → version_at (Sets p ∷ d) ≡ v
 version_set p d = refl
 
 -- An event brings one policy into force at most.
-version_after : (d : Effects) (c : ℕ) (event : Event) → version_at (after_event d c event) ≤ version_at d + 1
-version_after d c (Open who policy) = let one = version_set policy (Opens who ∷ d) in omega (arith, one)
-version_after d c (Connect who) = omega arith
+pub version_after : (d : Effects) (c : ℕ) (event : Event)
+    → (version_at d ≤ version_at (after_event d c event)) × (version_at (after_event d c event) ≤ version_at d + 1)
+version_after d c (Open who policy) = let one = version_set policy (Opens who ∷ d) in (
+  omega (arith, one),
+  omega
+      (arith, one),
+)
+version_after d c (Connect who) = (omega arith, omega arith)
 version_after d c (Add name obj allow dump) = let n = found (resolve_at d c obj) in
-    let same = notices-same (Adds name (service c n allow dump) ∷ d) n (watchers_at d name) in omega (arith, same)
-version_after d c (Get name) = let same = get-same d c (service_at d name) in omega (arith, same)
+    let same = notices-same (Adds name (service c n allow dump) ∷ d) n (watchers_at d name) in (
+      omega
+          (arith, same),
+      omega (arith, same),
+    )
+version_after d c (Get name) = let same = get-same d c (service_at d name) in (omega (arith, same), omega (arith, same))
 version_after d c (WatchName name object) = let w = watch c name object in
-    let same = watch-same (Watches w ∷ d) w (service_at d name) in omega (arith, same)
-version_after d c (Unwatch name object) = omega arith
-version_after d c (Unregister name obj) = omega arith
+    let same = watch-same (Watches w ∷ d) w (service_at d name) in (omega (arith, same), omega (arith, same))
+version_after d c (Unwatch name object) = (omega arith, omega arith)
+version_after d c (Unregister name obj) = (omega arith, omega arith)
 version_after d c (Call handle payload refs) = let n = found (node_at d c handle) in
-    let same = refs-same d c n.owner.0 refs in omega (arith, same)
-version_after d c (Release handle) = omega arith
-version_after d c Take = omega arith
-version_after d c Die = omega arith
-version_after d c (Reload expected policy) = let one = version_set policy d in omega (arith, one)
+    let same = refs-same d c n.owner.0 refs in (omega (arith, same), omega (arith, same))
+version_after d c (Release handle) = (omega arith, omega arith)
+version_after d c Take = (omega arith, omega arith)
+version_after d c Die = (omega arith, omega arith)
+version_after d c (Reload expected policy) = let one = version_set policy d in (omega (arith, one), omega (arith, one))
 
 abbrev IsSmall : History → Type 0
 IsSmall h = version_at (effects_of h) ≤ length_of h
@@ -81,6 +90,6 @@ pub version_small : (places : ℕ) (h : History) → IsLawful places h → versi
 version_small places h l =
     holds_lawful IsSmall (record {
       opens = small_opening;
-      goes_on = λ e g m i. let n = version_after (effects_of g) (client_of e.by) e.event in omega (arith, i, n);
-      resumes = λ a la i. omega (arith, i);
+      goes_on = λ e g m i. let n = (version_after (effects_of g) (client_of e.by) e.event).1 in omega (arith, i, n);
+      resumes = λ number a la i. omega (arith, i);
     }) places h l

@@ -1,11 +1,39 @@
 -- What it is that a history begins with another.
-use Rattle.std.specs.Prelude.{◌≡◌, List, ◌++◌}
+use Rattle.std.specs.Prelude.{◌≡◌, ◌≤◌, true, List, [], ◌∷◌, ◌++◌}
+use Rattle.sm_history.specs.declared.by.By.{By}
 use Rattle.sm_history.specs.declared.entry.Entry.{Entry}
-use Rattle.sm_history.specs.Histories.{History}
+use Rattle.sm_history.specs.Clients.{next_client, version_at}
+use Rattle.sm_history.specs.Histories.{History, entered, effects_of, length_of, turn_of}
+use Rattle.sm_history.specs.Verdict.{is_there}
+use Rattle.sm_history.specs.Segments.{sealed}
 
--- The history `new` begins with the history `old`: both have one opening, and behind the entries of `old` come
--- others, which stand before them, since the newest is the first.
+-- What may become of a history: one more change, or a seal.
+pub data Move : Type 0 where
+  Made : Entry → Move
+  Seals : Move
+
+-- A history after moves, the newest of which is the first.
+abbrev pub gone_on : History → List Move → History
+gone_on h [] = h
+gone_on h (Made e ∷ moves) = entered e (gone_on h moves)
+gone_on h (Seals ∷ moves) = sealed (gone_on h moves)
+
+-- The history `new` begins with the history `old`: it is what moves made of it.
 pub record BeginsWith (new old : History) : Type 0 where
+  pub moves : List Move
+  pub is : new ≡ gone_on old moves
+
+-- Both are one segment, and behind the entries of `old` come others, which stand before them, since the newest is the
+-- first.
+pub record IsLonger (new old : History) : Type 0 where
   pub opening : new.opening ≡ old.opening
   pub rest : List Entry
   pub entries : new.entries ≡ rest ++ old.entries
+
+-- What of a later history is never less: of turns, those of an actor that is there in it.
+pub record IsLater (new old : History) : Type 0 where
+  pub number : old.number ≤ new.number
+  pub length : length_of old ≤ length_of new
+  pub version : version_at (effects_of old) ≤ version_at (effects_of new)
+  pub clients : next_client (effects_of old) ≤ next_client (effects_of new)
+  pub turns : (by : By) → is_there (effects_of new) by ≡ true → turn_of old by ≤ turn_of new by

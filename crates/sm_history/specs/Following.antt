@@ -1,12 +1,13 @@
 -- Which effects may come next, and lists of effects that come in order.
-use Rattle.std.specs.Prelude.{◌≡◌, true, false, ◌==◌, List, [], ◌∷◌, nat_lt, length}
+use Rattle.sm_kinds.specs.declared.number.Node.{Node}
+use Rattle.std.specs.Prelude.{ℕ, ◌≡◌, ◌+◌, true, false, ◌==◌, List, [], ◌∷◌, nat_lt, length}
 use Rattle.sm_history.specs.Effects.{Effect, Effects, Connects, Dies, Adds, Gives, Releases, Watches, Unwatches}
 use Rattle.sm_history.specs.Effects.{Delivers, Takes, Resumes}
 use Rattle.sm_history.specs.Clients.{is_live, next_client}
-use Rattle.sm_history.specs.Holdings.{is_held, number_for, fits_handles}
+use Rattle.sm_history.specs.Holdings.{refs_at, is_held, number_for, fits_handles}
 use Rattle.sm_history.specs.Inboxes.{inbox_at, has_inbox_room}
 use Rattle.sm_history.specs.Services.{watches_at}
-use Rattle.sm_history.specs.declared.limits.TheConstants.{MOST_WATCHES}
+use Rattle.sm_history.specs.declared.limits.TheConstants.{MOST_WATCHES, GREATEST}
 
 -- What a judged event has made sure of, for each of its effects.
 abbrev pub MayFollow : Effects → Effect → Type 0
@@ -15,7 +16,7 @@ MayFollow d (Dies c) = is_live d c ≡ true
 MayFollow d (Adds name s) = is_live d s.node.owner.0 ≡ true
 MayFollow d (Gives c n r) =
     (is_live d c ≡ true) × (r ≡ number_for d c n) × ((n.owner.0 == c) ≡ false)
-    × (fits_handles (Gives c n r ∷ d) c ≡ true)
+    × (fits_handles (Gives c n r ∷ d) c ≡ true) × (nat_lt (refs_at d c n + 1) GREATEST ≡ true)
 MayFollow d (Releases c n) = (is_live d c ≡ true) × (is_held d c n ≡ true)
 MayFollow d (Watches w) = (is_live d w.client ≡ true) × (nat_lt (length (watches_at d)) MOST_WATCHES ≡ true)
 MayFollow d (Unwatches w) = is_live d w.client ≡ true
@@ -23,6 +24,17 @@ MayFollow d (Delivers c x) = (is_live d c ≡ true) × (has_inbox_room d c ≡ t
 MayFollow d (Takes c) = nat_lt 0 (length (inbox_at d c)) ≡ true
 MayFollow d (Resumes version clients) = ⊥
 MayFollow d _ = Unit {0}
+
+-- What tables need of a grant: handles may be more than a client may hold.
+abbrev pub MayGive : Effects → ℕ → Node → ℕ → Type 0
+MayGive d c n r = (is_live d c ≡ true) × (r ≡ number_for d c n) × (nat_lt (refs_at d c n + 1) GREATEST ≡ true)
+
+-- The same apart from the counts of grants.
+abbrev pub MayFollowApart : Effects → Effect → Type 0
+MayFollowApart d (Gives c n r) =
+    (is_live d c ≡ true) × (r ≡ number_for d c n) × ((n.owner.0 == c) ≡ false)
+    × (fits_handles (Gives c n r ∷ d) c ≡ true)
+MayFollowApart d x = MayFollow d x
 
 -- Effects in order, the oldest first, put onto others.
 abbrev pub followed : Effects → List Effect → Effects
@@ -32,3 +44,7 @@ followed d (x ∷ xs) = followed (x ∷ d) xs
 abbrev pub MayAll : Effects → List Effect → Type 0
 MayAll d [] = Unit {0}
 MayAll d (x ∷ xs) = MayFollow d x × MayAll (x ∷ d) xs
+
+abbrev pub MayAllApart : Effects → List Effect → Type 0
+MayAllApart d [] = Unit {0}
+MayAllApart d (x ∷ xs) = MayFollowApart d x × MayAllApart (x ∷ d) xs

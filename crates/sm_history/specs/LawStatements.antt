@@ -9,15 +9,15 @@ use Rattle.sm_history.specs.Clients.{next_client, version_at}
 use Rattle.sm_history.specs.Holdings.{node_at, free_number}
 use Rattle.sm_history.specs.Histories.{History, entered, effects_of, length_of, turn_of}
 use Rattle.sm_history.specs.Verdict.{verdict}
-use Rattle.sm_history.specs.Segments.{client}
-use Rattle.sm_history.specs.Lawful.{IsLawful, FitsPlaces, HasSoundPolicy}
+use Rattle.sm_history.specs.Segments.{client, sealed}
+use Rattle.sm_history.specs.Lawful.{IsLawful, FitsPlaces, FitsNumbers, HasSoundPolicy}
 use Rattle.sm_history.specs.Sound.{Sound}
-use Rattle.sm_history.specs.Beginning.{BeginsWith}
+use Rattle.sm_history.specs.Beginning.{BeginsWith, IsLonger, IsLater}
 use Rattle.std.specs.List.{All}
 use Rattle.sm_history.specs.declared.event.Event.{Event}
 use Rattle.sm_history.specs.declared.query.Query.{Query}
 use Rattle.sm_history.specs.declared.records.Record.{Record}
-use Rattle.sm_history.specs.Records.{records, query_records, IsTrueOf}
+use Rattle.sm_history.specs.Records.{records, query_records, IsTrueOf, IsTrueSince}
 
 abbrev pub LawfulAreSound : Type 0
 LawfulAreSound = (places : ℕ) (h : History) → IsLawful places h → Sound (effects_of h)
@@ -47,14 +47,37 @@ abbrev pub DoneFits : Type 0
 DoneFits = (places : ℕ) (h : History) (e : Entry) → IsLawful places h → FitsPlaces places h
     → verdict places h e.by e.turn e.event ≡ Done e.outcome → FitsPlaces places (entered e h)
 
+-- Lengths, counts of grants and the deaths still to come are below the greatest number, and so are turns, versions and
+-- the numbers of clients.
+abbrev pub NumbersFit : Type 0
+NumbersFit = (places : ℕ) (h : History) → IsLawful places h → FitsNumbers h
+
+-- What a lawful history leaves may be gone on from, and has the places for the deaths to come.
+abbrev pub SealedIsLawful : Type 0
+SealedIsLawful = (places : ℕ) (h : History) → IsLawful places h → IsLawful places (sealed h)
+
+abbrev pub SealedFits : Type 0
+SealedFits = (places : ℕ) (h : History) → IsLawful places h → FitsPlaces places h → FitsPlaces places (sealed h)
+
 abbrev pub BeginsWithItself : Type 0
 BeginsWithItself = (h : History) → BeginsWith h h
 
 abbrev pub BeginsWithTheOneBefore : Type 0
 BeginsWithTheOneBefore = (e : Entry) (h : History) → BeginsWith (entered e h) h
 
+abbrev pub BeginsWithTheOneSealed : Type 0
+BeginsWithTheOneSealed = (h : History) → BeginsWith (sealed h) h
+
 abbrev pub BeginsWithItsBeginnings : Type 0
 BeginsWithItsBeginnings = (g h k : History) → BeginsWith g h → BeginsWith h k → BeginsWith g k
+
+-- Where both are one segment there were changes alone.
+abbrev pub SegmentsGrow : Type 0
+SegmentsGrow = (new old : History) → BeginsWith new old → new.number ≡ old.number → IsLonger new old
+
+-- What comes later is at least what was before, and so has no actor that is there a smaller turn.
+abbrev pub LaterIsMore : Type 0
+LaterIsMore = (places : ℕ) (new old : History) → IsLawful places old → BeginsWith new old → IsLater new old
 
 -- The records of an event, and those of a query, are true of the history in which it is judged.
 abbrev pub RecordsAreTrue : Type 0
@@ -64,6 +87,6 @@ RecordsAreTrue = (places : ℕ) (h : History) (by : By) (turn : ℕ) (event : Ev
 abbrev pub QueryRecordsAreTrue : Type 0
 QueryRecordsAreTrue = (h : History) (by : By) (q : Query) → All (IsTrueOf h) (query_records h by q)
 
--- What is true of a history is true of every history that begins with it.
+-- What is kept of a record is true of every history that begins with the one of which it was true.
 abbrev pub RecordsStayTrue : Type 0
-RecordsStayTrue = (new old : History) (r : Record) → BeginsWith new old → IsTrueOf old r → IsTrueOf new r
+RecordsStayTrue = (new old : History) (r : Record) → BeginsWith new old → IsTrueSince old r → IsTrueSince new r

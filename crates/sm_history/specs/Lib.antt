@@ -27,3 +27,7 @@ pub mod LawStatements
 pub mod WorkedRuns
 pub mod Records
 pub mod Told
+pub mod Tables
+pub mod Entering
+pub mod Replaying
+pub mod Turning

@@ -1,7 +1,6 @@
 -- The records of what no rule gives.
 use Rattle.std.specs.Prelude.{ℕ, true, false, ◌-◌, ◌≡◌, ◌≤◌, List, [], ◌∷◌, ◌++◌, ◌⊎◌, Option, Some, None, is_none}
 use Rattle.std.specs.Prelude.{drop, if◌then◌else◌}
-use Rattle.std.specs.List.{Contains}
 use Rattle.sm_kinds.specs.Users.{is_barred, is_isolated_user}
 use Rattle.sm_kinds.specs.Contexts.{type_of}
 use Rattle.sm_kinds.specs.declared.class.Class.{Class}
@@ -16,8 +15,8 @@ use Rattle.sm_history.specs.declared.denial.Denial.{Denial}
 use Rattle.sm_history.specs.declared.denial.Denial.TheVariants.{Rule, App, Isolated}
 use Rattle.sm_history.specs.declared.query.Query.{Query}
 use Rattle.sm_history.specs.declared.records.Record.{Record}
-use Rattle.sm_history.specs.Effects.{Effects, Service, Watch, Opens, Connects, Adds, Watches}
-use Rattle.sm_history.specs.Clients.{policy_at, version_at}
+use Rattle.sm_history.specs.Effects.{Effects, Service, Watch, Adds, Watches}
+use Rattle.sm_history.specs.Clients.{policy_at, version_at, manager_at, identity_at, is_live, is_opened}
 use Rattle.sm_history.specs.Holdings.{resolve_at}
 use Rattle.sm_history.specs.Services.{service_at, watchers_at}
 use Rattle.sm_history.specs.Checks.{Check, Needs, Spares, Wants, holds, first_failing, rule_denial}
@@ -109,11 +108,12 @@ query_records h by q = left_by_all (moment_of h) (checks_of_query h by q)
 
 -- The history as it was at a length.
 abbrev pub prefix_at : History → ℕ → History
-prefix_at h n = record { opening = h.opening; entries = drop (length_of h - n) h.entries }
+prefix_at h n = record { number = h.number; opening = h.opening; entries = drop (length_of h - n) h.entries }
 
--- An identity stands in a history: the manager opened under it, or a client connected.
+-- An identity stands in a history: it is that of the manager, which was opened, or of a live client.
 abbrev pub Stands : Effects → Identity → Type 0
-Stands d who = Contains d (Opens who) ⊎ ((c : ℕ) × Contains d (Connects c who))
+Stands d who = ((is_opened d ≡ true) × (who ≡ manager_at d))
+    ⊎ ((c : ℕ) × (is_live d c ≡ true) × (who ≡ identity_at d c))
 
 -- No rule gives what a record says, and it passed only if the source is permissive; or the clause holds of its user.
 abbrev pub IsDeniedBy : Effects → Record → Denial → Type 0
@@ -130,3 +130,8 @@ pub record IsTrueOf (h : History) (r : Record) : Type 0 where
   pub version : r.version ≡ version_at (effects_of (prefix_at h r.length))
   pub stands : Stands (effects_of (prefix_at h r.length)) r.who
   pub denied : IsDeniedBy (effects_of (prefix_at h r.length)) r r.denial
+
+-- A record is true of a history in which it was made; of one that was made before the opening nothing is said, so that
+-- what is kept goes over seals.
+abbrev pub IsTrueSince : History → Record → Type 0
+IsTrueSince h r = h.opening.length ≤ r.length → IsTrueOf h r

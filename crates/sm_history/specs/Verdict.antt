@@ -32,15 +32,15 @@ use Rattle.sm_history.specs.declared.delivery.Delivery.{Delivery}
 use Rattle.sm_history.specs.declared.notice.Notice.{Notice}
 use Rattle.sm_history.specs.Effects.{Effects, Service, Watch, Adds, Watches, same_node}
 use Rattle.sm_history.specs.Clients.{policy_at, version_at, identity_at, is_live, live_clients, next_client}
-use Rattle.sm_history.specs.Holdings.{resolve_at, node_at, handed, number_for, fits_handles, is_in_use}
+use Rattle.sm_history.specs.Holdings.{resolve_at, node_at, handed, number_for, fits_handles, is_in_use, counts_fit}
 use Rattle.sm_history.specs.Services.{service_at, watchers_at, watches_at, same_watch, has_name_room}
 use Rattle.sm_history.specs.Inboxes.{inbox_at, has_inbox_room}
 use Rattle.sm_history.specs.Checks.{Check, Spares, Wants, answer_of, first_failing, to_manager, from_manager}
 use Rattle.sm_history.specs.Checks.{to_client, to_label, adding, finding, calling, transferring}
 use Rattle.sm_history.specs.Notices.{notice_at, notices_at}
 use Rattle.sm_history.specs.Histories.{History, turn_of, client_of, found, handed_refs, call_delivery, service, watch}
-use Rattle.sm_history.specs.Histories.{effects_of}
-use Rattle.sm_history.specs.declared.limits.TheConstants.{MOST_WATCHES, MOST_CLIENTS, LAST_CLIENT}
+use Rattle.sm_history.specs.Histories.{effects_of, length_of, after_event}
+use Rattle.sm_history.specs.declared.limits.TheConstants.{MOST_WATCHES, MOST_CLIENTS, LAST_CLIENT, GREATEST}
 
 -- Clauses on the user number.
 abbrev pub not_barred : Effects → ℕ → List ℕ → Check
@@ -204,15 +204,23 @@ abbrev pub is_die : Event → Bool
 is_die Die = true
 is_die _ = false
 
-abbrev pub has_place : ℕ → History → Event → Bool
-has_place places h event =
-    is_die event || nat_le (length h.entries + length (live_clients (effects_of h)) + places_needed event) places
+-- The length, with an event and the deaths still to come, is below the greatest number.
+abbrev pub has_length_room : History → Event → Bool
+has_length_room h event = nat_lt (length_of h + length (live_clients (effects_of h)) + places_needed event) GREATEST
+
+-- An event of client c has its place, and no length and no count of grants comes to the greatest number. A death
+-- has what was kept for it.
+abbrev pub has_place : ℕ → History → ℕ → Event → Bool
+has_place places h c event =
+    is_die event
+    || (nat_le (length h.entries + length (live_clients (effects_of h)) + places_needed event) places
+    && has_length_room h event && counts_fit (after_event (effects_of h) c event))
 
 -- All that an event must meet.
 abbrev pub checks : ℕ → History → By → ℕ → Event → List Check
 checks places h by turn event =
     actor_checks h by turn event ++ event_checks (effects_of h) (client_of by) event
-    ++ Wants (has_place places h event) (Refused JournalFull) ∷ []
+    ++ Wants (has_place places h (client_of by) event) (Refused JournalFull) ∷ []
 
 abbrev pub notice_of_watch : Effects → Watch → Option Service → Option Notice
 notice_of_watch d w None = None

@@ -6,40 +6,57 @@
 #![tactic(auto)]
 
 mod by;
+mod chunk;
+mod client_row;
+mod copying;
 mod delivery;
 mod denial;
 mod effect;
+mod entering;
 mod entry;
 mod event;
 pub mod laws;
 mod limits;
+mod live;
+mod named_row;
 mod notice;
 mod outcome;
 mod query;
 mod records;
 mod refusal;
+mod replay;
 mod reply;
+mod rows;
+mod segment;
 mod service;
 mod stop;
+mod tables;
 mod told;
 mod turn;
+mod turning;
 
 pub use by::By;
+pub use chunk::Chunk;
+pub use client_row::{ClientRow, Held};
 pub use delivery::{BoxedDelivery, Delivery, Given, GivenRefs, Message};
 pub use denial::Denial;
 pub use effect::{Effect, Watch};
 pub use entry::Entry;
 pub use event::Event;
 pub use limits::{
-    LAST_CLIENT, MOST_CLIENTS, MOST_DELIVERIES, MOST_HANDLES, MOST_NAMES, MOST_WATCHES,
+    GREATEST, LAST_CLIENT, MOST_CLIENTS, MOST_DELIVERIES, MOST_HANDLES, MOST_NAMES, MOST_WATCHES,
 };
+pub use named_row::NamedRow;
 pub use notice::{BoxedNotice, Notice, Notices, Reason, Told};
 pub use outcome::Outcome;
 pub use query::Query;
 pub use records::Record;
 pub use refusal::{Exception, Failure, Refusal};
 pub use reply::{Answer, NameList, Reply};
+pub use rows::Rows;
+pub use segment::{Segment, rows_after};
 pub use service::Service;
 pub use stop::{Instead, Stop};
+pub use tables::Tables;
 pub use told::is_hidden;
 pub use turn::TurnRow;

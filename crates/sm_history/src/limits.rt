@@ -17,3 +17,6 @@ pub const MOST_DELIVERIES: usize = 256;
 
 /// The greatest number of a client; numbers rise from 1 and are never used again.
 pub const LAST_CLIENT: u32 = u32::MAX;
+
+/// Lengths, versions, turns and counts of grants stay below it.
+pub const GREATEST: u64 = u64::MAX;

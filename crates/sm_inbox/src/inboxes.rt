@@ -1,6 +1,6 @@
 //! The inboxes of all clients.
 
-ghost use Rattle.std.specs.Prelude.{◌≡◌, ℕ, ◌+◌, ◌-◌, ◌≤◌, ◌<◌, ◌==◌, ◌↔◌, true, false, [], ◌∷◌, drop, length, IsTrue, IsOk, OnOk, OnErr, IfNone, MatchOption};
+ghost use Rattle.std.specs.Prelude.{◌≡◌, ℕ, ◌+◌, ◌-◌, ◌≤◌, ◌<◌, ◌==◌, ◌↔◌, true, false, [], ◌∷◌, drop, length, IsTrue, IsOk, IfOk, OnOk, OnErr, IfNone, MatchOption};
 ghost use Rattle.sm_history.specs.declared.limits.TheConstants.{MOST_DELIVERIES};
 ghost use Rattle.sm_history.specs.declared.effect.Effect.TheVariants.{Delivers, Takes, Dies};
 ghost use Rattle.sm_history.specs.Effects.{Effects};
@@ -19,6 +19,20 @@ use std::collections::VecDeque;
 pub struct Inboxes {
     alloc: Global,
     rows: Vec<Inbox>,
+}
+
+/// A copy of some deliveries, each of which gets one more owner. `Err`: memory was refused.
+fn copies_of(
+    alloc: Global,
+    waiting: &VecDeque<BoxedDelivery>,
+) -> Result<Vec<BoxedDelivery>, AllocError>
+    ensures { IfOk result (λ v. v.items ≡ waiting.now.items) }
+{
+    let mut copies = Vec::new(alloc);
+    for i in 0..waiting.len() {
+        copies.push(waiting[i].clone()?)?;
+    }
+    Ok(copies)
 }
 
 impl Inboxes {
@@ -55,6 +69,20 @@ impl Inboxes {
         let waiting = VecDeque::with_capacity(self.alloc, MOST_DELIVERIES)?;
         self.rows.push_reserved(Inbox { client, waiting });
         Ok(())
+    }
+
+    /// What waits for a client, the oldest first.
+    ///
+    /// # Errors
+    ///
+    /// An error where memory was refused.
+    pub fn listed(&self, alloc: Global, client: u32) -> Result<Vec<BoxedDelivery>, AllocError>
+        ensures { IfOk result (λ v. (d : Effects) → TracksInboxes d self.now → v.items ≡ inbox_at d client) }
+    {
+        match place_of(&self.rows, client) {
+            Some(i) => copies_of(alloc, &self.rows[i].waiting),
+            None => Ok(Vec::new(alloc)),
+        }
     }
 
     /// How many deliveries wait for a client.

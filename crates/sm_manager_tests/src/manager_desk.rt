@@ -77,6 +77,16 @@ impl ManagerDesk {
         Response::Replied(reply)
     }
 
+    fn seal(&mut self) -> Reply {
+        match self.manager.seal() {
+            Ok(segment) => Reply::Sealed {
+                number: segment.number(),
+                length: segment.length(),
+            },
+            Err(refusal) => Reply::Refused(refusal),
+        }
+    }
+
     fn denials(&self) -> Response {
         match self.manager.records() {
             Ok(records) => Response::Denied(records),
@@ -103,6 +113,7 @@ impl Desk for ManagerDesk {
             Request::Change(_, event) => self.change(event),
             Request::Look(_, query) => Response::Replied(self.manager.look(self.by(), query)),
             Request::Denials => self.denials(),
+            Request::Seal => Response::Replied(self.seal()),
             _ => Response::Replied(Reply::Refused(Refusal::Failed(Failure::NotYours))),
         }
     }

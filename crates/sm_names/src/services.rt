@@ -9,10 +9,12 @@ ghost use Rattle.sm_history.specs.Clients.{is_live};
 ghost use Rattle.sm_history.specs.Services.{service_at, current_names};
 ghost use Rattle.sm_history.specs.Queries.{names_by_mask};
 ghost use Rattle.sm_history.specs.Rising.{IsRising};
+ghost use Rattle.sm_history.specs.Tables.{TracksNames as TracksNamed};
+ghost use Rattle.sm_names.specs.Listed.{named, named_rows};
 ghost use Rattle.sm_names.specs.Rows.{names_of, IsPlace, IsGap, TracksRows, matching_names};
 
 use crate::row::NameRow;
-use sm_history::Service;
+use sm_history::{NamedRow, Service};
 use sm_kinds::Name;
 use std::alloc::{AllocError, Global};
 
@@ -42,6 +44,26 @@ fn copies_of(alloc: Global, rows: &[NameRow]) -> Result<Vec<NameRow>, AllocError
         copies.push(NameRow { name, service })?;
     }
     Ok(copies)
+}
+
+/// Some rows, whose names get one more owner. `Err`: memory was refused.
+fn listed_of(alloc: Global, rows: &[NameRow]) -> Result<Vec<NamedRow>, AllocError>
+    ensures { IfOk result (λ v. v.items ≡ named_rows rows.now) }
+{
+    let mut list = Vec::new(alloc);
+    for row in rows {
+        list.push(listed(row)?)?;
+    }
+    Ok(list)
+}
+
+/// A row, whose name gets one more owner. `Err`: memory was refused.
+fn listed(row: &NameRow) -> Result<NamedRow, AllocError>
+    ensures { IfOk result (λ r. r ≡ named row.now) }
+{
+    let name = row.name.clone()?;
+    let service = row.service;
+    Ok(NamedRow { name, service })
 }
 
 /// The names whose dump flags share a bit with a mask.
@@ -79,6 +101,17 @@ impl Services {
         let mut rows = copies_of(alloc, &self.rows)?;
         rows.reserve(n)?;
         Ok(Services { rows })
+    }
+
+    /// The services under their names, in rising byte order.
+    ///
+    /// # Errors
+    ///
+    /// An error where memory was refused.
+    pub fn listed(&self, alloc: Global) -> Result<Vec<NamedRow>, AllocError>
+        ensures { IfOk result (λ v. (d : Effects) → TracksRows d self.now.rows.items → TracksNamed d v.items) }
+    {
+        listed_of(alloc, &self.rows)
     }
 
     /// Makes room for `n` more names.

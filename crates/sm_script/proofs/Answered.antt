@@ -6,7 +6,7 @@ use Rattle.sm_history.specs.declared.refusal.Refusal.TheVariants.{Memory}
 use Rattle.sm_history.specs.declared.reply.Reply.{Reply}
 use Rattle.sm_history.specs.declared.reply.Reply.TheVariants.{Refused}
 use Rattle.sm_wire.specs.declared.request.Request.{Request}
-use Rattle.sm_wire.specs.declared.request.Request.TheVariants.{Denials, Look}
+use Rattle.sm_wire.specs.declared.request.Request.TheVariants.{Denials, Look, Seal}
 use Rattle.sm_wire.specs.declared.item.Item.TheVariants.{Asked, Policy as OfPolicy}
 use Rattle.sm_wire.specs.Texts.{Texts}
 use Rattle.sm_kinds.specs.declared.number.ClientId.{ClientId}
@@ -26,8 +26,8 @@ use Rattle.sm_wire.specs.declared.telling.Telling.{Telling}
 use Rattle.sm_wire.specs.declared.telling.Telling.TheVariants.{Whole}
 use Rattle.sm_wire.specs.Replies.{denials_text, policy_refused_text, told_text, told_of, told_in}
 use Rattle.sm_engine.specs.Running.{Answered, GaveUp}
-use Rattle.sm_script.specs.Answering.{AnswersItem, AnswersNow, AnswersQuery, IsUnasked, Judges, Recorded, Told}
-use Rattle.sm_script.specs.Answering.{asker_of, the_administrator}
+use Rattle.sm_script.specs.Answering.{AnswersItem, AnswersNow, AnswersQuery, IsUnasked, Judges, Recorded, SealsNow}
+use Rattle.sm_script.specs.Answering.{Told, asker_of, the_administrator}
 
 -- A request was judged, and its texts were added.
 pub told_request : {T E : Type 0} (result : Result T E) (old new : Recorded) (request : Request) (telling : Telling)
@@ -106,6 +106,25 @@ denials_request (Ok x) old replies replies_new audit (inr replied) = record {
   audited = sym (append-nil audit);
 }
 denials_request (Err e) old replies replies_new audit found = found
+
+-- The open segment was to be closed, and the answer was told.
+pub seal_request : {T E : Type 0} (result : Result T E) (old new : Recorded) (replies replies_new audit : List ℕ)
+    → OnOk result ((reply : Reply) × SealsNow old reply new × (replies_new ≡ replies ++ told_text reply))
+    → OnOk result (Answered AnswersItem old (Asked Seal) replies replies_new audit audit new)
+seal_request (Ok x) old new replies replies_new audit found = record {
+  reply = told_text found.0;
+  lines = [];
+  step = inl (found.0, [], (found.1, refl), refl, refl);
+  replied = found.2;
+  audited = sym (append-nil audit);
+}
+seal_request (Err e) old new replies replies_new audit found = found
+
+-- It was to be closed, and the answer was lost.
+pub lost_seal : {T E : Type 0} (result : Result T E) (old new : Recorded)
+    → OnErr result ((reply : Reply) × SealsNow old reply new) → OnErr result (GaveUp AnswersItem old (Asked Seal) new)
+lost_seal (Ok x) old new found = found
+lost_seal (Err e) old new found = inr (told_text found.0, [], inl (found.0, [], (found.1, refl), refl, refl))
 
 -- What changed nothing gave up.
 pub kept_request : {T E : Type 0} (result : Result T E) (old : Recorded) (request : Request)

@@ -21,9 +21,9 @@ use Rattle.sm_history.specs.declared.refusal.Refusal.TheVariants.{Memory}
 use Rattle.sm_history.specs.declared.reply.Reply.TheVariants.{Refused}
 use Rattle.sm_audit.specs.AuditLines.{audit_line}
 use Rattle.sm_core.specs.Managed.{Managed, LooksAs, look_leaves, ring_after, step_leaves}
-use Rattle.sm_view.specs.Steps.{Steps}
+use Rattle.sm_view.specs.Steps.{Steps, AnswersSeal}
 use Rattle.sm_wire.specs.declared.request.Request.{Request}
-use Rattle.sm_wire.specs.declared.request.Request.TheVariants.{Hello, Change, Look, Denials}
+use Rattle.sm_wire.specs.declared.request.Request.TheVariants.{Hello, Change, Look, Denials, Seal}
 use Rattle.sm_wire.specs.declared.request.Request.TheVariants as requests
 use Rattle.sm_wire.specs.declared.item.Item.{Item}
 use Rattle.sm_wire.specs.declared.item.Item.TheVariants as items
@@ -54,6 +54,11 @@ pub record AnswersQuery (old : Recorded) (by : By) (query : Query) (reply : Repl
   pub records : noted ≡ look_leaves old.book by query reply
   pub unchanged : new ≡ old
 
+-- the open segment is closed, which the answer tells, or it isn't, and nothing changed; the records in the ring stay
+pub record SealsNow (old : Recorded) (reply : Reply) (new : Recorded) : Type 0 where
+  pub answers : AnswersSeal old.book reply new.book
+  pub ring : new.ring ≡ old.ring
+
 -- the administrator of a script
 abbrev pub the_administrator : AdminId
 the_administrator = record { 0 = 1 }
@@ -67,6 +72,7 @@ Judges old (Look (Some client) query) reply noted new = AnswersQuery old (Client
 Judges old (Look None query) reply noted new = AnswersQuery old (Admin the_administrator) query reply noted new
 Judges old (requests.Reload expected rules contexts) reply noted new = ⊥
 Judges old Denials reply noted new = (reply ≡ Refused Memory) × (noted ≡ []) × (new ≡ old)
+Judges old Seal reply noted new = SealsNow old reply new × (noted ≡ [])
 
 -- a request that no line of a script asks: a change of a client without a number, and a `reload` without its texts
 abbrev pub IsUnasked : Request → Type 0
@@ -76,6 +82,7 @@ IsUnasked (Change None event) = Unit {0}
 IsUnasked (Look client query) = ⊥
 IsUnasked (requests.Reload expected rules contexts) = Unit {0}
 IsUnasked Denials = ⊥
+IsUnasked Seal = ⊥
 
 -- who asks for a look: a client, or, where none is named, the administrator
 abbrev pub asker_of : Option ClientId → By

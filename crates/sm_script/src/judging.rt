@@ -10,7 +10,7 @@ ghost use Rattle.sm_history.specs.declared.reply.Reply.{Reply};
 ghost use Rattle.sm_history.specs.declared.reply.Reply.TheVariants.{Refused};
 ghost use Rattle.sm_wire.specs.declared.telling.Telling.TheVariants.{Whole};
 ghost use Rattle.sm_wire.specs.Replies.{denials_text, told_text};
-ghost use Rattle.sm_script.specs.Answering.{AnswersNow, AnswersQuery, Told, asker_of, recorded, the_administrator};
+ghost use Rattle.sm_script.specs.Answering.{AnswersNow, AnswersQuery, SealsNow, Told, asker_of, recorded, the_administrator};
 
 use sm_audit::push_lines;
 use sm_core::Manager;
@@ -186,6 +186,34 @@ pub fn answer_denials(
             Telling::Whole,
             &Reply::Refused(Refusal::Memory),
         ),
+    }
+}
+
+/// Answers the administrator who asks that the open segment be closed, and lets it go.
+#[inline(never)]
+pub fn answer_seal(
+    alloc: Global,
+    manager: &mut Manager,
+    replies: &mut Vec<u8>,
+) -> Result<(), AllocError>
+    ensures ok { OnOk result ((reply : Reply) × SealsNow (recorded manager.old) reply (recorded manager.new)
+        × (replies.new.items ≡ replies.old.items ++ told_text reply)) }
+    ensures err { OnErr result ((reply : Reply) × SealsNow (recorded manager.old) reply (recorded manager.new)) }
+{
+    let reply = seal(manager);
+    push_reply(alloc, replies, Telling::Whole, &reply)
+}
+
+// Closes the open segment, and lets it go.
+fn seal(manager: &mut Manager) -> Reply
+    ensures { SealsNow (recorded manager.old) result (recorded manager.new) }
+{
+    match manager.seal() {
+        Ok(segment) => Reply::Sealed {
+            number: segment.number(),
+            length: segment.length(),
+        },
+        Err(refusal) => Reply::Refused(refusal),
     }
 }
 

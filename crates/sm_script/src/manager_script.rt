@@ -8,7 +8,7 @@ ghost use Rattle.sm_engine.specs.Running.{Answered, GaveUp, never};
 
 use crate::judging::{
     answer_change, answer_denials, answer_hello, answer_nobody, answer_prepared, answer_query,
-    answer_unasked,
+    answer_seal, answer_unasked,
 };
 use sm_core::Manager;
 use sm_engine::Machine;
@@ -97,6 +97,7 @@ impl Script {
             }
             Request::Reload { .. } => answer_unasked(replies),
             Request::Denials => answer_denials(alloc, manager, replies),
+            Request::Seal => answer_seal(alloc, manager, replies),
         }
     }
 

@@ -44,6 +44,7 @@ impl<'a, J: Naming, G: Gate + Drop, R: Wait> Administrator<'a, J, G, R> {
         match asked {
             Asked::Line(Request::Look(_, query)) => Response::Replied(self.look(query)),
             Asked::Line(Request::Denials) => self.denials(),
+            Asked::Line(Request::Seal) => Response::Replied(self.seal()),
             Asked::Install { expected, prepared } => {
                 Response::Replied(self.install(expected, prepared))
             }
@@ -72,6 +73,19 @@ impl<'a, J: Naming, G: Gate + Drop, R: Wait> Administrator<'a, J, G, R> {
         match self.door.denials(self.rt, admin) {
             Ok(records) => Response::Denied(records),
             Err(_) => Response::Replied(Reply::Refused(Refusal::Memory)),
+        }
+    }
+
+    // Closes the open segment, and lets it go.
+    fn seal(&self) -> Reply {
+        let mut guard = self.admin.lock(self.rt);
+        let admin = &mut *guard;
+        match self.door.seal(self.rt, admin) {
+            Ok(segment) => Reply::Sealed {
+                number: segment.number(),
+                length: segment.length(),
+            },
+            Err(refusal) => Reply::Refused(refusal),
         }
     }
 

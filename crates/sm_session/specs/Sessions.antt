@@ -7,7 +7,7 @@ use Rattle.sm_history.specs.declared.reply.Reply.{Reply}
 use Rattle.sm_history.specs.declared.reply.Reply.TheVariants.{Done}
 use Rattle.sm_history.specs.Verdict.{is_die}
 use Rattle.sm_wire.specs.declared.request.Request.{Request}
-use Rattle.sm_wire.specs.declared.request.Request.TheVariants.{Hello, Change, Look, Reload, Denials}
+use Rattle.sm_wire.specs.declared.request.Request.TheVariants.{Hello, Change, Look, Reload, Denials, Seal}
 use Rattle.sm_wire.specs.declared.item.Item.{Item}
 use Rattle.sm_wire.specs.declared.item.Item.TheVariants.{Asked, Policy, Malformed, LineTooLong}
 use Rattle.sm_wire.specs.declared.kind.Kind.{Kind}
@@ -27,14 +27,16 @@ client_may connected (Change client event) = connected
 client_may connected (Look client query) = connected
 client_may connected (Reload expected rules contexts) = false
 client_may connected Denials = false
+client_may connected Seal = false
 
--- an administrator asks about the policy and for the last denials
+-- an administrator asks about the policy and for the last denials, and that the open segment be closed
 unfoldable pub admin_may : Request → Bool
 admin_may (Hello who) = false
 admin_may (Change client event) = false
 admin_may (Look client query) = true
 admin_may (Reload expected rules contexts) = false
 admin_may Denials = true
+admin_may Seal = true
 
 -- this request is in its place; a session isn't a script
 unfoldable pub may_ask : Kind → Bool → Request → Bool

@@ -124,6 +124,7 @@ impl<D: Desk> Sitting<D> {
                 contexts,
             }),
             Request::Denials => self.desk.ask(Request::Denials),
+            Request::Seal => self.desk.ask(Request::Seal),
         }
     }
 
@@ -181,6 +182,7 @@ fn client_may(connected: bool, request: &Request) -> bool
         Request::Look(_, _) => connected,
         Request::Reload { .. } => false,
         Request::Denials => false,
+        Request::Seal => false,
     }
 }
 
@@ -194,6 +196,7 @@ fn admin_may(request: &Request) -> bool
         Request::Look(_, _) => true,
         Request::Reload { .. } => false,
         Request::Denials => true,
+        Request::Seal => true,
     }
 }
 

@@ -43,7 +43,7 @@ pub install_answer : (places : ℕ) (h : History) (a turn expected : ℕ) (polic
 install_answer places h a turn expected policy =
     let d = effects_of h in
     let n = turn_of h (Admin (record { 0 = a })) in
-    install_of (policy_at d) (turn == n) (version_at d == expected) (has_place places h (Reload expected policy)) n
+    install_of (policy_at d) (turn == n) (version_at d == expected) (has_place places h 0 (Reload expected policy)) n
     (version_at d) (version_at d + 1)
 
 connect_of : (p : Policy) (c x y : Bool) (n k : ℕ) → c ≡ true → ConnectReply (answered (first_failing p
@@ -63,4 +63,4 @@ connect_answer places h who =
     let yes : (n == n) ≡ true = grind (arith, nat_tests) in
     connect_of (policy_at d) (n == n)
     (nat_lt (length (live_clients d)) MOST_CLIENTS && nat_le (next_client d) LAST_CLIENT)
-    (has_place places h (Connect who)) n (next_client d) yes
+    (has_place places h 0 (Connect who)) n (next_client d) yes

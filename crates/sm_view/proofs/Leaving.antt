@@ -8,7 +8,7 @@ use Rattle.sm_history.specs.declared.by.By.TheVariants.{Client, Admin}
 use Rattle.sm_history.specs.declared.event.Event.{Event}
 use Rattle.sm_history.specs.declared.event.Event.TheVariants.{Die, Reload}
 use Rattle.sm_history.specs.declared.reply.Reply.{Reply}
-use Rattle.sm_history.specs.declared.reply.Reply.TheVariants.{Done, GotNull, GotOwn, Looked, Refused}
+use Rattle.sm_history.specs.declared.reply.Reply.TheVariants.{Done, GotNull, GotOwn, Looked, Sealed, Refused}
 use Rattle.sm_history.specs.declared.refusal.Refusal.TheVariants.{Memory}
 use Rattle.sm_history.specs.Books.{Book}
 use Rattle.sm_history.specs.Verdict.{verdict}
@@ -32,6 +32,7 @@ module _ (Of : Reply → Type 0) (old new : Knows) (event : Event) (memory : Of 
   of_submitted GotNull s = not_made GotNull s
   of_submitted (GotOwn o) s = not_made (GotOwn o) s
   of_submitted (Looked v l a) s = not_made (Looked v l a) s
+  of_submitted (Sealed n l) s = not_made (Sealed n l) s
   of_submitted (Refused r) s = not_made (Refused r) s
 
 pub leave_answered : (old new : Knows) (c : ClientId) (r : Reply) → old.by ≡ Client c → Submitted old new Die r

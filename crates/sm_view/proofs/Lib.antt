@@ -5,3 +5,5 @@ pub mod Answers
 pub mod Submitting
 pub mod Leaving
 pub mod Joining
+pub mod Sealing
+pub mod Staying

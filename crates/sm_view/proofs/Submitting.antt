@@ -6,7 +6,7 @@ use Rattle.sm_history.specs.declared.refusal.Refusal.{Refusal}
 use Rattle.sm_history.specs.declared.refusal.Refusal.TheVariants.{Failed, Memory}
 use Rattle.sm_history.specs.declared.refusal.Failure.TheVariants.{NotYours, OutOfTurn}
 use Rattle.sm_history.specs.declared.reply.Reply.{Reply}
-use Rattle.sm_history.specs.declared.reply.Reply.TheVariants.{Done, GotNull, GotOwn, Looked, Refused}
+use Rattle.sm_history.specs.declared.reply.Reply.TheVariants.{Done, GotNull, GotOwn, Looked, Sealed, Refused}
 use Rattle.sm_history.specs.Books.{Book}
 use Rattle.sm_history.specs.Histories.{turn_of}
 use Rattle.sm_history.specs.Verdict.{verdict}
@@ -69,6 +69,7 @@ module _ (b after : Book) (old new : Knows) (event : Event) (sees : Sees old aft
   submitted GotNull m s = not_made GotNull m s
   submitted (GotOwn o) m s = not_made (GotOwn o) m s
   submitted (Looked v l a) m s = not_made (Looked v l a) m s
+  submitted (Sealed n l) m s = not_made (Sealed n l) m s
   submitted (Refused r) m s = not_made (Refused r) m s
 
 -- The token stays as it is where memory was wanted, and where the event isn't its actor's, which each history refuses
@@ -104,3 +105,4 @@ unseen b after old event (Done o) lawful m s = absurd (true≢false m)
 unseen b after old event GotNull lawful m s = absurd (true≢false m)
 unseen b after old event (GotOwn o) lawful m s = absurd (true≢false m)
 unseen b after old event (Looked v l a) lawful m s = absurd (true≢false m)
+unseen b after old event (Sealed n l) lawful m s = absurd (true≢false m)

@@ -2,6 +2,7 @@
 use Rattle.std.specs.Prelude.{◌≡◌}
 use Rattle.sm_history.specs.declared.entry.Entry.{Entry}
 use Rattle.sm_history.specs.Histories.{entered}
+use Rattle.sm_history.specs.Segments.{sealed}
 use Rattle.sm_history.specs.Books.{Book}
 use Rattle.sm_history.specs.Beginning.{BeginsWith}
 use Rattle.sm_history.specs.Lawful.{IsLawful}
@@ -9,6 +10,10 @@ use Rattle.sm_history.specs.Lawful.{IsLawful}
 -- The book with one change more.
 abbrev pub extended : Book → Entry → Book
 extended b e = record { places = b.places; history = entered e b.history }
+
+-- The book behind a seal: its open segment is the next one, without changes.
+abbrev pub sealed_book : Book → Book
+sealed_book b = record { places = b.places; history = sealed b.history }
 
 -- The book `new` begins with the book `old`: both have the same places, and the one history begins with the other.
 pub record Begins (new old : Book) : Type 0 where

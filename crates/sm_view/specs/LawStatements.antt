@@ -1,5 +1,5 @@
 -- What holds of books, of verdicts and of tokens: each the contract of a function of `laws.rt`.
-use Rattle.std.specs.Prelude.{true, false, ◌≡◌, ◌≢◌, ◌⊎◌, ◌≤◌, ℕ, ◌+◌}
+use Rattle.std.specs.Prelude.{true, false, ◌≡◌, ◌≢◌, ◌⊎◌, ◌≤◌, ◌<◌, ℕ, ◌+◌}
 use Rattle.sm_kinds.specs.declared.identity.Identity.{Identity}
 use Rattle.sm_kinds.specs.declared.number.AdminId.{AdminId}
 use Rattle.sm_kinds.specs.declared.number.ClientId.{ClientId}
@@ -16,15 +16,17 @@ use Rattle.sm_history.specs.declared.refusal.Refusal.TheVariants.{Failed, Memory
 use Rattle.sm_history.specs.declared.refusal.Failure.TheVariants.{NotYours, NotConnected, OutOfTurn}
 use Rattle.sm_history.specs.declared.reply.Reply.{Reply}
 use Rattle.sm_history.specs.declared.reply.Reply.TheVariants.{Done, Refused}
+use Rattle.sm_history.specs.Beginning.{IsLonger, IsLater}
 use Rattle.sm_history.specs.Books.{Book}
-use Rattle.sm_history.specs.Clients.{version_at}
+use Rattle.sm_history.specs.Clients.{version_at, identity_at, is_live, next_client}
 use Rattle.sm_history.specs.Histories.{History, effects_of, length_of, turn_of}
-use Rattle.sm_history.specs.Verdict.{verdict}
-use Rattle.sm_view.specs.Begins.{Begins, IsLawfulBook, extended}
-use Rattle.sm_view.specs.Promises.{Submitted, Joined, Turned}
+use Rattle.sm_history.specs.Segments.{sealed}
+use Rattle.sm_history.specs.Verdict.{verdict, is_there}
+use Rattle.sm_view.specs.Begins.{Begins, IsLawfulBook, extended, sealed_book}
+use Rattle.sm_view.specs.Promises.{Submitted, Joined, Turned, Closed, NotClosed}
 use Rattle.sm_view.specs.Replies.{moves, ConnectReply, LeaveReply, InstallReply}
-use Rattle.sm_view.specs.Steps.{Steps}
-use Rattle.sm_view.specs.Tokens.{Knows, Sees, token, turn}
+use Rattle.sm_view.specs.Steps.{Steps, Seals, StaysOpen}
+use Rattle.sm_view.specs.Tokens.{Knows, Grows, Sees, token, turn}
 
 -- ---- books
 
@@ -33,6 +35,9 @@ BookBeginsWithItself = (b : Book) → Begins b b
 
 abbrev pub BookBeginsWithTheOneBefore : Type 0
 BookBeginsWithTheOneBefore = (b : Book) (e : Entry) → Begins (extended b e) b
+
+abbrev pub BookBeginsWithTheOneSealed : Type 0
+BookBeginsWithTheOneSealed = (b : Book) → Begins (sealed_book b) b
 
 abbrev pub BookBeginsWithItsBeginnings : Type 0
 BookBeginsWithItsBeginnings = (x y z : Book) → Begins x y → Begins y z → Begins x z
@@ -47,16 +52,31 @@ abbrev pub BeginningIsBefore : Type 0
 BeginningIsBefore = (b o : Book) (e : Entry) → Begins (extended b e) o
     → turn_of o.history e.by ≡ turn_of b.history e.by → Begins b o
 
--- A history has no less than another: no smaller length and version of the policy in force, and no actor's changes
--- are fewer.
-pub record HasNoLess (new old : History) : Type 0 where
-  pub length : length_of old ≤ length_of new
-  pub version : version_at (effects_of old) ≤ version_at (effects_of new)
-  pub turns : (by : By) → turn_of old by ≤ turn_of new by
-
--- So what a token sees never goes back.
+-- What a token sees never goes back: neither the number of the segment, the length nor the version of the policy in
+-- force, nor the changes of an actor that is there.
 abbrev pub NothingGoesBack : Type 0
-NothingGoesBack = (new old : Book) → Begins new old → HasNoLess new.history old.history
+NothingGoesBack = (new old : Book) → IsLawfulBook old → Begins new old → IsLater new.history old.history
+
+-- Where both are of one segment, it has the same opening, and its changes were made behind the older ones.
+abbrev pub SegmentGoesOn : Type 0
+SegmentGoesOn = (new old : Book) → Begins new old → new.history.number ≡ old.history.number
+    → IsLonger new.history old.history
+
+-- A client that lives in a book, and had connected in one with which it begins, lived there, as the same process.
+abbrev pub ClientStays : Type 0
+ClientStays = (new old : Book) (c : ℕ) → Begins new old → c < next_client (effects_of old.history)
+    → is_live (effects_of new.history) c ≡ true
+    → (is_live (effects_of old.history) c ≡ true)
+    × (identity_at (effects_of new.history) c ≡ identity_at (effects_of old.history) c)
+
+-- A seal is no change: it leaves the length, the version, and the changes of each actor that is there.
+pub record IsNoChange (h : History) : Type 0 where
+  pub length : length_of (sealed h) ≡ length_of h
+  pub version : version_at (effects_of (sealed h)) ≡ version_at (effects_of h)
+  pub turns : (by : By) → is_there (effects_of h) by ≡ true → turn_of (sealed h) by ≡ turn_of h by
+
+abbrev pub SealIsNoChange : Type 0
+SealIsNoChange = (b : Book) → IsNoChange b.history
 
 -- ---- verdicts
 
@@ -85,6 +105,12 @@ NotYoursIsAlike = (a b : Book) (by : By) (turn other : ℕ) (event : Event)
     → verdict b.places b.history by other event ≡ Refused (Failed NotYours)
 
 -- ---- tokens
+
+-- What a token knows never goes back, nor does its own turn while its actor is there.
+abbrev pub TokenGoesOn : Type 0
+TokenGoesOn = (old new : Knows) → IsLawfulBook old.seen → Grows old new
+    → IsLater new.seen.history old.seen.history
+    × (is_there (effects_of new.seen.history) old.by ≡ true → turn old ≤ turn new)
 
 -- Of one step by the token's actor, at the token's turn: where the token sees the book that the step left, it knows
 -- what the call promises.
@@ -128,3 +154,16 @@ ConnectTurns = (b after : Book) (old new : Knows) (who : Identity) (due : ℕ) (
     → due ≡ turn_of b.history Manager → Steps b Manager due (Connect who) (Refused refusal) after
     → ((refusal ≡ Memory) × (new ≡ old)) ⊎ ((refusal ≢ Memory) × Sees old after new)
     → Turned old new who refusal
+
+-- ---- seals
+
+-- Of one seal of a book that the token sees: where it then sees the book that the seal left, it knows what the call
+-- promises.
+abbrev pub SealCloses : Type 0
+SealCloses = (b after : Book) (old between new : Knows) (segment : History) → Sees old b between
+    → Seals b segment after → Sees between after new → Closed old new segment
+
+-- Where no segment was closed, it is enough that the token sees the book.
+abbrev pub OpenIsNotClosed : Type 0
+OpenIsNotClosed = (b after : Book) (old new : Knows) (refusal : Refusal) → Sees old b new → StaysOpen b refusal after
+    → NotClosed old new refusal

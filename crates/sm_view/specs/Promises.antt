@@ -1,5 +1,5 @@
 -- What each call promises of the token that it is made with.
-use Rattle.std.specs.Prelude.{true, ◌≡◌, ◌≢◌, ℕ, ◌+◌, ◌≤◌, ◌⊎◌, List, All, length}
+use Rattle.std.specs.Prelude.{true, ◌≡◌, ◌≢◌, ℕ, ◌+◌, ◌≤◌, ◌⊎◌, List, [], All, length}
 use Rattle.sm_kinds.specs.declared.identity.Identity.{Identity}
 use Rattle.sm_history.specs.declared.by.By.{By}
 use Rattle.sm_history.specs.declared.by.By.TheVariants.{Manager, Client}
@@ -10,16 +10,16 @@ use Rattle.sm_history.specs.declared.outcome.Outcome.TheVariants.{Connected}
 use Rattle.sm_history.specs.declared.query.Query.{Query}
 use Rattle.sm_history.specs.declared.records.Record.{Record}
 use Rattle.sm_history.specs.declared.refusal.Refusal.{Refusal}
-use Rattle.sm_history.specs.declared.refusal.Refusal.TheVariants.{Failed, Memory, NoSeat}
+use Rattle.sm_history.specs.declared.refusal.Refusal.TheVariants.{Failed, Memory, NoSeat, Empty}
 use Rattle.sm_history.specs.declared.refusal.Failure.TheVariants.{OutOfTurn}
 use Rattle.sm_history.specs.declared.reply.Reply.{Reply}
-use Rattle.sm_history.specs.declared.reply.Reply.TheVariants.{Done, GotNull, GotOwn, Looked, Refused}
+use Rattle.sm_history.specs.declared.reply.Reply.TheVariants.{Done, GotNull, GotOwn, Looked, Sealed, Refused}
 use Rattle.sm_history.specs.Books.{Book}
-use Rattle.sm_history.specs.Histories.{turn_of}
+use Rattle.sm_history.specs.Histories.{History, turn_of}
 use Rattle.sm_history.specs.Queries.{query_verdict}
-use Rattle.sm_history.specs.Records.{IsTrueOf}
+use Rattle.sm_history.specs.Records.{IsTrueSince}
 use Rattle.sm_history.specs.Verdict.{verdict}
-use Rattle.sm_view.specs.Begins.{Begins, IsLawfulBook, extended}
+use Rattle.sm_view.specs.Begins.{Begins, IsLawfulBook, extended, sealed_book}
 use Rattle.sm_view.specs.Replies.{tells_turn, takes_memory}
 use Rattle.sm_view.specs.Steps.{made}
 use Rattle.sm_view.specs.Tokens.{Knows, Grows, turn}
@@ -54,6 +54,7 @@ Submitted old new event (Done outcome) = Accepted old new event outcome
 Submitted old new event GotNull = NotMade old new event GotNull
 Submitted old new event (GotOwn o) = NotMade old new event (GotOwn o)
 Submitted old new event (Looked v l a) = NotMade old new event (Looked v l a)
+Submitted old new event (Sealed n l) = NotMade old new event (Sealed n l)
 Submitted old new event (Refused refusal) = NotMade old new event (Refused refusal)
 
 -- ---- reads
@@ -69,9 +70,27 @@ Read old new q reply =
     ((reply ≡ Refused NoSeat) × (new ≡ old))
     ⊎ (Grows old new × (new.reads ≡ old.reads + 1) × Looks new.seen old.by q reply)
 
--- The records are 1,024 at most, and each is true of what the token sees now.
+-- The records are 1,024 at most, and each that was made in the segment which the token sees now is true of it.
 abbrev pub TellsRecords : Knows → Knows → List Record → Type 0
-TellsRecords old new records = Grows old new × (length records ≤ 1024) × All (IsTrueOf new.seen.history) records
+TellsRecords old new records = Grows old new × (length records ≤ 1024) × All (IsTrueSince new.seen.history) records
+
+-- ---- seals
+
+-- The segment was closed. It has changes, and stands in a lawful book, which begins with all that the token had seen;
+-- what the token sees now is the segment behind it, which has no change yet.
+pub record Closed (old new : Knows) (segment : History) : Type 0 where
+  pub grows : Grows old new
+  pub before : Book
+  pub lawful : IsLawfulBook before
+  pub begins : Begins before old.seen
+  pub segment_is : segment ≡ before.history
+  pub some : segment.entries ≢ []
+  pub opens : new.seen ≡ sealed_book before
+
+-- No segment was closed: memory was wanted; or what the token sees now has no changes.
+abbrev pub NotClosed : Knows → Knows → Refusal → Type 0
+NotClosed old new refusal =
+    Grows old new × ((refusal ≡ Memory) ⊎ ((refusal ≡ Empty) × (new.seen.history.entries ≡ [])))
 
 -- ---- connecting
 

@@ -16,7 +16,7 @@ use Rattle.sm_history.specs.declared.event.Event.TheVariants.{Take, Die}
 use Rattle.sm_history.specs.declared.query.Query.{Query}
 use Rattle.sm_history.specs.declared.query.Query.TheVariants as queries
 use Rattle.sm_wire.specs.declared.request.Request.{Request}
-use Rattle.sm_wire.specs.declared.request.Request.TheVariants.{Hello, Change, Look, Reload, Denials}
+use Rattle.sm_wire.specs.declared.request.Request.TheVariants.{Hello, Change, Look, Reload, Denials, Seal}
 use Rattle.sm_wire.specs.declared.kind.Kind.{Kind}
 use Rattle.sm_wire.specs.declared.kind.Kind.TheVariants.{Client, Admin, Script}
 use Rattle.sm_wire.specs.declared.item.Item.TheVariants as items
@@ -33,7 +33,7 @@ use Rattle.sm_wire.specs.Grammar.{bye_of}
 use Rattle.sm_wire.specs.Grammar.{service_event_of, binder_event_of, event_of, list_of, version_of, query_of, look_of}
 use Rattle.sm_wire.specs.Grammar.{change_of, client_request_of, client_line_of, hello_of, greeting_of, explain_of}
 use Rattle.sm_wire.specs.Grammar.{explaining_of, sizes_of, reload_of, denials_of, asking_of, policy_request_of}
-use Rattle.sm_wire.specs.Grammar.{standing_of}
+use Rattle.sm_wire.specs.Grammar.{standing_of, seal_of, journal_request_of}
 use Rattle.sm_wire.specs.Grammar.{client_fields_of, admin_fields_of, unnumbered_of, script_fields_of, fields_request_of}
 use Rattle.sm_wire.specs.Grammar.{request_of}
 use Rattle.sm_wire.specs.Spelling.{SpellsRequest, SpellsGreeting, SpellsAdmin, SpellsFields, Spells, SpellsNothing}
@@ -393,7 +393,7 @@ greeting_spelled (w ∷ a ∷ b ∷ c ∷ []) r is = elim (word_chosen w (codes 
 -- ---- the administrator's lines that a script has, too
 
 admin_read : (fs : List (List ℕ)) (r : Request) → SpellsAdmin fs r → policy_request_of fs ≡ Some r
-unfolding policy_request_of reload_of sizes_of asking_of explaining_of explain_of denials_of
+unfolding policy_request_of reload_of sizes_of asking_of explaining_of explain_of journal_request_of denials_of seal_of
 admin_read _ _ (SpellsAdmin.reload expected rules contexts e r c s t u) = rw (
   number_read u64_max u64_small expected e s,
   number_read u32_max u32_small rules r t,
@@ -402,6 +402,7 @@ admin_read _ _ (SpellsAdmin.reload expected rules contexts e r c s t u) = rw (
 admin_read _ _ (SpellsAdmin.explain source target class perm c p s t u v) =
     rw (word_read source s, word_read target t, class_read_so class c u, perm_read_so perm p v) refl
 admin_read _ _ SpellsAdmin.denials = refl
+admin_read _ _ SpellsAdmin.seal = refl
 
 admin_filled : (fs : List (List ℕ)) (r : Request) → SpellsAdmin fs r → Filled fs
 admin_filled _ _ (SpellsAdmin.reload expected rules contexts e r c s t u) = (
@@ -416,6 +417,7 @@ admin_filled _ _ (SpellsAdmin.explain source target class perm c p s t u v) = (
   (word_solid source s, (word_solid target t, (class_solid class c u, (perm_solid perm p v, tt)))),
 )
 admin_filled _ _ SpellsAdmin.denials = (solid_word (codes "denials") refl, tt)
+admin_filled _ _ SpellsAdmin.seal = (solid_word (codes "seal") refl, tt)
 
 sizes_spelled : (a b c : List ℕ) (r : Request) → sizes_of a b c ≡ Some r
     → SpellsAdmin (codes "reload" ∷ a ∷ b ∷ c ∷ []) r
@@ -483,13 +485,29 @@ denials_spelled (w ∷ []) r is = elim (word_chosen w (codes "denials") (Some De
   | inr h ↦ absurd (none-some r h)
 ]
 
+seal_spelled : (fs : List (List ℕ)) (r : Request) → seal_of fs ≡ Some r → SpellsAdmin fs r
+unfolding seal_of
+seal_spelled [] r is = absurd (none-some r is)
+seal_spelled (w ∷ a ∷ fs) r is = absurd (none-some r is)
+seal_spelled (w ∷ []) r is = elim (word_chosen w (codes "seal") (Some Seal) None r is) [
+  | inl h ↦ rw (h.0, ← same_Some Seal r h.1) SpellsAdmin.seal
+  | inr h ↦ absurd (none-some r h)
+]
+
+journal_spelled : (fs : List (List ℕ)) (r : Request) → journal_request_of fs ≡ Some r → SpellsAdmin fs r
+unfolding journal_request_of
+journal_spelled fs r is = elim (first_chosen (denials_of fs) (seal_of fs) r is) [
+  | inl h ↦ denials_spelled fs r h
+  | inr h ↦ seal_spelled fs r h
+]
+
 admin_spelled : (fs : List (List ℕ)) (r : Request) → policy_request_of fs ≡ Some r → SpellsAdmin fs r
 unfolding policy_request_of asking_of
 admin_spelled fs r is = elim (first_chosen (reload_of fs) (asking_of fs) r is) [
   | inl h ↦ reload_spelled fs r h
-  | inr i ↦ elim (first_chosen (explaining_of fs) (denials_of fs) r i) [
+  | inr i ↦ elim (first_chosen (explaining_of fs) (journal_request_of fs) r i) [
     | inl h ↦ explaining_spelled fs r h
-    | inr h ↦ denials_spelled fs r h
+    | inr h ↦ journal_spelled fs r h
   ]
 ]
 
@@ -508,6 +526,7 @@ unfolding standing_of greeting_of client_line_of
 admin_alone _ _ (SpellsAdmin.reload expected rules contexts e r c s t u) = (refl, refl, refl)
 admin_alone _ _ (SpellsAdmin.explain source target class perm c p s t u v) = (refl, refl, refl)
 admin_alone _ _ SpellsAdmin.denials = (refl, refl, refl)
+admin_alone _ _ SpellsAdmin.seal = (refl, refl, refl)
 
 fields_read : (kind : Kind) (fs : List (List ℕ)) (r : Request) → SpellsFields kind fs r
     → fields_request_of kind fs ≡ Some r

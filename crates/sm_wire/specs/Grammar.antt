@@ -9,7 +9,7 @@ use Rattle.sm_history.specs.declared.event.Event.TheVariants.{Take, Die}
 use Rattle.sm_history.specs.declared.query.Query.{Query}
 use Rattle.sm_history.specs.declared.query.Query.TheVariants as queries
 use Rattle.sm_wire.specs.declared.request.Request.{Request}
-use Rattle.sm_wire.specs.declared.request.Request.TheVariants.{Hello, Change, Look, Reload, Denials}
+use Rattle.sm_wire.specs.declared.request.Request.TheVariants.{Hello, Change, Look, Reload, Denials, Seal}
 use Rattle.sm_wire.specs.declared.announced.Announced.{Announced}
 use Rattle.sm_wire.specs.declared.kind.Kind.{Kind}
 use Rattle.sm_wire.specs.declared.kind.Kind.TheVariants.{Client, Admin, Script}
@@ -190,9 +190,18 @@ unfoldable pub denials_of : List (List ℕ) → Option Request
 denials_of (word ∷ []) = if bytes_eq word (codes "denials") then Some Denials else None
 denials_of _ = None
 
--- what the administrator asks about the policy in force: why it allows, and what it denied
+-- `seal`
+unfoldable pub seal_of : List (List ℕ) → Option Request
+seal_of (word ∷ []) = if bytes_eq word (codes "seal") then Some Seal else None
+seal_of _ = None
+
+-- what the administrator asks of the journal: what was denied, and that the open segment be closed
+unfoldable pub journal_request_of : List (List ℕ) → Option Request
+journal_request_of fields = first_of_two (denials_of fields) (seal_of fields)
+
+-- what the administrator asks about the policy in force, why it allows, or of the journal
 unfoldable pub asking_of : List (List ℕ) → Option Request
-asking_of fields = first_of_two (explaining_of fields) (denials_of fields)
+asking_of fields = first_of_two (explaining_of fields) (journal_request_of fields)
 
 -- the administrator's lines that a script has, too
 unfoldable pub policy_request_of : List (List ℕ) → Option Request
@@ -235,6 +244,7 @@ announced_by (Some (Hello who)) = None
 announced_by (Some (Change client event)) = None
 announced_by (Some (Look client query)) = None
 announced_by (Some Denials) = None
+announced_by (Some Seal) = None
 announced_by None = None
 
 -- the texts that a line announces

@@ -31,11 +31,11 @@ use Rattle.sm_history.specs.declared.records.Record.{Record}
 use Rattle.sm_history.specs.declared.reply.Answer.{Answer}
 use Rattle.sm_history.specs.declared.reply.Answer.TheVariants.{Names, Version, Why}
 use Rattle.sm_history.specs.declared.reply.Reply.{Reply}
-use Rattle.sm_history.specs.declared.reply.Reply.TheVariants.{Done, GotNull, GotOwn, Looked, Refused}
+use Rattle.sm_history.specs.declared.reply.Reply.TheVariants.{Done, GotNull, GotOwn, Looked, Sealed, Refused}
 use Rattle.sm_history.specs.Told.{told, told_to_get}
 use Rattle.sm_audit.specs.AuditLines.{audit_line}
 use Rattle.sm_wire.specs.declared.request.Request.{Request}
-use Rattle.sm_wire.specs.declared.request.Request.TheVariants.{Hello, Change, Look, Reload, Denials}
+use Rattle.sm_wire.specs.declared.request.Request.TheVariants.{Hello, Change, Look, Reload, Denials, Seal}
 use Rattle.sm_wire.specs.declared.telling.Telling.{Telling}
 use Rattle.sm_wire.specs.declared.telling.Telling.TheVariants.{Whole, ToGet}
 
@@ -147,11 +147,16 @@ refusal_text refusals.JournalFull = codes "failed journal-full"
 refusal_text refusals.Memory = codes "failed memory"
 refusal_text refusals.NoSeat = codes "failed no-seat"
 
+-- `sealed NUMBER LENGTH`
+unfoldable pub sealed_text : ℕ → ℕ → List ℕ
+sealed_text number count = numbered (codes "sealed ") number ++ numbered (codes " ") count
+
 unfoldable pub answered_text : Reply → List ℕ
 answered_text (Done outcome) = outcome_text outcome
 answered_text GotNull = codes "null"
 answered_text (GotOwn object) = numbered (codes "own ") object
 answered_text (Looked version count answer) = answer_text version count answer
+answered_text (Sealed number count) = sealed_text number count
 answered_text (Refused refusal) = refusal_text refusal
 
 -- the line of a reply, as it is told
@@ -165,6 +170,7 @@ told_of (Change client event) reply = told event reply
 told_of (Look client query) reply = reply
 told_of (Reload expected rules contexts) reply = reply
 told_of Denials reply = reply
+told_of Seal reply = reply
 
 -- what is told of a reply in this way
 abbrev pub told_in : Telling → Reply → Reply

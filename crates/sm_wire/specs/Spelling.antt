@@ -14,7 +14,7 @@ use Rattle.sm_history.specs.declared.query.Query.TheVariants as queries
 use Rattle.sm_wire.specs.declared.read_error.ReadError.{ReadError}
 use Rattle.sm_wire.specs.declared.read_error.ReadError.TheVariants.{Malformed, Memory}
 use Rattle.sm_wire.specs.declared.request.Request.{Request}
-use Rattle.sm_wire.specs.declared.request.Request.TheVariants.{Hello, Change, Look, Reload, Denials}
+use Rattle.sm_wire.specs.declared.request.Request.TheVariants.{Hello, Change, Look, Reload, Denials, Seal}
 use Rattle.sm_wire.specs.declared.kind.Kind.{Kind}
 use Rattle.sm_wire.specs.declared.kind.Kind.TheVariants.{Client, Admin, Script}
 use Rattle.sm_wire.specs.Number.{u32_max, u64_max}
@@ -62,6 +62,7 @@ pub data SpellsAdmin : List (List ℕ) → Request → Type 0 where
       → SpellsAdmin (codes "explain" ∷ source ∷ target ∷ class ∷ perm ∷ [])
       (Look None (queries.Explain source target c p))
   denials : SpellsAdmin (codes "denials" ∷ []) Denials
+  seal : SpellsAdmin (codes "seal" ∷ []) Seal
 
 -- the fields of a line, by its kind
 pub data SpellsFields : Kind → List (List ℕ) → Request → Type 0 where

@@ -2,7 +2,7 @@
 
 ghost use Rattle.std.specs.Prelude.{map};
 ghost use Rattle.sm_wire.specs.Reading.{Reads};
-ghost use Rattle.sm_wire.specs.Grammar.{client_line_of, hello_of, greeting_of, explain_of, explaining_of, denials_of, asking_of, standing_of, policy_request_of, unnumbered_of, client_fields_of, admin_fields_of, script_fields_of, fields_request_of, request_of};
+ghost use Rattle.sm_wire.specs.Grammar.{client_line_of, hello_of, greeting_of, explain_of, explaining_of, denials_of, seal_of, journal_request_of, asking_of, standing_of, policy_request_of, unnumbered_of, client_fields_of, admin_fields_of, script_fields_of, fields_request_of, request_of};
 
 use crate::announcing::reload;
 use crate::client_requests::client_request;
@@ -93,13 +93,24 @@ fn policy_request(alloc: Global, fields: &[&[u8]]) -> Result<Request, ReadError>
     }
 }
 
-// What the administrator asks about the policy in force.
+// What the administrator asks about the policy in force, or of the journal.
 #[tactic(auto, unfolding(crate::specs::Grammar::asking_of))]
 fn asking(alloc: Global, fields: &[&[u8]]) -> Result<Request, ReadError>
     ensures { Reads result (asking_of (map (λ f. f.now) fields.now)) }
 {
     match explaining(alloc, fields) {
-        Err(ReadError::Malformed) => denials(fields),
+        Err(ReadError::Malformed) => journal_request(fields),
+        other => other,
+    }
+}
+
+// What the administrator asks of the journal.
+#[tactic(auto, unfolding(crate::specs::Grammar::journal_request_of))]
+fn journal_request(fields: &[&[u8]]) -> Result<Request, ReadError>
+    ensures { Reads result (journal_request_of (map (λ f. f.now) fields.now)) }
+{
+    match denials(fields) {
+        Err(ReadError::Malformed) => seal(fields),
         other => other,
     }
 }
@@ -111,6 +122,17 @@ fn denials(fields: &[&[u8]]) -> Result<Request, ReadError>
 {
     match fields {
         [word] if *word == b"denials".as_slice() => Ok(Request::Denials),
+        _ => Err(ReadError::Malformed),
+    }
+}
+
+// `seal`
+#[tactic(auto, unfolding(crate::specs::Grammar::seal_of))]
+fn seal(fields: &[&[u8]]) -> Result<Request, ReadError>
+    ensures { Reads result (seal_of (map (λ f. f.now) fields.now)) }
+{
+    match fields {
+        [word] if *word == b"seal".as_slice() => Ok(Request::Seal),
         _ => Err(ReadError::Malformed),
     }
 }

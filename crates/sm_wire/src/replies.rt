@@ -3,7 +3,7 @@
 ghost use Rattle.std.specs.Prelude.{◌≡◌, ◌++◌, OnOk, IfOk, codes};
 ghost use Rattle.std.specs.Fmt.{decimal};
 ghost use Rattle.sm_kinds.specs.Messages.{numbered};
-ghost use Rattle.sm_wire.specs.Replies.{names_text, why_text, answer_text, outcome_text, answered_text, told_text, told_in};
+ghost use Rattle.sm_wire.specs.Replies.{names_text, why_text, answer_text, outcome_text, sealed_text, answered_text, told_text, told_in};
 ghost use Rattle.sm_history.specs.Told.{told_to_get};
 
 use crate::deliveries::push_delivery;
@@ -71,8 +71,18 @@ fn push_answered(alloc: Global, out: &mut Vec<u8>, reply: &Reply) -> Result<(), 
             length,
             answer,
         } => push_answer(alloc, out, *version, *length, answer),
+        Reply::Sealed { number, length } => push_sealed(out, *number, *length),
         Reply::Refused(refusal) => push_refusal(out, refusal),
     }
+}
+
+// `sealed NUMBER LENGTH`
+#[tactic(auto, unfolding(crate::specs::Replies::sealed_text))]
+fn push_sealed(out: &mut Vec<u8>, number: u64, count: u64) -> Result<(), AllocError>
+    ensures { OnOk result (out.new.items ≡ out.old.items ++ sealed_text number count) }
+{
+    push_numbered(out, b"sealed ", number)?;
+    push_numbered(out, b" ", count)
 }
 
 #[tactic(auto, unfolding(crate::specs::Replies::outcome_text))]

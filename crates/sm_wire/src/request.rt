@@ -35,6 +35,8 @@ pub enum Request {
     },
     /// The administrator asks for the last denials.
     Denials,
+    /// The administrator asks that the open segment of the journal be closed.
+    Seal,
 }
 
 impl Request {

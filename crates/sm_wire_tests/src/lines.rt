@@ -104,6 +104,7 @@ fn push_request(out: &mut Vec<u8>, request: &Request) -> Result<(), AllocError> 
             push_numbered(out, b" and ", u64::from(*contexts))
         }
         Request::Denials => out.extend_from_slice(b"denials"),
+        Request::Seal => out.extend_from_slice(b"seal"),
     }
 }
 
@@ -206,8 +207,10 @@ const BY_KIND: &[(&str, &str, &str, &str)] = &[
         "reload of 1 by 2 and 3",
     ),
     ("denials", "malformed", "denials", "denials"),
+    ("seal", "malformed", "seal", "seal"),
     ("version ", "malformed", "malformed", "malformed"),
     ("denials 1", "malformed", "malformed", "malformed"),
+    ("seal 1", "malformed", "malformed", "malformed"),
     ("", "malformed", "malformed", "malformed"),
 ];
 

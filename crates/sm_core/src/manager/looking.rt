@@ -66,7 +66,7 @@ impl Manager {
     {
         Reply::Looked {
             version: self.state.version,
-            length: self.journal.len() as u64,
+            length: self.length(),
             answer: found,
         }
     }

@@ -1,7 +1,7 @@
 use Rattle.std.proofs.Common.{◌≤◌, ◌+◌, drop, length}
 use Rattle.std.specs.Vec.{vec_capacity}
 use Rattle.sm_history.specs.Effects.{Effects}
-use Rattle.sm_history.specs.Following.{MayAll}
+use Rattle.sm_history.specs.Following.{MayAllApart}
 use Rattle.sm_history.specs.Sound.{Sound}
 use Rattle.sm_names.specs.Rows.{TracksRows}
 use Rattle.sm_core.proofs.Viewing.{Going}
@@ -11,6 +11,6 @@ use Rattle.sm_core.proofs.listed.services_after.Given as goal
 abbrev pub invariant-loop-effect : goal.invariant-loop-effect
 invariant-loop-effect l = record {
   room : length l.services.rows.items + length (drop l.effect-index l.fn.effects) ≤ vec_capacity l.services.rows;
-  tracks : (d : Effects) → Sound d → TracksRows d l.fn.last.rows.items → MayAll d l.fn.effects
+  tracks : (d : Effects) → Sound d → TracksRows d l.fn.last.rows.items → MayAllApart d l.fn.effects
       → Going (λ e. TracksRows e l.services.rows.items) d l.fn.effects (drop l.effect-index l.fn.effects);
 }

@@ -1,6 +1,11 @@
+use Rattle.std.proofs.Common.{subst}
 use Rattle.std.specs.Arc.{arc_value}
+use Rattle.sm_view.specs.Begins.{IsLawfulBook}
 use Rattle.sm_door.proofs.Places.{admits}
 use Rattle.sm_door.proofs.opening.enlist.Goals as goal
 
 pub reader-requires : goal.reader-requires
 reader-requires g c = admits g.J.Naming.opening (λ s. arc_value s.page)
+
+pub new-requires-clause-lawful : goal.new-requires-clause-lawful
+new-requires-clause-lawful g c = subst IsLawfulBook c.requires c.lawful.ensures.lawful

@@ -1,5 +1,6 @@
-use Rattle.sm_view.proofs.Books.{book_itself, book_before, book_through, one_more, before_change}
-use Rattle.sm_view.proofs.Growing.{no_less}
+use Rattle.sm_view.proofs.Books.{book_itself, book_before, book_behind, book_through, one_more, before_change}
+use Rattle.sm_view.proofs.Growing.{no_less, goes_on, no_change}
+use Rattle.sm_view.proofs.Staying.{client_stays}
 use Rattle.sm_view.proofs.laws.books.Goals as goal
 
 pub returns-clause-itself : goal.returns-clause-itself
@@ -7,6 +8,9 @@ returns-clause-itself c = book_itself
 
 pub returns-clause-before : goal.returns-clause-before
 returns-clause-before c = book_before
+
+pub returns-clause-behind : goal.returns-clause-behind
+returns-clause-behind c = book_behind
 
 pub returns-clause-through : goal.returns-clause-through
 returns-clause-through c = book_through
@@ -19,3 +23,12 @@ returns-clause-cut c = before_change
 
 pub returns-clause-grows : goal.returns-clause-grows
 returns-clause-grows c = no_less
+
+pub returns-clause-segment : goal.returns-clause-segment
+returns-clause-segment c = goes_on
+
+pub returns-clause-client : goal.returns-clause-client
+returns-clause-client c = client_stays
+
+pub returns-clause-seal : goal.returns-clause-seal
+returns-clause-seal c = no_change

@@ -3,9 +3,18 @@ use Rattle.sm_history.specs.declared.outcome.Outcome.{Outcome}
 use Rattle.sm_history.specs.declared.reply.Reply.TheVariants.{Done}
 use Rattle.sm_history.specs.Records.{moment_of}
 use Rattle.sm_history.specs.Verdict.{checks}
-use Rattle.sm_core.proofs.Keeping.{done_answers, done_records, done_ring, ready_of, ready_planned, ready_true}
+use Rattle.sm_core.proofs.Keeping.{done_answers, done_records, done_ring, numbers_planned, ready_of}
+use Rattle.sm_core.proofs.Keeping.{ready_planned, ready_true}
 use Rattle.sm_core.proofs.Stopping.{failing_is}
 use Rattle.sm_core.proofs.manager.Manager.carry_out.Goals as goal
+
+pub make_room-requires : goal.make_room-requires
+make_room-requires c =
+    let b = c.args.self.now.book in
+    rw c.deref-2.ensures.value (numbers_planned b c.args.self.now.state c.self.inside.turns c.self.inside.ring c.args.by c.args.turn c.args.event c.args.plan
+    (rw (← c.self.view_is) c.self.invariant)
+    (failing_is (moment_of b.history) _ _ (checks b.places b.history c.args.by c.args.turn c.args.event) None
+    c.requires.pass) c.requires.plan)
 
 pub make-requires-clause-ready : goal.make-requires-clause-ready
 make-requires-clause-ready c =

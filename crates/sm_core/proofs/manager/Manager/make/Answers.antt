@@ -2,8 +2,13 @@ use Rattle.std.proofs.Common.{subst}
 use Rattle.sm_history.specs.Effects.{Effects}
 use Rattle.sm_history.specs.Histories.{effects_of}
 use Rattle.sm_core.specs.Stands.{Stands}
-use Rattle.sm_core.proofs.Keeping.{kept_more, short}
+use Rattle.sm_core.proofs.GrantCounts.{may_done}
+use Rattle.sm_core.proofs.Keeping.{kept_more}
+use Rattle.sm_core.proofs.Small.{small_turns}
 use Rattle.sm_core.proofs.manager.Manager.make.Goals as goal
+
+pub count-requires-clause-few : goal.count-requires-clause-few
+count-requires-clause-few c = small_turns _ _ _ _ c.args.entry.by c.self.invariant
 
 pub invariant_of-self : goal.invariant_of-self
 invariant_of-self c =
@@ -12,7 +17,8 @@ invariant_of-self c =
     rw c.push.ensures (kept_more c.self.inside.places c.self.inside.journal.history c.self.inside.turns
     c.count.new.self c.self.inside.state c.apply_all.new.self c.self.inside.ring c.push_all.new.self
     c.args.records.items c.args.entry c.self.invariant
-    r.done r.sound c.count.ensures c.args.effects.items r.effects r.few
+    r.done r.sound c.count.ensures.counts c.count.ensures.admins c.args.effects.items r.effects
     (subst (λ (e : Effects). Stands e c.apply_all.new.self) r.effects
-    (c.apply_all.ensures (effects_of c.self.inside.journal.history) c.self.invariant.stands r.may
-    (short _ _ _ _ c.self.invariant _ r.few))) noted c.push_all.ensures)
+    (c.apply_all.ensures (effects_of c.self.inside.journal.history) c.self.invariant.stands
+    (may_done c.self.inside.places c.self.inside.journal.history c.args.entry c.args.effects.items
+    c.self.invariant.stands.sound r.done r.may r.effects))) noted c.push_all.ensures)

@@ -1,6 +1,11 @@
 use Rattle.std.proofs.Common.{refl, rules}
-use Rattle.sm_core.proofs.Keeping.{ready_planned}
+use Rattle.sm_core.proofs.Keeping.{numbers_planned, ready_planned}
 use Rattle.sm_core.proofs.manager.Manager.prepare.Goals as goal
+
+pub make_room-requires : goal.make_room-requires
+make_room-requires c =
+    rw c.deref.ensures.value (numbers_planned c.args.self.now.book c.args.self.now.state c.self.inside.turns c.self.inside.ring c.args.by c.args.turn c.args.event c.args.plan
+    (rw (← c.self.view_is) c.self.invariant) c.requires.pass c.requires.plan)
 
 pub returns-clause-ready : goal.returns-clause-ready
 returns-clause-ready c = (

@@ -1,8 +1,22 @@
 use Rattle.std.proofs.Common.{◌≡◌, ◌+◌, ◌∷◌, drop, ap, ◌∙◌, rules, suc, arith}
 use Rattle.std.proofs.Math.Seq.{drop-cons}
 use Rattle.sm_core.specs.Viewing.{StandPeople}
+use Rattle.sm_core.proofs.Numbers.{sets_first}
 use Rattle.sm_core.proofs.Viewing.{goes_on}
 use Rattle.sm_core.proofs.people.People.after.Goals as goal
+
+pub follow-requires : goal.follow-requires
+follow-requires c =
+    let i = c.loop-effect.effect-index in
+    let xs = c.args.effects.now in
+    let x = c.effect-item.result in
+    let one : suc i ≡ i + 1 = omega arith in
+    let left : drop i xs ≡ x ∷ drop (i + 1) xs =
+    drop-cons xs i x c.loop-effect-test.true ∙ ap (λ y. y ∷ drop (suc i) xs) (search rules)
+    ∙ ap (λ n. x ∷ drop n xs) one in
+    let s = rw left at c.loop-effect.invariant.small in
+    let first = sets_first x (drop (i + 1) xs) in
+    omega (arith, s, first)
 
 pub loop-effect-preserved : goal.loop-effect-preserved
 loop-effect-preserved c =
@@ -17,7 +31,8 @@ loop-effect-preserved c =
       small =
           let s = rw left at c.loop-effect.invariant.small in
           let grown = c.follow.ensures.version in
-          omega (arith, s, grown);
+          let first = sets_first x (drop (i + 1) xs) in
+          omega (arith, s, grown, first);
       stand = λ d s m. goes_on (λ e. StandPeople e c.loop-effect.people)
           (λ e. StandPeople e c.follow.new.self) d xs (drop i xs) (drop (i + 1) xs) x left
           c.in_ok-follow.ensures.stand (c.loop-effect.invariant.stand d s m);

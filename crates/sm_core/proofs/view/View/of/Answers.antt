@@ -7,7 +7,11 @@ use Rattle.sm_names.specs.Rows.{TracksRows}
 use Rattle.sm_names.specs.declared.row.NameRow.{NameRow}
 use Rattle.sm_names.specs.declared.services.Services.{Services}
 use Rattle.sm_core.proofs.Viewing.{viewed_now}
+use Rattle.sm_core.proofs.Small.{small_length}
 use Rattle.sm_core.proofs.view.View.of.Goals as goal
+
+pub length-requires : goal.length-requires
+length-requires c = small_length _ _ _ _ c.requires
 
 pub invariant_of-result : goal.invariant_of-result
 invariant_of-result c =
@@ -16,10 +20,10 @@ invariant_of-result c =
     let services = arc_value c.in_ok-services.services in
     let rows : services.rows.items ≡ c.services.result.now.rows.items =
     ap (λ (t : Services). t.rows.items) c.in_ok-services.ensures.ok ∙ c.in_ok-copy.ensures.0 in
-    subst (λ (j : Written). Viewed c.args.places j.history c.len.result people services
+    subst (λ (j : Written). Viewed c.args.places j.history c.length.result people services
     (arc_value c.in_ok-tally.tally.base) c.in_ok-tally.tally.since.items) (sym c.of-3.ensures)
-    (viewed_now c.args.places now.history c.args.turns.now c.args.state.now c.len.result people services
-    (arc_value c.in_ok-tally.tally.base) c.in_ok-tally.tally.since.items c.requires c.len.ensures
+    (viewed_now c.args.places now.history c.args.turns.now c.args.state.now c.length.result people services
+    (arc_value c.in_ok-tally.tally.base) c.in_ok-tally.tally.since.items c.requires c.length.ensures
     (λ d s. subst (λ (p : People). StandPeople d p) (sym c.in_ok-people.ensures.ok) (c.in_ok-of.ensures.stand d s))
     (λ d s. subst (λ (rs : List NameRow). TracksRows d rs) (sym rows) (c.services.ensures d s.names))
     c.in_ok-tally.ensures)

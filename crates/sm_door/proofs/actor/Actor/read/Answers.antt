@@ -1,23 +1,60 @@
-use Rattle.std.proofs.Common.{rules}
+use Rattle.std.proofs.Common.{rules, ◌≡◌, ◌∙◌, ◌+◌, Some, inr, ap, subst, sym}
 use Rattle.std.specs.Arc.{arc_value}
+use Rattle.left_right.specs.Sides.{view as place_view}
+use Rattle.sm_history.specs.declared.by.By.{By}
+use Rattle.sm_history.specs.Books.{Book}
+use Rattle.sm_history.specs.Histories.{turn_of}
+use Rattle.sm_view.specs.Begins.{Begins, IsLawfulBook}
+use Rattle.sm_view.specs.Promises.{Looks}
+use Rattle.sm_view.specs.Tokens.{Knows}
+use Rattle.sm_door.specs.declared.published.Known.{Known}
 use Rattle.sm_door.proofs.Places.{enters}
 use Rattle.sm_door.proofs.actor.Actor.read.Goals as goal
 
 pub enter_as-requires : goal.enter_as-requires
 enter_as-requires g c x = enters g.J.Naming.opening (λ s. arc_value s.page) _ _ x
 
+-- what it sees now is the page that it found
+pub invariant_of-self : goal.invariant_of-self
+invariant_of-self g c =
+    let page = arc_value c.in-Ok.reading.part.value.page in
+    let found : c.deref-in-Ok.result.now ≡ page = search (rules, c.get.ensures, c.deref-in-Ok.ensures) in
+    let now = c.leave.ensures.1 ∙ c.in-Ok.ensures.1.1 in
+    subst (λ (b : Book). (c.turn-self-inside.result ≡ turn_of b.history c.self.inside.by) × IsLawfulBook b)
+    (found ∙ ap (λ (k : Known). k.seen) (sym now)) (c.turn-self-inside.ensures.turn, c.turn-self-inside.ensures.lawful)
+
 pub returns-in-Ok : goal.returns-in-Ok
-returns-in-Ok g c = search (
-  rules,
-  c.leave.ensures,
-  c.in-Ok.ensures,
-  c.get.ensures,
-  c.deref.ensures,
-  c.deref-in-Ok.ensures,
-  c.look-reply.ensures,
-  c.turn-self-inside.ensures,
-  c.take.ensures,
-  c.unwrap.ensures,
-  c.self.invariant,
-  c.self.view_is,
-)
+returns-in-Ok g c =
+    let page = arc_value c.in-Ok.reading.part.value.page in
+    let found : c.deref-in-Ok.result.now ≡ page = search (rules, c.get.ensures, c.deref-in-Ok.ensures) in
+    let looked : c.deref.result.now ≡ page = search (rules, c.get.ensures, c.deref.ensures) in
+    let now = c.leave.ensures.1 ∙ c.in-Ok.ensures.1.1 in
+    let seen : page ≡ (place_view c.leave.result.place).seen = ap (λ (k : Known). k.seen) (sym now) in
+    let had : c.self.inside.reader ≡ Some c.unwrap.result = search (rules, c.take.ensures, c.unwrap.ensures) in
+    let view = rw had at c.self.view_is in
+    let was : (place_view c.unwrap.result.place).seen ≡ c.args.self.now.seen = ap (λ (k : Knows). k.seen) view in
+    let by : c.self.inside.by ≡ c.args.self.now.by = ap (λ (k : Knows). k.by) c.self.view_is in
+    inr (
+      record {
+        by = by;
+        lawful = subst IsLawfulBook (found ∙ seen) c.turn-self-inside.ensures.lawful;
+        begins = subst (λ (z : Book × Book). Begins z.0 z.1) (λ i. (seen i, was i)) c.in-Ok.ensures.1.0;
+      },
+      ap (λ (k : Known). k.reads) now ∙ ap (λ (k : Knows). k.reads + 1) view,
+      subst (λ (z : Book × By). Looks z.0 z.1 c.args.query c.look-reply.result) (λ i. ((looked ∙ seen) i, by i))
+          c.look-reply.ensures,
+    )
+
+pub invariant_of-self-in-Err : goal.invariant_of-self-in-Err
+invariant_of-self-in-Err g c =
+    let had : c.self.inside.reader ≡ Some c.unwrap.result = search (rules, c.take.ensures, c.unwrap.ensures) in
+    let kept = rw had at c.self.invariant in
+    subst (λ (k : Known). (c.self.inside.turn ≡ turn_of k.seen.history c.self.inside.by) × IsLawfulBook k.seen)
+    (sym c.in-Err.ensures.1) kept
+
+pub invariant_of-self-in-Err-2 : goal.invariant_of-self-in-Err-2
+invariant_of-self-in-Err-2 g c =
+    let had : c.self.inside.reader ≡ Some c.unwrap.result = search (rules, c.take.ensures, c.unwrap.ensures) in
+    let kept = rw had at c.self.invariant in
+    subst (λ (k : Known). (c.self.inside.turn ≡ turn_of k.seen.history c.self.inside.by) × IsLawfulBook k.seen)
+    (sym c.in-Err.ensures.1) kept

@@ -1,16 +1,16 @@
 use Rattle.std.proofs.Common.{◌≡◌, Some, Result, OnErr, refl, sym}
 use Rattle.sm_wire.specs.declared.item.Item.TheVariants.{Asked}
 use Rattle.sm_wire.specs.declared.request.Request.{Request}
-use Rattle.sm_wire.specs.declared.request.Request.TheVariants.{Hello, Change, Look}
+use Rattle.sm_wire.specs.declared.request.Request.TheVariants.{Hello, Change, Look, Seal}
 use Rattle.sm_wire.specs.declared.telling.Telling.TheVariants.{Whole}
 use Rattle.sm_engine.specs.Running.{GaveUp}
 use Rattle.sm_script.specs.Answering.{AnswersItem, Recorded, recorded}
-use Rattle.sm_script.proofs.Answered.{told_request, told_look, unasked_request, denials_request}
-use Rattle.sm_script.proofs.Answered.{lost_request, lost_look, kept_request}
+use Rattle.sm_script.proofs.Answered.{told_request, told_look, unasked_request, denials_request, seal_request}
+use Rattle.sm_script.proofs.Answered.{lost_request, lost_look, lost_seal, kept_request}
 use Rattle.sm_script.proofs.manager_script.Script.answer_request.Goals as goal
 use Rattle.sm_script.proofs.manager_script.Script.answer_request.Goals.{in-Hello, in-Change-Some-default}
 use Rattle.sm_script.proofs.manager_script.Script.answer_request.Goals.{in-Change-None-default, in-Look, in-Reload}
-use Rattle.sm_script.proofs.manager_script.Script.answer_request.Goals.{in-Denials}
+use Rattle.sm_script.proofs.manager_script.Script.answer_request.Goals.{in-Denials, in-Seal}
 
 -- each request was judged, and its texts were added
 pub returns-clause-ok : goal.returns-clause-ok
@@ -42,6 +42,8 @@ returns-clause-ok c = elim c.match-request.branch [
       (unasked_request w.answer_unasked.result _ _ _ _ _ tt w.answer_unasked.ensures)
   | in-Denials w ↦ rw (w.result-is, w.replies-is, w.audit-is, w.self-inside-is, w.in-Denials.is, ← c.self.view_is)
       (denials_request w.answer_denials.result _ _ _ _ w.answer_denials.ensures)
+  | in-Seal w ↦ rw (w.result-is, w.replies-is, w.audit-is, w.self-inside-is, w.in-Seal.is, ← c.self.view_is)
+      (seal_request w.answer_seal.result _ _ _ _ _ w.answer_seal.ensures.ok)
 ]
 
 -- the same of equal parts
@@ -74,4 +76,7 @@ returns-clause-err c =
           (rw w.self-inside-is refl) refl (kept_request w.answer_unasked.result old c.args.request)
       | in-Denials w ↦ carried _ w.answer_denials.result _ old _ old _ _ w.result-is same
           (rw w.self-inside-is refl) refl (kept_request w.answer_denials.result old c.args.request)
+      | in-Seal w ↦ let new = recorded w.answer_seal.new.manager in
+          carried _ w.answer_seal.result _ old _ new _ Seal w.result-is same (rw w.self-inside-is refl) w.in-Seal.is
+          (lost_seal w.answer_seal.result old new w.answer_seal.ensures.err)
     ]

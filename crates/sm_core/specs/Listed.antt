@@ -1,0 +1,20 @@
+-- Live clients, as rows have them.
+use Rattle.std.specs.Prelude.{ℕ, ◌≡◌, List, [], ◌∷◌}
+use Rattle.sm_history.specs.declared.client_row.ClientRow.{ClientRow as Listed}
+use Rattle.sm_history.specs.Effects.{Effects}
+use Rattle.sm_history.specs.Inboxes.{inbox_at}
+use Rattle.sm_history.specs.Tables.{slot, slot_at}
+use Rattle.sm_core.specs.declared.client.ClientRow.{ClientRow}
+
+-- A client's row has its process, what it holds and what waits for it.
+pub record IsListed (d : Effects) (r : ClientRow) (l : Listed) : Type 0 where
+  pub client : l.client ≡ r.id
+  pub who : l.who ≡ r.process.who
+  pub held : (k : ℕ) → slot l.held.items k ≡ slot_at d r.id k
+  pub waiting : l.waiting.items ≡ inbox_at d r.id
+
+abbrev pub AreListed : Effects → List ClientRow → List Listed → Type 0
+AreListed d [] [] = Unit {0}
+AreListed d [] (l ∷ ls) = ⊥
+AreListed d (r ∷ rs) [] = ⊥
+AreListed d (r ∷ rs) (l ∷ ls) = IsListed d r l × AreListed d rs ls

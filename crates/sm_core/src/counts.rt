@@ -1,0 +1,65 @@
+//! Whether counts of grants stay below the greatest number.
+
+ghost use Rattle.std.specs.Prelude.{◌≡◌, count_by};
+ghost use Rattle.std.specs.List.{list_all};
+ghost use Rattle.sm_history.specs.Effects.{Effects};
+ghost use Rattle.sm_grants.specs.Rows.{Tracks};
+ghost use Rattle.sm_core.specs.Stands as spec;
+ghost use Rattle.sm_core.specs.Stands.{fits_among};
+
+use sm_grants::Grants;
+use sm_history::{Effect, GREATEST};
+use sm_kinds::Node;
+
+/// Whether an effect grants an object to a client.
+fn is_grant_of(client: u32, node: Node, effect: &Effect) -> bool
+    ensures { result ≡ spec.is_grant_of client node effect.now }
+{
+    match effect {
+        Effect::Gives {
+            client: to,
+            node: given,
+            ..
+        } => { *to == client && given.owner.0 == node.owner.0 && given.object == node.object }
+        _ => false,
+    }
+}
+
+/// How often effects grant an object to a client.
+fn times_given(effects: &[Effect], client: u32, node: Node) -> u64
+    ensures { result ≡ count_by (spec.is_grant_of client node) effects.now }
+{
+    effects
+        .iter()
+        .filter(|effect| is_grant_of(client, node, effect))
+        .count() as u64
+}
+
+/// Whether the count that an effect raises stays below the greatest number where all of these are made. Mostly the
+/// count and the number of effects say so.
+fn count_fits(grants: &Grants, effects: &[Effect], effect: &Effect) -> bool
+    ensures { (d : Effects) → Tracks d grants.now → result ≡ fits_among d effects.now effect.now }
+{
+    match effect {
+        Effect::Gives { client, node, .. } => {
+            let count = grants.count(*client, *node);
+            if count < GREATEST - effects.len() as u64 {
+                return true;
+            }
+            times_given(effects, *client, *node) < GREATEST - count
+        }
+        _ => true,
+    }
+}
+
+/// Whether each count stays below the greatest number where these effects are made.
+pub fn counts_fit(grants: &Grants, effects: &[Effect]) -> bool
+    ensures { (d : Effects) → Tracks d grants.now → result ≡ list_all (fits_among d effects.now) effects.now }
+{
+    for effect in effects {
+        if !count_fits(grants, effects, effect) {
+            return false;
+        }
+    }
+    true
+}

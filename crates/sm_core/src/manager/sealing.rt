@@ -1,0 +1,110 @@
+//! Seals.
+
+ghost use Rattle.std.specs.Prelude.{◌≡◌, ◌≢◌, ◌≤◌, ◌+◌, ◌⊎◌, [], IfOk, IfErr, MatchResult};
+ghost use Rattle.sm_history.specs.declared.by.By.{By};
+ghost use Rattle.sm_history.specs.declared.refusal.Refusal.TheVariants.{Memory, Empty as IsEmpty};
+ghost use Rattle.sm_history.specs.Segments.{rows_of, sealed};
+ghost use Rattle.sm_view.specs.Begins.{sealed_book};
+ghost use Rattle.sm_view.specs.Steps.{Seals, StaysOpen};
+ghost use Rattle.sm_core.specs.Managed.{IsSame};
+ghost use Rattle.sm_core.specs.SealReady.{IsReadySeal};
+
+use crate::journal::Journal;
+use crate::manager::Manager;
+use crate::sealing::ReadySeal;
+use crate::view::View;
+use sm_history::{Refusal, Rows, Segment};
+use std::alloc::AllocError;
+use std::mem;
+
+impl Manager {
+    /// Closes the open segment, and gives it. It is no event, and takes no turn.
+    ///
+    /// # Errors
+    ///
+    /// `Empty`: the segment has no changes. `Memory` where memory was refused.
+    pub fn seal(&mut self) -> Result<Segment, Refusal>
+        ensures seals { MatchResult result (λ s. Seals self.old.book s self.new.book) (λ r. StaysOpen self.old.book r self.new.book) }
+        ensures ring { self.new.ring ≡ self.old.ring }
+    {
+        match self.ready_seal() {
+            Ok(ready) => Ok(self.commit_seal(ready)),
+            Err(refusal) => Err(refusal),
+        }
+    }
+
+    /// Makes all that a seal takes memory for.
+    ///
+    /// # Errors
+    ///
+    /// As `seal`.
+    pub fn ready_seal(&mut self) -> Result<ReadySeal, Refusal>
+        ensures same { IsSame self.old.book self.new.book }
+        ensures ring { self.new.ring ≡ self.old.ring }
+        ensures ready { IfOk result (λ r. IsReadySeal self.new r) }
+        ensures refused { IfErr result (λ r. (r ≡ Memory) ⊎ ((r ≡ IsEmpty) × (self.old.book.history.entries ≡ []))) }
+    {
+        if self.journal.len() == 0 {
+            return Err(Refusal::Empty);
+        }
+        match self.opened_next() {
+            Ok(ready) => Ok(ready),
+            Err(_) => Err(Refusal::Memory),
+        }
+    }
+
+    /// The next segment, and the counts that it begins with.
+    fn opened_next(&self) -> Result<ReadySeal, AllocError>
+        requires { self.now.book.history.entries ≢ [] }
+        ensures { IfOk result (λ r. IsReadySeal self.now r) }
+    {
+        let alloc = self.alloc;
+        let turns = self
+            .turns
+            .sealed(alloc, self.state.next, &self.state.clients)?;
+        let opening = self.rows()?;
+        let journal = Journal::begin(alloc, self.journal.number() + 1, opening)?;
+        Ok(ReadySeal { journal, turns })
+    }
+
+    /// What the changes so far left, as rows.
+    fn rows(&self) -> Result<Rows, AllocError>
+        ensures { IfOk result (λ r. r ≡ rows_of self.now.book.history) }
+    {
+        let _ = &self.places;
+        self.journal.rows()
+    }
+
+    /// Closes the open segment. It takes no memory.
+    pub fn commit_seal(&mut self, ready: ReadySeal) -> Segment
+        requires { IsReadySeal self.old ready }
+        ensures segment { result ≡ self.old.book.history }
+        ensures places { self.new.book.places ≡ self.old.book.places }
+        ensures history { self.new.book.history ≡ sealed self.old.book.history }
+        ensures ring { self.new.ring ≡ self.old.ring }
+    {
+        let ReadySeal { journal, turns } = ready;
+        self.turns = turns;
+        let closed = mem::replace(&mut self.journal, journal);
+        closed.closed()
+    }
+
+    /// What readers see of it once the segment is closed.
+    ///
+    /// # Errors
+    ///
+    /// An error where memory was refused.
+    pub fn view_sealed(&self, ready: &ReadySeal) -> Result<View, AllocError>
+        requires { IsReadySeal self.now ready.now }
+        ensures { IfOk result (λ v. v ≡ sealed_book self.now.book) }
+    {
+        let alloc = self.alloc;
+        View::of(
+            alloc,
+            self.places,
+            &ready.journal,
+            &self.state,
+            &ready.turns,
+        )
+    }
+}

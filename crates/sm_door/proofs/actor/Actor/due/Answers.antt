@@ -1,0 +1,10 @@
+use Rattle.std.proofs.Common.{subst}
+use Rattle.sm_view.specs.Begins.{IsLawfulBook}
+use Rattle.sm_view.specs.Tokens.{Knows}
+use Rattle.sm_door.proofs.actor.Actor.due.Goals as goal
+
+pub returns-clause-lawful : goal.returns-clause-lawful
+returns-clause-lawful g c =
+    let kept = rw c.in-Some.is at c.self.invariant in
+    let view = rw c.in-Some.is at c.self.view_is in
+    subst (λ (k : Knows). IsLawfulBook k.seen) view kept.1

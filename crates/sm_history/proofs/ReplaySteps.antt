@@ -1,0 +1,84 @@
+-- A replay goes on as the history does.
+use Rattle.std.proofs.Common.{◌≡◌, ℕ, ◌+◌, ◌<◌, [], refl, sym, subst, arith}
+use Rattle.std.specs.Prelude.{min, ◌||◌}
+use Rattle.sm_policy.specs.Policy.{Policy}
+use Rattle.sm_kinds.specs.declared.identity.Identity.{Identity}
+use Rattle.sm_history.specs.declared.limits.TheConstants.{GREATEST}
+use Rattle.sm_history.specs.declared.by.By.{By}
+use Rattle.sm_history.specs.declared.event.Event.{Event}
+use Rattle.sm_history.specs.declared.event.Event.TheVariants.{Open}
+use Rattle.sm_history.specs.declared.outcome.Outcome.{Outcome}
+use Rattle.sm_history.specs.declared.outcome.Outcome.TheVariants.{Opened}
+use Rattle.sm_history.specs.declared.entry.Entry.{Entry}
+use Rattle.sm_history.specs.declared.replay.Replay.{Replay}
+use Rattle.sm_history.specs.declared.tables.Tables.{Tables}
+use Rattle.sm_history.specs.Effects.{Effects}
+use Rattle.sm_history.specs.Histories.{History, entered, effects_of, length_of, client_of, after_event, turn_of}
+use Rattle.sm_history.specs.Lawful.{IsOpening}
+use Rattle.sm_history.specs.Sound.{Sound}
+use Rattle.sm_history.specs.Tables.{TracksTables}
+use Rattle.sm_history.specs.Entering.{IsDone}
+use Rattle.sm_history.specs.Replaying.{IsNext, TracksHistory, start}
+use Rattle.sm_history.specs.Openings.{is_same}
+use Rattle.sm_history.specs.Turning.{admin, has_made, is_known, made, more_by, with_order}
+use Rattle.sm_history.proofs.NumbersFit.{below}
+use Rattle.sm_history.proofs.RowsSound.{sound_back}
+use Rattle.sm_history.proofs.SoundHistory.{sound_none}
+use Rattle.sm_history.proofs.TurnsCounted.{counted_more}
+
+-- ---- one entry more
+
+-- What entering into the tables promises.
+abbrev pub Enters : ℕ → Event → Outcome → Tables → Tables → Type 0
+Enters c event outcome t t' = (d : Effects) → Sound d → TracksTables d t → IsDone d c event outcome
+    → TracksTables (after_event d c event) t'
+
+grow : (old new h g m : ℕ) → new ≡ min (old + 1) m → old ≡ h → h < m → g ≡ h + 1 → new ≡ g
+grow old new h g m is was lt after = omega (arith, is, was, lt, after)
+
+more_length : (old new h g : ℕ) → new ≡ min (old + 1) GREATEST → old ≡ h → h < GREATEST → g ≡ h + 1 → new ≡ g
+more_length old new h g is was lt after = grow old new h g GREATEST is was lt after
+
+pub next_step : (h : History) (e : Entry) (c : ℕ) (old new : Replay) → Sound (effects_of h) → TracksHistory h old
+    → IsNext h e → c ≡ client_of e.by → Enters c e.event e.outcome old.tables new.tables
+    → ((b : By) → made new.turning b ≡ more_by (is_same e.by b) (made old.turning b))
+    → ((a : ℕ) → is_known new.turning a ≡ (is_same e.by (admin a) || is_known old.turning a))
+    → new.turning.order.items ≡ with_order e.by (has_made old.turning e.by) old.turning.order.items
+    → new.length ≡ min (old.length + 1) GREATEST → TracksHistory (entered e h) new
+next_step h e c old new s tr next own enters counts knows orders longer =
+    let enters' : Enters (client_of e.by) e.event e.outcome old.tables new.tables =
+    subst (λ (k : ℕ). Enters k e.event e.outcome old.tables new.tables) own enters in
+    record {
+      tables = enters' (effects_of h) s tr.tables next.done;
+      turning = counted_more h e old.turning new.turning next.turns tr.turning counts knows orders;
+      length = more_length old.length new.length (length_of h) (length_of (entered e h)) longer tr.length next.length
+          (omega arith);
+    }
+
+-- ---- the opening
+
+pub sound_start : (number : ℕ) → Sound (effects_of (start number))
+sound_start number = sound_back [] sound_none
+
+zero_turns : (v g : ℕ) → v ≡ 0 → 0 < g → v < g
+zero_turns v g z lt = omega (arith, z, lt)
+
+opening_done : (number : ℕ) (who : Identity) (policy : Policy)
+    → IsDone (effects_of (start number)) 0 (Open who policy) Opened
+opening_done number who policy = record {
+  acts = tt;
+  passes = tt;
+  outcome_is = refl;
+  fits = λ c n. below 0 GREATEST refl;
+  version = below 0 GREATEST refl;
+}
+
+-- The manager's opening is the next change where nothing was before.
+pub opening_next : (number : ℕ) (e : Entry) → IsOpening e → IsNext (start number) e
+opening_next number e (who, policy, is, may, ok) =
+    subst (λ (v : Entry). IsNext (start number) v) (sym is)
+    (record {
+      done = opening_done number who policy;
+      turns = λ by. zero_turns (turn_of (start number) by) GREATEST (omega arith) (below 0 GREATEST refl);
+      length = below 0 GREATEST refl;
+    })

@@ -1,0 +1,9 @@
+use Rattle.sm_history.proofs.Beginnings.{longer}
+use Rattle.sm_history.proofs.Later.{later}
+use Rattle.sm_history.proofs.laws.later.Goals as goal
+
+pub returns-clause-more : goal.returns-clause-more
+returns-clause-more c = later
+
+pub returns-clause-longer : goal.returns-clause-longer
+returns-clause-longer c = longer

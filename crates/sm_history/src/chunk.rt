@@ -1,0 +1,37 @@
+//! Entries that lie in one piece of memory.
+
+ghost use Rattle.std.specs.Prelude.{◌≡◌};
+
+use crate::entry::Entry;
+use std::marker::Model;
+
+/// Entries that lie in one piece of memory, the oldest first.
+#[derive(Drop)]
+pub struct Chunk {
+    entries: Vec<Entry>,
+}
+
+impl Model for Chunk {
+    ghost use Rattle.std.specs.Prelude.{List};
+    ghost use Rattle.sm_history.specs.declared.entry.Entry.{Entry};
+
+    ghost Value = { List Entry };
+
+    ghost view = { λ c. c.entries.items };
+}
+
+impl Chunk {
+    /// These entries.
+    pub fn new(entries: Vec<Entry>) -> Chunk
+        ensures { result ≡ entries.items }
+    {
+        Chunk { entries }
+    }
+
+    /// The entries, the oldest first.
+    pub fn entries(&self) -> &[Entry]
+        ensures { result.now ≡ self.now }
+    {
+        self.entries.as_slice()
+    }
+}

@@ -1,0 +1,114 @@
+//! The rows of the live clients.
+
+ghost use Rattle.std.specs.Prelude.{◌≡◌, ◌∷◌, true, drop, Some, OnOk};
+ghost use Rattle.sm_kinds.specs.declared.number.Node.{Node};
+ghost use Rattle.sm_history.specs.declared.effect.Effect.TheVariants.{Connects, Delivers, Dies, Gives, Releases, Takes};
+ghost use Rattle.sm_history.specs.Effects.{Effects};
+ghost use Rattle.sm_history.specs.Clients.{is_live};
+ghost use Rattle.sm_history.specs.Holdings.{node_at};
+ghost use Rattle.sm_history.specs.Sound.{Sound};
+ghost use Rattle.sm_history.specs.Following.{MayFollow, MayGive};
+ghost use Rattle.sm_history.specs.Tables.{TracksClients};
+
+use crate::client_row::{ClientRow, give, place_of, release};
+use crate::delivery::BoxedDelivery;
+use sm_kinds::{Identity, Node};
+use std::alloc::{AllocError, Global};
+
+/// A new client's row. `Err`: memory was refused.
+pub fn connect(
+    live: &mut Vec<ClientRow>,
+    alloc: Global,
+    client: u32,
+    who: Identity,
+) -> Result<(), AllocError>
+    ensures { OnOk result ((d : Effects) → Sound d → TracksClients d live.old.items
+        → MayFollow d (Connects client who) → TracksClients (Connects client who ∷ d) live.new.items) }
+{
+    let row = ClientRow {
+        client,
+        who,
+        held: Vec::new(alloc),
+        waiting: Vec::new(alloc),
+    };
+    live.push(row)?;
+    Ok(())
+}
+
+/// A client's row goes.
+pub fn forget(live: &mut Vec<ClientRow>, client: u32)
+    ensures { (d : Effects) → Sound d → TracksClients d live.old.items
+        → MayFollow d (Dies client) → TracksClients (Dies client ∷ d) live.new.items }
+{
+    live.retain(|row| row.client != client);
+}
+
+/// One more grant of an object to a client, under a number. `Err`: memory was refused.
+pub fn give_to(
+    live: &mut Vec<ClientRow>,
+    client: u32,
+    node: Node,
+    number: u32,
+) -> Result<(), AllocError>
+    ensures { OnOk result ((d : Effects) → Sound d → TracksClients d live.old.items
+        → MayGive d client node number → TracksClients (Gives client node number ∷ d) live.new.items) }
+{
+    let Some(i) = place_of(live, client) else {
+        return Ok(());
+    };
+    let row = &mut live[i];
+    give(row, node, number)?;
+    Ok(())
+}
+
+/// One grant of what a client holds under a number is given back. `Err`: memory was refused.
+pub fn release_of(live: &mut Vec<ClientRow>, client: u32, number: u32) -> Result<(), AllocError>
+    ensures { OnOk result ((d : Effects) (n : Node) → Sound d → TracksClients d live.old.items
+        → node_at d client number ≡ Some n → MayFollow d (Releases client n)
+        → TracksClients (Releases client n ∷ d) live.new.items) }
+{
+    let Some(i) = place_of(live, client) else {
+        return Ok(());
+    };
+    let row = &mut live[i];
+    release(row, number)?;
+    Ok(())
+}
+
+/// One more delivery waits for a client. `Err`: memory was refused.
+pub fn deliver_to(
+    live: &mut Vec<ClientRow>,
+    client: u32,
+    delivery: BoxedDelivery,
+) -> Result<(), AllocError>
+    ensures { OnOk result ((d : Effects) → Sound d → TracksClients d live.old.items
+        → is_live d client ≡ true → TracksClients (Delivers client delivery ∷ d) live.new.items) }
+{
+    let Some(i) = place_of(live, client) else {
+        return Ok(());
+    };
+    let row = &mut live[i];
+    row.waiting.push(delivery)?;
+    Ok(())
+}
+
+/// The delivery that has waited longest for a client goes.
+pub fn take_from(live: &mut Vec<ClientRow>, client: u32)
+    ensures { (d : Effects) → TracksClients d live.old.items → is_live d client ≡ true
+        → TracksClients (Takes client ∷ d) live.new.items }
+{
+    let Some(i) = place_of(live, client) else {
+        return;
+    };
+    let row = &mut live[i];
+    take_first(&mut row.waiting);
+}
+
+/// The oldest delivery goes, if there is one.
+fn take_first(waiting: &mut Vec<BoxedDelivery>)
+    ensures { waiting.new.items ≡ drop 1 waiting.old.items }
+{
+    if waiting.len() > 0 {
+        let _ = waiting.remove(0);
+    }
+}

@@ -1,0 +1,73 @@
+//! The names that have a service.
+
+ghost use Rattle.std.specs.Prelude.{◌≡◌, ◌∷◌, true, ℕ, length, OnOk, MatchResult};
+ghost use Rattle.std.specs.List.Sorted.{IsSearchInRange};
+ghost use Rattle.sm_history.specs.declared.effect.Effect.TheVariants.{Adds, Dies, Removes};
+ghost use Rattle.sm_history.specs.Effects.{Effects};
+ghost use Rattle.sm_history.specs.Clients.{is_live};
+ghost use Rattle.sm_history.specs.Services.{service_at};
+ghost use Rattle.sm_history.specs.Rising.{IsRising};
+ghost use Rattle.sm_history.specs.Tables.{names_of, IsNamePlace, IsNameGap, TracksNames};
+
+use crate::service::Service;
+use sm_kinds::Name;
+use std::alloc::AllocError;
+
+/// A name, and the service under it.
+#[derive(Drop)]
+pub struct NamedRow {
+    pub name: Name,
+    pub service: Service,
+}
+
+/// The place of a name's row, or the one where it would stand.
+fn place_of_name(rows: &[NamedRow], name: &[u8]) -> Result<usize, usize>
+    ensures within { IsSearchInRange result (length rows.now) }
+    ensures place { IsRising (names_of rows.now)
+        → MatchResult result (IsNamePlace rows.now name.now) (IsNameGap rows.now name.now) }
+{
+    rows.binary_search_by(|row| row.name.bytes().cmp(name))
+}
+
+/// The service under a name.
+pub fn service_in(rows: &[NamedRow], name: &[u8]) -> Option<Service>
+    ensures { (d : Effects) → TracksNames d rows.now → result ≡ service_at d name.now }
+{
+    match place_of_name(rows, name) {
+        Ok(i) => Some(rows[i].service),
+        Err(_) => None,
+    }
+}
+
+/// A service stands under a name, in place of the one that was there. `Err`: memory was refused.
+pub fn put_name(rows: &mut Vec<NamedRow>, name: Name, service: Service) -> Result<(), AllocError>
+    ensures { OnOk result ((d : Effects) → TracksNames d rows.old.items
+        → is_live d service.node.owner.0 ≡ true → TracksNames (Adds name service ∷ d) rows.new.items) }
+{
+    match place_of_name(rows, name.bytes()) {
+        Ok(i) => {
+            rows[i].service = service;
+            Ok(())
+        }
+        Err(i) => {
+            rows.insert(i, NamedRow { name, service })?;
+            Ok(())
+        }
+    }
+}
+
+/// The service under a name goes, if there is one.
+pub fn remove_name(rows: &mut Vec<NamedRow>, name: &[u8])
+    ensures { (d : Effects) → TracksNames d rows.old.items → TracksNames (Removes name.now ∷ d) rows.new.items }
+{
+    if let Ok(i) = place_of_name(rows, name) {
+        let _ = rows.remove(i);
+    }
+}
+
+/// The services of a client's objects go.
+pub fn forget_names(rows: &mut Vec<NamedRow>, client: u32)
+    ensures { (d : Effects) → TracksNames d rows.old.items → TracksNames (Dies client ∷ d) rows.new.items }
+{
+    rows.retain(|row| client != row.service.node.owner.0);
+}

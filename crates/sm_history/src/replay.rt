@@ -1,0 +1,33 @@
+//! A replay of changes.
+
+ghost use Rattle.std.specs.Prelude.{◌≡◌, OnOk};
+ghost use Rattle.sm_history.specs.Histories.{History, entered, effects_of};
+ghost use Rattle.sm_history.specs.Sound.{Sound};
+ghost use Rattle.sm_history.specs.Replaying.{IsNext, TracksHistory};
+
+use crate::entry::Entry;
+use crate::tables::Tables;
+use crate::turning::{Turning, number_of};
+use std::alloc::AllocError;
+
+/// What the changes so far left: tables, how many changes each actor made, and how many there are.
+#[derive(Drop)]
+pub struct Replay {
+    pub tables: Tables,
+    pub turning: Turning,
+    pub length: u64,
+}
+
+impl Replay {
+    /// One change more. `Err`: memory was refused.
+    pub(crate) fn enter(&mut self, entry: &Entry) -> Result<(), AllocError>
+        ensures { OnOk result ((h : History) → Sound (effects_of h) → TracksHistory h self.old
+            → IsNext h entry.now → TracksHistory (entered entry.now h) self.new) }
+    {
+        let client = number_of(entry.by);
+        self.tables.enter(client, &entry.event, &entry.outcome)?;
+        self.turning.count(entry.by)?;
+        self.length = self.length.saturating_add(1);
+        Ok(())
+    }
+}

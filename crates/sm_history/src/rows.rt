@@ -1,0 +1,210 @@
+//! What changes left, as plain rows.
+
+use std::marker::Model;
+
+/// All that a verdict reads of the changes so far: the manager and the policy in force, once it was opened, each live
+/// client with what it holds and what waits for it, names, watches, turns, and how many changes there were. A segment
+/// begins with these; contracts see them as the rows that a history leaves.
+#[derive(Drop)]
+pub struct Rows {
+    tables: Tables,
+    turns: Vec<TurnRow>,
+    length: u64,
+}
+
+impl Model for Rows {
+    ghost use Rattle.sm_history.specs.Openings.{Opening};
+    ghost use Rattle.sm_history.specs.Tables.{tables_of};
+    ghost use Rattle.sm_history.specs.Replaying.{AreLeft};
+
+    ghost Value = { Opening };
+
+    ghost view = { λ r. record { tables = tables_of r.tables; length = r.length; turns = r.turns.items } };
+
+    ghost invariant = { λ r. AreLeft r.tables };
+}
+
+ghost use Rattle.std.specs.Prelude.{◌≡◌, map, IfOk};
+ghost use Rattle.std.specs.List.{flat_map};
+ghost use Rattle.sm_history.specs.Openings.{nothing};
+ghost use Rattle.sm_history.specs.Replaying.{AreLeft, StartsFrom};
+ghost use Rattle.sm_history.specs.Turning.{turn_rows};
+ghost use Rattle.sm_history.specs.Tables.{held_of, live_of, manager_of, policy_of, tables_of, waiting_of};
+
+use crate::client_row::ClientRow;
+use crate::effect::Watch;
+use crate::named_row::NamedRow;
+use crate::replay::Replay;
+use crate::tables::Tables;
+use crate::turn::TurnRow;
+use crate::turning::Turning;
+use sm_kinds::Identity;
+use sm_policy::Prepared;
+use std::alloc::{AllocError, Global};
+
+fn turns_of(alloc: Global, turns: &[TurnRow]) -> Result<Vec<TurnRow>, AllocError>
+    ensures { IfOk result (λ v. v.items ≡ turns.now) }
+{
+    let mut copies = Vec::new(alloc);
+    for row in turns {
+        copies.push(*row)?;
+    }
+    Ok(copies)
+}
+
+/// No tables.
+fn no_tables(alloc: Global) -> Tables
+    ensures left { AreLeft result }
+    ensures nothing { tables_of result ≡ nothing.tables }
+{
+    Tables {
+        alloc,
+        manager: None,
+        policy: None,
+        version: 0,
+        clients: 0,
+        live: Vec::new(alloc),
+        names: Vec::new(alloc),
+        watches: Vec::new(alloc),
+    }
+}
+
+impl Rows {
+    /// Before anything was done.
+    pub fn nothing(alloc: Global) -> Rows
+        ensures { result ≡ nothing }
+    {
+        Rows {
+            tables: no_tables(alloc),
+            turns: Vec::new(alloc),
+            length: 0,
+        }
+    }
+
+    /// The rows that tables are, which are what some changes left, with how many changes each actor made, and how many
+    /// there were.
+    pub fn new(tables: Tables, turns: Vec<TurnRow>, length: u64) -> Rows
+        requires { AreLeft tables }
+        ensures { result ≡ record { tables = tables_of tables; length = length; turns = turns.items } }
+    {
+        Rows {
+            tables,
+            turns,
+            length,
+        }
+    }
+
+    /// The rows that a replay has come to. `Err`: memory was refused.
+    pub(crate) fn of(replay: Replay) -> Result<Rows, AllocError>
+        requires { AreLeft replay.tables }
+        ensures { IfOk result (λ r. r ≡ record {
+          tables = tables_of replay.tables;
+          length = replay.length;
+          turns = turn_rows replay.turning replay.tables.live.items;
+        }) }
+    {
+        let Replay {
+            tables,
+            turning,
+            length,
+        } = replay;
+        let turns = turning.rows(&tables.live)?;
+        Ok(Rows::new(tables, turns, length))
+    }
+
+    /// A replay that begins with these rows. `Err`: memory was refused.
+    pub(crate) fn replay(&self) -> Result<Replay, AllocError>
+        ensures { IfOk result (λ r. StartsFrom self.now r) }
+    {
+        let tables = self.tables.copy()?;
+        let turning = Turning::start(tables.alloc, &self.turns)?;
+        let length = self.length;
+        Ok(Replay {
+            tables,
+            turning,
+            length,
+        })
+    }
+
+    /// The manager's process, once it was opened.
+    pub fn manager(&self) -> &Option<Identity>
+        ensures { manager_of result.now ≡ self.now.tables.manager }
+    {
+        &self.tables.manager
+    }
+
+    /// The policy in force, once the manager was opened.
+    pub fn policy(&self) -> &Option<Prepared>
+        ensures { policy_of result.now ≡ self.now.tables.policy }
+    {
+        &self.tables.policy
+    }
+
+    /// How many policies were set.
+    pub fn version(&self) -> u64
+        ensures { result ≡ self.now.tables.version }
+    {
+        self.tables.version
+    }
+
+    /// How many clients ever connected.
+    pub fn clients(&self) -> u32
+        ensures { result ≡ self.now.tables.clients }
+    {
+        self.tables.clients
+    }
+
+    /// The live clients, the oldest first, with what each holds and what waits for it.
+    pub fn live(&self) -> &[ClientRow]
+        ensures live { map live_of result.now ≡ self.now.tables.live }
+        ensures held { flat_map held_of result.now ≡ self.now.tables.held }
+        ensures waiting { flat_map waiting_of result.now ≡ self.now.tables.waiting }
+    {
+        self.tables.live.as_slice()
+    }
+
+    /// The names that have a service, in rising byte order.
+    pub fn names(&self) -> &[NamedRow]
+        ensures { result.now ≡ self.now.tables.names }
+    {
+        self.tables.names.as_slice()
+    }
+
+    /// The watches, the oldest first.
+    pub fn watches(&self) -> &[Watch]
+        ensures { result.now ≡ self.now.tables.watches }
+    {
+        self.tables.watches.as_slice()
+    }
+
+    /// How many changes each actor made that may still make some: the manager, the live clients, and the administrators
+    /// in the order of their first.
+    pub fn turns(&self) -> &[TurnRow]
+        ensures { result.now ≡ self.now.turns }
+    {
+        self.turns.as_slice()
+    }
+
+    /// How many changes there were.
+    pub fn length(&self) -> u64
+        ensures { result ≡ self.now.length }
+    {
+        self.length
+    }
+}
+
+impl Clone for Rows {
+    ghost is_clone = { λ r copy. copy ≡ r };
+
+    /// The same rows; texts, deliveries and the policy get one more owner.
+    fn clone(&self) -> Result<Rows, AllocError> {
+        let tables = self.tables.copy()?;
+        let turns = turns_of(tables.alloc, &self.turns)?;
+        let length = self.length;
+        Ok(Rows {
+            tables,
+            turns,
+            length,
+        })
+    }
+}

@@ -1,0 +1,155 @@
+//! Segments of a journal.
+
+use std::marker::Model;
+
+/// A segment of a journal: its number from 1, the rows that it begins with, and its changes, the oldest first, which
+/// lie in chunks, so that a journal gives them away as they lie. Contracts see the history, which came about by a
+/// manager.
+#[derive(Drop)]
+pub struct Segment {
+    number: u64,
+    opening: Rows,
+    full: Vec<Chunk>,
+    last: Vec<Entry>,
+}
+
+impl Model for Segment {
+    ghost use Rattle.std.specs.Prelude.{◌++◌};
+    ghost use Rattle.sm_history.specs.Histories.{History};
+    ghost use Rattle.sm_history.specs.Replaying.{ComesAbout, joined, segment};
+
+    ghost Value = { History };
+
+    ghost view = { λ s. segment s.number s.opening (joined s.full.items ++ s.last.items) };
+
+    ghost invariant = { λ s. ComesAbout (segment s.number s.opening (joined s.full.items ++ s.last.items)) };
+}
+
+ghost use Rattle.std.specs.Prelude.{◌≡◌, ◌<◌, ◌^◌, ◌++◌, [], ℕ, List, reverse, length, IfOk, OnOk};
+ghost use Rattle.sm_history.specs.declared.entry.Entry.{Entry};
+ghost use Rattle.sm_history.specs.Openings.{Opening};
+ghost use Rattle.sm_history.specs.Histories.{length_of};
+ghost use Rattle.sm_history.specs.Lawful.{IsLawful};
+ghost use Rattle.sm_history.specs.Segments.{rows_of};
+ghost use Rattle.sm_history.specs.Replaying.{ComesAbout, HasCome, joined, segment};
+
+use crate::chunk::Chunk;
+use crate::entry::Entry;
+use crate::replay::Replay;
+use crate::rows::Rows;
+use std::alloc::AllocError;
+
+/// Entries in order. `Err`: memory was refused.
+fn enter_all(replay: &mut Replay, entries: &[Entry]) -> Result<(), AllocError>
+    ensures { OnOk result ((places number : ℕ) (o : Opening) (before rest : List Entry)
+        → IsLawful places (segment number o (before ++ (entries.now ++ rest)))
+        → HasCome places number o (reverse before) replay.old
+        → HasCome places number o (reverse (before ++ entries.now)) replay.new) }
+{
+    for entry in entries {
+        replay.enter(entry)?;
+    }
+    Ok(())
+}
+
+/// The entries of chunks in order. `Err`: memory was refused.
+fn enter_chunks(replay: &mut Replay, chunks: &[Chunk]) -> Result<(), AllocError>
+    ensures { OnOk result ((places number : ℕ) (o : Opening) (rest : List Entry)
+        → IsLawful places (segment number o (joined chunks.now ++ rest))
+        → HasCome places number o [] replay.old
+        → HasCome places number o (reverse (joined chunks.now)) replay.new) }
+{
+    for chunk in chunks {
+        enter_all(replay, chunk.entries())?;
+    }
+    Ok(())
+}
+
+/// How many entries lie in chunks.
+fn count_chunks(chunks: &[Chunk]) -> u64
+    requires { length (joined chunks.now) < 2 ^ 64 }
+    ensures { result ≡ length (joined chunks.now) }
+{
+    let mut n = 0;
+    for chunk in chunks {
+        n += chunk.entries().len() as u64;
+    }
+    n
+}
+
+/// The rows after changes that came about behind these rows, in a segment of this number: those in full chunks, and those
+/// behind them. `Err`: memory was refused.
+pub fn rows_after(
+    number: u64,
+    opening: &Rows,
+    full: &[Chunk],
+    last: &[Entry],
+) -> Result<Rows, AllocError>
+    requires { ComesAbout (segment number opening.now (joined full.now ++ last.now)) }
+    ensures { IfOk result (λ r. r ≡ rows_of (segment number opening.now (joined full.now ++ last.now))) }
+{
+    let _ = number;
+    let mut replay = opening.replay()?;
+    enter_chunks(&mut replay, full)?;
+    enter_all(&mut replay, last)?;
+    let rows = Rows::of(replay)?;
+    Ok(rows)
+}
+
+impl Segment {
+    /// A segment that came about.
+    pub fn new(number: u64, opening: Rows, full: Vec<Chunk>, last: Vec<Entry>) -> Segment
+        requires { ComesAbout (segment number opening (joined full.items ++ last.items)) }
+        ensures { result ≡ segment number opening (joined full.items ++ last.items) }
+    {
+        Segment {
+            number,
+            opening,
+            full,
+            last,
+        }
+    }
+
+    /// Its number, from 1.
+    pub fn number(&self) -> u64
+        ensures { result ≡ self.now.number }
+    {
+        self.number
+    }
+
+    /// The rows that it begins with.
+    pub fn opening(&self) -> &Rows
+        ensures { result.now ≡ self.now.opening }
+    {
+        &self.opening
+    }
+
+    /// Its changes, the oldest first: those in full chunks, and those behind them.
+    pub fn entries(&self) -> (&[Chunk], &[Entry])
+        ensures { self.now.entries ≡ reverse (joined result.0.now ++ result.1.now) }
+    {
+        (self.full.as_slice(), self.last.as_slice())
+    }
+
+    /// The length of the whole history at its end, in changes. It takes no memory.
+    pub fn length(&self) -> u64
+        ensures { result ≡ length_of self.now }
+    {
+        self.opening.length() + count_chunks(&self.full) + self.last.len() as u64
+    }
+
+    /// The rows after its last change: its own, gone on from by each change.
+    ///
+    /// # Errors
+    ///
+    /// An error where memory was refused.
+    pub fn replay(&self) -> Result<Rows, AllocError>
+        ensures { IfOk result (λ r. r ≡ rows_of self.now) }
+    {
+        let mut replay = self.opening.replay()?;
+        enter_chunks(&mut replay, &self.full)?;
+        enter_all(&mut replay, &self.last)?;
+        let rows = Rows::of(replay)?;
+        Ok(rows)
+    }
+}

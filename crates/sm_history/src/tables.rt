@@ -1,0 +1,167 @@
+//! The tables of a replay.
+
+ghost use Rattle.std.specs.Prelude.{◌≡◌, ◌∷◌, ◌<◌, true, ℕ, Some, [], map, filter, not, ◌==◌, ◌++◌, OnOk};
+ghost use Rattle.sm_kinds.specs.declared.number.Node.{Node};
+ghost use Rattle.sm_history.specs.declared.limits.TheConstants.{GREATEST};
+ghost use Rattle.sm_history.specs.declared.effect.Effect.TheVariants.{Adds, Connects, Delivers, Dies, Gives, Opens, Releases, Removes, Sets, Takes, Unwatches, Watches};
+ghost use Rattle.sm_history.specs.Effects.{Effects};
+ghost use Rattle.sm_history.specs.Clients.{is_live, version_at};
+ghost use Rattle.sm_history.specs.Holdings.{node_at};
+ghost use Rattle.sm_history.specs.Services.{same_watch};
+ghost use Rattle.sm_history.specs.Histories.{watch as make_watch};
+ghost use Rattle.sm_history.specs.Sound.{Sound};
+ghost use Rattle.sm_history.specs.Following.{MayFollow, MayGive};
+ghost use Rattle.sm_history.specs.Tables.{TracksTables};
+
+use crate::client_row::ClientRow;
+use crate::delivery::BoxedDelivery;
+use crate::effect::Watch;
+use crate::live::{connect, deliver_to, forget, give_to, release_of, take_from};
+use crate::named_row::{NamedRow, forget_names, put_name, remove_name};
+use crate::service::Service;
+use sm_kinds::{Identity, Name, Node};
+use sm_policy::Prepared;
+use std::alloc::{AllocError, Global};
+
+/// What effects left.
+#[derive(Drop)]
+pub struct Tables {
+    pub alloc: Global,
+    pub manager: Option<Identity>,
+    pub policy: Option<Prepared>,
+    pub version: u64,
+    pub clients: u32,
+    pub live: Vec<ClientRow>,
+    pub names: Vec<NamedRow>,
+    pub watches: Vec<Watch>,
+}
+
+fn is_same(watch: &Watch, client: u32, name: &[u8], object: u32) -> bool
+    ensures { result ≡ same_watch (make_watch client name.now object) watch.now }
+{
+    client == watch.client && name == watch.name.bytes() && object == watch.object
+}
+
+/// Every watch of a name that a client's object has ends.
+fn end_watches(watches: &mut Vec<Watch>, client: u32, name: &[u8], object: u32)
+    ensures { watches.new.items
+        ≡ filter (λ w. not (same_watch (make_watch client name.now object) w)) watches.old.items }
+{
+    watches.retain(|w| !is_same(w, client, name, object));
+}
+
+/// A client's watches end.
+fn forget_watches(watches: &mut Vec<Watch>, client: u32)
+    ensures { watches.new.items ≡ filter (λ w. not (client == w.client)) watches.old.items }
+{
+    watches.retain(|w| client != w.client);
+}
+
+impl Tables {
+    /// The manager opens under an identity and a policy.
+    pub(crate) fn open(&mut self, who: Identity, policy: Prepared)
+        ensures { (d : Effects) → TracksTables d self.old → version_at d < GREATEST
+            → TracksTables (Sets policy ∷ Opens who ∷ d) self.new }
+    {
+        self.manager = Some(who);
+        self.set(policy);
+    }
+
+    /// A policy comes into force.
+    pub(crate) fn set(&mut self, policy: Prepared)
+        ensures { (d : Effects) → TracksTables d self.old → version_at d < GREATEST
+            → TracksTables (Sets policy ∷ d) self.new }
+    {
+        self.policy = Some(policy);
+        self.version = self.version.saturating_add(1);
+    }
+
+    /// A client connects. `Err`: memory was refused.
+    pub(crate) fn connect(&mut self, client: u32, who: Identity) -> Result<(), AllocError>
+        ensures { OnOk result ((d : Effects) → Sound d → TracksTables d self.old
+            → MayFollow d (Connects client who) → TracksTables (Connects client who ∷ d) self.new) }
+    {
+        connect(&mut self.live, self.alloc, client, who)?;
+        self.clients = client;
+        Ok(())
+    }
+
+    /// A client ends.
+    pub(crate) fn die(&mut self, client: u32)
+        ensures { (d : Effects) → Sound d → TracksTables d self.old
+            → MayFollow d (Dies client) → TracksTables (Dies client ∷ d) self.new }
+    {
+        forget(&mut self.live, client);
+        forget_names(&mut self.names, client);
+        forget_watches(&mut self.watches, client);
+    }
+
+    /// A service stands under a name. `Err`: memory was refused.
+    pub(crate) fn add(&mut self, name: Name, service: Service) -> Result<(), AllocError>
+        ensures { OnOk result ((d : Effects) → TracksTables d self.old
+            → MayFollow d (Adds name service) → TracksTables (Adds name service ∷ d) self.new) }
+    {
+        put_name(&mut self.names, name, service)?;
+        Ok(())
+    }
+
+    /// The service under a name goes.
+    pub(crate) fn remove(&mut self, name: &[u8])
+        ensures { (d : Effects) → TracksTables d self.old → TracksTables (Removes name.now ∷ d) self.new }
+    {
+        remove_name(&mut self.names, name);
+    }
+
+    /// One more grant of an object to a client, under a number. `Err`: memory was refused.
+    pub(crate) fn give(&mut self, client: u32, node: Node, number: u32) -> Result<(), AllocError>
+        ensures { OnOk result ((d : Effects) → Sound d → TracksTables d self.old
+            → MayGive d client node number → TracksTables (Gives client node number ∷ d) self.new) }
+    {
+        give_to(&mut self.live, client, node, number)?;
+        Ok(())
+    }
+
+    /// One grant of what a client holds under a number is given back. `Err`: memory was refused.
+    pub(crate) fn release(&mut self, client: u32, number: u32) -> Result<(), AllocError>
+        ensures { OnOk result ((d : Effects) (n : Node) → Sound d → TracksTables d self.old
+            → node_at d client number ≡ Some n → MayFollow d (Releases client n)
+            → TracksTables (Releases client n ∷ d) self.new) }
+    {
+        release_of(&mut self.live, client, number)?;
+        Ok(())
+    }
+
+    /// A client watches a name. `Err`: memory was refused.
+    pub(crate) fn watch(&mut self, watch: Watch) -> Result<(), AllocError>
+        ensures { OnOk result ((d : Effects) → TracksTables d self.old
+            → is_live d watch.client ≡ true → TracksTables (Watches watch ∷ d) self.new) }
+    {
+        self.watches.push(watch)?;
+        Ok(())
+    }
+
+    /// Every watch of a name that a client's object has ends.
+    pub(crate) fn unwatch(&mut self, client: u32, name: &[u8], object: u32)
+        ensures { (d : Effects) → TracksTables d self.old
+            → TracksTables (Unwatches (make_watch client name.now object) ∷ d) self.new }
+    {
+        end_watches(&mut self.watches, client, name, object);
+    }
+
+    /// One more delivery waits for a client. `Err`: memory was refused.
+    pub(crate) fn deliver(&mut self, client: u32, delivery: BoxedDelivery) -> Result<(), AllocError>
+        ensures { OnOk result ((d : Effects) → Sound d → TracksTables d self.old
+            → is_live d client ≡ true → TracksTables (Delivers client delivery ∷ d) self.new) }
+    {
+        deliver_to(&mut self.live, client, delivery)?;
+        Ok(())
+    }
+
+    /// The delivery that has waited longest for a client goes.
+    pub(crate) fn take(&mut self, client: u32)
+        ensures { (d : Effects) → TracksTables d self.old → is_live d client ≡ true
+            → TracksTables (Takes client ∷ d) self.new }
+    {
+        take_from(&mut self.live, client);
+    }
+}

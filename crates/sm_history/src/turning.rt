@@ -1,0 +1,203 @@
+//! How many changes each actor made, while a replay goes on.
+
+ghost use Rattle.std.specs.Prelude.{◌≡◌, ◌∷◌, ◌++◌, [], ℕ, ◌||◌, false, OnOk, IfOk, map, if◌then◌else◌};
+ghost use Rattle.std.specs.List.{list_any};
+ghost use Rattle.sm_history.specs.declared.by.By.{By};
+ghost use Rattle.sm_history.specs.declared.by.By.TheVariants.{Manager};
+ghost use Rattle.sm_history.specs.Openings.{is_same, turns_in};
+ghost use Rattle.sm_history.specs.Histories.{client_of};
+ghost use Rattle.sm_history.specs.Segments.{client};
+ghost use Rattle.sm_history.specs.Turning.{CountsTurns, admin, admins_in, has_made, is_known, made, more_by, turn_rows, with_order};
+
+use crate::by::By;
+use crate::client_row::ClientRow;
+use crate::turn::TurnRow;
+use sm_kinds::{AdminId, ClientId};
+use std::alloc::{AllocError, Global};
+use std::collections::HashMap;
+
+/// How many changes each actor made, with the administrators in the order of their first.
+#[derive(Drop)]
+pub struct Turning {
+    pub alloc: Global,
+    pub manager: u64,
+    pub clients: HashMap<u32, u64>,
+    pub admins: HashMap<u32, u64>,
+    pub order: Vec<u32>,
+}
+
+/// The number of the client that an actor is, or 0.
+pub fn number_of(by: By) -> u32
+    ensures { result ≡ client_of by }
+{
+    match by {
+        By::Client(client) => client.0,
+        By::Manager => 0,
+        By::Admin(_) => 0,
+    }
+}
+
+impl Turning {
+    /// No changes.
+    pub fn none(alloc: Global) -> Turning
+        ensures made { (by : By) → made result by ≡ 0 }
+        ensures order { result.order.items ≡ [] }
+        ensures known { (a : ℕ) → is_known result a ≡ false }
+    {
+        Turning {
+            alloc,
+            manager: 0,
+            clients: HashMap::new(alloc),
+            admins: HashMap::new(alloc),
+            order: Vec::new(alloc),
+        }
+    }
+
+    /// How many changes an actor made.
+    fn of(&self, by: By) -> u64
+        ensures { result ≡ made self.now by }
+    {
+        match by {
+            By::Manager => self.manager,
+            By::Client(client) => self.clients.get(&client.0).copied().unwrap_or(0),
+            By::Admin(admin) => self.admins.get(&admin.0).copied().unwrap_or(0),
+        }
+    }
+
+    /// Whether an actor that is an administrator has made a change.
+    fn has(&self, by: By) -> bool
+        ensures { result ≡ has_made self.now by }
+    {
+        match by {
+            By::Manager => true,
+            By::Client(_) => true,
+            By::Admin(admin) => self.admins.contains_key(&admin.0),
+        }
+    }
+
+    /// An actor made so many changes. `Err`: memory was refused.
+    fn set(&mut self, by: By, turns: u64) -> Result<(), AllocError>
+        ensures made { OnOk result ((b : By) → made self.new b ≡ (if is_same by b then turns else made self.old b)) }
+        ensures known { OnOk result ((a : ℕ) → is_known self.new a ≡ (is_same by (admin a) || is_known self.old a)) }
+        ensures order { self.new.order ≡ self.old.order }
+    {
+        match by {
+            By::Manager => {
+                self.manager = turns;
+            }
+            By::Client(client) => {
+                self.clients.insert(client.0, turns)?;
+            }
+            By::Admin(admin) => {
+                self.admins.insert(admin.0, turns)?;
+            }
+        }
+        Ok(())
+    }
+
+    /// An administrator that had made no change comes last. `Err`: memory was refused.
+    fn note(&mut self, by: By, known: bool) -> Result<(), AllocError>
+        ensures made { (b : By) → made self.new b ≡ made self.old b }
+        ensures known { (a : ℕ) → is_known self.new a ≡ is_known self.old a }
+        ensures order { OnOk result (self.new.order.items ≡ with_order by known self.old.order.items) }
+    {
+        if known {
+            return Ok(());
+        }
+        if let By::Admin(admin) = by {
+            self.order.push(admin.0)?;
+        }
+        Ok(())
+    }
+
+    /// One change more of an actor. `Err`: memory was refused.
+    pub fn count(&mut self, by: By) -> Result<(), AllocError>
+        ensures made { OnOk result ((b : By) → made self.new b ≡ more_by (is_same by b) (made self.old b)) }
+        ensures known { OnOk result ((a : ℕ) → is_known self.new a ≡ (is_same by (admin a) || is_known self.old a)) }
+        ensures order { OnOk result (self.new.order.items ≡ with_order by (has_made self.old by) self.old.order.items) }
+    {
+        let known = self.has(by);
+        let turns = self.of(by).saturating_add(1);
+        self.note(by, known)?;
+        self.set(by, turns)?;
+        Ok(())
+    }
+
+    /// The rows of all that may still make a change. `Err`: memory was refused.
+    pub fn rows(&self, live: &[ClientRow]) -> Result<Vec<TurnRow>, AllocError>
+        ensures { IfOk result (λ v. v.items ≡ turn_rows self.now live.now) }
+    {
+        let mut rows = Vec::new(self.alloc);
+        rows.push(TurnRow {
+            by: By::Manager,
+            turns: self.manager,
+        })?;
+        self.push_clients(&mut rows, live)?;
+        self.push_admins(&mut rows)?;
+        Ok(rows)
+    }
+
+    fn push_clients(&self, rows: &mut Vec<TurnRow>, live: &[ClientRow]) -> Result<(), AllocError>
+        ensures { OnOk result (rows.new.items
+            ≡ rows.old.items
+            ++ map (λ r. record { by = client r.client; turns = made self.now (client r.client) }) live.now) }
+    {
+        for row in live {
+            let by = By::Client(ClientId(row.client));
+            let turns = self.of(by);
+            rows.push(TurnRow { by, turns })?;
+        }
+        Ok(())
+    }
+
+    fn push_admins(&self, rows: &mut Vec<TurnRow>) -> Result<(), AllocError>
+        ensures { OnOk result (rows.new.items
+            ≡ rows.old.items
+            ++ map (λ a. record { by = admin a; turns = made self.now (admin a) }) self.now.order.items) }
+    {
+        for number in &self.order {
+            let by = By::Admin(AdminId(*number));
+            let turns = self.of(by);
+            rows.push(TurnRow { by, turns })?;
+        }
+        Ok(())
+    }
+
+    /// The counts of rows, from the last to the first. `Err`: memory was refused.
+    fn set_all(&mut self, rows: &[TurnRow]) -> Result<(), AllocError>
+        ensures made { OnOk result (((b : By) → made self.old b ≡ 0)
+            → (b : By) → made self.new b ≡ turns_in rows.now b) }
+        ensures known { OnOk result (((a : ℕ) → is_known self.old a ≡ false)
+            → (a : ℕ) → is_known self.new a ≡ list_any (is_same (admin a)) (admins_in rows.now)) }
+        ensures order { self.new.order ≡ self.old.order }
+    {
+        let n = rows.len();
+        for k in 0..n {
+            let row = &rows[n - 1 - k];
+            self.set(row.by, row.turns)?;
+        }
+        Ok(())
+    }
+
+    /// The administrators of rows, in their order. `Err`: memory was refused.
+    fn note_all(&mut self, rows: &[TurnRow]) -> Result<(), AllocError>
+        ensures made { (b : By) → made self.new b ≡ made self.old b }
+        ensures known { (a : ℕ) → is_known self.new a ≡ is_known self.old a }
+        ensures order { OnOk result (self.old.order.items ≡ [] → map admin self.new.order.items ≡ admins_in rows.now) }
+    {
+        for row in rows {
+            self.note(row.by, false)?;
+        }
+        Ok(())
+    }
+
+    /// The counts that rows begin with. `Err`: memory was refused.
+    pub fn start(alloc: Global, rows: &[TurnRow]) -> Result<Turning, AllocError>
+        ensures { IfOk result (λ t. CountsTurns (turns_in rows.now) (admins_in rows.now) t) }
+    {
+        let mut turning = Turning::none(alloc);
+        turning.set_all(rows)?;
+        turning.note_all(rows)?;
+        Ok(turning)
+    }
+}

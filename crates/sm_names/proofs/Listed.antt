@@ -1,0 +1,36 @@
+-- What is listed of names is what stands under them.
+use Rattle.std.proofs.Common.{◌≡◌, Bool, true, false, List, [], ◌∷◌, refl, ap, sym, ◌∙◌, subst, map, Option, Some, None}
+use Rattle.std.proofs.Common.{ℕ, if◌then◌else◌}
+use Rattle.std.specs.Prelude.{bytes_eq, option_map}
+use Rattle.sm_history.specs.declared.named_row.NamedRow.{NamedRow}
+use Rattle.sm_history.specs.declared.service.Service.{Service}
+use Rattle.sm_history.specs.Effects.{Effects}
+use Rattle.sm_history.specs.Rising.{IsRising}
+use Rattle.sm_history.specs.Tables as tables
+use Rattle.sm_history.specs.Tables.{TracksNames as TracksNamed}
+use Rattle.sm_names.specs.declared.row.NameRow.{NameRow}
+use Rattle.sm_names.specs.Rows.{TracksRows, row_in, names_of, service_of}
+use Rattle.sm_names.specs.Listed.{named, named_rows}
+
+service_listed : (rows : List NameRow) (name : List ℕ)
+    → tables.service_of (tables.row_in (named_rows rows) name) ≡ service_of (row_in rows name)
+service_listed [] name = refl
+service_listed (r ∷ rows) name =
+    elim (bytes_eq r.name name) as (λ b. tables.service_of
+    (let o : Option NamedRow = if b then Some (named r) else tables.row_in (named_rows rows) name in o)
+    ≡ service_of (let o : Option NameRow = if b then Some r else row_in rows name in o)) [
+      | true ↦ refl
+      | false ↦ service_listed rows name
+    ]
+
+names_listed : (rows : List NameRow) → tables.names_of (named_rows rows) ≡ names_of rows
+names_listed [] = refl
+names_listed (r ∷ rows) = ap (λ (ns : List (List ℕ)). r.name ∷ ns) (names_listed rows)
+
+pub tracks_listed : (d : Effects) (rows : List NameRow) (list : List NamedRow) → list ≡ named_rows rows
+    → TracksRows d rows → TracksNamed d list
+tracks_listed d rows list is tr =
+    subst (TracksNamed d) (sym is) (record {
+      services = λ name. service_listed rows name ∙ tr.services name;
+      rises = subst IsRising (sym (names_listed rows)) tr.rises;
+    })
