@@ -16,7 +16,7 @@ ghost use Rattle.sm_names.specs.Tracking.{TracksNames, HasRoom};
 ghost use Rattle.sm_core.specs.Stands.{gives_to};
 
 use sm_grants::Grants;
-use sm_history::{BoxedDelivery, Effect, MOST_WATCHES, Watch};
+use sm_history::{BoxedDelivery, Effect, MOST_WATCHES, WatchPair};
 use sm_inbox::Inboxes;
 use sm_kinds::Node;
 use sm_names::Names;
@@ -67,7 +67,7 @@ pub fn take_oldest(inboxes: &mut Inboxes, client: u32)
 }
 
 /// One more watch of a name.
-pub fn watch(names: &mut Names, made: Watch)
+pub fn watch(names: &mut Names, made: WatchPair)
     requires { HasRoom 1 names.old }
     ensures tracks { (d : Effects) → TracksNames d names.old → is_live d made.client ≡ true
         → nat_lt (length (watches_at d)) MOST_WATCHES ≡ true → TracksNames (Watches made ∷ d) names.new }

@@ -1,8 +1,7 @@
 //! The tables of a manager, as rows.
 
-ghost use Rattle.std.specs.Prelude.{◌≡◌, ◌-◌, IfOk, IfSome};
+ghost use Rattle.std.specs.Prelude.{◌≡◌, IfOk};
 ghost use Rattle.sm_history.specs.Effects.{Effects};
-ghost use Rattle.sm_history.specs.Services.{watches_at};
 ghost use Rattle.sm_history.specs.Tables.{TracksTables};
 ghost use Rattle.sm_grants.specs.Rows.{Tracks};
 ghost use Rattle.sm_inbox.specs.Tracking.{TracksInboxes};
@@ -12,7 +11,7 @@ ghost use Rattle.sm_core.specs.Stands.{Stands};
 use crate::client::ClientRow;
 use crate::state::State;
 use sm_grants::Grants;
-use sm_history::{ClientRow as Listed, Tables, Watch};
+use sm_history::{ClientRow as Listed, Tables};
 use sm_inbox::Inboxes;
 use std::alloc::{AllocError, Global};
 
@@ -53,38 +52,25 @@ fn listed_clients(
     Ok(list)
 }
 
-/// How many clients connected before the next one. `None`: more than there are numbers.
-fn connected_before(next: u64) -> Option<u32>
-    ensures { IfSome result (λ n. n ≡ next - 1) }
-{
-    let connected = next.saturating_sub(1);
-    if connected > u64::from(u32::MAX) {
-        return None;
-    }
-    Some(connected as u32)
-}
-
-/// The tables as rows, with the watches in the order of watching, which the table of names doesn't keep.
+/// The tables as rows.
 ///
 /// # Errors
 ///
-/// An error where memory was refused.
-pub fn tables_of(alloc: Global, state: &State, watches: Vec<Watch>) -> Result<Tables, AllocError>
-    ensures { IfOk result (λ t. (d : Effects) → Stands d state.now → watches.items ≡ watches_at d → TracksTables d t) }
+/// An error if an allocation fails.
+pub fn tables_of(alloc: Global, state: &State) -> Result<Tables, AllocError>
+    ensures { IfOk result (λ t. (d : Effects) → Stands d state.now → TracksTables d t) }
 {
     let who = state.manager.who.clone()?;
     let policy = state.policy.share()?;
     let live = listed_clients(alloc, &state.grants, &state.inboxes, &state.clients)?;
     let names = state.names.services().listed(alloc)?;
-    let Some(clients) = connected_before(state.next) else {
-        return Err(AllocError);
-    };
+    let watches = state.names.listed_watches(alloc)?;
     Ok(Tables {
         alloc,
         manager: Some(who),
         policy: Some(policy),
         version: state.version,
-        clients,
+        clients: state.next.saturating_sub(1),
         live,
         names,
         watches,

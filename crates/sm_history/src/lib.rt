@@ -40,7 +40,7 @@ pub use chunk::Chunk;
 pub use client_row::{ClientRow, Held};
 pub use delivery::{BoxedDelivery, Delivery, Given, GivenRefs, Message};
 pub use denial::Denial;
-pub use effect::{Effect, Watch};
+pub use effect::{Effect, Watch, WatchPair};
 pub use entry::Entry;
 pub use event::Event;
 pub use limits::{
@@ -54,7 +54,7 @@ pub use records::Record;
 pub use refusal::{Exception, Failure, Refusal};
 pub use reply::{Answer, NameList, Reply};
 pub use rows::Rows;
-pub use segment::{Segment, rows_after};
+pub use segment::Segment;
 pub use service::Service;
 pub use stop::{Instead, Stop};
 pub use tables::Tables;

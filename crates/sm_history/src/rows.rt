@@ -148,7 +148,7 @@ impl Rows {
     }
 
     /// How many clients ever connected.
-    pub fn clients(&self) -> u32
+    pub fn clients(&self) -> u64
         ensures { result ≡ self.now.tables.clients }
     {
         self.tables.clients

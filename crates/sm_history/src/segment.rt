@@ -77,25 +77,6 @@ fn count_chunks(chunks: &[Chunk]) -> u64
     n
 }
 
-/// The rows after changes that came about behind these rows, in a segment of this number: those in full chunks, and those
-/// behind them. `Err`: memory was refused.
-pub fn rows_after(
-    number: u64,
-    opening: &Rows,
-    full: &[Chunk],
-    last: &[Entry],
-) -> Result<Rows, AllocError>
-    requires { ComesAbout (segment number opening.now (joined full.now ++ last.now)) }
-    ensures { IfOk result (λ r. r ≡ rows_of (segment number opening.now (joined full.now ++ last.now))) }
-{
-    let _ = number;
-    let mut replay = opening.replay()?;
-    enter_chunks(&mut replay, full)?;
-    enter_all(&mut replay, last)?;
-    let rows = Rows::of(replay)?;
-    Ok(rows)
-}
-
 impl Segment {
     /// A segment that came about.
     pub fn new(number: u64, opening: Rows, full: Vec<Chunk>, last: Vec<Entry>) -> Segment

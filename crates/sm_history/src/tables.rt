@@ -30,7 +30,7 @@ pub struct Tables {
     pub manager: Option<Identity>,
     pub policy: Option<Prepared>,
     pub version: u64,
-    pub clients: u32,
+    pub clients: u64,
     pub live: Vec<ClientRow>,
     pub names: Vec<NamedRow>,
     pub watches: Vec<Watch>,
@@ -82,7 +82,8 @@ impl Tables {
             → MayFollow d (Connects client who) → TracksTables (Connects client who ∷ d) self.new) }
     {
         connect(&mut self.live, self.alloc, client, who)?;
-        self.clients = client;
+        let connected = u64::from(client);
+        self.clients = connected;
         Ok(())
     }
 

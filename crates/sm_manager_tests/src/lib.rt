@@ -22,6 +22,8 @@ mod names;
 #[cfg(test)]
 mod notices;
 #[cfg(test)]
+mod seals;
+#[cfg(test)]
 mod turns;
 #[cfg(test)]
 mod views;

@@ -50,6 +50,7 @@ tracks_same : (x : Effect) (d : Effects) (t : Names)
 tracks_same x d t services watches tr = record {
   services = same_rows x d t.services.rows.items services tr.services;
   watches = same_list x d t.watches.list.items watches tr.watches;
+  order = tr.order ∙ sym watches;
 }
 
 pub tracks_other : (x : Effect) (d : Effects) (t : Names) → is_heard x ≡ false → TracksNames d t → TracksNames (x ∷ d) t

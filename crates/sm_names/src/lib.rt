@@ -7,6 +7,7 @@ mod names;
 mod row;
 mod services;
 mod watch_list;
+mod watch_order;
 
 pub use names::Names;
 pub use services::Services;

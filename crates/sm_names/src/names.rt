@@ -14,7 +14,8 @@ ghost use Rattle.sm_names.specs.Tracking.{TracksNames, HasRoom, watch_count};
 
 use crate::services::Services;
 use crate::watch_list::WatchList;
-use sm_history::{MOST_NAMES, MOST_WATCHES, Service, Watch};
+use crate::watch_order::WatchOrder;
+use sm_history::{MOST_NAMES, MOST_WATCHES, Service, Watch, WatchPair};
 use sm_kinds::Name;
 use std::alloc::{AllocError, Global};
 
@@ -23,6 +24,7 @@ use std::alloc::{AllocError, Global};
 pub struct Names {
     services: Services,
     watches: WatchList,
+    order: WatchOrder,
 }
 
 impl Names {
@@ -33,6 +35,7 @@ impl Names {
         Names {
             services: Services::new(alloc),
             watches: WatchList::new(alloc),
+            order: WatchOrder::new(alloc),
         }
     }
 
@@ -49,7 +52,8 @@ impl Names {
         ensures same { watch_count self.new ≡ watch_count self.old }
     {
         self.services.reserve(n)?;
-        self.watches.reserve(n)
+        self.watches.reserve(n)?;
+        self.order.reserve(n)
     }
 
     /// The services under their names, without the watches.
@@ -110,6 +114,17 @@ impl Names {
         self.watches.count(client, name, object)
     }
 
+    /// All watches, oldest first. They share their names with the table.
+    ///
+    /// # Errors
+    ///
+    /// An error if an allocation fails.
+    pub fn listed_watches(&self, alloc: Global) -> Result<Vec<Watch>, AllocError>
+        ensures { IfOk result (λ v. (d : Effects) → TracksNames d self.now → v.items ≡ watches_at d) }
+    {
+        self.order.listed(alloc)
+    }
+
     /// The watches of a name, in the order of watching.
     pub fn watchers(&self, name: &[u8]) -> &[Watch]
         ensures { (d : Effects) → TracksNames d self.now → result.now ≡ watchers_at d name.now }
@@ -121,7 +136,7 @@ impl Names {
     pub fn is_ready(&self) -> bool
         ensures { IsTrue result ↔ HasRoom 1 self.now }
     {
-        self.services.is_ready() && self.watches.is_ready()
+        self.services.is_ready() && self.watches.is_ready() && self.order.is_ready()
     }
 
     /// Puts a service under a name, in place of the one that was there. It takes no memory.
@@ -147,7 +162,7 @@ impl Names {
     }
 
     /// One more watch, behind the earlier ones of its name. It takes no memory.
-    pub fn watch(&mut self, watch: Watch)
+    pub fn watch(&mut self, watch: WatchPair)
         requires room { HasRoom 1 self.old }
         requires few { watch_count self.old < MOST_WATCHES }
         ensures tracks { (d : Effects) → TracksNames d self.old → is_live d watch.client ≡ true
@@ -155,7 +170,9 @@ impl Names {
         ensures left { (n : ℕ) → HasRoom (n + 1) self.old → HasRoom n self.new }
         ensures more { watch_count self.new ≡ watch_count self.old + 1 }
     {
-        self.watches.add(watch);
+        let (by_name, newest) = watch.apart();
+        self.watches.add(by_name);
+        self.order.add(newest);
     }
 
     /// Every watch of a name that a client's object has ends; how many did.
@@ -167,6 +184,7 @@ impl Names {
         ensures left { (n : ℕ) → HasRoom n self.old → HasRoom n self.new }
         ensures fewer { watch_count self.new ≤ watch_count self.old }
     {
+        self.order.remove(client, name, object);
         self.watches.remove(client, name, object)
     }
 
@@ -179,5 +197,6 @@ impl Names {
     {
         self.services.forget(client);
         self.watches.forget(client);
+        self.order.forget(client);
     }
 }

@@ -38,7 +38,8 @@ fn is_behind(watch: &Watch, name: &[u8]) -> bool
     matches!(watch.name.bytes().cmp(name), Ordering::Greater)
 }
 
-fn is_same(watch: &Watch, client: u32, name: &[u8], object: u32) -> bool
+/// Whether a watch is the one of a name by a client's object.
+pub fn is_same(watch: &Watch, client: u32, name: &[u8], object: u32) -> bool
     ensures { result ≡ same_watch (make_watch client name.now object) watch.now }
 {
     client == watch.client && name == watch.name.bytes() && object == watch.object

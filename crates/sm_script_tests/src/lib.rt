@@ -25,4 +25,6 @@ mod renumbering;
 #[cfg(test)]
 mod scripts;
 #[cfg(test)]
+mod seals;
+#[cfg(test)]
 mod texts;

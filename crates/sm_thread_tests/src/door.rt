@@ -7,7 +7,7 @@ ghost use denote.Param.Send.{IsSend, IsSync};
 use crossbeam_utils::Backoff;
 use sm_core::View;
 use sm_door::*;
-use sm_history::{Answer, Event, Outcome, Refusal, Reply};
+use sm_history::{Answer, Event, Outcome, Refusal, Reply, Segment};
 use sm_kinds::{Class, Context, Identity, Name, ObjRef, Perms, Places};
 use sm_policy::Prepared;
 use sm_roll::{Badge, Blank, Naming, Roll};
@@ -368,7 +368,7 @@ fn rightly_found(reply: &Reply) -> Option<u64> {
     }
 }
 
-/// One installs while three read.
+/// One installs and seals while three read.
 fn all_at_once<J: Naming + Send + Sync, R: Threads + Wait + Abort + Sync>(
     rt: &R,
     alloc: Global,
@@ -407,7 +407,7 @@ fn all_at_once<J: Naming + Send + Sync, R: Threads + Wait + Abort + Sync>(
     done
 }
 
-/// Installs the two policies in turn, the stricter one first.
+/// Installs the two policies in turn, the stricter one first, and seals behind each.
 fn installs<J: Naming, R: Wait + Abort>(
     rt: &R,
     alloc: Global,
@@ -427,8 +427,26 @@ fn installs<J: Naming, R: Wait + Abort>(
             }
             Err(_) => return false,
         }
+        if !is_sealed(door.seal(rt, me), version) {
+            return false;
+        }
     }
     true
+}
+
+/// Whether the segment has this number and ends with the install that came before the seal. The first one has the
+/// opening, too.
+fn is_sealed(closed: Result<Segment, Refusal>, number: u64) -> bool {
+    match closed {
+        Ok(segment) => {
+            let (full, last) = segment.entries();
+            segment.number() == number
+                && segment.length() == number.saturating_add(1)
+                && full.is_empty()
+                && last.len() == if number == 1 { 2 } else { 1 }
+        }
+        Err(_) => false,
+    }
 }
 
 /// A reader whose versions never go back, and whose answers are those of their versions, comes back among the readers.

@@ -227,6 +227,8 @@ impl Talk for Visit {
             && answers(&self.application, b"get activity\n", b"handle 1\n")
             && answers(&self.application, b"get activity\n", b"handle 1\n")
             && answers(&self.admin, b"version\n", b"version 1 6\n")
+            && answers(&self.admin, b"seal\n", b"sealed 1 6\n")
+            && answers(&self.admin, b"seal\n", b"empty\n")
             && answers(&self.service, b"bye\n", b"bye\n")
             && answers(&self.application, b"get activity\n", b"null\n")
             && answers(&self.application, b"bye\n", b"bye\n")

@@ -10,6 +10,7 @@ ghost use Rattle.sm_core.specs.Managed.{IsSame};
 ghost use Rattle.sm_core.specs.SealReady.{IsReadySeal};
 
 use crate::journal::Journal;
+use crate::listing::tables_of;
 use crate::manager::Manager;
 use crate::sealing::ReadySeal;
 use crate::view::View;
@@ -71,8 +72,11 @@ impl Manager {
     fn rows(&self) -> Result<Rows, AllocError>
         ensures { IfOk result (λ r. r ≡ rows_of self.now.book.history) }
     {
-        let _ = &self.places;
-        self.journal.rows()
+        let alloc = self.alloc;
+        let tables = tables_of(alloc, &self.state)?;
+        let turns = self.turns.rows(alloc, &self.state.clients)?;
+        let length = self.length();
+        Ok(Rows::new(tables, turns, length))
     }
 
     /// Closes the open segment. It takes no memory.

@@ -19,7 +19,7 @@ use crate::manager::judging::one;
 use crate::manager::{Manager, wanted};
 use crate::notes::Notes;
 use crate::plan::Plan;
-use sm_history::{Denial, Effect, Exception, MOST_WATCHES, Outcome, Watch};
+use sm_history::{Denial, Effect, Exception, MOST_WATCHES, Outcome, Watch, WatchPair};
 use sm_kinds::{Name, is_isolated, valid_name};
 
 /// A client's object as one that watches a name.
@@ -32,6 +32,16 @@ fn watch_of(client: u32, name: &Name, object: u32) -> Result<Watch, Halt>
             name,
             object,
         }),
+        Err(_) => Err(wanted()),
+    }
+}
+
+/// The same, twice.
+fn pair_of(client: u32, name: &Name, object: u32) -> Result<WatchPair, Halt>
+    ensures { MatchResult result (λ w. w ≡ watch client name.now object) (λ s. s ≡ spec.wanted) }
+{
+    match WatchPair::new(client, name, object) {
+        Ok(made) => Ok(made),
         Err(_) => Err(wanted()),
     }
 }
@@ -55,7 +65,7 @@ impl Manager {
             return Err(stop);
         }
         let watch = watch_of(client, name, object)?;
-        let made = watch_of(client, name, object)?;
+        let made = pair_of(client, name, object)?;
         let effects = one(self.alloc, Effect::Watches(made))?;
         match self.service(name.bytes()) {
             Some(service) => self.plan_watched(&watch, service.node, effects),

@@ -7,15 +7,15 @@ use Rattle.sm_core.proofs.ListedTables.{before_next, tracks_clients}
 use Rattle.sm_core.proofs.listing.tables_of.Goals as goal
 
 pub returns : goal.returns
-returns c d s watches = record {
+returns c d s = record {
   manager = c.in_ok-who.ensures.cases ∙ ap (λ (p : Process). p.who) s.manager;
   policy = c.in_ok-policy.ensures.same ∙ s.policy;
   version = s.version;
-  clients = before_next c.args.state.now.next (clients_made d) c.in-Some.clients s.next
-      c.in-Some.ensures;
+  clients = before_next c.args.state.now.next (clients_made d) c.saturating_sub.result s.next
+      c.saturating_sub.ensures;
   live = tracks_clients d c.args.state.now.clients.items c.in_ok-live.live.items s.clients
       (subst (λ (rs : List ClientRow). AreListed d rs c.in_ok-live.live.items) c.deref.ensures.value
       (c.in_ok-live.ensures d s.grants s.inboxes));
   names = c.in_ok-names.ensures d (c.services.ensures d s.names);
-  watches = watches;
+  watches = c.in_ok-watches.ensures d s.names;
 }

@@ -1,4 +1,35 @@
+use Rattle.std.proofs.Common.{◌≡◌, ◌∷◌, ◌++◌, List, ap, map, subst, ◌∙◌}
+use Rattle.sm_history.specs.declared.by.By.TheVariants.{Manager}
+use Rattle.sm_history.specs.declared.turn.TurnRow.{TurnRow}
+use Rattle.sm_history.specs.Histories.{effects_of, length_of}
+use Rattle.sm_history.specs.Openings.{Opening}
+use Rattle.sm_history.specs.Rows.{Rows, rows_at}
+use Rattle.sm_history.specs.Segments.{actors_of, rows_of, turn_row}
+use Rattle.sm_history.proofs.TableRows.{tables_are}
+use Rattle.sm_core.specs.declared.client.ClientRow.{ClientRow}
+use Rattle.sm_core.specs.Counting.{admins_in, client_of, row_for}
+use Rattle.sm_core.specs.Managed.{Managed}
+use Rattle.sm_core.proofs.SealedTurns.{actor_rows, ids}
 use Rattle.sm_core.proofs.manager.Manager.rows.Goals as goal
 
-pub rows-requires : goal.rows-requires
-rows-requires c = (c.self.inside.places, c.self.invariant.lawful)
+pub new-requires : goal.new-requires
+new-requires c =
+    let d = effects_of c.self.inside.journal.history in
+    let k = c.self.invariant in
+    (d, k.stands.sound, c.in_ok-tables.ensures d k.stands)
+
+pub returns : goal.returns
+returns c =
+    let k = c.self.invariant in
+    let h = c.self.inside.journal.history in
+    let d = effects_of h in
+    let tables = tables_are d c.in_ok-tables.tables k.stands.sound (c.in_ok-tables.ensures d k.stands) in
+    let turns : c.in_ok-turns.turns.items ≡ map (turn_row h) (actors_of h) =
+    c.in_ok-turns.ensures
+    ∙ ap (λ (rs : List ClientRow). map (row_for c.self.inside.turns)
+    (Manager ∷ map client_of (ids rs) ++ admins_in c.self.inside.turns)) c.deref.ensures.value
+    ∙ actor_rows h c.self.inside.turns c.self.inside.state.clients.items k.turns_are k.admins_are k.stands.clients in
+    c.new.ensures
+    ∙ ap (λ (t : Rows). record { tables = t; length = c.length.result; turns = c.in_ok-turns.turns.items }) tables
+    ∙ ap (λ (ts : List TurnRow). record { tables = rows_at d; length = c.length.result; turns = ts }) turns
+    ∙ ap (λ (m : Managed). rows_of m.book.history) c.self.view_is

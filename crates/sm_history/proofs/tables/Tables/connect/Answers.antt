@@ -12,7 +12,7 @@ returns c d s tr may =
       manager = tr.manager;
       policy = tr.policy;
       version = tr.version;
-      clients = may;
+      clients = c.from-connected.ensures ∙ may;
       live = c.in_ok-connect.ensures d s tr.live may;
       names = names_stay d (Connects c.args.client c.args.who ∷ d) _
           (λ q. service_connects d c.args.client c.args.who q may s.owned) tr.names;

@@ -7,4 +7,5 @@ pub returns-clause-tracks : goal.returns-clause-tracks
 returns-clause-tracks c d tr live = record {
   services = c.put.ensures.tracks d tr.services live;
   watches = same_list (Adds c.args.name c.args.service) d c.args.self.now.watches.list.items refl tr.watches;
+  order = tr.order;
 }

@@ -7,4 +7,5 @@ pub returns-clause-tracks : goal.returns-clause-tracks
 returns-clause-tracks c d tr = record {
   services = c.remove.ensures.tracks d tr.services;
   watches = same_list (Removes c.args.name.now) d c.args.self.now.watches.list.items refl tr.watches;
+  order = tr.order;
 }

@@ -1,0 +1,111 @@
+//! The watches in the order in which they were made.
+
+ghost use Rattle.std.specs.Prelude.{◌≡◌, ◌≤◌, ◌<◌, ◌+◌, ℕ, true, [], ◌∷◌, length, nat_lt, IfOk, OnOk};
+ghost use Rattle.std.specs.Vec.{vec_capacity};
+ghost use Rattle.sm_history.specs.declared.effect.Effect.TheVariants.{Watches, Unwatches, Dies};
+ghost use Rattle.sm_history.specs.Effects.{Effects};
+ghost use Rattle.sm_history.specs.Clients.{is_live};
+ghost use Rattle.sm_history.specs.Services.{watches_at};
+ghost use Rattle.sm_history.specs.Histories.{watch as make_watch};
+
+use crate::watch_list::is_same;
+use sm_history::Watch;
+use std::alloc::{AllocError, Global};
+
+/// The watches of live clients, oldest first. A segment begins with them in this order, which their list by name doesn't
+/// keep.
+#[derive(Drop)]
+pub struct WatchOrder {
+    list: Vec<Watch>,
+}
+
+impl WatchOrder {
+    /// No watches.
+    pub fn new(alloc: Global) -> WatchOrder
+        ensures { result.list.items ≡ [] }
+    {
+        WatchOrder {
+            list: Vec::new(alloc),
+        }
+    }
+
+    /// Makes room for `n` more watches.
+    ///
+    /// # Errors
+    ///
+    /// An error if the allocation fails.
+    pub fn reserve(&mut self, n: usize) -> Result<(), AllocError>
+        ensures same { self.new.list.items ≡ self.old.list.items }
+        ensures room { OnOk result (length self.new.list.items + n ≤ vec_capacity self.new.list) }
+        ensures kept { vec_capacity self.old.list ≤ vec_capacity self.new.list }
+    {
+        self.list.reserve(n)
+    }
+
+    /// Whether one more watch takes no allocation.
+    pub fn is_ready(&self) -> bool
+        ensures { result ≡ nat_lt (length self.now.list.items) (vec_capacity self.now.list) }
+    {
+        self.list.len() < self.list.capacity()
+    }
+
+    /// Adds a watch. It allocates nothing.
+    pub fn add(&mut self, watch: Watch)
+        requires { length self.old.list.items < vec_capacity self.old.list }
+        ensures tracks { (d : Effects) → self.old.list.items ≡ watches_at d → is_live d watch.client ≡ true
+            → self.new.list.items ≡ watches_at (Watches watch ∷ d) }
+        ensures kept { (vec_capacity self.new.list ≡ vec_capacity self.old.list)
+            × (length self.new.list.items ≡ length self.old.list.items + 1) }
+    {
+        self.list.push_reserved(watch);
+    }
+
+    /// Ends every watch of a name that a client's object has.
+    pub fn remove(&mut self, client: u32, name: &[u8], object: u32)
+        ensures tracks { (d : Effects) → self.old.list.items ≡ watches_at d
+            → self.new.list.items ≡ watches_at (Unwatches (make_watch client name.now object) ∷ d) }
+        ensures kept { (vec_capacity self.new.list ≡ vec_capacity self.old.list)
+            × (length self.new.list.items ≤ length self.old.list.items) }
+    {
+        self.list.retain(|w| !is_same(w, client, name, object));
+    }
+
+    /// Ends a client's watches.
+    pub fn forget(&mut self, client: u32)
+        ensures tracks { (d : Effects) → self.old.list.items ≡ watches_at d
+            → self.new.list.items ≡ watches_at (Dies client ∷ d) }
+        ensures kept { (vec_capacity self.new.list ≡ vec_capacity self.old.list)
+            × (length self.new.list.items ≤ length self.old.list.items) }
+    {
+        self.list.retain(|w| client != w.client);
+    }
+
+    /// The watches, oldest first, with their names shared.
+    ///
+    /// # Errors
+    ///
+    /// An error if an allocation fails.
+    pub fn listed(&self, alloc: Global) -> Result<Vec<Watch>, AllocError>
+        ensures { IfOk result (λ v. v.items ≡ self.now.list.items) }
+    {
+        copies_of(alloc, &self.list)
+    }
+}
+
+/// Copies of watches, which share their names.
+fn copies_of(alloc: Global, watches: &[Watch]) -> Result<Vec<Watch>, AllocError>
+    ensures { IfOk result (λ v. v.items ≡ watches.now) }
+{
+    let mut copies = Vec::new(alloc);
+    for watch in watches {
+        let client = watch.client;
+        let name = watch.name.clone()?;
+        let object = watch.object;
+        copies.push(Watch {
+            client,
+            name,
+            object,
+        })?;
+    }
+    Ok(copies)
+}
