@@ -127,7 +127,7 @@ tables_send =
           (
             u64_send,
             (
-              u32_send,
+              u64_send,
               (
                 Vec-send Rowed.the_row rowed_send,
                 (Vec-send Named.the_row named_send, (Vec-send Watch.the_row watch_send, tt)),

@@ -117,6 +117,7 @@ pub fewer_names : (n m : ℕ) (t : Names) → m ≤ n → HasNameRoom n t → Ha
 fewer_names n m t le r = record {
   services = let a = r.services in omega (arith, a, le);
   watches = let a = r.watches in omega (arith, a, le);
+  order = let a = r.order in omega (arith, a, le);
 }
 
 pub room_one : (x : Effect) (rest : List Effect) (s : State) → HasRoom (x ∷ rest) s → HasRoom (x ∷ []) s

@@ -69,6 +69,7 @@ names_alike d e t a tr = record {
     counts = λ q. tr.watches.counts q ∙ ap (count_by q) a.watches;
     ordered = tr.watches.ordered;
   };
+  order = tr.order ∙ a.watches;
 }
 
 inboxes_alike : (d e : Effects) (t : Inboxes) → Agree d e → Sound e → TracksInboxes d t → TracksInboxes e t

@@ -1,6 +1,6 @@
 //! The table of services and watches.
 
-use sm_history::{Service, Watch};
+use sm_history::{Service, WatchPair};
 use sm_kinds::{ClientId, Name, Node};
 use sm_names::Names;
 use std::alloc::Global;
@@ -40,11 +40,8 @@ fn watch(
     let name = Name::new(alloc, name).ok().expect(rt, "a name");
     names.reserve(1).ok().expect(rt, "memory");
     if names.is_ready() && names.watches() < sm_history::MOST_WATCHES {
-        names.watch(Watch {
-            client,
-            name,
-            object,
-        });
+        let pair = WatchPair::new(client, &name, object);
+        names.watch(pair.ok().expect(rt, "memory"));
         return true;
     }
     false
@@ -106,6 +103,9 @@ fn a_watch_made_twice_is_there_twice(rt: HostRuntime) {
     let watchers = names.watchers(b"power");
     assert_eq!(rt; watchers.len(), 3);
     assert!(rt; watchers[0].client == 7 && watchers[1].client == 8 && watchers[2].client == 7);
+    let all = names.listed_watches(rt.alloc()).ok().expect(&rt, "memory");
+    assert_eq!(rt; all.len(), 4);
+    assert!(rt; all[1].name.bytes() == b"audio".as_slice() && all[3].client == 7);
     assert!(rt; names.is_watching(8, b"power", 2));
     assert!(rt; !names.is_watching(8, b"power", 1));
     assert_eq!(rt; names.unwatch(7, b"power", 1), 2);

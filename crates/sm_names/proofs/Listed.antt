@@ -1,9 +1,8 @@
 -- What is listed of names is what stands under them.
-use Rattle.std.proofs.Common.{◌≡◌, Bool, true, false, List, [], ◌∷◌, refl, ap, sym, ◌∙◌, subst, map, Option, Some, None}
+use Rattle.std.proofs.Common.{◌≡◌, true, false, List, [], ◌∷◌, refl, ap, sym, ◌∙◌, subst, Option, Some}
 use Rattle.std.proofs.Common.{ℕ, if◌then◌else◌}
-use Rattle.std.specs.Prelude.{bytes_eq, option_map}
+use Rattle.std.specs.Prelude.{bytes_eq}
 use Rattle.sm_history.specs.declared.named_row.NamedRow.{NamedRow}
-use Rattle.sm_history.specs.declared.service.Service.{Service}
 use Rattle.sm_history.specs.Effects.{Effects}
 use Rattle.sm_history.specs.Rising.{IsRising}
 use Rattle.sm_history.specs.Tables as tables

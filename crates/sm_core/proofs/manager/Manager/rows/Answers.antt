@@ -1,8 +1,7 @@
-use Rattle.std.proofs.Common.{◌≡◌, ◌∷◌, ◌++◌, List, ap, map, subst, ◌∙◌}
+use Rattle.std.proofs.Common.{◌≡◌, ℕ, ◌∷◌, ◌++◌, List, ap, map, sym, ◌∙◌}
 use Rattle.sm_history.specs.declared.by.By.TheVariants.{Manager}
 use Rattle.sm_history.specs.declared.turn.TurnRow.{TurnRow}
 use Rattle.sm_history.specs.Histories.{effects_of, length_of}
-use Rattle.sm_history.specs.Openings.{Opening}
 use Rattle.sm_history.specs.Rows.{Rows, rows_at}
 use Rattle.sm_history.specs.Segments.{actors_of, rows_of, turn_row}
 use Rattle.sm_history.proofs.TableRows.{tables_are}
@@ -29,7 +28,10 @@ returns c =
     ∙ ap (λ (rs : List ClientRow). map (row_for c.self.inside.turns)
     (Manager ∷ map client_of (ids rs) ++ admins_in c.self.inside.turns)) c.deref.ensures.value
     ∙ actor_rows h c.self.inside.turns c.self.inside.state.clients.items k.turns_are k.admins_are k.stands.clients in
+    let length : c.length-length.result ≡ length_of h =
+    c.length-length.ensures ∙ sym (ap (λ (m : Managed). length_of m.book.history) c.self.view_is) in
     c.new.ensures
-    ∙ ap (λ (t : Rows). record { tables = t; length = c.length.result; turns = c.in_ok-turns.turns.items }) tables
-    ∙ ap (λ (ts : List TurnRow). record { tables = rows_at d; length = c.length.result; turns = ts }) turns
+    ∙ ap (λ (t : Rows). record { tables = t; length = c.length-length.result; turns = c.in_ok-turns.turns.items }) tables
+    ∙ ap (λ (ts : List TurnRow). record { tables = rows_at d; length = c.length-length.result; turns = ts }) turns
+    ∙ ap (λ (n : ℕ). record { tables = rows_at d; length = n; turns = map (turn_row h) (actors_of h) }) length
     ∙ ap (λ (m : Managed). rows_of m.book.history) c.self.view_is

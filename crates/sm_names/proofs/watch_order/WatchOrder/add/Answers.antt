@@ -1,4 +1,4 @@
-use Rattle.std.proofs.Common.{◌≡◌, refl, List, [], ◌∷◌, ◌++◌, ap, sym, ◌∙◌}
+use Rattle.std.proofs.Common.{refl, List, [], ◌∷◌, ◌++◌, ap, sym, ◌∙◌}
 use Rattle.sm_history.specs.declared.effect.Watch.{Watch}
 use Rattle.sm_history.proofs.AfterWatches.{watches_watches}
 use Rattle.sm_names.proofs.watch_order.WatchOrder.add.Goals as goal
