@@ -47,6 +47,7 @@ def main():
     stricter = rules.replace(b"allow binderuser activity_service", b"allow { binderuser -untrusted_app } activity_service")
     admin.ask(f"reload 1 {len(stricter)} {len(contexts)}", stricter + contexts)
     application.ask("get activity")
+    admin.ask("seal")
     admin.ask("version")
     service.ask("bye")
     application.ask("bye")
