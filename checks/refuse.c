@@ -1,0 +1,92 @@
+/* Refuses allocations of the program that it is preloaded into (LD_PRELOAD): the one whose number is in REFUSE_AT, or
+ * all from the one whose number is in REFUSE_FROM on. Allocations are numbered from 1, over all threads. The file that
+ * REFUSE_COUNTS names, of 16 bytes, gets two counts in the machine's byte order: of allocations and of refusals. They
+ * are kept while the program runs, so a program that is killed leaves them, too. For Linux with glibc. */
+
+#include <errno.h>
+#include <fcntl.h>
+#include <stdatomic.h>
+#include <stddef.h>
+#include <stdint.h>
+#include <stdlib.h>
+#include <sys/mman.h>
+#include <unistd.h>
+
+void *__libc_malloc(size_t size);
+void *__libc_calloc(size_t count, size_t size);
+void *__libc_realloc(void *block, size_t size);
+void *__libc_memalign(size_t alignment, size_t size);
+
+struct counts {
+    _Atomic uint64_t allocations;
+    _Atomic uint64_t refusals;
+};
+
+static struct counts unshared;
+static struct counts *counts = &unshared;
+static uint64_t refused_at;
+static uint64_t refused_from;
+
+static uint64_t number_of(const char *variable)
+{
+    const char *value = getenv(variable);
+    return value ? strtoull(value, NULL, 10) : 0;
+}
+
+__attribute__((constructor)) static void begin(void)
+{
+    const char *path = getenv("REFUSE_COUNTS");
+    int file = path ? open(path, O_RDWR) : -1;
+    if (file < 0)
+        return;
+    void *shared = mmap(NULL, sizeof *counts, PROT_READ | PROT_WRITE, MAP_SHARED, file, 0);
+    close(file);
+    if (shared == MAP_FAILED)
+        return;
+    counts = shared;
+    refused_at = number_of("REFUSE_AT");
+    refused_from = number_of("REFUSE_FROM");
+}
+
+static int is_refused(void)
+{
+    uint64_t number = atomic_fetch_add(&counts->allocations, 1) + 1;
+    if (number != refused_at && (refused_from == 0 || number < refused_from))
+        return 0;
+    atomic_fetch_add(&counts->refusals, 1);
+    errno = ENOMEM;
+    return 1;
+}
+
+void *malloc(size_t size)
+{
+    return is_refused() ? NULL : __libc_malloc(size);
+}
+
+void *calloc(size_t count, size_t size)
+{
+    return is_refused() ? NULL : __libc_calloc(count, size);
+}
+
+void *realloc(void *block, size_t size)
+{
+    return is_refused() ? NULL : __libc_realloc(block, size);
+}
+
+void *memalign(size_t alignment, size_t size)
+{
+    return is_refused() ? NULL : __libc_memalign(alignment, size);
+}
+
+void *aligned_alloc(size_t alignment, size_t size)
+{
+    return is_refused() ? NULL : __libc_memalign(alignment, size);
+}
+
+int posix_memalign(void **block, size_t alignment, size_t size)
+{
+    if (is_refused())
+        return ENOMEM;
+    *block = __libc_memalign(alignment, size);
+    return *block ? 0 : ENOMEM;
+}

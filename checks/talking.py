@@ -1,0 +1,86 @@
+"""What the checks share: the built program, its policies, and the lines that come from it."""
+
+import os
+import select
+import socket
+import sys
+import time
+from pathlib import Path
+
+ROOT = Path(__file__).resolve().parent.parent
+PROGRAM = ROOT / "crates" / "svcmgr" / "out" / "svcmgr"
+
+# Seconds within which a line must be answered, and a program must end that has nothing more to read.
+PATIENCE = 20
+
+SERVICE = "u:r:system_server:s0"
+APPLICATION = "u:r:untrusted_app:s0"
+
+DEVICE = (ROOT / "examples" / "device.rules").read_text()
+BROKEN = (ROOT / "examples" / "broken.rules").read_text()
+LABELS = (ROOT / "examples" / "device.contexts").read_text()
+
+
+class Wrong(Exception):
+    """What the program did that it must not."""
+
+
+def add_program(parser):
+    parser.add_argument("--program", default=str(PROGRAM), help="svcmgr, as `rt ci` or `rt run` builds it")
+
+
+def check_program(options):
+    if not os.access(options.program, os.X_OK):
+        sys.exit(f"no program at {options.program}: build it by `rt run -- --help` in crates/svcmgr")
+
+
+class Lines:
+    """The lines that come from a file descriptor."""
+
+    def __init__(self, number):
+        self.number, self.held, self.ended = number, b"", False
+
+    def line(self):
+        """The next line with its newline, or what came before the end, if anything."""
+        until = time.monotonic() + PATIENCE
+        while b"\n" not in self.held and not self.ended:
+            if not select.select([self.number], [], [], max(0, until - time.monotonic()))[0]:
+                raise Wrong(f"no answer after {PATIENCE} seconds")
+            self.more()
+        line, newline, self.held = self.held.partition(b"\n")
+        return (line + newline).decode()
+
+    def more(self):
+        try:
+            piece = os.read(self.number, 65536)
+        except ConnectionResetError:
+            piece = b""
+        self.held += piece
+        self.ended = not piece
+
+
+class Connection:
+    """A connection to a server."""
+
+    def __init__(self, path):
+        self.stream = socket.socket(socket.AF_UNIX)
+        self.stream.connect(str(path))
+        self.lines = Lines(self.stream.fileno())
+
+    def __enter__(self):
+        return self
+
+    def __exit__(self, *_):
+        self.stream.close()
+
+    def send(self, lines):
+        """Sends bytes. A connection that the server has ended shows when its lines are read."""
+        try:
+            self.stream.sendall(lines)
+        except (BrokenPipeError, ConnectionResetError):
+            pass
+
+    def ask(self, line):
+        """The line that answers a line, without its newline."""
+        self.send(line.encode() + b"\n")
+        return self.lines.line().rstrip("\n")
