@@ -1,6 +1,7 @@
 //! The reader of service contexts: the labels that it gives, and which fault it names.
 
 use sm_contexts::*;
+use sm_samples::DEVICE_LABELS;
 use std::alloc::{AllocError, Global};
 use std::process::Abort;
 use std::test::*;
@@ -9,16 +10,16 @@ fn fault(alloc: Global, text: &[u8]) -> Option<ContextsFault> {
     Contexts::read(alloc, text).err()
 }
 
-/// Entry lines of distinct keys, the last of them `*`.
+/// Entry lines of distinct keys, the first of them `*`.
 fn entry_lines(alloc: Global, count: u32) -> Result<Vec<u8>, AllocError> {
-    let mut text = Vec::new(alloc);
+    let mut text = Vec::from_slice(alloc, b"* u:r:t")?;
     for i in 1..count {
+        text.push(b'\n')?;
         for digit in [i / 676 % 26, i / 26 % 26, i % 26] {
             text.push(b'a' + digit as u8)?;
         }
-        text.extend_from_slice(b" u:r:t\n")?;
+        text.extend_from_slice(b" u:r:t")?;
     }
-    text.extend_from_slice(b"* u:r:t")?;
     Ok(text)
 }
 
@@ -68,6 +69,34 @@ fn faults(rt: HostRuntime) {
     for (text, expected) in cases {
         assert_eq!(rt; fault(rt.alloc(), text), expected);
     }
+}
+
+// The greatest lengths of fronts, and what those that are no longer are: a comment, then two entries, each of which has
+// no context, a context whose type or range is empty, or a whole one. Only the second is the default.
+const FRONTS: [(usize, Option<ContextsFault>); 9] = [
+    (9, Some(ContextsFault::NoDefault)),
+    (29, Some(ContextsFault::BadLine(2))),
+    (45, Some(ContextsFault::NoDefault)),
+    (46, Some(ContextsFault::BadLine(2))),
+    (49, Some(ContextsFault::NoDefault)),
+    (62, Some(ContextsFault::BadLine(3))),
+    (85, None),
+    (86, Some(ContextsFault::BadLine(3))),
+    (89, None),
+];
+
+#[test]
+fn each_front_of_a_text(rt: HostRuntime) -> Result<(), Fail> {
+    assert_eq!(rt; DEVICE_LABELS.len(), 89);
+    let mut from = 0usize;
+    for (to, expected) in FRONTS {
+        for end in from..=to {
+            let front = DEVICE_LABELS.get(..end).ok_or("a front")?;
+            assert_eq!(rt; fault(rt.alloc(), front), expected);
+        }
+        from = to.saturating_add(1);
+    }
+    Ok(())
 }
 
 #[test]

@@ -1,5 +1,6 @@
 //! Policies from their two texts: what is refused, what is counted, who may do what.
 
+use crate::statements::repeated;
 use sm_contexts::ContextsFault;
 use sm_kinds::{Class, Perms};
 use sm_policy::*;
@@ -223,6 +224,30 @@ fn labels_with_their_types(rt: HostRuntime) {
         b"u:object_r:default_android_service:s0".as_slice()
     );
     assert_eq!(rt; other.index, 5);
+}
+
+fn nested(alloc: Global, depth: u32) -> Result<Vec<u8>, AllocError> {
+    let mut text = Vec::from_slice(alloc, b"type a;\nallow ")?;
+    repeated(&mut text, b"{", depth)?;
+    text.extend_from_slice(b"a")?;
+    repeated(&mut text, b"}", depth)?;
+    text.extend_from_slice(b" a:binder call;")?;
+    Ok(text)
+}
+
+#[test]
+fn nested_braces_decide_as_written(rt: HostRuntime) -> Result<(), Fail> {
+    let text = nested(rt.alloc(), 1_000_000)?;
+    let prepared = prepared(&rt, rt.alloc(), &text, b"* u:r:a\n");
+    assert_eq!(rt;
+        prepared.why(b"a", b"a", Class::Binder, Perms::CALL),
+        Some(2)
+    );
+    assert_eq!(rt;
+        prepared.why(b"a", b"a", Class::Binder, Perms::TRANSFER),
+        None
+    );
+    Ok(())
 }
 
 /// What a policy decides of two types, by their names: whether the access is allowed, and whether it is audited.

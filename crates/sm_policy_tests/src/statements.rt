@@ -10,7 +10,8 @@ fn accepted(rt: &impl Abort, alloc: Global, text: &[u8]) -> Vec<Statement> {
     read(alloc, text).ok().expect(rt, "statements")
 }
 
-fn repeated(alloc: Global, text: &mut Vec<u8>, piece: &[u8], times: u32) -> Result<(), AllocError> {
+/// Adds a piece so many times.
+pub fn repeated(text: &mut Vec<u8>, piece: &[u8], times: u32) -> Result<(), AllocError> {
     for _ in 0..times {
         text.extend_from_slice(piece)?;
     }
@@ -34,6 +35,70 @@ fn whole_text(rt: HostRuntime) {
         read(rt.alloc(), &DEVICE_RULES[..684]).err(),
         Some(RuleTextFault::Syntax(16))
     );
+}
+
+/// Whether a word begins a statement of the device's rules.
+fn is_keyword(word: &[u8]) -> bool {
+    matches!(word, b"attribute" | b"type" | b"allow" | b"neverallow")
+}
+
+/// The first word of a statement that a space ends, or all of it.
+fn first_word(statement: &[u8]) -> &[u8] {
+    match statement.iter().position(|byte| *byte == b' ') {
+        Some(end) => statement.get(..end).unwrap_or(statement),
+        None => statement,
+    }
+}
+
+/// What a front of the device's rules is: so many statements, or the fault of the one that it cuts. They have neither
+/// comments nor texts in quotes.
+fn wanted_of_front(front: &[u8]) -> Result<usize, RuleTextFault> {
+    let mut statements = 0usize;
+    let mut line = 1u32;
+    let mut cut = None;
+    for (at, byte) in front.iter().enumerate() {
+        match *byte {
+            b';' => {
+                statements = statements.saturating_add(1);
+                cut = None;
+            }
+            b'\n' => line = line.saturating_add(1),
+            b' ' => {}
+            _ => {
+                if cut.is_none() {
+                    cut = Some((at, line));
+                }
+            }
+        }
+    }
+    match cut {
+        None => Ok(statements),
+        Some((at, line)) => Err(fault_of_cut(front.get(at..).unwrap_or(front), line)),
+    }
+}
+
+/// The fault of a statement without its end: a first word that is cut, too, begins no statement.
+fn fault_of_cut(statement: &[u8], line: u32) -> RuleTextFault {
+    if is_keyword(first_word(statement)) {
+        RuleTextFault::Syntax(line)
+    } else {
+        RuleTextFault::Unsupported(line)
+    }
+}
+
+fn read_front(alloc: Global, front: &[u8]) -> Result<usize, RuleTextFault> {
+    match read(alloc, front) {
+        Ok(statements) => Ok(statements.len()),
+        Err(fault) => Err(fault),
+    }
+}
+
+#[test]
+fn each_front_of_a_text(rt: HostRuntime) {
+    for end in 0..=DEVICE_RULES.len() {
+        let front = &DEVICE_RULES[..end];
+        assert_eq!(rt; read_front(rt.alloc(), front), wanted_of_front(front));
+    }
 }
 
 #[test]
@@ -134,21 +199,9 @@ fn permissive_and_dontaudit(rt: HostRuntime) {
 }
 
 #[test]
-fn nested_braces(rt: HostRuntime) -> Result<(), Fail> {
-    let mut text = Vec::from_slice(rt.alloc(), b"type a;\nallow ")?;
-    repeated(rt.alloc(), &mut text, b"{", 1_000_000)?;
-    text.extend_from_slice(b"a")?;
-    repeated(rt.alloc(), &mut text, b"}", 1_000_000)?;
-    text.extend_from_slice(b" a:binder call;")?;
-    let statements = accepted(&rt, rt.alloc(), &text);
-    assert_eq!(rt; statements.len(), 2);
-    Ok(())
-}
-
-#[test]
 fn most_rules(rt: HostRuntime) -> Result<(), Fail> {
     let mut text = Vec::from_slice(rt.alloc(), b"type a;\n")?;
-    repeated(rt.alloc(), &mut text, b"allow a a:binder call;\n", 65_536)?;
+    repeated(&mut text, b"allow a a:binder call;\n", 65_536)?;
     let statements = accepted(&rt, rt.alloc(), &text);
     assert_eq!(rt; statements.len(), 65_537);
     assert!(rt; !statements[0].what.is_rule() && statements[1].what.is_rule());
@@ -160,7 +213,7 @@ fn most_rules(rt: HostRuntime) -> Result<(), Fail> {
 #[test]
 fn longest_text(rt: HostRuntime) -> Result<(), Fail> {
     let mut text = Vec::new(rt.alloc());
-    repeated(rt.alloc(), &mut text, b"                ", 262_144)?;
+    repeated(&mut text, b"                ", 262_144)?;
     assert_eq!(rt; accepted(&rt, rt.alloc(), &text).len(), 0);
     text.push(b' ')?;
     assert_eq!(rt;

@@ -3,6 +3,7 @@
 use crate::fixture::{Fixture, holds};
 use crate::texts::device_rules_but;
 use sm_samples::{DEVICE_LABELS, Said, Talk};
+use std::alloc::{AllocError, Global};
 use std::test::Fail;
 
 const A_HANDLE_COUNTS: Talk = &[
@@ -19,7 +20,7 @@ const A_HANDLE_COUNTS: Talk = &[
 ];
 
 // A reference that names nothing refuses the whole call, and nothing is granted.
-const REFERENCES_OF_A_CALL: Talk = &[
+pub const REFERENCES_OF_A_CALL: Talk = &[
     ("hello 100 1000 u:r:system_server:s0", "client 1"),
     ("1 add activity o1 0 8", "ok"),
     ("hello 200 10007 u:r:untrusted_app:s0", "client 2"),
@@ -230,10 +231,8 @@ const ANOTHER_SERVER_COMES: Talk = &[
     ("2 get activity", "handle 2"),
 ];
 
-// A call of a dead object is answered so before any rule is asked, and a dead client watches nothing.
-#[test]
-fn a_server_that_dies(rt: HostRuntime) -> Result<(), Fail> {
-    let alloc = rt.alloc();
+/// A server dies while a client holds its service, the policy is replaced, and another server comes.
+pub fn server_dies(alloc: Global) -> Result<Said, AllocError> {
     let rules = device_rules_but(
         alloc,
         b"allow untrusted_app system_server:binder { call transfer };\n",
@@ -243,7 +242,14 @@ fn a_server_that_dies(rt: HostRuntime) -> Result<(), Fail> {
     said.talk(A_SERVER_DIES)?;
     said.reload(b"reload 1 626 89\n", &rules, DEVICE_LABELS, b"reloaded 2\n")?;
     said.talk(ANOTHER_SERVER_COMES)?;
-    Fixture::device().hears(&rt, alloc, &said);
+    Ok(said)
+}
+
+// A call of a dead object is answered so before any rule is asked, and a dead client watches nothing.
+#[test]
+fn a_server_that_dies(rt: HostRuntime) -> Result<(), Fail> {
+    let said = server_dies(rt.alloc())?;
+    Fixture::device().hears(&rt, rt.alloc(), &said);
     Ok(())
 }
 

@@ -20,11 +20,11 @@ pub struct Fixture<'a> {
 
 /// What a run of a script left.
 #[derive(Drop)]
-pub struct Left<R, W> {
+pub struct Left<R, W, A> {
     pub ending: Result<(), ScriptFault>,
     pub reader: Counted<R>,
     pub writer: Counted<W>,
-    pub audit: Counted<Vec<u8>>,
+    pub audit: Counted<A>,
 }
 
 impl<'a> Fixture<'a> {
@@ -60,11 +60,23 @@ impl<'a> Fixture<'a> {
         alloc: Global,
         reader: R,
         writer: W,
-    ) -> Left<R, W> {
+    ) -> Left<R, W, Vec<u8>> {
+        self.run_audited(rt, alloc, reader, writer, Vec::new(alloc))
+    }
+
+    /// Runs the script that the reader gives, with a writer for its audit lines.
+    pub fn run_audited<R: Read, W: Write, A: Write>(
+        self,
+        rt: &impl Abort,
+        alloc: Global,
+        reader: R,
+        writer: W,
+        audit: A,
+    ) -> Left<R, W, A> {
         let places = Places::new(self.places).expect(rt, "places");
         let mut reader = Counted::new(reader);
         let mut writer = Counted::new(writer);
-        let mut audit = Counted::new(Vec::new(alloc));
+        let mut audit = Counted::new(audit);
         let ending = run_script(
             alloc,
             self.rules,

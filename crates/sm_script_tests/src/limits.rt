@@ -169,7 +169,7 @@ version 1 5
 }
 
 // Whether the opening was denied by the rule that is needed to become the manager.
-fn is_denied(left: &Left<&[u8], Vec<u8>>) -> bool {
+fn is_denied(left: &Left<&[u8], Vec<u8>, Vec<u8>>) -> bool {
     match &left.ending {
         Err(
             ScriptFault::Opening(

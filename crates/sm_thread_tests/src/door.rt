@@ -24,7 +24,7 @@ use std::thread::Threads;
 /// So many policies are installed while others read.
 const INSTALLS: u64 = 100;
 
-fn policy(rt: &impl Abort, alloc: Global, rules: &[u8]) -> Prepared {
+pub fn policy(rt: &impl Abort, alloc: Global, rules: &[u8]) -> Prepared {
     Prepared::from_texts(alloc, rules, DEVICE_LABELS)
         .ok()
         .expect(rt, "a policy")
@@ -38,7 +38,7 @@ fn process(rt: &impl Abort, alloc: Global, pid: u32, context: &[u8]) -> Identity
     }
 }
 
-fn manager(rt: &impl Abort, alloc: Global) -> Identity {
+pub fn manager(rt: &impl Abort, alloc: Global) -> Identity {
     process(rt, alloc, 1, b"u:r:servicemanager:s0")
 }
 

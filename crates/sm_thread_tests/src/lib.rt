@@ -4,6 +4,8 @@
 #[cfg(test)]
 mod door;
 #[cfg(test)]
+mod exchanges;
+#[cfg(test)]
 mod rolls;
 #[cfg(test)]
 mod server;

@@ -1,0 +1,294 @@
+//! What two clients and an administrator are answered through a door, one after another, in the words of their lines.
+
+ghost use Rattle.std.specs.Prelude.{◌≡◌};
+ghost use Rattle.sm_core.specs.Opening.{opened};
+
+use crate::door::{manager, policy};
+use sm_door::{Admin, Door, Seat, Session};
+use sm_history::{Event, Failure, Outcome, Query, Refusal, Reply};
+use sm_kinds::{Identity, Places};
+use sm_policy::Prepared;
+use sm_roll::{Blank, Naming};
+use sm_samples::DEVICE_RULES;
+use sm_view::{NoGate, is_death};
+use sm_wire::{Kind, Request, Telling, reply_line};
+use std::alloc::Global;
+use std::marker::Brand;
+use std::process::Abort;
+use std::sync::Wait;
+
+/// Who sends a line.
+#[derive(Clone, Copy, Debug, PartialEq, Eq)]
+enum Sender {
+    Service,
+    Application,
+    Admin,
+}
+
+use Sender::{Admin as Administrator, Application, Service};
+
+/// Lines, each with who sends it and the line that answers it.
+type Exchange = &'static [(Sender, &'static str, &'static str)];
+
+/// The connections at a door.
+#[derive(Drop)]
+struct Parties<J: Naming> {
+    seats: Vec<Seat<J>>,
+    service: Option<Session<J>>,
+    application: Option<Session<J>>,
+    admin: Admin<J>,
+}
+
+fn not_connected() -> Reply {
+    Reply::Refused(Refusal::Failed(Failure::NotConnected))
+}
+
+fn hello<J: Naming, R: Wait + Abort>(
+    rt: &R,
+    door: &Door<J, NoGate>,
+    seat: Option<Seat<J>>,
+    who: Identity,
+) -> (Reply, Option<Session<J>>) {
+    match door.connect(rt, seat.expect(rt, "a seat"), who) {
+        Ok(session) => (
+            Reply::Done(Outcome::Connected(session.client())),
+            Some(session),
+        ),
+        Err((refusal, _)) => (Reply::Refused(refusal), None),
+    }
+}
+
+fn bye<J: Naming, R: Wait>(rt: &R, door: &Door<J, NoGate>, session: Session<J>) -> Reply {
+    match door.leave(rt, session) {
+        Ok(_) => Reply::Done(Outcome::Died),
+        Err((refusal, _)) => Reply::Refused(refusal),
+    }
+}
+
+/// What a client's change is answered, and its session, if that goes on.
+fn change<J: Naming, R: Wait>(
+    rt: &R,
+    door: &Door<J, NoGate>,
+    session: Option<Session<J>>,
+    event: Event,
+) -> (Reply, Option<Session<J>>) {
+    let Some(mut session) = session else {
+        return (not_connected(), None);
+    };
+    if is_death(&event) {
+        return (bye(rt, door, session), None);
+    }
+    let reply = door.submit(rt, &mut session, event);
+    (reply, Some(session))
+}
+
+fn look<J: Naming>(
+    door: &Door<J, NoGate>,
+    session: Option<Session<J>>,
+    query: Query,
+) -> (Reply, Option<Session<J>>) {
+    let Some(mut session) = session else {
+        return (not_connected(), None);
+    };
+    let reply = match query {
+        Query::List(mask) => door.list(&mut session, mask),
+        _ => door.version(&mut session),
+    };
+    (reply, Some(session))
+}
+
+/// The line that answers a client's line, and its session, if that goes on.
+fn client_line<J: Naming, R: Wait + Abort>(
+    rt: &R,
+    alloc: Global,
+    door: &Door<J, NoGate>,
+    seats: &mut Vec<Seat<J>>,
+    session: Option<Session<J>>,
+    line: &str,
+) -> (Vec<u8>, Option<Session<J>>) {
+    let request = Request::read(alloc, Kind::Client, line.as_bytes()).ok();
+    let request = request.expect(rt, "a request");
+    let telling = request.telling();
+    let (reply, session) = match request {
+        Request::Hello(who) => hello(rt, door, seats.pop(), who),
+        Request::Change(_, event) => change(rt, door, session, event),
+        Request::Look(_, query) => look(door, session, query),
+        _ => (not_connected(), session),
+    };
+    let told = reply_line(alloc, telling, &reply).ok();
+    (told.expect(rt, "a line"), session)
+}
+
+/// The line that answers the administrator, who seals or asks for the version.
+fn admin_line<J: Naming, R: Wait + Abort>(
+    rt: &R,
+    alloc: Global,
+    door: &Door<J, NoGate>,
+    admin: &mut Admin<J>,
+    line: &str,
+) -> Vec<u8> {
+    let reply = if line == "seal" {
+        seal(rt, door, admin)
+    } else {
+        door.version(admin)
+    };
+    let told = reply_line(alloc, Telling::Whole, &reply).ok();
+    told.expect(rt, "a line")
+}
+
+/// Seals. A segment's replay has the length of the segment.
+fn seal<J: Naming, R: Wait + Abort>(rt: &R, door: &Door<J, NoGate>, admin: &mut Admin<J>) -> Reply {
+    match door.seal(rt, admin) {
+        Ok(segment) => {
+            let rows = segment.replay().ok().expect(rt, "rows");
+            assert_eq!(rt; rows.length(), segment.length());
+            Reply::Sealed {
+                number: segment.number(),
+                length: segment.length(),
+            }
+        }
+        Err(refusal) => Reply::Refused(refusal),
+    }
+}
+
+impl<J: Naming> Parties<J> {
+    fn answered<R: Wait + Abort>(
+        &mut self,
+        rt: &R,
+        alloc: Global,
+        door: &Door<J, NoGate>,
+        sender: Sender,
+        line: &str,
+    ) -> Vec<u8> {
+        match sender {
+            Service => {
+                let session = self.service.take();
+                let (told, session) = client_line(rt, alloc, door, &mut self.seats, session, line);
+                self.service = session;
+                told
+            }
+            Application => {
+                let session = self.application.take();
+                let (told, session) = client_line(rt, alloc, door, &mut self.seats, session, line);
+                self.application = session;
+                told
+            }
+            Administrator => admin_line(rt, alloc, door, &mut self.admin, line),
+        }
+    }
+}
+
+/// Holds an exchange at a door whose journal has so many places.
+fn holds<R: Wait + Abort>(rt: &R, alloc: Global, places: u32, exchange: Exchange) {
+    let who = manager(rt, alloc);
+    let rules = policy(rt, alloc, DEVICE_RULES);
+    let places = Places::new(places).expect(rt, "places");
+    exchanges::<Brand, R>(rt, alloc, Blank::new(), who, rules, places, exchange);
+}
+
+fn exchanges<J: Naming, R: Wait + Abort>(
+    rt: &R,
+    alloc: Global,
+    blank: Blank,
+    who: Identity,
+    policy: Prepared,
+    places: Places,
+    exchange: Exchange,
+)
+    requires roll { blank.seen.book ≡ J.roll }
+    requires opening { J.opening ≡ opened places who policy }
+{
+    let (door, seats, mut admins) = Door::<J, NoGate>::open(
+        rt, alloc, blank, who, policy, places, NoGate,
+    ).ok()
+        .expect(rt, "a door");
+    let mut parties = Parties {
+        seats,
+        service: None,
+        application: None,
+        admin: admins.pop().expect(rt, "an administrator"),
+    };
+    for (sender, line, wanted) in exchange {
+        let told = parties.answered(rt, alloc, &door, *sender, line);
+        assert_eq!(rt; told.strip_suffix(b"\n"), Some(wanted.as_bytes()));
+    }
+    door.close(rt);
+}
+
+const A_FULL_JOURNAL_IS_SEALED: Exchange = &[
+    (Service, "hello 100 1000 u:r:system_server:s0", "client 1"),
+    (Service, "add activity o1 0 8", "ok"),
+    (Service, "add activity o1 0 8", "failed journal-full"),
+    (Service, "list 15", "names 1 3 1 activity"),
+    (Administrator, "seal", "sealed 1 3"),
+    (Service, "add activity o1 0 8", "ok"),
+    (Service, "list 15", "names 1 4 1 activity"),
+    (
+        Application,
+        "hello 200 10007 u:r:untrusted_app:s0",
+        "client 2",
+    ),
+    (Application, "get activity", "failed journal-full"),
+    (Administrator, "seal", "sealed 2 5"),
+    (Application, "get activity", "handle 1"),
+    (Application, "get activity", "handle 1"),
+    (Administrator, "seal", "sealed 3 7"),
+    (Application, "release 1", "ok"),
+    (Application, "release 1", "ok"),
+    (Application, "release 1", "failed bad-handle"),
+    (Administrator, "seal", "sealed 4 9"),
+    (Administrator, "seal", "empty"),
+    (Administrator, "version", "version 1 9"),
+];
+
+#[test]
+fn a_full_journal_is_sealed(rt: HostRuntime) {
+    holds(&rt, rt.alloc(), 4, A_FULL_JOURNAL_IS_SEALED);
+}
+
+const CHANGES_OF_EACH_KIND: Exchange = &[
+    (Service, "hello 100 1000 u:r:system_server:s0", "client 1"),
+    (Service, "watch activity o3", "ok"),
+    (Service, "add activity o1 0 8", "ok"),
+    (Service, "take", "registered o3 activity o1"),
+    (
+        Application,
+        "hello 200 10007 u:r:untrusted_app:s0",
+        "client 2",
+    ),
+    (Application, "get activity", "handle 1"),
+    (Application, "call 1 00 o5 h9", "failed bad-handle"),
+    (Service, "take", "empty"),
+    (Application, "call 1 00 o5 o5", "ok"),
+    (Service, "take", "call o1 200 10007 00 h1 h1"),
+    (Service, "release 1", "ok"),
+    (Service, "release 1", "ok"),
+    (Service, "release 1", "failed bad-handle"),
+    (Service, "unregister activity o1", "exception -5 in-use"),
+    (Service, "unwatch activity o3", "ok"),
+    (
+        Service,
+        "unwatch activity o3",
+        "exception -5 nothing-to-unregister",
+    ),
+    (Service, "bye", "bye"),
+    (Service, "take", "failed not-connected"),
+    (Application, "get activity", "null"),
+    (Application, "call 1 00", "dead"),
+    (Service, "hello 103 1000 u:r:system_server:s0", "client 3"),
+    (Service, "add activity o1 0 8", "ok"),
+    (Application, "get activity", "handle 2"),
+    (Application, "release 2", "ok"),
+    (Service, "unregister activity o1", "ok"),
+    (
+        Service,
+        "unregister activity o1",
+        "exception -5 not-registered",
+    ),
+    (Application, "bye", "bye"),
+];
+
+#[test]
+fn changes_of_each_kind(rt: HostRuntime) {
+    holds(&rt, rt.alloc(), 1000, CHANGES_OF_EACH_KIND);
+}
