@@ -10,7 +10,7 @@ fn accepted(rt: &impl Abort, alloc: Global, text: &[u8]) -> Vec<Statement> {
     read(alloc, text).ok().expect(rt, "statements")
 }
 
-/// Adds a piece so many times.
+/// Adds a piece `times` times.
 pub fn repeated(text: &mut Vec<u8>, piece: &[u8], times: u32) -> Result<(), AllocError> {
     for _ in 0..times {
         text.extend_from_slice(piece)?;
@@ -50,8 +50,8 @@ fn first_word(statement: &[u8]) -> &[u8] {
     }
 }
 
-/// What a front of the device's rules is: so many statements, or the fault of the one that it cuts. They have neither
-/// comments nor texts in quotes.
+/// The number of statements in a front of the device's rules, or the fault of the statement that it cuts. The rules have
+/// neither comments nor texts in quotes.
 fn wanted_of_front(front: &[u8]) -> Result<usize, RuleTextFault> {
     let mut statements = 0usize;
     let mut line = 1u32;

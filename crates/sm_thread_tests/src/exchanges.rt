@@ -178,7 +178,7 @@ impl<J: Naming> Parties<J> {
     }
 }
 
-/// Holds an exchange at a door whose journal has so many places.
+/// Holds an exchange at a door whose journal has `places` slots.
 fn holds<R: Wait + Abort>(rt: &R, alloc: Global, places: u32, exchange: Exchange) {
     let who = manager(rt, alloc);
     let rules = policy(rt, alloc, DEVICE_RULES);
