@@ -1,6 +1,6 @@
 //! The rules of a rule text.
 
-ghost use Rattle.std.specs.Prelude.{◌≡◌, ◌<◌, ◌≤◌, ◌+◌, ◌/◌, ◌^◌, ℕ, List, length, All, IfOk, IfErr, Some, None, false};
+ghost use Rattle.std.specs.Prelude.{◌≡◌, ◌<◌, ◌≤◌, ◌+◌, ◌/◌, ◌^◌, ℕ, List, length, All, IfOk, IfErr, Some, None, false, option_map, slice_get};
 ghost use Rattle.sm_ruletext.specs.declared.statement.Statement.{Statement as TheStatement};
 ghost use Rattle.sm_types.specs.Names.{at};
 ghost use Rattle.sm_types.specs.Members.{IsOf};
@@ -143,6 +143,13 @@ impl Rules {
             ≡ written policy (at names s) (at names t) (class_at b) (perm_at b) }
     {
         &self.allows
+    }
+
+    /// The kept allow rule at this index in the order of the text, from 0. `None` past the last one.
+    pub fn kept(&self, i: u32) -> Option<&Kept>
+        ensures { option_map (λ rule. rule.now) result ≡ slice_get self.now.allows i }
+    {
+        self.allows.get(i as usize)
     }
 
     /// The neverallow rules that are kept, in the order of the text.
