@@ -92,6 +92,19 @@ fn permissive_and_silenced(rt: HostRuntime) {
     assert_eq!(rt; of(2, 0), (false, true));
 }
 
+// The allow rules of `POLICY`, which has a neverallow rule behind them.
+#[test]
+fn kept_rules(rt: HostRuntime) {
+    let statements = read(rt.alloc(), POLICY).ok().expect(&rt, "statements");
+    let types = Types::build(rt.alloc(), &statements);
+    let types = types.ok().expect(&rt, "types");
+    let rules = Rules::build(rt.alloc(), &statements, &types);
+    let rules = rules.ok().expect(&rt, "rules");
+    assert!(rt; rules.kept(0).map(|rule| rule.line) == Some(9));
+    assert!(rt; rules.kept(6).map(|rule| rule.line) == Some(15));
+    assert!(rt; rules.kept(7).is_none());
+}
+
 fn line(
     rt: &impl Abort,
     alloc: Global,
