@@ -1,4 +1,8 @@
 -- The answer to each event: the first check that fails, or what the event does.
+--
+-- The checks follow Android 14: first the binder driver with its SELinux hooks, then the function of servicemanager.
+-- Sources: frameworks/native/cmds/servicemanager, ServiceManager.cpp and Access.cpp (android-14.0.0); Linux,
+-- drivers/android/binder.c and security/selinux/hooks.c. A comment says where a check or its place is this project's own.
 use Rattle.std.specs.Prelude.{ℕ, ◌+◌, Bool, true, false, ◌&&◌, ◌||◌, not, ◌==◌, nat_lt, nat_le, List, [], ◌∷◌, ◌++◌}
 use Rattle.std.specs.Prelude.{Option, Some, None, is_some, length, count_by}
 use Rattle.std.specs.List.{list_any}
@@ -42,16 +46,20 @@ use Rattle.sm_history.specs.Histories.{History, turn_of, client_of, found, hande
 use Rattle.sm_history.specs.Histories.{effects_of, length_of, after_event}
 use Rattle.sm_history.specs.declared.limits.TheConstants.{MOST_WATCHES, MOST_CLIENTS, LAST_CLIENT, GREATEST}
 
--- Clauses on the user number.
+-- An application can't add a service: addService, `multiuser_get_app_id(ctx.uid) >= AID_APP`.
 abbrev pub not_barred : Effects → ℕ → List ℕ → Check
 not_barred d c name = let who = identity_at d c in Spares (not (is_barred who.uid)) (App who.uid) who name
 
--- An isolated caller, where the flag says that it matters.
+-- An isolated process is barred, where the flag says that it matters: the app id is from AID_ISOLATED_START to
+-- AID_ISOLATED_END. tryGetService asks so of a service that wasn't added with allowIsolated, registerForNotifications
+-- of every name.
 abbrev pub not_isolated : Effects → ℕ → List ℕ → Bool → Check
 not_isolated d c name matters = let who = identity_at d c in
     Spares (not (is_isolated_user who.uid && matters)) (Isolated who.uid) who name
 
 -- A reference names an object, and may be passed from client c to the manager, or to client k. A null passes.
+-- binder.c: binder_translate_binder and binder_translate_handle, which ask selinux_binder_transfer_binder for the
+-- permission `transfer`.
 abbrev pub passes_to_manager : Effects → ℕ → ObjRef → List Check
 passes_to_manager d c NullRef = []
 passes_to_manager d c r = Wants (is_some (resolve_at d c r)) (Refused (Failed BadHandle)) ∷ to_manager d c
@@ -78,7 +86,9 @@ abbrev pub service_meets : (Service → Bool) → Option Service → Bool
 service_meets p None = false
 service_meets p (Some s) = p s
 
--- What an Add must meet behind its reference.
+-- What an Add must meet behind its reference: addService, from the check of the app id on. The object's owner must be
+-- alive, where Android's linkToDeath fails. Own: the number of names is limited. Not modelled: the VINTF declaration
+-- (meetsDeclarationRequirements) and the default dump priority.
 abbrev pub naming_checks : Effects → ℕ → List ℕ → ObjRef → List Check
 naming_checks d c name obj =
     not_barred d c name
@@ -89,10 +99,12 @@ naming_checks d c name obj =
     ∷ Wants (has_name_room d name) (Refused (Exception TableFull))
     ∷ []
 
+-- `call` is selinux_binder_transaction's permission for the transaction to servicemanager.
 abbrev pub add_checks : Effects → ℕ → List ℕ → ObjRef → List Check
 add_checks d c name obj = to_manager d c calling ∷ passes_to_manager d c obj ++ naming_checks d c name obj
 
--- Where a service was found: its own object comes back as itself, and another needs a handle.
+-- Where a service was found: its own object comes back as itself, and another needs a handle (binder.c,
+-- binder_translate_handle: a node of the target process is translated to its BINDER_TYPE_BINDER).
 abbrev pub handing_checks : Effects → ℕ → Option Service → List Check
 handing_checks d c None = []
 handing_checks d c (Some s) =
@@ -100,6 +112,8 @@ handing_checks d c (Some s) =
     ∷ Wants (fits_handles (handed d c s.node) c) (Refused (Failed TargetFull))
     ∷ []
 
+-- tryGetService: the clause on isolated processes is asked where a service is there, then canFind. The reply's reference
+-- is passed by the manager, so `transfer` is asked from it to the client.
 abbrev pub get_checks : Effects → ℕ → List ℕ → List Check
 get_checks d c name =
     to_manager d c calling
@@ -109,6 +123,8 @@ get_checks d c name =
     ∷ from_manager d c transferring
     ∷ handing_checks d c (service_at d name)
 
+-- registerForNotifications. The callback is the client's own object, so it is passed to the manager first. Own: a missing
+-- `find` is reported before the isolated clause, which Android asks first; the number of watches is limited.
 abbrev pub watch_checks : Effects → ℕ → List ℕ → List Check
 watch_checks d c name =
     to_manager d c calling
@@ -119,6 +135,7 @@ watch_checks d c name =
     ∷ Wants (nat_lt (length (watches_at d)) MOST_WATCHES) (Refused (Exception TableFull))
     ∷ []
 
+-- unregisterForNotifications, which asks canFind and nothing else of the name.
 abbrev pub unwatch_checks : Effects → ℕ → List ℕ → ℕ → List Check
 unwatch_checks d c name object =
     to_manager d c calling
@@ -127,6 +144,9 @@ unwatch_checks d c name object =
     ∷ Wants (list_any (same_watch (watch c name object)) (watches_at d)) (Refused (Exception NothingToUnregister))
     ∷ []
 
+-- tryUnregisterService. Android compares the process that added the service by its pid (debugPid), and asks the driver
+-- for the number of clients (handleServiceClientCallback); here they are the client's number and the handles that others
+-- hold to the object.
 abbrev pub unregister_checks : Effects → ℕ → List ℕ → ObjRef → List Check
 unregister_checks d c name obj =
     to_manager d c calling
@@ -140,7 +160,9 @@ unregister_checks d c name obj =
     ∷ Wants (not (is_in_use d c (found (resolve_at d c obj)))) (Refused (Exception InUse))
     ∷ []
 
--- The checks on a call of an object that was found.
+-- The checks on a call of an object that was found: binder.c, binder_transaction. A dead target is BR_DEAD_REPLY;
+-- selinux_binder_transaction asks for `call`, then each reference is translated. Own: inboxes and handle tables have a
+-- fixed size, where the driver has the buffer of the target process.
 abbrev pub object_checks : Effects → ℕ → List ObjRef → Node → List Check
 object_checks d c refs n =
     Wants (owner_lives d n) (Refused Dead)
@@ -150,6 +172,7 @@ object_checks d c refs n =
     (Refused (Failed TargetFull))
     ∷ []
 
+-- The handle is looked up first (binder_get_ref_olocked); an unknown one is BR_FAILED_REPLY.
 abbrev pub call_checks : Effects → ℕ → ℕ → List ObjRef → List Check
 call_checks d c handle refs =
     Wants (is_some (node_at d c handle)) (Refused (Failed BadHandle)) ∷ object_checks d c refs
