@@ -1,5 +1,5 @@
-use Rattle.std.proofs.Common.{◌≡◌, ◌≤◌, ◌+◌, false}
-use Rattle.sm_engine.specs.Counts.{failures_of, calls_of, inner_of}
+use Rattle.std.proofs.Common.{◌≡◌, ◌+◌, min, false}
+use Rattle.sm_engine.specs.Counts.{failures_of, calls_of, inner_of, greatest}
 use Rattle.sm_engine.specs.Running.{Sofar}
 use Rattle.sm_engine.proofs.running.run.Given as goal
 
@@ -10,7 +10,7 @@ invariant-loop-reads g l = record {
       (g.W.Write.contents (inner_of l.writer)) (g.A.Write.contents (inner_of l.fn.audit))
       (g.A.Write.contents (inner_of l.audit)) l.machine;
   going_on : g.M.Machine.over l.machine ≡ false;
-  reads : calls_of l.reader ≤ calls_of l.fn.reader + l.reads;
+  reads : calls_of l.reader ≡ min (calls_of l.fn.reader + l.reads) greatest;
   reader_count : failures_of l.reader ≡ failures_of l.fn.reader;
   writer_count : failures_of l.writer ≡ failures_of l.fn.writer;
   audit_count : failures_of l.audit ≡ failures_of l.fn.audit;
