@@ -34,6 +34,7 @@ pub fn check<W: Write>(
     ensures unwritten { result ≡ Err Fault.Memory → writer.new ≡ writer.old }
     ensures fault { OnErr result ((result ≡ Err Fault.WriteFault) ⊎ (result ≡ Err Fault.Memory)) }
     ensures write_fault { result ≡ Err Fault.WriteFault → failures_of writer.old < failures_of writer.new }
+    ensures write_told { failures_of writer.old < failures_of writer.new → result ≡ Err Fault.WriteFault }
 {
     let verdict = judge(alloc, rules, contexts)?;
     write_whole(writer, &verdict.line)?;

@@ -1,6 +1,6 @@
 -- One read or write after another, on the bytes that are known.
 use Rattle.std.proofs.Common.{◌≡◌, ℕ, ◌+◌, ◌-◌, ◌≤◌, List, [], ◌++◌, length, take, drop, Option, Some, None, refl, sym}
-use Rattle.std.proofs.Common.{◌∙◌, append_assoc}
+use Rattle.std.proofs.Common.{◌∙◌, ap, append_assoc, arith, length-append}
 use Rattle.std.proofs.lemmas.List.{append-nil, take-take, take-append-drop}
 use Rattle.std.proofs.Math.Seq.{take-add}
 use Rattle.std.specs.Io.KnownBytes.{Appends, Consumes, Keeps}
@@ -39,6 +39,10 @@ Spilled-none a held = record { written = []; appended = Appends-nothing a; joine
 pub Spilled-all : (a b : Option (List ℕ)) (held rest : List ℕ) → rest ≡ [] → Appends a b held → Spilled a b held rest
 Spilled-all a b held rest e p = record { written = held; appended = p; joined = rw e (sym (append-nil held)) }
 
+pub Spilled-front : (a b : Option (List ℕ)) (held : List ℕ) (n : ℕ) → Appends a b (take n held)
+    → Spilled a b held (drop n held)
+Spilled-front a b held n p = record { written = take n held; appended = p; joined = sym (take-append-drop n held) }
+
 -- the first state of a text that is written in parts
 pub Pending-start : (a : Option (List ℕ)) (held : List ℕ) → held ≡ [] → Pending a a held []
 Pending-start a held e = record { written = []; appended = Appends-nothing a; joined = sym e }
@@ -59,23 +63,6 @@ Pending-more {a} {b} {held} {held'} {whole} more p e = record {
   joined = rw (p.joined, e, append_assoc) refl;
 }
 
-pub Partly-pending : {a b : Option (List ℕ)} {held whole : List ℕ} → Pending a b held whole → Partly a b whole
-Partly-pending {a} {b} {held} {whole} p = record {
-  written = p.written;
-  missing = held;
-  appended = p.appended;
-  joined = p.joined;
-}
-
-pub Partly-front : {a b : Option (List ℕ)} (c : Option (List ℕ)) {held whole : List ℕ} (n : ℕ) → Pending a b held whole
-    → Appends b c (take n held) → Partly a c whole
-Partly-front {a} {b} c {held} {whole} n p q = record {
-  written = p.written ++ take n held;
-  missing = drop n held;
-  appended = Appends-then a b c _ _ p.appended q;
-  joined = p.joined ∙ rw (append_assoc, take-append-drop n held) refl;
-}
-
 pub Appends-pending : {a b : Option (List ℕ)} (c : Option (List ℕ)) {held whole : List ℕ} → Pending a b held whole
     → Appends b c held → Appends a c whole
 Appends-pending {a} {b} c {held} {whole} p q = rw p.joined (Appends-then a b c _ _ p.appended q)
@@ -86,11 +73,14 @@ Consumes-keeps (Some xs) None c x p q = absurd p
 Consumes-keeps (Some xs) (Some ys) None x p q = absurd q
 Consumes-keeps (Some xs) (Some ys) (Some zs) x p q = rw q p
 
-pub Partly-more : {a b : Option (List ℕ)} {whole : List ℕ} (more : List ℕ) → Partly a b whole
-    → Partly a b (whole ++ more)
-Partly-more {a} {b} {whole} more p = record {
-  written = p.written;
-  missing = p.missing ++ more;
-  appended = p.appended;
-  joined = rw (p.joined, append_assoc) refl;
+-- what was held, and the text of the last item, is spilled
+pub Partly-spilled : {a b c : Option (List ℕ)} {held whole : List ℕ} (limit : ℕ) (more : List ℕ) {held' rest : List ℕ}
+    → Pending a b held whole → length held ≤ limit - 1 → held' ≡ held ++ more → Spilled b c held' rest
+    → Partly limit a c whole more
+Partly-spilled {a} {b} {c} {held} {whole} limit more {held'} {rest} p short e s = record {
+  written = p.written ++ s.written;
+  missing = rest;
+  appended = Appends-then a b c _ _ p.appended s.appended;
+  joined = rw (p.joined, append_assoc, ← e, s.joined, append_assoc) refl;
+  short = omega (arith, ap length p.joined, length-append p.written held, length-append p.written s.written);
 }

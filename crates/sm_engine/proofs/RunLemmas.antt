@@ -1,11 +1,12 @@
 -- How the answers to a list of items grow.
-use Rattle.std.proofs.Common.{◌≡◌, ℕ, List, [], ◌∷◌, ◌++◌, take, Option, refl, sym, ◌∙◌, append_assoc, inl, inr}
+use Rattle.std.proofs.Common.{◌≡◌, ℕ, ◌-◌, ◌≤◌, List, [], ◌∷◌, ◌++◌, length, Option, refl, sym, append_assoc, inl, inr}
+use Rattle.std.proofs.Common.{arith}
 use Rattle.std.proofs.lemmas.List.{append-nil}
 use Rattle.std.specs.Io.KnownBytes.{Appends}
 use Rattle.sm_wire.specs.declared.item.Item.{Item}
 use Rattle.sm_engine.specs.Running.{Runs, Answered, GaveUp, Going, Stopped, Wrote, Spilled}
-use Rattle.sm_engine.proofs.KnownLemmas.{Pending-start, Pending-spill, Pending-more, Partly-pending, Partly-more}
-use Rattle.sm_engine.proofs.KnownLemmas.{Partly-front, Appends-pending}
+use Rattle.sm_engine.proofs.KnownLemmas.{Pending-start, Pending-spill, Pending-more, Partly-spilled, Spilled-none}
+use Rattle.sm_engine.proofs.KnownLemmas.{Appends-pending}
 
 pub Runs-append : {S : Type 0} (answers : S → Item → List ℕ → List ℕ → S → Type 0) (s m t : S) (is js : List Item)
     (r r' a a' : List ℕ) → Runs answers s is r a m → Runs answers m js r' a' t
@@ -66,53 +67,67 @@ going_spill g s t = record {
   audited = Pending-spill g.audited t;
 }
 
--- memory runs out before the next item is answered
-pub going_stop : {S : Type 0} {answers : S → Item → List ℕ → List ℕ → S → Type 0} {old m : S} {items : List Item}
-    {w w' a a' : Option (List ℕ)} {held held_lines : List ℕ} → Going answers old items w w' a a' held held_lines m
-    → (all others : List Item) → all ≡ items ++ others → Stopped answers old all w w' a a' m
-going_stop {items = items} g all others e = record {
-  answered = items;
+-- the items so far were answered, then these last ones, of which there is one at most, and of all their texts fronts are
+-- written
+going_stop : {S : Type 0} {answers : S → Item → List ℕ → List ℕ → S → Type 0} {old m t : S} {items : List Item}
+    {w w' w'' a a' a'' : Option (List ℕ)} {held held' rest held_lines held_lines' rest_lines : List ℕ} (limit : ℕ)
+    → Going answers old items w w' a a' held held_lines m → length held ≤ limit - 1 → length held_lines ≤ limit - 1
+    → (last others all : List Item) (reply lines : List ℕ) → length last ≤ 1 → Runs answers m last reply lines t
+    → held' ≡ held ++ reply → Spilled w' w'' held' rest → held_lines' ≡ held_lines ++ lines
+    → Spilled a' a'' held_lines' rest_lines → all ≡ items ++ (last ++ others) → Stopped limit answers old all w w'' a a'' t
+going_stop {m = m} {items = items} limit g short short_lines last others all reply lines one runs e s f t is = record {
+  earlier = items;
+  last = last;
   others = others;
-  all = e;
+  all = is;
+  one = one;
+  middle = m;
   replies = g.replies;
   lines = g.lines;
   runs = g.runs;
-  wrote = Partly-pending g.wrote;
-  audited = Partly-pending g.audited;
+  last_replies = reply;
+  last_lines = lines;
+  ends = runs;
+  wrote = Partly-spilled limit reply g.wrote short e s;
+  audited = Partly-spilled limit lines g.audited short_lines f t;
 }
 
--- the reply writer fails
-pub going_fail : {S : Type 0} {answers : S → Item → List ℕ → List ℕ → S → Type 0} {old m : S} {items : List Item}
-    {w w' a a' : Option (List ℕ)} {held held_lines : List ℕ} → Going answers old items w w' a a' held held_lines m
-    → (w'' : Option (List ℕ)) (n : ℕ) → Appends w' w'' (take n held) → (all others : List Item) → all ≡ items ++ others
-    → Stopped answers old all w w'' a a' m
-going_fail {items = items} g w'' n p all others e = record {
-  answered = items;
-  others = others;
-  all = e;
-  replies = g.replies;
-  lines = g.lines;
-  runs = g.runs;
-  wrote = Partly-front w'' n g.wrote p;
-  audited = Partly-pending g.audited;
-}
+-- one more item was answered, and then a write failed
+pub going_fail : {S : Type 0} {answers : S → Item → List ℕ → List ℕ → S → Type 0} {old m t : S} {items : List Item}
+    {w w' w'' a a' a'' : Option (List ℕ)} {held held' rest held_lines held_lines' rest_lines : List ℕ} (limit : ℕ)
+    → Going answers old items w w' a a' held held_lines m → length held ≤ limit - 1 → length held_lines ≤ limit - 1
+    → (item : Item) → Answered answers m item held held' held_lines held_lines' t → Spilled w' w'' held' rest
+    → Spilled a' a'' held_lines' rest_lines → (others all : List Item) → all ≡ items ++ item ∷ others
+    → Stopped limit answers old all w w'' a a'' t
+going_fail {answers = answers} {m = m} {t = t} limit g short short_lines item n s u others all is =
+    going_stop limit g short short_lines (item ∷ []) others all n.reply n.lines (omega arith)
+    (Runs-one answers m t item n.reply n.lines n.step) n.replied s n.audited u is
 
--- the audit writer fails, after the reply writer
-pub going_fail_audit : {S : Type 0} {answers : S → Item → List ℕ → List ℕ → S → Type 0} {old m : S} {items : List Item}
-    {w w' a a' : Option (List ℕ)} {held held_lines : List ℕ} → Going answers old items w w' a a' held held_lines m
-    → (w'' : Option (List ℕ)) (rest : List ℕ) → Spilled w' w'' held rest → (a'' : Option (List ℕ)) (n : ℕ)
-    → Appends a' a'' (take n held_lines) → (all others : List Item) → all ≡ items ++ others
-    → Stopped answers old all w w'' a a'' m
-going_fail_audit {items = items} g w'' rest s a'' n p all others e = record {
-  answered = items;
-  others = others;
-  all = e;
-  replies = g.replies;
-  lines = g.lines;
-  runs = g.runs;
-  wrote = Partly-pending (Pending-spill g.wrote s);
-  audited = Partly-front a'' n g.audited p;
-}
+-- no item was left when a write failed
+pub going_fail_end : {S : Type 0} {answers : S → Item → List ℕ → List ℕ → S → Type 0} {old m : S} {items : List Item}
+    {w w' w'' a a' a'' : Option (List ℕ)} {held rest held_lines rest_lines : List ℕ} (limit : ℕ)
+    → Going answers old items w w' a a' held held_lines m → length held ≤ limit - 1 → length held_lines ≤ limit - 1
+    → Spilled w' w'' held rest → Spilled a' a'' held_lines rest_lines → (others all : List Item)
+    → all ≡ items ++ others → Stopped limit answers old all w w'' a a'' m
+going_fail_end {held = held} {held_lines = held_lines} limit g short short_lines s u others all is =
+    going_stop limit g short short_lines [] others all [] [] (omega arith) (refl, refl, refl)
+    (sym (append-nil held)) s (sym (append-nil held_lines)) u is
+
+-- memory runs out when the next item is answered, or before
+pub going_lost : {S : Type 0} {answers : S → Item → List ℕ → List ℕ → S → Type 0} {old m : S} {items : List Item}
+    {w w' a a' : Option (List ℕ)} {held held_lines : List ℕ} (limit : ℕ)
+    → Going answers old items w w' a a' held held_lines m → length held ≤ limit - 1 → length held_lines ≤ limit - 1
+    → (item : Item) (t : S) → GaveUp answers m item t → (others all : List Item) → all ≡ items ++ item ∷ others
+    → Stopped limit answers old all w w' a a' t
+going_lost {w' = w'} {a' = a'} {held = held} {held_lines = held_lines} limit g short short_lines item t (inl e) others
+    all is =
+    rw e (going_fail_end limit g short short_lines (Spilled-none w' held) (Spilled-none a' held_lines) (item ∷ others)
+    all is)
+going_lost {answers = answers} {m = m} {w' = w'} {a' = a'} {held = held} {held_lines = held_lines} limit g short
+    short_lines item t (inr n) others all is =
+    going_stop limit g short short_lines (item ∷ []) others all n.0 n.1 (omega arith)
+    (Runs-one answers m t item n.0 n.1 n.2) refl (Spilled-none w' (held ++ n.0)) refl
+    (Spilled-none a' (held_lines ++ n.1)) is
 
 -- all is written
 pub going_end : {S : Type 0} {answers : S → Item → List ℕ → List ℕ → S → Type 0} {old m : S} {items : List Item}
@@ -127,22 +142,9 @@ going_end g w'' a'' p q all e = record {
   audited = Appends-pending a'' g.audited q;
 }
 
--- memory runs out after the next item is answered
-pub going_lost : {S : Type 0} {answers : S → Item → List ℕ → List ℕ → S → Type 0} {old m : S} {items : List Item}
-    {w w' a a' : Option (List ℕ)} {held held_lines : List ℕ} → Going answers old items w w' a a' held held_lines m
-    → (item : Item) (t : S) → GaveUp answers m item t → (all others : List Item) → all ≡ (items ++ item ∷ []) ++ others
-    → Stopped answers old all w w' a a' t
-going_lost {S} {answers} {old} {m} {items} {w} {w'} {a} {a'} {held} {held_lines} g item t (inl e) all others is =
-    rw e (going_stop g all (item ∷ others) (is ∙ append_assoc items (item ∷ []) others))
-going_lost {S} {answers} {old} {m} {items} {w} {w'} {a} {a'} {held} {held_lines} g item t (inr n) all others is =
-    record {
-      answered = items ++ item ∷ [];
-      others = others;
-      all = is;
-      replies = g.replies ++ n.0;
-      lines = g.lines ++ n.1;
-      runs = Runs-append answers old m t items (item ∷ []) g.replies n.0 g.lines n.1 g.runs
-          (Runs-one answers m t item n.0 n.1 n.2);
-      wrote = Partly-more n.0 (Partly-pending g.wrote);
-      audited = Partly-more n.1 (Partly-pending g.audited);
-    }
+-- nothing was answered
+pub stopped_none : {S : Type 0} {answers : S → Item → List ℕ → List ℕ → S → Type 0} {s : S} {w a : Option (List ℕ)}
+    (limit : ℕ) (items : List Item) → Stopped limit answers s items w w a a s
+stopped_none {answers = answers} {s = s} {w = w} {a = a} limit items =
+    going_fail_end limit (going_start answers s w a [] [] refl refl) (omega arith) (omega arith) (Spilled-none w [])
+    (Spilled-none a []) items items refl

@@ -1,6 +1,6 @@
 //! Answers the items of one piece.
 
-ghost use Rattle.std.specs.Prelude.{◌≡◌, ◌<◌, ◌+◌, ℕ, [], OnOk, OnErr, take, ◌⊎◌};
+ghost use Rattle.std.specs.Prelude.{◌≡◌, ◌<◌, ◌≤◌, ◌+◌, ◌-◌, ℕ, [], length, OnOk, OnErr, take, ◌⊎◌};
 ghost use Rattle.std.specs.Io.KnownBytes.{Appends};
 ghost use Rattle.sm_engine.specs.Counts.{failures_of, inner_of, greatest};
 ghost use Rattle.sm_engine.specs.Running.{Wrote, Stopped, Spilled};
@@ -28,7 +28,7 @@ pub fn answer_items<M: Machine, W: Write, A: Write>(
         (A.contents (inner_of audit.old)) (A.contents (inner_of audit.new)) machine.new) }
     ensures writer_count { OnOk result (failures_of writer.new ≡ failures_of writer.old) }
     ensures audit_count { OnOk result (failures_of audit.new ≡ failures_of audit.old) }
-    ensures err { OnErr result (Stopped M.answers machine.old items.items
+    ensures err { OnErr result (Stopped M.hold_limit M.answers machine.old items.items
         (W.contents (inner_of writer.old)) (W.contents (inner_of writer.new))
         (A.contents (inner_of audit.old)) (A.contents (inner_of audit.new)) machine.new) }
     ensures fault { OnErr result ((result ≡ Err Fault.WriteFault) ⊎ (result ≡ Err Fault.Memory)) }
@@ -64,6 +64,7 @@ fn tell_written<M: Machine>(machine: &mut M, held: &[u8])
 fn spill<W: Write>(writer: &mut Counted<W>, limit: usize, held: &mut Vec<u8>) -> Result<(), Fault>
     requires { failures_of writer.old < greatest }
     ensures ok { OnOk result (Spilled (W.contents (inner_of writer.old)) (W.contents (inner_of writer.new)) held.old.items held.new.items) }
+    ensures short { OnOk result (length held.new.items ≤ limit - 1) }
     ensures count { OnOk result (failures_of writer.new ≡ failures_of writer.old) }
     ensures front { OnErr result ((n : ℕ) × Appends (W.contents (inner_of writer.old)) (W.contents (inner_of writer.new)) (take n held.old.items)) }
     ensures fault { OnErr result (result ≡ Err Fault.WriteFault) }

@@ -15,6 +15,9 @@ pub trait Machine {
     // Nothing more is to be read for this state.
     ghost over: { Self → Bool };
 
+    // Texts of fewer bytes may be held back until the items of one read are answered; with 0 none is.
+    ghost hold_limit: { ℕ };
+
     /// Answers an item: its reply lines and its audit lines go to the ends of the two texts.
     ///
     /// # Errors
@@ -34,9 +37,10 @@ pub trait Machine {
     fn is_over(&self) -> bool
         ensures { result ≡ over self.now };
 
-    /// Below so many bytes, the texts of the answers so far may wait for those to the items that are read already. With 0
-    /// none waits.
-    fn hold_limit(&self) -> usize;
+    /// The number of bytes from which on the texts of the answers so far are written. Fewer are held back until the items
+    /// of one read are answered; with 0 none is.
+    fn hold_limit(&self) -> usize
+        ensures { result ≡ hold_limit };
 
     /// Tells that the replies to all items so far are written.
     fn written(&mut self)

@@ -1,9 +1,9 @@
 //! Reads lines, answers them, and writes the answers, until the input or the machine is at its end.
 
-ghost use Rattle.std.specs.Prelude.{◌≡◌, false, MatchBool, ◌<◌, ◌≤◌, ◌+◌, IfOk, OnOk, OnErr, take, length, ℕ, codes, [], ◌⊎◌, if◌then◌else◌};
+ghost use Rattle.std.specs.Prelude.{◌≡◌, false, MatchBool, ◌<◌, ◌≤◌, ◌+◌, ◌-◌, IfOk, OnOk, OnErr, take, length, min, ℕ, codes, [], ◌⊎◌, if◌then◌else◌};
 ghost use Rattle.std.specs.Io.KnownBytes.{Appends, Consumes, Keeps, IsAtEnd};
 ghost use Rattle.sm_wire.specs.Items.{IsAlive, scan_after, items_after};
-ghost use Rattle.sm_engine.specs.Counts.{failures_of, calls_of, inner_of, greatest};
+ghost use Rattle.sm_engine.specs.Counts.{failures_of, calls_of, inner_of, greatest, one_more};
 ghost use Rattle.sm_engine.specs.Running.{Wrote, Stopped, Served, ending_of};
 
 use crate::answering::answer_items;
@@ -32,12 +32,13 @@ pub fn run<M: Machine, R: Read, W: Write, A: Write>(
     requires reader { failures_of reader.old < greatest }
     requires writer { failures_of writer.old < greatest }
     requires audit { failures_of audit.old < greatest }
-    ensures served { Served kind M.answers M.over result bound machine.old
+    ensures served { Served kind M.answers M.over M.hold_limit result bound (calls_of reader.new - calls_of reader.old) machine.old
         (R.remaining (inner_of reader.old)) (R.remaining (inner_of reader.new))
         (W.contents (inner_of writer.old)) (W.contents (inner_of writer.new))
         (A.contents (inner_of audit.old)) (A.contents (inner_of audit.new)) machine.new }
     ensures end { OnOk result (MatchBool (M.over machine.new) (Unit {0}) (IsAtEnd (R.remaining (inner_of reader.new)))) }
     ensures reads { calls_of reader.new ≤ calls_of reader.old + bound }
+    ensures too_many { result ≡ Err Fault.TooManyReads → calls_of reader.new ≡ min (calls_of reader.old + bound) greatest }
     ensures read_fault { result ≡ Err Fault.ReadFault → failures_of reader.old < failures_of reader.new }
     ensures write_fault { result ≡ Err Fault.WriteFault → failures_of writer.old + failures_of audit.old
         < failures_of writer.new + failures_of audit.new }
@@ -70,7 +71,7 @@ fn read_piece<R: Read>(reader: &mut Counted<R>, buffer: &mut [u8]) -> Result<usi
     ensures bytes { IfOk result (λ n. Consumes (R.remaining (inner_of reader.old)) (R.remaining (inner_of reader.new)) (take n buffer.new)) }
     ensures end { IfOk result (λ n. n ≡ 0 → IsAtEnd (R.remaining (inner_of reader.new))) }
     ensures count { OnOk result (failures_of reader.new ≡ failures_of reader.old) }
-    ensures calls { calls_of reader.new ≤ calls_of reader.old + 1 }
+    ensures calls { calls_of reader.new ≡ one_more (calls_of reader.old) }
     ensures fault { OnErr result (result ≡ Err Fault.ReadFault) }
     ensures keeps { OnErr result (Keeps (R.remaining (inner_of reader.old)) (R.remaining (inner_of reader.new))) }
     ensures failed { OnErr result (failures_of reader.old < failures_of reader.new) }
@@ -98,7 +99,7 @@ fn take_piece<M: Machine, W: Write, A: Write>(
     ensures lines { OnOk result (lines.new ≡ scan_after lines.old piece.now) }
     ensures writer_count { OnOk result (failures_of writer.new ≡ failures_of writer.old) }
     ensures audit_count { OnOk result (failures_of audit.new ≡ failures_of audit.old) }
-    ensures err { OnErr result (Stopped M.answers machine.old (items_after lines.old piece.now)
+    ensures err { OnErr result (Stopped M.hold_limit M.answers machine.old (items_after lines.old piece.now)
         (W.contents (inner_of writer.old)) (W.contents (inner_of writer.new))
         (A.contents (inner_of audit.old)) (A.contents (inner_of audit.new)) machine.new) }
     ensures fault { OnErr result ((result ≡ Err Fault.WriteFault) ⊎ (result ≡ Err Fault.Memory)) }

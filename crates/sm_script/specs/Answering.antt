@@ -125,6 +125,10 @@ AnswersRequest old request line lines new =
     ⊎ ((request ≡ Denials) × (line ≡ denials_text old.ring) × (lines ≡ []) × (new ≡ old))
     ⊎ (IsUnasked request × (line ≡ codes "malformed\n") × (lines ≡ []) × (new ≡ old))
 
+-- replies, and audit lines, of fewer bytes may wait until the items that came with theirs are answered
+abbrev pub held_limit : ℕ
+held_limit = 65536
+
 -- the reply lines of an item, its audit lines, and the state that it leaves
 abbrev pub AnswersItem : Recorded → Item → List ℕ → List ℕ → Recorded → Type 0
 AnswersItem old (items.Asked request) line lines new = AnswersRequest old request line lines new

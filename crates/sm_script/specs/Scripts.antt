@@ -16,7 +16,7 @@ use Rattle.sm_engine.specs.Running.{Served, never}
 use Rattle.sm_wire.specs.declared.kind.Kind.TheVariants.{Script}
 use Rattle.sm_script.specs.declared.script_fault.ScriptFault.{ScriptFault}
 use Rattle.sm_script.specs.declared.script_fault.ScriptFault.TheVariants.{Policy as PolicyRefused, Opening, Engine}
-use Rattle.sm_script.specs.Answering.{AnswersItem, Recorded}
+use Rattle.sm_script.specs.Answering.{AnswersItem, Recorded, held_limit}
 
 -- a manager that was just opened
 abbrev pub opened_manager : ℕ → Policy → Book
@@ -49,23 +49,23 @@ NotRun rules contexts (Opening refusal) = OpeningFails rules contexts refusal
 NotRun rules contexts (Engine fault) = ⊥
 
 -- what the engine read and wrote, from a manager that was just opened to the last one
-pub record Ran (rules contexts : List ℕ) (places bound : ℕ) (result : Result (Unit {0}) Fault)
+pub record Ran (rules contexts : List ℕ) (places bound reads : ℕ) (result : Result (Unit {0}) Fault)
     (r r_new w w_new a a_new : Option (List ℕ)) : Type 0 where
   pub first : Recorded
   pub opened_first : Opens rules contexts places first
   pub last : Recorded
-  pub served : Served Script AnswersItem never result bound first r r_new w w_new a a_new last
+  pub served : Served Script AnswersItem never held_limit result bound reads first r r_new w w_new a a_new last
 
 -- how a script ended
-abbrev pub RunsScript : Result (Unit {0}) ScriptFault → List ℕ → List ℕ → ℕ → ℕ → Option (List ℕ) → Option (List ℕ)
+abbrev pub RunsScript : Result (Unit {0}) ScriptFault → List ℕ → List ℕ → ℕ → ℕ → ℕ → Option (List ℕ) → Option (List ℕ)
     → Option (List ℕ) → Option (List ℕ) → Option (List ℕ) → Option (List ℕ) → Type 0
-RunsScript (Ok x) rules contexts places bound r r_new w w_new a a_new =
-    Ran rules contexts places bound (Ok x) r r_new w w_new a a_new
-RunsScript (Err (Engine fault)) rules contexts places bound r r_new w w_new a a_new =
-    Ran rules contexts places bound (Err fault) r r_new w w_new a a_new
-RunsScript (Err (PolicyRefused fault)) rules contexts places bound r r_new w w_new a a_new =
+RunsScript (Ok x) rules contexts places bound reads r r_new w w_new a a_new =
+    Ran rules contexts places bound reads (Ok x) r r_new w w_new a a_new
+RunsScript (Err (Engine fault)) rules contexts places bound reads r r_new w w_new a a_new =
+    Ran rules contexts places bound reads (Err fault) r r_new w w_new a a_new
+RunsScript (Err (PolicyRefused fault)) rules contexts places bound reads r r_new w w_new a a_new =
     NotRun rules contexts (PolicyRefused fault)
-RunsScript (Err (Opening refusal)) rules contexts places bound r r_new w w_new a a_new =
+RunsScript (Err (Opening refusal)) rules contexts places bound reads r r_new w w_new a a_new =
     NotRun rules contexts (Opening refusal)
 
 -- a fact, if nothing was run

@@ -3,7 +3,7 @@
 ghost use Rattle.std.specs.Prelude.{◌≡◌, OnOk, OnErr, Ok};
 ghost use Rattle.sm_wire.specs.declared.item.Item.TheVariants.{Asked, Policy};
 ghost use Rattle.sm_policy.specs.Preparing.{prepared};
-ghost use Rattle.sm_script.specs.Answering.{AnswersItem, recorded};
+ghost use Rattle.sm_script.specs.Answering.{AnswersItem, held_limit, recorded};
 ghost use Rattle.sm_engine.specs.Running.{Answered, GaveUp, never};
 
 use crate::judging::{
@@ -17,7 +17,7 @@ use sm_wire::{Item, PolicyTexts, Request, push_policy_refused};
 use std::alloc::{AllocError, Global};
 use std::marker::Model;
 
-/// So many bytes wait at most before they are written, one answer apart.
+/// From this number of bytes on, replies and audit lines are written.
 const HELD_LIMIT: usize = 65536;
 
 /// A service manager that answers the items of a script.
@@ -39,6 +39,8 @@ impl Machine for Script {
     ghost answers = { AnswersItem };
 
     ghost over = { never };
+
+    ghost hold_limit = { held_limit };
 
     fn answer(
         &mut self,

@@ -1,6 +1,6 @@
 //! Scripts, from their policy texts to the end of their input.
 
-ghost use Rattle.std.specs.Prelude.{◌≡◌, ◌<◌, ◌≤◌, ◌+◌, [], OnOk, IfOk, MatchResult};
+ghost use Rattle.std.specs.Prelude.{◌≡◌, ◌<◌, ◌≤◌, ◌+◌, ◌-◌, min, [], OnOk, IfOk, MatchResult};
 ghost use Rattle.std.specs.Io.KnownBytes.{IsAtEnd};
 ghost use Rattle.sm_history.specs.Lawful.{MayOpen};
 ghost use Rattle.sm_engine.specs.Counts.{failures_of, calls_of, inner_of, greatest};
@@ -35,7 +35,7 @@ pub fn run_script<R: Read, W: Write, A: Write>(
     requires writer { failures_of writer.old < greatest }
     requires audit { failures_of audit.old < greatest }
     // What is written are the answers to the items of what is read, each judged on what those before it left.
-    ensures ran { RunsScript result rules.now contexts.now places bound
+    ensures ran { RunsScript result rules.now contexts.now places bound (calls_of reader.new - calls_of reader.old)
         (R.remaining (inner_of reader.old)) (R.remaining (inner_of reader.new))
         (W.contents (inner_of writer.old)) (W.contents (inner_of writer.new))
         (A.contents (inner_of audit.old)) (A.contents (inner_of audit.new)) }
@@ -44,9 +44,14 @@ pub fn run_script<R: Read, W: Write, A: Write>(
     ensures unaudited { IfNotRun result (audit.new ≡ audit.old) }
     ensures end { OnOk result (IsAtEnd (R.remaining (inner_of reader.new))) }
     ensures reads { calls_of reader.new ≤ calls_of reader.old + bound }
+    ensures too_many { result ≡ Err (ScriptFault.Engine Fault.TooManyReads)
+        → calls_of reader.new ≡ min (calls_of reader.old + bound) greatest }
     ensures read_fault { result ≡ Err (ScriptFault.Engine Fault.ReadFault) → failures_of reader.old < failures_of reader.new }
     ensures write_fault { result ≡ Err (ScriptFault.Engine Fault.WriteFault)
         → failures_of writer.old + failures_of audit.old < failures_of writer.new + failures_of audit.new }
+    ensures read_told { failures_of reader.old < failures_of reader.new → result ≡ Err (ScriptFault.Engine Fault.ReadFault) }
+    ensures write_told { failures_of writer.old + failures_of audit.old < failures_of writer.new + failures_of audit.new
+        → result ≡ Err (ScriptFault.Engine Fault.WriteFault) }
 {
     let mut script = opened_script(alloc, rules, contexts, places)?;
     match run(

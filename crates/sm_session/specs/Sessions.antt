@@ -133,6 +133,10 @@ AnswersItem answers old item text audit new = SitsThrough answers old item text 
 abbrev pub is_over : {D : Type 0} → Sitting D → Bool
 is_over s = s.over
 
+-- replies of fewer bytes may wait until the lines that came with theirs are answered
+abbrev pub held_limit : ℕ
+held_limit = 8192
+
 -- a session before its first line
 abbrev pub begins : {D : Type 0} → Kind → D → Sitting D
 begins kind desk = record { kind = kind; desk = desk; connected = false; over = false }
@@ -141,14 +145,15 @@ begins kind desk = record { kind = kind; desk = desk; connected = false; over = 
 abbrev pub Leaves : {D : Type 0} → (D → D → Type 0) → Sitting D → D → Type 0
 Leaves leaves last desk = MatchBool last.connected (leaves last.desk desk) (desk ≡ last.desk)
 
--- a whole session: what it asked for the bytes that it read, what it wrote for them, and how it left the desk
+-- a whole session: what it asked for the bytes that it read by so many reads, what it wrote for them, and how it left
+-- the desk
 pub record Attends {D : Type 0} (kind : Kind) (answers : D → Item → Response → D → Type 0) (leaves : D → D → Type 0)
-    (result : Result (Unit {0}) Fault) (bound : ℕ) (old : D) (r r_new w w_new : Option (List ℕ)) (new : D)
+    (result : Result (Unit {0}) Fault) (bound reads : ℕ) (old : D) (r r_new w w_new : Option (List ℕ)) (new : D)
     : Type 0 where
   pub last : Sitting D
   pub unaudited : Option (List ℕ)
-  pub served : Served kind (AnswersItem answers) is_over result bound (begins kind old) r r_new w w_new (Some [])
-      unaudited last
+  pub served : Served kind (AnswersItem answers) is_over held_limit result bound reads (begins kind old) r r_new w
+      w_new (Some []) unaudited last
   -- an input that is answered whole is at its end, unless a `bye` was answered before
   pub end : OnOk result (MatchBool last.over (Unit {0}) (IsAtEnd r_new))
   pub left : Leaves leaves last new

@@ -1,7 +1,7 @@
 //! A sitting that tells a gate of each line that it asks.
 
 ghost use Rattle.std.specs.Prelude.{◌≡◌};
-ghost use Rattle.sm_session.specs.Sessions.{AnswersItem, Leaves, is_over, begins};
+ghost use Rattle.sm_session.specs.Sessions.{AnswersItem, Leaves, begins, held_limit, is_over};
 
 use crate::desk::Desk;
 use crate::sitting::Sitting;
@@ -11,7 +11,7 @@ use sm_wire::{Item, Kind};
 use std::alloc::{AllocError, Global};
 use std::marker::Model;
 
-/// So many bytes of replies are written at once.
+/// From this number of bytes on, replies are written.
 const HELD_LIMIT: usize = 8192;
 
 /// A sitting that tells a gate of each line that it asks.
@@ -84,6 +84,8 @@ impl<'a, D: Desk, G: Gate> Machine for Gated<'a, D, G> {
     ghost answers = { AnswersItem D.answers };
 
     ghost over = { is_over };
+
+    ghost hold_limit = { held_limit };
 
     fn answer(
         &mut self,

@@ -1,17 +1,22 @@
-use Rattle.std.proofs.Common.{◌≡◌, List, length, ◌++◌, ◌∷◌, [], sym, ◌∙◌, append_assoc}
-use Rattle.std.proofs.Common.{refl, arith}
+use Rattle.std.proofs.Common.{◌≡◌, List, length, ◌++◌, ◌∷◌, [], sym, ◌∙◌}
+use Rattle.std.proofs.Common.{refl, arith, append_assoc}
 use Rattle.std.proofs.lemmas.List.{append-nil}
 use Rattle.std.proofs.lemmas.Result.{on_ok_weaker, on_err_weaker}
 use Rattle.std.specs.Vec.Iter.{into_iter_items}
 use Rattle.sm_engine.proofs.Results.{on_err}
-use Rattle.sm_engine.proofs.KnownLemmas.{Spilled-all}
-use Rattle.sm_engine.proofs.RunLemmas.{going_answer, going_lost, going_spill, going_fail, going_fail_audit, going_end}
+use Rattle.sm_engine.proofs.KnownLemmas.{Spilled-all, Spilled-front, Spilled-none}
+use Rattle.sm_engine.proofs.RunLemmas.{going_answer, going_lost, going_spill, going_fail, going_fail_end, going_end}
 use Rattle.sm_engine.proofs.answering.answer_items.Goals as goal
+
+-- the items so far, the next one, and those that are left
+next : {X : Type 0} (before after done all : List X) (x : X) → done ++ before ≡ all → before ≡ x ∷ after
+    → all ≡ done ++ x ∷ after
+next before after done all x e s = sym e ∙ rw s refl
 
 -- the items so far, with the next one, and those that are left
 joined : {X : Type 0} (before after done all : List X) (x : X) → done ++ before ≡ all → before ≡ x ∷ after
     → all ≡ (done ++ x ∷ []) ++ after
-joined before after done all x e s = rw append_assoc (sym e ∙ rw s refl)
+joined before after done all x e s = rw append_assoc (next before after done all x e s)
 
 -- none is left
 none : {X : Type 0} (before done all : List X) → done ++ before ≡ all → length before ≡ 0 → done ≡ all
@@ -20,15 +25,17 @@ none (x ∷ xs) done all e n = absurd (omega arith)
 
 pub returns-in_err-answer-clause-err : goal.returns-in_err-answer-clause-err
 returns-in_err-answer-clause-err g c =
-    on_err c.from_residual.result (going_lost c.loop-item.invariant.going c.in-Some.item _ c.in_err-answer.ensures.err _
-    _ (joined _ _ _ _ _ c.loop-item.invariant.left c.in-Some.ensures.steps.0))
+    let i = c.loop-item.invariant in
+    on_err c.from_residual.result (going_lost _ i.going i.short i.short_lines c.in-Some.item _
+    c.in_err-answer.ensures.err _ _ (next _ _ _ _ _ i.left c.in-Some.ensures.steps.0))
 
 pub returns-in_err-spill-clause-err : goal.returns-in_err-spill-clause-err
 returns-in_err-spill-clause-err g c =
+    let i = c.loop-item.invariant in
     let f = c.in_err-spill.ensures.front in
-    let going = going_answer c.loop-item.invariant.going c.in_ok-answer.ensures.ok in
-    on_err c.from_residual-in_err-spill.result (going_fail going _ f.0 f.1 _ _
-    (joined _ _ _ _ _ c.loop-item.invariant.left c.in-Some.ensures.steps.0))
+    on_err c.from_residual-in_err-spill.result (going_fail _ i.going i.short i.short_lines c.in-Some.item
+    c.in_ok-answer.ensures.ok (Spilled-front _ _ _ f.0 f.1) (Spilled-none _ _) _ _
+    (next _ _ _ _ _ i.left c.in-Some.ensures.steps.0))
 
 pub loop-item-preserved : goal.loop-item-preserved
 loop-item-preserved g c = record {
@@ -37,22 +44,26 @@ loop-item-preserved g c = record {
   left = sym (joined _ _ _ _ _ c.loop-item.invariant.left c.in-Some.ensures.steps.0);
   going = rw c.tell_written.ensures (going_spill (going_answer c.loop-item.invariant.going c.in_ok-answer.ensures.ok)
       c.in_ok-spill.ensures.ok c.in_ok-spill-2.ensures.ok);
+  short = omega (arith, c.in_ok-spill.ensures.short, c.hold_limit-limit.ensures);
+  short_lines = omega (arith, c.in_ok-spill-2.ensures.short, c.hold_limit-limit.ensures);
   writer_count = c.in_ok-spill.ensures.count ∙ c.loop-item.invariant.writer_count;
   audit_count = c.in_ok-spill-2.ensures.count ∙ c.loop-item.invariant.audit_count;
 }
 
 pub returns-in_err-spill-2-clause-err : goal.returns-in_err-spill-2-clause-err
 returns-in_err-spill-2-clause-err g c =
+    let i = c.loop-item.invariant in
     let f = c.in_err-spill-2.ensures.front in
-    let going = going_answer c.loop-item.invariant.going c.in_ok-answer.ensures.ok in
-    on_err c.from_residual-in_err-spill-2.result (going_fail_audit going _ _ c.in_ok-spill.ensures.ok _ f.0 f.1 _ _
-    (joined _ _ _ _ _ c.loop-item.invariant.left c.in-Some.ensures.steps.0))
+    on_err c.from_residual-in_err-spill-2.result (going_fail _ i.going i.short i.short_lines c.in-Some.item
+    c.in_ok-answer.ensures.ok c.in_ok-spill.ensures.ok (Spilled-front _ _ _ f.0 f.1) _ _
+    (next _ _ _ _ _ i.left c.in-Some.ensures.steps.0))
 
 pub returns-in_err-write_held-clause-err : goal.returns-in_err-write_held-clause-err
 returns-in_err-write_held-clause-err g c =
+    let i = c.loop-item.invariant in
     let f = c.in_err-write_held.ensures.front in
-    on_err c.from_residual-in_err-write_held.result (going_fail c.loop-item.invariant.going _ f.0 f.1 _ _
-    (sym c.loop-item.invariant.left))
+    on_err c.from_residual-in_err-write_held.result (going_fail_end _ i.going i.short i.short_lines
+    (Spilled-front _ _ _ f.0 f.1) (Spilled-none _ _) _ _ (sym i.left))
 
 pub returns-clause-ok : goal.returns-clause-ok
 returns-clause-ok g c =
@@ -63,6 +74,7 @@ returns-clause-ok g c =
 
 pub returns-clause-err : goal.returns-clause-err
 returns-clause-err g c =
-    rw c.written.ensures (on_err_weaker c.write_held-2.result (λ f. going_fail_audit c.loop-item.invariant.going _ _
-    (Spilled-all _ _ _ _ c.in_ok-write_held.ensures.held c.in_ok-write_held.ensures.ok) _ f.0 f.1 _ _
-    (sym c.loop-item.invariant.left)) c.write_held-2.ensures.front)
+    let i = c.loop-item.invariant in
+    rw c.written.ensures (on_err_weaker c.write_held-2.result (λ f. going_fail_end _ i.going i.short i.short_lines
+    (Spilled-all _ _ _ _ c.in_ok-write_held.ensures.held c.in_ok-write_held.ensures.ok) (Spilled-front _ _ _ f.0 f.1)
+    _ _ (sym i.left)) c.write_held-2.ensures.front)
