@@ -57,11 +57,6 @@ others_few k (Some n ∷ os) =
     elim (n.owner.0 == k) as (λ b. length (if b then others k os else n ∷ others k os) ≤ length (Some n ∷ os))
     [ true ↦ omega (arith, i) | false ↦ omega (arith, i) ]
 
-gives_few : (k : ℕ) (ns : List Node) (rs : List ℕ) (x : Effect) → length (gives_of k ns rs ++ x ∷ []) ≤ length ns + 1
-gives_few k [] rs x = omega arith
-gives_few k (n ∷ ns) [] x = omega arith
-gives_few k (n ∷ ns) (r ∷ rs) x = let i = gives_few k ns rs x in omega (arith, i)
-
 -- ---- what stands then
 
 followed_gives : (d : Effects) (k : ℕ) (ns : List Node) (x : Effect)
@@ -147,10 +142,10 @@ sent_is d c handle n payload refs named at s live are =
 
 pub call_plan : (m : Moment) (d : Effects) (c handle : ℕ) (n : Node) (payload : List ℕ) (refs : List ObjRef)
     (named : List (Option Node)) (plan : Plan) → node_at d c handle ≡ Some n → Sound d → is_live d n.owner.0 ≡ true
-    → AreNamed d c refs named → length refs ≤ 16 → has_inbox_room d n.owner.0 ≡ true
+    → AreNamed d c refs named → has_inbox_room d n.owner.0 ≡ true
     → fits_handles (after_grants d n.owner.0 (others n.owner.0 named)) n.owner.0 ≡ true
     → Sends d c n payload named plan → IsPlan m d c (Call handle payload refs) plan
-call_plan m d c handle n payload refs named plan at s live are few room fits sends =
+call_plan m d c handle n payload refs named plan at s live are room fits sends =
     let k = n.owner.0 in
     let ns = others k named in
     let x = sent d c n payload named in
@@ -167,12 +162,6 @@ call_plan m d c handle n payload refs named plan at s live are few room fits sen
           (may_gives d k ns (Delivers k x) s live (others_foreign k named) fits
           (live_granted d k ns k ∙ live, inbox_granted d k ns k ∙ room));
       last = subst DeathIsLast (sym sends.effects) (last_delivers k ns (numbers_for d k ns) k x);
-      few =
-          let a = ap (length {A = Effect}) sends.effects in
-          let b = gives_few k ns (numbers_for d k ns) (Delivers k x) in
-          let o = others_few k named in
-          let many = named_many d c refs named are in
-          omega (arith, a, b, o, many, few);
       sound = tt;
     }
 
@@ -181,16 +170,16 @@ pub call_judged : (h : History) (old one new : List Record) (c handle : ℕ) (n 
     (refs : List ObjRef) (named : List (Option Node)) (result : Result Plan Stop)
     → let d = effects_of h in let m = moment_of h in AllPass m old one (target_checks d c (node_at d c handle))
     → node_at d c handle ≡ Some n → Sound d → is_live d n.owner.0 ≡ true → AreNamed d c refs named
-    → AllPass m one new (all_pass_to_client d c n.owner.0 refs) → length refs ≤ 16
+    → AllPass m one new (all_pass_to_client d c n.owner.0 refs)
     → (has_inbox_room d n.owner.0 && fits_handles (after_grants d n.owner.0 (others n.owner.0 named)) n.owner.0) ≡ true
     → MatchResult result (Sends d c n payload named) (λ s. s ≡ wanted)
     → Judged h old new c (Call handle payload refs) result
-call_judged h old one new c handle n payload refs named (Err s) target at sound live are pass few room made = inl made
-call_judged h old one new c handle n payload refs named (Ok plan) target at sound live are pass few room made =
+call_judged h old one new c handle n payload refs named (Err s) target at sound live are pass room made = inl made
+call_judged h old one new c handle n payload refs named (Ok plan) target at sound live are pass room made =
     let d = effects_of h in
     let m = moment_of h in
     let k = n.owner.0 in
     let both = and_parts (has_inbox_room d k) (fits_handles (after_grants d k (others k named)) k) room in (
       call_passes m old one new d c handle n refs named target at sound live are pass room,
-      call_plan m d c handle n payload refs named plan at sound live are few both.0 both.1 made,
+      call_plan m d c handle n payload refs named plan at sound live are both.0 both.1 made,
     )

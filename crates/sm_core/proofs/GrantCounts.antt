@@ -403,12 +403,13 @@ given_few k m (x ∷ xs) =
     elim (is_grant_of k m x) as (λ b. (if b then given_in k m xs + 1 else given_in k m xs) ≤ length (x ∷ xs))
     [ true ↦ omega (arith, rest) | false ↦ omega (arith, rest) ]
 
--- The quick test: the count and the number of effects are small.
-pub quick_fits : (k : ℕ) (m : Node) (xs : List Effect) (count refs : ℕ) → count ≡ refs
-    → count < GREATEST - length xs → nat_lt (refs + given_in k m xs) GREATEST ≡ true
-quick_fits k m xs count refs is lt =
+-- The quick test: a bound of all counts is small.
+pub bound_fits : (d : Effects) (xs : List Effect) (bound : ℕ) → ((k : ℕ) (m : Node) → refs_at d k m ≤ bound)
+    → bound < GREATEST - length xs → list_all (fits_among d xs) xs ≡ true
+bound_fits d xs bound each lt = fit_all d xs xs (λ k m.
     let few = given_few k m xs in
-    is_below (refs + given_in k m xs) GREATEST (omega (arith, is, lt, few))
+    let le = each k m in
+    omega (arith, lt, few, le))
 
 -- The exact one.
 pub exact_fits : (k : ℕ) (m : Node) (xs : List Effect) (count refs times : ℕ) → count ≡ refs → count ≤ GREATEST

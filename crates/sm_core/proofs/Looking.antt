@@ -1,6 +1,6 @@
 -- What a query is answered, and the records that it leaves.
 use Rattle.std.proofs.Common.{◌≡◌, ◌⊎◌, inl, inr, ℕ, Bool, false, ◌↔◌, List}
-use Rattle.std.proofs.Common.{[], Some, None, sym, ap, ◌∙◌}
+use Rattle.std.proofs.Common.{[], Some, None, true, refl, sym, ap, ◌∙◌}
 use Rattle.std.specs.Prelude.{IsTrue}
 use Rattle.std.proofs.lemmas.Bool.{true≢false}
 use Rattle.sm_history.specs.declared.by.By.{By}
@@ -8,30 +8,62 @@ use Rattle.sm_history.specs.declared.event.Event.{Event}
 use Rattle.sm_history.specs.Verdict.{checks}
 use Rattle.sm_history.specs.declared.query.Query.{Query}
 use Rattle.sm_history.specs.declared.records.Record.{Record}
-use Rattle.sm_history.specs.declared.refusal.Refusal.TheVariants.{Memory}
+use Rattle.sm_history.specs.declared.refusal.Failure.{Failure}
+use Rattle.sm_history.specs.declared.refusal.Failure.TheVariants.{NotYours, NotConnected}
+use Rattle.sm_history.specs.declared.refusal.Refusal.TheVariants.{Failed, Memory}
 use Rattle.sm_history.specs.declared.reply.Reply.{Reply}
 use Rattle.sm_history.specs.declared.reply.Reply.TheVariants.{Looked, Refused}
 use Rattle.sm_history.specs.declared.reply.Answer.{Answer}
+use Rattle.sm_history.specs.declared.stop.Instead.{Instead}
+use Rattle.sm_history.specs.declared.stop.Instead.TheVariants.{Refused as Refuses}
 use Rattle.sm_history.specs.declared.stop.Stop.{Stop}
+use Rattle.sm_history.specs.declared.stop.Stop.TheVariants.{Unmet}
 use Rattle.sm_history.specs.Books.{Book}
 use Rattle.sm_history.specs.Checks.{answer_of}
 use Rattle.sm_history.specs.Histories.{History}
-use Rattle.sm_history.specs.Queries.{checks_of_query, looked}
+use Rattle.sm_history.specs.Queries.{checks_of_query, looked, query_verdict}
 use Rattle.sm_history.specs.Records.{moment_of, records, query_records}
-use Rattle.sm_core.specs.Judging.{Halts, AllPass, wanted}
+use Rattle.sm_view.specs.Replies.{takes_memory}
+use Rattle.sm_core.specs.Judging.{Halts, AllPass, asked, IsAskerStop, wanted}
 use Rattle.sm_core.specs.Managed.{LooksAs, is_memory, look_leaves}
 use Rattle.sm_core.proofs.Stopping.{failing_is, left_is}
 use Rattle.sm_core.proofs.Keeping.{stop_records}
 
+-- The verdict where a check stopped.
+stopped_reply : (b : Book) (by : By) (q : Query) (new : List Record) (s : Stop) (reply : Reply)
+    → asked (moment_of b.history) [] (checks_of_query b.history by q) ≡ (new, Some s) → reply ≡ answer_of s
+    → reply ≡ query_verdict b.history by q
+stopped_reply b by q new s reply e is = is ∙ sym (ap (looked b.history q)
+    (failing_is (moment_of b.history) [] new (checks_of_query b.history by q) (Some s) e))
+
+-- Where the query takes memory, that may have been what stopped it.
+look_wants : (b : Book) (by : By) (q : Query) (new : List Record) (s : Stop) (reply : Reply)
+    → Halts (moment_of b.history) [] new (checks_of_query b.history by q) s
+    → (reply ≡ Refused Memory) ⊎ (reply ≡ answer_of s) → takes_memory q ≡ true → LooksAs b by q reply
+look_wants b by q new s reply halts (inl w) takes = inl (w, takes)
+look_wants b by q new s reply (inl w) (inr is) takes = inl (is ∙ ap answer_of w, takes)
+look_wants b by q new s reply (inr e) (inr is) takes = inr (stopped_reply b by q new s reply e is)
+
+-- Else only the asker stops it.
+look_asked : (b : Book) (by : By) (q : Query) (new : List Record) (s : Stop) (reply : Reply) (f : Failure)
+    → Halts (moment_of b.history) [] new (checks_of_query b.history by q) s → s ≡ Unmet (Refuses (Failed f))
+    → reply ≡ answer_of s → LooksAs b by q reply
+look_asked b by q new s reply f (inl w) is answers = cc
+look_asked b by q new s reply f (inr e) is answers = inr (stopped_reply b by q new s reply e answers)
+
 -- What `look` answers where the judgement stopped.
 pub look_stops : (b : Book) (by : By) (q : Query) (new : List Record) (s : Stop) (reply : Reply)
     → Halts (moment_of b.history) [] new (checks_of_query b.history by q) s
-    → (reply ≡ Refused Memory) ⊎ (reply ≡ answer_of s) → LooksAs b by q reply
-look_stops b by q new s reply halts (inl w) = inl w
-look_stops b by q new s reply (inl w) (inr is) = inl (is ∙ ap answer_of w)
-look_stops b by q new s reply (inr e) (inr is) =
-    inr (is ∙ sym (ap (looked b.history q)
-    (failing_is (moment_of b.history) [] new (checks_of_query b.history by q) (Some s) e)))
+    → (reply ≡ Refused Memory) ⊎ (reply ≡ answer_of s) → ((i : Instead) → s ≡ Unmet i → reply ≡ answer_of s)
+    → (takes_memory q ≡ false → IsAskerStop s) → LooksAs b by q reply
+look_stops b by q new s reply halts answers unmet asker =
+    elim (takes_memory q) as (λ t. takes_memory q ≡ t → LooksAs b by q reply) [
+      | true ↦ λ takes. look_wants b by q new s reply halts answers takes
+      | false ↦ λ none. elim (asker none) [
+        | inl is ↦ look_asked b by q new s reply NotYours halts is (unmet (Refuses (Failed NotYours)) is)
+        | inr is ↦ look_asked b by q new s reply NotConnected halts is (unmet (Refuses (Failed NotConnected)) is)
+      ]
+    ] refl
 
 -- The records of a query.
 pub query_left : (h : History) (by : By) (q : Query) (new : List Record) (s : Stop)

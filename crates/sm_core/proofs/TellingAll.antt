@@ -1,5 +1,5 @@
 -- Watchers are told in order.
-use Rattle.std.proofs.Common.{◌≡◌, ℕ, suc, ◌+◌, ◌*◌, ◌≤◌, ◌<◌, Bool, true, List, [], ◌∷◌, ◌++◌}
+use Rattle.std.proofs.Common.{◌≡◌, ℕ, suc, ◌+◌, ◌<◌, Bool, true, List, [], ◌∷◌, ◌++◌}
 use Rattle.std.proofs.Common.{ap, sym, ◌∙◌, length, drop, get_or, append_assoc, arith}
 use Rattle.std.specs.List.{list_all}
 use Rattle.std.proofs.Math.Seq.{drop-cons}
@@ -37,10 +37,6 @@ pub after_further : (e e' : Effects) (n : Node) (rest more : List Watch) (w : Wa
     → rest ≡ w ∷ more → e' ≡ after_notice e n w → after_notices e n rest ≡ all → after_notices e' n more ≡ all
 after_further e e' n rest more w all is on h =
     ap (λ (f : Effects). after_notices f n more) on ∙ ap (after_notices e n) (sym is) ∙ h
-
-pub few_further : (a b most : ℕ) (rest more : List Watch) (w : Watch) → rest ≡ w ∷ more → b ≤ a + 2
-    → a + 2 * length rest ≤ most → b + 2 * length more ≤ most
-few_further a b most rest more w is le h = let n = ap (length {A = Watch}) is in omega (arith, n, le, h)
 
 pub records_further : (m : Moment) (e e' : Effects) (n : Node) (rest more : List Watch) (w : Watch)
     (before after all : List Record) → rest ≡ w ∷ more → after ≡ before ++ left_by_all m (notice_checks e n w)

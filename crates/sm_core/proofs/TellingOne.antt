@@ -1,5 +1,5 @@
 -- One watcher is told, or isn't.
-use Rattle.std.proofs.Common.{◌≡◌, ℕ, ◌+◌, ◌-◌, ◌≤◌, inl, inr, Bool, true, false, ◌&&◌, ◌||◌, ◌==◌}
+use Rattle.std.proofs.Common.{◌≡◌, ℕ, ◌+◌, ◌-◌, inl, inr, Bool, true, false, ◌&&◌, ◌||◌, ◌==◌}
 use Rattle.std.proofs.Common.{List, [], ◌∷◌, ◌++◌, refl, ap, sym, ◌∙◌, subst, length, Option}
 use Rattle.std.proofs.Common.{Some, None, if◌then◌else◌, cond, arith, append-nil, length-append}
 use Rattle.std.specs.Prelude.{nat_lt, nat_eq, unwrap_or}
@@ -108,7 +108,6 @@ record IsHanded (d : Effects) (n : Node) (xs : List Effect) (c : ℕ) (g : Given
   may : MayTell d n (xs ++ gives_of c n g)
   after : followed d (xs ++ gives_of c n g) ≡ handed (followed d xs) c n
   inboxes : (k : ℕ) → inbox_at (followed d (xs ++ gives_of c n g)) k ≡ inbox_at (followed d xs) k
-  few : length (gives_of c n g) ≤ 1
 
 is_handed : (d : Effects) (n : Node) (xs : List Effect) (c : ℕ) → MayTell d n xs → is_live d c ≡ true
     → fits_handles (handed d c n) c ≡ true → IsHanded d n xs c (given_to d c n)
@@ -123,7 +122,6 @@ is_handed d n xs c m live fits =
             after = ap (followed d) none
                 ∙ ap (λ (b : Bool). let f : Effects = if b then e else Gives c n (number_for e c n) ∷ e in f) (sym own);
             inboxes = λ k. ap (λ (ys : List Effect). inbox_at (followed d ys) k) none;
-            few = omega arith;
           }
       | false ↦ λ other.
           let r = number_for d c n in
@@ -135,7 +133,6 @@ is_handed d n xs c m live fits =
                 ∙ ap (λ (b : Bool). let f : Effects = if b then e else Gives c n (number_for e c n) ∷ e in f)
                 (sym other);
             inboxes = λ k. ap (λ (f : Effects). inbox_at f k) on;
-            few = omega arith;
           }
     ] refl
 
@@ -267,10 +264,6 @@ tells h n w old new mid left g x t live is asks noted given told items counts =
               ∙ ap (λ (v : Effects). free_at v k) (sym now);
         };
         after = now ∙ after ∙ ap (after_told e n w) (sym missing);
-        few = let a = ap (length {A = Effect}) items in
-            let b = length-append ys (Delivers c x ∷ []) in
-            let i = length-append xs (gives_of c n g) in
-            let j = handing.few in omega (arith, a, b, i, j);
       },
     )
 
@@ -305,6 +298,5 @@ tells_not h n w old new left s r same_effects same_left t live is (inr asks) oth
               ∙ t.left k l ∙ ap (λ (v : _). free_at (followed d v.items) k) (sym same_effects);
         };
         after = ap (λ (v : _). followed d v.items) same_effects ∙ ap (after_told e n w) (sym missing);
-        few = let n = ap (λ (v : _). length v.items) same_effects in omega (arith, n);
       },
     )

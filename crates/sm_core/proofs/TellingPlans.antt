@@ -1,7 +1,7 @@
 -- Plans of what watchers are told.
-use Rattle.std.proofs.Common.{◌≡◌, ℕ, ◌+◌, ◌≤◌, inl, Bool, true, false, ◌||◌, List, [], ◌∷◌, Option}
-use Rattle.std.proofs.Common.{Some, None, refl, ap, sym, ◌∙◌, subst, length, if◌then◌else◌, arith}
-use Rattle.std.specs.Prelude.{filter, nat_lt, bytes_eq, MatchResult, Result, Ok, Err}
+use Rattle.std.proofs.Common.{◌≡◌, ℕ, inl, Bool, true, false, ◌||◌, List, [], ◌∷◌, Option}
+use Rattle.std.proofs.Common.{Some, None, refl, ap, sym, ◌∙◌, subst, length}
+use Rattle.std.specs.Prelude.{nat_lt, MatchResult, Result, Ok, Err}
 use Rattle.std.specs.List.{list_any}
 use Rattle.std.proofs.lemmas.Bool.{true≢false}
 use Rattle.sm_kinds.specs.declared.number.Node.{Node}
@@ -36,19 +36,6 @@ use Rattle.sm_history.specs.Histories.{History, effects_of}
 use Rattle.sm_core.proofs.Planning.{one_plan}
 use Rattle.sm_core.proofs.AsBefore.{before_adds, before_watches}
 
-shorter : {X : Type 0} (p : X → Bool) (xs : List X) → length (filter p xs) ≤ length xs
-shorter p [] = omega arith
-shorter p (x ∷ xs) = let i = shorter p xs in
-    elim (p x) as (λ b. length (if b then x ∷ filter p xs else filter p xs) ≤ length (x ∷ xs))
-    [ true ↦ omega (arith, i) | false ↦ omega (arith, i) ]
-
--- A name has no more watches than there are.
-pub few_watchers : (d : Effects) (name : List ℕ) (ws : List Watch) (n : ℕ) → ws ≡ watchers_at d name
-    → n ≡ length (watches_at d) → n ≤ MOST_WATCHES → length ws ≤ MOST_WATCHES
-few_watchers d name ws n is count few =
-    let i = shorter (λ (w : Watch). bytes_eq w.name name) (watches_at d) in
-    let l = ap (length {A = Watch}) is in omega (arith, i, l, count, few)
-
 last_of_none : (xs : List Effect) → list_any is_death xs ≡ false → DeathIsLast xs
 last_of_none [] h = tt
 last_of_none (x ∷ xs) h =
@@ -57,19 +44,17 @@ last_of_none (x ∷ xs) h =
       | false ↦ λ e f. ((λ t. absurd (true≢false (sym t ∙ e))), last_of_none xs f)
     ] refl h
 
--- What was told behind other effects is a plan.
-told_plan : (m : Moment) (d : Effects) (c : ℕ) (event : Event) (plan : Plan) (xs : List Effect) (most : ℕ)
-    (after : Effects) → plan.records ≡ left_by_telling m d c event → Tells d xs most after plan
-    → length xs + most ≤ 8193 → plan.outcome ≡ outcome_of d c event
+-- What was told is a plan.
+told_plan : (m : Moment) (d : Effects) (c : ℕ) (event : Event) (plan : Plan) (after : Effects)
+    → plan.records ≡ left_by_telling m d c event → Tells d after plan → plan.outcome ≡ outcome_of d c event
     → after ≡ after_event d c event → HasSoundPolicy event → IsPlan m d c event plan
-told_plan m d c event plan xs most after records t le outcome is sound = record {
+told_plan m d c event plan after records t outcome is sound = record {
   records = records;
   outcome = outcome;
   told = t.told;
   effects = t.effects ∙ is;
   may = t.may;
   last = last_of_none plan.effects.items t.none_dies;
-  few = let n = t.few in omega (arith, n, le);
   sound = sound;
 }
 
@@ -103,7 +88,7 @@ pub add_judged : (h : History) (old new : List Record) (c : ℕ) (name copy : Li
     → copy ≡ name → xs ≡ Adds copy (service c n allow dump) ∷ []
     → MatchResult r (λ plan. (plan.outcome ≡ Added (notices_at (followed d xs) n (watchers_at d name)))
     × (plan.records ≡ left_by_notices (moment_of h) (followed d xs) n (watchers_at d name))
-    × Tells d xs 8192 (after_notices (followed d xs) n (watchers_at d name)) plan) (λ s. s ≡ wanted)
+    × Tells d (after_notices (followed d xs) n (watchers_at d name)) plan) (λ s. s ≡ wanted)
     → Judged h old new c (Add name obj allow dump) r
 add_judged h old new c name copy obj allow dump object n xs r pass is some same items made =
     let d = effects_of h in
@@ -111,12 +96,11 @@ add_judged h old new c name copy obj allow dump object n xs r pass is some same 
     let at : n ≡ found (resolve_at d c obj) = ap found (sym some ∙ is) in
     let on : followed d xs ≡ Adds name (service c n allow dump) ∷ d =
     ap (followed d) items ∙ ap (λ (v : List ℕ). let e : Effects = Adds v (service c n allow dump) ∷ d in e) same in
-    let one : length xs ≡ 1 = ap (length {A = Effect}) items in
     judged m old new d c (Add name obj allow dump) r _ (add_checks d c name obj) pass
-    (λ plan p. told_plan m d c (Add name obj allow dump) plan xs 8192 _
+    (λ plan p. told_plan m d c (Add name obj allow dump) plan _
     (p.1 ∙ ap (λ (e : Effects). left_by_notices m e n (watchers_at d name)) on
     ∙ ap (λ (k : Node). left_by_notices m (Adds name (service c k allow dump) ∷ d) k (watchers_at d name)) at)
-    p.2 (omega (arith, one))
+    p.2
     (p.0 ∙ ap (λ (e : Effects). Added (notices_at e n (watchers_at d name))) on
     ∙ ap (λ (k : Node). Added (notices_at (Adds name (service c k allow dump) ∷ d) k (watchers_at d name))) at)
     (ap (λ (e : Effects). after_notices e n (watchers_at d name)) on
@@ -129,20 +113,19 @@ pub watch_judged : (h : History) (old new : List Record) (c : ℕ) (name : List 
     → w ≡ watch c name object → v ≡ watch c name object → xs ≡ Watches v ∷ []
     → MatchResult r (λ plan. (plan.outcome ≡ Watched (Some (notice_at (followed d xs) s.node w)))
     × (plan.records ≡ left_by_notices (moment_of h) (followed d xs) s.node (w ∷ []))
-    × Tells d xs 2 (after_notice (followed d xs) s.node w) plan) (λ s. s ≡ wanted)
+    × Tells d (after_notice (followed d xs) s.node w) plan) (λ s. s ≡ wanted)
     → Judged h old new c (WatchName name object) r
 watch_judged h old new c name object s w v xs r pass is told made items done =
     let d = effects_of h in
     let m = moment_of h in
     let on : followed d xs ≡ Watches (watch c name object) ∷ d =
     ap (followed d) items ∙ ap (λ (u : Watch). let e : Effects = Watches u ∷ d in e) made in
-    let one : length xs ≡ 1 = ap (length {A = Effect}) items in
     judged m old new d c (WatchName name object) r _ (watch_checks d c name) pass
-    (λ plan p. told_plan m d c (WatchName name object) plan xs 2 _
+    (λ plan p. told_plan m d c (WatchName name object) plan _
     (p.1 ∙ ap (λ (e : Effects). left_by_notices m e s.node (w ∷ [])) on
     ∙ ap (λ (u : Watch). left_by_notices m (Watches (watch c name object) ∷ d) s.node (u ∷ [])) told
     ∙ rw (← is) refl)
-    p.2 (omega (arith, one))
+    p.2
     (p.0 ∙ ap (λ (e : Effects). Watched (Some (notice_at e s.node w))) on
     ∙ ap (λ (u : Watch). Watched (Some (notice_at (Watches (watch c name object) ∷ d) s.node u))) told
     ∙ rw (← is) refl)

@@ -1,5 +1,5 @@
 -- Telling watchers: what is asked of the state before the first of them was told.
-use Rattle.std.specs.Prelude.{ℕ, ◌+◌, ◌-◌, ◌*◌, ◌≡◌, ◌≤◌, true, false, ◌&&◌, nat_lt, nat_eq}
+use Rattle.std.specs.Prelude.{ℕ, ◌-◌, ◌≡◌, true, false, ◌&&◌, nat_lt, nat_eq}
 use Rattle.std.specs.Prelude.{List, [], ◌∷◌, ◌++◌, Option, length, unwrap_or}
 use Rattle.std.specs.List.{list_any}
 use Rattle.std.specs.HashMap.{get}
@@ -83,24 +83,21 @@ pub record GoesOn (m : Moment) (d : Effects) (n : Node) (w : Watch) (old new : T
   pub records : new.records ≡ old.records ++ left_by_all m (notice_checks (followed d old.effects.items) n w)
   pub telling : IsTelling d n new
   pub after : followed d new.effects.items ≡ after_notice (followed d old.effects.items) n w
-  pub few : length new.effects.items ≤ length old.effects.items + 2
 
 -- Watchers were told, or weren't, in order.
 pub record GoesFar (m : Moment) (d : Effects) (n : Node) (ws : List Watch) (old new : Telling) : Type 0 where
   pub records : new.records ≡ old.records ++ left_by_notices m (followed d old.effects.items) n ws
   pub telling : IsTelling d n new
   pub after : followed d new.effects.items ≡ after_notices (followed d old.effects.items) n ws
-  pub few : length new.effects.items ≤ length old.effects.items + 2 * length ws
 
 -- Effects that may be put onto d before watchers of n are told, and put nothing into an inbox.
 pub record MayPrecede (d : Effects) (n : Node) (xs : List Effect) : Type 0 where
   pub may : MayTell d n xs
   pub inboxes : (c : ℕ) → inbox_at (followed d xs) c ≡ inbox_at d c
 
--- A plan of what was told behind other effects, apart from its outcome.
-pub record Tells (d : Effects) (xs : List Effect) (most : ℕ) (after : Effects) (plan : Plan) : Type 0 where
+-- A plan of what was told, apart from its outcome.
+pub record Tells (d after : Effects) (plan : Plan) : Type 0 where
   pub told : plan.told ≡ plan.outcome
   pub effects : followed d plan.effects.items ≡ after
   pub may : MayAllApart d plan.effects.items
   pub none_dies : list_any is_death plan.effects.items ≡ false
-  pub few : length plan.effects.items ≤ length xs + most

@@ -35,25 +35,21 @@ fn times_given(effects: &[Effect], client: u32, node: Node) -> u64
         .count() as u64
 }
 
-/// Whether the count that an effect raises stays below the greatest number where all of these are made. Mostly the
-/// count and the number of effects say so.
+/// Whether the count that an effect raises stays below the greatest number where all of these are made.
 fn count_fits(grants: &Grants, effects: &[Effect], effect: &Effect) -> bool
     ensures { (d : Effects) → Tracks d grants.now → result ≡ fits_among d effects.now effect.now }
 {
     match effect {
         Effect::Gives { client, node, .. } => {
             let count = grants.count(*client, *node);
-            if count < GREATEST - effects.len() as u64 {
-                return true;
-            }
             times_given(effects, *client, *node) < GREATEST - count
         }
         _ => true,
     }
 }
 
-/// Whether each count stays below the greatest number where these effects are made.
-pub fn counts_fit(grants: &Grants, effects: &[Effect]) -> bool
+/// Whether each count that these effects raise stays below the greatest number where all of them are made.
+fn each_count_fits(grants: &Grants, effects: &[Effect]) -> bool
     ensures { (d : Effects) → Tracks d grants.now → result ≡ list_all (fits_among d effects.now) effects.now }
 {
     for effect in effects {
@@ -62,4 +58,15 @@ pub fn counts_fit(grants: &Grants, effects: &[Effect]) -> bool
         }
     }
     true
+}
+
+/// Whether each count stays below the greatest number where these effects are made. Unless the table's bound is near
+/// that number, no count is looked up.
+pub fn counts_fit(grants: &Grants, effects: &[Effect]) -> bool
+    ensures { (d : Effects) → Tracks d grants.now → result ≡ list_all (fits_among d effects.now) effects.now }
+{
+    if grants.count_bound() < GREATEST - effects.len() as u64 {
+        return true;
+    }
+    each_count_fits(grants, effects)
 }

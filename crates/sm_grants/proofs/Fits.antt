@@ -65,7 +65,7 @@ fits_is d rows c n r o result tr live at absent held =
     ] refl
 
 -- How often an object is held.
-held_count_is : (o : Option Held) (n : Node) (refs : Node → ℕ) → node_of o ≡ Some n
+pub held_count_is : (o : Option Held) (n : Node) (refs : Node → ℕ) → node_of o ≡ Some n
     → ((h : Held) → o ≡ Some h → refs h.node ≡ h.count) → count_of o ≡ refs n
 held_count_is None n refs here are = cc
 held_count_is (Some h) n refs here are = let node : h.node ≡ n = cc in sym (are h refl) ∙ ap refs node

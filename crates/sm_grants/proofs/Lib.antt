@@ -4,6 +4,7 @@ pub mod Tracked
 pub mod ClientRows
 pub mod OtherEffects
 pub mod Fits
+pub mod Bound
 pub mod Places
 pub mod InOrder
 pub mod NewObjects

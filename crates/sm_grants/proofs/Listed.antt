@@ -1,17 +1,17 @@
 -- What is listed of a client's handles is what it holds under each number.
-use Rattle.std.proofs.Common.{◌≡◌, ℕ, zero, suc, ◌+◌, ◌<◌, List, [], ◌∷◌, refl, ap, sym, ◌∙◌, subst, map, get_or, Option}
+use Rattle.std.proofs.Common.{◌≡◌, ℕ, zero, suc, ◌+◌, List, [], ◌∷◌, refl, ap, sym, ◌∙◌, map, Option}
 use Rattle.std.proofs.Common.{Some, None, arith}
 use Rattle.std.specs.Prelude.{option_map}
 use Rattle.sm_kinds.specs.declared.number.Node.{Node}
 use Rattle.sm_history.specs.declared.client_row.Held.{Held as Listed}
 use Rattle.sm_history.specs.Effects.{Effects}
-use Rattle.sm_history.specs.Holdings.{refs_at, number_at, node_at}
+use Rattle.sm_history.specs.Holdings.{refs_at, node_at}
 use Rattle.sm_history.specs.Tables.{slot as row_slot, slot_at}
 use Rattle.sm_grants.specs.declared.held.Held.{Held}
 use Rattle.sm_grants.specs.declared.rows.ClientHandles.{ClientHandles}
 use Rattle.sm_grants.specs.Slots.{Slots, slot, node_of, HandleTable}
 use Rattle.sm_grants.specs.Tracking.{TracksSlots}
-use Rattle.sm_grants.specs.Rows.{TracksRows, table_of, slots_in}
+use Rattle.sm_grants.specs.Rows.{TracksRows, table_of}
 use Rattle.sm_grants.specs.Listed.{listed, listed_slots}
 use Rattle.sm_grants.proofs.Fits.{in_slots}
 use Rattle.sm_grants.proofs.Tracked.{node_is_slot, node_zero}

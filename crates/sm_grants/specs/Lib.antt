@@ -1,4 +1,5 @@
 pub mod Slots
+pub mod Highest
 pub mod Rows
 pub mod Tracking
 pub mod Several

@@ -9,7 +9,7 @@ ghost use Rattle.sm_history.specs.declared.effect.Effect.TheVariants.{Gives, Rel
 ghost use Rattle.sm_history.specs.Clients.{is_live};
 ghost use Rattle.sm_history.specs.Holdings.{refs_at, resolve_at, node_at, number_for, fits_handles, is_in_use};
 ghost use Rattle.sm_grants.specs.Slots.{Slots, slot, node_of, held_in, is_in, IsAbsent, IsNumberFor};
-ghost use Rattle.sm_grants.specs.Rows.{slots_of, Tracks, CanGrant, spare_for};
+ghost use Rattle.sm_grants.specs.Highest.{highest};
 ghost use Rattle.sm_grants.specs.Several.{after_grants, numbers_for, new_among, with_grant, Along};
 ghost use Rattle.sm_grants.specs.Holders.{holders_at};
 ghost use Rattle.sm_history.specs.Tables.{slot as row_slot, slot_at};
@@ -26,9 +26,14 @@ use std::alloc::{AllocError, Global};
 pub struct Grants {
     alloc: Global,
     rows: Vec<ClientHandles>,
+    // The number of grants so far, at most `u64::MAX`.
+    bound: u64,
+    ghost bounded: { highest rows.items ≤ bound },
 }
 
 impl Grants {
+    ghost use Rattle.sm_grants.specs.Rows.{slots_of, Tracks, CanGrant, spare_for};
+
     /// No handles.
     pub fn new(alloc: Global) -> Grants
         ensures { Tracks [] result }
@@ -36,6 +41,7 @@ impl Grants {
         Grants {
             alloc,
             rows: Vec::new(alloc),
+            bound: 0,
         }
     }
 
@@ -79,6 +85,7 @@ impl Grants {
         let Some(i) = row_of(&self.rows, client) else {
             return 0;
         };
+        self.bound = self.bound.saturating_add(1);
         let row = &mut self.rows[i];
         row.handles.grant(node)
     }
@@ -186,6 +193,13 @@ impl Grants {
             Some(handles) => handles.count(node),
             None => 0,
         }
+    }
+
+    /// A number that no client's count of grants of an object exceeds: the number of grants so far, at most `u64::MAX`.
+    pub fn count_bound(&self) -> u64
+        ensures { (d : Effects) → Tracks d self.now → (c : ℕ) (n : Node) → refs_at d c n ≤ result }
+    {
+        self.bound
     }
 
     /// Whether a client's handles have room for one grant of an object that it doesn't own.

@@ -1,6 +1,6 @@
 //! Queries, which change nothing.
 
-ghost use Rattle.std.specs.Prelude.{◌≡◌, true, length, IfOk, MatchResult};
+ghost use Rattle.std.specs.Prelude.{◌≡◌, true, false, length, IfOk, IfErr, MatchResult};
 ghost use Rattle.sm_history.specs.declared.query.Query.TheVariants.{List as ListNames};
 ghost use Rattle.sm_history.specs.declared.reply.Reply.TheVariants.{Looked};
 ghost use Rattle.sm_history.specs.Clients.{is_live, policy_at, version_at};
@@ -9,7 +9,8 @@ ghost use Rattle.sm_history.specs.Queries.{names_by_mask, is_their_query, query_
 ghost use Rattle.sm_history.specs.Verdict.{is_there};
 ghost use Rattle.sm_core.specs.Managed.{LooksAs, look_leaves};
 ghost use Rattle.sm_history.specs.Records.{moment_of};
-ghost use Rattle.sm_core.specs.Judging.{AllPass, Halts};
+ghost use Rattle.sm_core.specs.Judging.{AllPass, Halts, IsAskerStop};
+ghost use Rattle.sm_view.specs.Replies.{takes_memory};
 
 use crate::halt::{Halt, Plain};
 use crate::manager::replying::{answer, is_memory};
@@ -73,10 +74,11 @@ impl Manager {
 
     /// What stops a query, or what it finds out.
     pub fn judge_query(&self, by: By, query: &Query, notes: &mut Notes) -> Result<Answer, Halt>
-        ensures { MatchResult result
+        ensures judged { MatchResult result
             (λ found. AllPass (moment_of self.now.book.history) notes.old notes.new (checks_of_query self.now.book.history by query.now)
             × (found ≡ found_out (effects_of self.now.book.history) query.now))
             (Halts (moment_of self.now.book.history) notes.old notes.new (checks_of_query self.now.book.history by query.now)) }
+        ensures asker { takes_memory query.now ≡ false → IfErr result IsAskerStop }
     {
         if !may_ask(by, query) {
             return Err(Halt::unmet(Plain::Failed(Failure::NotYours)));

@@ -1,12 +1,11 @@
 //! Telling watchers of a registration.
 
-ghost use Rattle.std.specs.Prelude.{◌≡◌, ◌+◌, ◌*◌, ◌≤◌, ◌==◌, true, false, [], ◌∷◌, Some, MatchOption, MatchResult, length};
+ghost use Rattle.std.specs.Prelude.{◌≡◌, ◌==◌, true, false, [], ◌∷◌, Some, MatchOption, MatchResult};
 ghost use Rattle.std.specs.List.{list_all};
 ghost use Rattle.sm_history.specs.Clients.{is_live, policy_at};
 ghost use Rattle.sm_history.specs.Histories.{effects_of};
 ghost use Rattle.sm_history.specs.Holdings.{fits_handles, given_to, handed};
 ghost use Rattle.sm_history.specs.Services.{watchers_at};
-ghost use Rattle.sm_history.specs.declared.limits.TheConstants.{MOST_WATCHES};
 ghost use Rattle.sm_history.specs.declared.outcome.Outcome.TheVariants.{Added, Watched};
 ghost use Rattle.sm_history.specs.Following.{followed};
 ghost use Rattle.sm_history.specs.Notices.{notice_at, told_of, first_missing, after_notice, notices_at, after_notices};
@@ -166,10 +165,8 @@ impl Manager {
 
     /// The watches of a name, in the order of watching.
     fn watchers(&self, name: &[u8]) -> &[Watch]
-        ensures watchers { result.now ≡ watchers_at (effects_of self.now.book.history) name.now }
-        ensures few { length result.now ≤ MOST_WATCHES }
+        ensures { result.now ≡ watchers_at (effects_of self.now.book.history) name.now }
     {
-        let _ = self.watches();
         self.state.names.watchers(name)
     }
 
@@ -185,7 +182,7 @@ impl Manager {
         ensures { MatchResult result
             (λ plan. (plan.outcome ≡ Watched (Some (notice_at (followed (effects_of self.now.book.history) effects.items) node watch.now)))
             × (plan.records ≡ left_by_notices (moment_of self.now.book.history) (followed (effects_of self.now.book.history) effects.items) node (watch.now ∷ []))
-            × Tells (effects_of self.now.book.history) effects.items 2
+            × Tells (effects_of self.now.book.history)
             (after_notice (followed (effects_of self.now.book.history) effects.items) node watch.now) plan)
             (λ s. s ≡ spec.wanted) }
     {
@@ -210,7 +207,7 @@ impl Manager {
             (watchers_at (effects_of self.now.book.history) name.now)))
             × (plan.records ≡ left_by_notices (moment_of self.now.book.history) (followed (effects_of self.now.book.history) effects.items) node
             (watchers_at (effects_of self.now.book.history) name.now))
-            × Tells (effects_of self.now.book.history) effects.items 8192
+            × Tells (effects_of self.now.book.history)
             (after_notices (followed (effects_of self.now.book.history) effects.items) node
             (watchers_at (effects_of self.now.book.history) name.now)) plan)
             (λ s. s ≡ spec.wanted) }

@@ -1,6 +1,5 @@
-use Rattle.std.proofs.Common.{◌≡◌, ◌∙◌, ◌≤◌, ◌&&◌, ap, sym, true, false, length, List, arith}
+use Rattle.std.proofs.Common.{◌≡◌, ◌∙◌, ◌&&◌, ap, sym, true, false, length, List, arith}
 use Rattle.sm_kinds.specs.declared.number.Node.{Node}
-use Rattle.sm_kinds.specs.declared.number.ObjRef.{ObjRef}
 use Rattle.sm_history.specs.Histories.{effects_of}
 use Rattle.sm_history.specs.Records.{moment_of}
 use Rattle.sm_history.specs.Holdings.{fits_handles}
@@ -75,8 +74,6 @@ returns c =
     let room : (has_inbox_room d k && fits_handles (after_grants d k (others k named)) k) ≡ true =
     sym (ap (λ (ns : List Node). has_inbox_room d k && fits_handles (after_grants d k ns) k) nodes) ∙
     sym c.has_room.ensures ∙ c.if-not-has_room.false in
-    let few : length c.args.refs.now ≤ 16 = let here = ap (length {A = ObjRef}) c.list.ensures.value in
-    omega (arith, here, c.list.ensures.fits) in
     call_judged c.args.self.now.book.history _ _ _ c.args.client c.args.handle c.in-Ok.target c.args.payload.now
-    c.args.refs.now named c.plan_call.result target.0 target.1 sound target.2 refs.1 refs.0 few room
+    c.args.refs.now named c.plan_call.result target.0 target.1 sound target.2 refs.1 refs.0 room
     (rw (own, c.as_slice-3.ensures.value) at c.plan_call.ensures)

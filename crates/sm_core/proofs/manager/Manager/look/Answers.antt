@@ -11,5 +11,5 @@ returns c =
     let b = c.args.self.now.book in
     look_stops b c.args.by c.args.query c.judge_query.new.notes c.in-Err.stop c.answer.result
     (subst (λ (old : List Record). Halts (moment_of b.history) old c.judge_query.new.notes
-    (checks_of_query b.history c.args.by c.args.query) c.in-Err.stop) c.none-notes.ensures c.in-Err.ensures)
-    c.answer.ensures
+    (checks_of_query b.history c.args.by c.args.query) c.in-Err.stop) c.none-notes.ensures c.in-Err.ensures.judged)
+    c.answer.ensures.answers c.answer.ensures.unmet c.in-Err.ensures.asker

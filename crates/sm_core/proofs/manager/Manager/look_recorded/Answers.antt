@@ -13,7 +13,7 @@ returns-in-Ok-clause-records c =
     (c.into_list.ensures
     ∙ query_passed b.history c.args.by c.args.query c.judge_query.new.notes
     (subst (λ (old : List Record). AllPass (moment_of b.history) old c.judge_query.new.notes
-    (checks_of_query b.history c.args.by c.args.query)) c.none-notes.ensures c.in-Ok.ensures.0))
+    (checks_of_query b.history c.args.by c.args.query)) c.none-notes.ensures c.in-Ok.ensures.judged.0))
     c.looked.ensures
 
 pub returns-clause-looks : goal.returns-clause-looks
@@ -21,8 +21,8 @@ returns-clause-looks c =
     let b = c.args.self.now.book in
     look_stops b c.args.by c.args.query c.judge_query.new.notes c.in-Err.stop c.answer-reply.result
     (subst (λ (old : List Record). Halts (moment_of b.history) old c.judge_query.new.notes
-    (checks_of_query b.history c.args.by c.args.query) c.in-Err.stop) c.none-notes.ensures c.in-Err.ensures)
-    c.answer-reply.ensures
+    (checks_of_query b.history c.args.by c.args.query) c.in-Err.stop) c.none-notes.ensures c.in-Err.ensures.judged)
+    c.answer-reply.ensures.answers c.answer-reply.ensures.unmet c.in-Err.ensures.asker
 
 pub returns-clause-records : goal.returns-clause-records
 returns-clause-records c =
@@ -30,5 +30,5 @@ returns-clause-records c =
     c.into_list-in-Err.ensures
     ∙ stop_leaves b c.args.by c.args.query c.judge_query.new.notes c.in-Err.stop c.answer-reply.result
     (subst (λ (old : List Record). Halts (moment_of b.history) old c.judge_query.new.notes
-    (checks_of_query b.history c.args.by c.args.query) c.in-Err.stop) c.none-notes.ensures c.in-Err.ensures)
-    c.answer-reply.ensures (search rules)
+    (checks_of_query b.history c.args.by c.args.query) c.in-Err.stop) c.none-notes.ensures c.in-Err.ensures.judged)
+    c.answer-reply.ensures.answers (search rules)

@@ -12,7 +12,7 @@ returns-in-Ok c =
     c.into_list.ensures
     ∙ query_passed h c.args.by c.args.query.now c.judge_query.new.notes
     (subst (λ (old : List Record). AllPass (moment_of h) old c.judge_query.new.notes
-    (checks_of_query h c.args.by c.args.query.now)) c.none-notes.ensures c.in-Ok.ensures.0)
+    (checks_of_query h c.args.by c.args.query.now)) c.none-notes.ensures c.in-Ok.ensures.judged.0)
 
 pub returns : goal.returns
 returns c =
@@ -20,5 +20,5 @@ returns c =
     c.into_list-in-Err.ensures
     ∙ query_left h c.args.by c.args.query.now c.judge_query.new.notes c.in-Err.stop
     (subst (λ (old : List Record). Halts (moment_of h) old c.judge_query.new.notes
-    (checks_of_query h c.args.by c.args.query.now) c.in-Err.stop) c.none-notes.ensures c.in-Err.ensures)
+    (checks_of_query h c.args.by c.args.query.now) c.in-Err.stop) c.none-notes.ensures c.in-Err.ensures.judged)
     (not_wanted c.is_wanted.result c.in-Err.stop c.is_wanted.ensures c.if-is_wanted.false)

@@ -1,4 +1,4 @@
-use Rattle.std.proofs.Common.{List, [], ◌∷◌, ◌++◌, ◌+◌, ap, ◌∙◌, drop, length}
+use Rattle.std.proofs.Common.{List, [], ◌∷◌, ◌++◌, ◌+◌, ap, ◌∙◌, drop}
 use Rattle.sm_history.specs.declared.notice.Notice.{Notice}
 use Rattle.sm_history.specs.declared.effect.Watch.{Watch}
 use Rattle.sm_history.specs.Clients.{is_live}
@@ -6,7 +6,7 @@ use Rattle.sm_history.specs.Histories.{effects_of}
 use Rattle.sm_history.specs.Following.{followed}
 use Rattle.sm_history.specs.Records.{moment_of}
 use Rattle.sm_core.proofs.TellingAll.{records_further, one_further, live_further, notices_further}
-use Rattle.sm_core.proofs.TellingAll.{after_further, few_further}
+use Rattle.sm_core.proofs.TellingAll.{after_further}
 use Rattle.sm_core.proofs.manager.Manager.notify_all.Goals as goal
 
 pub notify-requires-clause-live : goal.notify-requires-clause-live
@@ -43,6 +43,4 @@ loop-watch-preserved c =
       after = after_further (followed d c.loop-watch.telling.effects.items)
           (followed d c.notify.new.telling.effects.items) c.args.node (drop i ws) (drop (i + 1) ws) w _ is on.after
           c.loop-watch.invariant.after;
-      few = few_further (length c.loop-watch.telling.effects.items) (length c.notify.new.telling.effects.items) _
-          (drop i ws) (drop (i + 1) ws) w is on.few c.loop-watch.invariant.few;
     }

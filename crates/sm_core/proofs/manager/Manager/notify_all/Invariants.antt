@@ -1,4 +1,4 @@
-use Rattle.std.proofs.Common.{◌≡◌, ◌+◌, ◌*◌, ◌≤◌, ◌++◌, true, drop, length}
+use Rattle.std.proofs.Common.{◌≡◌, ◌++◌, true, drop}
 use Rattle.std.specs.List.{list_all}
 use Rattle.sm_history.specs.Clients.{is_live}
 use Rattle.sm_history.specs.Histories.{effects_of}
@@ -24,6 +24,4 @@ invariant-loop-watch l = record {
       (followed (effects_of l.self.book.history) l.telling.effects.items) l.node (drop l.watch-index l.watches)
       ≡ l.initial.telling.records ++ left_by_notices (moment_of l.self.book.history)
       (followed (effects_of l.self.book.history) l.initial.telling.effects.items) l.node l.watches;
-  few : length l.telling.effects.items + 2 * length (drop l.watch-index l.watches)
-      ≤ length l.initial.telling.effects.items + 2 * length l.watches;
 }

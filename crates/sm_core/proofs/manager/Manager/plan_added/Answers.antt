@@ -13,5 +13,5 @@ notify_all-requires-clause-telling c =
 pub notify_all-requires-clause-live : goal.notify_all-requires-clause-live
 notify_all-requires-clause-live c =
     let d = effects_of c.args.self.now.book.history in
-    ap (list_all (λ (w : Watch). is_live d w.client)) c.watchers-watchers.ensures.watchers
+    ap (list_all (λ (w : Watch). is_live d w.client)) c.watchers-watchers.ensures
     ∙ watchers_live d c.bytes.result.now

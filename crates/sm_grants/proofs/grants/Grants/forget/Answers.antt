@@ -2,6 +2,7 @@ use Rattle.std.proofs.Common.{◌≡◌, Some, None, Option, sym, ap}
 use Rattle.sm_grants.specs.Rows.{index_from, spare_in}
 use Rattle.sm_grants.specs.Slots.{HandleTable}
 use Rattle.sm_grants.proofs.ClientRows.{tracks_dies, row_forgotten, none_forgotten, others_stay}
+use Rattle.sm_grants.proofs.Bound.{removed_bounded}
 use Rattle.sm_grants.proofs.grants.Grants.forget.Goals as goal
 
 pub returns-in-Some-clause-tracks : goal.returns-in-Some-clause-tracks
@@ -25,3 +26,9 @@ returns-in-Some-clause-others c k e =
     rw (← c.deref.ensures.value) (sym c.in-Some.ensures.at) in
     rw c.remove.ensures.items
     (ap (λ (o : Option HandleTable). spare_in o) (others_stay rows c.args.client c.in-Some.i k at e))
+
+pub invariant_of-self : goal.invariant_of-self
+invariant_of-self c = record {
+  bounded = rw c.remove.ensures.items
+      (removed_bounded c.args.self.now.rows.items c.in-Some.i c.args.self.now.bound c.args.self.now.bounded);
+}

@@ -1,8 +1,11 @@
-use Rattle.std.proofs.Common.{◌≡◌, ◌<◌, ℕ, Some, None, sym, ap, subst}
+use Rattle.std.proofs.Common.{◌≡◌, ◌≤◌, ◌<◌, set, arith, ℕ, Some, None, sym, ap, subst}
 use Rattle.std.specs.Prelude.{Option}
 use Rattle.sm_grants.specs.Slots.{HandleTable, slot, node_of, count_of, held_in, IsAbsent, IsGranted}
 use Rattle.sm_grants.specs.Rows.{index_from, slots_in, spare_in}
 use Rattle.sm_grants.proofs.ClientRows.{tracks_gives, row_here, row_changed, no_row, cannot, changed_own, changed_other}
+use Rattle.sm_grants.specs.Rows.{slots_of}
+use Rattle.sm_grants.specs.Highest.{highest_in, highest}
+use Rattle.sm_grants.proofs.Bound.{client_bounded, set_bounded, granted_bounded}
 use Rattle.sm_grants.proofs.grants.Grants.grant.Goals as goal
 
 pub returns-in_default-clause-tracks : goal.returns-in_default-clause-tracks
@@ -63,3 +66,24 @@ returns-clause-others c k e =
     (changed_other rows _ c.args.client k c.grant.new.self
     (row_changed rows c.args.client c.in-Some.i c.index_mut-row.result.now c.grant.new.self at
     c.index_mut-row.ensures.value) e)
+
+pub invariant_of-self : goal.invariant_of-self
+invariant_of-self c =
+    let rows = c.args.self.now.rows.items in
+    let at : index_from 0 rows c.args.client ≡ Some c.in-Some.i =
+    rw (← c.deref.ensures.value) (sym c.in-Some.ensures.at) in
+    let here = row_here rows c.args.client c.in-Some.i c.index_mut-row.result.now at c.index_mut-row.ensures.value in
+    let all : highest rows ≤ c.args.self.now.bound = c.args.self.now.bounded in
+    let own : highest_in (slots_of rows c.args.client) ≤ c.args.self.now.bound =
+    let le = client_bounded rows c.args.client in omega (arith, le, all) in
+    let small : c.args.self.now.bound ≤ 18446744073709551615 = omega arith in
+    record {
+      bounded = subst (λ (m : ℕ). highest (set rows c.in-Some.i (record {
+        client = c.index_mut-row.result.now.client;
+        handles = c.grant.new.self;
+      })) ≤ m) (sym c.saturating_add-self.ensures) (set_bounded rows c.in-Some.i _ _ (omega (arith, all, small))
+          (granted_bounded (slots_of rows c.args.client) c.grant.new.self.slots c.args.node c.grant.result
+          c.args.self.now.bound 18446744073709551615
+          (subst (λ (o : Option HandleTable). IsGranted (slots_in o) c.grant.new.self.slots c.args.node c.grant.result)
+          (sym here.0) c.grant.ensures.granted) c.requires.few own small (omega arith)));
+    }

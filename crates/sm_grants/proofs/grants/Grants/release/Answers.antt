@@ -1,9 +1,12 @@
-use Rattle.std.proofs.Common.{◌≡◌, ◌<◌, ◌-◌, Some, None, sym, ap, subst, ◌∙◌, arith}
+use Rattle.std.proofs.Common.{◌≡◌, ◌≤◌, ◌<◌, ◌-◌, Some, None, sym, ap, subst, ◌∙◌, arith}
 use Rattle.std.specs.Prelude.{Option}
 use Rattle.sm_grants.specs.Slots.{HandleTable, slot, IsPut, released_slot}
 use Rattle.sm_grants.specs.Rows.{index_from, slots_in, spare_in, spare_of}
 use Rattle.sm_grants.proofs.ClientRows.{spare_kept, tracks_releases, tracks_room, row_here, row_changed, no_row}
 use Rattle.sm_grants.proofs.ClientRows.{node_found, node_none, node_no_number}
+use Rattle.sm_grants.specs.Rows.{slots_of}
+use Rattle.sm_grants.specs.Highest.{highest_in, highest}
+use Rattle.sm_grants.proofs.Bound.{client_bounded, set_bounded, released_bounded}
 use Rattle.sm_grants.proofs.grants.Grants.release.Goals as goal
 
 pub returns-then-number-eq0-clause-tracks : goal.returns-then-number-eq0-clause-tracks
@@ -78,3 +81,20 @@ returns-clause-spare c k =
     (row_changed rows c.args.client c.in-Some.i c.index_mut-row.result.now c.release.new.self at
     c.index_mut-row.ensures.value)
     (omega (arith, was, c.release.ensures.spare)) k
+
+pub invariant_of-self-2 : goal.invariant_of-self-2
+invariant_of-self-2 c =
+    let rows = c.args.self.now.rows.items in
+    let at : index_from 0 rows c.args.client ≡ Some c.in-Some.i =
+    rw (← c.deref.ensures.value) (sym c.in-Some.ensures.at) in
+    let here = row_here rows c.args.client c.in-Some.i c.index_mut-row.result.now at c.index_mut-row.ensures.value in
+    let all : highest rows ≤ c.args.self.now.bound = c.args.self.now.bounded in
+    let own : highest_in (slots_of rows c.args.client) ≤ c.args.self.now.bound =
+    let le = client_bounded rows c.args.client in omega (arith, le, all) in
+    record {
+      bounded = set_bounded rows c.in-Some.i c.args.self.now.bound _ all
+          (released_bounded (slots_of rows c.args.client) c.release.new.self.slots (c.args.number - 1)
+          c.args.self.now.bound
+          (subst (λ (o : Option HandleTable). IsPut (slots_in o) c.release.new.self.slots (c.args.number - 1)
+          (released_slot (slot (slots_in o) (c.args.number - 1)))) (sym here.0) c.release.ensures.put) own);
+    }

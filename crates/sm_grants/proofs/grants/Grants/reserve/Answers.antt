@@ -5,6 +5,10 @@ use Rattle.sm_grants.specs.Slots.{HandleTable}
 use Rattle.sm_grants.specs.Rows.{index_from, slots_in, spare_in, spare_of}
 use Rattle.sm_grants.proofs.ClientRows.{tracks_room, row_here, row_changed, no_row, tracks_pushed, changed_own}
 use Rattle.sm_grants.proofs.ClientRows.{spare_pushed, spare_kept, spare_more}
+use Rattle.sm_grants.specs.Slots.{Slots}
+use Rattle.sm_grants.specs.Rows.{slots_of}
+use Rattle.sm_grants.specs.Highest.{highest_in, highest}
+use Rattle.sm_grants.proofs.Bound.{client_bounded, set_bounded, pushed_bounded}
 use Rattle.sm_grants.proofs.grants.Grants.reserve.Goals as goal
 
 pub returns-in-Some-clause-same : goal.returns-in-Some-clause-same
@@ -98,3 +102,29 @@ returns-in_ok-reserve-in-None-2-clause-spare c k =
     let r : ClientHandles = record { client = c.args.client; handles = c.reserve-in-None-2.new.self } in
     rw (c.push_reserved.ensures.items, c.reserve-in-None.ensures.items)
     (spare_more rows r (no_row 0 rows c.args.client none) k)
+
+pub invariant_of-self : goal.invariant_of-self
+invariant_of-self c =
+    let rows = c.args.self.now.rows.items in
+    let at : index_from 0 rows c.args.client ≡ Some c.in-Some.i =
+    rw (← c.deref.ensures.value) (sym c.in-Some.ensures.at) in
+    let here = row_here rows c.args.client c.in-Some.i c.index_mut-row.result.now at c.index_mut-row.ensures.value in
+    let same : slots_of rows c.args.client ≡ c.reserve.new.self.slots =
+    ap (λ (o : Option HandleTable). slots_in o) here.0 ∙ sym c.reserve.ensures.slots in
+    let all : highest rows ≤ c.args.self.now.bound = c.args.self.now.bounded in
+    let own : highest_in (slots_of rows c.args.client) ≤ c.args.self.now.bound =
+    let le = client_bounded rows c.args.client in omega (arith, le, all) in
+    record {
+      bounded = set_bounded rows c.in-Some.i c.args.self.now.bound _ all
+          (subst (λ (s : Slots). highest_in s ≤ c.args.self.now.bound) same own);
+    }
+
+pub invariant_of-self-in-None : goal.invariant_of-self-in-None
+invariant_of-self-in-None c =
+    let rows = c.args.self.now.rows.items in
+    let r : ClientHandles = record { client = c.args.client; handles = c.reserve-in-None-2.new.self } in
+    record {
+      bounded = rw (c.push_reserved.ensures.items, c.reserve-in-None.ensures.items)
+          (pushed_bounded rows c.args.self.now.bound r c.args.self.now.bounded
+          (c.reserve-in-None-2.ensures.slots ∙ c.in_ok-handles-in-None.ensures));
+    }

@@ -3,7 +3,7 @@ use Rattle.std.specs.List.{list_all}
 use Rattle.sm_history.specs.Effects.{Effects}
 use Rattle.sm_grants.specs.Rows.{Tracks}
 use Rattle.sm_core.specs.Stands.{fits_among}
-use Rattle.sm_core.proofs.counts.counts_fit.Given as goal
+use Rattle.sm_core.proofs.counts.each_count_fits.Given as goal
 
 -- Those that were asked have room.
 abbrev pub invariant-loop-effect : goal.invariant-loop-effect
