@@ -7,15 +7,19 @@ use Rattle.crossbeam_utils.specs.Register.{Admits, TurnsAt}
 use Rattle.atomic_table.proofs.Lists.{at_set, at_snoc}
 use Rattle.sm_history.specs.Books.{Book}
 use Rattle.sm_history.specs.Histories.{History, entered}
+use Rattle.sm_history.specs.Records.{records}
 use Rattle.sm_history.specs.Segments.{sealed}
 use Rattle.sm_history.specs.Verdict.{verdict}
 use Rattle.sm_history.specs.declared.by.By.{By}
 use Rattle.sm_history.specs.declared.event.Event.{Event}
 use Rattle.sm_history.specs.declared.entry.Entry.{Entry}
+use Rattle.sm_history.specs.declared.outcome.Outcome.{Outcome}
+use Rattle.sm_history.specs.declared.records.Record.{Record}
 use Rattle.sm_history.specs.declared.refusal.Refusal.TheVariants.{Memory}
 use Rattle.sm_history.specs.declared.reply.Reply.{Reply}
 use Rattle.sm_history.specs.declared.reply.Reply.TheVariants.{Done, Refused}
-use Rattle.sm_core.specs.Managed.{IsSame, IsAnswer}
+use Rattle.sm_audit.specs.Rings.{newest_of}
+use Rattle.sm_core.specs.Managed.{IsSame, IsAnswer, ring_after}
 use Rattle.sm_view.specs.Begins.{Begins}
 use Rattle.sm_view.specs.Steps.{Steps, Seals}
 use Rattle.sm_view.proofs.Books.{book_itself, book_through}
@@ -117,6 +121,15 @@ steps_done b b' e by turn event r v x y z is places history =
             ∙ λ j. entered (record { by = x j; turn = y j; event = z j; outcome = e.outcome }) b.history) i;
       },
     ))
+
+-- The ring after a change that was made.
+pub ring_done : (ring between new : List Record) (b : Book) (by : By) (turn : ℕ) (event : Event) (noted : List Record)
+    (outcome : Outcome) (r : Reply) → r ≡ Done outcome → between ≡ ring
+    → noted ≡ records b.places b.history by turn event → new ≡ newest_of (between ++ noted)
+    → new ≡ ring_after ring b by turn event r
+ring_done ring between new b by turn event noted outcome r is same left made =
+    subst (λ (r : Reply). new ≡ ring_after ring b by turn event r) (sym is)
+    (made ∙ λ i. newest_of (same i ++ left i))
 
 -- A segment that was closed.
 pub seals_done : (b b' : Book) (segment : History) → b.history.entries ≢ [] → segment ≡ b.history

@@ -1,3 +1,4 @@
 pub mod Rule
 pub mod Opening
 pub mod Chairs
+pub mod Locked

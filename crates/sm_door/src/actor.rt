@@ -95,7 +95,7 @@ impl<J: Naming> Actor<J> {
 
     /// Sees the whole history, under the lock.
     pub(crate) fn see<R: Wait>(&mut self, rt: &R, desk: &Desk<J>)
-        ensures { SeesNow self.old desk.now self.new }
+        ensures { SeesNow self.old desk.now.book self.new }
     {
         let reader = self.reader.take().unwrap();
         let reader = desk.inform(rt, reader);

@@ -4,6 +4,8 @@ ghost use Rattle.std.specs.Prelude.{◌≡◌, ◌≤◌, None, Some, length, If
 ghost use Rattle.std.specs.List.{All};
 ghost use Rattle.std.specs.Arc.{arc_value};
 ghost use Rattle.left_right.specs.Sides.{view as place_view};
+ghost use Rattle.sm_audit.specs.declared.ring.TheConstants.{MOST_RECORDS};
+ghost use Rattle.sm_core.specs.Managed.{ring_after};
 ghost use Rattle.sm_core.specs.Readying.{IsReady};
 ghost use Rattle.sm_core.specs.SealReady.{IsReadySeal};
 ghost use Rattle.sm_history.specs.Histories.{turn_of};
@@ -22,7 +24,7 @@ use std::marker::Model;
 use std::sync::{Arc, Wait};
 
 /// The manager with the page that is published and its writer. What readers find is the page of just its history.
-/// Contracts see it as that history with its places.
+/// Contracts see it as that history with its places, and the newest audit records.
 pub struct Desk<J: Naming>
 where
     Shown<J>: Absorb<Arc<Page<J>>, State = View>,
@@ -42,11 +44,11 @@ where
 {
     ghost use Rattle.std.specs.Prelude.{◌≡◌, MatchOption};
     ghost use Rattle.std.specs.Arc.{arc_value};
-    ghost use Rattle.sm_history.specs.Books.{Book};
+    ghost use Rattle.sm_door.specs.Locked.{Locked};
 
-    ghost Value = { Book };
+    ghost Value = { Locked };
 
-    ghost view = { λ d. d.manager.book };
+    ghost view = { λ d. record { book = d.manager.book; ring = d.manager.ring } };
 
     ghost invariant = { λ d. (arc_value d.page ≡ d.manager.book) × MatchOption d.writer ⊥ (λ w. arc_value w.desk.shown.value.page ≡ d.manager.book) };
 }
@@ -121,7 +123,8 @@ impl<J: Naming> Desk<J> {
     ) -> Desk<J>
         requires shown { arc_value writer.desk.shown.value.page ≡ manager.book }
         requires page { arc_value page ≡ manager.book }
-        ensures { result ≡ manager.book }
+        ensures book { result.book ≡ manager.book }
+        ensures ring { result.ring ≡ manager.ring }
     {
         Desk {
             alloc,
@@ -132,10 +135,11 @@ impl<J: Naming> Desk<J> {
         }
     }
 
-    /// One step of the manager. What it accepts is published, and only then kept: where that is refused, nothing is
-    /// kept, and the answer is `Memory`.
+    /// One step of the manager. A change is published before it is committed. If it can't be published, nothing is
+    /// committed and the answer is `Memory`. The event's audit records are kept unless the answer is `Memory`.
     pub fn step<R: Wait>(&mut self, rt: &R, by: By, turn: u64, event: Event) -> Reply
-        ensures { Steps self.old by turn event result self.new }
+        ensures answers { Steps self.old.book by turn event result self.new.book }
+        ensures ring { self.new.ring ≡ ring_after self.old.ring self.old.book by turn event result }
     {
         let ready = match self.manager.ready(by, turn, event) {
             Ok(ready) => ready,
@@ -170,7 +174,8 @@ impl<J: Naming> Desk<J> {
     /// Closes the open segment, and gives it. What stands behind it is published, and only then is it closed: where that
     /// is refused, nothing is closed, and the answer is `Memory`. `Empty`: it has no changes.
     pub fn seal<R: Wait>(&mut self, rt: &R) -> Result<Segment, Refusal>
-        ensures { MatchResult result (λ s. Seals self.old s self.new) (λ r. StaysOpen self.old r self.new) }
+        ensures seals { MatchResult result (λ s. Seals self.old.book s self.new.book) (λ r. StaysOpen self.old.book r self.new.book) }
+        ensures ring { self.new.ring ≡ self.old.ring }
     {
         let ready = match self.manager.ready_seal() {
             Ok(ready) => ready,
@@ -197,8 +202,8 @@ impl<J: Naming> Desk<J> {
 
     /// How many changes an actor made. The history may come about.
     pub fn turn(&self, by: By) -> u64
-        ensures turn { result ≡ turn_of self.now.history by }
-        ensures lawful { IsLawfulBook self.now }
+        ensures turn { result ≡ turn_of self.now.book.history by }
+        ensures lawful { IsLawfulBook self.now.book }
     {
         self.manager.lawful();
         self.manager.turn(by)
@@ -207,8 +212,9 @@ impl<J: Naming> Desk<J> {
     /// The newest records, at most 1,024, the oldest first; each that was made in the open segment is true of the
     /// history. `Err`: memory was refused.
     pub fn records(&self) -> Result<Vec<Record>, AllocError>
-        ensures few { IfOk result (λ v. length v.items ≤ 1024) }
-        ensures true_records { IfOk result (λ v. All (IsTrueSince self.now.history) v.items) }
+        ensures all { IfOk result (λ v. v.items ≡ self.now.ring) }
+        ensures few { IfOk result (λ v. length v.items ≤ MOST_RECORDS) }
+        ensures true_records { IfOk result (λ v. All (IsTrueSince self.now.book.history) v.items) }
     {
         self.manager.lawful();
         self.manager.records()
@@ -217,8 +223,8 @@ impl<J: Naming> Desk<J> {
     /// A reader enters until it finds the desk's own page, whose history begins with all that it had seen. The first
     /// time does, since nobody else can publish.
     pub fn inform<R: Wait>(&self, rt: &R, mut reader: ViewReader<J>) -> ViewReader<J>
-        ensures seen { (place_view result.place).seen ≡ self.now }
-        ensures begins { Begins self.now (place_view reader.place).seen }
+        ensures seen { (place_view result.place).seen ≡ self.now.book }
+        ensures begins { Begins self.now.book (place_view reader.place).seen }
     {
         for _ in rt.forever() {
             match reader.enter_as::<Sees>() {

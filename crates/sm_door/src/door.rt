@@ -52,7 +52,12 @@ where
 impl<J: Naming, G: Gate + Drop> Door<J, G> {
     /// Opens a manager under this identity and policy, whose journal has this many places, with a free seat for each
     /// of 64 clients and the tokens of four administrators, which have all seen the opening. SELinux's
-    /// `set_context_mgr` is wanted from the identity's type to itself. `NoSeat`: a reader's place was refused.
+    /// `set_context_mgr` is wanted from the identity's type to itself.
+    ///
+    /// # Errors
+    ///
+    /// A denial of `set_context_mgr`; if it is granted, `NoSeat` if a reader's place was refused. `Memory` if an
+    /// allocation failed.
     pub fn open<R: Wait>(
         rt: &R,
         alloc: Global,
@@ -67,7 +72,7 @@ impl<J: Naming, G: Gate + Drop> Door<J, G> {
         ensures opened { IfOk result (λ r. MayOpen who policy
             × (r.1.items ≡ new_seats (opened places who policy) MOST_CLIENTS)
             × (r.2.items ≡ new_admins (opened places who policy) ADMINS)) }
-        ensures refused { IfErr result (λ r. (r ≡ Memory) ⊎ ((r ≡ WantsPlace)
+        ensures refused { IfErr result (λ r. (r ≡ Memory) ⊎ ((MayOpen who policy × (r ≡ WantsPlace))
             ⊎ ((allowed policy (type_of who.context) (type_of who.context) Binder managing ≡ false)
             × (r ≡ opening_denial who)))) }
     {

@@ -1,10 +1,9 @@
-//! What no contract says: that changes are made, that reads answer while a change is held, and that many threads get on.
+//! What no contract says: that changes are made, and that many threads make progress.
 
 ghost use Rattle.std.specs.Prelude.{◌≡◌};
 ghost use Rattle.sm_core.specs.Opening.{opened};
 ghost use denote.Param.Send.{IsSend, IsSync};
 
-use crossbeam_utils::Backoff;
 use sm_core::View;
 use sm_door::*;
 use sm_history::{Answer, Event, Outcome, Refusal, Reply, Segment};
@@ -114,14 +113,14 @@ fn meets<J: Naming, R: Wait + Abort>(
     alloc: Global,
     blank: Blank,
     who: Identity,
-    policy: Prepared,
+    rules: Prepared,
     places: Places,
 )
     requires roll { blank.seen.book ≡ J.roll }
-    requires opening { J.opening ≡ opened places who policy }
+    requires opening { J.opening ≡ opened places who rules }
 {
     let (door, mut seats, mut admins) = Door::<J, NoGate>::open(
-        rt, alloc, blank, who, policy, places, NoGate,
+        rt, alloc, blank, who, rules, places, NoGate,
     ).ok()
         .expect(rt, "a door");
     let mut admin = admins.pop().expect(rt, "an administrator");
@@ -137,154 +136,11 @@ fn meets<J: Naming, R: Wait + Abort>(
     assert!(rt; lists(&door.list(&mut b, 15), 5, &[b"activity"]));
     door.meet_admin(rt, &mut admin, &mut a);
     assert!(rt; is_version(&door.version(&mut admin), 1, 5));
+    let stricter = policy(rt, alloc, STRICTER_RULES);
+    assert!(rt; matches!(door.install(rt, &mut admin, 1, stricter), Ok(2)));
+    door.meet_admin(rt, &mut admin, &mut a);
+    assert!(rt; is_version(&door.version(&mut a), 2, 6));
     door.close(rt);
-}
-
-/// Holds the first change that comes once it is armed, until it is let go.
-#[derive(Drop)]
-struct Hold {
-    state: AtomicU64,
-}
-
-const ARMED: u64 = 1;
-
-const HOLDING: u64 = 2;
-
-const LET_GO: u64 = 3;
-
-const GIVEN_UP: u64 = 4;
-
-const TURNS: u32 = 1_000_000;
-
-impl Hold {
-    fn new() -> Hold {
-        Hold {
-            state: AtomicU64::new(0),
-        }
-    }
-
-    fn set(&self, state: u64) {
-        self.state.store(state, Ordering::SeqCst);
-    }
-
-    fn is(&self, state: u64) -> bool {
-        self.state.load(Ordering::SeqCst) == state
-    }
-
-    /// Whether the state came in so many turns.
-    fn comes(&self, state: u64) -> bool {
-        let backoff = Backoff::new();
-        for _ in 0..TURNS {
-            if self.is(state) {
-                return true;
-            }
-            backoff.snooze();
-        }
-        false
-    }
-}
-
-impl Gate for Hold {
-    fn enter(&self, _line: u64) {}
-
-    fn inside(&self) {
-        if self.is(ARMED) {
-            self.set(HOLDING);
-            if !self.comes(LET_GO) {
-                self.set(GIVEN_UP);
-            }
-        }
-    }
-
-    fn leave(&self, _line: u64) {}
-}
-
-#[test]
-fn a_change_is_held_until_a_list_is_answered(rt: HostRuntime) {
-    let alloc = rt.alloc();
-    let who = manager(&rt, alloc);
-    let rules = policy(&rt, alloc, DEVICE_RULES);
-    let places = Places::new(1000).expect(&rt, "places");
-    held::<Brand, _>(&rt, alloc, Blank::new(), who, rules, places);
-}
-
-fn held<J: Naming + Send + Sync, R: Threads + Wait + Abort + Sync>(
-    rt: &R,
-    alloc: Global,
-    blank: Blank,
-    who: Identity,
-    policy: Prepared,
-    places: Places,
-)
-    requires roll { blank.seen.book ≡ J.roll }
-    requires opening { J.opening ≡ opened places who policy }
-{
-    let (door, mut seats, _admins) = Door::<J, Hold>::open(
-        rt,
-        alloc,
-        blank,
-        who,
-        policy,
-        places,
-        Hold::new(),
-    ).ok()
-        .expect(rt, "a door");
-    let a = joined(rt, &door, seats.pop(), server(rt, alloc, 100));
-    let mut b = joined(rt, &door, seats.pop(), server(rt, alloc, 101));
-    door.gate().set(ARMED);
-    assert!(rt; lists_while_held(rt, alloc, &door, a, &mut b));
-    assert!(rt; door.gate().is(LET_GO));
-    assert!(rt; lists(&door.list(&mut b, 15), 4, &[b"activity"]));
-    door.close(rt);
-}
-
-/// One adds a service, and another lists while that change is held.
-fn lists_while_held<J: Naming + Send + Sync, R: Threads + Wait + Abort + Sync>(
-    rt: &R,
-    alloc: Global,
-    door: &Door<J, Hold>,
-    adder: Session<J>,
-    lister: &mut Session<J>,
-) -> bool {
-    let mut saw = false;
-    thread::scope(thread::scope_env(), rt, |scope| {
-        crosses::<View>();
-        crosses::<Badge<J>>();
-        crosses::<Page<J>>();
-        crosses::<Arc<Page<J>>>();
-        crosses::<Shown<J>>();
-        sends::<ViewReader<J>>();
-        sends::<Option<ViewReader<J>>>();
-        sends::<Actor<J>>();
-        sends::<Session<J>>();
-        sends::<ViewWriter<J>>();
-        sends::<Option<ViewWriter<J>>>();
-        sends::<Roll<J>>();
-        sends::<Desk<J>>();
-        crosses::<Hold>();
-        shares::<Door<J, Hold>>();
-        if scope.spawn(move || adds(rt, alloc, door, adder)).is_ok() {
-            saw = looks(door, lister);
-        }
-    });
-    saw
-}
-
-fn adds<J: Naming, R: Wait + Abort>(
-    rt: &R,
-    alloc: Global,
-    door: &Door<J, Hold>,
-    mut me: Session<J>,
-) {
-    door.submit(rt, &mut me, activity(rt, alloc));
-}
-
-/// Lists while the change is held, and only then lets it go.
-fn looks<J: Naming>(door: &Door<J, Hold>, me: &mut Session<J>) -> bool {
-    let held = door.gate().comes(HOLDING);
-    let before = lists(&door.list(me, 15), 3, &[]);
-    door.gate().set(LET_GO);
-    held && before
 }
 
 #[test]
@@ -474,6 +330,27 @@ fn reads<J: Naming, R: Wait + Abort>(
     let _ = readers.lock(rt).push(me);
 }
 
+/// How the installs of two administrators ended.
+#[derive(Drop)]
+struct Installs {
+    done: AtomicU64,
+    moved: AtomicU64,
+}
+
+impl Installs {
+    fn new() -> Installs {
+        Installs {
+            done: AtomicU64::new(0),
+            moved: AtomicU64::new(0),
+        }
+    }
+
+    /// Whether one was done, and the other got its policy back.
+    fn is_one_of_two(&self) -> bool {
+        self.done.load(Ordering::SeqCst) == 1 && self.moved.load(Ordering::SeqCst) == 1
+    }
+}
+
 #[test]
 fn one_of_two_installs_is_done(rt: HostRuntime) {
     let alloc = rt.alloc();
@@ -483,30 +360,130 @@ fn one_of_two_installs_is_done(rt: HostRuntime) {
     rivals::<Brand, _>(&rt, alloc, Blank::new(), who, rules, places);
 }
 
-fn rivals<J: Naming, R: Wait + Abort>(
+fn rivals<J: Naming + Send + Sync, R: Threads + Wait + Abort + Sync>(
     rt: &R,
     alloc: Global,
     blank: Blank,
     who: Identity,
-    policy: Prepared,
+    rules: Prepared,
     places: Places,
 )
     requires roll { blank.seen.book ≡ J.roll }
-    requires opening { J.opening ≡ opened places who policy }
+    requires opening { J.opening ≡ opened places who rules }
 {
-    let one = policy.share().ok().expect(rt, "memory");
-    let other = policy.share().ok().expect(rt, "memory");
     let (door, _seats, mut admins) = Door::<J, NoGate>::open(
-        rt, alloc, blank, who, policy, places, NoGate,
+        rt, alloc, blank, who, rules, places, NoGate,
     ).ok()
         .expect(rt, "a door");
-    let mut first = admins.pop().expect(rt, "an administrator");
-    let mut second = admins.pop().expect(rt, "an administrator");
-    assert!(rt; matches!(door.install(rt, &mut first, 1, one), Ok(2)));
-    let refused = door.install(rt, &mut second, 1, other);
-    assert!(rt; matches!(refused, Err((Refusal::VersionMoved(2), _))));
-    assert!(rt; is_version(&door.version(&mut second), 2, 2));
+    let first = admins.pop().expect(rt, "an administrator");
+    let second = admins.pop().expect(rt, "an administrator");
+    let mut third = admins.pop().expect(rt, "an administrator");
+    let installs = Installs::new();
+    assert!(rt; both_install(rt, alloc, &door, first, second, &installs));
+    assert!(rt; installs.is_one_of_two());
+    assert!(rt; is_version(&door.version(&mut third), 2, 2));
     door.close(rt);
+}
+
+/// Two administrators install over one version at once. Whether both threads ran.
+fn both_install<J: Naming + Send + Sync, R: Threads + Wait + Abort + Sync>(
+    rt: &R,
+    alloc: Global,
+    door: &Door<J, NoGate>,
+    first: Admin<J>,
+    second: Admin<J>,
+    installs: &Installs,
+) -> bool {
+    let mut second = second;
+    let mut started = false;
+    thread::scope(thread::scope_env(), rt, |scope| {
+        crosses::<View>();
+        crosses::<Badge<J>>();
+        crosses::<Page<J>>();
+        crosses::<Arc<Page<J>>>();
+        crosses::<Shown<J>>();
+        sends::<ViewReader<J>>();
+        sends::<Option<ViewReader<J>>>();
+        sends::<Actor<J>>();
+        sends::<Admin<J>>();
+        sends::<ViewWriter<J>>();
+        sends::<Option<ViewWriter<J>>>();
+        sends::<Roll<J>>();
+        sends::<Desk<J>>();
+        shares::<Door<J, NoGate>>();
+        shares::<Installs>();
+        started = scope
+            .spawn(move || {
+                let mut first = first;
+                install_stricter(rt, alloc, door, &mut first, installs);
+            })
+            .is_ok();
+        install_device(rt, alloc, door, &mut second, installs);
+    });
+    started
+}
+
+fn install_stricter<J: Naming, R: Wait + Abort>(
+    rt: &R,
+    alloc: Global,
+    door: &Door<J, NoGate>,
+    me: &mut Admin<J>,
+    installs: &Installs,
+) {
+    install_over_first(
+        rt,
+        door,
+        me,
+        policy(rt, alloc, STRICTER_RULES),
+        false,
+        installs,
+    );
+}
+
+fn install_device<J: Naming, R: Wait + Abort>(
+    rt: &R,
+    alloc: Global,
+    door: &Door<J, NoGate>,
+    me: &mut Admin<J>,
+    installs: &Installs,
+) {
+    install_over_first(
+        rt,
+        door,
+        me,
+        policy(rt, alloc, DEVICE_RULES),
+        true,
+        installs,
+    );
+}
+
+/// Installs a policy over version 1. One that comes back decides whether an untrusted application may find `activity`
+/// as the one that was passed.
+fn install_over_first<J: Naming, R: Wait>(
+    rt: &R,
+    door: &Door<J, NoGate>,
+    me: &mut Admin<J>,
+    policy: Prepared,
+    finds: bool,
+    installs: &Installs,
+) {
+    match door.install(rt, me, 1, policy) {
+        Ok(2) => {
+            installs.done.fetch_add(1, Ordering::SeqCst);
+        }
+        Err((Refusal::VersionMoved(2), back)) => {
+            let found = back.allows(
+                b"untrusted_app",
+                b"activity_service",
+                Class::ServiceManager,
+                Perms::FIND,
+            );
+            if found == finds {
+                installs.moved.fetch_add(1, Ordering::SeqCst);
+            }
+        }
+        _ => (),
+    }
 }
 
 fn shares<X: Sync>()

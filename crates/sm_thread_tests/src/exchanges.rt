@@ -9,9 +9,9 @@ use sm_history::{Event, Failure, Outcome, Query, Refusal, Reply};
 use sm_kinds::{Identity, Places};
 use sm_policy::Prepared;
 use sm_roll::{Blank, Naming};
-use sm_samples::DEVICE_RULES;
+use sm_samples::{DEVICE_RULES, STRICTER_RULES, device_rules_with};
 use sm_view::{NoGate, is_death};
-use sm_wire::{Kind, Request, Telling, reply_line};
+use sm_wire::{Kind, Request, Telling, push_denials, reply_line};
 use std::alloc::Global;
 use std::marker::Brand;
 use std::process::Abort;
@@ -23,9 +23,11 @@ enum Sender {
     Service,
     Application,
     Admin,
+    /// The administrator, who installs these rules. The line is the version that is expected.
+    Installs(&'static [u8]),
 }
 
-use Sender::{Admin as Administrator, Application, Service};
+use Sender::{Admin as Administrator, Application, Installs, Service};
 
 /// Lines, each with who sends it and the line that answers it.
 type Exchange = &'static [(Sender, &'static str, &'static str)];
@@ -119,7 +121,12 @@ fn client_line<J: Naming, R: Wait + Abort>(
     (told.expect(rt, "a line"), session)
 }
 
-/// The line that answers the administrator, who seals or asks for the version.
+fn whole_line(rt: &impl Abort, alloc: Global, reply: &Reply) -> Vec<u8> {
+    let told = reply_line(alloc, Telling::Whole, reply).ok();
+    told.expect(rt, "a line")
+}
+
+/// The lines that answer the administrator.
 fn admin_line<J: Naming, R: Wait + Abort>(
     rt: &R,
     alloc: Global,
@@ -127,13 +134,54 @@ fn admin_line<J: Naming, R: Wait + Abort>(
     admin: &mut Admin<J>,
     line: &str,
 ) -> Vec<u8> {
-    let reply = if line == "seal" {
-        seal(rt, door, admin)
-    } else {
-        door.version(admin)
+    let request = Request::read(alloc, Kind::Admin, line.as_bytes()).ok();
+    match request.expect(rt, "a request") {
+        Request::Denials => denials(rt, alloc, door, admin),
+        Request::Seal => whole_line(rt, alloc, &seal(rt, door, admin)),
+        Request::Look(_, query) => whole_line(rt, alloc, &admin_look(door, admin, query)),
+        _ => whole_line(rt, alloc, &not_connected()),
+    }
+}
+
+fn admin_look<J: Naming>(door: &Door<J, NoGate>, admin: &mut Admin<J>, query: Query) -> Reply {
+    match query {
+        Query::Explain {
+            source,
+            target,
+            class,
+            perm,
+        } => door.explain(admin, source, target, class, perm),
+        _ => door.version(admin),
+    }
+}
+
+fn denials<J: Naming, R: Wait + Abort>(
+    rt: &R,
+    alloc: Global,
+    door: &Door<J, NoGate>,
+    admin: &mut Admin<J>,
+) -> Vec<u8> {
+    let records = door.denials(rt, admin).ok().expect(rt, "records");
+    let mut told = Vec::new(alloc);
+    assert!(rt; push_denials(alloc, &mut told, records.as_slice()).is_ok());
+    told
+}
+
+/// The line that answers the administrator who installs a policy with these rules.
+fn install_line<J: Naming, R: Wait + Abort>(
+    rt: &R,
+    alloc: Global,
+    door: &Door<J, NoGate>,
+    admin: &mut Admin<J>,
+    rules: &[u8],
+    expected: &str,
+) -> Vec<u8> {
+    let expected = expected.parse::<u64>().ok().expect(rt, "a version");
+    let reply = match door.install(rt, admin, expected, policy(rt, alloc, rules)) {
+        Ok(version) => Reply::Done(Outcome::Reloaded(version)),
+        Err((refusal, _)) => Reply::Refused(refusal),
     };
-    let told = reply_line(alloc, Telling::Whole, &reply).ok();
-    told.expect(rt, "a line")
+    whole_line(rt, alloc, &reply)
 }
 
 /// Seals. A segment's replay has the length of the segment.
@@ -174,14 +222,15 @@ impl<J: Naming> Parties<J> {
                 told
             }
             Administrator => admin_line(rt, alloc, door, &mut self.admin, line),
+            Installs(rules) => install_line(rt, alloc, door, &mut self.admin, rules, line),
         }
     }
 }
 
-/// Holds an exchange at a door whose journal has `places` slots.
-fn holds<R: Wait + Abort>(rt: &R, alloc: Global, places: u32, exchange: Exchange) {
+/// Holds an exchange at a door with these rules whose journal has `places` slots.
+fn holds<R: Wait + Abort>(rt: &R, alloc: Global, rules: &[u8], places: u32, exchange: Exchange) {
     let who = manager(rt, alloc);
-    let rules = policy(rt, alloc, DEVICE_RULES);
+    let rules = policy(rt, alloc, rules);
     let places = Places::new(places).expect(rt, "places");
     exchanges::<Brand, R>(rt, alloc, Blank::new(), who, rules, places, exchange);
 }
@@ -243,7 +292,7 @@ const A_FULL_JOURNAL_IS_SEALED: Exchange = &[
 
 #[test]
 fn a_full_journal_is_sealed(rt: HostRuntime) {
-    holds(&rt, rt.alloc(), 4, A_FULL_JOURNAL_IS_SEALED);
+    holds(&rt, rt.alloc(), DEVICE_RULES, 4, A_FULL_JOURNAL_IS_SEALED);
 }
 
 const CHANGES_OF_EACH_KIND: Exchange = &[
@@ -290,5 +339,83 @@ const CHANGES_OF_EACH_KIND: Exchange = &[
 
 #[test]
 fn changes_of_each_kind(rt: HostRuntime) {
-    holds(&rt, rt.alloc(), 1000, CHANGES_OF_EACH_KIND);
+    holds(&rt, rt.alloc(), DEVICE_RULES, 1000, CHANGES_OF_EACH_KIND);
+}
+
+const EXPLANATIONS_AND_A_DENIAL: Exchange = &[
+    (
+        Administrator,
+        "explain untrusted_app system_server binder call",
+        "allowed 1 15",
+    ),
+    (
+        Administrator,
+        "explain system_server untrusted_app binder call",
+        "unwritten 1",
+    ),
+    (Administrator, "denials", "denials 0"),
+    (Service, "hello 100 1000 u:r:system_server:s0", "client 1"),
+    (Service, "add activity o1 0 8", "ok"),
+    (
+        Application,
+        "hello 200 10007 u:r:untrusted_app:s0",
+        "client 2",
+    ),
+    (Application, "get activity", "handle 1"),
+    (Application, "get activity", "handle 1"),
+    (Application, "add activity o1 0 8", "exception -1 app 10007"),
+    (
+        Administrator,
+        "denials",
+        "denials 1\njournal=6 version=1 clause: denied app for pid=200 uid=10007 name=activity scontext=u:r:untrusted_app:s0",
+    ),
+    (
+        Application,
+        "list 15",
+        "exception -1 denied untrusted_app servicemanager service_manager list",
+    ),
+];
+
+#[test]
+fn explanations_and_a_denial(rt: HostRuntime) {
+    holds(
+        &rt,
+        rt.alloc(),
+        DEVICE_RULES,
+        1000,
+        EXPLANATIONS_AND_A_DENIAL,
+    );
+}
+
+/// What `denials` answers of an access that passed since its source is permissive, of a watcher that wasn't told and of
+/// a refused `add`.
+const THREE_DENIALS: &str = "denials 3
+journal=4 version=1 avc: denied { find } for pid=200 uid=10007 name=foo scontext=u:r:untrusted_app:s0 tcontext=u:object_r:default_android_service:s0 tclass=service_manager permissive=1
+journal=5 version=2 avc: denied { find } for pid=200 uid=10007 name=activity scontext=u:r:untrusted_app:s0 tcontext=u:object_r:activity_service:s0 tclass=service_manager permissive=0
+journal=6 version=2 clause: denied app for pid=200 uid=10007 name=activity scontext=u:r:untrusted_app:s0";
+
+/// An application is permissive under the first policy, and may not find `activity` under the second one.
+const DENIALS_OF_EACH_KIND: Exchange = &[
+    (Service, "hello 100 1000 u:r:system_server:s0", "client 1"),
+    (
+        Application,
+        "hello 200 10007 u:r:untrusted_app:s0",
+        "client 2",
+    ),
+    (Application, "watch activity o7", "ok"),
+    (Application, "get foo", "null"),
+    (Installs(STRICTER_RULES), "1", "reloaded 2"),
+    (Installs(STRICTER_RULES), "1", "moved 2"),
+    (Service, "add activity o1 0 8", "ok"),
+    (Application, "take", "empty"),
+    (Application, "add activity o1 0 8", "exception -1 app 10007"),
+    (Administrator, "denials", THREE_DENIALS),
+    (Administrator, "denials", THREE_DENIALS),
+];
+
+#[test]
+fn denials_of_each_kind(rt: HostRuntime) {
+    let rules = device_rules_with(rt.alloc(), b"permissive untrusted_app;\n").ok();
+    let rules = rules.expect(&rt, "rules");
+    holds(&rt, rt.alloc(), &rules, 1000, DENIALS_OF_EACH_KIND);
 }

@@ -3,4 +3,4 @@ use Rattle.sm_thread_tests.proofs.door.a_change_is_seen_after_a_meeting_and_with
 
 -- The roll that was just made, and the opening.
 abbrev pub ghosts-meets : goal.ghosts-meets
-ghosts-meets g a = record { roll = a.blank.seen.book; opening = opened a.places a.who a.policy }
+ghosts-meets g a = record { roll = a.blank.seen.book; opening = opened a.places a.who a.rules }

@@ -14,7 +14,7 @@ enter_as-requires g c x = enters g.J.Naming.opening (λ s. arc_value s.page) _ _
 
 pub returns-then-found-clause-begins : goal.returns-then-found-clause-begins
 returns-then-found-clause-begins g c =
-    let p : Begins c.args.self.now (place_view c.loop.reader.place).seen =
+    let p : Begins c.args.self.now.book (place_view c.loop.reader.place).seen =
     search (
       rules,
       c.leave-reader.ensures,

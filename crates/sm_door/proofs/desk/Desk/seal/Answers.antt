@@ -5,6 +5,7 @@ use Rattle.sm_history.specs.Books.{Book}
 use Rattle.sm_view.specs.Begins.{Begins, sealed_book}
 use Rattle.sm_view.specs.Steps.{Seals}
 use Rattle.sm_view.proofs.Books.{book_behind}
+use Rattle.sm_door.specs.Locked.{Locked}
 use Rattle.sm_door.proofs.Places.{same_book, seals_done}
 use Rattle.sm_door.proofs.desk.Desk.seal.Goals as goal
 
@@ -23,9 +24,10 @@ show-writer-requires g c =
     subst (λ (z : Book × Book). Begins z.0 z.1)
     (λ i. (sym next i, sym (was ∙ sym (same_book _ _ c.ready_seal.ensures.same)) i)) (book_behind b)
 
-pub returns-in-Ok-shown : goal.returns-in-Ok-shown
-returns-in-Ok-shown g c =
+pub returns-in-Ok-shown-clause-seals : goal.returns-in-Ok-shown-clause-seals
+returns-in-Ok-shown-clause-seals g c =
     let r = c.in-Ok.ensures.ready in
-    let same = same_book _ _ c.ready_seal.ensures.same ∙ c.self.view_is in
-    subst (λ (b : Book). Seals b c.commit_seal.result c.commit_seal.new.self.book) same
-    (seals_done _ _ _ r.some c.commit_seal.ensures.segment c.commit_seal.ensures.places c.commit_seal.ensures.history)
+    subst (λ (l : Locked). Seals l.book c.commit_seal.result c.commit_seal.new.self.book) c.self.view_is
+    (subst (λ (b : Book). Seals b c.commit_seal.result c.commit_seal.new.self.book)
+    (same_book _ _ c.ready_seal.ensures.same)
+    (seals_done _ _ _ r.some c.commit_seal.ensures.segment c.commit_seal.ensures.places c.commit_seal.ensures.history))

@@ -6,7 +6,7 @@ use Rattle.sm_roll.specs.contracts.roll.Roll as Roll
 use Rattle.sm_core.proofs.Crossing.{view_send, view_sync}
 use Rattle.sm_core.proofs.CrossingManager.{manager_send}
 use Rattle.sm_door.proofs.Crossing.{actor_send, desk_send, page_row, reader_row, writer_row}
-use Rattle.sm_thread_tests.proofs.door.fn.lists_while_held.scope.Goals as goal
+use Rattle.sm_thread_tests.proofs.door.fn.both_install.scope.Goals as goal
 
 pub crosses-requires-send-X : goal.crosses-requires-send-X
 crosses-requires-send-X g c κs = param_send 0 _ (arg_send _ no _ view_send)

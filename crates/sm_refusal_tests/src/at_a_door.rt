@@ -1,0 +1,145 @@
+//! A door: sessions, changes, reads, installs, denials and seals.
+
+ghost use Rattle.std.specs.Prelude.{◌≡◌};
+ghost use Rattle.sm_core.specs.Opening.{opened};
+
+use crate::manager::{activity, is_memory, lists_activity, policy, process};
+use sm_door::{Admin, Door, Seat, Session};
+use sm_history::{Outcome, Refusal, Reply};
+use sm_kinds::{Identity, Places};
+use sm_policy::Prepared;
+use sm_roll::{Blank, Naming};
+use sm_view::NoGate;
+use std::alloc::Global;
+use std::marker::Brand;
+use std::process::Abort;
+use std::sync::Wait;
+
+/// A session of a server. `None` if memory was refused; the seat comes back, and another try succeeds.
+fn joined<J: Naming, R: Wait + Abort>(
+    rt: &R,
+    alloc: Global,
+    door: &Door<J, NoGate>,
+    seat: Seat<J>,
+) -> Option<Session<J>> {
+    let who = process(alloc, b"u:r:system_server:s0")?;
+    let again = process(alloc, b"u:r:system_server:s0")?;
+    match door.connect(rt, seat, who) {
+        Ok(session) => Some(session),
+        Err((refusal, seat)) => {
+            assert!(rt; matches!(refusal, Refusal::Memory));
+            let session = door.connect(rt, seat, again).ok();
+            assert!(rt; session.is_some());
+            session
+        }
+    }
+}
+
+/// Adds `activity`. After a refusal nothing has changed, and another try succeeds.
+fn adds<J: Naming, R: Wait + Abort>(
+    rt: &R,
+    alloc: Global,
+    door: &Door<J, NoGate>,
+    me: &mut Session<J>,
+) -> Option<()> {
+    let event = activity(alloc)?;
+    let again = activity(alloc)?;
+    let mut reply = door.submit(rt, me, event);
+    if is_memory(&reply) {
+        reply = door.submit(rt, me, again);
+    }
+    assert!(rt; matches!(&reply, Reply::Done(Outcome::Added(_))));
+    Some(())
+}
+
+/// Installs a policy over version 1. One that comes back since memory was refused is installed at the second try.
+fn installs<J: Naming, R: Wait + Abort>(
+    rt: &R,
+    alloc: Global,
+    door: &Door<J, NoGate>,
+    me: &mut Admin<J>,
+) -> Option<()> {
+    match door.install(rt, me, 1, policy(rt, alloc)?) {
+        Ok(version) => assert!(rt; version == 2),
+        Err((refusal, back)) => {
+            assert!(rt; matches!(refusal, Refusal::Memory));
+            assert!(rt; matches!(door.install(rt, me, 1, back), Ok(2)));
+        }
+    }
+    Some(())
+}
+
+fn seals<J: Naming, R: Wait + Abort>(rt: &R, door: &Door<J, NoGate>, me: &mut Admin<J>) {
+    let mut closed = door.seal(rt, me);
+    if matches!(&closed, Err(Refusal::Memory)) {
+        closed = door.seal(rt, me);
+    }
+    match closed {
+        Ok(segment) => assert!(rt; segment.number() == 1 && segment.length() == 4),
+        Err(_) => panic!(rt; "no segment"),
+    }
+}
+
+/// Ends a session. After a refusal the session comes back, and another try succeeds.
+fn leaves<J: Naming, R: Wait + Abort>(rt: &R, door: &Door<J, NoGate>, me: Session<J>) {
+    if let Err((refusal, me)) = door.leave(rt, me) {
+        assert!(rt; matches!(refusal, Refusal::Memory));
+        assert!(rt; door.leave(rt, me).is_ok());
+    }
+}
+
+fn calls<J: Naming, R: Wait + Abort>(
+    rt: &R,
+    alloc: Global,
+    door: &Door<J, NoGate>,
+    seat: Seat<J>,
+    mut admin: Admin<J>,
+) -> Option<()> {
+    let mut me = joined(rt, alloc, door, seat)?;
+    adds(rt, alloc, door, &mut me)?;
+    lists_activity(rt, &door.list(&mut me, 15), 3)?;
+    installs(rt, alloc, door, &mut admin)?;
+    let records = door.denials(rt, &mut admin).ok()?;
+    assert!(rt; records.is_empty());
+    seals(rt, door, &mut admin);
+    leaves(rt, door, me);
+    Some(())
+}
+
+fn opens<J: Naming, R: Wait + Abort>(
+    rt: &R,
+    alloc: Global,
+    blank: Blank,
+    who: Identity,
+    rules: Prepared,
+    places: Places,
+) -> Option<()>
+    requires roll { blank.seen.book ≡ J.roll }
+    requires opening { J.opening ≡ opened places who rules }
+{
+    match Door::<J, NoGate>::open(rt, alloc, blank, who, rules, places, NoGate) {
+        Ok((door, mut seats, mut admins)) => {
+            let seat = seats.pop().expect(rt, "a seat");
+            let admin = admins.pop().expect(rt, "an administrator");
+            let ended = calls(rt, alloc, &door, seat, admin);
+            door.close(rt);
+            ended
+        }
+        Err(refusal) => {
+            assert!(rt; matches!(refusal, Refusal::Memory | Refusal::NoSeat));
+            None
+        }
+    }
+}
+
+fn door<R: Wait + Abort>(rt: &R, alloc: Global) -> Option<()> {
+    let who = process(alloc, b"u:r:servicemanager:s0")?;
+    let rules = policy(rt, alloc)?;
+    let places = Places::new(1000).expect(rt, "places");
+    opens::<Brand, R>(rt, alloc, Blank::new(), who, rules, places)
+}
+
+#[test]
+fn each_call_of_a_door(rt: HostRuntime) {
+    assert!(rt; door(&rt, rt.alloc()).is_some() || door(&rt, rt.alloc()).is_some());
+}

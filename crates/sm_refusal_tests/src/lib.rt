@@ -1,0 +1,20 @@
+//! Tests for runs in which one allocation fails: `rt try --test --fail-alloc 1..` in this folder.
+//!
+//! A test makes calls that allocate. Each call gives the right value, or reports that an allocation failed and changes
+//! nothing. After a failed allocation the test runs once more, and then every call has to give its value.
+#![tactic(auto)]
+
+#[cfg(test)]
+mod at_a_door;
+#[cfg(test)]
+mod manager;
+#[cfg(test)]
+mod outcome;
+#[cfg(test)]
+mod policy;
+#[cfg(test)]
+mod programs;
+#[cfg(test)]
+mod tables;
+#[cfg(test)]
+mod texts;

@@ -1,0 +1,160 @@
+//! The manager's tables, and its audit records.
+
+use sm_audit::{Ring, line};
+use sm_grants::Grants;
+use sm_history::{
+    BoxedDelivery, Delivery, Denial, Given, MOST_WATCHES, Message, Record, Service, WatchPair,
+};
+use sm_inbox::Inboxes;
+use sm_kinds::{ClientId, Context, Identity, Name, Node};
+use sm_names::Names;
+use std::alloc::Global;
+use std::process::Abort;
+use std::test::*;
+
+fn object(object: u32) -> Node {
+    Node {
+        owner: ClientId(1),
+        object,
+    }
+}
+
+/// The number under which client 7 is given an object.
+fn given(rt: &impl Abort, grants: &mut Grants, node: Node) -> Option<u32> {
+    if grants.reserve(7, 1).is_err() {
+        assert!(rt; grants.count(7, node) == 0);
+        return None;
+    }
+    assert!(rt; grants.is_ready(7, node));
+    Some(grants.grant(7, node))
+}
+
+fn handles(rt: &impl Abort, alloc: Global) -> Option<()> {
+    let mut grants = Grants::new(alloc);
+    assert!(rt; given(rt, &mut grants, object(5))? == 1);
+    assert!(rt; given(rt, &mut grants, object(6))? == 2);
+    assert!(rt; grants.node(7, 1) == Some(object(5)));
+    let numbers = grants.numbers(alloc, 7, &[object(9), object(6)]).ok()?;
+    assert!(rt; numbers.as_slice() == [3, 2].as_slice());
+    let listed = grants.listed(alloc, 7).ok()?;
+    assert!(rt; listed.iter().filter(|slot| slot.is_some()).count() == 2);
+    Some(())
+}
+
+#[test]
+fn handles_are_given(rt: HostRuntime) {
+    assert!(rt; handles(&rt, rt.alloc()).is_some() || handles(&rt, rt.alloc()).is_some());
+}
+
+/// Makes room for one name and one watch. A refusal leaves both tables as they were.
+fn room(rt: &impl Abort, names: &mut Names, watches: usize) -> Option<()> {
+    if names.reserve(1).is_err() {
+        assert!(rt; names.watches() == watches && names.get(b"power").is_none());
+        return None;
+    }
+    assert!(rt; names.is_ready() && names.watches() < MOST_WATCHES);
+    Some(())
+}
+
+fn services(rt: &impl Abort, alloc: Global) -> Option<()> {
+    let power = Name::new(alloc, b"power").ok()?;
+    let pair = WatchPair::new(7, &power, 3).ok()?;
+    let mut names = Names::new(alloc);
+    room(rt, &mut names, 0)?;
+    if names.is_ready() && names.watches() < MOST_WATCHES {
+        names.watch(pair);
+    }
+    room(rt, &mut names, 1)?;
+    if names.is_ready() {
+        names.put(power, service());
+    }
+    listed(rt, alloc, &names)
+}
+
+fn service() -> Service {
+    Service {
+        node: object(5),
+        adder: 1,
+        allow_isolated: false,
+        dump: 8,
+    }
+}
+
+fn listed(rt: &impl Abort, alloc: Global, names: &Names) -> Option<()> {
+    assert!(rt; names.watchers(b"power").len() == 1);
+    let found = names.by_mask(alloc, 24).ok()?;
+    assert!(rt; found.len() == 1 && found[0].bytes() == b"power".as_slice());
+    let watches = names.listed_watches(alloc).ok()?;
+    assert!(rt; watches.len() == 1 && watches[0].client == 7);
+    Some(())
+}
+
+#[test]
+fn services_and_watches_are_kept(rt: HostRuntime) {
+    assert!(rt; services(&rt, rt.alloc()).is_some() || services(&rt, rt.alloc()).is_some());
+}
+
+fn deliveries(rt: &impl Abort, alloc: Global) -> Option<()> {
+    let name = Name::new(alloc, b"power").ok()?;
+    let delivery = Delivery {
+        object: 3,
+        what: Message::Registered {
+            name,
+            given: Given::Null,
+        },
+    };
+    let delivery = BoxedDelivery::new(alloc, delivery).ok()?;
+    let mut inboxes = Inboxes::new(alloc);
+    if inboxes.reserve(7).is_err() {
+        assert!(rt; inboxes.first(7).is_none() && inboxes.has_room(7));
+        return None;
+    }
+    if inboxes.can_put(7) {
+        inboxes.put(7, delivery);
+    }
+    let waiting = inboxes.listed(alloc, 7).ok()?;
+    assert!(rt; waiting.len() == 1 && waiting[0].delivery().object == 3);
+    Some(())
+}
+
+#[test]
+fn deliveries_wait(rt: HostRuntime) {
+    assert!(rt; deliveries(&rt, rt.alloc()).is_some() || deliveries(&rt, rt.alloc()).is_some());
+}
+
+const LINE: &[u8] =
+    b"journal=6 version=1 clause: denied app for pid=200 uid=10007 name=activity scontext=u:r:untrusted_app:s0\n";
+
+fn record(alloc: Global) -> Option<Record> {
+    let name = Name::new(alloc, b"activity").ok()?;
+    let context = Context::read(alloc, b"u:r:untrusted_app:s0").ok()?;
+    Some(Record {
+        length: 6,
+        version: 1,
+        denial: Denial::App(10007),
+        permissive: false,
+        who: Identity {
+            pid: 200,
+            uid: 10007,
+            context,
+        },
+        target: None,
+        name: Some(name),
+    })
+}
+
+fn records(rt: &impl Abort, alloc: Global) -> Option<()> {
+    let mut ring = Ring::new(alloc).ok()?;
+    let denied = record(alloc)?;
+    let text = line(alloc, &denied).ok()?;
+    assert!(rt; text.as_slice() == LINE);
+    ring.push(denied);
+    let all = ring.all(alloc).ok()?;
+    assert!(rt; all.len() == 1 && all[0].length == 6);
+    Some(())
+}
+
+#[test]
+fn records_are_kept(rt: HostRuntime) {
+    assert!(rt; records(&rt, rt.alloc()).is_some() || records(&rt, rt.alloc()).is_some());
+}
