@@ -33,4 +33,5 @@ pub use page::Page;
 pub use published::{Known, OneHistory, Shown, ViewReader, ViewWriter};
 pub use seat::Seat;
 pub use session::Session;
+pub use sm_view::Gate;
 pub use token::Token;

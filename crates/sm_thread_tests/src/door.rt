@@ -5,13 +5,13 @@ ghost use Rattle.sm_core.specs.Opening.{opened};
 ghost use denote.Param.Send.{IsSend, IsSync};
 
 use sm_core::View;
-use sm_door::*;
+use sm_door::{Actor, Admin, Desk, Door, Gate, Page, Seat, Session, Shown, ViewReader, ViewWriter};
 use sm_history::{Answer, Event, Outcome, Refusal, Reply, Segment};
 use sm_kinds::{Class, Context, Identity, Name, ObjRef, Perms, Places};
 use sm_policy::Prepared;
 use sm_roll::{Badge, Blank, Naming, Roll};
 use sm_samples::{DEVICE_LABELS, DEVICE_RULES, STRICTER_RULES};
-use sm_view::{Gate, NoGate};
+use sm_view::NoGate;
 use std::alloc::Global;
 use std::marker::Brand;
 use std::process::Abort;
