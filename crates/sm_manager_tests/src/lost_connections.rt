@@ -159,6 +159,52 @@ fn each_write_fails(rt: HostRuntime) -> Result<(), Fail> {
     Ok(())
 }
 
+// Lines come one byte a read, and the Nth write fails: no line after the Nth is asked. How many were asked.
+fn asked_before(rt: &impl Abort, alloc: Global, policy: &Prepared, said: &Said, n: u32) -> u32 {
+    let reader = OneByte(said.script.as_slice());
+    let writer = FailAt {
+        inner: Vec::new(alloc),
+        left: n,
+    };
+    let desk = ManagerDesk::open(rt, alloc, policy, 1000);
+    let left = attend(alloc, Kind::Client, desk, reader, writer, 1000);
+    assert!(rt; matches!(left.ending, Err(Fault::WriteFault)));
+    left.desk.asked
+}
+
+#[test]
+fn nothing_is_asked_after_a_failed_write(rt: HostRuntime) -> Result<(), Fail> {
+    let alloc = rt.alloc();
+    let client = with_bye(alloc)?;
+    let policy = policy(&rt, alloc);
+    // Three of the seven lines are in their place.
+    let counts = [0u32, 1, 1, 1, 2, 2, 3];
+    for (n, asked) in (1..8).zip(counts) {
+        assert_eq!(rt; asked_before(&rt, alloc, &policy, &client.said, n), asked);
+    }
+    Ok(())
+}
+
+// All lines come by one read, so their replies are written together, up to 8,192 bytes and the last reply. That are
+// 683 replies of 12 bytes.
+#[test]
+fn few_lines_of_a_piece_are_asked_before_a_failed_write(rt: HostRuntime) -> Result<(), Fail> {
+    let alloc = rt.alloc();
+    let mut script = Vec::new(alloc);
+    for _ in 0..1024 {
+        script.extend_from_slice(b"version\n")?;
+    }
+    let writer = FailAt {
+        inner: Vec::new(alloc),
+        left: 1,
+    };
+    let desk = ManagerDesk::open(&rt, alloc, &policy(&rt, alloc), 1000);
+    let left = attend(alloc, Kind::Admin, desk, script.as_slice(), writer, 1000);
+    assert!(rt; matches!(left.ending, Err(Fault::WriteFault)));
+    assert_eq!(rt; left.desk.asked, 683);
+    Ok(())
+}
+
 // A connection whose bytes come so many at a time, and whose answers are taken one byte a write.
 fn in_pieces(
     rt: &impl Abort,

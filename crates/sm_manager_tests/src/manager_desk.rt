@@ -19,6 +19,8 @@ pub struct ManagerDesk {
     manager: Manager,
     /// The client that the connection made, until it has left.
     pub client: Option<ClientId>,
+    /// How often it was asked.
+    pub asked: u32,
     /// How often it was told that a connection has ended.
     pub ends: u32,
 }
@@ -29,6 +31,7 @@ impl Drop for ManagerDesk {
             alloc: _,
             manager: _,
             client: _,
+            asked: _,
             ends: _,
         } = self;
     }
@@ -45,6 +48,7 @@ impl ManagerDesk {
             alloc,
             manager: manager.ok().expect(rt, "a manager"),
             client: None,
+            asked: 0,
             ends: 0,
         }
     }
@@ -101,6 +105,7 @@ impl Desk for ManagerDesk {
     ghost leaves = { λ _ _. Unit {0} };
 
     fn hello(&mut self, who: Identity) -> Response {
+        self.asked = self.asked.saturating_add(1);
         let reply = self.step(By::Manager, Event::Connect(who));
         if let Reply::Done(Outcome::Connected(client)) = &reply {
             self.client = Some(*client);
@@ -109,6 +114,7 @@ impl Desk for ManagerDesk {
     }
 
     fn ask(&mut self, request: Request) -> Response {
+        self.asked = self.asked.saturating_add(1);
         match request {
             Request::Change(_, event) => self.change(event),
             Request::Look(_, query) => Response::Replied(self.manager.look(self.by(), query)),
@@ -119,6 +125,7 @@ impl Desk for ManagerDesk {
     }
 
     fn reload(&mut self, expected: u64, rules: &[u8], contexts: &[u8]) -> Response {
+        self.asked = self.asked.saturating_add(1);
         match Prepared::from_texts(self.alloc, rules, contexts) {
             Ok(prepared) => self.change(Event::Reload { expected, prepared }),
             Err(fault) => Response::PolicyRefused(fault),
