@@ -6,3 +6,4 @@ mod ring;
 
 pub use lines::{line, push_line, push_lines};
 pub use ring::{MOST_RECORDS, Ring};
+pub use sm_history::Record;

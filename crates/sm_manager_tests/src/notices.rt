@@ -102,7 +102,13 @@ fn add(rt: &impl Abort, alloc: Global) -> Event {
     }
 }
 
-// Under the second policy an application may not find `activity` any more.
+/// What a change tells, and the number of audit records that it leaves.
+fn noted(manager: &mut Manager, by: By, turn: u64, event: Event) -> (Heard, usize) {
+    let (reply, records) = manager.step_recorded(by, turn, event);
+    (told_by(&reply), records.len())
+}
+
+// Under the second policy an application may not find `activity` any more. That it isn't told is recorded.
 #[test]
 fn a_watcher_is_told_of_what_it_may_find(rt: HostRuntime) {
     let alloc = rt.alloc();
@@ -121,9 +127,14 @@ fn a_watcher_is_told_of_what_it_may_find(rt: HostRuntime) {
     assert_eq!(rt; told_by(&reply), Heard::Done);
     let reply = manager.step(SERVER, 2, add(&rt, alloc));
     assert_eq!(rt; told_by(&reply), Heard::One(2, 7, Became::Denied));
+    assert_eq!(rt;
+        noted(&mut manager, SERVER, 3, add(&rt, alloc)),
+        (Heard::One(2, 7, Became::Denied), 1)
+    );
 }
 
-// The server's inbox has 256 calls when it watches the name of its own service.
+// The server's inbox has 256 calls when it watches the name of its own service. A full inbox is no denial, so it is
+// not recorded.
 #[test]
 fn a_watcher_whose_inbox_is_full(rt: HostRuntime) {
     let alloc = rt.alloc();
@@ -147,4 +158,8 @@ fn a_watcher_whose_inbox_is_full(rt: HostRuntime) {
     }
     let reply = manager.step(SERVER, 1, watch(&rt, alloc));
     assert_eq!(rt; told_by(&reply), Heard::One(1, 7, Became::TargetFull));
+    assert_eq!(rt;
+        noted(&mut manager, SERVER, 2, watch(&rt, alloc)),
+        (Heard::One(1, 7, Became::TargetFull), 0)
+    );
 }

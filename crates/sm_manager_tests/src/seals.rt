@@ -192,3 +192,26 @@ fn a_segment_begins_with_the_watches_in_their_order(rt: HostRuntime) {
         .and_then(|rows| rows.watches().last().map(|w| w.object));
     assert_eq!(rt; (first, last), (Some(1), Some(4)));
 }
+
+// A segment of several chunks: its replay gives what the next segment begins with.
+#[test]
+fn a_long_segment_is_replayed(rt: HostRuntime) {
+    let alloc = rt.alloc();
+    let mut manager = opened(&rt, alloc, 100_000);
+    assert!(rt;
+        does(
+            &mut manager,
+            By::Manager,
+            Event::Connect(server(&rt, alloc))
+        )
+    );
+    for _ in 0..5_000 {
+        assert!(rt; does(&mut manager, SERVER, add(&rt, alloc)));
+    }
+    let segment = manager.seal().ok().expect(&rt, "a segment");
+    assert_eq!(rt; segment.length(), 5_002);
+    let rows = segment.replay().ok().expect(&rt, "memory");
+    assert!(rt; does(&mut manager, SERVER, add(&rt, alloc)));
+    let next = manager.seal().ok().expect(&rt, "a segment");
+    assert!(rt; same_rows(&rows, next.opening()));
+}
