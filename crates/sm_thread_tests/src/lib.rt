@@ -6,6 +6,8 @@ mod door;
 #[cfg(test)]
 mod exchanges;
 #[cfg(test)]
+mod operations;
+#[cfg(test)]
 mod rolls;
 #[cfg(test)]
 mod server;
