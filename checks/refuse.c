@@ -1,8 +1,13 @@
 /* Refuses allocations of the program that it is preloaded into (LD_PRELOAD): the one whose number is in REFUSE_AT, or
  * all from the one whose number is in REFUSE_FROM on. Allocations are numbered from 1, over all threads. The file that
  * REFUSE_COUNTS names, of 16 bytes, gets two counts in the machine's byte order: of allocations and of refusals. They
- * are kept while the program runs, so a program that is killed leaves them, too. For Linux with glibc. */
+ * are kept while the program runs, so a program that is killed leaves them, too. A file of 24 bytes has a third number
+ * behind them: while it isn't 0, all allocations are refused. ACCEPT_FAILS_AT is the number of the call of accept4 that
+ * fails with the error whose number is in ACCEPT_ERROR. For Linux with glibc. */
 
+#define _GNU_SOURCE
+
+#include <dlfcn.h>
 #include <errno.h>
 #include <fcntl.h>
 #include <stdatomic.h>
@@ -10,6 +15,7 @@
 #include <stdint.h>
 #include <stdlib.h>
 #include <sys/mman.h>
+#include <sys/socket.h>
 #include <unistd.h>
 
 void *__libc_malloc(size_t size);
@@ -20,12 +26,16 @@ void *__libc_memalign(size_t alignment, size_t size);
 struct counts {
     _Atomic uint64_t allocations;
     _Atomic uint64_t refusals;
+    _Atomic uint64_t refused_now;
 };
 
 static struct counts unshared;
 static struct counts *counts = &unshared;
 static uint64_t refused_at;
 static uint64_t refused_from;
+static uint64_t accept_fails_at;
+static int accept_error;
+static _Atomic uint64_t accepts;
 
 static uint64_t number_of(const char *variable)
 {
@@ -35,6 +45,8 @@ static uint64_t number_of(const char *variable)
 
 __attribute__((constructor)) static void begin(void)
 {
+    accept_fails_at = number_of("ACCEPT_FAILS_AT");
+    accept_error = (int)number_of("ACCEPT_ERROR");
     const char *path = getenv("REFUSE_COUNTS");
     int file = path ? open(path, O_RDWR) : -1;
     if (file < 0)
@@ -51,7 +63,8 @@ __attribute__((constructor)) static void begin(void)
 static int is_refused(void)
 {
     uint64_t number = atomic_fetch_add(&counts->allocations, 1) + 1;
-    if (number != refused_at && (refused_from == 0 || number < refused_from))
+    int by_number = number == refused_at || (refused_from != 0 && number >= refused_from);
+    if (!by_number && atomic_load(&counts->refused_now) == 0)
         return 0;
     atomic_fetch_add(&counts->refusals, 1);
     errno = ENOMEM;
@@ -89,4 +102,16 @@ int posix_memalign(void **block, size_t alignment, size_t size)
         return ENOMEM;
     *block = __libc_memalign(alignment, size);
     return *block ? 0 : ENOMEM;
+}
+
+int accept4(int listener, struct sockaddr *restrict address, socklen_t *restrict length, int flags)
+{
+    static int (*really)(int, struct sockaddr *restrict, socklen_t *restrict, int);
+    if (!really)
+        *(void **)&really = dlsym(RTLD_NEXT, "accept4");
+    if (atomic_fetch_add(&accepts, 1) + 1 == accept_fails_at) {
+        errno = accept_error;
+        return -1;
+    }
+    return really(listener, address, length, flags);
 }

@@ -9,6 +9,12 @@ use std::alloc::{AllocError, Global};
 use std::rt::Env;
 use std::{env, io};
 
+/// The version of the program.
+const VERSION: &str = "0.1.0";
+
+/// The greatest permissions of a socket.
+const MOST_PERMISSIONS: u32 = 0o777;
+
 /// What the program is to do.
 #[derive(Clone, Copy, Debug, PartialEq, Eq)]
 pub enum Mode<'a> {
@@ -16,11 +22,11 @@ pub enum Mode<'a> {
     Run,
     /// `svcmgr check RULES CONTEXTS`
     Check,
-    /// `svcmgr serve [--journal N] [--workers W] --socket PATH --admin PATH RULES CONTEXTS`
+    /// `svcmgr serve [--journal N] [--seal-at N] [--workers W] [--mode MODE] --socket PATH --admin PATH RULES CONTEXTS`
     Serve(Sockets<'a>),
 }
 
-/// Where a server listens, and with how many threads it serves clients.
+/// Where a server listens, with how many threads it serves clients, and when it seals its journal by itself.
 #[derive(Clone, Copy, Debug, PartialEq, Eq)]
 pub struct Sockets<'a> {
     /// The path of the clients' socket.
@@ -29,6 +35,10 @@ pub struct Sockets<'a> {
     pub admins: &'a str,
     /// 1 to 64 threads, each of which serves one client at a time.
     pub workers: u32,
+    /// The permissions of the clients' socket, at most 0o777. `None`: the umask decides.
+    pub mode: Option<u32>,
+    /// The open segment is sealed when it has so many entries, at least 2. `None`: by administrators alone.
+    pub seal_at: Option<u32>,
 }
 
 /// What the command line asks for.
@@ -78,6 +88,20 @@ fn workers<'a>(alloc: Global) -> Arg<'a> {
         .default_value("16")
 }
 
+fn seal_at<'a>(alloc: Global) -> Arg<'a> {
+    Arg::new(alloc, "seal-at")
+        .long("seal-at")
+        .value_name("N")
+        .help("Seals the journal whenever N of its places are used, 2 to those of the journal")
+        .value_parser(value_parser!(u32).range(2..=1_048_576))
+}
+
+fn permissions<'a>(alloc: Global) -> Arg<'a> {
+    Arg::new(alloc, "mode").long("mode").value_name("MODE").help(
+        "The permissions of the clients' socket in octal, 0 to 777",
+    )
+}
+
 fn socket<'a>(alloc: Global, name: &'a str, help: &'a str) -> Arg<'a> {
     Arg::new(alloc, name)
         .long(name)
@@ -91,7 +115,9 @@ fn serve<'a>(alloc: Global) -> Result<Command<'a>, Error> {
         Command::new(alloc, "serve")
             .about("Serves clients and administrators over Unix sockets")
             .arg(journal(alloc))?
+            .arg(seal_at(alloc))?
             .arg(workers(alloc))?
+            .arg(permissions(alloc))?
             .arg(socket(alloc, "socket", "The clients' socket"))?
             .arg(socket(alloc, "admin", "The administrators' socket"))?,
     )
@@ -106,6 +132,7 @@ fn command<'a>(alloc: Global) -> Result<Command<'a>, Error> {
     Ok(
         Command::new(alloc, "svcmgr")
             .about("A service manager with SELinux access control")
+            .version(VERSION)
             .subcommand_required(true)
             .subcommand(with_files(alloc, run)?)?
             .subcommand(with_files(alloc, check)?)?
@@ -137,7 +164,44 @@ fn sockets_of<'a>(matches: &ArgMatches<'a>) -> Option<Sockets<'a>> {
         clients: matches.get_str("socket")?,
         admins: matches.get_str("admin")?,
         workers: matches.get_one::<u32>("workers")?,
+        mode: matches.get_str("mode").and_then(permissions_of),
+        seal_at: matches.get_one::<u32>("seal-at"),
     })
+}
+
+/// The permissions of one to four octal digits. `None`: the text isn't that, or they are too great.
+fn permissions_of(text: &str) -> Option<u32> {
+    let digits = text.as_bytes();
+    if digits.len() > 4 || !digits.iter().all(|digit| matches!(*digit, b'0'..=b'7')) {
+        return None;
+    }
+    match u32::from_str_radix(text, 8) {
+        Ok(mode) if mode <= MOST_PERMISSIONS => Some(mode),
+        _ => None,
+    }
+}
+
+/// What is wrong with the words for a server, of which each by itself is right.
+fn misused(matches: &ArgMatches) -> Option<&'static str> {
+    let clients = matches.get_str("socket")?;
+    let admins = matches.get_str("admin")?;
+    if clients.is_empty() {
+        return Some("the path of --socket is empty");
+    }
+    if admins.is_empty() {
+        return Some("the path of --admin is empty");
+    }
+    if clients == admins {
+        return Some("--socket and --admin have the same path");
+    }
+    if matches.get_one::<u32>("seal-at") > matches.get_one::<u32>("journal") {
+        return Some("--seal-at is greater than the places of the journal");
+    }
+    let mode = matches.get_str("mode")?;
+    match permissions_of(mode) {
+        Some(_) => None,
+        None => Some("--mode isn't an octal number from 0 to 777"),
+    }
 }
 
 /// The words of the command line, with the program's name first.
@@ -158,6 +222,11 @@ fn no_text(alloc: Global) -> Result<Error, Error> {
 /// What the words ask for, or the text that the parser has for them.
 pub fn options_of<'a>(alloc: Global, words: &'a [String]) -> Result<Options<'a>, Error> {
     let matches = command(alloc)?.try_get_matches_from(words)?;
+    if let Some(("serve", serve)) = matches.subcommand()
+        && let Some(fault) = misused(serve)
+    {
+        return Err(command(alloc)?.error(ErrorKind::ValueValidation, fault)?);
+    }
     let options = match matches.subcommand() {
         Some(("run", run)) => in_mode(Mode::Run, run),
         Some(("check", check)) => in_mode(Mode::Check, check),

@@ -38,20 +38,30 @@ fn accepted_command_lines(rt: HostRuntime) -> Result<(), Fail> {
 #[test]
 fn sockets_of_a_server(rt: HostRuntime) -> Result<(), Fail> {
     let lines = [
-        ("svcmgr serve --socket s --admin a r c", 16, 1_048_576),
         (
-            "svcmgr serve --workers 64 --journal 2 --admin a --socket s r c",
+            "svcmgr serve --socket s --admin a r c",
+            16,
+            1_048_576,
+            None,
+            None,
+        ),
+        (
+            "svcmgr serve --workers 64 --journal 2 --seal-at 2 --admin a --socket s --mode 0660 r c",
             64,
             2,
+            Some(0o660),
+            Some(2),
         ),
     ];
-    for (line, workers, places) in lines {
+    for (line, workers, places, mode, seal_at) in lines {
         let words = words(rt.alloc(), line)?;
         let options = options_of(rt.alloc(), &words)?;
         let wanted = Sockets {
             clients: "s",
             admins: "a",
             workers,
+            mode,
+            seal_at,
         };
         assert!(rt; options.mode == Mode::Serve(wanted));
         assert_eq!(rt; options.places.entries(), places);
@@ -91,7 +101,40 @@ fn other_command_lines(rt: HostRuntime) -> Result<(), Fail> {
             "svcmgr serve --workers 65 --socket s --admin a r c",
             ErrorKind::ValueValidation,
         ),
+        (
+            "svcmgr serve --socket  --admin a r c",
+            ErrorKind::ValueValidation,
+        ),
+        (
+            "svcmgr serve --socket s --admin  r c",
+            ErrorKind::ValueValidation,
+        ),
+        (
+            "svcmgr serve --socket s --admin s r c",
+            ErrorKind::ValueValidation,
+        ),
+        (
+            "svcmgr serve --seal-at 1 --socket s --admin a r c",
+            ErrorKind::ValueValidation,
+        ),
+        (
+            "svcmgr serve --journal 9 --seal-at 10 --socket s --admin a r c",
+            ErrorKind::ValueValidation,
+        ),
+        (
+            "svcmgr serve --mode 668 --socket s --admin a r c",
+            ErrorKind::ValueValidation,
+        ),
+        (
+            "svcmgr serve --mode 1777 --socket s --admin a r c",
+            ErrorKind::ValueValidation,
+        ),
+        (
+            "svcmgr serve --mode  --socket s --admin a r c",
+            ErrorKind::ValueValidation,
+        ),
         ("svcmgr run --workers 2 r c", ErrorKind::UnknownArgument),
+        ("svcmgr --version", ErrorKind::DisplayVersion),
         ("svcmgr --help", ErrorKind::DisplayHelp),
     ];
     for (line, kind) in lines {

@@ -1,8 +1,10 @@
 //! An administrator's connection at the door.
 
 use crate::asked::Asked;
+use crate::notice::Supervisor;
 use crate::refusals::not_yours;
 use crate::shared_admin::SharedAdmin;
+use crate::watch::Watch;
 use sm_door::Door;
 use sm_history::{Outcome, Query, Refusal, Reply};
 use sm_policy::Prepared;
@@ -13,30 +15,38 @@ use sm_wire::Request;
 use std::sync::Wait;
 
 /// An administrator's connection at the door, under the token that all connections of administrators share.
-pub struct Administrator<'a, J: Naming, G: Gate, R> {
+pub struct Administrator<'a, J: Naming, G: Gate, H, R> {
     rt: &'a R,
     door: &'a Door<J, G>,
     admin: &'a SharedAdmin<J>,
+    watch: &'a Watch<'a, H>,
 }
 
-impl<'a, J: Naming, G: Gate, R> Drop for Administrator<'a, J, G, R> {
+impl<'a, J: Naming, G: Gate, H, R> Drop for Administrator<'a, J, G, H, R> {
     fn drop(self) {
         let Administrator {
             rt: _,
             door: _,
             admin: _,
+            watch: _,
         } = self;
     }
 }
 
-impl<'a, J: Naming, G: Gate + Drop, R: Wait> Administrator<'a, J, G, R> {
+impl<'a, J: Naming, G: Gate + Drop, H: Supervisor, R: Wait> Administrator<'a, J, G, H, R> {
     /// A connection that has said nothing.
     pub fn new(
         rt: &'a R,
         door: &'a Door<J, G>,
         admin: &'a SharedAdmin<J>,
-    ) -> Administrator<'a, J, G, R> {
-        Administrator { rt, door, admin }
+        watch: &'a Watch<'a, H>,
+    ) -> Administrator<'a, J, G, H, R> {
+        Administrator {
+            rt,
+            door,
+            admin,
+            watch,
+        }
     }
 
     /// What is answered.
@@ -81,10 +91,14 @@ impl<'a, J: Naming, G: Gate + Drop, R: Wait> Administrator<'a, J, G, R> {
         let mut guard = self.admin.lock(self.rt);
         let admin = &mut *guard;
         match self.door.seal(self.rt, admin) {
-            Ok(segment) => Reply::Sealed {
-                number: segment.number(),
-                length: segment.length(),
-            },
+            Ok(segment) => {
+                let length = segment.length();
+                self.watch.sealed(length);
+                Reply::Sealed {
+                    number: segment.number(),
+                    length,
+                }
+            }
             Err(refusal) => Reply::Refused(refusal),
         }
     }

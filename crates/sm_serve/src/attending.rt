@@ -6,8 +6,13 @@ use crate::client::Client;
 use crate::door_desk::DoorDesk;
 use crate::free_seats::FreeSeats;
 use crate::held_chair::HeldChair;
+use crate::leavers::Leavers;
+use crate::notice::Supervisor;
+use crate::patience::{Patience, limit_administrator};
+use crate::sealing::seal_if_due;
 use crate::shared_admin::SharedAdmin;
 use crate::usher::{Seating, Usher};
+use crate::watch::Watch;
 use sm_door::Door;
 use sm_engine::Counted;
 use sm_roll::Naming;
@@ -21,83 +26,121 @@ use std::sync::Wait;
 /// So many reads a session makes at most. Each gives a byte or more, or is the last.
 const READS: u32 = 16_777_216;
 
-/// Serves a client's connection. It has a seat from its `hello` to its end.
-pub fn attend_client<J: Naming, G: Gate + Drop, R: Wait>(
+/// Serves a client's connection. It has a seat from its `hello` to its end. A client that can't leave at its end is
+/// left to the leavers, who are tried again whenever a connection begins or ends. After a change the journal is sealed
+/// where it is due.
+pub fn attend_client<J: Naming, G: Gate + Drop, H: Supervisor, R: Wait>(
     rt: &R,
     alloc: Global,
     door: &Door<J, G>,
     seats: &FreeSeats<J>,
+    leavers: &Leavers<J>,
+    sealer: &SharedAdmin<J>,
+    watch: &Watch<H>,
+    patience: Patience,
     stream: UnixStream,
 ) {
+    if patience.limit_client(&stream).is_err() {
+        return;
+    }
+    leavers.retry(rt, door, seats, watch);
     let chair = HeldChair::new();
-    attend_ushered(rt, alloc, door, seats, &chair, &stream);
+    attend_ushered(
+        rt,
+        alloc,
+        door,
+        seats,
+        &chair,
+        |_| seal_if_due(rt, door, sealer, watch),
+        watch,
+        &stream,
+    );
+    leavers.take_over(rt, seats, chair.take(rt));
+    leavers.retry(rt, door, seats, watch);
 }
 
-fn attend_ushered<J: Naming, G: Gate + Drop, R: Wait>(
+fn attend_ushered<J: Naming, G: Gate + Drop, L: Fn(Seating) + Drop, H: Supervisor, R: Wait>(
     rt: &R,
     alloc: Global,
     door: &Door<J, G>,
     seats: &FreeSeats<J>,
     chair: &HeldChair<J>,
+    tend: L,
+    watch: &Watch<H>,
     stream: &UnixStream,
-) {
+)
+    requires { L.IsAlwaysCallable tend }
+{
     let usher = Usher::new(rt, seats, chair);
     attend_seated(
         rt,
         alloc,
         door,
         chair,
-        |seating| usher.see_to(seating),
+        |seating| {
+            tend(seating);
+            usher.see_to(seating);
+        },
+        watch,
         stream,
     );
 }
 
-// The closures are made in two functions: one call that showed what both hold would be too much for the check.
-fn attend_seated<J: Naming, G: Gate + Drop, B: FnMut(Seating) + Drop, R: Wait>(
+// The closures are made in different functions: one call that showed what all hold would be too much for the check.
+fn attend_seated<J: Naming, G: Gate + Drop, B: FnMut(Seating) + Drop, H: Supervisor, R: Wait>(
     rt: &R,
     alloc: Global,
     door: &Door<J, G>,
     chair: &HeldChair<J>,
     seating: B,
+    watch: &Watch<H>,
     stream: &UnixStream,
 )
     requires { B.IsAlwaysCallable seating }
 {
-    let client = Client::new(rt, door, chair);
+    let client = Client::new(rt, door, chair, stream);
     attend(
         alloc,
         Kind::Client,
         |asked| client.answer(asked),
         seating,
+        watch,
         door.gate(),
         stream,
     );
 }
 
-/// Serves an administrator's connection.
-pub fn attend_administrator<J: Naming, G: Gate + Drop, R: Wait>(
+/// Serves an administrator's connection, which waits for each line and each reply so many seconds at most.
+pub fn attend_administrator<J: Naming, G: Gate + Drop, H: Supervisor, R: Wait>(
     rt: &R,
     alloc: Global,
     door: &Door<J, G>,
     admin: &SharedAdmin<J>,
+    watch: &Watch<H>,
+    seconds: u64,
     stream: UnixStream,
 ) {
-    let administrator = Administrator::new(rt, door, admin);
+    if limit_administrator(seconds, &stream).is_err() {
+        return;
+    }
+    let administrator = Administrator::new(rt, door, admin, watch);
     attend(
         alloc,
         Kind::Admin,
         |asked| administrator.answer(asked),
         |_| {},
+        watch,
         door.gate(),
         &stream,
     );
 }
 
-fn attend<F: FnMut(Asked) -> Response + Drop, B: FnMut(Seating) + Drop, G: Gate>(
+fn attend<F: FnMut(Asked) -> Response + Drop, B: FnMut(Seating) + Drop, H: Supervisor, G: Gate>(
     alloc: Global,
     kind: Kind,
     answer: F,
     seating: B,
+    watch: &Watch<H>,
     gate: &G,
     stream: &UnixStream,
 )
@@ -106,6 +149,6 @@ fn attend<F: FnMut(Asked) -> Response + Drop, B: FnMut(Seating) + Drop, G: Gate>
 {
     let mut reader = Counted::new(stream);
     let mut writer = Counted::new(stream);
-    let desk = DoorDesk::new(alloc, answer, seating);
+    let desk = DoorDesk::new(alloc, answer, seating, watch);
     let _ = session(alloc, kind, &mut reader, &mut writer, desk, gate, READS);
 }

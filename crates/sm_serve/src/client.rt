@@ -2,6 +2,7 @@
 
 use crate::asked::Asked;
 use crate::held_chair::HeldChair;
+use crate::patience::lift_read_limit;
 use crate::refusals::{not_connected, not_yours};
 use sm_door::{Chair, Door, Seat, Session};
 use sm_history::{Event, Outcome, Query, Refusal, Reply};
@@ -10,6 +11,7 @@ use sm_roll::Naming;
 use sm_session::Response;
 use sm_view::{Gate, is_death};
 use sm_wire::Request;
+use std::os::unix::net::UnixStream;
 use std::sync::Wait;
 
 /// How often a client that is gone tries to leave. Only want of memory refuses it, which may pass.
@@ -20,6 +22,7 @@ pub struct Client<'a, J: Naming, G: Gate, R> {
     rt: &'a R,
     door: &'a Door<J, G>,
     chair: &'a HeldChair<J>,
+    stream: &'a UnixStream,
 }
 
 impl<'a, J: Naming, G: Gate, R> Drop for Client<'a, J, G, R> {
@@ -28,14 +31,25 @@ impl<'a, J: Naming, G: Gate, R> Drop for Client<'a, J, G, R> {
             rt: _,
             door: _,
             chair: _,
+            stream: _,
         } = self;
     }
 }
 
 impl<'a, J: Naming, G: Gate + Drop, R: Wait> Client<'a, J, G, R> {
-    /// The connection that has this chair.
-    pub fn new(rt: &'a R, door: &'a Door<J, G>, chair: &'a HeldChair<J>) -> Client<'a, J, G, R> {
-        Client { rt, door, chair }
+    /// The connection that has this chair and this stream.
+    pub fn new(
+        rt: &'a R,
+        door: &'a Door<J, G>,
+        chair: &'a HeldChair<J>,
+        stream: &'a UnixStream,
+    ) -> Client<'a, J, G, R> {
+        Client {
+            rt,
+            door,
+            chair,
+            stream,
+        }
     }
 
     /// What is answered. Nobody reads what is answered to the end.
@@ -66,6 +80,7 @@ impl<'a, J: Naming, G: Gate + Drop, R: Wait> Client<'a, J, G, R> {
             Ok(session) => {
                 let client = session.client();
                 self.keep(session);
+                lift_read_limit(self.stream);
                 Reply::Done(Outcome::Connected(client))
             }
             Err((refusal, seat)) => {

@@ -3,7 +3,9 @@
 ghost use Rattle.std.specs.Prelude.{◌≡◌};
 
 use crate::asked::Asked;
+use crate::notice::Supervisor;
 use crate::usher::Seating;
+use crate::watch::Watch;
 use sm_history::{Outcome, Reply};
 use sm_kinds::Identity;
 use sm_policy::Prepared;
@@ -11,18 +13,24 @@ use sm_session::{Desk, Response};
 use sm_wire::Request;
 use std::alloc::Global;
 
-/// A session's desk at a door: it reads the texts of policies itself, has one function answer all else, and tells
-/// another when a seat is wanted or spare.
+/// A session's desk at a door: it reads the texts of policies itself, has one function answer all else, shows the watch
+/// what was answered, and then tells another function whether a seat is wanted or spare.
 #[derive(Drop)]
-pub struct DoorDesk<F, B> {
+pub struct DoorDesk<'a, F, B, H> {
     alloc: Global,
     answer: F,
     seating: B,
+    watch: &'a Watch<'a, H>,
 }
 
-impl<F, B> DoorDesk<F, B> {
+impl<'a, F, B, H> DoorDesk<'a, F, B, H> {
     /// The desk of a session that has asked nothing.
-    pub fn new(alloc: Global, answer: F, seating: B) -> DoorDesk<F, B>
+    pub fn new(
+        alloc: Global,
+        answer: F,
+        seating: B,
+        watch: &'a Watch<'a, H>,
+    ) -> DoorDesk<'a, F, B, H>
         ensures answer { result.answer ≡ answer }
         ensures seating { result.seating ≡ seating }
     {
@@ -30,11 +38,13 @@ impl<F, B> DoorDesk<F, B> {
             alloc,
             answer,
             seating,
+            watch,
         }
     }
 }
 
-impl<F: FnMut(Asked) -> Response, B: FnMut(Seating)> Desk for DoorDesk<F, B> {
+impl<'a, F: FnMut(Asked) -> Response, B: FnMut(Seating), H: Supervisor> Desk
+    for DoorDesk<'a, F, B, H> {
     ghost can_answer = { λ s. F.IsAlwaysCallable s.answer × B.IsAlwaysCallable s.seating };
 
     ghost answers = { λ _ _ _ _. Unit {0} };
@@ -44,32 +54,39 @@ impl<F: FnMut(Asked) -> Response, B: FnMut(Seating)> Desk for DoorDesk<F, B> {
     fn hello(&mut self, who: Identity) -> Response {
         (self.seating)(Seating::Wanted);
         let response = (self.answer)(Asked::Hello(who));
+        self.watch.see(&response);
         (self.seating)(Seating::Spare);
         response
     }
 
     fn ask(&mut self, request: Request) -> Response {
         let response = (self.answer)(Asked::Line(request));
-        if has_left(&response) {
-            (self.seating)(Seating::Spare);
-        }
+        self.watch.see(&response);
+        (self.seating)(seating_after(&response));
         response
     }
 
     fn reload(&mut self, expected: u64, rules: &[u8], contexts: &[u8]) -> Response {
-        match Prepared::from_texts(self.alloc, rules, contexts) {
-            Ok(prepared) => (self.answer)(Asked::Install { expected, prepared }),
-            Err(fault) => Response::PolicyRefused(fault),
-        }
+        let prepared = match Prepared::from_texts(self.alloc, rules, contexts) {
+            Ok(prepared) => prepared,
+            Err(fault) => return Response::PolicyRefused(fault),
+        };
+        let response = (self.answer)(Asked::Install { expected, prepared });
+        self.watch.see(&response);
+        response
     }
 
     fn bye(&mut self) {
-        let _ = (self.answer)(Asked::End);
+        let response = (self.answer)(Asked::End);
+        self.watch.see(&response);
         (self.seating)(Seating::Spare);
     }
 }
 
-/// Whether this tells that a client has left.
-fn has_left(response: &Response) -> bool {
-    matches!(response, Response::Replied(Reply::Done(Outcome::Died)))
+/// What a connection needs after this answer.
+fn seating_after(response: &Response) -> Seating {
+    match response {
+        Response::Replied(Reply::Done(Outcome::Died)) => Seating::Spare,
+        _ => Seating::Kept,
+    }
 }

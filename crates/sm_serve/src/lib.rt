@@ -2,19 +2,29 @@
 #![tactic(auto)]
 
 mod administrator;
+mod arriving;
 mod asked;
 mod attending;
 mod client;
 mod door_desk;
 mod entrance;
+mod faults;
 mod free_seats;
+mod gauge;
 mod held_chair;
+mod leavers;
+mod notice;
+mod patience;
 mod queue;
 mod refusals;
+mod sealing;
 mod serving;
 mod shared_admin;
 mod usher;
+mod watch;
 
 pub use entrance::Entrance;
 pub use free_seats::FreeSeats;
+pub use notice::{Notice, Supervisor};
+pub use patience::Patience;
 pub use serving::{Numbers, serve};

@@ -2,24 +2,32 @@
 
 ghost use denote.Param.Send.{IsSend, IsSync};
 
+use crate::arriving::arrival;
 use crate::attending::{attend_administrator, attend_client};
 use crate::entrance::Entrance;
+use crate::faults::Faults;
 use crate::free_seats::FreeSeats;
+use crate::gauge::Gauge;
+use crate::leavers::Leavers;
+use crate::notice::{Notice, Supervisor};
+use crate::patience::Patience;
 use crate::queue::{Arrivals, Queue, next};
 use crate::shared_admin::SharedAdmin;
+use crate::watch::Watch;
 use crossbeam_channel::bounded;
 use sm_core::View;
-use sm_door::{Actor, Admin, Desk, Door, Page, Seat, Shown, ViewReader, ViewWriter};
+use sm_door::{Actor, Admin, Desk, Door, Page, Seat, Session, Shown, ViewReader, ViewWriter};
 use sm_engine::ServeFault;
 use sm_roll::{Badge, Naming, Roll};
 use sm_view::Gate;
 use std::alloc::Global;
 use std::os::unix::net::UnixStream;
+use std::rt::Clock;
 use std::sync::{Arc, Mutex, Wait};
 use std::thread;
 use std::thread::Threads;
 
-/// How many threads serve clients, and how many connections of each kind are accepted.
+/// How many threads serve clients, how many connections of each kind are accepted, and how long each may idle.
 #[derive(Clone, Copy, Debug, PartialEq, Eq)]
 pub struct Numbers {
     /// How many clients' connections are served at once.
@@ -28,40 +36,54 @@ pub struct Numbers {
     pub clients: u64,
     /// So many connections of administrators are accepted, one after the other.
     pub admins: u64,
+    pub patience: Patience,
+    /// The slots of the journal.
+    pub slots: u32,
+    /// The open segment is sealed when it has so many entries. `None`: by administrators alone.
+    pub seal_at: Option<u32>,
 }
-
-/// The first fault of a server.
-type Faults = Mutex<Option<ServeFault>>;
 
 /// Accepts so many connections of each kind, and returns when their sessions have ended. Clients' connections are
 /// served by `workers` threads, each a connection at a time; administrators' by one more, one after the other, all
-/// under this token. `Err`: a listener failed, a thread couldn't be started or memory was refused; then no more are
-/// accepted, and those that were begun are served to their end.
+/// under `admin`. Seals that are due are made under `sealer`. The supervisor is told when all threads run. `Err`: a
+/// listener failed for good, a thread couldn't be started or memory was refused; then the entrances are closed, and the
+/// connections that were begun are served to their ends.
 pub fn serve<
     J: Naming + Send + Sync,
     G: Gate + Drop + Send + Sync,
     C: Entrance,
     A: Entrance + Drop + Send,
-    R: Threads + Wait + Sync,
+    H: Supervisor + Sync,
+    R: Threads + Wait + Clock + Sync,
 >(
     rt: &R,
     alloc: Global,
+    host: &H,
     clients: &mut C,
     admins: A,
     door: &Door<J, G>,
     seats: &FreeSeats<J>,
     admin: Admin<J>,
+    sealer: Admin<J>,
     numbers: Numbers,
 ) -> Result<(), ServeFault> {
     let Ok((to, from)) = bounded::<UnixStream, Global>(alloc, numbers.workers as usize) else {
         return Err(ServeFault::Memory);
     };
+    let Ok(leavers) = Leavers::new(alloc) else {
+        return Err(ServeFault::Memory);
+    };
     let queue = Mutex::new(from);
-    let faults = Mutex::new(None);
+    let faults = Faults::new();
     let token = SharedAdmin::new(admin);
+    let sealing = SharedAdmin::new(sealer);
+    let watch = Watch::new(host, Gauge::new(numbers.slots, numbers.seal_at));
     let waiting = &queue;
     let faulty = &faults;
     let shared = &token;
+    let leaving = &leavers;
+    let sealer = &sealing;
+    let watching = &watch;
     thread::scope(thread::scope_env(), rt, |scope| {
         crosses::<View>();
         crosses::<Badge<J>>();
@@ -78,113 +100,126 @@ pub fn serve<
         sends::<Roll<J>>();
         sends::<Desk<J>>();
         shares::<Door<J, G>>();
+        sends::<Session<J>>();
         shares::<FreeSeats<J>>();
+        shares::<Leavers<J>>();
         shares::<Queue>();
         shares::<SharedAdmin<J>>();
+        shares::<Faults>();
+        shares::<Watch<H>>();
         for _ in 0..numbers.workers {
             if scope
-                .spawn(move || work(rt, alloc, door, seats, waiting))
+                .spawn(move || {
+                    work(
+                        rt,
+                        alloc,
+                        door,
+                        seats,
+                        leaving,
+                        sealer,
+                        watching,
+                        numbers.patience,
+                        waiting,
+                    );
+                })
                 .is_err()
             {
-                note(rt, faulty, ServeFault::NoThread);
+                faulty.note(rt, host, ServeFault::NoThread);
             }
         }
         if scope
             .spawn(move || {
                 let mut admins = admins;
-                administer(rt, alloc, door, shared, &mut admins, faulty, numbers.admins);
+                administer(
+                    rt,
+                    alloc,
+                    door,
+                    shared,
+                    watching,
+                    &mut admins,
+                    host,
+                    faulty,
+                    numbers.admins,
+                    numbers.patience.admin,
+                );
             })
             .is_err()
         {
-            note(rt, faulty, ServeFault::NoThread);
+            faulty.note(rt, host, ServeFault::NoThread);
         }
-        admit(rt, clients, &to, faulty, numbers.clients);
+        admit(rt, clients, &to, host, faulty, numbers.clients);
         drop(to);
     });
-    match faults.into_inner() {
-        None => Ok(()),
-        Some(fault) => Err(fault),
-    }
+    leavers.retry(rt, door, seats, &watch);
+    faults.into_result()
 }
 
 /// Serves the connections that wait, until no more come.
-fn work<J: Naming, G: Gate + Drop, R: Wait>(
+fn work<J: Naming, G: Gate + Drop, H: Supervisor, R: Wait>(
     rt: &R,
     alloc: Global,
     door: &Door<J, G>,
     seats: &FreeSeats<J>,
+    leavers: &Leavers<J>,
+    sealer: &SharedAdmin<J>,
+    watch: &Watch<H>,
+    patience: Patience,
     queue: &Queue,
 ) {
     for _ in rt.forever() {
         match next(rt, queue) {
-            Some(stream) => attend_client(rt, alloc, door, seats, stream),
+            Some(stream) => attend_client(
+                rt, alloc, door, seats, leavers, sealer, watch, patience, stream,
+            ),
             None => return,
         }
     }
 }
 
 /// Serves so many connections of administrators, one after the other.
-fn administer<J: Naming, G: Gate + Drop, A: Entrance, R: Wait>(
+fn administer<J: Naming, G: Gate + Drop, A: Entrance, H: Supervisor, R: Wait + Clock>(
     rt: &R,
     alloc: Global,
     door: &Door<J, G>,
     admin: &SharedAdmin<J>,
+    watch: &Watch<H>,
     entrance: &mut A,
+    host: &H,
     faults: &Faults,
     number: u64,
+    seconds: u64,
 ) {
     for _ in 0..number {
-        match arrival(rt, entrance, faults) {
-            Some(stream) => attend_administrator(rt, alloc, door, admin, stream),
+        match arrival(rt, entrance, host, faults) {
+            Some(stream) => {
+                attend_administrator(rt, alloc, door, admin, watch, seconds, stream);
+            }
             None => return,
         }
     }
 }
 
-/// Hands so many connections of clients to the workers.
-fn admit<C: Entrance, R: Wait>(
+/// Says that the server listens, and hands so many connections of clients to the workers.
+fn admit<C: Entrance, H: Supervisor, R: Wait + Clock>(
     rt: &R,
     entrance: &mut C,
     to: &Arrivals,
+    host: &H,
     faults: &Faults,
     number: u64,
 ) {
+    if !faults.is_noted(rt) {
+        host.tell(Notice::Listening);
+    }
     for _ in 0..number {
-        let Some(stream) = arrival(rt, entrance, faults) else {
+        let Some(stream) = arrival(rt, entrance, host, faults) else {
             return;
         };
         if to.send(rt, stream).is_err() {
-            note(rt, faults, ServeFault::Memory);
+            faults.note(rt, host, ServeFault::Memory);
             return;
         }
     }
-}
-
-/// The next connection. `None`: the listener failed, or there is a fault, which may have come while this one waited.
-fn arrival<E: Entrance, R: Wait>(rt: &R, entrance: &mut E, faults: &Faults) -> Option<UnixStream> {
-    if is_noted(rt, faults) {
-        return None;
-    }
-    let Ok(stream) = entrance.accept() else {
-        note(rt, faults, ServeFault::AcceptFault);
-        return None;
-    };
-    if is_noted(rt, faults) {
-        return None;
-    }
-    Some(stream)
-}
-
-/// The first fault stays.
-fn note<R: Wait>(rt: &R, faults: &Faults, fault: ServeFault) {
-    let mut guard = faults.lock(rt);
-    if guard.is_none() {
-        *guard = Some(fault);
-    }
-}
-
-fn is_noted<R: Wait>(rt: &R, faults: &Faults) -> bool {
-    faults.lock(rt).is_some()
 }
 
 fn shares<X: Sync>()

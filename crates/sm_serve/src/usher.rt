@@ -13,6 +13,8 @@ pub enum Seating {
     Wanted,
     /// None, unless it has a client.
     Spare,
+    /// What it has.
+    Kept,
 }
 
 /// Gives a connection a seat, and takes back one that it doesn't need.
@@ -43,6 +45,7 @@ impl<'a, J: Naming, R: Wait> Usher<'a, J, R> {
         match seating {
             Seating::Wanted => self.give(),
             Seating::Spare => self.take_back(),
+            Seating::Kept => {}
         }
     }
 

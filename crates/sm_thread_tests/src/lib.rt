@@ -8,6 +8,8 @@ mod exchanges;
 #[cfg(test)]
 mod hold;
 #[cfg(test)]
+mod operations;
+#[cfg(test)]
 mod rolls;
 #[cfg(test)]
 mod server;

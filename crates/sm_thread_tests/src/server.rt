@@ -10,7 +10,7 @@ use sm_kinds::{Context, Identity, Places};
 use sm_policy::Prepared;
 use sm_roll::{Blank, Naming};
 use sm_samples::{DEVICE_LABELS, DEVICE_RULES, STRICTER_RULES};
-use sm_serve::{Entrance, FreeSeats, Numbers, serve};
+use sm_serve::{Entrance, FreeSeats, Notice, Numbers, Patience, Supervisor, serve};
 use sm_view::{Gate, NoGate};
 use std::alloc::Global;
 use std::io::{ErrorKind, Read, Write};
@@ -18,6 +18,7 @@ use std::marker::Brand;
 use std::net::{Net, Shutdown};
 use std::os::unix::net::UnixStream;
 use std::process::Abort;
+use std::rt::Clock;
 use std::sync::Wait;
 use std::sync::atomic::{AtomicU64, Ordering};
 use std::test::Fail;
@@ -25,26 +26,115 @@ use std::thread::Threads;
 use std::time::Duration;
 use std::{io, thread};
 
-/// Connections that were made before the server began; behind the last one its listener fails.
+/// Connections that were made before the server began. A listener fails by these errors of the system before it gives
+/// the first, and behind the last one for good.
 #[derive(Drop)]
-struct Waiting {
-    streams: Vec<UnixStream>,
+pub struct Waiting {
+    pub failures: &'static [i32],
+    pub streams: Vec<UnixStream>,
+}
+
+impl Waiting {
+    /// Connections at a listener that doesn't fail before them, the last one first.
+    pub fn of(streams: Vec<UnixStream>) -> Waiting {
+        Waiting {
+            failures: &[],
+            streams,
+        }
+    }
 }
 
 impl Entrance for Waiting {
     fn accept(&mut self) -> io::Result<UnixStream> {
+        if let [first, rest @ ..] = self.failures {
+            self.failures = rest;
+            return Err(io::Error::from_raw_os_error(*first));
+        }
         self.streams.pop().ok_or(io::Error::from(ErrorKind::Other))
     }
 }
 
+/// What a supervisor heard, and how often its entrances were closed.
+#[derive(Clone, Copy, Debug, PartialEq, Eq)]
+pub struct Heard {
+    pub listening: u64,
+    pub delayed: u64,
+    pub failed: u64,
+    pub almost_full: u64,
+    pub full: u64,
+    pub closed: u64,
+}
+
+/// What is heard of a server that meets no fault.
+pub const LISTENING: Heard = Heard {
+    listening: 1,
+    delayed: 0,
+    failed: 0,
+    almost_full: 0,
+    full: 0,
+    closed: 0,
+};
+
+/// Counts what a server tells.
+#[derive(Drop)]
+struct Ear {
+    listening: AtomicU64,
+    delayed: AtomicU64,
+    failed: AtomicU64,
+    almost_full: AtomicU64,
+    full: AtomicU64,
+    closed: AtomicU64,
+}
+
+impl Ear {
+    fn new() -> Ear {
+        Ear {
+            listening: AtomicU64::new(0),
+            delayed: AtomicU64::new(0),
+            failed: AtomicU64::new(0),
+            almost_full: AtomicU64::new(0),
+            full: AtomicU64::new(0),
+            closed: AtomicU64::new(0),
+        }
+    }
+
+    fn heard(&self) -> Heard {
+        Heard {
+            listening: self.listening.load(Ordering::SeqCst),
+            delayed: self.delayed.load(Ordering::SeqCst),
+            failed: self.failed.load(Ordering::SeqCst),
+            almost_full: self.almost_full.load(Ordering::SeqCst),
+            full: self.full.load(Ordering::SeqCst),
+            closed: self.closed.load(Ordering::SeqCst),
+        }
+    }
+}
+
+impl Supervisor for Ear {
+    fn tell(&self, notice: Notice) {
+        let count = match notice {
+            Notice::Listening => &self.listening,
+            Notice::AcceptDelayed(_) => &self.delayed,
+            Notice::AcceptFailed(_) => &self.failed,
+            Notice::AlmostFull { .. } => &self.almost_full,
+            Notice::Full => &self.full,
+        };
+        count.fetch_add(1, Ordering::SeqCst);
+    }
+
+    fn close_entrances(&self) {
+        self.closed.fetch_add(1, Ordering::SeqCst);
+    }
+}
+
 /// What is said over connections while the server runs, from their other ends.
-trait Talk {
+pub trait Talk {
     /// Whether all was answered as it should be.
     fn is_answered(&mut self) -> bool;
 }
 
 /// Whether these bytes are answered by those.
-fn answers(stream: &UnixStream, sent: &[u8], wanted: &[u8]) -> bool {
+pub fn answers(stream: &UnixStream, sent: &[u8], wanted: &[u8]) -> bool {
     let mut stream = stream;
     let mut got = [0; 512];
     if wanted.len() > 512 || stream.write_all(sent).is_err() {
@@ -55,13 +145,13 @@ fn answers(stream: &UnixStream, sent: &[u8], wanted: &[u8]) -> bool {
 }
 
 /// Whether the server has ended the connection.
-fn is_over(stream: &UnixStream) -> bool {
+pub fn is_over(stream: &UnixStream) -> bool {
     let mut stream = stream;
     matches!(stream.read(&mut [0]), Ok(0))
 }
 
 /// Two ends of a connection, the client's and the server's. A client waits 20 seconds for an answer.
-fn connection<R: Net + Abort>(rt: &R) -> (UnixStream, UnixStream) {
+pub fn connection<R: Net + Abort>(rt: &R) -> (UnixStream, UnixStream) {
     let (near, far) = UnixStream::pair(rt).ok().expect(rt, "a connection");
     let patience = Some(Duration::from_secs(20));
     assert!(rt; near.set_read_timeout(patience).is_ok());
@@ -69,7 +159,7 @@ fn connection<R: Net + Abort>(rt: &R) -> (UnixStream, UnixStream) {
 }
 
 /// A gate of which is told in the end whether all came through it.
-trait Watched: Gate {
+pub trait Watched: Gate {
     /// Whether nobody was held for longer than a test waits.
     fn is_well(&self) -> bool;
 }
@@ -81,35 +171,57 @@ impl Watched for NoGate {
 }
 
 /// The connections of a test, of which the last one comes first.
-struct Visits {
-    clients: Waiting,
-    admins: Waiting,
-    numbers: Numbers,
+pub struct Visits {
+    pub clients: Waiting,
+    pub admins: Waiting,
+    pub numbers: Numbers,
+}
+
+/// How long a server waits here: longer than a test.
+const PATIENCE: Patience = Patience {
+    hello: 60,
+    reply: 60,
+    admin: 60,
+};
+
+/// So many workers, connections of clients and connections of administrators.
+pub fn numbers(workers: u32, clients: u64, admins: u64) -> Numbers {
+    Numbers {
+        workers,
+        clients,
+        admins,
+        patience: PATIENCE,
+        slots: 0,
+        seal_at: None,
+    }
 }
 
 /// What is left when a server has ended.
 #[derive(Clone, Copy, Debug, PartialEq, Eq)]
-struct Left {
-    answered: bool,
-    came_through: bool,
-    ending: Result<(), ServeFault>,
-    free: usize,
+pub struct Left {
+    pub answered: bool,
+    pub came_through: bool,
+    pub heard: Heard,
+    pub ending: Result<(), ServeFault>,
+    pub free: usize,
 }
 
 /// What is left of a server that met all that was said.
-const ALL_IS_WELL: Left = Left {
+pub const ALL_IS_WELL: Left = Left {
     answered: true,
     came_through: true,
+    heard: LISTENING,
     ending: Ok(()),
     free: 64,
 };
 
 /// Serves these connections, at a door whose journal has so many places, while the talk goes on.
-fn at_a_door<
+pub fn at_a_door<
     T: Talk + Send + Drop,
     G: Watched + Drop + Send + Sync,
-    R: Threads + Wait + Abort + Sync,
->(rt: &R, alloc: Global, places: u32, gate: G, visits: Visits, talk: T) -> Left {
+    R: Threads + Wait + Clock + Abort + Sync,
+>(rt: &R, alloc: Global, places: u32, gate: G, mut visits: Visits, talk: T) -> Left {
+    visits.numbers.slots = places;
     let places = Places::new(places).expect(rt, "places");
     let who = manager(rt, alloc);
     let rules = policy(rt, alloc);
@@ -130,7 +242,7 @@ fn serves<
     J: Naming + Send + Sync,
     T: Talk + Send + Drop,
     G: Watched + Drop + Send + Sync,
-    R: Threads + Wait + Abort + Sync,
+    R: Threads + Wait + Clock + Abort + Sync,
 >(
     rt: &R,
     alloc: Global,
@@ -150,22 +262,26 @@ fn serves<
         .expect(rt, "a door");
     let seats = FreeSeats::new(seats);
     let admin = tokens.pop().expect(rt, "an administrator");
+    let sealer = tokens.pop().expect(rt, "another one");
     let Visits {
         mut clients,
         admins,
         numbers,
     } = visits;
+    let ear = Ear::new();
     let (answered, ending) = thread::join(
         rt,
         move || talk.is_answered(),
         || serve(
             rt,
             alloc,
+            &ear,
             &mut clients,
             admins,
             &door,
             &seats,
             admin,
+            sealer,
             numbers,
         ),
     );
@@ -175,6 +291,7 @@ fn serves<
     Left {
         answered,
         came_through,
+        heard: ear.heard(),
         ending,
         free,
     }
@@ -246,17 +363,9 @@ fn two_clients_and_an_administrator(rt: HostRuntime) -> Result<(), Fail> {
     let (application, two) = connection(&rt);
     let (admin, three) = connection(&rt);
     let visits = Visits {
-        clients: Waiting {
-            streams: vec![in alloc; two, one]?,
-        },
-        admins: Waiting {
-            streams: vec![in alloc; three]?,
-        },
-        numbers: Numbers {
-            workers: 2,
-            clients: 2,
-            admins: 1,
-        },
+        clients: Waiting::of(vec![in alloc; two, one]?),
+        admins: Waiting::of(vec![in alloc; three]?),
+        numbers: numbers(2, 2, 1),
     };
     let talk = Visit {
         service,
@@ -314,24 +423,24 @@ fn a_connection_that_is_cut_ends_its_client(rt: HostRuntime) -> Result<(), Fail>
     let (second, two) = connection(&rt);
     let (admin, three) = connection(&rt);
     let visits = Visits {
-        clients: Waiting {
-            streams: vec![in alloc; two, one]?,
-        },
-        admins: Waiting {
-            streams: vec![in alloc; three]?,
-        },
-        numbers: Numbers {
-            workers: 1,
-            clients: 2,
-            admins: 1,
-        },
+        clients: Waiting::of(vec![in alloc; two, one]?),
+        admins: Waiting::of(vec![in alloc; three]?),
+        numbers: numbers(1, 2, 1),
     };
     let talk = Cut {
         first,
         second,
         admin,
     };
-    assert_eq!(rt; at_a_door(&rt, alloc, 4, NoGate, visits, talk), ALL_IS_WELL);
+    let wanted = Left {
+        heard: Heard {
+            almost_full: 1,
+            full: 1,
+            ..LISTENING
+        },
+        ..ALL_IS_WELL
+    };
+    assert_eq!(rt; at_a_door(&rt, alloc, 4, NoGate, visits, talk), wanted);
     Ok(())
 }
 
@@ -373,17 +482,9 @@ fn the_service_of_a_client_that_vanished_is_gone(rt: HostRuntime) -> Result<(), 
     let (first, one) = connection(&rt);
     let (second, two) = connection(&rt);
     let visits = Visits {
-        clients: Waiting {
-            streams: vec![in alloc; two, one]?,
-        },
-        admins: Waiting {
-            streams: Vec::new(alloc),
-        },
-        numbers: Numbers {
-            workers: 1,
-            clients: 2,
-            admins: 0,
-        },
+        clients: Waiting::of(vec![in alloc; two, one]?),
+        admins: Waiting::of(Vec::new(alloc)),
+        numbers: numbers(1, 2, 0),
     };
     let talk = Vanished {
         first: Some(first),
@@ -446,15 +547,9 @@ fn one_client_too_many(rt: HostRuntime) -> Result<(), Fail> {
     let (late, far) = connection(&rt);
     streams.push(far)?;
     let visits = Visits {
-        clients: Waiting { streams },
-        admins: Waiting {
-            streams: Vec::new(alloc),
-        },
-        numbers: Numbers {
-            workers: 65,
-            clients: 65,
-            admins: 0,
-        },
+        clients: Waiting::of(streams),
+        admins: Waiting::of(Vec::new(alloc)),
+        numbers: numbers(65, 65, 0),
     };
     let talk = Crowd { clients, late };
     assert_eq!(rt;
@@ -530,17 +625,9 @@ fn a_policy_is_replaced_while_clients_are_connected(rt: HostRuntime) -> Result<(
     let (application, two) = connection(&rt);
     let (admin, three) = connection(&rt);
     let visits = Visits {
-        clients: Waiting {
-            streams: vec![in alloc; two, one]?,
-        },
-        admins: Waiting {
-            streams: vec![in alloc; three]?,
-        },
-        numbers: Numbers {
-            workers: 2,
-            clients: 2,
-            admins: 1,
-        },
+        clients: Waiting::of(vec![in alloc; two, one]?),
+        admins: Waiting::of(vec![in alloc; three]?),
+        numbers: numbers(2, 2, 1),
     };
     let talk = Change {
         service,
@@ -645,17 +732,9 @@ fn a_call_is_held_until_another_is_answered(rt: HostRuntime) -> Result<(), Fail>
     let (first, one) = connection(&rt);
     let (second, two) = connection(&rt);
     let visits = Visits {
-        clients: Waiting {
-            streams: vec![in alloc; two, one]?,
-        },
-        admins: Waiting {
-            streams: Vec::new(alloc),
-        },
-        numbers: Numbers {
-            workers: 2,
-            clients: 2,
-            admins: 0,
-        },
+        clients: Waiting::of(vec![in alloc; two, one]?),
+        admins: Waiting::of(Vec::new(alloc)),
+        numbers: numbers(2, 2, 0),
     };
     let talk = Both { first, second };
     assert_eq!(rt;
@@ -667,7 +746,7 @@ fn a_call_is_held_until_another_is_answered(rt: HostRuntime) -> Result<(), Fail>
 
 /// Nothing is said.
 #[derive(Drop)]
-struct Silence;
+pub struct Silence;
 
 impl Talk for Silence {
     fn is_answered(&mut self) -> bool {
@@ -679,18 +758,18 @@ impl Talk for Silence {
 fn a_listener_that_fails_ends_the_server(rt: HostRuntime) {
     let alloc = rt.alloc();
     let visits = Visits {
-        clients: Waiting {
-            streams: Vec::new(alloc),
-        },
-        admins: Waiting {
-            streams: Vec::new(alloc),
-        },
-        numbers: Numbers {
-            workers: 2,
-            clients: 1,
-            admins: 0,
-        },
+        clients: Waiting::of(Vec::new(alloc)),
+        admins: Waiting::of(Vec::new(alloc)),
+        numbers: numbers(2, 1, 0),
     };
     let left = at_a_door(&rt, alloc, 1000, NoGate, visits, Silence);
     assert!(rt; left.ending == Err(ServeFault::AcceptFault));
+    assert_eq!(rt;
+        left.heard,
+        Heard {
+            failed: 1,
+            closed: 1,
+            ..LISTENING
+        }
+    );
 }

@@ -3,7 +3,8 @@
 ghost use Rattle.std.specs.Prelude.{◌≡◌};
 ghost use Rattle.sm_core.specs.Opening.{opened};
 
-use crate::sockets::{listener, private_listener};
+use crate::console::Console;
+use crate::sockets::{Claim, OWNER_ALONE};
 use sm_command::{Ending, Sockets};
 use sm_core::manager_identity;
 use sm_door::{Admin, Door};
@@ -11,16 +12,17 @@ use sm_kinds::{Identity, Places};
 use sm_policy::Prepared;
 use sm_roll::{Blank, Naming};
 use sm_script::ScriptFault;
-use sm_serve::{FreeSeats, Numbers, serve};
+use sm_serve::{FreeSeats, Numbers, Patience, serve};
 use sm_view::NoGate;
 use std::marker::Brand;
-use std::rt::{Files, Net};
+use std::os::unix::net::UnixListener;
+use std::rt::{Clock, Files, Net};
 use std::sync::Wait;
 use std::thread::Threads;
 
 /// Serves clients and administrators under this policy. It returns where the manager or a socket wasn't opened, or a
 /// fault ended the server.
-pub fn serve_policy<'a, R: Files + Net + Threads + Wait + Sync>(
+pub fn serve_policy<'a, R: Files + Net + Threads + Wait + Clock + Sync>(
     host: &HostRuntime,
     rt: &R,
     policy: Prepared,
@@ -34,7 +36,7 @@ pub fn serve_policy<'a, R: Files + Net + Threads + Wait + Sync>(
 }
 
 /// Opens the door, and closes it when the server has ended.
-fn open<'a, J: Naming + Send + Sync, R: Files + Net + Threads + Wait + Sync>(
+fn open<'a, J: Naming + Send + Sync, R: Files + Net + Threads + Wait + Clock + Sync>(
     host: &HostRuntime,
     rt: &R,
     blank: Blank,
@@ -47,54 +49,124 @@ fn open<'a, J: Naming + Send + Sync, R: Files + Net + Threads + Wait + Sync>(
     requires opening { J.opening ≡ opened places who policy }
 {
     let alloc = host.alloc();
+    let slots = places.entries();
     let opened = Door::<J, NoGate>::open(rt, alloc, blank, who, policy, places, NoGate);
     let (door, seats, mut admins) = match opened {
         Ok(parts) => parts,
         Err(refusal) => return Err(Ending::Script(ScriptFault::Opening(refusal))),
     };
     let seats = FreeSeats::new(seats);
-    let ended = listen(host, rt, &door, &seats, admins.swap_remove(0), sockets);
+    let tokens = Tokens {
+        admin: admins.swap_remove(0),
+        sealer: admins.swap_remove(0),
+    };
+    let ended = listen(host, rt, &door, &seats, tokens, slots, sockets);
     door.close(rt);
     ended
 }
 
-/// Opens the clients' socket, then the administrators', and serves.
-fn listen<'a, J: Naming + Send + Sync, R: Files + Net + Threads + Wait + Sync>(
+/// The tokens of a server: for administrators' connections, and for its own seals.
+#[derive(Drop)]
+struct Tokens<J: Naming> {
+    admin: Admin<J>,
+    sealer: Admin<J>,
+}
+
+/// How long the other end of a connection may take, in seconds.
+const PATIENCE: Patience = Patience {
+    hello: 10,
+    reply: 10,
+    admin: 60,
+};
+
+/// Opens the clients' socket, then the administrators', and serves. Where it returns, the sockets that it made are
+/// gone.
+fn listen<'a, J: Naming + Send + Sync, R: Files + Net + Threads + Wait + Clock + Sync>(
     host: &HostRuntime,
     rt: &R,
     door: &Door<J, NoGate>,
     seats: &FreeSeats<J>,
-    admin: Admin<J>,
+    tokens: Tokens<J>,
+    slots: u32,
     sockets: Sockets<'a>,
 ) -> Result<(), Ending<'a>> {
-    let mut clients = match listener(rt, sockets.clients) {
+    let path = sockets.clients;
+    let claim = match Claim::new(host, path) {
+        Ok(claim) => claim,
+        Err(error) => return Err(Ending::of_file(path, error)),
+    };
+    let clients = match claim.listen(rt, sockets.mode) {
         Ok(clients) => clients,
+        Err(error) => return Err(Ending::of_file(path, error)),
+    };
+    let ended = listen_to_both(host, rt, door, seats, tokens, slots, sockets, clients);
+    claim.remove(rt);
+    ended
+}
+
+/// Opens the administrators' socket, and serves.
+fn listen_to_both<'a, J: Naming + Send + Sync, R: Files + Net + Threads + Wait + Clock + Sync>(
+    host: &HostRuntime,
+    rt: &R,
+    door: &Door<J, NoGate>,
+    seats: &FreeSeats<J>,
+    tokens: Tokens<J>,
+    slots: u32,
+    sockets: Sockets<'a>,
+    clients: UnixListener,
+) -> Result<(), Ending<'a>> {
+    let path = sockets.admins;
+    let claim = match Claim::new(host, path) {
+        Ok(claim) => claim,
+        Err(error) => return Err(Ending::of_file(path, error)),
+    };
+    let admins = match claim.listen(rt, Some(OWNER_ALONE)) {
+        Ok(admins) => admins,
+        Err(error) => return Err(Ending::of_file(path, error)),
+    };
+    let ended = serve_at(
+        host, rt, door, seats, tokens, slots, sockets, clients, admins,
+    );
+    claim.remove(rt);
+    ended
+}
+
+/// Serves at these sockets.
+fn serve_at<'a, J: Naming + Send + Sync, R: Threads + Wait + Clock + Sync>(
+    host: &HostRuntime,
+    rt: &R,
+    door: &Door<J, NoGate>,
+    seats: &FreeSeats<J>,
+    tokens: Tokens<J>,
+    slots: u32,
+    sockets: Sockets<'a>,
+    mut clients: UnixListener,
+    admins: UnixListener,
+) -> Result<(), Ending<'a>> {
+    let console = match Console::new(host, sockets, &clients, &admins) {
+        Ok(console) => console,
         Err(error) => return Err(Ending::of_file(sockets.clients, error)),
     };
-    let admins = match private_listener(rt, sockets.admins) {
-        Ok(admins) => admins,
-        Err(error) => return Err(Ending::of_file(sockets.admins, error)),
-    };
-    let _ = eprintln!(host;
-        "listening for clients at {} and for administrators at {}",
-        sockets.clients, sockets.admins
-    );
     let numbers = Numbers {
         workers: sockets.workers,
         clients: u64::MAX,
         admins: u64::MAX,
+        patience: PATIENCE,
+        slots,
+        seal_at: sockets.seal_at,
     };
-    match serve(
+    let Tokens { admin, sealer } = tokens;
+    let ended = serve(
         rt,
         host.alloc(),
+        &console,
         &mut clients,
         admins,
         door,
         seats,
         admin,
+        sealer,
         numbers,
-    ) {
-        Ok(()) => Ok(()),
-        Err(fault) => Err(Ending::Serve(fault)),
-    }
+    );
+    ended.map_err(Ending::Serve)
 }

@@ -1,6 +1,7 @@
 //! The program `svcmgr`: a service manager on the command line.
 #![tactic(auto)]
 
+mod console;
 mod daemon;
 mod sockets;
 
@@ -12,7 +13,7 @@ use sm_engine::Counted;
 use sm_policy::Prepared;
 use sm_script::{ScriptFault, run_script};
 use std::process::ExitCode;
-use std::rt::{Files, Net};
+use std::rt::{Clock, Files, Net};
 use std::sync::Wait;
 use std::thread::Threads;
 
@@ -27,7 +28,7 @@ fn main(rt: HostRuntime) -> ExitCode {
 }
 
 /// Does what the words ask for. The second handle is the same one, for what starts threads and waits.
-fn answer<R: Files + Net + Threads + Wait + Sync>(
+fn answer<R: Files + Net + Threads + Wait + Clock + Sync>(
     host: &HostRuntime,
     rt: &R,
     words: &[String],
@@ -41,14 +42,25 @@ fn answer<R: Files + Net + Threads + Wait + Sync>(
     }
 }
 
-/// Says what is wrong with the command line, or its help.
+/// Says what is wrong with the command line, or its help or version.
 fn misuse(rt: &HostRuntime, error: &clap::Error) -> ExitCode {
     if error.kind() == ErrorKind::OutOfMemory {
         return fail(rt, &Ending::Memory);
     }
+    if error.kind() == ErrorKind::DisplayVersion {
+        return version(rt, error);
+    }
     // There is nowhere else to say that this failed.
     let _ = eprint!(rt; "{error}");
     ExitCode::from(2)
+}
+
+/// Says on standard output which version this is.
+fn version(rt: &HostRuntime, words: &clap::Error) -> ExitCode {
+    match print!(rt; "{words}") {
+        Ok(()) => ExitCode::SUCCESS,
+        Err(_) => ExitCode::FAILURE,
+    }
 }
 
 /// Says why there is no answer.
@@ -60,7 +72,7 @@ fn fail(rt: &HostRuntime, ending: &Ending) -> ExitCode {
     ExitCode::FAILURE
 }
 
-fn perform<'a, R: Files + Net + Threads + Wait + Sync>(
+fn perform<'a, R: Files + Net + Threads + Wait + Clock + Sync>(
     host: &HostRuntime,
     rt: &R,
     options: &Options<'a>,
@@ -98,7 +110,7 @@ fn serve_script<'a>(rt: &HostRuntime, options: &Options<'a>) -> Result<ExitCode,
 }
 
 /// Serves clients and administrators over sockets, until it is killed or a fault ends it.
-fn serve_sockets<'a, R: Files + Net + Threads + Wait + Sync>(
+fn serve_sockets<'a, R: Files + Net + Threads + Wait + Clock + Sync>(
     host: &HostRuntime,
     rt: &R,
     options: &Options<'a>,

@@ -9,13 +9,14 @@ use mir.Syntax.{named}
 use Rattle.std.specs.Prelude.{codes, [], ◌∷◌}
 use Rattle.std.proofs.Crossing.{crosses}
 use Rattle.std.specs.contracts.alloc.Global as Global
-use Rattle.std.specs.contracts.sync.Mutex as Mutex
-use Rattle.std.specs.contracts.option.Option as Option
 use Rattle.sm_roll.specs.contracts.roll.Roll as Roll
+use Rattle.sm_door.specs.contracts.admin.Admin as Admin
 use Rattle.sm_door.specs.contracts.door.Door as Door
+use Rattle.sm_door.specs.contracts.session.Session as Session
 use Rattle.sm_door.specs.contracts.published.ShownAbsorbArcPage.TheImpl as Absorb
-use Rattle.sm_engine.specs.contracts.serve_fault.ServeFault as ServeFault
+use Rattle.sm_serve.specs.contracts.faults.Faults as Faults
 use Rattle.sm_serve.specs.contracts.shared_admin.SharedAdmin as SharedAdmin
+use Rattle.sm_serve.specs.contracts.watch.Watch as Watch
 use Rattle.sm_core.proofs.Crossing.{view_send, view_sync}
 use Rattle.sm_core.proofs.CrossingManager.{manager_send}
 use Rattle.sm_door.proofs.Crossing.{actor_send, desk_send, page_row, reader_row, writer_row}
@@ -33,6 +34,19 @@ sends-requires-3-send-X g c κs within =
     let r : IsSend (reader_row J g.J.Naming) = search (sendable, crosses, c.sends.ensures) depth 60 fits 20000 in
     param_send 0 _ (arg_send _ no _ (actor_send J g.J.Naming r))
 
+pub sends-requires-4-send-X : goal.sends-requires-4-send-X
+sends-requires-4-send-X g c κs within =
+    let J = param 0 g.row.J in
+    let admin : IsSend (Admin.the_row J g.J.Naming) = search (sendable, crosses, c.sends-3.ensures) depth 60 fits 20000 in
+    param_send 0 _ (arg_send _ no _ admin)
+
+pub sends-requires-10-send-X : goal.sends-requires-10-send-X
+sends-requires-10-send-X g c κs within =
+    let J = param 0 g.row.J in
+    let session : IsSend (Session.the_row J g.J.Naming) =
+    search (sendable, crosses, c.sends-3.ensures) depth 60 fits 20000 in
+    param_send 0 _ (arg_send _ no _ session)
+
 pub sends-requires-9-send-X : goal.sends-requires-9-send-X
 sends-requires-9-send-X g c κs within =
     let J = param 0 g.row.J in
@@ -44,29 +58,33 @@ sends-requires-9-send-X g c κs within =
 pub spawn-requires-2-send-F : goal.spawn-requires-2-send-F
 spawn-requires-2-send-F g c κs within =
     let J = param 0 g.row.J in
-    let bounds = c.requires.1.1.1.1.1 in
+    let bounds = c.requires.1.1.1.1.1.1 in
     let absorbs = Absorb.ghosts J g.J.Naming Absorb.no_dict in
     let entrance : IsSend (param 3 g.row.A) = param_send 3 _ bounds.2 in
-    let handle : IsSync (param 4 g.row.R) = param_sync 4 _ bounds.5 in
+    let host : IsSync (param 4 g.row.H) = param_sync 4 _ bounds.5 in
+    let handle : IsSync (param 5 g.row.R) = param_sync 5 _ bounds.6 in
     let memory : IsSend Global.the_row = search (sendable, crosses) depth 60 fits 20000 in
     let door : IsSync (Door.the_row J (param 1 g.row.G) g.J.Naming absorbs) =
     search (sendable, crosses, c.shares.ensures) depth 60 fits 20000 in
     let admin : IsSync (SharedAdmin.the_row J g.J.Naming) =
-    search (sendable, crosses, c.shares-4.ensures) depth 60 fits 20000 in
-    let faults : IsSync (Mutex.the_row (Option.the_row ServeFault.the_row)) =
-    search (sendable, crosses) depth 60 fits 20000 in
+    search (sendable, crosses, c.shares-5.ensures) depth 60 fits 20000 in
+    let faults : IsSync Faults.the_row = search (sendable, crosses, c.shares-6.ensures) depth 60 fits 20000 in
+    let watch : IsSync (Watch.the_row (param 4 g.row.H)) =
+    search (sendable, crosses, c.shares-7.ensures) depth 60 fits 20000 in
     let number : IsSend Field.u64-field.row = search sendable depth 20 in
     let held = Tuple.type_at (codes "sm_serve::serving::fn::serve::fn::scope::spawn+2+Self")
     (param 3 g.row.A
-    ∷ (Field.shr_ref_field (record { mir = named 5; lft = κs.1.1.1.1.1.0 }) (param 4 g.row.R) tt).row
+    ∷ (Field.shr_ref_field (record { mir = named 6; lft = κs.1.1.1.1.1.1.0 }) (param 5 g.row.R) tt).row
     ∷ Global.the_row
-    ∷ (Field.shr_ref_field (record { mir = named 6; lft = κs.1.1.1.1.1.1.0 })
-    (Door.the_row J (param 1 g.row.G) g.J.Naming absorbs) tt).row
     ∷ (Field.shr_ref_field (record { mir = named 7; lft = κs.1.1.1.1.1.1.1.0 })
-    (SharedAdmin.the_row J g.J.Naming) tt).row
+    (Door.the_row J (param 1 g.row.G) g.J.Naming absorbs) tt).row
     ∷ (Field.shr_ref_field (record { mir = named 8; lft = κs.1.1.1.1.1.1.1.1.0 })
-    (Mutex.the_row (Option.the_row ServeFault.the_row)) tt).row
-    ∷ Field.u64-field.row ∷ []) in
+    (SharedAdmin.the_row J g.J.Naming) tt).row
+    ∷ (Field.shr_ref_field (record { mir = named 9; lft = κs.1.1.1.1.1.1.1.1.1.0 })
+    (Watch.the_row (param 4 g.row.H)) tt).row
+    ∷ (Field.shr_ref_field (record { mir = named 10; lft = κs.1.1.1.1.1.1.1.1.1.1.0 }) (param 4 g.row.H) tt).row
+    ∷ (Field.shr_ref_field (record { mir = named 11; lft = κs.1.1.1.1.1.1.1.1.1.1.1.0 }) Faults.the_row tt).row
+    ∷ Field.u64-field.row ∷ Field.u64-field.row ∷ []) in
     param_send 1 _ (arg_send _ no _ (recorded_send _ _ _ held.to_one (struct_send (struct.shape held) (
       entrance,
       (
@@ -77,7 +95,10 @@ spawn-requires-2-send-F g c κs within =
             shr_send _ _ _ door,
             (
               shr_send _ _ _ admin,
-              (shr_send _ _ _ faults, (number, tt)),
+              (
+                shr_send _ _ _ watch,
+                (shr_send _ _ _ host, (shr_send _ _ _ faults, (number, (number, tt)))),
+              ),
             ),
           ),
         ),

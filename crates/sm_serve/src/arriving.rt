@@ -1,0 +1,100 @@
+//! The next connection of an entrance, over failures that pass.
+
+use crate::entrance::Entrance;
+use crate::faults::Faults;
+use crate::notice::{Notice, Supervisor};
+use sm_engine::ServeFault;
+use std::io::{self, ErrorKind};
+use std::os::unix::net::UnixStream;
+use std::rt::Clock;
+use std::sync::Wait;
+use std::thread;
+use std::time::Duration;
+
+/// How long an entrance is left alone when files or memory are short, in milliseconds.
+const SHORTAGE_PAUSE: u64 = 100;
+
+// Linux's numbers of the errors that no `ErrorKind` stands for.
+const ENFILE: i32 = 23;
+
+const EMFILE: i32 = 24;
+
+const ENOBUFS: i32 = 105;
+
+/// What a failed `accept` says of the calls after it.
+#[derive(Clone, Copy, Debug, PartialEq, Eq)]
+enum Failure {
+    /// It concerns one connection or one call.
+    Passing,
+    /// Files or memory are short for now.
+    Shortage,
+    /// The listener is of no more use.
+    Lasting,
+}
+
+fn failure_of(error: &io::Error) -> Failure {
+    match error.kind() {
+        ErrorKind::ConnectionAborted | ErrorKind::Interrupted | ErrorKind::WouldBlock => {
+            Failure::Passing
+        }
+        ErrorKind::OutOfMemory => Failure::Shortage,
+        _ => match error.raw_os_error() {
+            Some(ENFILE | EMFILE | ENOBUFS) => Failure::Shortage,
+            _ => Failure::Lasting,
+        },
+    }
+}
+
+/// The next connection. `None`: the listener failed for good, or there is a fault, which may have come while this one
+/// waited.
+pub fn arrival<E: Entrance, H: Supervisor, R: Wait + Clock>(
+    rt: &R,
+    entrance: &mut E,
+    host: &H,
+    faults: &Faults,
+) -> Option<UnixStream> {
+    let mut told = false;
+    for _ in rt.forever() {
+        if faults.is_noted(rt) {
+            return None;
+        }
+        match entrance.accept() {
+            Ok(stream) => return unless_noted(rt, faults, stream),
+            Err(error) => match failure_of(&error) {
+                Failure::Passing => {}
+                Failure::Shortage => {
+                    wait_out(rt, host, error, told);
+                    told = true;
+                }
+                Failure::Lasting => {
+                    give_up(rt, host, faults, error);
+                    return None;
+                }
+            },
+        }
+    }
+    None
+}
+
+fn unless_noted<R: Wait>(rt: &R, faults: &Faults, stream: UnixStream) -> Option<UnixStream> {
+    if faults.is_noted(rt) {
+        return None;
+    }
+    Some(stream)
+}
+
+fn wait_out<H: Supervisor, R: Clock>(rt: &R, host: &H, error: io::Error, told: bool) {
+    if !told {
+        host.tell(Notice::AcceptDelayed(error));
+    }
+    thread::sleep(rt, Duration::from_millis(SHORTAGE_PAUSE));
+}
+
+// An entrance that was closed for an earlier fault is none of its own.
+fn give_up<H: Supervisor, R: Wait>(rt: &R, host: &H, faults: &Faults, error: io::Error) {
+    if faults.is_noted(rt) {
+        return;
+    }
+    host.tell(Notice::AcceptFailed(error));
+    faults.note(rt, host, ServeFault::AcceptFault);
+}

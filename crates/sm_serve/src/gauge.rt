@@ -1,0 +1,87 @@
+//! How full the journal of a server is.
+
+use std::sync::atomic::{AtomicU64, Ordering};
+
+/// How full the open segment of a server's journal is, as its threads have counted it. A count may lag behind the
+/// journal by the changes that threads are answering.
+#[derive(Drop)]
+pub struct Gauge {
+    // The entries that a segment has room for.
+    slots: u64,
+    // So many entries are sealed by the server itself; `u64::MAX`: never.
+    seal_at: u64,
+    // The entries of all segments.
+    entries: AtomicU64,
+    // Those of sealed segments.
+    sealed: AtomicU64,
+    // What was said of the open segment: `NOTHING`, `ALMOST_FULL` or `FULL`.
+    told: AtomicU64,
+}
+
+const NOTHING: u64 = 0;
+
+const ALMOST_FULL: u64 = 1;
+
+const FULL: u64 = 2;
+
+/// A journal is almost full when so many tenths of it are used.
+const MARK: u64 = 9;
+
+impl Gauge {
+    /// A journal with the entry of its opening. It has so many slots, and is to be sealed at so many entries.
+    pub fn new(slots: u32, seal_at: Option<u32>) -> Gauge {
+        Gauge {
+            slots: u64::from(slots),
+            seal_at: match seal_at {
+                Some(entries) => u64::from(entries),
+                None => u64::MAX,
+            },
+            entries: AtomicU64::new(1),
+            sealed: AtomicU64::new(0),
+            told: AtomicU64::new(NOTHING),
+        }
+    }
+
+    /// The slots of the journal.
+    pub fn slots(&self) -> u64 {
+        self.slots
+    }
+
+    /// The entries of the open segment.
+    pub fn used(&self) -> u64 {
+        let entries = self.entries.load(Ordering::SeqCst);
+        entries.saturating_sub(self.sealed.load(Ordering::SeqCst))
+    }
+
+    /// Counts a change. Whether the open segment is almost full and this is to be said, which it is once.
+    pub fn fills_up(&self) -> bool {
+        self.entries.fetch_add(1, Ordering::SeqCst);
+        let is_almost_full = self.used().saturating_mul(10) >= self.slots.saturating_mul(MARK);
+        is_almost_full && self.says_first(NOTHING, ALMOST_FULL)
+    }
+
+    /// Counts a change that was refused since no slot is left. Whether this is to be said, which it is once.
+    pub fn is_full(&self) -> bool {
+        self.told.swap(FULL, Ordering::SeqCst) != FULL
+    }
+
+    fn says_first(&self, before: u64, after: u64) -> bool {
+        let (order, failed) = (Ordering::SeqCst, Ordering::SeqCst);
+        self.told
+            .compare_exchange(before, after, order, failed)
+            .is_ok()
+    }
+
+    /// Whether the server is to seal the open segment: it has as many entries as were asked for, or it was full before
+    /// that, since slots are kept for the ends of clients.
+    pub fn is_due(&self) -> bool {
+        let is_asked_for = self.seal_at != u64::MAX;
+        is_asked_for && (self.used() >= self.seal_at || self.told.load(Ordering::SeqCst) == FULL)
+    }
+
+    /// The open segment was sealed, and so many entries are in all sealed ones.
+    pub fn seal(&self, entries: u64) {
+        self.sealed.store(entries, Ordering::SeqCst);
+        self.told.store(NOTHING, Ordering::SeqCst);
+    }
+}

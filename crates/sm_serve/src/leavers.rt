@@ -1,0 +1,73 @@
+//! Clients that are gone and could not leave.
+
+use crate::free_seats::FreeSeats;
+use crate::notice::Supervisor;
+use crate::watch::Watch;
+use sm_door::{Chair, Door, Session};
+use sm_roll::Naming;
+use sm_view::Gate;
+use std::alloc::{AllocError, Global};
+use std::sync::{Mutex, Wait};
+
+/// The most sessions that there are at a time.
+const SESSIONS: usize = 64;
+
+/// Sessions whose connections have ended and that could not leave, since an allocation failed. Each is tried again.
+#[derive(Drop)]
+pub struct Leavers<J: Naming> {
+    sessions: Mutex<Vec<Session<J>>>,
+}
+
+impl<J: Naming> Leavers<J> {
+    /// None, with memory for all that there may be.
+    pub fn new(alloc: Global) -> Result<Leavers<J>, AllocError> {
+        Ok(Leavers {
+            sessions: Mutex::new(Vec::with_capacity(alloc, SESSIONS)?),
+        })
+    }
+
+    /// Keeps the session of a connection that has ended, if one is left in its chair.
+    pub fn take_over<R: Wait>(&self, rt: &R, seats: &FreeSeats<J>, chair: Option<Chair<J>>) {
+        let Some(chair) = chair else {
+            return;
+        };
+        match chair.taken() {
+            Ok(session) => self.keep(rt, session),
+            Err(seat) => seats.give_back(rt, seat),
+        }
+    }
+
+    // There is room, since no more sessions than seats are there.
+    fn keep<R: Wait>(&self, rt: &R, session: Session<J>) {
+        let _ = self.sessions.lock(rt).push(session);
+    }
+
+    fn next<R: Wait>(&self, rt: &R) -> Option<Session<J>> {
+        self.sessions.lock(rt).pop()
+    }
+
+    /// Has them leave one after another, up to the first that can't, and frees their seats.
+    pub fn retry<G: Gate + Drop, H: Supervisor, R: Wait>(
+        &self,
+        rt: &R,
+        door: &Door<J, G>,
+        seats: &FreeSeats<J>,
+        watch: &Watch<H>,
+    ) {
+        for _ in 0..SESSIONS {
+            let Some(session) = self.next(rt) else {
+                return;
+            };
+            match door.leave(rt, session) {
+                Ok(seat) => {
+                    watch.count();
+                    seats.give_back(rt, seat);
+                }
+                Err((_, session)) => {
+                    self.keep(rt, session);
+                    return;
+                }
+            }
+        }
+    }
+}

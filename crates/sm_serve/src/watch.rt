@@ -1,0 +1,60 @@
+//! Tells the supervisor how full the journal is.
+
+use crate::gauge::Gauge;
+use crate::notice::{Notice, Supervisor};
+use sm_history::{Refusal, Reply};
+use sm_session::Response;
+
+/// Counts the changes that are answered, and tells the supervisor when the journal fills up.
+pub struct Watch<'a, H> {
+    host: &'a H,
+    gauge: Gauge,
+}
+
+impl<'a, H> Drop for Watch<'a, H> {
+    fn drop(self) {
+        let Watch { host: _, gauge: _ } = self;
+    }
+}
+
+impl<'a, H: Supervisor> Watch<'a, H> {
+    /// A watch over a journal that was just opened.
+    pub fn new(host: &'a H, gauge: Gauge) -> Watch<'a, H> {
+        Watch { host, gauge }
+    }
+
+    /// Sees what was answered.
+    pub fn see(&self, response: &Response) {
+        match response {
+            Response::Replied(Reply::Done(_)) => self.count(),
+            Response::Replied(Reply::Refused(Refusal::JournalFull)) => self.refuse(),
+            _ => {}
+        }
+    }
+
+    /// Counts a change.
+    pub fn count(&self) {
+        if self.gauge.fills_up() {
+            self.host.tell(Notice::AlmostFull {
+                used: self.gauge.used(),
+                slots: self.gauge.slots(),
+            });
+        }
+    }
+
+    fn refuse(&self) {
+        if self.gauge.is_full() {
+            self.host.tell(Notice::Full);
+        }
+    }
+
+    /// Whether the server is to seal the open segment.
+    pub fn is_due(&self) -> bool {
+        self.gauge.is_due()
+    }
+
+    /// A segment was sealed, with so many entries up to its end.
+    pub fn sealed(&self, length: u64) {
+        self.gauge.seal(length);
+    }
+}
