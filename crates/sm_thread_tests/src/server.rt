@@ -3,7 +3,6 @@
 ghost use Rattle.std.specs.Prelude.{◌≡◌};
 ghost use Rattle.sm_core.specs.Opening.{opened};
 
-use crossbeam_utils::Backoff;
 use sm_door::Door;
 use sm_engine::ServeFault;
 use sm_kinds::{Context, Identity, Places};
@@ -379,7 +378,7 @@ fn two_clients_and_an_administrator(rt: HostRuntime) -> Result<(), Fail> {
     Ok(())
 }
 
-const HELLO: &[u8] = b"hello 100 1000 u:r:system_server:s0\n";
+pub const HELLO: &[u8] = b"hello 100 1000 u:r:system_server:s0\n";
 
 /// A connection that is cut inside a line, and one after it, where the journal has four places.
 struct Cut {
@@ -636,109 +635,6 @@ fn a_policy_is_replaced_while_clients_are_connected(rt: HostRuntime) -> Result<(
     };
     assert_eq!(rt;
         at_a_door(&rt, alloc, 1000, NoGate, visits, talk),
-        ALL_IS_WELL
-    );
-    Ok(())
-}
-
-/// The first session that comes to this line is held until another has been answered it.
-const HELD_LINE: u64 = 2;
-
-/// So many turns the held session waits.
-const TURNS: u32 = 1_000_000;
-
-/// Holds the first session that comes to its second line, until another session's second line is answered.
-#[derive(Drop)]
-struct Second {
-    came: AtomicU64,
-    answered: AtomicU64,
-    given_up: AtomicU64,
-}
-
-impl Second {
-    fn new() -> Second {
-        Second {
-            came: AtomicU64::new(0),
-            answered: AtomicU64::new(0),
-            given_up: AtomicU64::new(0),
-        }
-    }
-
-    fn hold(&self) {
-        let backoff = Backoff::new();
-        for _ in 0..TURNS {
-            if self.answered.load(Ordering::SeqCst) > 0 {
-                return;
-            }
-            backoff.snooze();
-        }
-        self.given_up.store(1, Ordering::SeqCst);
-    }
-}
-
-impl Watched for Second {
-    fn is_well(&self) -> bool {
-        self.came.load(Ordering::SeqCst) == 2 && self.given_up.load(Ordering::SeqCst) == 0
-    }
-}
-
-impl Gate for Second {
-    fn enter(&self, line: u64) {
-        if line == HELD_LINE && self.came.fetch_add(1, Ordering::SeqCst) == 0 {
-            self.hold();
-        }
-    }
-
-    fn inside(&self) {}
-
-    fn leave(&self, line: u64) {
-        if line == HELD_LINE {
-            self.answered.fetch_add(1, Ordering::SeqCst);
-        }
-    }
-}
-
-/// Two clients that ask at once.
-struct Both {
-    first: UnixStream,
-    second: UnixStream,
-}
-
-impl Drop for Both {
-    fn drop(self) {
-        let Both {
-            first: _,
-            second: _,
-        } = self;
-    }
-}
-
-impl Talk for Both {
-    fn is_answered(&mut self) -> bool {
-        let mut first = &self.first;
-        answers(&self.first, HELLO, b"client 1\n")
-            && answers(&self.second, HELLO, b"client 2\n")
-            && first.write_all(b"version\n").is_ok()
-            && answers(&self.second, b"version\n", b"version 1 3\n")
-            && answers(&self.first, b"", b"version 1 3\n")
-            && self.first.shutdown(Shutdown::Write).is_ok()
-            && self.second.shutdown(Shutdown::Write).is_ok()
-    }
-}
-
-#[test]
-fn a_call_is_held_until_another_is_answered(rt: HostRuntime) -> Result<(), Fail> {
-    let alloc = rt.alloc();
-    let (first, one) = connection(&rt);
-    let (second, two) = connection(&rt);
-    let visits = Visits {
-        clients: Waiting::of(vec![in alloc; two, one]?),
-        admins: Waiting::of(Vec::new(alloc)),
-        numbers: numbers(2, 2, 0),
-    };
-    let talk = Both { first, second };
-    assert_eq!(rt;
-        at_a_door(&rt, alloc, 1000, Second::new(), visits, talk),
         ALL_IS_WELL
     );
     Ok(())
