@@ -1,6 +1,6 @@
 use denote.Exit.{no}
 use denote.Param.{param}
-use denote.Param.Send.{IsSend, IsSync, sendable, shr_send, struct_send, recorded_send, param_send, param_sync}
+use denote.Param.Send.{IsSend, IsSync, sendable, shr_send, view_send as model_send, struct_send, recorded_send, param_send, param_sync}
 use denote.Param.Send.{arg_send, arg_sync}
 use denote.Struct.Field as Field
 use denote.Struct.Tuple as Tuple
@@ -10,9 +10,12 @@ use Rattle.std.specs.Prelude.{codes, [], ◌∷◌}
 use Rattle.std.proofs.Crossing.{crosses}
 use Rattle.std.specs.contracts.alloc.Global as Global
 use Rattle.sm_roll.specs.contracts.roll.Roll as Roll
-use Rattle.sm_door.specs.contracts.admin.Admin as Admin
+use Rattle.sm_kinds.specs.contracts.number.AdminId as AdminId
+use Rattle.sm_kinds.specs.contracts.number.ClientId as ClientId
+use Rattle.sm_door.specs.contracts.actor.Actor as Actor
+use Rattle.sm_door.specs.contracts.admin.Admin.TheInside as AdminInside
 use Rattle.sm_door.specs.contracts.door.Door as Door
-use Rattle.sm_door.specs.contracts.session.Session as Session
+use Rattle.sm_door.specs.contracts.session.Session.TheInside as SessionInside
 use Rattle.sm_door.specs.contracts.published.ShownAbsorbArcPage.TheImpl as Absorb
 use Rattle.sm_serve.specs.contracts.faults.Faults as Faults
 use Rattle.sm_serve.specs.contracts.shared_admin.SharedAdmin as SharedAdmin
@@ -37,15 +40,20 @@ sends-requires-3-send-X g c κs within =
 pub sends-requires-4-send-X : goal.sends-requires-4-send-X
 sends-requires-4-send-X g c κs within =
     let J = param 0 g.row.J in
-    let admin : IsSend (Admin.the_row J g.J.Naming) = search (sendable, crosses, c.sends-3.ensures) depth 60 fits 20000 in
-    param_send 0 _ (arg_send _ no _ admin)
+    let D = AdminInside.the_type J g.J.Naming in
+    let number : IsSend AdminId.the_field.row = search sendable depth 20 in
+    let actor : IsSend (Actor.the_row J g.J.Naming) = search (sendable, crosses, c.sends-3.ensures) depth 60 fits 20000 in
+    let inside = recorded_send _ _ _ D.to_one (struct_send (struct.shape D) (number, (actor, tt))) in
+    param_send 0 _ (arg_send _ no _ (model_send (AdminInside.the_row J g.J.Naming) _ _ _ _ inside))
 
 pub sends-requires-10-send-X : goal.sends-requires-10-send-X
 sends-requires-10-send-X g c κs within =
     let J = param 0 g.row.J in
-    let session : IsSend (Session.the_row J g.J.Naming) =
-    search (sendable, crosses, c.sends-3.ensures) depth 60 fits 20000 in
-    param_send 0 _ (arg_send _ no _ session)
+    let D = SessionInside.the_type J g.J.Naming in
+    let client : IsSend ClientId.the_field.row = search sendable depth 20 in
+    let actor : IsSend (Actor.the_row J g.J.Naming) = search (sendable, crosses, c.sends-3.ensures) depth 60 fits 20000 in
+    let inside = recorded_send _ _ _ D.to_one (struct_send (struct.shape D) (client, (actor, tt))) in
+    param_send 0 _ (arg_send _ no _ (model_send (SessionInside.the_row J g.J.Naming) _ _ _ _ inside))
 
 pub sends-requires-9-send-X : goal.sends-requires-9-send-X
 sends-requires-9-send-X g c κs within =
