@@ -77,13 +77,13 @@ pub fn serve<
     let faults = Faults::new();
     let token = SharedAdmin::new(admin);
     let sealing = SharedAdmin::new(sealer);
-    let watch = Watch::new(host, Gauge::new(numbers.slots, numbers.seal_at));
+    let gauge = Gauge::new(numbers.slots, numbers.seal_at);
     let waiting = &queue;
     let faulty = &faults;
     let shared = &token;
     let leaving = &leavers;
     let sealer = &sealing;
-    let watching = &watch;
+    let gauging = &gauge;
     thread::scope(thread::scope_env(), rt, |scope| {
         crosses::<View>();
         crosses::<Badge<J>>();
@@ -106,10 +106,11 @@ pub fn serve<
         shares::<Queue>();
         shares::<SharedAdmin<J>>();
         shares::<Faults>();
-        shares::<Watch<H>>();
+        shares::<Gauge>();
         for _ in 0..numbers.workers {
             if scope
                 .spawn(move || {
+                    let watch = Watch::new(host, gauging);
                     work(
                         rt,
                         alloc,
@@ -117,7 +118,7 @@ pub fn serve<
                         seats,
                         leaving,
                         sealer,
-                        watching,
+                        &watch,
                         numbers.patience,
                         waiting,
                     );
@@ -130,12 +131,13 @@ pub fn serve<
         if scope
             .spawn(move || {
                 let mut admins = admins;
+                let watch = Watch::new(host, gauging);
                 administer(
                     rt,
                     alloc,
                     door,
                     shared,
-                    watching,
+                    &watch,
                     &mut admins,
                     host,
                     faulty,
@@ -150,7 +152,7 @@ pub fn serve<
         admit(rt, clients, &to, host, faulty, numbers.clients);
         drop(to);
     });
-    leavers.retry(rt, door, seats, &watch);
+    leavers.retry(rt, door, seats, &Watch::new(host, &gauge));
     faults.into_result()
 }
 

@@ -8,7 +8,7 @@ use sm_session::Response;
 /// Counts the changes that are answered, and tells the supervisor when the journal fills up.
 pub struct Watch<'a, H> {
     host: &'a H,
-    gauge: Gauge,
+    gauge: &'a Gauge,
 }
 
 impl<'a, H> Drop for Watch<'a, H> {
@@ -18,8 +18,8 @@ impl<'a, H> Drop for Watch<'a, H> {
 }
 
 impl<'a, H: Supervisor> Watch<'a, H> {
-    /// A watch over a journal that was just opened.
-    pub fn new(host: &'a H, gauge: Gauge) -> Watch<'a, H> {
+    /// A watch over this gauge's journal.
+    pub fn new(host: &'a H, gauge: &'a Gauge) -> Watch<'a, H> {
         Watch { host, gauge }
     }
 

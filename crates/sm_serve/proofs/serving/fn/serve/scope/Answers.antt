@@ -1,7 +1,7 @@
 use denote.Exit.{no}
 use denote.Param.{param}
 use denote.Param.Send.{IsSend, IsSync, sendable, shr_send, struct_send, recorded_send, param_send, param_sync}
-use denote.Param.Send.{arg_send, arg_sync}
+use denote.Param.Send.{arg_send, arg_sync, view_send as model_send}
 use denote.Struct.Field as Field
 use denote.Struct.Tuple as Tuple
 use denote.Struct.Declared as struct
@@ -10,13 +10,16 @@ use Rattle.std.specs.Prelude.{codes, [], ◌∷◌}
 use Rattle.std.proofs.Crossing.{crosses}
 use Rattle.std.specs.contracts.alloc.Global as Global
 use Rattle.sm_roll.specs.contracts.roll.Roll as Roll
-use Rattle.sm_door.specs.contracts.admin.Admin as Admin
+use Rattle.sm_kinds.specs.contracts.number.AdminId as AdminId
+use Rattle.sm_kinds.specs.contracts.number.ClientId as ClientId
+use Rattle.sm_door.specs.contracts.actor.Actor as Actor
+use Rattle.sm_door.specs.contracts.admin.Admin.TheInside as AdminInside
 use Rattle.sm_door.specs.contracts.door.Door as Door
-use Rattle.sm_door.specs.contracts.session.Session as Session
+use Rattle.sm_door.specs.contracts.session.Session.TheInside as SessionInside
 use Rattle.sm_door.specs.contracts.published.ShownAbsorbArcPage.TheImpl as Absorb
 use Rattle.sm_serve.specs.contracts.faults.Faults as Faults
 use Rattle.sm_serve.specs.contracts.shared_admin.SharedAdmin as SharedAdmin
-use Rattle.sm_serve.specs.contracts.watch.Watch as Watch
+use Rattle.sm_serve.specs.contracts.gauge.Gauge as Gauge
 use Rattle.sm_core.proofs.Crossing.{view_send, view_sync}
 use Rattle.sm_core.proofs.CrossingManager.{manager_send}
 use Rattle.sm_door.proofs.Crossing.{actor_send, desk_send, page_row, reader_row, writer_row}
@@ -37,15 +40,20 @@ sends-requires-3-send-X g c κs within =
 pub sends-requires-4-send-X : goal.sends-requires-4-send-X
 sends-requires-4-send-X g c κs within =
     let J = param 0 g.row.J in
-    let admin : IsSend (Admin.the_row J g.J.Naming) = search (sendable, crosses, c.sends-3.ensures) depth 60 fits 20000 in
-    param_send 0 _ (arg_send _ no _ admin)
+    let D = AdminInside.the_type J g.J.Naming in
+    let number : IsSend AdminId.the_field.row = search sendable depth 20 in
+    let actor : IsSend (Actor.the_row J g.J.Naming) = search (sendable, crosses, c.sends-3.ensures) depth 60 fits 20000 in
+    let inside = recorded_send _ _ _ D.to_one (struct_send (struct.shape D) (number, (actor, tt))) in
+    param_send 0 _ (arg_send _ no _ (model_send (AdminInside.the_row J g.J.Naming) _ _ _ _ inside))
 
 pub sends-requires-10-send-X : goal.sends-requires-10-send-X
 sends-requires-10-send-X g c κs within =
     let J = param 0 g.row.J in
-    let session : IsSend (Session.the_row J g.J.Naming) =
-    search (sendable, crosses, c.sends-3.ensures) depth 60 fits 20000 in
-    param_send 0 _ (arg_send _ no _ session)
+    let D = SessionInside.the_type J g.J.Naming in
+    let client : IsSend ClientId.the_field.row = search sendable depth 20 in
+    let actor : IsSend (Actor.the_row J g.J.Naming) = search (sendable, crosses, c.sends-3.ensures) depth 60 fits 20000 in
+    let inside = recorded_send _ _ _ D.to_one (struct_send (struct.shape D) (client, (actor, tt))) in
+    param_send 0 _ (arg_send _ no _ (model_send (SessionInside.the_row J g.J.Naming) _ _ _ _ inside))
 
 pub sends-requires-9-send-X : goal.sends-requires-9-send-X
 sends-requires-9-send-X g c κs within =
@@ -69,35 +77,36 @@ spawn-requires-2-send-F g c κs within =
     let admin : IsSync (SharedAdmin.the_row J g.J.Naming) =
     search (sendable, crosses, c.shares-5.ensures) depth 60 fits 20000 in
     let faults : IsSync Faults.the_row = search (sendable, crosses, c.shares-6.ensures) depth 60 fits 20000 in
-    let watch : IsSync (Watch.the_row (param 4 g.row.H)) =
-    search (sendable, crosses, c.shares-7.ensures) depth 60 fits 20000 in
+    let gauge : IsSync Gauge.the_row = search (sendable, crosses, c.shares-7.ensures) depth 60 fits 20000 in
     let number : IsSend Field.u64-field.row = search sendable depth 20 in
     let held = Tuple.type_at (codes "sm_serve::serving::fn::serve::fn::scope::spawn+2+Self")
     (param 3 g.row.A
-    ∷ (Field.shr_ref_field (record { mir = named 6; lft = κs.1.1.1.1.1.1.0 }) (param 5 g.row.R) tt).row
+    ∷ (Field.shr_ref_field (record { mir = named 5; lft = κs.1.1.1.1.1.0 }) (param 4 g.row.H) tt).row
+    ∷ (Field.shr_ref_field (record { mir = named 6; lft = κs.1.1.1.1.1.1.0 }) Gauge.the_row tt).row
+    ∷ (Field.shr_ref_field (record { mir = named 7; lft = κs.1.1.1.1.1.1.1.0 }) (param 5 g.row.R) tt).row
     ∷ Global.the_row
-    ∷ (Field.shr_ref_field (record { mir = named 7; lft = κs.1.1.1.1.1.1.1.0 })
-    (Door.the_row J (param 1 g.row.G) g.J.Naming absorbs) tt).row
     ∷ (Field.shr_ref_field (record { mir = named 8; lft = κs.1.1.1.1.1.1.1.1.0 })
-    (SharedAdmin.the_row J g.J.Naming) tt).row
+    (Door.the_row J (param 1 g.row.G) g.J.Naming absorbs) tt).row
     ∷ (Field.shr_ref_field (record { mir = named 9; lft = κs.1.1.1.1.1.1.1.1.1.0 })
-    (Watch.the_row (param 4 g.row.H)) tt).row
-    ∷ (Field.shr_ref_field (record { mir = named 10; lft = κs.1.1.1.1.1.1.1.1.1.1.0 }) (param 4 g.row.H) tt).row
-    ∷ (Field.shr_ref_field (record { mir = named 11; lft = κs.1.1.1.1.1.1.1.1.1.1.1.0 }) Faults.the_row tt).row
+    (SharedAdmin.the_row J g.J.Naming) tt).row
+    ∷ (Field.shr_ref_field (record { mir = named 10; lft = κs.1.1.1.1.1.1.1.1.1.1.0 }) Faults.the_row tt).row
     ∷ Field.u64-field.row ∷ Field.u64-field.row ∷ []) in
     param_send 1 _ (arg_send _ no _ (recorded_send _ _ _ held.to_one (struct_send (struct.shape held) (
       entrance,
       (
-        shr_send _ _ _ handle,
+        shr_send _ _ _ host,
         (
-          memory,
+          shr_send _ _ _ gauge,
           (
-            shr_send _ _ _ door,
+            shr_send _ _ _ handle,
             (
-              shr_send _ _ _ admin,
+              memory,
               (
-                shr_send _ _ _ watch,
-                (shr_send _ _ _ host, (shr_send _ _ _ faults, (number, (number, tt)))),
+                shr_send _ _ _ door,
+                (
+                  shr_send _ _ _ admin,
+                  (shr_send _ _ _ faults, (number, (number, tt))),
+                ),
               ),
             ),
           ),
