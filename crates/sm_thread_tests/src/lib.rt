@@ -6,6 +6,8 @@ mod door;
 #[cfg(test)]
 mod exchanges;
 #[cfg(test)]
+mod held;
+#[cfg(test)]
 mod hold;
 #[cfg(test)]
 mod rolls;

@@ -3,7 +3,6 @@
 ghost use Rattle.std.specs.Prelude.{◌≡◌};
 ghost use Rattle.sm_core.specs.Opening.{opened};
 
-use crossbeam_utils::Backoff;
 use sm_door::Door;
 use sm_engine::ServeFault;
 use sm_kinds::{Context, Identity, Places};
@@ -27,8 +26,15 @@ use std::{io, thread};
 
 /// Connections that were made before the server began; behind the last one its listener fails.
 #[derive(Drop)]
-struct Waiting {
-    streams: Vec<UnixStream>,
+pub struct Waiting {
+    pub streams: Vec<UnixStream>,
+}
+
+impl Waiting {
+    /// These connections, the last one first.
+    pub fn of(streams: Vec<UnixStream>) -> Waiting {
+        Waiting { streams }
+    }
 }
 
 impl Entrance for Waiting {
@@ -38,13 +44,13 @@ impl Entrance for Waiting {
 }
 
 /// What is said over connections while the server runs, from their other ends.
-trait Talk {
+pub trait Talk {
     /// Whether all was answered as it should be.
     fn is_answered(&mut self) -> bool;
 }
 
 /// Whether these bytes are answered by those.
-fn answers(stream: &UnixStream, sent: &[u8], wanted: &[u8]) -> bool {
+pub fn answers(stream: &UnixStream, sent: &[u8], wanted: &[u8]) -> bool {
     let mut stream = stream;
     let mut got = [0; 512];
     if wanted.len() > 512 || stream.write_all(sent).is_err() {
@@ -55,13 +61,13 @@ fn answers(stream: &UnixStream, sent: &[u8], wanted: &[u8]) -> bool {
 }
 
 /// Whether the server has ended the connection.
-fn is_over(stream: &UnixStream) -> bool {
+pub fn is_over(stream: &UnixStream) -> bool {
     let mut stream = stream;
     matches!(stream.read(&mut [0]), Ok(0))
 }
 
 /// Two ends of a connection, the client's and the server's. A client waits 20 seconds for an answer.
-fn connection<R: Net + Abort>(rt: &R) -> (UnixStream, UnixStream) {
+pub fn connection<R: Net + Abort>(rt: &R) -> (UnixStream, UnixStream) {
     let (near, far) = UnixStream::pair(rt).ok().expect(rt, "a connection");
     let patience = Some(Duration::from_secs(20));
     assert!(rt; near.set_read_timeout(patience).is_ok());
@@ -69,7 +75,7 @@ fn connection<R: Net + Abort>(rt: &R) -> (UnixStream, UnixStream) {
 }
 
 /// A gate of which is told in the end whether all came through it.
-trait Watched: Gate {
+pub trait Watched: Gate {
     /// Whether nobody was held for longer than a test waits.
     fn is_well(&self) -> bool;
 }
@@ -81,23 +87,32 @@ impl Watched for NoGate {
 }
 
 /// The connections of a test, of which the last one comes first.
-struct Visits {
-    clients: Waiting,
-    admins: Waiting,
-    numbers: Numbers,
+pub struct Visits {
+    pub clients: Waiting,
+    pub admins: Waiting,
+    pub numbers: Numbers,
+}
+
+/// So many workers, connections of clients and connections of administrators.
+pub fn numbers(workers: u32, clients: u64, admins: u64) -> Numbers {
+    Numbers {
+        workers,
+        clients,
+        admins,
+    }
 }
 
 /// What is left when a server has ended.
 #[derive(Clone, Copy, Debug, PartialEq, Eq)]
-struct Left {
-    answered: bool,
-    came_through: bool,
-    ending: Result<(), ServeFault>,
-    free: usize,
+pub struct Left {
+    pub answered: bool,
+    pub came_through: bool,
+    pub ending: Result<(), ServeFault>,
+    pub free: usize,
 }
 
 /// What is left of a server that met all that was said.
-const ALL_IS_WELL: Left = Left {
+pub const ALL_IS_WELL: Left = Left {
     answered: true,
     came_through: true,
     ending: Ok(()),
@@ -105,7 +120,7 @@ const ALL_IS_WELL: Left = Left {
 };
 
 /// Serves these connections, at a door whose journal has so many places, while the talk goes on.
-fn at_a_door<
+pub fn at_a_door<
     T: Talk + Send + Drop,
     G: Watched + Drop + Send + Sync,
     R: Threads + Wait + Abort + Sync,
@@ -246,17 +261,9 @@ fn two_clients_and_an_administrator(rt: HostRuntime) -> Result<(), Fail> {
     let (application, two) = connection(&rt);
     let (admin, three) = connection(&rt);
     let visits = Visits {
-        clients: Waiting {
-            streams: vec![in alloc; two, one]?,
-        },
-        admins: Waiting {
-            streams: vec![in alloc; three]?,
-        },
-        numbers: Numbers {
-            workers: 2,
-            clients: 2,
-            admins: 1,
-        },
+        clients: Waiting::of(vec![in alloc; two, one]?),
+        admins: Waiting::of(vec![in alloc; three]?),
+        numbers: numbers(2, 2, 1),
     };
     let talk = Visit {
         service,
@@ -270,7 +277,7 @@ fn two_clients_and_an_administrator(rt: HostRuntime) -> Result<(), Fail> {
     Ok(())
 }
 
-const HELLO: &[u8] = b"hello 100 1000 u:r:system_server:s0\n";
+pub const HELLO: &[u8] = b"hello 100 1000 u:r:system_server:s0\n";
 
 /// A connection that is cut inside a line, and one after it, where the journal has four places.
 struct Cut {
@@ -314,17 +321,9 @@ fn a_connection_that_is_cut_ends_its_client(rt: HostRuntime) -> Result<(), Fail>
     let (second, two) = connection(&rt);
     let (admin, three) = connection(&rt);
     let visits = Visits {
-        clients: Waiting {
-            streams: vec![in alloc; two, one]?,
-        },
-        admins: Waiting {
-            streams: vec![in alloc; three]?,
-        },
-        numbers: Numbers {
-            workers: 1,
-            clients: 2,
-            admins: 1,
-        },
+        clients: Waiting::of(vec![in alloc; two, one]?),
+        admins: Waiting::of(vec![in alloc; three]?),
+        numbers: numbers(1, 2, 1),
     };
     let talk = Cut {
         first,
@@ -373,17 +372,9 @@ fn the_service_of_a_client_that_vanished_is_gone(rt: HostRuntime) -> Result<(), 
     let (first, one) = connection(&rt);
     let (second, two) = connection(&rt);
     let visits = Visits {
-        clients: Waiting {
-            streams: vec![in alloc; two, one]?,
-        },
-        admins: Waiting {
-            streams: Vec::new(alloc),
-        },
-        numbers: Numbers {
-            workers: 1,
-            clients: 2,
-            admins: 0,
-        },
+        clients: Waiting::of(vec![in alloc; two, one]?),
+        admins: Waiting::of(Vec::new(alloc)),
+        numbers: numbers(1, 2, 0),
     };
     let talk = Vanished {
         first: Some(first),
@@ -446,15 +437,9 @@ fn one_client_too_many(rt: HostRuntime) -> Result<(), Fail> {
     let (late, far) = connection(&rt);
     streams.push(far)?;
     let visits = Visits {
-        clients: Waiting { streams },
-        admins: Waiting {
-            streams: Vec::new(alloc),
-        },
-        numbers: Numbers {
-            workers: 65,
-            clients: 65,
-            admins: 0,
-        },
+        clients: Waiting::of(streams),
+        admins: Waiting::of(Vec::new(alloc)),
+        numbers: numbers(65, 65, 0),
     };
     let talk = Crowd { clients, late };
     assert_eq!(rt;
@@ -530,17 +515,9 @@ fn a_policy_is_replaced_while_clients_are_connected(rt: HostRuntime) -> Result<(
     let (application, two) = connection(&rt);
     let (admin, three) = connection(&rt);
     let visits = Visits {
-        clients: Waiting {
-            streams: vec![in alloc; two, one]?,
-        },
-        admins: Waiting {
-            streams: vec![in alloc; three]?,
-        },
-        numbers: Numbers {
-            workers: 2,
-            clients: 2,
-            admins: 1,
-        },
+        clients: Waiting::of(vec![in alloc; two, one]?),
+        admins: Waiting::of(vec![in alloc; three]?),
+        numbers: numbers(2, 2, 1),
     };
     let talk = Change {
         service,
@@ -549,117 +526,6 @@ fn a_policy_is_replaced_while_clients_are_connected(rt: HostRuntime) -> Result<(
     };
     assert_eq!(rt;
         at_a_door(&rt, alloc, 1000, NoGate, visits, talk),
-        ALL_IS_WELL
-    );
-    Ok(())
-}
-
-/// The first session that comes to this line is held until another has been answered it.
-const HELD_LINE: u64 = 2;
-
-/// So many turns the held session waits.
-const TURNS: u32 = 1_000_000;
-
-/// Holds the first session that comes to its second line, until another session's second line is answered.
-#[derive(Drop)]
-struct Second {
-    came: AtomicU64,
-    answered: AtomicU64,
-    given_up: AtomicU64,
-}
-
-impl Second {
-    fn new() -> Second {
-        Second {
-            came: AtomicU64::new(0),
-            answered: AtomicU64::new(0),
-            given_up: AtomicU64::new(0),
-        }
-    }
-
-    fn hold(&self) {
-        let backoff = Backoff::new();
-        for _ in 0..TURNS {
-            if self.answered.load(Ordering::SeqCst) > 0 {
-                return;
-            }
-            backoff.snooze();
-        }
-        self.given_up.store(1, Ordering::SeqCst);
-    }
-}
-
-impl Watched for Second {
-    fn is_well(&self) -> bool {
-        self.came.load(Ordering::SeqCst) == 2 && self.given_up.load(Ordering::SeqCst) == 0
-    }
-}
-
-impl Gate for Second {
-    fn enter(&self, line: u64) {
-        if line == HELD_LINE && self.came.fetch_add(1, Ordering::SeqCst) == 0 {
-            self.hold();
-        }
-    }
-
-    fn inside(&self) {}
-
-    fn leave(&self, line: u64) {
-        if line == HELD_LINE {
-            self.answered.fetch_add(1, Ordering::SeqCst);
-        }
-    }
-}
-
-/// Two clients that ask at once.
-struct Both {
-    first: UnixStream,
-    second: UnixStream,
-}
-
-impl Drop for Both {
-    fn drop(self) {
-        let Both {
-            first: _,
-            second: _,
-        } = self;
-    }
-}
-
-impl Talk for Both {
-    fn is_answered(&mut self) -> bool {
-        let mut first = &self.first;
-        answers(&self.first, HELLO, b"client 1\n")
-            && answers(&self.second, HELLO, b"client 2\n")
-            && first.write_all(b"version\n").is_ok()
-            && answers(&self.second, b"version\n", b"version 1 3\n")
-            && answers(&self.first, b"", b"version 1 3\n")
-            && self.first.shutdown(Shutdown::Write).is_ok()
-            && self.second.shutdown(Shutdown::Write).is_ok()
-    }
-}
-
-#[test]
-fn a_call_is_held_until_another_is_answered(rt: HostRuntime) -> Result<(), Fail> {
-    let alloc = rt.alloc();
-    let (first, one) = connection(&rt);
-    let (second, two) = connection(&rt);
-    let visits = Visits {
-        clients: Waiting {
-            streams: vec![in alloc; two, one]?,
-        },
-        admins: Waiting {
-            streams: Vec::new(alloc),
-        },
-        numbers: Numbers {
-            workers: 2,
-            clients: 2,
-            admins: 0,
-        },
-    };
-    let talk = Both { first, second };
-    assert_eq!(rt;
-        at_a_door(&rt, alloc, 1000, Second::new(), visits, talk),
         ALL_IS_WELL
     );
     Ok(())
@@ -679,17 +545,9 @@ impl Talk for Silence {
 fn a_listener_that_fails_ends_the_server(rt: HostRuntime) {
     let alloc = rt.alloc();
     let visits = Visits {
-        clients: Waiting {
-            streams: Vec::new(alloc),
-        },
-        admins: Waiting {
-            streams: Vec::new(alloc),
-        },
-        numbers: Numbers {
-            workers: 2,
-            clients: 1,
-            admins: 0,
-        },
+        clients: Waiting::of(Vec::new(alloc)),
+        admins: Waiting::of(Vec::new(alloc)),
+        numbers: numbers(2, 1, 0),
     };
     let left = at_a_door(&rt, alloc, 1000, NoGate, visits, Silence);
     assert!(rt; left.ending == Err(ServeFault::AcceptFault));
