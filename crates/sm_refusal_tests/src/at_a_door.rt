@@ -15,7 +15,7 @@ use std::marker::Brand;
 use std::process::Abort;
 use std::sync::Wait;
 
-/// A session of a server. `None` if memory was refused; the seat comes back, and another try succeeds.
+/// A session of a server. `None` if an allocation failed; the seat comes back, and another try succeeds.
 fn joined<J: Naming, R: Wait + Abort>(
     rt: &R,
     alloc: Global,
@@ -52,7 +52,7 @@ fn adds<J: Naming, R: Wait + Abort>(
     Some(())
 }
 
-/// Installs a policy over version 1. One that comes back since memory was refused is installed at the second try.
+/// Installs a policy over version 1. One that comes back since an allocation failed is installed at the second try.
 fn installs<J: Naming, R: Wait + Abort>(
     rt: &R,
     alloc: Global,

@@ -42,12 +42,12 @@ pub fn activity(alloc: Global) -> Option<Event> {
     })
 }
 
-/// Whether memory was refused.
+/// Whether an allocation failed.
 pub fn is_memory(reply: &Reply) -> bool {
     matches!(reply, Reply::Refused(Refusal::Memory))
 }
 
-/// Whether `activity` alone is listed, from a history of this length. `None` if memory was refused.
+/// Whether `activity` alone is listed, from a history of this length. `None` if an allocation failed.
 pub fn lists_activity(rt: &impl Abort, reply: &Reply, wanted: u64) -> Option<()> {
     match reply {
         Reply::Looked {
@@ -78,7 +78,7 @@ fn opened(rt: &impl Abort, alloc: Global) -> Option<Manager> {
     }
 }
 
-/// Makes an actor's next change. `None` if memory was refused, and then nothing has changed.
+/// Makes an actor's next change. `None` if an allocation failed, and then nothing has changed.
 fn does(rt: &impl Abort, manager: &mut Manager, by: By, event: Event) -> Option<()> {
     let turn = manager.turn(by);
     let reply = manager.step(by, turn, event);
