@@ -15,7 +15,7 @@ use std::marker::Brand;
 use std::process::Abort;
 use std::sync::Wait;
 
-/// A session of a server. `None` if memory was refused; the seat comes back, and another try succeeds.
+/// A session of a server. `None` if an allocation failed; the seat comes back, and another try succeeds.
 fn joined<J: Naming, R: Wait + Abort>(
     rt: &R,
     alloc: Global,
@@ -52,7 +52,7 @@ fn adds<J: Naming, R: Wait + Abort>(
     Some(())
 }
 
-/// Installs a policy over version 1. One that comes back since memory was refused is installed at the second try.
+/// Installs a policy over version 1. One that comes back since an allocation failed is installed at the second try.
 fn installs<J: Naming, R: Wait + Abort>(
     rt: &R,
     alloc: Global,
@@ -69,15 +69,17 @@ fn installs<J: Naming, R: Wait + Abort>(
     Some(())
 }
 
+/// Whether a seal returns the first segment, with four changes.
+fn closes<J: Naming, R: Wait>(rt: &R, door: &Door<J, NoGate>, me: &mut Admin<J>) -> bool {
+    match door.seal(rt, me) {
+        Ok(segment) => segment.number() == 1 && segment.length() == 4,
+        Err(_) => false,
+    }
+}
+
+/// Seals. After a refusal nothing has changed, and another try succeeds.
 fn seals<J: Naming, R: Wait + Abort>(rt: &R, door: &Door<J, NoGate>, me: &mut Admin<J>) {
-    let mut closed = door.seal(rt, me);
-    if matches!(&closed, Err(Refusal::Memory)) {
-        closed = door.seal(rt, me);
-    }
-    match closed {
-        Ok(segment) => assert!(rt; segment.number() == 1 && segment.length() == 4),
-        Err(_) => panic!(rt; "no segment"),
-    }
+    assert!(rt; closes(rt, door, me) || closes(rt, door, me));
 }
 
 /// Ends a session. After a refusal the session comes back, and another try succeeds.

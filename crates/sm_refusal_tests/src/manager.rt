@@ -42,12 +42,12 @@ pub fn activity(alloc: Global) -> Option<Event> {
     })
 }
 
-/// Whether memory was refused.
+/// Whether an allocation failed.
 pub fn is_memory(reply: &Reply) -> bool {
     matches!(reply, Reply::Refused(Refusal::Memory))
 }
 
-/// Whether `activity` alone is listed, from a history of this length. `None` if memory was refused.
+/// Whether `activity` alone is listed, from a history of this length. `None` if an allocation failed.
 pub fn lists_activity(rt: &impl Abort, reply: &Reply, wanted: u64) -> Option<()> {
     match reply {
         Reply::Looked {
@@ -78,7 +78,7 @@ fn opened(rt: &impl Abort, alloc: Global) -> Option<Manager> {
     }
 }
 
-/// Makes an actor's next change. `None` if memory was refused, and then nothing has changed.
+/// Makes an actor's next change. `None` if an allocation failed, and then nothing has changed.
 fn does(rt: &impl Abort, manager: &mut Manager, by: By, event: Event) -> Option<()> {
     let turn = manager.turn(by);
     let reply = manager.step(by, turn, event);
@@ -117,22 +117,31 @@ fn denied(alloc: Global) -> Option<Event> {
     Some(Event::Get { name })
 }
 
-fn recorded(rt: &impl Abort, alloc: Global) -> Option<()> {
-    let mut manager = serving(rt, alloc)?;
-    let event = denied(alloc)?;
-    let turn = manager.turn(SERVER);
-    let records = manager.step_records(SERVER, turn, &event).ok()?;
+/// What a step of the event, and a list, would record.
+fn would_record(rt: &impl Abort, manager: &Manager, event: &Event) -> Option<()> {
+    let records = manager
+        .step_records(SERVER, manager.turn(SERVER), event)
+        .ok()?;
     assert!(rt; records.len() == 1 && records[0].length == 3);
     let looks = manager.look_records(SERVER, &Query::List(15)).ok()?;
     assert!(rt; looks.is_empty());
-    let reply = manager.step(SERVER, turn, event);
-    let all = manager.records().ok()?;
-    if is_memory(&reply) {
-        assert!(rt; all.is_empty());
-        return None;
-    }
-    assert!(rt; all.len() == 1 && all[0].version == 1);
     Some(())
+}
+
+/// Makes the step. It is recorded unless an allocation failed.
+fn records(rt: &impl Abort, manager: &mut Manager, event: Event) -> Option<()> {
+    let turn = manager.turn(SERVER);
+    let refused = is_memory(&manager.step(SERVER, turn, event));
+    let all = manager.records().ok()?;
+    assert!(rt; all.len() == if refused { 0 } else { 1 });
+    if refused { None } else { Some(()) }
+}
+
+fn recorded(rt: &impl Abort, alloc: Global) -> Option<()> {
+    let mut manager = serving(rt, alloc)?;
+    let event = denied(alloc)?;
+    would_record(rt, &manager, &event)?;
+    records(rt, &mut manager, event)
 }
 
 #[test]
@@ -193,18 +202,26 @@ fn seals(rt: &impl Abort, manager: &mut Manager) -> Option<()> {
     lists_activity(rt, &view.look(SERVER, Query::List(15)), 3)
 }
 
+/// Seals the manager once more, after one more change.
+fn seals_again(rt: &impl Abort, manager: &mut Manager) -> Option<()> {
+    match manager.seal() {
+        Ok(segment) => {
+            assert!(rt; segment.number() == 2 && segment.length() == 4);
+            Some(())
+        }
+        Err(refusal) => {
+            assert!(rt; matches!(refusal, Refusal::Memory));
+            None
+        }
+    }
+}
+
 fn sealed(rt: &impl Abort, alloc: Global) -> Option<()> {
     let mut manager = serving(rt, alloc)?;
     seals(rt, &mut manager)?;
-    does(rt, &mut manager, SERVER, activity(alloc)?)?;
-    match manager.seal() {
-        Ok(segment) => assert!(rt; segment.number() == 2 && segment.length() == 4),
-        Err(refusal) => {
-            assert!(rt; matches!(refusal, Refusal::Memory));
-            return None;
-        }
-    }
-    Some(())
+    let event = activity(alloc)?;
+    does(rt, &mut manager, SERVER, event)?;
+    seals_again(rt, &mut manager)
 }
 
 #[test]

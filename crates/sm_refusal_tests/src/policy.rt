@@ -36,7 +36,7 @@ fn both_types(rt: &impl Abort, alloc: Global, types: &Types, statement: &Stateme
         panic!(rt; "no allow rule");
     };
     let sources = value(rt, types.expand(alloc, &rule.source), TypesFault::Memory)?;
-    assert!(rt; sources.count() == 2);
+    assert!(rt; sources.has(0) && sources.has(1) && !sources.has(2));
     Some(())
 }
 

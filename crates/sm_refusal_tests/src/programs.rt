@@ -36,7 +36,7 @@ fn a_policy_is_checked(rt: HostRuntime) {
 }
 
 /// Whether all of these lines are those that are wanted. `None` if some are missing behind them, or the first that
-/// differs says that memory was refused.
+/// differs says that an allocation failed.
 fn is_told(rt: &impl Abort, told: &[u8], wanted: &[u8]) -> Option<()> {
     let mut lines = told.split(|byte| *byte == b'\n');
     for line in wanted.split(|byte| *byte == b'\n') {

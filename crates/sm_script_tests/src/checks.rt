@@ -79,6 +79,17 @@ fn small_policies(rt: HostRuntime) {
     }
 }
 
+// Neither a permissive type nor a dontaudit rule is counted.
+#[test]
+fn a_permissive_type_and_a_dontaudit_rule(rt: HostRuntime) -> Result<(), Fail> {
+    let alloc = rt.alloc();
+    let mut rules = device_rules_with(alloc, b"permissive untrusted_app;\n")?;
+    rules.extend_from_slice(b"dontaudit untrusted_app *:service_manager { find list };\n")?;
+    assert_eq!(rt; rules.len(), 769);
+    tells(&rt, alloc, &rules, DEVICE_LABELS, ACCEPTED, true);
+    Ok(())
+}
+
 #[test]
 fn a_broken_neverallow(rt: HostRuntime) -> Result<(), Fail> {
     let rules = device_rules_with(rt.alloc(), BROKEN_RULE)?;

@@ -157,6 +157,7 @@ const MALFORMED: Talk = &[
     ("1 add activity p1 0 8", "malformed"),
     ("1 take 1", "malformed"),
     ("0 list 15", "failed not-connected"),
+    ("9 take", "failed not-connected"),
     ("1 list 4294967295", "names 1 2 0"),
 ];
 
