@@ -1,7 +1,14 @@
 -- A new door has more than one administrator.
-use Rattle.std.proofs.Common.{rules, ◌<◌, length}
+use Rattle.std.proofs.Common.{rules, arith, ℕ, ◌≡◌, ◌<◌, ◌+◌, length}
 use Rattle.sm_history.specs.Books.{Book}
 use Rattle.sm_door.specs.Opening.{new_admins}
 
-pub has_two : (b : Book) → 1 < length (new_admins b 4)
+pub has_admin : (b : Book) → 0 < length (new_admins b 4)
+has_admin b = unfold new_admins in search rules
+
+has_two : (b : Book) → 1 < length (new_admins b 4)
 has_two b = unfold new_admins in search rules
+
+-- where one is taken out, one is left
+pub leaves_one : (b : Book) (before after : ℕ) → after + 1 ≡ before → before ≡ length (new_admins b 4) → 0 < after
+leaves_one b before after taken all = omega (arith, has_two b, taken, all)

@@ -168,5 +168,8 @@ fn serve_at<'a, J: Naming + Send + Sync, R: Threads + Wait + Clock + Sync>(
         sealer,
         numbers,
     );
-    ended.map_err(Ending::Serve)
+    match ended {
+        Ok(()) => Ok(()),
+        Err(fault) => Err(Ending::Serve(fault)),
+    }
 }
