@@ -263,7 +263,7 @@ fn all_at_once<J: Naming + Send + Sync, R: Threads + Wait + Abort + Sync>(
     done
 }
 
-/// Installs the two policies in turn, the stricter one first, and seals behind each.
+/// Race the two policies in turn, the stricter one first, and seals behind each.
 fn installs<J: Naming, R: Wait + Abort>(
     rt: &R,
     alloc: Global,
@@ -332,14 +332,14 @@ fn reads<J: Naming, R: Wait + Abort>(
 
 /// How the installs of two administrators ended.
 #[derive(Drop)]
-struct Installs {
+struct Race {
     done: AtomicU64,
     moved: AtomicU64,
 }
 
-impl Installs {
-    fn new() -> Installs {
-        Installs {
+impl Race {
+    fn new() -> Race {
+        Race {
             done: AtomicU64::new(0),
             moved: AtomicU64::new(0),
         }
@@ -378,7 +378,7 @@ fn rivals<J: Naming + Send + Sync, R: Threads + Wait + Abort + Sync>(
     let first = admins.pop().expect(rt, "an administrator");
     let second = admins.pop().expect(rt, "an administrator");
     let mut third = admins.pop().expect(rt, "an administrator");
-    let installs = Installs::new();
+    let installs = Race::new();
     assert!(rt; both_install(rt, alloc, &door, first, second, &installs));
     assert!(rt; installs.is_one_of_two());
     assert!(rt; is_version(&door.version(&mut third), 2, 2));
@@ -392,7 +392,7 @@ fn both_install<J: Naming + Send + Sync, R: Threads + Wait + Abort + Sync>(
     door: &Door<J, NoGate>,
     first: Admin<J>,
     second: Admin<J>,
-    installs: &Installs,
+    installs: &Race,
 ) -> bool {
     let mut second = second;
     let mut started = false;
@@ -411,7 +411,7 @@ fn both_install<J: Naming + Send + Sync, R: Threads + Wait + Abort + Sync>(
         sends::<Roll<J>>();
         sends::<Desk<J>>();
         shares::<Door<J, NoGate>>();
-        shares::<Installs>();
+        shares::<Race>();
         started = scope
             .spawn(move || {
                 let mut first = first;
@@ -428,7 +428,7 @@ fn install_stricter<J: Naming, R: Wait + Abort>(
     alloc: Global,
     door: &Door<J, NoGate>,
     me: &mut Admin<J>,
-    installs: &Installs,
+    installs: &Race,
 ) {
     install_over_first(
         rt,
@@ -445,7 +445,7 @@ fn install_device<J: Naming, R: Wait + Abort>(
     alloc: Global,
     door: &Door<J, NoGate>,
     me: &mut Admin<J>,
-    installs: &Installs,
+    installs: &Race,
 ) {
     install_over_first(
         rt,
@@ -457,7 +457,7 @@ fn install_device<J: Naming, R: Wait + Abort>(
     );
 }
 
-/// Installs a policy over version 1. One that comes back decides whether an untrusted application may find `activity`
+/// Race a policy over version 1. One that comes back decides whether an untrusted application may find `activity`
 /// as the one that was passed.
 fn install_over_first<J: Naming, R: Wait>(
     rt: &R,
@@ -465,7 +465,7 @@ fn install_over_first<J: Naming, R: Wait>(
     me: &mut Admin<J>,
     policy: Prepared,
     finds: bool,
-    installs: &Installs,
+    installs: &Race,
 ) {
     match door.install(rt, me, 1, policy) {
         Ok(2) => {
