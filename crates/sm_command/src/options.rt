@@ -37,7 +37,7 @@ pub struct Sockets<'a> {
     pub workers: u32,
     /// The permissions of the clients' socket, at most 0o777. `None`: the umask decides.
     pub mode: Option<u32>,
-    /// The open segment is sealed when it has so many entries, at least 2. `None`: by administrators alone.
+    /// The number of entries at which the server seals the open segment, at least 2. `None`: only administrators seal.
     pub seal_at: Option<u32>,
 }
 

@@ -8,7 +8,7 @@ use std::sync::atomic::{AtomicU64, Ordering};
 pub struct Gauge {
     // The entries that a segment has room for.
     slots: u64,
-    // So many entries are sealed by the server itself; `u64::MAX`: never.
+    // The number of entries at which the server seals; `u64::MAX`: never.
     seal_at: u64,
     // The entries of all segments.
     entries: AtomicU64,
@@ -24,11 +24,11 @@ const ALMOST_FULL: u64 = 1;
 
 const FULL: u64 = 2;
 
-/// A journal is almost full when so many tenths of it are used.
+/// The tenths of a journal from which on it is almost full.
 const MARK: u64 = 9;
 
 impl Gauge {
-    /// A journal with the entry of its opening. It has so many slots, and is to be sealed at so many entries.
+    /// A journal with the entry of its opening, its number of slots, and the number of entries at which it is sealed.
     pub fn new(slots: u32, seal_at: Option<u32>) -> Gauge {
         Gauge {
             slots: u64::from(slots),
@@ -79,7 +79,7 @@ impl Gauge {
         is_asked_for && (self.used() >= self.seal_at || self.told.load(Ordering::SeqCst) == FULL)
     }
 
-    /// The open segment was sealed, and so many entries are in all sealed ones.
+    /// The open segment was sealed. `length` is the number of entries of all sealed segments.
     pub fn seal(&self, entries: u64) {
         self.sealed.store(entries, Ordering::SeqCst);
         self.told.store(NOTHING, Ordering::SeqCst);
