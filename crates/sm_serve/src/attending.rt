@@ -110,7 +110,7 @@ fn attend_seated<J: Naming, G: Gate + Drop, B: FnMut(Seating) + Drop, H: Supervi
     );
 }
 
-/// Serves an administrator's connection. `patience` has the seconds to wait for each line and each reply.
+/// Serves an administrator's connection, which may take `seconds` for each line and each reply.
 pub fn attend_administrator<J: Naming, G: Gate + Drop, H: Supervisor, R: Wait>(
     rt: &R,
     alloc: Global,

@@ -53,7 +53,7 @@ impl<'a, H: Supervisor> Watch<'a, H> {
         self.gauge.is_due()
     }
 
-    /// A segment was sealed, with so many entries up to its end.
+    /// A segment was sealed, which ends with the entry of this number.
     pub fn sealed(&self, length: u64) {
         self.gauge.seal(length);
     }
