@@ -79,7 +79,7 @@ impl Gauge {
         is_asked_for && (self.used() >= self.seal_at || self.told.load(Ordering::SeqCst) == FULL)
     }
 
-    /// The open segment was sealed. `length` is the number of entries of all sealed segments.
+    /// The open segment was sealed. `entries` is the number of entries of all sealed segments.
     pub fn seal(&self, entries: u64) {
         self.sealed.store(entries, Ordering::SeqCst);
         self.told.store(NOTHING, Ordering::SeqCst);
