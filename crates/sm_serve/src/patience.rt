@@ -24,7 +24,7 @@ impl Patience {
     }
 }
 
-/// Limits an administrator's connection to so many seconds.
+/// Limits each read and each write of an administrator's connection to this number of seconds.
 pub fn limit_administrator(seconds: u64, stream: &UnixStream) -> io::Result<()> {
     stream.set_read_timeout(Some(Duration::from_secs(seconds)))?;
     stream.set_write_timeout(Some(Duration::from_secs(seconds)))

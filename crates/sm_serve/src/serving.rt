@@ -39,14 +39,14 @@ pub struct Numbers {
     pub patience: Patience,
     /// The slots of the journal.
     pub slots: u32,
-    /// The open segment is sealed when it has so many entries. `None`: by administrators alone.
+    /// The number of entries at which the server seals the open segment. `None`: only administrators seal.
     pub seal_at: Option<u32>,
 }
 
 /// Accepts so many connections of each kind, and returns when their sessions have ended. Clients' connections are
 /// served by `workers` threads, each a connection at a time; administrators' by one more, one after the other, all
 /// under `admin`. Seals that are due are made under `sealer`. The supervisor is told when all threads run. `Err`: a
-/// listener failed for good, a thread couldn't be started or memory was refused; then the entrances are closed, and the
+/// listener failed for good, a thread couldn't be started or an allocation failed; then the entrances are closed, and the
 /// connections that were begun are served to their ends.
 pub fn serve<
     J: Naming + Send + Sync,
@@ -201,7 +201,7 @@ fn administer<J: Naming, G: Gate + Drop, A: Entrance, H: Supervisor, R: Wait + C
     }
 }
 
-/// Says that the server listens, and hands so many connections of clients to the workers.
+/// Says that the server listens, and passes this number of clients' connections to the workers.
 fn admit<C: Entrance, H: Supervisor, R: Wait + Clock>(
     rt: &R,
     entrance: &mut C,

@@ -17,7 +17,7 @@ use std::test::Fail;
 /// The first session that comes to this line is held until another has been answered it.
 const HELD_LINE: u64 = 2;
 
-/// So many turns the held session waits.
+/// How often the held session looks whether it may go on.
 const TURNS: u32 = 1_000_000;
 
 /// Holds the first session that comes to its second line, until another session's second line is answered.

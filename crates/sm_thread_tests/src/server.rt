@@ -183,7 +183,7 @@ const PATIENCE: Patience = Patience {
     admin: 60,
 };
 
-/// So many workers, connections of clients and connections of administrators.
+/// These numbers of workers, of clients' connections and of administrators' connections.
 pub fn numbers(workers: u32, clients: u64, admins: u64) -> Numbers {
     Numbers {
         workers,
