@@ -23,8 +23,8 @@ enum Sender {
     Service,
     Application,
     Admin,
-    /// The administrator, who installs these rules. The line is the version that is expected.
-    Installs(&'static [u8]),
+    /// The administrator, who installs these rules over this version. There is no line.
+    Installs(u64, &'static [u8]),
 }
 
 use Sender::{Admin as Administrator, Application, Installs, Service};
@@ -174,10 +174,10 @@ fn install_line<J: Naming, R: Wait + Abort>(
     door: &Door<J, NoGate>,
     admin: &mut Admin<J>,
     rules: &[u8],
-    expected: &str,
+    expected: u64,
 ) -> Vec<u8> {
-    let expected = expected.parse::<u64>().ok().expect(rt, "a version");
-    let reply = match door.install(rt, admin, expected, policy(rt, alloc, rules)) {
+    let prepared = policy(rt, alloc, rules);
+    let reply = match door.install(rt, admin, expected, prepared) {
         Ok(version) => Reply::Done(Outcome::Reloaded(version)),
         Err((refusal, _)) => Reply::Refused(refusal),
     };
@@ -222,7 +222,9 @@ impl<J: Naming> Parties<J> {
                 told
             }
             Administrator => admin_line(rt, alloc, door, &mut self.admin, line),
-            Installs(rules) => install_line(rt, alloc, door, &mut self.admin, rules, line),
+            Installs(version, rules) => {
+                install_line(rt, alloc, door, &mut self.admin, rules, version)
+            }
         }
     }
 }
@@ -404,8 +406,8 @@ const DENIALS_OF_EACH_KIND: Exchange = &[
     ),
     (Application, "watch activity o7", "ok"),
     (Application, "get foo", "null"),
-    (Installs(STRICTER_RULES), "1", "reloaded 2"),
-    (Installs(STRICTER_RULES), "1", "moved 2"),
+    (Installs(1, STRICTER_RULES), "", "reloaded 2"),
+    (Installs(1, STRICTER_RULES), "", "moved 2"),
     (Service, "add activity o1 0 8", "ok"),
     (Application, "take", "empty"),
     (Application, "add activity o1 0 8", "exception -1 app 10007"),

@@ -5,7 +5,7 @@ use crate::server::{
     is_over, numbers,
 };
 use sm_engine::ServeFault;
-use sm_serve::Patience;
+use sm_serve::{Numbers, Patience};
 use sm_view::NoGate;
 use std::io::Write;
 use std::net::Shutdown;
@@ -120,15 +120,17 @@ fn connections_that_take_too_long_have_ended(rt: HostRuntime) -> Result<(), Fail
     let (silent, one) = connection(&rt);
     let (greedy, two) = connection(&rt);
     let (admin, three) = connection(&rt);
-    let mut visits = Visits {
+    let visits = Visits {
         clients: Waiting::of(vec![in alloc; two, one]?),
         admins: Waiting::of(vec![in alloc; three]?),
-        numbers: numbers(2, 2, 1),
-    };
-    visits.numbers.patience = Patience {
-        hello: 1,
-        reply: 1,
-        admin: 1,
+        numbers: Numbers {
+            patience: Patience {
+                hello: 1,
+                reply: 1,
+                admin: 1,
+            },
+            ..numbers(2, 2, 1)
+        },
     };
     let talk = Idlers {
         silent,
@@ -269,12 +271,14 @@ fn a_server_seals_by_itself(rt: HostRuntime) -> Result<(), Fail> {
     let alloc = rt.alloc();
     let (client, one) = connection(&rt);
     let (admin, two) = connection(&rt);
-    let mut visits = Visits {
+    let visits = Visits {
         clients: Waiting::of(vec![in alloc; one]?),
         admins: Waiting::of(vec![in alloc; two]?),
-        numbers: numbers(1, 1, 1),
+        numbers: Numbers {
+            seal_at: Some(8),
+            ..numbers(1, 1, 1)
+        },
     };
-    visits.numbers.seal_at = Some(8);
     let talk = Sealed { client, admin };
     assert_eq!(rt;
         at_a_door(&rt, alloc, 12, NoGate, visits, talk),
