@@ -9,7 +9,7 @@ use sm_history::{Event, Failure, Outcome, Query, Refusal, Reply};
 use sm_kinds::{Identity, Places};
 use sm_policy::Prepared;
 use sm_roll::{Blank, Naming};
-use sm_samples::{DEVICE_RULES, STRICTER_RULES, device_rules_with};
+use sm_samples::DEVICE_RULES;
 use sm_view::{NoGate, is_death};
 use sm_wire::{Kind, Request, Telling, push_denials, reply_line};
 use std::alloc::Global;
@@ -23,11 +23,9 @@ enum Sender {
     Service,
     Application,
     Admin,
-    /// The administrator, who installs these rules over this version. There is no line.
-    Installs(u64, &'static [u8]),
 }
 
-use Sender::{Admin as Administrator, Application, Installs, Service};
+use Sender::{Admin as Administrator, Application, Service};
 
 /// Lines, each with who sends it and the line that answers it.
 type Exchange = &'static [(Sender, &'static str, &'static str)];
@@ -167,23 +165,6 @@ fn denials<J: Naming, R: Wait + Abort>(
     told
 }
 
-/// The line that answers the administrator who installs a policy with these rules.
-fn install_line<J: Naming, R: Wait + Abort>(
-    rt: &R,
-    alloc: Global,
-    door: &Door<J, NoGate>,
-    admin: &mut Admin<J>,
-    rules: &[u8],
-    expected: u64,
-) -> Vec<u8> {
-    let prepared = policy(rt, alloc, rules);
-    let reply = match door.install(rt, admin, expected, prepared) {
-        Ok(version) => Reply::Done(Outcome::Reloaded(version)),
-        Err((refusal, _)) => Reply::Refused(refusal),
-    };
-    whole_line(rt, alloc, &reply)
-}
-
 /// Seals. A segment's replay has the length of the segment.
 fn seal<J: Naming, R: Wait + Abort>(rt: &R, door: &Door<J, NoGate>, admin: &mut Admin<J>) -> Reply {
     match door.seal(rt, admin) {
@@ -222,9 +203,6 @@ impl<J: Naming> Parties<J> {
                 told
             }
             Administrator => admin_line(rt, alloc, door, &mut self.admin, line),
-            Installs(version, rules) => {
-                install_line(rt, alloc, door, &mut self.admin, rules, version)
-            }
         }
     }
 }
@@ -387,37 +365,4 @@ fn explanations_and_a_denial(rt: HostRuntime) {
         1000,
         EXPLANATIONS_AND_A_DENIAL,
     );
-}
-
-/// What `denials` answers of an access that passed since its source is permissive, of a watcher that wasn't told and of
-/// a refused `add`.
-const THREE_DENIALS: &str = "denials 3
-journal=4 version=1 avc: denied { find } for pid=200 uid=10007 name=foo scontext=u:r:untrusted_app:s0 tcontext=u:object_r:default_android_service:s0 tclass=service_manager permissive=1
-journal=5 version=2 avc: denied { find } for pid=200 uid=10007 name=activity scontext=u:r:untrusted_app:s0 tcontext=u:object_r:activity_service:s0 tclass=service_manager permissive=0
-journal=6 version=2 clause: denied app for pid=200 uid=10007 name=activity scontext=u:r:untrusted_app:s0";
-
-/// An application is permissive under the first policy, and may not find `activity` under the second one.
-const DENIALS_OF_EACH_KIND: Exchange = &[
-    (Service, "hello 100 1000 u:r:system_server:s0", "client 1"),
-    (
-        Application,
-        "hello 200 10007 u:r:untrusted_app:s0",
-        "client 2",
-    ),
-    (Application, "watch activity o7", "ok"),
-    (Application, "get foo", "null"),
-    (Installs(1, STRICTER_RULES), "", "reloaded 2"),
-    (Installs(1, STRICTER_RULES), "", "moved 2"),
-    (Service, "add activity o1 0 8", "ok"),
-    (Application, "take", "empty"),
-    (Application, "add activity o1 0 8", "exception -1 app 10007"),
-    (Administrator, "denials", THREE_DENIALS),
-    (Administrator, "denials", THREE_DENIALS),
-];
-
-#[test]
-fn denials_of_each_kind(rt: HostRuntime) {
-    let rules = device_rules_with(rt.alloc(), b"permissive untrusted_app;\n").ok();
-    let rules = rules.expect(&rt, "rules");
-    holds(&rt, rt.alloc(), &rules, 1000, DENIALS_OF_EACH_KIND);
 }
