@@ -3,7 +3,7 @@ use Rattle.std.specs.Prelude.{ℕ, Bool, ◌==◌, ◌/◌, ◌%◌, List, []}
 use Rattle.std.specs.Int.{bit_at}
 use Rattle.std.proofs.Common.{get_or}
 
--- whether the set has i; a number past the row is not in it
+-- A set has i; a number past the row is not in it.
 unfoldable pub has : List ℕ → ℕ → Bool
 has words i = bit_at (get_or words (i / 64) 0) (i % 64) == 1
 

@@ -4,11 +4,11 @@ use Rattle.std.specs.Arc.{arc_value}
 use Rattle.sm_bits.specs.declared.shared_set.Shape.{Shape}
 use Rattle.sm_bits.specs.declared.shared_set.Shape.TheVariants.{One, Many}
 
--- The row of so many words that has i alone; it has nothing where i is past its end.
+-- This is the row of `words` words with the number i alone; it is empty if i is past its end.
 unfoldable pub one_row : ℕ → ℕ → List ℕ
 one_row words i = slice_set (replicate words 0) (i / 64) (2 ^ (i % 64))
 
--- The row of a set that is kept so; a single number is one of a row of so many words.
+-- This is the row of a set of this shape; a single number is in a row of this many words.
 abbrev pub row_of : ℕ → Shape → List ℕ
 row_of words (One i) = one_row words i
 row_of words (Many row) = arc_value row

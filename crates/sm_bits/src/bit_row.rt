@@ -19,7 +19,7 @@ impl Model for BitRow {
     ghost view = { λ row. row.words.items };
 }
 
-// Written by hand, so that a row that is dropped behind a loop is one step for its callers.
+// Drop: see docs/PROOFS.md.
 impl Drop for BitRow {
     fn drop(self) {
         let BitRow { words: _ } = self;
@@ -30,9 +30,8 @@ ghost use Rattle.std.specs.Prelude.{◌≡◌, ℕ, ◌+◌, ◌*◌, ◌/◌, �
 ghost use Rattle.std.specs.List.{sum_by};
 ghost use Rattle.sm_bits.specs.Bits.{has, has_bit};
 
-// The loops go over slices in place of the rows' vectors: a write through a slice cannot move
-// the words, so that they run as vector code. For its sake `words_meet` goes to the end, too,
-// in place of stopping at the first word that both rows have something in.
+// The loops run over slices in place of the rows' vectors: a write through a slice can't move the words, so the
+// compiler vectorizes them. For that, `words_meet` also runs to the end, and doesn't stop at the first common number.
 
 fn union_words(words: &mut [u64], others: &[u64])
     requires { length words.old ≡ length others.now }
@@ -76,7 +75,7 @@ fn count_words(words: &[u64]) -> usize
     count
 }
 
-/// The first number from that of word `first` on that isn't in the set.
+/// Returns the first number from that of word `first` on that isn't in the set.
 fn first_free_in(words: &[u64], first: usize) -> usize
     requires { (first ≤ length words.now) × (length words.now < 2 ^ 32) }
     ensures behind { 64 * first ≤ result }
@@ -92,7 +91,7 @@ fn first_free_in(words: &[u64], first: usize) -> usize
     64 * words.len()
 }
 
-/// The least number from `from` on.
+/// Returns the least number from `from` on.
 fn next_in(words: &[u64], from: usize) -> Option<usize>
     requires { length words.now < 2 ^ 32 }
     ensures none { IfNone result ((j : ℕ) → from ≤ j → has words.now j ≡ false) }
@@ -160,7 +159,7 @@ impl BitRow {
     ghost use Rattle.std.specs.List.{sum_by};
     ghost use Rattle.sm_bits.specs.Bits.{has, has_bit};
 
-    /// The set of no number, with room for those below 64 times `words`.
+    /// Returns the set of no number, with room for those below 64 times `words`.
     ///
     /// # Errors
     ///
@@ -173,14 +172,14 @@ impl BitRow {
         Ok(BitRow { words })
     }
 
-    /// How many words the row has.
+    /// Returns the number of words of the row.
     pub fn len(&self) -> usize
         ensures { result ≡ length self.now }
     {
         self.words.len()
     }
 
-    /// How many numbers are in the set.
+    /// Returns the number of numbers in the set.
     pub fn count(&self) -> usize
         requires { length self.now < 2 ^ 32 }
         ensures counted { result ≡ sum_by count_ones self.now }
@@ -189,7 +188,7 @@ impl BitRow {
         count_words(&self.words)
     }
 
-    /// Whether number `i` is in the set.
+    /// Returns whether number `i` is in the set.
     pub fn has(&self, i: usize) -> bool
         requires { i < 64 * length self.now }
         ensures { result ≡ has self.now i }
@@ -197,7 +196,7 @@ impl BitRow {
         self.words[i / 64] >> (i % 64) & 1 == 1
     }
 
-    /// The least number of the set from `from` on.
+    /// Returns the least number of the set from `from` on.
     pub fn next(&self, from: usize) -> Option<usize>
         requires { length self.now < 2 ^ 32 }
         ensures none { IfNone result ((j : ℕ) → from ≤ j → has self.now j ≡ false) }
@@ -208,7 +207,7 @@ impl BitRow {
         next_in(&self.words, from)
     }
 
-    /// Whether both rows have the same words.
+    /// Returns whether both rows have the same words.
     pub fn is_same(&self, other: &BitRow) -> bool
         ensures same { result ≡ true → self.now ≡ other.now }
         ensures other { result ≡ false → self.now ≡ other.now → ⊥ }
@@ -243,7 +242,7 @@ impl BitRow {
         self.words[i / 64] &= !(1 << (i % 64));
     }
 
-    /// The least number from `from` on that isn't in the set, or `end` where all before it are.
+    /// Returns the least number from `from` on that isn't in the set, or `end` where all before it are.
     fn first_free_before(&self, from: usize, end: usize) -> usize
         requires { (from ≤ end) × (end ≤ 64 * length self.now) }
         ensures between { (from ≤ result) × (result ≤ end) }
@@ -258,9 +257,9 @@ impl BitRow {
         end
     }
 
-    /// The least number from `from` on that isn't in the set; it may lie past the row's room.
+    /// Returns the least number from `from` on that isn't in the set; it may lie past the row's room.
     ///
-    /// It goes over the words from that of `from` on, 64 numbers at a step.
+    /// It reads the words from that of `from` on, 64 numbers at a step.
     pub fn first_free_from(&self, from: usize) -> usize
         requires { length self.now < 2 ^ 32 }
         ensures behind { from ≤ result }
@@ -278,7 +277,7 @@ impl BitRow {
         first_free_in(&self.words, first)
     }
 
-    /// The least number that isn't in the set.
+    /// Returns the least number that isn't in the set.
     pub fn first_free(&self) -> usize
         requires { length self.now < 2 ^ 32 }
         ensures free { has self.now result ≡ false }
@@ -305,7 +304,7 @@ impl BitRow {
         subtract_words(&mut self.words, &other.words);
     }
 
-    /// Whether some number is in both sets.
+    /// Returns whether some number is in both sets.
     pub fn meets(&self, other: &BitRow) -> bool
         requires { length self.now ≡ length other.now }
         ensures none { result ≡ false → (j : ℕ) → (has self.now j && has other.now j) ≡ false }

@@ -3,7 +3,7 @@
 ghost use Rattle.std.specs.Prelude.{◌≡◌, ℕ, ◌<◌, ◌||◌, nat_eq};
 ghost use Rattle.sm_bits.specs.Bits.{has_bit};
 
-/// Whether a bit is set, 0 the lowest.
+/// Returns whether a bit is set, 0 the lowest.
 #[tactic(auto, unfolding(crate::specs::Bits::has_bit))]
 pub fn has_bit(byte: u8, bit: u32) -> bool
     requires { bit < 8 }
@@ -12,7 +12,7 @@ pub fn has_bit(byte: u8, bit: u32) -> bool
     byte >> bit & 1 == 1
 }
 
-/// The byte with one more bit.
+/// Returns the byte with one more bit.
 pub fn with_bit(byte: u8, bit: u32) -> u8
     requires { bit < 8 }
     ensures { (b : ℕ) → has_bit result b ≡ (has_bit byte b || nat_eq b bit) }

@@ -8,9 +8,9 @@ use std::sync::Arc;
 /// How a set is kept.
 #[derive(Drop)]
 pub enum Shape {
-    /// A single number. One that has no bit in the row stands for none.
+    /// A single number. If the row has no bit for it, the set is empty.
     One(u16),
-    /// A row, of which all owners share one copy.
+    /// A row behind a shared pointer.
     Many(Arc<BitRow, Global>),
 }
 
@@ -44,7 +44,7 @@ impl Clone for SharedSet {
 
     ghost is_clone = { λ s copy. copy ≡ s };
 
-    /// One more owner of the same row.
+    /// Returns another reference to the same row.
     fn clone(&self) -> Result<SharedSet, AllocError> {
         let shape = match &self.shape {
             Shape::One(number) => Shape::One(*number),
@@ -63,7 +63,7 @@ impl SharedSet {
     ghost use Rattle.sm_bits.specs.Bits.{has};
     ghost use Rattle.sm_bits.specs.Sharing.{one_row};
 
-    /// The set of one number, in a row of `words` words.
+    /// Returns the set of one number, in a row of `words` words.
     pub fn one(number: u16, words: usize) -> SharedSet
         requires { number < 64 * words }
         ensures row { result ≡ one_row words number }
@@ -76,7 +76,7 @@ impl SharedSet {
         }
     }
 
-    /// The set of a row.
+    /// Returns the set of a row.
     pub fn many(row: Arc<BitRow, Global>) -> SharedSet
         ensures { result ≡ arc_value row }
     {
@@ -98,7 +98,7 @@ impl SharedSet {
         }
     }
 
-    /// Whether number `i` is in the set.
+    /// Returns whether number `i` is in the set.
     pub fn has(&self, i: usize) -> bool
         requires { i < 64 * length self.now }
         ensures { result ≡ has self.now i }
@@ -109,7 +109,7 @@ impl SharedSet {
         }
     }
 
-    /// The least number of the set from `from` on.
+    /// Returns the least number of the set from `from` on.
     pub fn next(&self, from: usize) -> Option<usize>
         requires { length self.now < 2 ^ 32 }
         ensures none { IfNone result ((j : ℕ) → from ≤ j → has self.now j ≡ false) }
@@ -147,7 +147,7 @@ impl SharedSet {
         }
     }
 
-    /// Whether some number is in the set and in a row.
+    /// Returns whether some number is in the set and in a row.
     pub fn meets_row(&self, row: &BitRow) -> bool
         requires { length self.now ≡ length row.now }
         ensures none { result ≡ false → (j : ℕ) → (has self.now j && has row.now j) ≡ false }
@@ -162,7 +162,7 @@ impl SharedSet {
         }
     }
 
-    /// Whether some number is in both sets.
+    /// Returns whether some number is in both sets.
     pub fn meets(&self, other: &SharedSet) -> bool
         requires { length self.now ≡ length other.now }
         ensures none { result ≡ false → (j : ℕ) → (has self.now j && has other.now j) ≡ false }

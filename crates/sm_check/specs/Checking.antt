@@ -1,4 +1,4 @@
--- What `svcmgr check` tells of a policy.
+-- The verdict of `svcmgr check`.
 use Rattle.std.specs.Prelude.{ℕ, List, ◌++◌, Bool, true, false, Result, Ok, Err, codes}
 use Rattle.sm_kinds.specs.Messages.{numbered}
 use Rattle.sm_policy.specs.declared.counts.Counts.{Counts}
@@ -7,7 +7,7 @@ use Rattle.sm_policy.specs.Counting.{counts_of}
 use Rattle.sm_policy.specs.Policy.{Policy}
 use Rattle.sm_policy.specs.Refused.{refused_words}
 
--- `policy ok: T types, A attributes, R rules, L labels`
+-- This is `policy ok: T types, A attributes, R rules, L labels`.
 abbrev pub accepted_line : Counts → List ℕ
 accepted_line counts =
     numbered (codes "policy ok: ") counts.types
@@ -16,16 +16,16 @@ accepted_line counts =
     ++ numbered (codes " rules, ") counts.labels
     ++ codes " labels\n"
 
--- `policy refused: TEXT`
+-- This is `policy refused: TEXT`.
 abbrev pub refused_line : PolicyFault → List ℕ
 refused_line fault = codes "policy refused: " ++ refused_words fault ++ codes "\n"
 
--- the line for what comes of two texts
+-- This is the line for the result of reading two files.
 abbrev pub checked_line : Result Policy PolicyFault → List ℕ
 checked_line (Ok policy) = accepted_line (counts_of policy)
 checked_line (Err fault) = refused_line fault
 
--- whether they are those of a policy
+-- Two files are those of a policy.
 abbrev pub is_accepted : Result Policy PolicyFault → Bool
 is_accepted (Ok policy) = true
 is_accepted (Err fault) = false

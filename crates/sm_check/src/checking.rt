@@ -1,4 +1,4 @@
-//! What `svcmgr check` tells of a policy.
+//! The verdict of `svcmgr check`.
 
 ghost use Rattle.std.specs.Prelude.{◌≡◌, ◌⊎◌, ◌<◌, ℕ, IfOk, OnOk, OnErr, take};
 ghost use Rattle.std.specs.Io.KnownBytes.{Appends};
@@ -12,13 +12,13 @@ use sm_policy::{Counts, PolicyFault, Prepared, refused_text};
 use std::alloc::{AllocError, Global};
 use std::io::Write;
 
-/// Writes a line that tells whether these two texts are those of a policy, and its sizes or the first refusal.
-/// Answers whether they are.
+/// Writes a line that says whether these two files are those of a policy, and the counts of the policy or the first
+/// refusal. Returns whether they are.
 ///
 /// # Errors
 ///
-/// `WriteFault` where a write failed; a front of the line is written then. `Memory` where memory was refused; nothing
-/// is written then.
+/// `WriteFault` if a write fails; a prefix of the line is then written. `Memory` if an allocation fails; nothing is
+/// then written.
 pub fn check<W: Write>(
     alloc: Global,
     rules: &[u8],
@@ -41,14 +41,14 @@ pub fn check<W: Write>(
     Ok(verdict.is_accepted)
 }
 
-/// What a check tells, and whether the policy is accepted.
+/// The line of a check, and whether the policy is accepted.
 #[derive(Drop)]
 struct Verdict {
     line: Vec<u8>,
     is_accepted: bool,
 }
 
-// The verdict on two texts.
+// Returns the verdict on two files.
 fn judge(alloc: Global, rules: &[u8], contexts: &[u8]) -> Result<Verdict, AllocError>
     ensures line { IfOk result (λ v. v.line.items ≡ spec.checked_line (prepared rules.now contexts.now)) }
     ensures accepted { IfOk result (λ v. v.is_accepted ≡ spec.is_accepted (prepared rules.now contexts.now)) }
@@ -66,7 +66,7 @@ fn judge(alloc: Global, rules: &[u8], contexts: &[u8]) -> Result<Verdict, AllocE
     }
 }
 
-// `policy ok: T types, A attributes, R rules, L labels`
+// Returns `policy ok: T types, A attributes, R rules, L labels`.
 fn accepted_line(alloc: Global, counts: Counts) -> Result<Vec<u8>, AllocError>
     ensures { IfOk result (λ line. line.items ≡ spec.accepted_line counts) }
 {
@@ -79,7 +79,7 @@ fn accepted_line(alloc: Global, counts: Counts) -> Result<Vec<u8>, AllocError>
     Ok(line)
 }
 
-/// `policy refused: TEXT`, where TEXT are the words for the fault.
+/// Returns `policy refused: TEXT`, where TEXT are the words for the fault.
 pub fn refused_line(alloc: Global, fault: &PolicyFault) -> Result<Vec<u8>, AllocError>
     ensures { IfOk result (λ line. line.items ≡ spec.refused_line fault.now) }
 {

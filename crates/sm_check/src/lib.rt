@@ -1,4 +1,4 @@
-//! What `svcmgr check` tells of a policy.
+//! The verdict of `svcmgr check`.
 #![tactic(auto)]
 
 mod checking;

@@ -1,4 +1,4 @@
--- What stands at the place of a label.
+-- The entry at the index of a label.
 use Rattle.std.proofs.Common.{inl, inr, ◌≡◌, ◌⊎◌, ℕ, ◌<◌, ◌≤◌, Bool, true, false, cond, List, [], ◌∷◌, length, Option}
 use Rattle.std.proofs.Common.{None, Some}
 use Rattle.std.proofs.Common.{refl, sym, ap, ◌∙◌, arith}
@@ -11,7 +11,7 @@ use Rattle.std.proofs.lemmas.Option.{slice_get_cases, slice_get_past}
 use Rattle.sm_contexts.specs.Reading.{Entry, has_key, default_key, label, label_place, or_default}
 use borrow.Author.Tests.{ltb-true}
 
--- the first that passes stands at the first place
+-- the first that passes is at the first index
 first_place : {A : Type 0} (p : A → Bool) (xs : List A) (i : ℕ) → position p xs ≡ Some i
     → (find p xs ≡ slice_get xs i) × (i < length xs)
 first_place p xs i found = by (nat_lt (position_or_len p xs) (length xs)) refl found where

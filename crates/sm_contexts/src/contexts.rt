@@ -7,12 +7,11 @@ use sm_kinds::Context;
 use std::alloc::Global;
 use std::marker::Model;
 
-/// The entries of a `service_contexts` text, among which there is one for `*`. Contracts see the first line
-/// of each key, in order.
+/// The entries of a `service_contexts` file, with one for `*`. Contracts see the first line of each key, in order.
 #[derive(Debug, Drop)]
 pub struct Contexts {
     entries: Entries,
-    /// The place of the entry for `*`.
+    /// The index of the entry for `*`.
     default: u32,
 }
 
@@ -34,9 +33,9 @@ impl Contexts {
     ghost use Rattle.sm_kinds.specs.Reading.{Gives};
     ghost use Rattle.sm_contexts.specs.Reading.{AreFirstLines, is_memory, label, label_place, line_and_context, read, seen};
 
-    /// Reads a text: `service_contexts` of AOSP's system/sepolicy, of which each line has a key and a context,
-    /// parted by spaces, tabs and carriage returns. A line without words, or whose first word begins with
-    /// `#`, is skipped, and words behind the second are ignored. A key repeated with the same context is accepted.
+    /// Reads a file in the format of `service_contexts` of AOSP's system/sepolicy: each line has a key and a context,
+    /// separated by spaces, tabs and carriage returns. A line without words, or whose first word begins with `#`, is
+    /// skipped, and words after the second are ignored. A key repeated with the same context is accepted.
     pub fn read(alloc: Global, text: &[u8]) -> Result<Contexts, ContextsFault>
         ensures exact { Gives is_memory (λ c. c) result (read text.now) }
         ensures first_lines { IfOk result (AreFirstLines text.now) }
@@ -51,7 +50,8 @@ impl Contexts {
         })
     }
 
-    /// The place of a name's entry, by which `entry` asks: that of the line with this key, else that of the line `*`.
+    /// Returns the index of a name's entry, which `entry` takes: that of the line with this key, otherwise that of the
+    /// line `*`.
     pub fn place(&self, name: &[u8]) -> u32
         ensures place { label_place self.now name.now ≡ Some result }
         ensures within { result < length self.now }
@@ -63,7 +63,7 @@ impl Contexts {
         }
     }
 
-    /// The context of a name: that of the line with this key, else that of the line `*`.
+    /// Returns the context of a name: that of the line with this key, otherwise that of the line `*`.
     pub fn label(&self, name: &[u8]) -> &Context
         ensures { label self.now name.now ≡ Some result.now }
     {
@@ -73,7 +73,7 @@ impl Contexts {
         }
     }
 
-    /// The first line of the i-th distinct key, counted from 0, and its context.
+    /// Returns the first line of the i-th distinct key, counted from 0, and its context.
     pub fn entry(&self, i: u32) -> Option<(u32, &Context)>
         ensures { option_map seen result ≡ option_map line_and_context (slice_get self.now i) }
     {
@@ -83,7 +83,7 @@ impl Contexts {
         }
     }
 
-    /// The number of distinct keys.
+    /// Returns the number of distinct keys.
     pub fn count(&self) -> u32
         ensures { result ≡ length self.now }
     {

@@ -1,4 +1,4 @@
-//! The first line of each key.
+//! Entries: the first line of each key.
 
 use crate::fault::ContextsFault;
 use indexmap::IndexMap;
@@ -6,14 +6,14 @@ use sm_kinds::Context;
 use std::alloc::Global;
 use std::marker::Model;
 
-/// The first line that gives a key, counted from 1, and the context that it gives.
+/// The first line with a key, counted from 1, and its context.
 #[derive(Debug, Drop)]
 pub struct FirstLine {
     pub line: u32,
     pub context: Context,
 }
 
-/// Entries in the order of their lines, which contracts see as a list.
+/// Entries in the order of their lines. Contracts see them as a list.
 #[derive(Debug, Drop)]
 pub struct Entries {
     by_key: IndexMap<Vec<u8>, FirstLine>,
@@ -38,7 +38,7 @@ impl Entries {
     ghost use Rattle.sm_contexts.specs.Reading.{is_memory, with_entry, has_key, default_key};
     ghost use Rattle.sm_contexts.specs.Keyed.{entry, first_line};
 
-    /// No entry.
+    /// Makes an empty list.
     pub fn new(alloc: Global) -> Entries
         ensures { result ≡ [] }
     {
@@ -53,21 +53,21 @@ impl Entries {
         self.by_key.get(key)
     }
 
-    /// How many keys have an entry.
+    /// Returns the number of keys.
     pub fn len(&self) -> usize
         ensures { result ≡ length self.now }
     {
         self.by_key.len()
     }
 
-    /// Whether `*` has an entry.
+    /// Returns whether `*` has an entry.
     pub fn has_default(&self) -> bool
         ensures { result ≡ list_any (has_key default_key) self.now }
     {
         self.by_key.contains_key(b"*".as_slice())
     }
 
-    /// Adds an entry, unless an earlier line has its key.
+    /// Appends an entry, unless an earlier line has its key.
     #[tactic(auto, unfolding(crate::specs::Reading::with_entry))]
     pub fn add(
         &mut self,
@@ -93,7 +93,7 @@ impl Entries {
         Ok(())
     }
 
-    /// The place of the entry of a key.
+    /// Returns the index of a key's entry.
     pub fn place(&self, key: &[u8]) -> Option<usize>
         ensures place { result ≡ position (has_key key.now) self.now }
         ensures within { IfSome result (λ i. i < length self.now) }
@@ -101,7 +101,7 @@ impl Entries {
         self.by_key.get_index_of(key)
     }
 
-    /// The line and the context of an entry, by its place.
+    /// Returns the line and the context of an entry, by its index.
     pub fn get(&self, i: usize) -> Option<&FirstLine>
         ensures { option_map (λ f. f.now) result ≡ option_map first_line (slice_get self.now i) }
     {

@@ -1,4 +1,4 @@
-//! Why a contexts text was refused.
+//! Why a contexts file was refused.
 
 ghost use Rattle.std.specs.Prelude.{◌≡◌};
 ghost use Rattle.sm_contexts.specs.declared.fault.ContextsFault.TheVariants.{Memory};
@@ -6,19 +6,19 @@ ghost use Rattle.sm_contexts.specs.declared.fault.ContextsFault.TheVariants.{Mem
 use std::alloc::{AllocError, AllocFailed};
 use thiserror::Error;
 
-/// The first fault of a contexts text. Lines are numbered from 1.
+/// The first fault of a contexts file. Lines are numbered from 1.
 #[derive(Clone, Copy, Debug, PartialEq, Eq, Error)]
 pub enum ContextsFault {
-    /// The text has more than `MOST_TEXT_BYTES` bytes, or more than `MOST_ENTRY_LINES` entry lines.
+    /// The file has more than `MOST_TEXT_BYTES` bytes, or more than `MOST_ENTRY_LINES` entry lines.
     #[error("too large")]
     TooLarge,
-    /// The line has a key alone, or its second word is no context.
+    /// The line has only a key, or its second word is no context.
     #[error("bad line {0}")]
     BadLine(u32),
-    /// The later line gives the key of the earlier one another context. The earlier line is the key's first.
+    /// Both lines have the same key and different contexts. The earlier one is the key's first.
     #[error("line {1} gives another context than line {0}")]
     Conflict(u32, u32),
-    /// A second line for `*`.
+    /// There is a second line for `*`.
     #[error("second default at line {0}")]
     TwoDefaults(u32),
     /// There is no line for `*`.

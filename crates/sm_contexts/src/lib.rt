@@ -1,4 +1,4 @@
-//! The labels of services: the reader of a `service_contexts` text, and the look-up of a name's context in it.
+//! Labels of services: a reader of `service_contexts` files, and the look-up of a name's context.
 #![tactic(auto)]
 
 mod contexts;

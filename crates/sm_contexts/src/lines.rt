@@ -1,4 +1,4 @@
-//! The lines of a text.
+//! The lines of a contexts file.
 
 ghost use Rattle.std.specs.Prelude.{◌≡◌, ◌≤◌, ◌+◌, ◌++◌, [], length, take, drop, option_map, option_to_list, IfNone};
 ghost use Rattle.std.specs.List.{prefix_len};
@@ -6,7 +6,7 @@ ghost use Rattle.sm_contexts.specs.Lines as spec;
 
 use std::marker::Model;
 
-/// The bytes behind the first ones.
+/// Returns the bytes after the first `count` ones.
 fn behind(bytes: &[u8], count: usize) -> &[u8]
     requires { count ≤ length bytes.now }
     ensures { result.now ≡ drop count bytes.now }
@@ -52,7 +52,7 @@ fn behind_newline(bytes: &[u8], len: usize) -> &[u8]
     }
 }
 
-/// The first word of a line, and what stands behind it.
+/// Returns the first word of a line, and what follows it.
 pub fn first_word(line: &[u8]) -> (&[u8], &[u8])
     ensures word { result.0.now ≡ spec.first_word line.now }
     ensures rest { result.1.now ≡ spec.after_word line.now }
@@ -61,7 +61,7 @@ pub fn first_word(line: &[u8]) -> (&[u8], &[u8])
     rest.split_at(solid_len(rest))
 }
 
-/// The lines that are left.
+/// The remaining lines of a file.
 #[derive(Drop)]
 pub struct Lines<'a> {
     rest: &'a [u8],
@@ -77,7 +77,7 @@ impl<'a> Model for Lines<'a> {
 }
 
 impl<'a> Lines<'a> {
-    /// The lines of a text, the first next.
+    /// Makes an iterator over the lines of a file.
     pub fn new(text: &'a [u8]) -> Lines<'a>
         ensures all { result ≡ spec.lines text.now }
         ensures few { length result ≤ length text.now }
@@ -85,7 +85,7 @@ impl<'a> Lines<'a> {
         Lines { rest: text }
     }
 
-    /// The next line without its end, or `None` behind the last one.
+    /// Returns the next line without its end, or `None` after the last one.
     pub fn take(&mut self) -> Option<&'a [u8]>
         ensures taken { self.old ≡ option_to_list (option_map (λ l. l.now) result) ++ self.new }
         ensures none { IfNone result (self.old ≡ []) }

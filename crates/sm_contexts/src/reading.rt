@@ -1,4 +1,4 @@
-//! Reads the lines of a contexts text.
+//! Reads the lines of a contexts file.
 
 ghost use Rattle.std.specs.Prelude.{◌≡◌, ◌≤◌, ◌<◌, ◌+◌, length, count_by, IfOk};
 ghost use Rattle.sm_contexts.specs.Reading as spec;
@@ -79,7 +79,7 @@ fn add_lines(alloc: Global, mut lines: Lines) -> Result<Entries, ContextsFault>
     }
 }
 
-/// The first line of each key, in order.
+/// Reads the first line of each key, in order.
 #[tactic(auto, unfolding(crate::specs::Reading::read))]
 pub fn entries_of(alloc: Global, text: &[u8]) -> Result<Entries, ContextsFault>
     ensures read { Gives is_memory (λ e. e) result (spec.read text.now) }

@@ -1,22 +1,23 @@
--- What a clause reads of a `Counted`.
+-- What clauses read of a `Counted`.
 use Rattle.std.specs.Prelude.{ℕ, ◌+◌, ◌^◌, ◌-◌, min}
 use Rattle.sm_engine.specs.declared.counted.Counted.{Counted}
 
--- how many reads and writes were made
+-- This is the number of calls.
 abbrev pub calls_of : {T : Type 0} → Counted T → ℕ
 calls_of c = c.calls
 
--- how many of them failed
+-- This is the number of calls that failed.
 abbrev pub failures_of : {T : Type 0} → Counted T → ℕ
 failures_of c = c.failures
 
--- the reader or writer inside
+-- This is the reader or writer inside.
 abbrev pub inner_of : {T : Type 0} → Counted T → T
 inner_of c = c.inner
 
+-- This is the greatest count.
 abbrev pub greatest : ℕ
 greatest = 2 ^ 64 - 1
 
--- one more, unless the count is at its greatest
+-- A count goes up by one, unless it is the greatest.
 abbrev pub one_more : ℕ → ℕ
 one_more n = min (n + 1) greatest

@@ -1,4 +1,4 @@
--- What an engine writes for the bytes that it read.
+-- What an engine writes for the bytes that it has read.
 use Rattle.std.specs.Prelude.{◌≡◌, ◌⊎◌, ℕ, ◌+◌, ◌-◌, ◌≤◌, length, take, List, [], ◌∷◌, ◌++◌, Option, Result, Ok, Err}
 use Rattle.std.specs.Prelude.{codes, if◌then◌else◌, Bool, MatchBool, false}
 use Rattle.std.specs.Io.KnownBytes.{Appends, Consumes}
@@ -8,8 +8,8 @@ use Rattle.sm_wire.specs.Items.{Scan, IsAlive, IsDead, has_rest, items_after, it
 use Rattle.sm_engine.specs.declared.fault.Fault.{Fault}
 use Rattle.sm_engine.specs.declared.fault.Fault.TheVariants.{ReadFault, WriteFault, TooManyReads, LineTooLong, Memory}
 
--- These items, in order, are answered by this text and these audit lines, and the machine goes from the first state
--- to the last.
+-- These items, in order, have this reply text and these audit lines, and the machine goes from the first state to the
+-- last.
 abbrev pub Runs : {S : Type 0} → (S → Item → List ℕ → List ℕ → S → Type 0) → S → List Item → List ℕ → List ℕ → S
     → Type 0
 Runs answers s [] replies audit t = (s ≡ t) × (replies ≡ []) × (audit ≡ [])
@@ -30,17 +30,17 @@ pub record Answered {S : Type 0} (answers : S → Item → List ℕ → List ℕ
 abbrev pub GaveUp : {S : Type 0} → (S → Item → List ℕ → List ℕ → S → Type 0) → S → Item → S → Type 0
 GaveUp answers old item new = (new ≡ old) ⊎ ((reply : List ℕ) × (lines : List ℕ) × answers old item reply lines new)
 
--- What the engine writes at the end of the input.
+-- The engine writes this at the end of the input.
 abbrev pub ending_of : Scan → List ℕ
 ending_of s = if has_rest s then codes "fault cut\n" else []
 
--- A front of the whole text was written, and the rest of it is held back.
+-- A prefix of the whole text was written, and the rest of it is held back.
 pub record Pending (old new : Option (List ℕ)) (held whole : List ℕ) : Type 0 where
   pub written : List ℕ
   pub appended : Appends old new written
   pub joined : whole ≡ written ++ held
 
--- A front of what was held was written, and the rest is held.
+-- A prefix of what was held back was written, and the rest is held back.
 pub record Spilled (old new : Option (List ℕ)) (held rest : List ℕ) : Type 0 where
   pub written : List ℕ
   pub appended : Appends old new written
@@ -55,7 +55,7 @@ pub record Going {S : Type 0} (answers : S → Item → List ℕ → List ℕ �
   pub wrote : Pending w w_new held replies
   pub audited : Pending a a_new held_lines lines
 
--- A front of these two texts was written. Fewer than `limit` bytes of the first are missing; with 0 none is.
+-- A prefix of these two texts was written. Fewer than `limit` bytes of the first are missing; with 0 none are.
 pub record Partly (limit : ℕ) (old new : Option (List ℕ)) (text last : List ℕ) : Type 0 where
   pub written : List ℕ
   pub missing : List ℕ
@@ -72,8 +72,8 @@ pub record Wrote {S : Type 0} (answers : S → Item → List ℕ → List ℕ �
   pub wrote : Appends w w_new replies
   pub audited : Appends a a_new lines
 
--- Some items were answered, then at most one more, and then none: of each of the two texts a front was written, and
--- fewer than `limit` bytes that the items before the last one were answered are missing.
+-- Some items were answered, then at most one more, and then none. Of each of the two texts a prefix was written, and
+-- fewer than `limit` bytes of the replies before the last one are missing.
 pub record Stopped {S : Type 0} (limit : ℕ) (answers : S → Item → List ℕ → List ℕ → S → Type 0) (old : S)
     (items : List Item) (w w_new a a_new : Option (List ℕ)) (new : S) : Type 0 where
   pub earlier : List Item
@@ -100,7 +100,8 @@ pub record CaughtUp {S : Type 0} (kind : Kind) (answers : S → Item → List �
   pub going_on : over new ≡ false
   pub enough : reads ≤ length bytes
 
--- The engine had caught up with all the bytes but those of the last read, and of the items that these ended, this holds.
+-- The engine had caught up with all the bytes before the last read, and for the items that ended in that read this
+-- holds.
 pub record LastRead {S : Type 0} (kind : Kind) (answers : S → Item → List ℕ → List ℕ → S → Type 0) (over : S → Bool)
     (reads : ℕ) (old : S) (bytes : List ℕ) (w a : Option (List ℕ))
     (Takes : S → List Item → Option (List ℕ) → Option (List ℕ) → Type 0) : Type 0 where
@@ -113,8 +114,8 @@ pub record LastRead {S : Type 0} (kind : Kind) (answers : S → Item → List �
   pub before : CaughtUp kind answers over (reads - 1) old earlier w w_middle a a_middle middle
   pub takes : Takes middle (items_after (rest_of kind earlier) piece) w_middle a_middle
 
--- All the items of these bytes were answered and their texts written, none of them in vain: before the last read the
--- machine wasn't over, and no line was too long.
+-- All the items of these bytes were answered and their texts written, and the engine didn't read too far: before the
+-- last read the machine wasn't over, and no line was too long.
 abbrev pub AnswersAll : {S : Type 0} → Kind → (S → Item → List ℕ → List ℕ → S → Type 0) → (S → Bool) → ℕ → S → List ℕ
     → Option (List ℕ) → Option (List ℕ) → Option (List ℕ) → Option (List ℕ) → S → Type 0
 AnswersAll kind answers over reads old bytes w w_new a a_new new =
@@ -136,18 +137,19 @@ pub record Ended {S : Type 0} (kind : Kind) (answers : S → Item → List ℕ �
   pub before : CaughtUp kind answers over (reads - 1) old bytes w w_middle a a_new new
   pub ended : Appends w_middle w_new ending
 
--- A machine that is never over.
+-- A machine is never over.
 abbrev pub never : {S : Type 0} → S → Bool
 never s = false
 
--- Fronts of the two texts are written, or all of them and a front of the ending.
+-- Prefixes of the two texts are written, or all of them and a prefix of the ending.
 abbrev pub Fronts : {S : Type 0} → Kind → (S → Item → List ℕ → List ℕ → S → Type 0) → (S → Bool) → ℕ → ℕ → S → List ℕ
     → Option (List ℕ) → Option (List ℕ) → Option (List ℕ) → Option (List ℕ) → S → Type 0
 Fronts kind answers over limit reads old bytes w w_new a a_new new =
     StopsEarly kind answers over limit reads old bytes w w_new a a_new new
     ⊎ ((n : ℕ) × Ended kind answers over reads old bytes w w_new a a_new (take n (ending_of (rest_of kind bytes))) new)
 
--- What an engine that read these bytes by so many reads has written, by its result. It reads until the machine is over.
+-- An engine that read these bytes in this number of reads has written this, by its result. It reads until the machine
+-- is over.
 abbrev pub ByResult : {S : Type 0} → Kind → Result (Unit {0}) Fault → (S → Item → List ℕ → List ℕ → S → Type 0)
     → (S → Bool) → ℕ → ℕ → ℕ → S → List ℕ → Option (List ℕ) → Option (List ℕ) → Option (List ℕ) → Option (List ℕ) → S
     → Type 0
@@ -165,8 +167,8 @@ ByResult kind (Err WriteFault) answers over limit bound reads old bytes w w_new 
 ByResult kind (Err Memory) answers over limit bound reads old bytes w w_new a a_new new =
     Fronts kind answers over limit reads old bytes w w_new a a_new new
 
--- An engine for lines of this kind, which holds back fewer than `limit` bytes and may make `bound` reads, made so many,
--- read these bytes, and wrote for them.
+-- An engine for lines of this kind, which holds back fewer than `limit` bytes and may make `bound` reads, made some
+-- reads, read these bytes, and wrote this for them.
 pub record Served {S : Type 0} (kind : Kind) (answers : S → Item → List ℕ → List ℕ → S → Type 0) (over : S → Bool)
     (limit : ℕ) (result : Result (Unit {0}) Fault) (bound reads : ℕ) (old : S)
     (r r_new w w_new a a_new : Option (List ℕ)) (new : S) : Type 0 where
@@ -174,7 +176,7 @@ pub record Served {S : Type 0} (kind : Kind) (answers : S → Item → List ℕ 
   pub consumed : Consumes r r_new bytes
   pub written : ByResult kind result answers over limit bound reads old bytes w w_new a a_new new
 
--- What holds after so many reads.
+-- This holds after some reads.
 pub record Sofar {S : Type 0} (kind : Kind) (answers : S → Item → List ℕ → List ℕ → S → Type 0) (over : S → Bool)
     (reads : ℕ) (old : S) (scan : Scan) (r r_new w w_new a a_new : Option (List ℕ)) (new : S) : Type 0 where
   pub bytes : List ℕ

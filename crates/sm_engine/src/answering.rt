@@ -13,7 +13,7 @@ use sm_wire::Item;
 use std::alloc::Global;
 use std::io::Write;
 
-/// Answers the items in order, and writes their texts.
+/// Answers the items in order, and writes their answers.
 pub fn answer_items<M: Machine, W: Write, A: Write>(
     alloc: Global,
     machine: &mut M,
@@ -51,7 +51,7 @@ pub fn answer_items<M: Machine, W: Write, A: Write>(
     write_held(audit, &mut lines)
 }
 
-/// Tells the machine that its replies are written, if none is held.
+/// Tells the machine that its replies are written, if none is held back.
 fn tell_written<M: Machine>(machine: &mut M, held: &[u8])
     ensures { machine.new ≡ machine.old }
 {
@@ -60,7 +60,7 @@ fn tell_written<M: Machine>(machine: &mut M, held: &[u8])
     }
 }
 
-/// Writes what is held once it has so many bytes.
+/// Writes what is held back, if it has at least `limit` bytes.
 fn spill<W: Write>(writer: &mut Counted<W>, limit: usize, held: &mut Vec<u8>) -> Result<(), Fault>
     requires { failures_of writer.old < greatest }
     ensures ok { OnOk result (Spilled (W.contents (inner_of writer.old)) (W.contents (inner_of writer.new)) held.old.items held.new.items) }
@@ -76,7 +76,7 @@ fn spill<W: Write>(writer: &mut Counted<W>, limit: usize, held: &mut Vec<u8>) ->
     write_held(writer, held)
 }
 
-/// Writes what is held, and holds it no more.
+/// Writes what is held back.
 fn write_held<W: Write>(writer: &mut Counted<W>, held: &mut Vec<u8>) -> Result<(), Fault>
     requires { failures_of writer.old < greatest }
     ensures ok { OnOk result (Appends (W.contents (inner_of writer.old)) (W.contents (inner_of writer.new)) held.old.items) }

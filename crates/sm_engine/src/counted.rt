@@ -1,4 +1,4 @@
-//! A reader or a writer that counts its calls, and those that failed.
+//! Readers and writers with counters.
 
 ghost use Rattle.std.specs.Prelude.{◌≡◌, MatchResult, ◌+◌, ◌==◌, if◌then◌else◌};
 ghost use Rattle.std.specs.Io.{ReadsAtMost, WritesAtMost};
@@ -7,7 +7,7 @@ ghost use Rattle.sm_engine.specs.Counts.{failures_of, calls_of, inner_of, one_mo
 
 use std::io::{self, Read, Write};
 
-/// A reader or a writer, with the number of its reads or writes, and of those that failed.
+/// A reader or a writer, with the number of its calls and of those that failed.
 #[derive(Drop)]
 pub struct Counted<T> {
     inner: T,
@@ -16,7 +16,7 @@ pub struct Counted<T> {
 }
 
 impl<T> Counted<T> {
-    /// The reader or writer, of which nothing has been asked yet.
+    /// Wraps a reader or writer that hasn't been called yet.
     pub fn new(inner: T) -> Counted<T>
         ensures inner { inner_of result ≡ inner }
         ensures calls { calls_of result ≡ 0 }
@@ -29,14 +29,14 @@ impl<T> Counted<T> {
         }
     }
 
-    /// The number of reads that failed, and of writes that failed or took no byte. It saturates at `u64::MAX`.
+    /// Returns the number of reads that failed, or of writes that failed or took no byte. It saturates at `u64::MAX`.
     pub fn failures(&self) -> u64
         ensures { result ≡ failures_of self.now }
     {
         self.failures
     }
 
-    /// The reader or writer itself.
+    /// Returns the reader or writer.
     pub fn into_inner(self) -> T
         ensures { result ≡ inner_of self }
     {

@@ -9,12 +9,11 @@ pub enum Fault {
     ReadFault,
     /// A write failed, or took no byte.
     WriteFault,
-    /// The bound on the number of reads was met before the end of the input.
+    /// The limit on the number of reads was reached before the end of the input.
     TooManyReads,
-    /// A line has more than 4,096 bytes, or a `reload` line announces a text of more than 4,194,304.
+    /// A line has more than 4,096 bytes, or a `reload` line announces a file of more than 4,194,304.
     LineTooLong,
-    /// Memory was refused to the engine, or to the machine for the text of an answer: then the item may have been
-    /// carried out.
+    /// An allocation failed in the engine, or in the machine for an answer; then the item may have been carried out.
     Memory,
 }
 

@@ -1,5 +1,5 @@
-//! An engine over any reader, any writer and any machine: it cuts what it reads into request lines, has the machine
-//! answer them one after another, and writes the answers. It knows lines and no service manager.
+//! An engine over any reader, writer and machine: it cuts its input into request lines, lets the machine answer them
+//! one after another, and writes the answers. It knows nothing of a service manager.
 #![tactic(auto)]
 
 mod answering;

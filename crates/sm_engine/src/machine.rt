@@ -1,4 +1,4 @@
-//! What answers items.
+//! Machines, which answer items.
 
 ghost use Rattle.std.specs.Prelude.{◌≡◌, Bool, ℕ, List, OnOk, OnErr};
 ghost use Rattle.sm_wire.specs.declared.item.Item.{Item};
@@ -12,17 +12,17 @@ pub trait Machine {
     // The item may be answered so: its reply lines, its audit lines, and the state after it.
     ghost answers: { Self → Item → List ℕ → List ℕ → Self → Type 0 };
 
-    // Nothing more is to be read for this state.
+    // Nothing more is read in this state.
     ghost over: { Self → Bool };
 
-    // Texts of fewer bytes may be held back until the items of one read are answered; with 0 none is.
+    // Fewer bytes of answers may be held back until the items of one read are answered; with 0 none are.
     ghost hold_limit: { ℕ };
 
-    /// Answers an item: its reply lines and its audit lines go to the ends of the two texts.
+    /// Answers an item: appends its reply lines and its audit lines.
     ///
     /// # Errors
     ///
-    /// An error where memory was refused; the item may have been carried out then.
+    /// An error if an allocation fails; the item may then have been carried out.
     fn answer(
         &mut self,
         item: Item,
@@ -33,16 +33,16 @@ pub trait Machine {
             audit.old.items audit.new.items self.new) }
         ensures err { OnErr result (GaveUp answers self.old item self.new) };
 
-    /// Whether nothing more is to be read. It is asked after the items of each read.
+    /// Returns whether nothing more is to be read. The engine asks after the items of each read.
     fn is_over(&self) -> bool
         ensures { result ≡ over self.now };
 
-    /// The number of bytes from which on the texts of the answers so far are written. Fewer are held back until the items
-    /// of one read are answered; with 0 none is.
+    /// Returns the number of bytes at which answers are written. Fewer are held back until the items of one read are
+    /// answered; with 0 none are.
     fn hold_limit(&self) -> usize
         ensures { result ≡ hold_limit };
 
-    /// Tells that the replies to all items so far are written.
+    /// Called when the replies to all items so far are written.
     fn written(&mut self)
         ensures { self.new ≡ self.old };
 }

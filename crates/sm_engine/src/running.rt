@@ -1,4 +1,4 @@
-//! Reads lines, answers them, and writes the answers, until the input or the machine is at its end.
+//! Reads lines, answers them, and writes the answers, until the input ends or the machine is over.
 
 ghost use Rattle.std.specs.Prelude.{◌≡◌, false, MatchBool, ◌<◌, ◌≤◌, ◌+◌, ◌-◌, IfOk, OnOk, OnErr, take, length, min, ℕ, codes, [], ◌⊎◌, if◌then◌else◌};
 ghost use Rattle.std.specs.Io.KnownBytes.{Appends, Consumes, Keeps, IsAtEnd};
@@ -17,8 +17,8 @@ use std::io::{Read, Write};
 
 const PIECE: usize = 8192;
 
-/// Answers what comes from the reader, lines of this kind, until its end, until the machine is over, a fault, or
-/// `bound` reads.
+/// Answers lines of this kind from the reader, until the input ends, the machine is over, a fault occurs, or `bound`
+/// reads were made.
 pub fn run<M: Machine, R: Read, W: Write, A: Write>(
     alloc: Global,
     kind: Kind,
@@ -115,7 +115,7 @@ fn take_piece<M: Machine, W: Write, A: Write>(
     }
 }
 
-// Says that the input ended inside a line or a text, if it did.
+// Reports the end of the input inside a line or a file.
 fn write_ending<W: Write>(lines: &Lines, writer: &mut Counted<W>) -> Result<(), Fault>
     requires { failures_of writer.old < greatest }
     ensures ok { OnOk result (Appends (W.contents (inner_of writer.old)) (W.contents (inner_of writer.new)) (ending_of lines.now)) }
@@ -127,7 +127,7 @@ fn write_ending<W: Write>(lines: &Lines, writer: &mut Counted<W>) -> Result<(), 
     write_whole(writer, ending(lines.rest()))
 }
 
-// The words for a rest, or none.
+// Returns the words for an incomplete item, or none.
 fn ending(is_part: bool) -> &'static [u8]
     ensures { result.now ≡ (if is_part then codes "fault cut\n" else []) }
 {

@@ -1,4 +1,4 @@
-//! Writes all of a text, and tells how much of it was written after a fault.
+//! Writes whole buffers, and says how much was written before a fault.
 
 ghost use Rattle.std.specs.Prelude.{◌≡◌, ◌<◌, ◌≤◌, ℕ, take, OnOk, OnErr};
 ghost use Rattle.std.specs.Io.KnownBytes.{Appends};
@@ -8,7 +8,7 @@ use crate::counted::Counted;
 use crate::fault::Fault;
 use std::io::Write;
 
-/// Writes all of `text`. After a fault a front of it is written.
+/// Writes all of `text`. After a fault a prefix of it is written.
 pub fn write_whole<W: Write>(writer: &mut Counted<W>, text: &[u8]) -> Result<(), Fault>
     requires { failures_of writer.old < greatest }
     ensures ok { OnOk result (Appends (W.contents (inner_of writer.old)) (W.contents (inner_of writer.new)) text.now) }

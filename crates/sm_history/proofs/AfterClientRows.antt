@@ -365,7 +365,7 @@ tracks_gives d rows c i n number r r' s may place at same who waiting put tr =
     (λ k f. same_gives d c n number k s may f)
     (λ own. client_gives d c n number r r' s may who waiting put own) tr
 
--- ---- grants given back
+-- ---- releases
 
 less_one : (b : Bool) (v w : ℕ) → w ≡ (if b then v - 1 else v) → b ≡ true → w ≡ v - 1
 less_one true v w e is = e

@@ -1,4 +1,4 @@
--- What stands under a name, after an effect.
+-- The service of a name, after an effect.
 use Rattle.std.proofs.Common.{◌≡◌, ℕ, ◌<◌, Bool, true, false, ◌&&◌, ◌==◌, List, ◌∷◌, refl, ap, Option, Some, None}
 use Rattle.std.proofs.Common.{if◌then◌else◌, arith}
 use Rattle.std.specs.Prelude.{not, bytes_eq}

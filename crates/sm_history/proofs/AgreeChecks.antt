@@ -177,7 +177,7 @@ unregister_alike d e c name obj s live =
 
 -- ---- the first that fails
 
--- What stands behind a condition matters only where it holds.
+-- What follows a condition matters only where it holds.
 pub behind_alike : (p : Policy) (r : Instead) (a b : Bool) (xs ys : List Check) → a ≡ b
     → (a ≡ true → first_failing p xs ≡ first_failing p ys)
     → first_failing p (Wants a r ∷ xs) ≡ first_failing p (Wants b r ∷ ys)

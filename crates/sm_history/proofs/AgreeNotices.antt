@@ -1,4 +1,4 @@
--- What is handed out and told is the same where tables agree, and they agree after it.
+-- Where tables agree, objects are passed and watchers are notified alike, and the tables agree afterwards.
 use Rattle.std.proofs.Common.{◌≡◌, ℕ, Bool, true, false, ◌&&◌, ◌==◌, List, [], ◌∷◌, refl, ap, sym, ◌∙◌, subst, length}
 use Rattle.std.proofs.Common.{Option, Some, None, if◌then◌else◌}
 use Rattle.std.specs.Prelude.{nat_lt, nat_le, filter, is_none, bytes_eq}
@@ -73,7 +73,7 @@ to_label_alike d e c name p s live =
     both (λ (w : Identity) (q : Policy). Needs ServiceManager p w (label_of q name) (Some name)) (s.agree.who c live)
     s.agree.policy
 
--- ---- handing out
+-- ---- passing objects
 
 pub number_for_alike : (d e : Effects) (c : ℕ) (n : Node) → Sim d e → number_for d c n ≡ number_for e c n
 number_for_alike d e c n s =

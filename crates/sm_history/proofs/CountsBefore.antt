@@ -15,7 +15,7 @@ use Rattle.sm_history.proofs.Balanced.{balanced_lasts}
 use Rattle.sm_history.proofs.Keeps.{Lasts, notices_keep, refs_keep}
 use Rattle.sm_history.proofs.Counted.{refs_grow, under}
 
--- No more is given back than was granted, and a count is no less than before.
+-- No more grants are released than were made, and a count is no less than before.
 pub record Grows (b : Effects) (k : ℕ) (m : Node) (d : Effects) : Type 0 where
   pub balanced : IsBalanced d
   pub more : refs_at b k m ≤ refs_at d k m

@@ -65,7 +65,7 @@ get_step d c name sv r outcome t s done is found other give =
 added_is : (a b : List Notice) → (let o : Outcome = Added a in o) ≡ Added b → a ≡ b
 added_is a b is = cc
 
--- What putting a service under a name promises, and what telling watchers does.
+-- This is what setting the service of a name promises, with the notices to watchers.
 abbrev pub Puts : ℕ → List ℕ → Node → Bool → ℕ → Tables → Tables → Type 0
 Puts c name n allow dump t t' = (e : Effects) → TracksTables e t → is_live e n.owner.0 ≡ true
     → TracksTables (Adds name (service c n allow dump) ∷ e) t'

@@ -1,4 +1,4 @@
--- What is left of telling watchers, and of handing references over.
+-- The remaining watchers to notify, and the remaining references to pass.
 use Rattle.std.proofs.Common.{◌≡◌, ℕ, zero, suc, ◌+◌, ◌<◌, ◌≤◌, true, List, [], ◌∷◌, refl, ap, sym, ◌∙◌, subst}
 use Rattle.std.proofs.Common.{Option, Some}
 use Rattle.std.proofs.Common.{length, drop, get_or, add-one, arith}
@@ -22,7 +22,7 @@ use Rattle.sm_history.proofs.AgreeNotices.{AllLive, all_same, live_notice, live_
 use Rattle.sm_history.proofs.EnteringSteps.{sim_self, sound_notice}
 use Rattle.sm_history.proofs.CountsBefore.{fit_before_notices, fit_before_refs}
 
--- ---- telling
+-- ---- notifying
 
 -- The notices that are left are those to the watchers that are left, of the effects that the tables track.
 pub record TellsLeft (d : Effects) (n : Node) (ws : List Watch) (rest : List Notice) (t : Tables) : Type 0 where
@@ -34,7 +34,7 @@ pub record TellsLeft (d : Effects) (n : Node) (ws : List Watch) (rest : List Not
   pub lives : AllLive now left
   pub same : after_notices now n left ≡ after_notices d n ws
 
--- What telling one watcher promises.
+-- This is what notifying one watcher promises.
 abbrev pub TellsOne : Node → Notice → Tables → Tables → Type 0
 TellsOne n x t t' = (e : Effects) (w : Watch) → Sound e → TracksTables e t → is_live e w.client ≡ true
     → x ≡ notice_at e n w → AllFit (after_notice e n w) → TracksTables (after_notice e n w) t'
@@ -83,7 +83,7 @@ pub all_told : (d : Effects) (n : Node) (ws : List Watch) (t : Tables) → Tells
     → TracksTables (after_notices d n ws) t
 all_told d n ws t l = none_left d l.now n ws l.left t l.tracks l.told l.same
 
--- ---- handing over
+-- ---- passing
 
 pub record RefsLeft (d : Effects) (from to : ℕ) (refs rest : List ObjRef) (gs : List Given) (t : Tables) : Type 0 where
   pub now : Effects
@@ -133,7 +133,7 @@ drop_suc [] i x lt is = absurd (omega (arith, lt))
 drop_suc (y ∷ ys) zero x lt is = ap (λ v. v ∷ ys) (sym is)
 drop_suc (y ∷ ys) (suc i) x lt is = drop_suc ys i x (omega (arith, lt)) is
 
--- What is left from a place on begins with what stands there.
+-- The rest of a list from an index on begins with the element at that index.
 pub drop_item : {X : Type 0} (xs : List X) (i : ℕ) (x : X) → i < length xs → x ≡ get_or xs i x
     → drop i xs ≡ x ∷ drop (i + 1) xs
 drop_item xs i x lt is = drop_suc xs i x lt is ∙ ap (λ k. x ∷ drop k xs) (sym (add-one i))

@@ -34,7 +34,7 @@ pub sound_notice : (d : Effects) (n : Node) (w : Watch) → Sound d → is_live 
     → Sound (after_notice d n w)
 sound_notice d n w s live = (sim_notice d d n w (sim_self d s) live).left
 
--- ---- handing over
+-- ---- passing
 
 more_below : (v w g : ℕ) → w ≡ v + 1 → w < g → v + 1 < g
 more_below v w g e lt = omega (arith, e, lt)
@@ -65,13 +65,13 @@ hand_given d c n r s live =
           (may_give d c n r s live same after, ap (λ (v : ℕ). let e : Effects = Gives c n v ∷ d in e) (sym same))
     ]
 
--- ---- telling
+-- ---- notifying
 
 not_told : (d : Effects) (n : Node) (w : Watch) (failing : Stop) (x : Delivery)
     → told_of d n w (Some failing) ≡ IsTold x → ⊥
 not_told d n w failing x is = cc
 
--- What the steps of telling a watcher come to.
+-- These are the effects of the steps of notifying a watcher.
 pub tell_step : (d : Effects) (w : Watch) (n : Node) (notice : Notice) (x copy : Delivery) (given : Given)
     (old mid new : Tables) → Sound d → TracksTables d old → is_live d w.client ≡ true → notice ≡ notice_at d n w
     → AllFit (after_notice d n w) → notice.result ≡ IsTold x → given ≡ given_of x → copy ≡ x

@@ -121,7 +121,7 @@ room_done places h e alive done =
     (behind_death (is_die e.event) _ alive (place_done places h e done)) in
     record { now = room.0; lengths = room.1; counts = room.2 }
 
--- So many clients are live after a change that is no death.
+-- This is the number of live clients after a change that is no death.
 pub lives_after : (d : Effects) (c : ℕ) (event : Event) → Sound d → is_die event ≡ false
     → length (live_clients (after_event d c event)) + 1 ≤ length (live_clients d) + places_needed event
 lives_after d c event s alive =

@@ -1,4 +1,4 @@
--- How many objects are held after a grant.
+-- The number of objects that are held after a grant.
 use Rattle.std.proofs.Common.{◌≡◌, ℕ, ◌+◌, ◌-◌, ◌≤◌, ◌<◌, Bool, true, false, ◌||◌, ◌&&◌, ◌==◌, List, [], ◌∷◌, refl}
 use Rattle.std.proofs.Common.{ap, sym, ◌∙◌, subst, length, Option, Some, None, if◌then◌else◌, arith}
 use Rattle.std.specs.Prelude.{filter, nat_lt, is_some, cond}

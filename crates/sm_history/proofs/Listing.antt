@@ -53,7 +53,7 @@ puts_more of d e f xs ys first then_ =
     then_ ∙ ap (λ zs. reverse ys ++ zs) first ∙ sym (append_assoc (reverse ys) (reverse xs) (filter_map of d))
     ∙ ap (λ zs. zs ++ filter_map of d) (sym (reverse-append xs ys))
 
--- ---- one object handed over
+-- ---- one object passed
 
 handed_deliveries : (d : Effects) (c : ℕ) (n : Node) → Puts delivery_made d [] (handed d c n)
 handed_deliveries d c n =

@@ -1,4 +1,4 @@
--- A client is live where it stands among the live clients.
+-- A client is live if it is among the live clients.
 use Rattle.std.proofs.Common.{◌≡◌, ℕ, Bool, true, false, ◌||◌, ◌&&◌, ◌==◌, List, [], ◌∷◌, refl, ap, sym, ◌∙◌}
 use Rattle.std.specs.Prelude.{reverse, filter_map, not}
 use Rattle.std.specs.List.{list_any}

@@ -47,7 +47,7 @@ use Rattle.sm_history.proofs.AgreeChecks.{Acts}
 use Rattle.sm_history.proofs.AgreeEvents.{acts_of}
 use Rattle.sm_history.proofs.AgreeNotices.{AllLive, watchers_live}
 
--- ---- who stands in effects
+-- ---- the identities of effects
 
 pub live_stands : (d : Effects) (c : ℕ) → is_live d c ≡ true → Stands d (identity_at d c)
 live_stands d c live = inr (c, live, refl)
@@ -63,7 +63,7 @@ Bars (Rule s t class perm) who = ⊥
 Bars (App uid) who = (uid ≡ who.uid) × (is_barred uid ≡ true)
 Bars (Isolated uid) who = (uid ≡ who.uid) × (is_isolated_user uid ≡ true)
 
--- Who is checked stands in the effects, and a clause that fails bars.
+-- Whoever is checked belongs to the effects, and a clause that fails covers the user number.
 abbrev pub IsGood : Effects → Check → Type 0
 IsGood d (Needs class perm who target name) = Stands d who
 IsGood d (Spares ok denial who name) = Stands d who × (ok ≡ false → Bars denial who)
@@ -102,7 +102,7 @@ not_false : (b : Bool) → not b ≡ false → b ≡ true
 not_false true e = refl
 not_false false e = absurd (true≢false e)
 
--- What leaves a record isn't written.
+-- What is recorded isn't granted by a rule.
 unwritten : (p : Policy) (s t : List ℕ) (class : Class) (perm : Perms) → audits p s t class perm ≡ true
     → written p s t class perm ≡ false
 unfolding audits

@@ -1,4 +1,4 @@
--- How many changes each actor made, after one more, and the rows of the turns.
+-- The number of changes of each actor, after one more, and the rows of the turns.
 use Rattle.std.proofs.Common.{◌≡◌, ℕ, ◌+◌, ◌<◌, Bool, true, false, ◌||◌, ◌==◌, List, [], ◌∷◌, ◌++◌, refl, ap, sym, ◌∙◌}
 use Rattle.std.proofs.Common.{map, length, drop, get_or, ◌-◌, if◌then◌else◌, arith}
 use Rattle.std.specs.Prelude.{min}

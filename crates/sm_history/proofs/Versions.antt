@@ -53,7 +53,7 @@ watch-same d w (Some s) = told-same d s.node w (first_missing d s.node w)
 pub version_set : (p : Policy) (d : Effects) → version_at (Sets p ∷ d) ≡ version_at d + 1
 version_set p d = refl
 
--- An event brings one policy into force at most.
+-- An event puts at most one policy into force.
 pub version_after : (d : Effects) (c : ℕ) (event : Event)
     → (version_at d ≤ version_at (after_event d c event)) × (version_at (after_event d c event) ≤ version_at d + 1)
 version_after d c (Open who policy) = let one = version_set policy (Opens who ∷ d) in (

@@ -1,4 +1,4 @@
--- What it is that a history begins with another.
+-- What it means that a history begins with another.
 use Rattle.std.specs.Prelude.{◌≡◌, ◌≤◌, true, List, [], ◌∷◌, ◌++◌}
 use Rattle.sm_history.specs.declared.by.By.{By}
 use Rattle.sm_history.specs.declared.entry.Entry.{Entry}
@@ -7,30 +7,29 @@ use Rattle.sm_history.specs.Histories.{History, entered, effects_of, length_of, 
 use Rattle.sm_history.specs.Verdict.{is_there}
 use Rattle.sm_history.specs.Segments.{sealed}
 
--- What may become of a history: one more change, or a seal.
+-- A history goes on by a change or by a seal.
 pub data Move : Type 0 where
   Made : Entry → Move
   Seals : Move
 
--- A history after moves, the newest of which is the first.
+-- A history goes on by moves, newest first.
 abbrev pub gone_on : History → List Move → History
 gone_on h [] = h
 gone_on h (Made e ∷ moves) = entered e (gone_on h moves)
 gone_on h (Seals ∷ moves) = sealed (gone_on h moves)
 
--- The history `new` begins with the history `old`: it is what moves made of it.
+-- The history `new` begins with the history `old` if moves lead from `old` to `new`.
 pub record BeginsWith (new old : History) : Type 0 where
   pub moves : List Move
   pub is : new ≡ gone_on old moves
 
--- Both are one segment, and behind the entries of `old` come others, which stand before them, since the newest is the
--- first.
+-- Both are one segment, and `new` has the entries of `old` and newer ones, which come first in its list.
 pub record IsLonger (new old : History) : Type 0 where
   pub opening : new.opening ≡ old.opening
   pub rest : List Entry
   pub entries : new.entries ≡ rest ++ old.entries
 
--- What of a later history is never less: of turns, those of an actor that is there in it.
+-- None of these is less in the later history; turns, only of actors that are there in it.
 pub record IsLater (new old : History) : Type 0 where
   pub number : old.number ≤ new.number
   pub length : length_of old ≤ length_of new

@@ -1,4 +1,4 @@
--- What tables need, and read, where an accepted change is entered.
+-- What tables need of a change that is applied to them, and what they read of it.
 use Rattle.std.specs.Prelude.{ℕ, ◌≡◌, ◌<◌, true, List, [], ◌∷◌}
 use Rattle.sm_kinds.specs.declared.number.Node.{Node}
 use Rattle.sm_policy.specs.Policy.{Policy}
@@ -22,21 +22,23 @@ use Rattle.sm_history.specs.Verdict.{event_checks, outcome_of}
 abbrev pub AllFit : Effects → Type 0
 AllFit d = (c : ℕ) (n : Node) → refs_at d c n < GREATEST
 
+-- Every check passes.
 abbrev pub AllHold : Policy → List Check → Type 0
 AllHold p [] = Unit {0}
 AllHold p (x ∷ xs) = (holds p x ≡ true) × AllHold p xs
 
--- An event of a client is that of a live one.
+-- A client's event is the event of a live client.
 abbrev pub Acts : Effects → ℕ → Event → Type 0
 Acts d c (Open who policy) = Unit {0}
 Acts d c (Connect who) = Unit {0}
 Acts d c (Reload expected policy) = Unit {0}
 Acts d c _ = is_live d c ≡ true
 
+-- An event of client c passes its checks.
 abbrev pub Passes : Effects → ℕ → Event → Type 0
 Passes d c event = AllHold (policy_at d) (event_checks d c event)
 
--- An event of client c is done after effects, with an outcome, and its counts and the version fit.
+-- An event of client c is done on these effects, with this outcome, and the version and the counts after it fit.
 pub record IsDone (d : Effects) (c : ℕ) (event : Event) (outcome : Outcome) : Type 0 where
   pub acts : Acts d c event
   pub passes : Passes d c event
@@ -44,10 +46,11 @@ pub record IsDone (d : Effects) (c : ℕ) (event : Event) (outcome : Outcome) : 
   pub fits : AllFit (after_event d c event)
   pub version : version_at d < GREATEST
 
+-- This is the reference in a message that registers a service.
 abbrev pub given_by : Message → Given
 given_by (Registered name given) = given
 given_by (Called pid uid payload refs) = Null
 
--- The reference in a registration.
+-- This is the reference in a registration.
 abbrev pub given_of : Delivery → Given
 given_of x = given_by x.what

@@ -1,4 +1,4 @@
--- Which effects may come next, and lists of effects that come in order.
+-- Which effects may come next, and sequences of effects.
 use Rattle.sm_kinds.specs.declared.number.Node.{Node}
 use Rattle.std.specs.Prelude.{ℕ, ◌≡◌, ◌+◌, true, false, ◌==◌, List, [], ◌∷◌, nat_lt, length}
 use Rattle.sm_history.specs.Effects.{Effect, Effects, Connects, Dies, Adds, Gives, Releases, Watches, Unwatches}
@@ -9,7 +9,7 @@ use Rattle.sm_history.specs.Inboxes.{inbox_at, has_inbox_room}
 use Rattle.sm_history.specs.Services.{watches_at}
 use Rattle.sm_history.specs.declared.limits.TheConstants.{MOST_WATCHES, GREATEST}
 
--- What a judged event has made sure of, for each of its effects.
+-- The judgement of an event has made sure of this for each of its effects.
 abbrev pub MayFollow : Effects → Effect → Type 0
 MayFollow d (Connects c who) = c ≡ next_client d
 MayFollow d (Dies c) = is_live d c ≡ true
@@ -25,26 +25,28 @@ MayFollow d (Takes c) = nat_lt 0 (length (inbox_at d c)) ≡ true
 MayFollow d (Resumes version clients) = ⊥
 MayFollow d _ = Unit {0}
 
--- What tables need of a grant: handles may be more than a client may hold.
+-- Tables need only this of a grant: they can hold more handles than a client may have.
 abbrev pub MayGive : Effects → ℕ → Node → ℕ → Type 0
 MayGive d c n r = (is_live d c ≡ true) × (r ≡ number_for d c n) × (nat_lt (refs_at d c n + 1) GREATEST ≡ true)
 
--- The same apart from the counts of grants.
+-- The same, without the limit on counts of grants.
 abbrev pub MayFollowApart : Effects → Effect → Type 0
 MayFollowApart d (Gives c n r) =
     (is_live d c ≡ true) × (r ≡ number_for d c n) × ((n.owner.0 == c) ≡ false)
     × (fits_handles (Gives c n r ∷ d) c ≡ true)
 MayFollowApart d x = MayFollow d x
 
--- Effects in order, the oldest first, put onto others.
+-- Effects in order, oldest first, are added to others.
 abbrev pub followed : Effects → List Effect → Effects
 followed d [] = d
 followed d (x ∷ xs) = followed (x ∷ d) xs
 
+-- Each effect of a sequence may come next.
 abbrev pub MayAll : Effects → List Effect → Type 0
 MayAll d [] = Unit {0}
 MayAll d (x ∷ xs) = MayFollow d x × MayAll (x ∷ d) xs
 
+-- Each effect of a sequence may come next, without the limit on counts of grants.
 abbrev pub MayAllApart : Effects → List Effect → Type 0
 MayAllApart d [] = Unit {0}
 MayAllApart d (x ∷ xs) = MayFollowApart d x × MayAllApart (x ∷ d) xs

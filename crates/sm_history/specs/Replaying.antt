@@ -1,4 +1,4 @@
--- A replay: the rows that a history leaves, entry by entry.
+-- Replays: the rows that a history leaves, computed entry by entry.
 use Rattle.std.specs.Prelude.{ℕ, ◌⊎◌, ◌≡◌, ◌<◌, List, [], ◌∷◌, ◌++◌}
 use Rattle.std.specs.Prelude.{reverse}
 use Rattle.sm_history.specs.declared.limits.TheConstants.{GREATEST}
@@ -17,47 +17,47 @@ use Rattle.sm_history.specs.Turning.{CountsTurns, admins_in}
 use Rattle.sm_history.specs.Tables.{TracksTables}
 use Rattle.sm_history.specs.Entering.{IsDone}
 
--- The replay has come to the end of a history.
+-- A replay has reached the end of a history.
 pub record TracksHistory (h : History) (r : Replay) : Type 0 where
   pub tables : TracksTables (effects_of h) r.tables
   pub turning : CountsTurns (turn_of h) (admins_of h) r.turning
   pub length : r.length ≡ length_of h
 
--- A change that a history may go on with, whose numbers fit.
+-- A change may come next in a history, and its numbers fit.
 pub record IsNext (h : History) (e : Entry) : Type 0 where
   pub done : IsDone (effects_of h) (client_of e.by) e.event e.outcome
   pub turns : (by : By) → turn_of h by < GREATEST
   pub length : length_of h < GREATEST
 
--- The first segment before its first entry.
+-- This is a first segment without entries.
 abbrev pub start : ℕ → History
 start number = record { number = number; opening = nothing; entries = [] }
 
--- The tables are what some effects left.
+-- The tables are those that some sound effects leave.
 abbrev pub AreLeft : Tables → Type 0
 AreLeft t = (d : Effects) × Sound d × TracksTables d t
 
--- A replay from rows.
+-- A replay starts from an opening.
 pub record StartsFrom (o : Opening) (r : Replay) : Type 0 where
   pub turning : CountsTurns (turns_in o.turns) (admins_in o.turns) r.turning
   pub length : r.length ≡ o.length
   pub tables : (d : Effects) → Sound d → o.tables ≡ rows_at d → TracksTables d r.tables
 
--- The segment of a number, rows and entries, the oldest first.
+-- This is the segment of a number, an opening and entries, oldest first.
 abbrev pub segment : ℕ → Opening → List Entry → History
 segment number opening entries = record { number = number; opening = opening; entries = reverse entries }
 
--- A history that may come about, with some places.
+-- A history is lawful with some number of slots.
 abbrev pub ComesAbout : History → Type 0
 ComesAbout h = (places : ℕ) × IsLawful places h
 
--- A replay has come to the end of some entries, the newest first: of none of the first segment, or of lawful ones.
+-- A replay has reached the end of entries, newest first: of no entries of a first segment, or of lawful ones.
 abbrev pub HasCome : ℕ → ℕ → Opening → List Entry → Replay → Type 0
 HasCome places number o es r =
     (((o ≡ nothing) × (es ≡ [])) ⊎ AreLawful places number o es)
     × TracksHistory (record { number = number; opening = o; entries = es }) r
 
--- The entries of chunks, one chunk behind the other.
+-- These are the entries of chunks in order.
 abbrev pub joined : List (List Entry) → List Entry
 joined [] = []
 joined (c ∷ cs) = c ++ joined cs

@@ -1,5 +1,5 @@
--- What the effects of every lawful history are: nothing is said of a client that hasn't connected,
--- and nothing is given back or taken that wasn't there.
+-- Soundness of the effects of every lawful history: no effect concerns a client that hasn't connected, and nothing is
+-- released or taken that wasn't there.
 use Rattle.std.specs.Prelude.{ℕ, ◌≡◌, ◌≤◌, ◌<◌, Bool, true, false, ◌==◌, List, [], ◌∷◌, Some, is_some, count_by}
 use Rattle.std.specs.Prelude.{filter_map, length}
 use Rattle.std.specs.List.{list_any}
@@ -12,7 +12,7 @@ use Rattle.sm_history.specs.Holdings.{number_given, is_release_of, is_held, numb
 use Rattle.sm_history.specs.Services.{last_said}
 use Rattle.sm_history.specs.Inboxes.{delivered_to, is_take_of}
 
--- An effect names a client.
+-- An effect concerns client k.
 abbrev pub names : ℕ → Effect → Bool
 names k (Connects c who) = c == k
 names k (Dies c) = c == k
@@ -24,22 +24,23 @@ names k (Delivers c x) = c == k
 names k (Takes c) = c == k
 names k _ = false
 
--- No effect names a client that is still to connect.
+-- No effect concerns a client that hasn't connected.
 abbrev pub IsFresh : Effects → Type 0
 IsFresh d = (k : ℕ) → next_client d ≤ k → list_any (names k) d ≡ false
 
--- The owner of each object that was put under a name has connected.
+-- The owner of each object that was added under a name has connected.
 abbrev pub IsOwned : Effects → Type 0
 IsOwned d = (name : List ℕ) (s : Service) → last_said d name ≡ Some s → s.node.owner.0 < next_client d
 
--- How often an object was granted to a client, and given back by it.
+-- An object was granted to a client this often.
 abbrev pub granted : Effects → ℕ → Node → ℕ
 granted d c n = count_by (λ x. is_some (number_given c n x)) d
 
+-- A client released an object this often.
 abbrev pub released : Effects → ℕ → Node → ℕ
 released d c n = count_by (is_release_of c n) d
 
--- No more is released than was granted.
+-- No more grants are released than were made.
 abbrev pub IsBalanced : Effects → Type 0
 IsBalanced d = (c : ℕ) (n : Node) → released d c n ≤ granted d c n
 
@@ -47,22 +48,24 @@ IsBalanced d = (c : ℕ) (n : Node) → released d c n ≤ granted d c n
 abbrev pub HasOneEach : Effects → ℕ → Type 0
 HasOneEach d c = (n m : Node) → is_held d c n ≡ true → is_held d c m ≡ true → number_at d c n ≡ number_at d c m → n ≡ m
 
--- What was delivered to a client, the newest first, and how much of it was taken.
+-- These are the deliveries to a client, newest first.
 abbrev pub deliveries : Effects → ℕ → List Delivery
 deliveries d c = filter_map (delivered_to c) d
 
+-- A client took this many deliveries.
 abbrev pub takes : Effects → ℕ → ℕ
 takes d c = count_by (is_take_of c) d
 
--- No more is taken than was delivered.
+-- No client took more than was delivered to it.
 abbrev pub IsTakenFrom : Effects → Type 0
 IsTakenFrom d = (c : ℕ) → takes d c ≤ length (deliveries d c)
 
--- Each number stands once.
+-- Each number is in the list once.
 abbrev pub IsOnce : List ℕ → Type 0
 IsOnce [] = Unit {0}
 IsOnce (x ∷ xs) = (list_any (λ y. y == x) xs ≡ false) × IsOnce xs
 
+-- Effects are sound.
 pub record Sound (d : Effects) : Type 0 where
   pub fresh : IsFresh d
   pub owned : IsOwned d

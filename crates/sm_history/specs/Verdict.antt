@@ -1,8 +1,9 @@
--- The answer to each event: the first check that fails, or what the event does.
+-- The answer to each event: that of the first check that fails, otherwise the event's outcome.
 --
 -- The checks follow Android 14: first the binder driver with its SELinux hooks, then the function of servicemanager.
 -- Sources: frameworks/native/cmds/servicemanager, ServiceManager.cpp and Access.cpp (android-14.0.0); Linux,
--- drivers/android/binder.c and security/selinux/hooks.c. A comment says where a check or its place is this project's own.
+-- drivers/android/binder.c and security/selinux/hooks.c. "Own" marks a check, or its position, that is this project's
+-- own.
 use Rattle.std.specs.Prelude.{ℕ, ◌+◌, Bool, true, false, ◌&&◌, ◌||◌, not, ◌==◌, nat_lt, nat_le, List, [], ◌∷◌, ◌++◌}
 use Rattle.std.specs.Prelude.{Option, Some, None, is_some, length, count_by}
 use Rattle.std.specs.List.{list_any}
@@ -50,9 +51,9 @@ use Rattle.sm_history.specs.declared.limits.TheConstants.{MOST_WATCHES, MOST_CLI
 abbrev pub not_barred : Effects → ℕ → List ℕ → Check
 not_barred d c name = let who = identity_at d c in Spares (not (is_barred who.uid)) (App who.uid) who name
 
--- An isolated process is barred, where the flag says that it matters: the app id is from AID_ISOLATED_START to
--- AID_ISOLATED_END. tryGetService asks so of a service that wasn't added with allowIsolated, registerForNotifications
--- of every name.
+-- An isolated process is refused where the flag is set: the app id is from AID_ISOLATED_START to AID_ISOLATED_END.
+-- tryGetService checks this for a service that wasn't added with allowIsolated, registerForNotifications for every
+-- name.
 abbrev pub not_isolated : Effects → ℕ → List ℕ → Bool → Check
 not_isolated d c name matters = let who = identity_at d c in
     Spares (not (is_isolated_user who.uid && matters)) (Isolated who.uid) who name
@@ -65,30 +66,34 @@ passes_to_manager d c NullRef = []
 passes_to_manager d c r = Wants (is_some (resolve_at d c r)) (Refused (Failed BadHandle)) ∷ to_manager d c
     transferring ∷ []
 
+-- The same holds for passing it to client k.
 abbrev pub passes_to_client : Effects → ℕ → ℕ → ObjRef → List Check
 passes_to_client d c k NullRef = []
 passes_to_client d c k r = Wants (is_some (resolve_at d c r)) (Refused (Failed BadHandle)) ∷ to_client d c k
     transferring ∷ []
 
+-- Each of these references may be passed to client k.
 abbrev pub all_pass_to_client : Effects → ℕ → ℕ → List ObjRef → List Check
 all_pass_to_client d c k [] = []
 all_pass_to_client d c k (r ∷ rs) = passes_to_client d c k r ++ all_pass_to_client d c k rs
 
+-- A reference is null.
 abbrev pub is_null : ObjRef → Bool
 is_null NullRef = true
 is_null _ = false
 
+-- An object's owner is live.
 abbrev pub owner_lives : Effects → Node → Bool
 owner_lives d n = is_live d n.owner.0
 
--- A condition on the service under a name, which no service doesn't meet.
+-- A condition on the service of a name; it fails if the name has no service.
 abbrev pub service_meets : (Service → Bool) → Option Service → Bool
 service_meets p None = false
 service_meets p (Some s) = p s
 
--- What an Add must meet behind its reference: addService, from the check of the app id on. The object's owner must be
--- alive, where Android's linkToDeath fails. Own: the number of names is limited. Not modelled: the VINTF declaration
--- (meetsDeclarationRequirements) and the default dump priority.
+-- These are the checks of an Add after its reference: addService, from the check of the app id on. The object's owner
+-- must be alive, where Android's linkToDeath fails. Own: the number of names is limited. Not modelled: the VINTF
+-- declaration (meetsDeclarationRequirements) and the default dump priority.
 abbrev pub naming_checks : Effects → ℕ → List ℕ → ObjRef → List Check
 naming_checks d c name obj =
     not_barred d c name
@@ -103,8 +108,8 @@ naming_checks d c name obj =
 abbrev pub add_checks : Effects → ℕ → List ℕ → ObjRef → List Check
 add_checks d c name obj = to_manager d c calling ∷ passes_to_manager d c obj ++ naming_checks d c name obj
 
--- Where a service was found: its own object comes back as itself, and another needs a handle (binder.c,
--- binder_translate_handle: a node of the target process is translated to its BINDER_TYPE_BINDER).
+-- These are the checks of a Get that found a service: its own object comes back as itself, and another needs a handle
+-- (binder.c, binder_translate_handle: a node of the target process is translated to its BINDER_TYPE_BINDER).
 abbrev pub handing_checks : Effects → ℕ → Option Service → List Check
 handing_checks d c None = []
 handing_checks d c (Some s) =
@@ -112,8 +117,8 @@ handing_checks d c (Some s) =
     ∷ Wants (fits_handles (handed d c s.node) c) (Refused (Failed TargetFull))
     ∷ []
 
--- tryGetService: the clause on isolated processes is asked where a service is there, then canFind. The reply's reference
--- is passed by the manager, so `transfer` is asked from it to the client.
+-- tryGetService: the clause on isolated processes is checked if there is a service, then canFind. The manager passes
+-- the reply's reference, so it needs `transfer` to the client.
 abbrev pub get_checks : Effects → ℕ → List ℕ → List Check
 get_checks d c name =
     to_manager d c calling
@@ -123,8 +128,8 @@ get_checks d c name =
     ∷ from_manager d c transferring
     ∷ handing_checks d c (service_at d name)
 
--- registerForNotifications. The callback is the client's own object, so it is passed to the manager first. Own: a missing
--- `find` is reported before the isolated clause, which Android asks first; the number of watches is limited.
+-- registerForNotifications: the callback is the client's own object, so it is passed to the manager first. Own: a
+-- missing `find` is reported before the isolated clause, which Android checks first; the number of watches is limited.
 abbrev pub watch_checks : Effects → ℕ → List ℕ → List Check
 watch_checks d c name =
     to_manager d c calling
@@ -135,7 +140,7 @@ watch_checks d c name =
     ∷ Wants (nat_lt (length (watches_at d)) MOST_WATCHES) (Refused (Exception TableFull))
     ∷ []
 
--- unregisterForNotifications, which asks canFind and nothing else of the name.
+-- unregisterForNotifications checks canFind and nothing else of the name.
 abbrev pub unwatch_checks : Effects → ℕ → List ℕ → ℕ → List Check
 unwatch_checks d c name object =
     to_manager d c calling
@@ -144,9 +149,9 @@ unwatch_checks d c name object =
     ∷ Wants (list_any (same_watch (watch c name object)) (watches_at d)) (Refused (Exception NothingToUnregister))
     ∷ []
 
--- tryUnregisterService. Android compares the process that added the service by its pid (debugPid), and asks the driver
--- for the number of clients (handleServiceClientCallback); here they are the client's number and the handles that others
--- hold to the object.
+-- tryUnregisterService: Android compares the process that added the service by its pid (debugPid), and asks the driver
+-- for the number of clients (handleServiceClientCallback); here they are the client's number and the handles of others
+-- to the object.
 abbrev pub unregister_checks : Effects → ℕ → List ℕ → ObjRef → List Check
 unregister_checks d c name obj =
     to_manager d c calling
@@ -160,9 +165,9 @@ unregister_checks d c name obj =
     ∷ Wants (not (is_in_use d c (found (resolve_at d c obj)))) (Refused (Exception InUse))
     ∷ []
 
--- The checks on a call of an object that was found: binder.c, binder_transaction. A dead target is BR_DEAD_REPLY;
--- selinux_binder_transaction asks for `call`, then each reference is translated. Own: inboxes and handle tables have a
--- fixed size, where the driver has the buffer of the target process.
+-- These are the checks on a call of an object that was found: binder.c, binder_transaction. A dead target is
+-- BR_DEAD_REPLY; selinux_binder_transaction asks for `call`, then each reference is translated. Own: inboxes and handle
+-- tables have a fixed size, where the driver has the buffer of the target process.
 abbrev pub object_checks : Effects → ℕ → List ObjRef → Node → List Check
 object_checks d c refs n =
     Wants (owner_lives d n) (Refused Dead)
@@ -178,7 +183,7 @@ call_checks d c handle refs =
     Wants (is_some (node_at d c handle)) (Refused (Failed BadHandle)) ∷ object_checks d c refs
     (found (node_at d c handle))
 
--- The checks of each event of client c, in order.
+-- An event of client c has these checks, in order.
 abbrev pub event_checks : Effects → ℕ → Event → List Check
 event_checks d c (Open who policy) = []
 event_checks d c (Connect who) =
@@ -196,7 +201,7 @@ event_checks d c Die = []
 event_checks d c (Reload expected policy) = Wants (version_at d == expected)
     (Refused (VersionMoved (version_at d))) ∷ []
 
--- Who may make which event. No one opens a manager again.
+-- An actor may make an event. No one opens a manager again.
 abbrev pub is_theirs : By → Event → Bool
 is_theirs by (Open who policy) = false
 is_theirs Manager (Connect who) = true
@@ -207,10 +212,12 @@ is_theirs (Client c) _ = true
 is_theirs (Admin a) (Reload expected policy) = true
 is_theirs (Admin a) _ = false
 
+-- An actor is there: it isn't a client, or is a live one.
 abbrev pub is_there : Effects → By → Bool
 is_there d (Client c) = is_live d c.0
 is_there d _ = true
 
+-- An event has these checks of its actor.
 abbrev pub actor_checks : History → By → ℕ → Event → List Check
 actor_checks h by turn event =
     Wants (is_theirs by event) (Refused (Failed NotYours))
@@ -218,11 +225,12 @@ actor_checks h by turn event =
     ∷ Wants (turn == turn_of h by) (Refused (Failed (OutOfTurn (turn_of h by))))
     ∷ []
 
--- The places of the journal that an event needs beside those kept for the deaths of live clients.
+-- An event needs this number of journal slots besides those kept for the deaths of live clients.
 abbrev pub places_needed : Event → ℕ
 places_needed (Connect who) = 2
 places_needed _ = 1
 
+-- An event is a death.
 abbrev pub is_die : Event → Bool
 is_die Die = true
 is_die _ = false
@@ -231,33 +239,36 @@ is_die _ = false
 abbrev pub has_length_room : History → Event → Bool
 has_length_room h event = nat_lt (length_of h + length (live_clients (effects_of h)) + places_needed event) GREATEST
 
--- An event of client c has its place, and no length and no count of grants comes to the greatest number. A death
--- has what was kept for it.
+-- An event of client c has its slot, and no length and no count of grants reaches the greatest number. A death uses the
+-- slot that was kept for it.
 abbrev pub has_place : ℕ → History → ℕ → Event → Bool
 has_place places h c event =
     is_die event
     || (nat_le (length h.entries + length (live_clients (effects_of h)) + places_needed event) places
     && has_length_room h event && counts_fit (after_event (effects_of h) c event))
 
--- All that an event must meet.
+-- An event has these checks.
 abbrev pub checks : ℕ → History → By → ℕ → Event → List Check
 checks places h by turn event =
     actor_checks h by turn event ++ event_checks (effects_of h) (client_of by) event
     ++ Wants (has_place places h (client_of by) event) (Refused JournalFull) ∷ []
 
+-- This is the notice for a new watch, if the name has a service.
 abbrev pub notice_of_watch : Effects → Watch → Option Service → Option Notice
 notice_of_watch d w None = None
 notice_of_watch d w (Some s) = Some (notice_at d s.node w)
 
+-- This is the number of the handle for a service.
 abbrev pub number_of : Effects → ℕ → Option Service → ℕ
 number_of d c None = 0
 number_of d c (Some s) = number_for d c s.node
 
+-- This is the first of some deliveries; an earlier check has made sure that there is one.
 abbrev pub taken : List Delivery → Delivery → Delivery
 taken [] none = none
 taken (x ∷ xs) none = x
 
--- What an event of client c does, where it meets all checks.
+-- This is the outcome of an event of client c that passes all checks.
 abbrev pub outcome_of : Effects → ℕ → Event → Outcome
 outcome_of d c (Open who policy) = Opened
 outcome_of d c (Connect who) = Connected (record { 0 = next_client d })
@@ -274,11 +285,12 @@ outcome_of d c Take = Taken (taken (inbox_at d c) (call_delivery [] 0 (found Non
 outcome_of d c Die = Died
 outcome_of d c (Reload expected policy) = Reloaded (version_at d + 1)
 
+-- An event is answered so, if this check failed or none did.
 abbrev pub answered : Option Stop → Outcome → Reply
 answered None outcome = Done outcome
 answered (Some failing) outcome = answer_of failing
 
--- The answer to an event.
+-- This is the answer to an event.
 abbrev pub verdict : ℕ → History → By → ℕ → Event → Reply
 verdict places h by turn event =
     answered (first_failing (policy_at (effects_of h)) (checks places h by turn event))

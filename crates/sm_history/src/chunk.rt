@@ -1,11 +1,11 @@
-//! Entries that lie in one piece of memory.
+//! Chunks of journal entries.
 
 ghost use Rattle.std.specs.Prelude.{◌≡◌};
 
 use crate::entry::Entry;
 use std::marker::Model;
 
-/// Entries that lie in one piece of memory, the oldest first.
+/// Journal entries in one block of memory, oldest first.
 #[derive(Drop)]
 pub struct Chunk {
     entries: Vec<Entry>,
@@ -21,14 +21,14 @@ impl Model for Chunk {
 }
 
 impl Chunk {
-    /// These entries.
+    /// Makes a chunk of these entries.
     pub fn new(entries: Vec<Entry>) -> Chunk
         ensures { result ≡ entries.items }
     {
         Chunk { entries }
     }
 
-    /// The entries, the oldest first.
+    /// Returns the entries, oldest first.
     pub fn entries(&self) -> &[Entry]
         ensures { result.now ≡ self.now }
     {

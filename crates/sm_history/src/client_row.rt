@@ -1,4 +1,4 @@
-//! What a live client has.
+//! A live client's row in the tables of a replay.
 
 ghost use Rattle.std.specs.Prelude.{◌≡◌, ◌==◌, ◌++◌, ◌∷◌, [], None, drop, position, MatchOption, OnOk};
 ghost use Rattle.sm_history.specs.declared.effect.Effect.TheVariants.{Delivers, Gives, Releases, Takes};
@@ -12,14 +12,14 @@ use crate::delivery::BoxedDelivery;
 use sm_kinds::{Identity, Node};
 use std::alloc::AllocError;
 
-/// An object that a client holds, and how often it was granted and not released.
+/// An object that a client holds, and the number of grants that it hasn't released.
 #[derive(Clone, Copy)]
 pub struct Held {
     pub node: Node,
     pub count: u64,
 }
 
-/// A live client: its number, its process, what it holds under each number, and what waits for it, the oldest first.
+/// A live client: its number, its process, what it holds under each number, and its deliveries, oldest first.
 #[derive(Drop)]
 pub struct ClientRow {
     pub client: u32,
@@ -28,7 +28,7 @@ pub struct ClientRow {
     pub waiting: Vec<BoxedDelivery>,
 }
 
-/// What is held under a number.
+/// Returns what is held under a number.
 pub fn held_under(slots: &[Option<Held>], number: u32) -> Option<Held>
     ensures { result ≡ slot slots.now number }
 {
@@ -48,7 +48,7 @@ fn given(node: Node, old: Option<Held>) -> Option<Held>
     }
 }
 
-/// What is held after one grant was given back.
+/// What is held after a release of one grant.
 fn released(old: Option<Held>) -> Option<Held>
     ensures { result ≡ released_slot old }
 {
@@ -67,7 +67,7 @@ fn released(old: Option<Held>) -> Option<Held>
     }
 }
 
-/// What is held under a number is another. `Err`: memory was refused.
+/// Replaces what is held under a number. Returns an error if an allocation fails.
 fn put(slots: &mut Vec<Option<Held>>, number: u32, held: Option<Held>) -> Result<(), AllocError>
     ensures { OnOk result (IsPut slots.old.items slots.new.items number held) }
 {
@@ -85,14 +85,14 @@ fn first_of(rows: &[ClientRow], client: u32) -> Option<usize>
     rows.iter().position(|row| row.client == client)
 }
 
-/// The place of a client's row.
+/// Returns the index of a client's row.
 pub fn place_of(rows: &[ClientRow], client: u32) -> Option<usize>
     ensures { MatchOption result (row_of rows.now client ≡ None) (IsPlace rows.now client) }
 {
     first_of(rows, client)
 }
 
-/// One more grant of an object, under a number. `Err`: memory was refused.
+/// Grants an object once more, under a number. Returns an error if an allocation fails.
 pub fn give(row: &mut ClientRow, node: Node, number: u32) -> Result<(), AllocError>
     ensures held { OnOk result (IsPut row.old.held.items row.new.held.items number
         (given_slot node (slot row.old.held.items number))) }
@@ -104,7 +104,7 @@ pub fn give(row: &mut ClientRow, node: Node, number: u32) -> Result<(), AllocErr
     put(&mut row.held, number, given(node, held))
 }
 
-/// One grant of what is held under a number is given back. `Err`: memory was refused.
+/// Releases one grant of what is held under a number. Returns an error if an allocation fails.
 pub fn release(row: &mut ClientRow, number: u32) -> Result<(), AllocError>
     ensures held { OnOk result (IsPut row.old.held.items row.new.held.items number
         (released_slot (slot row.old.held.items number))) }

@@ -1,4 +1,4 @@
-//! Copies of tables, whose texts, deliveries and policy get one more owner.
+//! Copies of tables, which share texts, deliveries and policies with the originals.
 
 ghost use Rattle.std.specs.Prelude.{◌≡◌, IfOk};
 ghost use Rattle.sm_history.specs.Effects.{Effects};
@@ -98,7 +98,7 @@ fn policy_of(policy: &Option<Prepared>) -> Result<Option<Prepared>, AllocError>
 }
 
 impl Tables {
-    /// The same tables. `Err`: memory was refused.
+    /// Copies the tables. Returns an error if an allocation fails.
     pub(crate) fn copy(&self) -> Result<Tables, AllocError>
         ensures { IfOk result (λ t. (d : Effects) → TracksTables d self.now → TracksTables d t) }
     {

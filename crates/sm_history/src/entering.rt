@@ -1,4 +1,4 @@
-//! What an accepted change does to tables, by its event and its outcome.
+//! Applies accepted changes to tables, by event and outcome.
 
 ghost use Rattle.std.specs.Prelude.{slice_get, ◌≡◌, ◌∷◌, ◌<◌, true, ℕ, List, Some, OnOk};
 ghost use Rattle.std.specs.List.{list_all};
@@ -28,7 +28,7 @@ use sm_kinds::{ClientId, Identity, Name, Node, ObjRef, Payload, Refs};
 use sm_policy::Prepared;
 use std::alloc::AllocError;
 
-/// The object that was found, where a check has made sure that one was.
+/// Returns the object that was found; an earlier check has made sure that there is one.
 fn found(node: Option<Node>) -> Node
     ensures { result ≡ found_in node }
 {
@@ -41,7 +41,7 @@ fn found(node: Option<Node>) -> Node
     }
 }
 
-/// The reference in a registration.
+/// Returns the reference in a registration.
 fn given_in(delivery: &Delivery) -> Given
     ensures { result ≡ given_of delivery.now }
 {
@@ -51,7 +51,7 @@ fn given_in(delivery: &Delivery) -> Given
     }
 }
 
-/// The reference at a place.
+/// Returns the reference at an index.
 fn given_at(given: &[Given], i: usize) -> Option<Given>
     ensures { result ≡ slice_get given.now i }
 {
@@ -59,7 +59,7 @@ fn given_at(given: &[Given], i: usize) -> Option<Given>
 }
 
 impl Tables {
-    /// The object that a client holds under a number.
+    /// Returns the object that a client holds under a number.
     fn node_under(&self, client: u32, number: u32) -> Option<Node>
         ensures { (d : Effects) → TracksTables d self.now → is_live d client ≡ true
             → result ≡ node_at d client number }
@@ -69,7 +69,7 @@ impl Tables {
         Some(held.node)
     }
 
-    /// The object that a client's reference names.
+    /// Returns the object that a client's reference names.
     fn resolve(&self, client: u32, obj: ObjRef) -> Option<Node>
         ensures { (d : Effects) → TracksTables d self.now → is_live d client ≡ true
             → result ≡ resolve_at d client obj }
@@ -84,14 +84,14 @@ impl Tables {
         }
     }
 
-    /// The service under a name.
+    /// Returns the service of a name.
     fn service(&self, name: &[u8]) -> Option<Service>
         ensures { (d : Effects) → TracksTables d self.now → result ≡ service_at d name.now }
     {
         service_in(&self.names, name)
     }
 
-    /// An object reaches a client, as its own or as a handle. `Err`: memory was refused.
+    /// Gives an object to a client, as its own or as a handle. Returns an error if an allocation fails.
     fn hand(&mut self, client: u32, node: Node, given: Given) -> Result<(), AllocError>
         ensures { OnOk result ((d : Effects) → Sound d → TracksTables d self.old → is_live d client ≡ true
             → given ≡ given_to d client node → AllFit (handed d client node)
@@ -103,7 +103,7 @@ impl Tables {
         Ok(())
     }
 
-    /// A watcher is told, or isn't. `Err`: memory was refused.
+    /// Notifies a watcher if its notice says so. Returns an error if an allocation fails.
     fn tell(&mut self, node: Node, notice: &Notice) -> Result<(), AllocError>
         ensures { OnOk result ((d : Effects) (w : Watch) → Sound d → TracksTables d self.old
             → is_live d w.client ≡ true → notice.now ≡ notice_at d node w → AllFit (after_notice d node w)
@@ -117,7 +117,7 @@ impl Tables {
         Ok(())
     }
 
-    /// Watchers are told in order, or aren't. `Err`: memory was refused.
+    /// Notifies watchers in order, where their notices say so. Returns an error if an allocation fails.
     fn tell_all(&mut self, node: Node, notices: &[Notice]) -> Result<(), AllocError>
         ensures { OnOk result ((d : Effects) (ws : List Watch) → Sound d → TracksTables d self.old
             → list_all (λ w. is_live d w.client) ws ≡ true → notices.now ≡ notices_at d node ws
@@ -129,7 +129,7 @@ impl Tables {
         Ok(())
     }
 
-    /// A reference reaches a client. `Err`: memory was refused.
+    /// Gives a reference to a client. Returns an error if an allocation fails.
     fn hand_one(
         &mut self,
         from: u32,
@@ -152,7 +152,7 @@ impl Tables {
         Ok(())
     }
 
-    /// References reach a client in order. `Err`: memory was refused.
+    /// Gives references to a client in order. Returns an error if an allocation fails.
     fn hand_all(
         &mut self,
         from: u32,
@@ -325,7 +325,7 @@ impl Tables {
         Ok(())
     }
 
-    /// An event that was done is entered. `Err`: memory was refused.
+    /// Applies an event that was done. Returns an error if an allocation fails.
     pub(crate) fn enter(
         &mut self,
         client: u32,

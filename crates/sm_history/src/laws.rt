@@ -1,56 +1,57 @@
-//! Laws of the definitions, each the contract of a function that does nothing.
+//! Laws of the definitions. Each is the contract of a function that does nothing.
 
 ghost use Rattle.sm_history.specs.SegmentLaw.{SegmentsRead};
 ghost use Rattle.sm_history.specs.Listing.{OutcomesListEffects};
 ghost use Rattle.sm_history.specs.LawStatements.{LawfulAreSound, NumbersAreSmall, UnconnectedHaveNoTurns, FreeNumbersAreFree, DoneIsLawful, DoneFits, NumbersFit, SealedIsLawful, SealedFits, BeginsWithItself, BeginsWithTheOneBefore, BeginsWithTheOneSealed, BeginsWithItsBeginnings, SegmentsGrow, LaterIsMore, RecordsAreTrue, QueryRecordsAreTrue, RecordsStayTrue};
 
-/// A lawful history is answered as the segment of its older part's rows and its newer part is, but for a full journal.
+/// A lawful history gives the same verdicts as a segment that begins with the rows of its older part and goes on with
+/// its newer part, except where a journal is full.
 pub fn segments()
     ensures { SegmentsRead }
 {}
 
-/// In every lawful history nothing is said of a client that hasn't connected, the owner of each added object has
-/// connected, no more is released than was granted, no client holds two objects under one number, and no more is
+/// In every lawful history no effect concerns a client that hasn't connected, the owner of each added object has
+/// connected, no more grants are released than were made, no client holds two objects under one number, and no more is
 /// taken than was delivered.
 pub fn soundness()
     ensures { LawfulAreSound }
 {}
 
-/// Clients, versions and turns of a lawful history are no more than its changes.
+/// In a lawful history the numbers of clients, versions and turns are at most the number of changes.
 pub fn small_numbers()
     ensures { NumbersAreSmall }
 {}
 
-/// A client that is still to connect has made no change.
+/// A client that hasn't connected has made no change.
 pub fn unconnected_turns()
     ensures { UnconnectedHaveNoTurns }
 {}
 
-/// Under the number of a new handle the client holds nothing.
+/// A client holds nothing under the number of a new handle.
 pub fn free_numbers()
     ensures { FreeNumbersAreFree }
 {}
 
-/// A lawful history goes on lawfully by a change that is done, and keeps the places for the deaths to come.
+/// A lawful history stays lawful by a change that is done, and keeps journal slots for the deaths to come.
 pub fn going_on()
     ensures lawful { DoneIsLawful }
     ensures fits { DoneFits }
 {}
 
 /// In every lawful history the length with the deaths still to come, and each count of grants, are below the greatest
-/// number. With `small_numbers` so are turns, versions and the numbers of clients.
+/// number. With `small_numbers`, so are turns, versions and the numbers of clients.
 pub fn fitting_numbers()
     ensures { NumbersFit }
 {}
 
-/// A lawful history may be sealed: the segment behind it is lawful, and has its places.
+/// A lawful history may be sealed: the segment after it is lawful and keeps its slots.
 pub fn sealing()
     ensures lawful { SealedIsLawful }
     ensures fits { SealedFits }
 {}
 
-/// "Begins with" is an order, in which a history stands behind the one before its last change, and a segment behind
-/// the one that was sealed.
+/// "Begins with" is an order. A history comes after the one without its last change, and a segment after the one that
+/// was sealed.
 pub fn beginnings()
     ensures itself { BeginsWithItself }
     ensures before { BeginsWithTheOneBefore }
@@ -58,21 +59,21 @@ pub fn beginnings()
     ensures through { BeginsWithItsBeginnings }
 {}
 
-/// Of a history that begins with another no number, length, version or turn of an actor that is there is less; and
-/// where both are one segment, the entries of the one are the last of the other.
+/// If a history begins with another, none of its numbers, lengths, versions or turns of actors that are still there is
+/// less. If both are one segment, the older one's entries are the oldest of the newer one.
 pub fn later()
     ensures more { LaterIsMore }
     ensures longer { SegmentsGrow }
 {}
 
-/// The outcomes of a lawful history list just the deliveries, the numbers of handles and the clients of its effects.
+/// The outcomes of a lawful history list exactly the deliveries, handle numbers and clients of its effects.
 pub fn outcomes()
     ensures { OutcomesListEffects }
 {}
 
-/// Each record that an event or a query leaves is true of the lawful history in which it is judged: it was made at that
-/// length, under the version in force, of a process that stands there, and no rule gives what it says. What is kept of
-/// it is true of every history that begins with that one.
+/// Each record of an event or a query is true of the lawful history in which it is judged: it has that history's length
+/// and version and a process of it, and no rule grants the access that it records. What a kept record says is true of
+/// every history that begins with that one.
 pub fn true_records()
     ensures events { RecordsAreTrue }
     ensures queries { QueryRecordsAreTrue }

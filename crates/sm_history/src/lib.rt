@@ -1,8 +1,8 @@
-//! What may happen to a service manager, what it answers, and what a history of it is.
+//! Events, outcomes and replies of a service manager, and the definitions of its histories.
 //!
-//! `src/` has the types of events, outcomes, queries and replies. `specs/` has the definitions that the
-//! whole product is proved against: what a history did, each table as a count, a filter or a search over
-//! it, the checks of each request, and the verdict.
+//! `src/` has the types of events, outcomes, queries and replies. `specs/` has the definitions that the whole product
+//! is proved against: what a history did, each table as a count, a filter or a search over it, the checks of each
+//! request, and the verdict.
 #![tactic(auto)]
 
 mod by;

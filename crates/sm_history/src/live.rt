@@ -15,7 +15,7 @@ use crate::delivery::BoxedDelivery;
 use sm_kinds::{Identity, Node};
 use std::alloc::{AllocError, Global};
 
-/// A new client's row. `Err`: memory was refused.
+/// Adds a new client's row. Returns an error if an allocation fails.
 pub fn connect(
     live: &mut Vec<ClientRow>,
     alloc: Global,
@@ -35,7 +35,7 @@ pub fn connect(
     Ok(())
 }
 
-/// A client's row goes.
+/// Removes a client's row.
 pub fn forget(live: &mut Vec<ClientRow>, client: u32)
     ensures { (d : Effects) → Sound d → TracksClients d live.old.items
         → MayFollow d (Dies client) → TracksClients (Dies client ∷ d) live.new.items }
@@ -43,7 +43,7 @@ pub fn forget(live: &mut Vec<ClientRow>, client: u32)
     live.retain(|row| row.client != client);
 }
 
-/// One more grant of an object to a client, under a number. `Err`: memory was refused.
+/// Grants an object to a client once more, under a number. Returns an error if an allocation fails.
 pub fn give_to(
     live: &mut Vec<ClientRow>,
     client: u32,
@@ -61,7 +61,7 @@ pub fn give_to(
     Ok(())
 }
 
-/// One grant of what a client holds under a number is given back. `Err`: memory was refused.
+/// Releases one grant of what a client holds under a number. Returns an error if an allocation fails.
 pub fn release_of(live: &mut Vec<ClientRow>, client: u32, number: u32) -> Result<(), AllocError>
     ensures { OnOk result ((d : Effects) (n : Node) → Sound d → TracksClients d live.old.items
         → node_at d client number ≡ Some n → MayFollow d (Releases client n)
@@ -75,7 +75,7 @@ pub fn release_of(live: &mut Vec<ClientRow>, client: u32, number: u32) -> Result
     Ok(())
 }
 
-/// One more delivery waits for a client. `Err`: memory was refused.
+/// Appends a delivery to a client's inbox. Returns an error if an allocation fails.
 pub fn deliver_to(
     live: &mut Vec<ClientRow>,
     client: u32,
@@ -92,7 +92,7 @@ pub fn deliver_to(
     Ok(())
 }
 
-/// The delivery that has waited longest for a client goes.
+/// Removes the oldest delivery from a client's inbox.
 pub fn take_from(live: &mut Vec<ClientRow>, client: u32)
     ensures { (d : Effects) → TracksClients d live.old.items → is_live d client ≡ true
         → TracksClients (Takes client ∷ d) live.new.items }
@@ -104,7 +104,7 @@ pub fn take_from(live: &mut Vec<ClientRow>, client: u32)
     take_first(&mut row.waiting);
 }
 
-/// The oldest delivery goes, if there is one.
+/// Removes the oldest delivery, if there is one.
 fn take_first(waiting: &mut Vec<BoxedDelivery>)
     ensures { waiting.new.items ≡ drop 1 waiting.old.items }
 {

@@ -1,4 +1,4 @@
-//! The names that have a service.
+//! Rows of names with their services.
 
 ghost use Rattle.std.specs.Prelude.{◌≡◌, ◌∷◌, true, ℕ, length, OnOk, MatchResult};
 ghost use Rattle.std.specs.List.Sorted.{IsSearchInRange};
@@ -13,14 +13,14 @@ use crate::service::Service;
 use sm_kinds::Name;
 use std::alloc::AllocError;
 
-/// A name, and the service under it.
+/// A name and its service.
 #[derive(Drop)]
 pub struct NamedRow {
     pub name: Name,
     pub service: Service,
 }
 
-/// The place of a name's row, or the one where it would stand.
+/// Returns the index of a name's row, or the index at which it would be inserted.
 fn place_of_name(rows: &[NamedRow], name: &[u8]) -> Result<usize, usize>
     ensures within { IsSearchInRange result (length rows.now) }
     ensures place { IsRising (names_of rows.now)
@@ -29,7 +29,7 @@ fn place_of_name(rows: &[NamedRow], name: &[u8]) -> Result<usize, usize>
     rows.binary_search_by(|row| row.name.bytes().cmp(name))
 }
 
-/// The service under a name.
+/// Returns the service of a name.
 pub fn service_in(rows: &[NamedRow], name: &[u8]) -> Option<Service>
     ensures { (d : Effects) → TracksNames d rows.now → result ≡ service_at d name.now }
 {
@@ -39,7 +39,7 @@ pub fn service_in(rows: &[NamedRow], name: &[u8]) -> Option<Service>
     }
 }
 
-/// A service stands under a name, in place of the one that was there. `Err`: memory was refused.
+/// Sets the service of a name, replacing any earlier one. Returns an error if an allocation fails.
 pub fn put_name(rows: &mut Vec<NamedRow>, name: Name, service: Service) -> Result<(), AllocError>
     ensures { OnOk result ((d : Effects) → TracksNames d rows.old.items
         → is_live d service.node.owner.0 ≡ true → TracksNames (Adds name service ∷ d) rows.new.items) }
@@ -56,7 +56,7 @@ pub fn put_name(rows: &mut Vec<NamedRow>, name: Name, service: Service) -> Resul
     }
 }
 
-/// The service under a name goes, if there is one.
+/// Removes the service of a name, if there is one.
 pub fn remove_name(rows: &mut Vec<NamedRow>, name: &[u8])
     ensures { (d : Effects) → TracksNames d rows.old.items → TracksNames (Removes name.now ∷ d) rows.new.items }
 {
@@ -65,7 +65,7 @@ pub fn remove_name(rows: &mut Vec<NamedRow>, name: &[u8])
     }
 }
 
-/// The services of a client's objects go.
+/// Removes the services of a client's objects.
 pub fn forget_names(rows: &mut Vec<NamedRow>, client: u32)
     ensures { (d : Effects) → TracksNames d rows.old.items → TracksNames (Dies client ∷ d) rows.new.items }
 {

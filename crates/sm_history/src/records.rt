@@ -1,4 +1,4 @@
-//! What is kept of access that no rule gives.
+//! Audit records of denied access.
 
 ghost use Rattle.std.specs.Prelude.{◌≡◌};
 
@@ -6,8 +6,8 @@ use crate::denial::Denial;
 use sm_kinds::{Context, Identity, Name};
 use std::alloc::AllocError;
 
-/// What is kept of a check that no allow rule gave, or of a clause on the user number that barred a request: an audit
-/// record, as SELinux's access vector cache makes one (`avc: denied`).
+/// A record of a check that no allow rule passed, or of a clause on the user number that refused a request, as
+/// SELinux's access vector cache makes one (`avc: denied`).
 #[derive(Drop, Debug)]
 pub struct Record {
     /// The length of the journal when the check was made, in changes.
@@ -15,20 +15,20 @@ pub struct Record {
     /// The version of the policy that was in force.
     pub version: u64,
     pub denial: Denial,
-    /// The check passed all the same, since the source is `permissive`.
+    /// Whether the check passed all the same, since the source is `permissive`.
     pub permissive: bool,
-    /// The process whose type is the source, or whose user number is barred.
+    /// The process whose type is the source, or whose user number the clause refuses.
     pub who: Identity,
     /// The context that has the target's type. A clause on the user number has no target.
     pub target: Option<Context>,
-    /// The name, where the target is the label of one or the clause is about one.
+    /// The name, if the target is its label or the clause is about it.
     pub name: Option<Name>,
 }
 
 impl Clone for Record {
     ghost is_clone = { λ r copy. copy ≡ r };
 
-    /// The same record; its texts get one more owner.
+    /// Copies the record; its texts are shared.
     fn clone(&self) -> Result<Record, AllocError> {
         let target = match &self.target {
             None => None,

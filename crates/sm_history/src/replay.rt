@@ -1,4 +1,4 @@
-//! A replay of changes.
+//! Replays of changes.
 
 ghost use Rattle.std.specs.Prelude.{◌≡◌, OnOk};
 ghost use Rattle.sm_history.specs.Histories.{History, entered, effects_of};
@@ -10,7 +10,7 @@ use crate::tables::Tables;
 use crate::turning::{Turning, number_of};
 use std::alloc::AllocError;
 
-/// What the changes so far left: tables, how many changes each actor made, and how many there are.
+/// The state of a replay: tables, the number of changes of each actor, and the number of all changes.
 #[derive(Drop)]
 pub struct Replay {
     pub tables: Tables,
@@ -19,7 +19,7 @@ pub struct Replay {
 }
 
 impl Replay {
-    /// One change more. `Err`: memory was refused.
+    /// Applies one more change. Returns an error if an allocation fails.
     pub(crate) fn enter(&mut self, entry: &Entry) -> Result<(), AllocError>
         ensures { OnOk result ((h : History) → Sound (effects_of h) → TracksHistory h self.old
             → IsNext h entry.now → TracksHistory (entered entry.now h) self.new) }

@@ -2,9 +2,9 @@
 
 use std::marker::Model;
 
-/// All that a verdict reads of the changes so far: the manager and the policy in force, once it was opened, each live
-/// client with what it holds and what waits for it, names, watches, turns, and how many changes there were. A segment
-/// begins with these; contracts see them as the rows that a history leaves.
+/// Everything that a verdict reads of the changes so far: the manager and the policy in force, once it was opened, each
+/// live client with its handles and deliveries, names, watches, turns, and the number of changes. A segment begins with
+/// these; contracts see them as the rows that a history leaves.
 #[derive(Drop)]
 pub struct Rows {
     tables: Tables,
@@ -52,7 +52,7 @@ fn turns_of(alloc: Global, turns: &[TurnRow]) -> Result<Vec<TurnRow>, AllocError
     Ok(copies)
 }
 
-/// No tables.
+/// Returns empty tables.
 fn no_tables(alloc: Global) -> Tables
     ensures left { AreLeft result }
     ensures nothing { tables_of result ≡ nothing.tables }
@@ -70,7 +70,7 @@ fn no_tables(alloc: Global) -> Tables
 }
 
 impl Rows {
-    /// Before anything was done.
+    /// Returns the rows before the first change.
     pub fn nothing(alloc: Global) -> Rows
         ensures { result ≡ nothing }
     {
@@ -81,8 +81,8 @@ impl Rows {
         }
     }
 
-    /// The rows that tables are, which are what some changes left, with how many changes each actor made, and how many
-    /// there were.
+    /// Makes rows from tables that some changes left, the number of changes of each actor, and the number of all
+    /// changes.
     pub fn new(tables: Tables, turns: Vec<TurnRow>, length: u64) -> Rows
         requires { AreLeft tables }
         ensures { result ≡ record { tables = tables_of tables; length = length; turns = turns.items } }
@@ -94,7 +94,7 @@ impl Rows {
         }
     }
 
-    /// The rows that a replay has come to. `Err`: memory was refused.
+    /// Makes the rows at the end of a replay. Returns an error if an allocation fails.
     pub(crate) fn of(replay: Replay) -> Result<Rows, AllocError>
         requires { AreLeft replay.tables }
         ensures { IfOk result (λ r. r ≡ record {
@@ -112,7 +112,7 @@ impl Rows {
         Ok(Rows::new(tables, turns, length))
     }
 
-    /// A replay that begins with these rows. `Err`: memory was refused.
+    /// Starts a replay from these rows. Returns an error if an allocation fails.
     pub(crate) fn replay(&self) -> Result<Replay, AllocError>
         ensures { IfOk result (λ r. StartsFrom self.now r) }
     {
@@ -126,35 +126,35 @@ impl Rows {
         })
     }
 
-    /// The manager's process, once it was opened.
+    /// Returns the manager's process, once it was opened.
     pub fn manager(&self) -> &Option<Identity>
         ensures { manager_of result.now ≡ self.now.tables.manager }
     {
         &self.tables.manager
     }
 
-    /// The policy in force, once the manager was opened.
+    /// Returns the policy in force, once the manager was opened.
     pub fn policy(&self) -> &Option<Prepared>
         ensures { policy_of result.now ≡ self.now.tables.policy }
     {
         &self.tables.policy
     }
 
-    /// How many policies were set.
+    /// Returns the number of policies that were set.
     pub fn version(&self) -> u64
         ensures { result ≡ self.now.tables.version }
     {
         self.tables.version
     }
 
-    /// How many clients ever connected.
+    /// Returns the number of clients that ever connected.
     pub fn clients(&self) -> u64
         ensures { result ≡ self.now.tables.clients }
     {
         self.tables.clients
     }
 
-    /// The live clients, the oldest first, with what each holds and what waits for it.
+    /// Returns the live clients, oldest first, with the handles and deliveries of each.
     pub fn live(&self) -> &[ClientRow]
         ensures live { map live_of result.now ≡ self.now.tables.live }
         ensures held { flat_map held_of result.now ≡ self.now.tables.held }
@@ -163,29 +163,29 @@ impl Rows {
         self.tables.live.as_slice()
     }
 
-    /// The names that have a service, in rising byte order.
+    /// Returns the names that have a service, in rising byte order.
     pub fn names(&self) -> &[NamedRow]
         ensures { result.now ≡ self.now.tables.names }
     {
         self.tables.names.as_slice()
     }
 
-    /// The watches, the oldest first.
+    /// Returns the watches, oldest first.
     pub fn watches(&self) -> &[Watch]
         ensures { result.now ≡ self.now.tables.watches }
     {
         self.tables.watches.as_slice()
     }
 
-    /// How many changes each actor made that may still make some: the manager, the live clients, and the administrators
-    /// in the order of their first.
+    /// Returns the number of changes of each actor that may still make some: the manager, the live clients, and the
+    /// administrators in the order of their first change.
     pub fn turns(&self) -> &[TurnRow]
         ensures { result.now ≡ self.now.turns }
     {
         self.turns.as_slice()
     }
 
-    /// How many changes there were.
+    /// Returns the number of changes.
     pub fn length(&self) -> u64
         ensures { result ≡ self.now.length }
     {
@@ -196,7 +196,7 @@ impl Rows {
 impl Clone for Rows {
     ghost is_clone = { λ r copy. copy ≡ r };
 
-    /// The same rows; texts, deliveries and the policy get one more owner.
+    /// Copies the rows; texts, deliveries and the policy are shared.
     fn clone(&self) -> Result<Rows, AllocError> {
         let tables = self.tables.copy()?;
         let turns = turns_of(tables.alloc, &self.turns)?;

@@ -2,9 +2,8 @@
 
 use std::marker::Model;
 
-/// A segment of a journal: its number from 1, the rows that it begins with, and its changes, the oldest first, which
-/// lie in chunks, so that a journal gives them away as they lie. Contracts see the history, which came about by a
-/// manager.
+/// A segment of a journal: its number from 1, the rows that it begins with, and its changes, oldest first, in the
+/// journal's own chunks, so that closing a segment copies nothing. Contracts see the history, which a manager produced.
 #[derive(Drop)]
 pub struct Segment {
     number: u64,
@@ -39,7 +38,7 @@ use crate::replay::Replay;
 use crate::rows::Rows;
 use std::alloc::AllocError;
 
-/// Entries in order. `Err`: memory was refused.
+/// Applies entries in order. Returns an error if an allocation fails.
 fn enter_all(replay: &mut Replay, entries: &[Entry]) -> Result<(), AllocError>
     ensures { OnOk result ((places number : ℕ) (o : Opening) (before rest : List Entry)
         → IsLawful places (segment number o (before ++ (entries.now ++ rest)))
@@ -52,7 +51,7 @@ fn enter_all(replay: &mut Replay, entries: &[Entry]) -> Result<(), AllocError>
     Ok(())
 }
 
-/// The entries of chunks in order. `Err`: memory was refused.
+/// Applies the entries of chunks in order. Returns an error if an allocation fails.
 fn enter_chunks(replay: &mut Replay, chunks: &[Chunk]) -> Result<(), AllocError>
     ensures { OnOk result ((places number : ℕ) (o : Opening) (rest : List Entry)
         → IsLawful places (segment number o (joined chunks.now ++ rest))
@@ -65,7 +64,7 @@ fn enter_chunks(replay: &mut Replay, chunks: &[Chunk]) -> Result<(), AllocError>
     Ok(())
 }
 
-/// How many entries lie in chunks.
+/// Counts the entries in chunks.
 fn count_chunks(chunks: &[Chunk]) -> u64
     requires { length (joined chunks.now) < 2 ^ 64 }
     ensures { result ≡ length (joined chunks.now) }
@@ -78,7 +77,7 @@ fn count_chunks(chunks: &[Chunk]) -> u64
 }
 
 impl Segment {
-    /// A segment that came about.
+    /// Makes a segment of a lawful history.
     pub fn new(number: u64, opening: Rows, full: Vec<Chunk>, last: Vec<Entry>) -> Segment
         requires { ComesAbout (segment number opening (joined full.items ++ last.items)) }
         ensures { result ≡ segment number opening (joined full.items ++ last.items) }
@@ -91,39 +90,39 @@ impl Segment {
         }
     }
 
-    /// Its number, from 1.
+    /// Returns its number, from 1.
     pub fn number(&self) -> u64
         ensures { result ≡ self.now.number }
     {
         self.number
     }
 
-    /// The rows that it begins with.
+    /// Returns the rows that it begins with.
     pub fn opening(&self) -> &Rows
         ensures { result.now ≡ self.now.opening }
     {
         &self.opening
     }
 
-    /// Its changes, the oldest first: those in full chunks, and those behind them.
+    /// Returns its changes, oldest first: those in full chunks, and those after them.
     pub fn entries(&self) -> (&[Chunk], &[Entry])
         ensures { self.now.entries ≡ reverse (joined result.0.now ++ result.1.now) }
     {
         (self.full.as_slice(), self.last.as_slice())
     }
 
-    /// The length of the whole history at its end, in changes. It takes no memory.
+    /// Returns the length of the whole history at its end, in changes. Allocates nothing.
     pub fn length(&self) -> u64
         ensures { result ≡ length_of self.now }
     {
         self.opening.length() + count_chunks(&self.full) + self.last.len() as u64
     }
 
-    /// The rows after its last change: its own, gone on from by each change.
+    /// Computes the rows after its last change, by applying each change to its opening.
     ///
     /// # Errors
     ///
-    /// An error where memory was refused.
+    /// An error if an allocation fails.
     pub fn replay(&self) -> Result<Rows, AllocError>
         ensures { IfOk result (λ r. r ≡ rows_of self.now) }
     {

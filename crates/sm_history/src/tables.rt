@@ -23,7 +23,7 @@ use sm_kinds::{Identity, Name, Node};
 use sm_policy::Prepared;
 use std::alloc::{AllocError, Global};
 
-/// What effects left.
+/// The tables that effects leave.
 #[derive(Drop)]
 pub struct Tables {
     pub alloc: Global,
@@ -42,7 +42,7 @@ fn is_same(watch: &Watch, client: u32, name: &[u8], object: u32) -> bool
     client == watch.client && name == watch.name.bytes() && object == watch.object
 }
 
-/// Every watch of a name that a client's object has ends.
+/// Removes every watch of a name by a client's object.
 fn end_watches(watches: &mut Vec<Watch>, client: u32, name: &[u8], object: u32)
     ensures { watches.new.items
         ≡ filter (λ w. not (same_watch (make_watch client name.now object) w)) watches.old.items }
@@ -50,7 +50,7 @@ fn end_watches(watches: &mut Vec<Watch>, client: u32, name: &[u8], object: u32)
     watches.retain(|w| !is_same(w, client, name, object));
 }
 
-/// A client's watches end.
+/// Removes a client's watches.
 fn forget_watches(watches: &mut Vec<Watch>, client: u32)
     ensures { watches.new.items ≡ filter (λ w. not (client == w.client)) watches.old.items }
 {
@@ -58,7 +58,7 @@ fn forget_watches(watches: &mut Vec<Watch>, client: u32)
 }
 
 impl Tables {
-    /// The manager opens under an identity and a policy.
+    /// Opens the manager under an identity and a policy.
     pub(crate) fn open(&mut self, who: Identity, policy: Prepared)
         ensures { (d : Effects) → TracksTables d self.old → version_at d < GREATEST
             → TracksTables (Sets policy ∷ Opens who ∷ d) self.new }
@@ -67,7 +67,7 @@ impl Tables {
         self.set(policy);
     }
 
-    /// A policy comes into force.
+    /// Puts a policy into force.
     pub(crate) fn set(&mut self, policy: Prepared)
         ensures { (d : Effects) → TracksTables d self.old → version_at d < GREATEST
             → TracksTables (Sets policy ∷ d) self.new }
@@ -76,7 +76,7 @@ impl Tables {
         self.version = self.version.saturating_add(1);
     }
 
-    /// A client connects. `Err`: memory was refused.
+    /// Connects a client. Returns an error if an allocation fails.
     pub(crate) fn connect(&mut self, client: u32, who: Identity) -> Result<(), AllocError>
         ensures { OnOk result ((d : Effects) → Sound d → TracksTables d self.old
             → MayFollow d (Connects client who) → TracksTables (Connects client who ∷ d) self.new) }
@@ -87,7 +87,7 @@ impl Tables {
         Ok(())
     }
 
-    /// A client ends.
+    /// Removes a client.
     pub(crate) fn die(&mut self, client: u32)
         ensures { (d : Effects) → Sound d → TracksTables d self.old
             → MayFollow d (Dies client) → TracksTables (Dies client ∷ d) self.new }
@@ -97,7 +97,7 @@ impl Tables {
         forget_watches(&mut self.watches, client);
     }
 
-    /// A service stands under a name. `Err`: memory was refused.
+    /// Sets the service of a name. Returns an error if an allocation fails.
     pub(crate) fn add(&mut self, name: Name, service: Service) -> Result<(), AllocError>
         ensures { OnOk result ((d : Effects) → TracksTables d self.old
             → MayFollow d (Adds name service) → TracksTables (Adds name service ∷ d) self.new) }
@@ -106,14 +106,14 @@ impl Tables {
         Ok(())
     }
 
-    /// The service under a name goes.
+    /// Removes the service of a name.
     pub(crate) fn remove(&mut self, name: &[u8])
         ensures { (d : Effects) → TracksTables d self.old → TracksTables (Removes name.now ∷ d) self.new }
     {
         remove_name(&mut self.names, name);
     }
 
-    /// One more grant of an object to a client, under a number. `Err`: memory was refused.
+    /// Grants an object to a client once more, under a number. Returns an error if an allocation fails.
     pub(crate) fn give(&mut self, client: u32, node: Node, number: u32) -> Result<(), AllocError>
         ensures { OnOk result ((d : Effects) → Sound d → TracksTables d self.old
             → MayGive d client node number → TracksTables (Gives client node number ∷ d) self.new) }
@@ -122,7 +122,7 @@ impl Tables {
         Ok(())
     }
 
-    /// One grant of what a client holds under a number is given back. `Err`: memory was refused.
+    /// Releases one grant of what a client holds under a number. Returns an error if an allocation fails.
     pub(crate) fn release(&mut self, client: u32, number: u32) -> Result<(), AllocError>
         ensures { OnOk result ((d : Effects) (n : Node) → Sound d → TracksTables d self.old
             → node_at d client number ≡ Some n → MayFollow d (Releases client n)
@@ -132,7 +132,7 @@ impl Tables {
         Ok(())
     }
 
-    /// A client watches a name. `Err`: memory was refused.
+    /// Adds a watch. Returns an error if an allocation fails.
     pub(crate) fn watch(&mut self, watch: Watch) -> Result<(), AllocError>
         ensures { OnOk result ((d : Effects) → TracksTables d self.old
             → is_live d watch.client ≡ true → TracksTables (Watches watch ∷ d) self.new) }
@@ -141,7 +141,7 @@ impl Tables {
         Ok(())
     }
 
-    /// Every watch of a name that a client's object has ends.
+    /// Removes every watch of a name by a client's object.
     pub(crate) fn unwatch(&mut self, client: u32, name: &[u8], object: u32)
         ensures { (d : Effects) → TracksTables d self.old
             → TracksTables (Unwatches (make_watch client name.now object) ∷ d) self.new }
@@ -149,7 +149,7 @@ impl Tables {
         end_watches(&mut self.watches, client, name, object);
     }
 
-    /// One more delivery waits for a client. `Err`: memory was refused.
+    /// Appends a delivery to a client's inbox. Returns an error if an allocation fails.
     pub(crate) fn deliver(&mut self, client: u32, delivery: BoxedDelivery) -> Result<(), AllocError>
         ensures { OnOk result ((d : Effects) → Sound d → TracksTables d self.old
             → is_live d client ≡ true → TracksTables (Delivers client delivery ∷ d) self.new) }
@@ -158,7 +158,7 @@ impl Tables {
         Ok(())
     }
 
-    /// The delivery that has waited longest for a client goes.
+    /// Removes the oldest delivery from a client's inbox.
     pub(crate) fn take(&mut self, client: u32)
         ensures { (d : Effects) → TracksTables d self.old → is_live d client ≡ true
             → TracksTables (Takes client ∷ d) self.new }

@@ -1,4 +1,4 @@
-//! What the actor of an event is told of its reply.
+//! The visible part of a reply.
 
 ghost use Rattle.std.specs.Prelude.{◌≡◌};
 ghost use Rattle.sm_history.specs.Told.{is_hidden, is_hidden_refusal, is_hidden_denial};
@@ -8,8 +8,8 @@ use crate::refusal::Refusal;
 use crate::reply::Reply;
 use sm_kinds::{Class, Perms};
 
-/// Whether a Get is told, in place of this reply, that nothing was found: it was denied by `find`, or by the clause on
-/// isolated processes (`ServiceManager.cpp`, `tryGetService`). Any other event is told each reply as it is.
+/// Returns whether a Get is answered that nothing was found in place of this reply: `find` was denied, or the clause on
+/// isolated processes failed (`ServiceManager.cpp`, `tryGetService`). Replies to other events are never hidden.
 pub fn is_hidden(reply: &Reply) -> bool
     ensures { result ≡ is_hidden reply.now }
 {

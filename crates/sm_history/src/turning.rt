@@ -1,4 +1,4 @@
-//! How many changes each actor made, while a replay goes on.
+//! Counts of each actor's changes during a replay.
 
 ghost use Rattle.std.specs.Prelude.{◌≡◌, ◌∷◌, ◌++◌, [], ℕ, ◌||◌, false, OnOk, IfOk, map, if◌then◌else◌};
 ghost use Rattle.std.specs.List.{list_any};
@@ -16,7 +16,7 @@ use sm_kinds::{AdminId, ClientId};
 use std::alloc::{AllocError, Global};
 use std::collections::HashMap;
 
-/// How many changes each actor made, with the administrators in the order of their first.
+/// The number of changes of each actor, and the administrators in the order of their first change.
 #[derive(Drop)]
 pub struct Turning {
     pub alloc: Global,
@@ -26,7 +26,7 @@ pub struct Turning {
     pub order: Vec<u32>,
 }
 
-/// The number of the client that an actor is, or 0.
+/// Returns the client number of an actor, or 0 if it isn't a client.
 pub fn number_of(by: By) -> u32
     ensures { result ≡ client_of by }
 {
@@ -38,7 +38,7 @@ pub fn number_of(by: By) -> u32
 }
 
 impl Turning {
-    /// No changes.
+    /// Returns counts without changes.
     pub fn none(alloc: Global) -> Turning
         ensures made { (by : By) → made result by ≡ 0 }
         ensures order { result.order.items ≡ [] }
@@ -53,7 +53,7 @@ impl Turning {
         }
     }
 
-    /// How many changes an actor made.
+    /// Returns the number of changes of an actor.
     fn of(&self, by: By) -> u64
         ensures { result ≡ made self.now by }
     {
@@ -64,7 +64,7 @@ impl Turning {
         }
     }
 
-    /// Whether an actor that is an administrator has made a change.
+    /// Returns whether an administrator has made a change. True of any other actor.
     fn has(&self, by: By) -> bool
         ensures { result ≡ has_made self.now by }
     {
@@ -75,7 +75,7 @@ impl Turning {
         }
     }
 
-    /// An actor made so many changes. `Err`: memory was refused.
+    /// Sets the number of changes of an actor. Returns an error if an allocation fails.
     fn set(&mut self, by: By, turns: u64) -> Result<(), AllocError>
         ensures made { OnOk result ((b : By) → made self.new b ≡ (if is_same by b then turns else made self.old b)) }
         ensures known { OnOk result ((a : ℕ) → is_known self.new a ≡ (is_same by (admin a) || is_known self.old a)) }
@@ -95,7 +95,7 @@ impl Turning {
         Ok(())
     }
 
-    /// An administrator that had made no change comes last. `Err`: memory was refused.
+    /// Appends an administrator that had made no change. Returns an error if an allocation fails.
     fn note(&mut self, by: By, known: bool) -> Result<(), AllocError>
         ensures made { (b : By) → made self.new b ≡ made self.old b }
         ensures known { (a : ℕ) → is_known self.new a ≡ is_known self.old a }
@@ -110,7 +110,7 @@ impl Turning {
         Ok(())
     }
 
-    /// One change more of an actor. `Err`: memory was refused.
+    /// Counts one more change of an actor. Returns an error if an allocation fails.
     pub fn count(&mut self, by: By) -> Result<(), AllocError>
         ensures made { OnOk result ((b : By) → made self.new b ≡ more_by (is_same by b) (made self.old b)) }
         ensures known { OnOk result ((a : ℕ) → is_known self.new a ≡ (is_same by (admin a) || is_known self.old a)) }
@@ -123,7 +123,7 @@ impl Turning {
         Ok(())
     }
 
-    /// The rows of all that may still make a change. `Err`: memory was refused.
+    /// Returns the rows of all actors that may still make a change. Returns an error if an allocation fails.
     pub fn rows(&self, live: &[ClientRow]) -> Result<Vec<TurnRow>, AllocError>
         ensures { IfOk result (λ v. v.items ≡ turn_rows self.now live.now) }
     {
@@ -163,7 +163,7 @@ impl Turning {
         Ok(())
     }
 
-    /// The counts of rows, from the last to the first. `Err`: memory was refused.
+    /// Sets the counts from rows, from the last to the first. Returns an error if an allocation fails.
     fn set_all(&mut self, rows: &[TurnRow]) -> Result<(), AllocError>
         ensures made { OnOk result (((b : By) → made self.old b ≡ 0)
             → (b : By) → made self.new b ≡ turns_in rows.now b) }
@@ -179,7 +179,7 @@ impl Turning {
         Ok(())
     }
 
-    /// The administrators of rows, in their order. `Err`: memory was refused.
+    /// Appends the administrators of rows, in their order. Returns an error if an allocation fails.
     fn note_all(&mut self, rows: &[TurnRow]) -> Result<(), AllocError>
         ensures made { (b : By) → made self.new b ≡ made self.old b }
         ensures known { (a : ℕ) → is_known self.new a ≡ is_known self.old a }
@@ -191,7 +191,7 @@ impl Turning {
         Ok(())
     }
 
-    /// The counts that rows begin with. `Err`: memory was refused.
+    /// Makes the counts that rows begin with. Returns an error if an allocation fails.
     pub fn start(alloc: Global, rows: &[TurnRow]) -> Result<Turning, AllocError>
         ensures { IfOk result (λ t. CountsTurns (turns_in rows.now) (admins_in rows.now) t) }
     {

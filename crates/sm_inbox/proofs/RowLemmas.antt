@@ -1,4 +1,4 @@
--- The rows of clients: where one stands, and what a change of one leaves.
+-- The rows of clients: the index of a row, and the rows after a change of one.
 use Rattle.std.proofs.Common.{◌≡◌, ℕ, zero, suc, ◌+◌, ◌-◌, ◌<◌, ◌≤◌, Bool, true, false, ◌==◌, List, [], ◌∷◌, ◌++◌}
 use Rattle.std.proofs.Common.{refl, ap, sym, ◌∙◌, subst, length, get_or, set, drop, cond, Option, Some, None}
 use Rattle.std.proofs.Common.{if◌then◌else◌, arith, length-append, length-drop}

@@ -6,26 +6,26 @@ use Rattle.sm_history.specs.declared.delivery.Delivery.{Delivery}
 use Rattle.sm_history.specs.declared.limits.TheConstants.{MOST_DELIVERIES}
 use Rattle.sm_inbox.specs.declared.inbox.Inbox.{Inbox}
 
--- The first row of a client.
+-- This is the first row of a client.
 abbrev pub row_of : List Inbox → ℕ → Option Inbox
 row_of rows c = find (λ r. r.client == c) rows
 
--- What waits in an inbox, the oldest first; nothing where there is none.
+-- These are the deliveries of an inbox, oldest first; there are none without an inbox.
 abbrev pub waiting_in : Option Inbox → List Delivery
 waiting_in None = []
 waiting_in (Some r) = r.waiting.items
 
--- How many more deliveries an inbox takes; none where there is none.
+-- An inbox has room for this many more deliveries; without an inbox, for none.
 abbrev pub room_in : Option Inbox → ℕ
 room_in None = 0
 room_in (Some r) = MOST_DELIVERIES - length r.waiting.items
 
--- Only the row of one client changed.
+-- Only the row of client c changed, to o.
 pub record IsChanged (rows rows' : List Inbox) (c : ℕ) (o : Option Inbox) : Type 0 where
   pub own : row_of rows' c ≡ o
   pub other : (k : ℕ) → (c == k) ≡ false → row_of rows' k ≡ row_of rows k
 
--- The row of a client stands at a place: what is there is its row, and what is written there becomes it.
+-- The row of client c has index i, so writing there changes only that client's row.
 pub record IsPlace (rows : List Inbox) (c i : ℕ) : Type 0 where
   pub inside : i < length rows
   pub here : (r : Inbox) → row_of rows c ≡ Some (slice_index_or rows i r)

@@ -1,4 +1,4 @@
--- When the inboxes of a table are what waits for the clients.
+-- What a table of inboxes says of effects.
 use Rattle.std.specs.Prelude.{ℕ, ◌≡◌, Bool, List, is_some}
 use Rattle.sm_history.specs.declared.delivery.Delivery.{Delivery}
 use Rattle.sm_history.specs.Effects.{Effects}
@@ -12,18 +12,19 @@ use Rattle.sm_inbox.specs.Rows.{row_of, waiting_in, room_in}
 abbrev pub is_open : Inboxes → ℕ → Bool
 is_open t c = is_some (row_of t.rows.items c)
 
--- What waits for a client, the oldest first.
+-- These are a client's deliveries, oldest first.
 abbrev pub waiting_of : Inboxes → ℕ → List Delivery
 waiting_of t c = waiting_in (row_of t.rows.items c)
 
--- How many more deliveries to a client the table takes, with no more memory: none where it has no inbox for it.
+-- The table takes this many more deliveries to a client without an allocation; none if the client has no inbox.
 abbrev pub room_of : Inboxes → ℕ → ℕ
 room_of t c = room_in (row_of t.rows.items c)
 
--- The rows are what waits for the clients, and no more was taken than delivered.
+-- The rows have the deliveries of the clients, and no more was taken than delivered.
 pub record TracksRows (d : Effects) (rows : List Inbox) : Type 0 where
   pub taken : IsTakenFrom d
   pub queues : (c : ℕ) → waiting_in (row_of rows c) ≡ inbox_at d c
 
+-- The table has the deliveries of the clients.
 abbrev pub TracksInboxes : Effects → Inboxes → Type 0
 TracksInboxes d t = TracksRows d t.rows.items

@@ -7,7 +7,7 @@ ghost use Rattle.sm_history.specs.declared.limits.TheConstants.{MOST_DELIVERIES}
 use sm_history::BoxedDelivery;
 use std::collections::VecDeque;
 
-/// What waits for a client, the oldest first.
+/// A client's deliveries, oldest first.
 #[derive(Drop)]
 pub struct Inbox {
     pub client: u32,

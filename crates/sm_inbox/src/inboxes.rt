@@ -14,14 +14,14 @@ use sm_history::{BoxedDelivery, MOST_DELIVERIES};
 use std::alloc::{AllocError, Global};
 use std::collections::VecDeque;
 
-/// What waits for each live client: a row a client, searched in order, since there are at most 64.
+/// The inboxes of live clients: one row for each, searched in order, since there are at most 64.
 #[derive(Drop)]
 pub struct Inboxes {
     alloc: Global,
     rows: Vec<Inbox>,
 }
 
-/// A copy of some deliveries, each of which gets one more owner. `Err`: memory was refused.
+/// Copies deliveries, which are shared. Returns an error if an allocation fails.
 fn copies_of(
     alloc: Global,
     waiting: &VecDeque<BoxedDelivery>,
@@ -36,7 +36,7 @@ fn copies_of(
 }
 
 impl Inboxes {
-    /// No inboxes.
+    /// Makes a table without inboxes.
     pub fn new(alloc: Global) -> Inboxes
         ensures tracks { TracksInboxes [] result }
         ensures none { (c : ℕ) → is_open result c ≡ false }
@@ -47,11 +47,11 @@ impl Inboxes {
         }
     }
 
-    /// Makes a client's inbox, with memory for 256 deliveries, unless it has one.
+    /// Makes a client's inbox, with room for 256 deliveries, unless it has one.
     ///
     /// # Errors
     ///
-    /// An error where memory was refused; the client has no inbox then.
+    /// An error if an allocation fails; the client then has no inbox.
     pub fn reserve(&mut self, client: u32) -> Result<(), AllocError>
         ensures tracks { (d : Effects) → TracksInboxes d self.old → TracksInboxes d self.new }
         ensures open { is_open self.old client ≡ true → IsOk result }
@@ -71,11 +71,11 @@ impl Inboxes {
         Ok(())
     }
 
-    /// What waits for a client, the oldest first.
+    /// Returns a client's deliveries, oldest first.
     ///
     /// # Errors
     ///
-    /// An error where memory was refused.
+    /// An error if an allocation fails.
     pub fn listed(&self, alloc: Global, client: u32) -> Result<Vec<BoxedDelivery>, AllocError>
         ensures { IfOk result (λ v. (d : Effects) → TracksInboxes d self.now → v.items ≡ inbox_at d client) }
     {
@@ -85,7 +85,7 @@ impl Inboxes {
         }
     }
 
-    /// How many deliveries wait for a client.
+    /// Returns the number of a client's deliveries.
     fn waiting(&self, client: u32) -> usize
         ensures { result ≡ length (waiting_of self.now client) }
     {
@@ -95,14 +95,14 @@ impl Inboxes {
         }
     }
 
-    /// Whether a client's inbox has place for one more delivery.
+    /// Returns whether a client's inbox has room for one more delivery.
     pub fn has_room(&self, client: u32) -> bool
         ensures { (d : Effects) → TracksInboxes d self.now → result ≡ has_inbox_room d client }
     {
         self.waiting(client) < MOST_DELIVERIES
     }
 
-    /// For how many more deliveries a client's inbox has place.
+    /// Returns the number of deliveries for which a client's inbox still has room.
     pub fn free(&self, client: u32) -> usize
         ensures free { (d : Effects) → TracksInboxes d self.now
             → result ≡ MOST_DELIVERIES - length (inbox_at d client) }
@@ -111,7 +111,7 @@ impl Inboxes {
         MOST_DELIVERIES.saturating_sub(self.waiting(client))
     }
 
-    /// Whether one more delivery to a client may be put: it has an inbox, and that has place.
+    /// Returns whether a delivery may be put into a client's inbox: the client has one, and it has room.
     pub fn can_put(&self, client: u32) -> bool
         ensures { IsTrue result ↔ (0 < room_of self.now client) }
     {
@@ -121,7 +121,7 @@ impl Inboxes {
         }
     }
 
-    /// One more delivery to a client, the last of those that wait. It takes no memory.
+    /// Appends a delivery to a client's inbox. Allocates nothing.
     pub fn put(&mut self, client: u32, delivery: BoxedDelivery)
         requires { 0 < room_of self.old client }
         ensures tracks { (d : Effects) → TracksInboxes d self.old → is_live d client ≡ true
@@ -137,7 +137,7 @@ impl Inboxes {
         row.waiting.push_back_reserved(delivery);
     }
 
-    /// The delivery that has waited longest for a client.
+    /// Returns a client's oldest delivery.
     pub fn first(&self, client: u32) -> Option<&BoxedDelivery>
         ensures { (d : Effects) → TracksInboxes d self.now → MatchOption result (inbox_at d client ≡ [])
             (λ x. inbox_at d client ≡ x.now ∷ drop 1 (inbox_at d client)) }
@@ -146,7 +146,7 @@ impl Inboxes {
         self.rows[i].waiting.front()
     }
 
-    /// Takes the delivery that has waited longest for a client.
+    /// Takes a client's oldest delivery.
     pub fn take(&mut self, client: u32) -> Option<BoxedDelivery>
         ensures taken { (d : Effects) → TracksInboxes d self.old → MatchOption result
             ((inbox_at d client ≡ []) × TracksInboxes d self.new)
@@ -159,7 +159,7 @@ impl Inboxes {
         row.waiting.pop_front()
     }
 
-    /// A client's inbox goes, with what waits in it.
+    /// Removes a client's inbox with its deliveries.
     pub fn forget(&mut self, client: u32)
         ensures tracks { (d : Effects) → TracksInboxes d self.old → TracksInboxes (Dies client ∷ d) self.new }
         ensures still { (k : ℕ) → (client == k) ≡ false → is_open self.new k ≡ is_open self.old k }

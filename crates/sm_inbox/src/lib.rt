@@ -1,6 +1,6 @@
-//! Inboxes: what waits for each live client.
+//! The inboxes of live clients.
 //!
-//! A table of inboxes is what the effects of a history say of deliveries and takings.
+//! A table of inboxes has what the effects of a history say of deliveries and takes.
 #![tactic(auto)]
 
 mod inbox;

@@ -1,4 +1,4 @@
-//! Where the inbox of a client stands.
+//! The index of a client's inbox.
 
 ghost use Rattle.std.specs.Prelude.{◌≡◌, ◌==◌, MatchOption, None, position};
 ghost use Rattle.sm_inbox.specs.Rows.{row_of, IsPlace};
@@ -11,7 +11,7 @@ fn first_of(rows: &[Inbox], client: u32) -> Option<usize>
     rows.iter().position(|row| row.client == client)
 }
 
-/// The place of a client's inbox.
+/// Returns the index of a client's inbox.
 pub fn place_of(rows: &[Inbox], client: u32) -> Option<usize>
     ensures { MatchOption result (row_of rows.now client ≡ None) (IsPlace rows.now client) }
 {

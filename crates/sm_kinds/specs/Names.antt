@@ -5,14 +5,14 @@ use Rattle.std.specs.Str.{bytes_eq}
 use Rattle.std.specs.Char.{is_ascii_alphanumeric}
 use Rattle.sm_kinds.specs.declared.limits.TheConstants.{MOST_NAME_BYTES}
 
--- Whether the name is among these.
+-- A name is in a list.
 abbrev pub contains : List (List ℕ) → List ℕ → Bool
 contains names name = list_any (λ n. bytes_eq n name) names
 
--- An ASCII letter or digit, `_`, `-`, `.` or `/`.
+-- A byte is an ASCII letter or digit, `_`, `-`, `.` or `/`.
 abbrev pub is_name_byte : ℕ → Bool
 is_name_byte b = (((is_ascii_alphanumeric b || b == 95) || b == 45) || b == 46) || b == 47
 
--- At least one byte and at most the limit, each of those.
+-- A valid name has at least one byte, at most the limit, and only such bytes.
 abbrev pub is_valid_name : List ℕ → Bool
 is_valid_name name = nat_le 1 (length name) && nat_le (length name) MOST_NAME_BYTES && list_all is_name_byte name

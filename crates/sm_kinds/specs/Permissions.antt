@@ -5,22 +5,23 @@ use Rattle.sm_kinds.specs.declared.class.Class.{Class}
 use Rattle.sm_kinds.specs.declared.class.Class.TheVariants.{ServiceManager, Binder}
 use Rattle.sm_kinds.specs.declared.perms.Perms.{Perms}
 
+-- This is the word of a class.
 abbrev pub class_word : Class → List ℕ
 class_word ServiceManager = codes "service_manager"
 class_word Binder = codes "binder"
 
--- The class of a word.
+-- This is the class of a word.
 abbrev pub class_read : List ℕ → Option Class
 class_read word =
     if bytes_eq word (codes "service_manager") then Some ServiceManager
     else if bytes_eq word (codes "binder") then Some Binder
     else None
 
--- The permissions, by their bits.
+-- This is the permission with these bits.
 abbrev pub bit : ℕ → Perms
 bit b = record { 0 = b }
 
--- The permission of a class that a word names.
+-- This is the permission of a class that a word names.
 abbrev pub perm_read : Class → List ℕ → Option Perms
 perm_read ServiceManager word =
     if bytes_eq word (codes "add") then Some (bit 1)
@@ -34,16 +35,17 @@ perm_read Binder word =
     else if bytes_eq word (codes "transfer") then Some (bit 64)
     else None
 
--- The word is one of the class's permissions.
+-- A word is one of the class's permissions.
 abbrev pub is_permission : Class → List ℕ → Bool
 is_permission class word = is_some (perm_read class word)
 
--- The word of a single permission of `service_manager`, of `binder`.
+-- This is the word of a single permission of `service_manager`.
 abbrev pub service_manager_word : ℕ → Option (List ℕ)
 service_manager_word b =
     if b == 1 then Some (codes "add")
     else if b == 2 then Some (codes "find") else if b == 4 then Some (codes "list") else None
 
+-- This is the word of a single permission of `binder`.
 abbrev pub binder_word : ℕ → Option (List ℕ)
 binder_word b =
     if b == 8 then Some (codes "impersonate")
@@ -52,12 +54,12 @@ binder_word b =
     else if b == 64 then Some (codes "transfer")
     else None
 
--- The word of a single permission of the class; none for a set, or for a permission of the other class.
+-- This is the word of a single permission of the class. A set, or a permission of the other class, has none.
 abbrev pub perm_of : Class → Perms → Option (List ℕ)
 perm_of ServiceManager p = service_manager_word p.0
 perm_of Binder p = binder_word p.0
 
--- The word of a single permission of either class.
+-- This is the word of a single permission of either class.
 abbrev pub perm_word : Perms → Option (List ℕ)
 perm_word p =
     if p.0 == 1 then Some (codes "add")

@@ -1,4 +1,4 @@
-//! The object classes of SELinux that are decided here.
+//! The object classes of SELinux that svcmgr checks.
 
 ghost use Rattle.std.specs.Prelude.{◌≡◌};
 
@@ -14,7 +14,7 @@ pub enum Class {
 impl Class {
     ghost use Rattle.sm_kinds.specs.Permissions.{class_word, class_read};
 
-    /// The class that the word names, if it is one of the two.
+    /// Returns the class that a word names, if it is one of the two.
     pub fn read(word: &[u8]) -> Option<Class>
         ensures { result ≡ class_read word.now }
     {
@@ -27,7 +27,7 @@ impl Class {
         }
     }
 
-    /// The class's word in a policy text.
+    /// Returns the class's word in a policy source.
     pub fn word(self) -> &'static [u8]
         ensures { result.now ≡ class_word self }
     {

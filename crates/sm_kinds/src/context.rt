@@ -17,10 +17,10 @@ pub struct Context {
     kind: Bytes,
 }
 
-/// Why a text is no context.
+/// Why bytes are no context.
 #[derive(Clone, Copy, Debug, PartialEq, Eq, Error)]
 pub enum ContextError {
-    /// The text isn't `user:role:type` or `user:role:type:range`.
+    /// They aren't `user:role:type` or `user:role:type:range`.
     #[error("not a context")]
     BadContext,
     #[error("out of memory")]
@@ -38,7 +38,7 @@ impl Model for Context {
     ghost invariant = { λ n. n.kind ≡ type_of n.text };
 }
 
-// By hand: where one is let go, a caller's proof has one step, and not those of its parts.
+// Drop: see docs/PROOFS.md.
 impl Drop for Context {
     fn drop(self) {
         let Context { text: _, kind: _ } = self;
@@ -48,7 +48,7 @@ impl Drop for Context {
 impl Clone for Context {
     ghost is_clone = { λ n copy. copy ≡ n };
 
-    /// One more owner of the same text.
+    /// Returns another reference to the same text.
     fn clone(&self) -> Result<Context, AllocError> {
         let text = self.text.clone()?;
         let kind = self.kind.clone()?;
@@ -59,7 +59,7 @@ impl Clone for Context {
 impl Context {
     ghost use Rattle.sm_kinds.specs.declared.context.ContextError.TheVariants.{BadContext};
 
-    /// The context of this text.
+    /// Reads a context.
     pub fn read(alloc: Global, text: &[u8]) -> Result<Context, ContextError>
         ensures value { IfOk result (λ c. c ≡ text.now) }
         ensures good { OnOk result (spec.is_context text.now ≡ true) }
@@ -75,14 +75,14 @@ impl Context {
         }
     }
 
-    /// The type: the part behind the second colon, up to the third one or the end.
+    /// Returns the type: the part after the second colon, up to the third one or the end.
     pub fn type_name(&self) -> &[u8]
         ensures { result.now ≡ spec.type_of self.now }
     {
         self.kind.as_slice()
     }
 
-    /// The whole context.
+    /// Returns the whole context.
     pub fn text(&self) -> &[u8]
         ensures { result.now ≡ self.now }
     {
@@ -104,7 +104,7 @@ fn is_graphic(b: u8) -> bool
     b'!' <= b && b <= b'~'
 }
 
-/// Whether each byte is a graphic character of ASCII, 0x21 to 0x7E.
+/// Returns whether each byte is a graphic character of ASCII, 0x21 to 0x7E.
 pub fn all_graphic(bytes: &[u8]) -> bool
     ensures { result ≡ list_all spec.is_graphic bytes.now }
 {
@@ -118,7 +118,7 @@ fn part_len(bytes: &[u8]) -> usize
     bytes.iter().take_while(|b| **b != b':').count()
 }
 
-/// The bytes behind the first ones.
+/// Returns the bytes after the first `count` ones.
 fn behind(bytes: &[u8], count: usize) -> &[u8]
     requires { count ≤ length bytes.now }
     ensures { result.now ≡ drop count bytes.now }
@@ -126,7 +126,7 @@ fn behind(bytes: &[u8], count: usize) -> &[u8]
     &bytes[count..]
 }
 
-/// What stands behind a part and its colon, or nothing.
+/// Returns what follows the first part and its colon, or nothing if there is no colon.
 fn behind_part(bytes: &[u8]) -> &[u8]
     ensures { result.now ≡ spec.behind_part bytes.now }
 {
@@ -137,7 +137,7 @@ fn behind_part(bytes: &[u8]) -> &[u8]
     behind(bytes, len + 1)
 }
 
-/// The third part.
+/// Returns the third part.
 fn type_part(text: &[u8]) -> &[u8]
     ensures { result.now ≡ spec.type_of text.now }
 {
@@ -146,7 +146,7 @@ fn type_part(text: &[u8]) -> &[u8]
     kind
 }
 
-/// What stands behind a part that isn't empty and its colon.
+/// Returns what follows a nonempty part and its colon.
 fn after_part(bytes: &[u8]) -> Option<&[u8]>
     ensures { spec.SeenAs result (spec.after_part bytes.now) }
 {
@@ -158,7 +158,7 @@ fn after_part(bytes: &[u8]) -> Option<&[u8]>
     }
 }
 
-/// A type, and a range if there is one.
+/// Returns whether the bytes are a type, with or without a range.
 fn is_type_and_range(bytes: &[u8]) -> bool
     ensures { result ≡ spec.is_type_and_range bytes.now }
 {
@@ -166,9 +166,9 @@ fn is_type_and_range(bytes: &[u8]) -> bool
     len != 0 && len + 1 != bytes.len()
 }
 
-/// Whether the text is a context: `user:role:type` or `user:role:type:range`. The first three parts are
-/// bytes from 0x21 to 0x7E other than `:`, at least one; the range is at least one byte from 0x21 to
-/// 0x7E, and may hold `:`.
+/// Returns whether the text is a context: `user:role:type` or `user:role:type:range`. The first three parts are bytes
+/// from 0x21 to 0x7E other than `:`, at least one; the range is at least one byte from 0x21 to 0x7E, and may contain
+/// `:`.
 #[tactic(auto, unfolding(crate::specs::Contexts::is_context))]
 pub fn is_context(text: &[u8]) -> bool
     ensures { result ≡ spec.is_context text.now }

@@ -1,11 +1,11 @@
-//! Who a process is.
+//! Identities of processes.
 
 ghost use Rattle.std.specs.Prelude.{◌≡◌};
 
 use crate::context::Context;
 use std::alloc::AllocError;
 
-/// Who a process is: its process number, its user number and its security context, as the kernel tells them.
+/// The identity of a process: its process number, its user number and its security context, as the kernel reports them.
 #[derive(Debug)]
 pub struct Identity {
     pub pid: u32,
@@ -13,7 +13,7 @@ pub struct Identity {
     pub context: Context,
 }
 
-// By hand: where one is let go, a caller's proof has one step, and not those of its parts.
+// Drop: see docs/PROOFS.md.
 impl Drop for Identity {
     fn drop(self) {
         let Identity {

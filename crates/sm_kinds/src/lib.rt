@@ -1,4 +1,4 @@
-//! The numbers, names, contexts, classes and permissions that every part of svcmgr speaks of.
+//! The numbers, names, contexts, classes and permissions that all parts of svcmgr use.
 //!
 //! Types here are plain values: nothing in this crate decides anything about access.
 #![tactic(auto)]

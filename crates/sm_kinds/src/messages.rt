@@ -1,4 +1,4 @@
-//! What messages have in common: decimal numbers, names, and the words of an access.
+//! Parts of messages: decimal numbers, names, and the words of an access.
 
 ghost use Rattle.std.specs.Prelude.{◌≡◌, ◌++◌, OnOk, codes};
 ghost use Rattle.sm_kinds.specs.Messages.{access_words, name_text, numbered};
@@ -9,7 +9,7 @@ use crate::perms::Perms;
 use itoa::Buffer;
 use std::alloc::{AllocError, Global};
 
-/// Adds some words and a number in decimal digits. `Err`: memory was refused, and a part may have been added.
+/// Appends some words and a number in decimal digits. On error a part may have been appended.
 pub fn push_numbered(text: &mut Vec<u8>, words: &[u8], n: u64) -> Result<(), AllocError>
     ensures { OnOk result (text.new.items ≡ text.old.items ++ numbered words.now n) }
 {
@@ -18,9 +18,9 @@ pub fn push_numbered(text: &mut Vec<u8>, words: &[u8], n: u64) -> Result<(), All
     text.extend_from_slice(buffer.format(n).as_bytes())
 }
 
-/// Adds a name: a valid one as it is, another as `%` and two lower-case hexadecimal digits for each byte.
+/// Appends a name: a valid one as it is, another as `%` and two lower-case hexadecimal digits for each byte.
 ///
-/// So no byte of a name ends a line or a field. `Err`: as above.
+/// So no byte of a name ends a line or a field. On error a part may have been appended.
 #[tactic(auto, unfolding(crate::specs::Messages::name_text))]
 pub fn push_name(alloc: Global, text: &mut Vec<u8>, name: &[u8]) -> Result<(), AllocError>
     ensures { OnOk result (text.new.items ≡ text.old.items ++ name_text name.now) }
@@ -33,9 +33,9 @@ pub fn push_name(alloc: Global, text: &mut Vec<u8>, name: &[u8]) -> Result<(), A
     text.extend_from_slice(digits.as_bytes())
 }
 
-/// Adds `SOURCE TARGET CLASS PERM`: an access as denials and refusals of a policy name it.
+/// Appends `SOURCE TARGET CLASS PERM`: an access as denials and refusals of a policy name it.
 ///
-/// Of a set of none or several permissions, nothing stands after the last space. `Err`: as above.
+/// For a set of no permissions or of several, nothing follows the last space. On error a part may have been appended.
 #[tactic(auto, unfolding(crate::specs::Messages::access_words))]
 pub fn push_access(
     text: &mut Vec<u8>,

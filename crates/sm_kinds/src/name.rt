@@ -1,4 +1,4 @@
-//! Names of services, and of what a policy text declares.
+//! Names of services, and names in a policy source.
 
 ghost use Rattle.std.specs.Prelude.{◌≡◌, ◌++◌, ◌∷◌, [], OnOk, OnErr, IfOk};
 ghost use Rattle.std.specs.List.{list_all};
@@ -10,7 +10,7 @@ use bytes::Bytes;
 use std::alloc::{AllocError, Global};
 use std::marker::Model;
 
-/// A name, which contracts see as its bytes. Any bytes make one; `valid_name` tells which may name a service.
+/// A name, which contracts see as its bytes. All bytes are allowed; `valid_name` says which may name a service.
 #[derive(Debug)]
 pub struct Name {
     bytes: Bytes,
@@ -24,7 +24,7 @@ impl Model for Name {
     ghost view = { λ n. n.bytes };
 }
 
-// By hand: where one is let go, a caller's proof has one step, and not those of its parts.
+// Drop: see docs/PROOFS.md.
 impl Drop for Name {
     fn drop(self) {
         let Name { bytes: _ } = self;
@@ -34,7 +34,7 @@ impl Drop for Name {
 impl Clone for Name {
     ghost is_clone = { λ n copy. copy ≡ n };
 
-    /// One more owner of the same bytes.
+    /// Returns another reference to the same bytes.
     fn clone(&self) -> Result<Name, AllocError> {
         let bytes = self.bytes.clone()?;
         Ok(Name { bytes })
@@ -42,7 +42,7 @@ impl Clone for Name {
 }
 
 impl Name {
-    /// A name of these bytes.
+    /// Makes a name of these bytes.
     pub fn new(alloc: Global, bytes: &[u8]) -> Result<Name, AllocError>
         ensures { IfOk result (λ n. n ≡ bytes.now) }
     {
@@ -50,7 +50,7 @@ impl Name {
         Ok(Name { bytes })
     }
 
-    /// The bytes of the name.
+    /// Returns the bytes of the name.
     pub fn bytes(&self) -> &[u8]
         ensures { result.now ≡ self.now }
     {
@@ -58,7 +58,7 @@ impl Name {
     }
 }
 
-/// Names in order, which contracts see as the list of their bytes.
+/// Names in order. Contracts see the list of their bytes.
 #[derive(Debug, Drop)]
 pub struct Names {
     list: Vec<Name>,
@@ -75,7 +75,7 @@ impl Model for Names {
 impl Names {
     ghost use Rattle.sm_kinds.specs.Names.{contains};
 
-    /// No name.
+    /// Makes an empty list.
     pub fn new(alloc: Global) -> Names
         ensures { result ≡ [] }
     {
@@ -84,32 +84,32 @@ impl Names {
         }
     }
 
-    /// Adds a name at the end.
+    /// Appends a name.
     ///
     /// # Errors
     ///
-    /// An error where memory was refused; the list is as it was then.
+    /// An error if an allocation fails; the list is then unchanged.
     #[inline(always)]
     pub fn push(&mut self, name: Name) -> Result<(), AllocError>
         ensures ok { OnOk result (self.new ≡ self.old ++ name ∷ []) }
         ensures err { OnErr result (self.new ≡ self.old) }
     {
         if self.list.is_empty() {
-            // Most lists have one name, for which `push` alone would make room for four.
+            // Most lists have one name, for which `push` alone would allocate four slots.
             self.list.reserve_exact(1)?;
         }
         self.list.push(name)?;
         Ok(())
     }
 
-    /// The names in their order.
+    /// Returns the names in their order.
     pub fn list(&self) -> &[Name]
         ensures { result.now ≡ self.now }
     {
         &self.list
     }
 
-    /// Whether a name is in the list.
+    /// Returns whether a name is in the list.
     pub fn contains(&self, name: &[u8]) -> bool
         ensures { result ≡ contains self.now name.now }
     {
@@ -117,7 +117,7 @@ impl Names {
     }
 }
 
-// Each byte of a name stands at its own place, and a comma at every other place: one load tells them apart.
+// Each byte of a name has its own index, and all other entries are commas, so one load tells them apart.
 static NAME_MAP: [u8; 256] = *b"\
     ,,,,,,,,,,,,,,,,,,,,,,,,,,,,,,,,\
     ,,,,,,,,,,,,,-./0123456789,,,,,,\
@@ -140,8 +140,8 @@ fn all_name_bytes(bytes: &[u8]) -> bool
     bytes.iter().all(|b| is_name_byte(*b))
 }
 
-/// Whether the bytes may name a service (`ServiceManager.cpp`, `isValidServiceName`): 1 to
-/// `MOST_NAME_BYTES` bytes, each an ASCII letter, a digit, `_`, `-`, `.` or `/`.
+/// Returns whether the bytes may name a service (`ServiceManager.cpp`, `isValidServiceName`): 1 to `MOST_NAME_BYTES`
+/// bytes, each an ASCII letter, a digit, `_`, `-`, `.` or `/`.
 pub fn valid_name(name: &[u8]) -> bool
     ensures { result ≡ is_valid_name name.now }
 {

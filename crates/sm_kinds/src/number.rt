@@ -1,6 +1,6 @@
 //! Numbers of clients, administrators and objects.
 
-/// A client's number: from 1, in the order of connecting, and never used again.
+/// A client's number. Clients are numbered from 1 in the order of connecting, and a number is never used again.
 #[derive(Clone, Copy, Debug, PartialEq, Eq, PartialOrd, Ord)]
 pub struct ClientId(pub u32);
 
@@ -15,12 +15,12 @@ pub struct Node {
     pub object: u32,
 }
 
-/// A reference as a client names it, as in binder's `flat_binder_object`.
+/// A reference in a client's request, as in binder's `flat_binder_object`.
 #[derive(Clone, Copy, Debug, PartialEq, Eq)]
 pub enum ObjRef {
     /// An object of the client's own, by its number for it (`BINDER_TYPE_BINDER`).
     Own(u32),
-    /// An object of another client, by the handle that it was given (`BINDER_TYPE_HANDLE`).
+    /// An object of another client, by the client's handle for it (`BINDER_TYPE_HANDLE`).
     Handle(u32),
     Null,
 }

@@ -1,4 +1,4 @@
-//! The bytes of a call.
+//! Payloads of calls.
 
 ghost use Rattle.std.specs.Prelude.{◌≡◌, ◌≤◌, ◌<◌, length, IfOk, OnOk};
 
@@ -8,16 +8,16 @@ use std::alloc::{AllocError, Global};
 use std::marker::Model;
 use thiserror::Error;
 
-/// The bytes that a call carries, at most `MOST_PAYLOAD_BYTES`.
+/// The payload of a call, at most `MOST_PAYLOAD_BYTES`.
 #[derive(Debug)]
 pub struct Payload {
     bytes: Bytes,
 }
 
-/// Why bytes make no payload.
+/// Why bytes are no payload.
 #[derive(Clone, Copy, Debug, PartialEq, Eq, Error)]
 pub enum PayloadError {
-    /// There are more than `MOST_PAYLOAD_BYTES` bytes.
+    /// There are more bytes than `MOST_PAYLOAD_BYTES`.
     #[error("more than 1,024 bytes")]
     TooLong,
     #[error("out of memory")]
@@ -35,7 +35,7 @@ impl Model for Payload {
     ghost invariant = { λ p. length p.bytes ≤ MOST_PAYLOAD_BYTES };
 }
 
-// By hand: where one is let go, a caller's proof has one step, and not those of its parts.
+// Drop: see docs/PROOFS.md.
 impl Drop for Payload {
     fn drop(self) {
         let Payload { bytes: _ } = self;
@@ -45,7 +45,7 @@ impl Drop for Payload {
 impl Clone for Payload {
     ghost is_clone = { λ p copy. copy ≡ p };
 
-    /// One more owner of the same bytes.
+    /// Returns another reference to the same bytes.
     fn clone(&self) -> Result<Payload, AllocError> {
         let bytes = self.bytes.clone()?;
         Ok(Payload { bytes })
@@ -55,7 +55,7 @@ impl Clone for Payload {
 impl Payload {
     ghost use Rattle.sm_kinds.specs.declared.payload.PayloadError.TheVariants.{TooLong};
 
-    /// The payload of these bytes.
+    /// Makes a payload of these bytes.
     pub fn new(alloc: Global, bytes: &[u8]) -> Result<Payload, PayloadError>
         ensures value { IfOk result (λ p. p ≡ bytes.now) }
         ensures fits { OnOk result (length bytes.now ≤ MOST_PAYLOAD_BYTES) }
@@ -71,7 +71,7 @@ impl Payload {
         }
     }
 
-    /// The bytes of the payload.
+    /// Returns the bytes of the payload.
     pub fn bytes(&self) -> &[u8]
         ensures { result.now ≡ self.now }
     {

@@ -1,4 +1,4 @@
-//! Permissions, each a bit.
+//! Permissions, one bit each.
 
 ghost use Rattle.std.specs.Prelude.{⊤, ◌≡◌, [], ◌∷◌, codes};
 
@@ -48,7 +48,7 @@ impl Perms {
     ghost use Rattle.sm_kinds.specs.Permissions.{perm_read, perm_word};
     ghost use Rattle.std.specs.Prelude.{option_map};
 
-    /// The permission of the class that the word names, if there is one.
+    /// Returns the permission of the class that the word names, if there is one.
     pub fn read(class: Class, word: &[u8]) -> Option<Perms>
         ensures { result ≡ perm_read class word.now }
     {
@@ -58,7 +58,7 @@ impl Perms {
         }
     }
 
-    /// The word of a single permission. `None`: there are none in the set, or several.
+    /// Returns the word of a single permission, or `None` for a set of none or several.
     pub fn word(self) -> Option<&'static [u8]>
         ensures { option_map (λ w. w.now) result ≡ perm_word self }
     {

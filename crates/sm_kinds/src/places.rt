@@ -5,7 +5,7 @@ ghost use Rattle.std.specs.Prelude.{◌≡◌, ◌≤◌, IsSome, IfSome, ◌↔
 use crate::limits::{LEAST_PLACES, MOST_PLACES};
 use std::marker::Model;
 
-/// How many entries a journal has room for: `LEAST_PLACES` to `MOST_PLACES`.
+/// The number of slots of a journal: `LEAST_PLACES` to `MOST_PLACES`.
 #[derive(Clone, Copy, Debug, PartialEq, Eq)]
 pub struct Places {
     entries: u32,
@@ -25,7 +25,7 @@ impl Model for Places {
 }
 
 impl Places {
-    /// Room for this many entries. `None`: the number isn't from `LEAST_PLACES` to `MOST_PLACES`.
+    /// Makes a size of this many slots, or `None` if the number isn't from `LEAST_PLACES` to `MOST_PLACES`.
     pub fn new(entries: u32) -> Option<Places>
         ensures range { IsSome result ↔ ((LEAST_PLACES ≤ entries) × (entries ≤ MOST_PLACES)) }
         ensures value { IfSome result (λ p. p ≡ entries) }
@@ -37,7 +37,7 @@ impl Places {
         }
     }
 
-    /// The number of entries, from `LEAST_PLACES` to `MOST_PLACES`.
+    /// Returns the number of slots, from `LEAST_PLACES` to `MOST_PLACES`.
     pub fn entries(self) -> u32
         ensures value { result ≡ self }
         ensures least { LEAST_PLACES ≤ self }

@@ -8,16 +8,16 @@ use std::alloc::{AllocError, Global};
 use std::marker::Model;
 use thiserror::Error;
 
-/// The references that a call passes, at most `MOST_REFS`, in order.
+/// The references of a call, in order, at most `MOST_REFS`.
 #[derive(Debug)]
 pub struct Refs {
     list: Vec<ObjRef>,
 }
 
-/// Why references make no list for a call.
+/// Why references can't be passed in one call.
 #[derive(Clone, Copy, Debug, PartialEq, Eq, Error)]
 pub enum RefsError {
-    /// There are more than `MOST_REFS` references.
+    /// There are more references than `MOST_REFS`.
     #[error("more than 16 references")]
     TooLong,
     #[error("out of memory")]
@@ -36,7 +36,7 @@ impl Model for Refs {
     ghost invariant = { λ r. length r.list.items ≤ MOST_REFS };
 }
 
-// By hand: where one is let go, a caller's proof has one step, and not those of its parts.
+// Drop: see docs/PROOFS.md.
 impl Drop for Refs {
     fn drop(self) {
         let Refs { list: _ } = self;
@@ -46,7 +46,7 @@ impl Drop for Refs {
 impl Refs {
     ghost use Rattle.sm_kinds.specs.declared.refs.RefsError.TheVariants.{TooLong};
 
-    /// The references of this list.
+    /// Makes a list of these references.
     pub fn new(alloc: Global, list: &[ObjRef]) -> Result<Refs, RefsError>
         ensures value { IfOk result (λ r. r ≡ list.now) }
         ensures fits { OnOk result (length list.now ≤ MOST_REFS) }
@@ -62,7 +62,7 @@ impl Refs {
         }
     }
 
-    /// The references in their order.
+    /// Returns the references in their order.
     pub fn list(&self) -> &[ObjRef]
         ensures value { result.now ≡ self.now }
         ensures fits { length result.now ≤ MOST_REFS }

@@ -1,11 +1,11 @@
-//! A word of a text.
+//! Words of a source.
 
 ghost use Rattle.std.specs.Prelude.{◌≡◌};
 ghost use Rattle.std.specs.Str.{bytes_eq};
 
 use std::marker::Model;
 
-/// A word of a text, which contracts see as its bytes.
+/// A word of a source. Contracts see its bytes.
 #[derive(Drop)]
 pub struct Word<'a> {
     bytes: &'a [u8],
@@ -22,14 +22,14 @@ impl<'a> Model for Word<'a> {
 impl<'a> Word<'a> {
     ghost use Rattle.std.specs.Prelude.{◌≡◌};
 
-    /// A word of these bytes.
+    /// Makes a word of these bytes.
     pub fn new(bytes: &'a [u8]) -> Word<'a>
         ensures { result ≡ bytes.now }
     {
         Word { bytes }
     }
 
-    /// The bytes of the word.
+    /// Returns the bytes of the word.
     pub fn bytes(&self) -> &'a [u8]
         ensures { result.now ≡ self.now }
     {
@@ -37,7 +37,7 @@ impl<'a> Word<'a> {
     }
 }
 
-/// Whether the bytes spell this text. Their number is compared first, in place, since it tells most words apart.
+/// Returns whether the bytes are this text. Lengths are compared first, inline, since most words differ in them.
 pub fn spells(bytes: &[u8], text: &[u8]) -> bool
     ensures { result ≡ bytes_eq bytes.now text.now }
 {

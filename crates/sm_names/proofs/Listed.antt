@@ -1,4 +1,4 @@
--- What is listed of names is what stands under them.
+-- The listed rows are the services of the names.
 use Rattle.std.proofs.Common.{◌≡◌, true, false, List, [], ◌∷◌, refl, ap, sym, ◌∙◌, subst, Option, Some}
 use Rattle.std.proofs.Common.{ℕ, if◌then◌else◌}
 use Rattle.std.specs.Prelude.{bytes_eq}

@@ -1,4 +1,4 @@
--- Rows whose names rise: where a name's row stands, and what a change of one leaves.
+-- Rows whose names rise: the index of a name's row, and the rows after a change of one.
 use Rattle.std.proofs.Common.{◌≡◌, ℕ, zero, suc, ◌<◌, ◌≤◌, Bool, true, false, ◌||◌, List, [], ◌∷◌, refl, ap, sym, ◌∙◌}
 use Rattle.std.proofs.Common.{subst, length, map, get_or, set, cond, Option, Some, None, Result, Ok, Err}
 use Rattle.std.proofs.Common.{if◌then◌else◌, arith, add-one}
@@ -151,7 +151,7 @@ gap_here (r ∷ rs) name (suc i) h le low high =
           (after_insert r.name rs i x h.0 (subst (λ (v : List ℕ). slice_cmp nat_cmp r.name v ≡ Less) (sym is) less));
     }
 
--- ---- a search by halves
+-- ---- bisection
 
 next_after : (rows : List NameRow) (k : ℕ) (d : NameRow) → IsRising (names_of rows) → suc k < length rows
     → is_lt (slice_cmp nat_cmp (get_or rows (suc k) d).name (get_or rows k d).name) ≡ false

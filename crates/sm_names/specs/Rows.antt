@@ -9,28 +9,29 @@ use Rattle.sm_history.specs.Queries.{shares_bit}
 use Rattle.sm_history.specs.Rising.{IsRising}
 use Rattle.sm_names.specs.declared.row.NameRow.{NameRow}
 
--- The first row of a name.
+-- This is the first row of a name.
 abbrev pub row_in : List NameRow → List ℕ → Option NameRow
 row_in rows name = find (λ r. bytes_eq r.name name) rows
 
+-- This is the service of a row.
 abbrev pub service_of : Option NameRow → Option Service
 service_of o = option_map (λ r. r.service) o
 
+-- These are the names of rows.
 abbrev pub names_of : List NameRow → List (List ℕ)
 names_of rows = map (λ r. r.name) rows
 
--- The names whose dump flags share a bit with a mask.
+-- These are the names whose dump flags share a bit with a mask.
 abbrev pub matching_names : ℕ → List NameRow → List (List ℕ)
 matching_names mask rows = map (λ r. r.name) (filter (λ r. shares_bit mask r.service) rows)
 
--- Only the row of one name changed, and the names rise.
+-- Only the row of a name changed, to o, and the names still rise.
 pub record IsChanged (rows rows' : List NameRow) (name : List ℕ) (o : Option NameRow) : Type 0 where
   pub own : row_in rows' name ≡ o
   pub other : (q : List ℕ) → bytes_eq name q ≡ false → row_in rows' q ≡ row_in rows q
   pub rises : IsRising (names_of rows')
 
--- The row of a name stands at a place: what is there is its row, what is written there becomes it, and without it
--- the name has none.
+-- The row of a name has index i, so writing or removing there changes only that name's row.
 pub record IsPlace (rows : List NameRow) (name : List ℕ) (i : ℕ) : Type 0 where
   pub inside : i < length rows
   pub here : (r : NameRow) → row_in rows name ≡ Some (slice_index_or rows i r)
@@ -38,12 +39,12 @@ pub record IsPlace (rows : List NameRow) (name : List ℕ) (i : ℕ) : Type 0 wh
   pub written : (r : NameRow) → r.name ≡ name → IsChanged rows (slice_set rows i r) name (Some r)
   pub removed : IsChanged rows (remove rows i) name None
 
--- A name has no row, and a place is the one where its row would stand.
+-- A name has no row, and i is the index where its row is to be inserted.
 pub record IsGap (rows : List NameRow) (name : List ℕ) (i : ℕ) : Type 0 where
   pub none : row_in rows name ≡ None
   pub inserted : (r : NameRow) → r.name ≡ name → IsChanged rows (insert rows i r) name (Some r)
 
--- The rows are the services under their names.
+-- The rows are the services of names.
 pub record TracksRows (d : Effects) (rows : List NameRow) : Type 0 where
   pub services : (name : List ℕ) → service_of (row_in rows name) ≡ service_at d name
   pub rises : IsRising (names_of rows)

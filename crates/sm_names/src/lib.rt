@@ -1,6 +1,6 @@
-//! Names: which service stands under which name, and who watches which name.
+//! Services under their names, and watches of names.
 //!
-//! A table of names is what the effects of a history say of services and watches.
+//! A table of names has what the effects of a history say of services and watches.
 #![tactic(auto)]
 
 mod names;

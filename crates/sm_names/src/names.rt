@@ -19,7 +19,7 @@ use sm_history::{MOST_NAMES, MOST_WATCHES, Service, Watch, WatchPair};
 use sm_kinds::Name;
 use std::alloc::{AllocError, Global};
 
-/// Which service stands under which name, and who watches which name.
+/// The table of services under their names, and of watches.
 #[derive(Drop)]
 pub struct Names {
     services: Services,
@@ -28,7 +28,7 @@ pub struct Names {
 }
 
 impl Names {
-    /// No names.
+    /// Makes an empty table.
     pub fn new(alloc: Global) -> Names
         ensures { TracksNames [] result }
     {
@@ -39,12 +39,12 @@ impl Names {
         }
     }
 
-    /// Makes room for `n` more names and `n` more watches, so that as many calls of `put` and of `watch` take
-    /// no memory.
+    /// Makes room for `n` more names and `n` more watches, so that as many calls of `put` and of `watch` allocate
+    /// nothing.
     ///
     /// # Errors
     ///
-    /// An error where memory was refused.
+    /// An error if an allocation fails.
     pub fn reserve(&mut self, n: usize) -> Result<(), AllocError>
         ensures tracks { (d : Effects) → TracksNames d self.old → TracksNames d self.new }
         ensures room { OnOk result (HasRoom n self.new) }
@@ -56,32 +56,32 @@ impl Names {
         self.order.reserve(n)
     }
 
-    /// The services under their names, without the watches.
+    /// Returns the services, without the watches.
     pub fn services(&self) -> &Services
         ensures { (d : Effects) → TracksNames d self.now → TracksRows d result.now.rows.items }
     {
         &self.services
     }
 
-    /// The service under a name.
+    /// Returns the service of a name.
     pub fn get(&self, name: &[u8]) -> Option<Service>
         ensures { (d : Effects) → TracksNames d self.now → result ≡ service_at d name.now }
     {
         self.services.get(name)
     }
 
-    /// Whether a service may be put under a name: it has one, or fewer than 4,096 names have one.
+    /// Returns whether a service may be put under a name: it has one, or fewer than 4,096 names have one.
     pub fn has_room(&self, name: &[u8]) -> bool
         ensures { (d : Effects) → TracksNames d self.now → result ≡ has_name_room d name.now }
     {
         self.services.get(name).is_some() || self.services.len() < MOST_NAMES
     }
 
-    /// The names whose dump flags share a bit with a mask, in rising byte order.
+    /// Returns the names whose dump flags share a bit with a mask, in rising byte order.
     ///
     /// # Errors
     ///
-    /// An error where memory was refused.
+    /// An error if an allocation fails.
     pub fn by_mask(&self, alloc: Global, mask: u32) -> Result<Vec<Name>, AllocError>
         ensures { IfOk result (λ v. (d : Effects) → TracksNames d self.now
             → v.items ≡ names_by_mask d mask) }
@@ -89,7 +89,7 @@ impl Names {
         self.services.by_mask(alloc, mask)
     }
 
-    /// How many watches the live clients have together, at most 4,096.
+    /// Returns the number of watches of all live clients, at most 4,096.
     pub fn watches(&self) -> usize
         ensures tracks { (d : Effects) → TracksNames d self.now → result ≡ length (watches_at d) }
         ensures count { result ≡ watch_count self.now }
@@ -98,7 +98,7 @@ impl Names {
         self.watches.len()
     }
 
-    /// Whether a client's object watches a name.
+    /// Returns whether a client's object watches a name.
     pub fn is_watching(&self, client: u32, name: &[u8], object: u32) -> bool
         ensures { (d : Effects) → TracksNames d self.now
             → result ≡ list_any (same_watch (make_watch client name.now object)) (watches_at d) }
@@ -106,7 +106,7 @@ impl Names {
         self.watches.contains(client, name, object)
     }
 
-    /// How many watches of a name a client's object has.
+    /// Returns the number of watches of a name by a client's object.
     pub fn watching(&self, client: u32, name: &[u8], object: u32) -> u32
         ensures { (d : Effects) → TracksNames d self.now
             → result ≡ count_by (same_watch (make_watch client name.now object)) (watches_at d) }
@@ -114,7 +114,7 @@ impl Names {
         self.watches.count(client, name, object)
     }
 
-    /// All watches, oldest first. They share their names with the table.
+    /// Returns all watches, oldest first. They share their names with the table.
     ///
     /// # Errors
     ///
@@ -125,21 +125,21 @@ impl Names {
         self.order.listed(alloc)
     }
 
-    /// The watches of a name, in the order of watching.
+    /// Returns the watches of a name, oldest first.
     pub fn watchers(&self, name: &[u8]) -> &[Watch]
         ensures { (d : Effects) → TracksNames d self.now → result.now ≡ watchers_at d name.now }
     {
         self.watches.watchers(name)
     }
 
-    /// Whether one more `put` or `watch` takes no memory.
+    /// Returns whether one more `put` or `watch` allocates nothing.
     pub fn is_ready(&self) -> bool
         ensures { IsTrue result ↔ HasRoom 1 self.now }
     {
         self.services.is_ready() && self.watches.is_ready() && self.order.is_ready()
     }
 
-    /// Puts a service under a name, in place of the one that was there. It takes no memory.
+    /// Puts a service under a name, replacing any earlier one. Allocates nothing.
     pub fn put(&mut self, name: Name, service: Service)
         requires { HasRoom 1 self.old }
         ensures tracks { (d : Effects) → TracksNames d self.old
@@ -151,7 +151,7 @@ impl Names {
         self.services.put(name, service);
     }
 
-    /// The service under a name goes, if there is one.
+    /// Removes the service of a name, if there is one.
     pub fn remove(&mut self, name: &[u8])
         ensures tracks { (d : Effects) → TracksNames d self.old
             → TracksNames (Removes name.now ∷ d) self.new }
@@ -161,7 +161,7 @@ impl Names {
         self.services.remove(name);
     }
 
-    /// One more watch, behind the earlier ones of its name. It takes no memory.
+    /// Appends a watch to those of its name. Allocates nothing.
     pub fn watch(&mut self, watch: WatchPair)
         requires room { HasRoom 1 self.old }
         requires few { watch_count self.old < MOST_WATCHES }
@@ -175,7 +175,7 @@ impl Names {
         self.order.add(newest);
     }
 
-    /// Every watch of a name that a client's object has ends; how many did.
+    /// Removes every watch of a name by a client's object, and returns their number.
     pub fn unwatch(&mut self, client: u32, name: &[u8], object: u32) -> u32
         ensures ended { (d : Effects) → TracksNames d self.old
             → result ≡ count_by (same_watch (make_watch client name.now object)) (watches_at d) }
@@ -188,7 +188,7 @@ impl Names {
         self.watches.remove(client, name, object)
     }
 
-    /// The services of a client's objects go, and its watches end.
+    /// Removes the services of a client's objects, and its watches.
     pub fn forget(&mut self, client: u32)
         ensures tracks { (d : Effects) → TracksNames d self.old
             → TracksNames (Dies client ∷ d) self.new }

@@ -1,9 +1,9 @@
-//! A registered name.
+//! Rows of names with their services.
 
 use sm_history::Service;
 use sm_kinds::Name;
 
-/// A registered name and its service.
+/// A name and its service.
 #[derive(Drop)]
 pub struct NameRow {
     pub name: Name,

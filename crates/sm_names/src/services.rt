@@ -1,4 +1,4 @@
-//! The services under their names.
+//! Services under their names.
 
 ghost use Rattle.std.specs.Prelude.{◌≡◌, ◌≤◌, ◌<◌, ◌+◌, ℕ, true, [], ◌∷◌, length, nat_lt, IfOk, OnOk, MatchResult};
 ghost use Rattle.std.specs.Vec.{vec_capacity};
@@ -24,7 +24,7 @@ pub struct Services {
     rows: Vec<NameRow>,
 }
 
-/// The place of a name's row, or the one where it would stand.
+/// Returns the index of a name's row, or the index at which it would be inserted.
 fn place_of(rows: &[NameRow], name: &[u8]) -> Result<usize, usize>
     ensures within { IsSearchInRange result (length rows.now) }
     ensures place { IsRising (names_of rows.now)
@@ -33,7 +33,7 @@ fn place_of(rows: &[NameRow], name: &[u8]) -> Result<usize, usize>
     rows.binary_search_by(|row| row.name.bytes().cmp(name))
 }
 
-/// A copy of some rows, whose names get one more owner. `Err`: memory was refused.
+/// Copies rows; their names are shared. Returns an error if an allocation fails.
 fn copies_of(alloc: Global, rows: &[NameRow]) -> Result<Vec<NameRow>, AllocError>
     ensures { IfOk result (λ v. v.items ≡ rows.now) }
 {
@@ -46,7 +46,7 @@ fn copies_of(alloc: Global, rows: &[NameRow]) -> Result<Vec<NameRow>, AllocError
     Ok(copies)
 }
 
-/// Some rows, whose names get one more owner. `Err`: memory was refused.
+/// Copies rows for a segment; their names are shared. Returns an error if an allocation fails.
 fn listed_of(alloc: Global, rows: &[NameRow]) -> Result<Vec<NamedRow>, AllocError>
     ensures { IfOk result (λ v. v.items ≡ named_rows rows.now) }
 {
@@ -57,7 +57,7 @@ fn listed_of(alloc: Global, rows: &[NameRow]) -> Result<Vec<NamedRow>, AllocErro
     Ok(list)
 }
 
-/// A row, whose name gets one more owner. `Err`: memory was refused.
+/// Copies a row for a segment; its name is shared. Returns an error if an allocation fails.
 fn listed(row: &NameRow) -> Result<NamedRow, AllocError>
     ensures { IfOk result (λ r. r ≡ named row.now) }
 {
@@ -66,7 +66,7 @@ fn listed(row: &NameRow) -> Result<NamedRow, AllocError>
     Ok(NamedRow { name, service })
 }
 
-/// The names whose dump flags share a bit with a mask.
+/// Returns the names whose dump flags share a bit with a mask.
 fn matching(alloc: Global, rows: &[NameRow], mask: u32) -> Result<Vec<Name>, AllocError>
     ensures { IfOk result (λ v. v.items ≡ matching_names mask rows.now) }
 {
@@ -80,7 +80,7 @@ fn matching(alloc: Global, rows: &[NameRow], mask: u32) -> Result<Vec<Name>, All
 }
 
 impl Services {
-    /// No services.
+    /// Makes an empty table.
     pub fn new(alloc: Global) -> Services
         ensures { TracksRows [] result.rows.items }
     {
@@ -89,11 +89,11 @@ impl Services {
         }
     }
 
-    /// The same services once more, with room for `n` more names. It copies no name: each gets one more owner.
+    /// Copies the services, with room for `n` more names. The names are shared.
     ///
     /// # Errors
     ///
-    /// An error where memory was refused.
+    /// An error if an allocation fails.
     pub fn copy(&self, alloc: Global, n: usize) -> Result<Services, AllocError>
         ensures { IfOk result (λ s. (s.rows.items ≡ self.now.rows.items)
             × (length self.now.rows.items + n ≤ vec_capacity s.rows)) }
@@ -103,11 +103,11 @@ impl Services {
         Ok(Services { rows })
     }
 
-    /// The services under their names, in rising byte order.
+    /// Returns the services under their names, in rising byte order.
     ///
     /// # Errors
     ///
-    /// An error where memory was refused.
+    /// An error if an allocation fails.
     pub fn listed(&self, alloc: Global) -> Result<Vec<NamedRow>, AllocError>
         ensures { IfOk result (λ v. (d : Effects) → TracksRows d self.now.rows.items → TracksNamed d v.items) }
     {
@@ -118,7 +118,7 @@ impl Services {
     ///
     /// # Errors
     ///
-    /// An error where memory was refused.
+    /// An error if an allocation fails.
     pub fn reserve(&mut self, n: usize) -> Result<(), AllocError>
         ensures same { self.new.rows.items ≡ self.old.rows.items }
         ensures room { OnOk result (length self.new.rows.items + n ≤ vec_capacity self.new.rows) }
@@ -127,14 +127,14 @@ impl Services {
         self.rows.reserve(n)
     }
 
-    /// Whether one more name takes no memory.
+    /// Returns whether one more name allocates nothing.
     pub fn is_ready(&self) -> bool
         ensures { result ≡ nat_lt (length self.now.rows.items) (vec_capacity self.now.rows) }
     {
         self.rows.len() < self.rows.capacity()
     }
 
-    /// How many names have a service.
+    /// Returns the number of names that have a service.
     pub fn len(&self) -> usize
         ensures { (d : Effects) → TracksRows d self.now.rows.items
             → result ≡ length (current_names d) }
@@ -142,7 +142,7 @@ impl Services {
         self.rows.len()
     }
 
-    /// The service under a name.
+    /// Returns the service of a name.
     pub fn get(&self, name: &[u8]) -> Option<Service>
         ensures { (d : Effects) → TracksRows d self.now.rows.items
             → result ≡ service_at d name.now }
@@ -153,11 +153,11 @@ impl Services {
         }
     }
 
-    /// The names whose dump flags share a bit with a mask, in rising byte order.
+    /// Returns the names whose dump flags share a bit with a mask, in rising byte order.
     ///
     /// # Errors
     ///
-    /// An error where memory was refused.
+    /// An error if an allocation fails.
     pub fn by_mask(&self, alloc: Global, mask: u32) -> Result<Vec<Name>, AllocError>
         ensures { IfOk result (λ v. (d : Effects) → TracksRows d self.now.rows.items
             → v.items ≡ names_by_mask d mask) }
@@ -165,7 +165,7 @@ impl Services {
         matching(alloc, &self.rows, mask)
     }
 
-    /// Puts a service under a name, in place of the one that was there. It takes no memory.
+    /// Puts a service under a name, replacing any earlier one. Allocates nothing.
     pub fn put(&mut self, name: Name, service: Service)
         requires { length self.old.rows.items < vec_capacity self.old.rows }
         ensures tracks { (d : Effects) → TracksRows d self.old.rows.items
@@ -188,7 +188,7 @@ impl Services {
         }
     }
 
-    /// The service under a name goes, if there is one.
+    /// Removes the service of a name, if there is one.
     pub fn remove(&mut self, name: &[u8])
         ensures tracks { (d : Effects) → TracksRows d self.old.rows.items
             → TracksRows (Removes name.now ∷ d) self.new.rows.items }
@@ -200,7 +200,7 @@ impl Services {
         }
     }
 
-    /// The services of a client's objects go.
+    /// Removes the services of a client's objects.
     pub fn forget(&mut self, client: u32)
         ensures tracks { (d : Effects) → TracksRows d self.old.rows.items
             → TracksRows (Dies client ∷ d) self.new.rows.items }

@@ -1,4 +1,4 @@
-//! The watches.
+//! Watches by name.
 
 ghost use Rattle.std.specs.Prelude.{◌≡◌, ◌≤◌, ◌<◌, ◌+◌, ℕ, true, false, [], ◌∷◌, vec_len, length, drop, filter, bytes_eq, count_by, nat_lt, OnOk};
 ghost use Rattle.std.specs.List.{list_any};
@@ -18,8 +18,7 @@ use sm_history::{MOST_WATCHES, Watch};
 use std::alloc::{AllocError, Global};
 use std::cmp::Ordering;
 
-/// The watches of live clients, in rising byte order of their names, and under one name in the order of
-/// watching.
+/// The watches of live clients, in rising byte order of their names, and of one name oldest first.
 #[derive(Drop)]
 pub struct WatchList {
     list: Vec<Watch>,
@@ -38,14 +37,14 @@ fn is_behind(watch: &Watch, name: &[u8]) -> bool
     matches!(watch.name.bytes().cmp(name), Ordering::Greater)
 }
 
-/// Whether a watch is the one of a name by a client's object.
+/// Returns whether a watch is that of a name by a client's object.
 pub fn is_same(watch: &Watch, client: u32, name: &[u8], object: u32) -> bool
     ensures { result ≡ same_watch (make_watch client name.now object) watch.now }
 {
     client == watch.client && name == watch.name.bytes() && object == watch.object
 }
 
-/// The watches from the first on that isn't of a name before this one.
+/// Returns the watches from the first one whose name isn't before this one.
 fn from_name<'a>(list: &'a [Watch], name: &[u8]) -> &'a [Watch]
     ensures same { AreInOrder list.now
         → watchers_in result.now name.now ≡ watchers_in list.now name.now }
@@ -57,7 +56,7 @@ fn from_name<'a>(list: &'a [Watch], name: &[u8]) -> &'a [Watch]
     &list[start..]
 }
 
-/// The watches in front that are of a name, where no other stands among them.
+/// Returns the watches of a name at the front, where all watches of that name are together.
 fn front_of<'a>(list: &'a [Watch], name: &[u8]) -> &'a [Watch]
     ensures same { IsPartitionedBy (λ w. bytes_eq w.name name.now) list.now
         → result.now ≡ watchers_in list.now name.now }
@@ -67,7 +66,7 @@ fn front_of<'a>(list: &'a [Watch], name: &[u8]) -> &'a [Watch]
     &list[..end]
 }
 
-/// The watches of a name.
+/// Returns the watches of a name.
 fn watchers_of<'a>(list: &'a [Watch], name: &[u8]) -> &'a [Watch]
     ensures same { AreInOrder list.now → result.now ≡ watchers_in list.now name.now }
     ensures fewer { length result.now ≤ length list.now }
@@ -75,7 +74,7 @@ fn watchers_of<'a>(list: &'a [Watch], name: &[u8]) -> &'a [Watch]
     front_of(from_name(list, name), name)
 }
 
-/// How many watches of a name a client's object has, among some.
+/// Returns the number of watches of a name by a client's object in a list.
 fn count_same(list: &[Watch], client: u32, name: &[u8], object: u32) -> usize
     ensures { result ≡ count_by (same_watch (make_watch client name.now object)) list.now }
 {
@@ -84,7 +83,7 @@ fn count_same(list: &[Watch], client: u32, name: &[u8], object: u32) -> usize
         .count()
 }
 
-/// The place behind the watches of a name.
+/// Returns the index after the watches of a name.
 fn place_behind(list: &[Watch], name: &[u8]) -> usize
     ensures within { result ≤ length list.now }
     ensures parts { AreInOrder list.now
@@ -95,7 +94,7 @@ fn place_behind(list: &[Watch], name: &[u8]) -> usize
 }
 
 impl WatchList {
-    /// No watches.
+    /// Makes an empty list.
     pub fn new(alloc: Global) -> WatchList
         ensures { TracksList [] result.list.items }
     {
@@ -108,7 +107,7 @@ impl WatchList {
     ///
     /// # Errors
     ///
-    /// An error where memory was refused.
+    /// An error if an allocation fails.
     pub fn reserve(&mut self, n: usize) -> Result<(), AllocError>
         ensures same { self.new.list.items ≡ self.old.list.items }
         ensures room { OnOk result (length self.new.list.items + n ≤ vec_capacity self.new.list) }
@@ -117,14 +116,14 @@ impl WatchList {
         self.list.reserve(n)
     }
 
-    /// Whether one more watch takes no memory.
+    /// Returns whether one more watch allocates nothing.
     pub fn is_ready(&self) -> bool
         ensures { result ≡ nat_lt (length self.now.list.items) (vec_capacity self.now.list) }
     {
         self.list.len() < self.list.capacity()
     }
 
-    /// How many watches there are.
+    /// Returns the number of watches.
     pub fn len(&self) -> usize
         ensures tracks { (d : Effects) → TracksList d self.now.list.items
             → result ≡ length (watches_at d) }
@@ -134,7 +133,7 @@ impl WatchList {
         self.list.len()
     }
 
-    /// The watches of a name, in the order of watching.
+    /// Returns the watches of a name, oldest first.
     pub fn watchers(&self, name: &[u8]) -> &[Watch]
         ensures { (d : Effects) → TracksList d self.now.list.items
             → result.now ≡ watchers_at d name.now }
@@ -142,7 +141,7 @@ impl WatchList {
         watchers_of(&self.list, name)
     }
 
-    /// Whether a client's object watches a name.
+    /// Returns whether a client's object watches a name.
     pub fn contains(&self, client: u32, name: &[u8], object: u32) -> bool
         ensures { (d : Effects) → TracksList d self.now.list.items
             → result ≡ list_any (same_watch (make_watch client name.now object)) (watches_at d) }
@@ -150,7 +149,7 @@ impl WatchList {
         self.count(client, name, object) > 0
     }
 
-    /// How many watches of a name a client's object has.
+    /// Returns the number of watches of a name by a client's object.
     pub fn count(&self, client: u32, name: &[u8], object: u32) -> u32
         ensures { (d : Effects) → TracksList d self.now.list.items
             → result ≡ count_by (same_watch (make_watch client name.now object)) (watches_at d) }
@@ -159,7 +158,7 @@ impl WatchList {
         count_same(watchers, client, name, object) as u32
     }
 
-    /// One more watch, behind the earlier ones of its name. It takes no memory.
+    /// Inserts a watch after those of its name. Allocates nothing.
     pub fn add(&mut self, watch: Watch)
         requires room { length self.old.list.items < vec_capacity self.old.list }
         requires few { length self.old.list.items < MOST_WATCHES }
@@ -176,7 +175,7 @@ impl WatchList {
         }
     }
 
-    /// Every watch of a name that a client's object has ends; how many did.
+    /// Removes every watch of a name by a client's object, and returns their number.
     pub fn remove(&mut self, client: u32, name: &[u8], object: u32) -> u32
         ensures ended { (d : Effects) → TracksList d self.old.list.items
             → result ≡ count_by (same_watch (make_watch client name.now object)) (watches_at d) }
@@ -190,7 +189,7 @@ impl WatchList {
         ended
     }
 
-    /// A client's watches end.
+    /// Removes a client's watches.
     pub fn forget(&mut self, client: u32)
         ensures tracks { (d : Effects) → TracksList d self.old.list.items
             → TracksList (Dies client ∷ d) self.new.list.items }

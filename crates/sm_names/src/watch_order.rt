@@ -1,4 +1,4 @@
-//! The watches in the order in which they were made.
+//! Watches by age.
 
 ghost use Rattle.std.specs.Prelude.{◌≡◌, ◌≤◌, ◌<◌, ◌+◌, ℕ, true, [], ◌∷◌, length, nat_lt, IfOk, OnOk};
 ghost use Rattle.std.specs.Vec.{vec_capacity};
@@ -12,15 +12,15 @@ use crate::watch_list::is_same;
 use sm_history::Watch;
 use std::alloc::{AllocError, Global};
 
-/// The watches of live clients, oldest first. A segment begins with them in this order, which their list by name doesn't
-/// keep.
+/// The watches of live clients, oldest first. A segment begins with them in this order, which the list by name doesn't
+/// have.
 #[derive(Drop)]
 pub struct WatchOrder {
     list: Vec<Watch>,
 }
 
 impl WatchOrder {
-    /// No watches.
+    /// Makes an empty list.
     pub fn new(alloc: Global) -> WatchOrder
         ensures { result.list.items ≡ [] }
     {
@@ -33,7 +33,7 @@ impl WatchOrder {
     ///
     /// # Errors
     ///
-    /// An error if the allocation fails.
+    /// An error if an allocation fails.
     pub fn reserve(&mut self, n: usize) -> Result<(), AllocError>
         ensures same { self.new.list.items ≡ self.old.list.items }
         ensures room { OnOk result (length self.new.list.items + n ≤ vec_capacity self.new.list) }
@@ -42,14 +42,14 @@ impl WatchOrder {
         self.list.reserve(n)
     }
 
-    /// Whether one more watch takes no allocation.
+    /// Returns whether one more watch allocates nothing.
     pub fn is_ready(&self) -> bool
         ensures { result ≡ nat_lt (length self.now.list.items) (vec_capacity self.now.list) }
     {
         self.list.len() < self.list.capacity()
     }
 
-    /// Adds a watch. It allocates nothing.
+    /// Appends a watch. Allocates nothing.
     pub fn add(&mut self, watch: Watch)
         requires { length self.old.list.items < vec_capacity self.old.list }
         ensures tracks { (d : Effects) → self.old.list.items ≡ watches_at d → is_live d watch.client ≡ true
@@ -60,7 +60,7 @@ impl WatchOrder {
         self.list.push_reserved(watch);
     }
 
-    /// Ends every watch of a name that a client's object has.
+    /// Removes every watch of a name by a client's object.
     pub fn remove(&mut self, client: u32, name: &[u8], object: u32)
         ensures tracks { (d : Effects) → self.old.list.items ≡ watches_at d
             → self.new.list.items ≡ watches_at (Unwatches (make_watch client name.now object) ∷ d) }
@@ -70,7 +70,7 @@ impl WatchOrder {
         self.list.retain(|w| !is_same(w, client, name, object));
     }
 
-    /// Ends a client's watches.
+    /// Removes a client's watches.
     pub fn forget(&mut self, client: u32)
         ensures tracks { (d : Effects) → self.old.list.items ≡ watches_at d
             → self.new.list.items ≡ watches_at (Dies client ∷ d) }
@@ -80,7 +80,7 @@ impl WatchOrder {
         self.list.retain(|w| client != w.client);
     }
 
-    /// The watches, oldest first, with their names shared.
+    /// Returns the watches, oldest first, with their names shared.
     ///
     /// # Errors
     ///
@@ -92,7 +92,7 @@ impl WatchOrder {
     }
 }
 
-/// Copies of watches, which share their names.
+/// Copies watches; their names are shared.
 fn copies_of(alloc: Global, watches: &[Watch]) -> Result<Vec<Watch>, AllocError>
     ensures { IfOk result (λ v. v.items ≡ watches.now) }
 {

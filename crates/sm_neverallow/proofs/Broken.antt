@@ -102,7 +102,7 @@ pub sought_all : (matrices : List (List (List ℕ))) (nevers : List Kept) (count
     → (m : ℕ) (never : Kept) → m < place → slice_get nevers m ≡ Some never → IsClear matrices count never
 sought_all matrices nevers count n place end all m never h found = all.first m never h found (omega arith)
 
--- ---- what the matrices stand for
+-- ---- what the matrices represent
 
 pub broken_meets : (allows : List Kept) (matrices : List (List (List ℕ))) (count : ℕ) (never : Kept)
     → AllCompiled allows count 7 matrices

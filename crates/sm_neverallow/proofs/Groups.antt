@@ -71,7 +71,7 @@ through_none rules count matrices c = record {
       ∙ sym (any_none (covers_below 1 b s t) rules (λ r. no_perms b s t r low));
 }
 
--- one more set: a rule is of it, or its place is told by the sets before
+-- one more set: a rule is of it, or its index comes from the sets before
 one_set : (n b s t : ℕ) (rule : Kept) → b < 7
     → covers_below (n + 1) b s t rule ≡
     (covers_below n b s t rule || (has_bit n b && (joins s t rule && is_of_set n rule)))

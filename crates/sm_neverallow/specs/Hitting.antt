@@ -14,12 +14,12 @@ unfoldable pub any_row : List (List ℕ) → ℕ → ℕ → ℕ → ℕ → Boo
 any_row rows first p zero t = false
 any_row rows first p (suc k) t = any_row rows first p k t || (has_bit p k && has (row rows (first + k)) t)
 
--- At each place p is the union of those of the k rows from the first on whose bit is in p.
+-- At each index p is the union of those of the k rows from the first on whose bit is in p.
 pub record Unites (rows : List (List ℕ)) (first k : ℕ) (unions : List (List ℕ)) : Type 0 where
   pub number : length unions ≡ 2 ^ k
   pub says : (p t : ℕ) → p < 2 ^ k → has (row unions p) t ≡ any_row rows first p k t
 
--- The place says which of the eight sources of a group the rule has.
+-- The index says which of the eight sources of a group the rule has.
 pub record IsPlaceOf (place group : ℕ) (rule : Kept) : Type 0 where
   pub small : place < 256
   pub bits : (b : ℕ) → b < 8 → has_bit place b ≡ has rule.sources (8 * group + b)
@@ -54,9 +54,11 @@ pub record AreReady (count : ℕ) (all : List (List (List ℕ))) : Type 0 where
 pub record AllUnite (rows : List (List ℕ)) (first : ℕ) (all : List (List (List ℕ))) : Type 0 where
   pub each : (j : ℕ) → j < length all → Unites rows (8 * (first + j)) 8 (matrix all j)
 
+-- The rule misses each of these groups, by its union.
 pub record AllMiss (all : List (List (List ℕ))) (first : ℕ) (rule : Kept) : Type 0 where
   pub each : (j : ℕ) → j < length all → UnionMisses (matrix all j) (first + j) rule
 
+-- The rule hits one of these groups, by its union.
 pub record SomeHit (all : List (List (List ℕ))) (first : ℕ) (rule : Kept) : Type 0 where
   pub j : ℕ
   pub inside : j < length all
@@ -92,17 +94,17 @@ pub record Escapes (targets : List ℕ) (rule : Kept) : Type 0 where
   pub misses : (t : ℕ) → (has rule.targets t && has targets t) ≡ false
   pub alone : OwnMisses targets rule
 
--- ---- some of the rules, by their places
+-- ---- some of the rules, by their indexes
 
--- Each place is that of a rule.
+-- Each index is that of a rule.
 pub record ArePlaces (rules : List Kept) (places : List ℕ) : Type 0 where
   pub inside : (k : ℕ) → k < length places → get_or places k 0 < length rules
 
--- The rule of the place with number k.
+-- This is the rule whose index is at place k of the list.
 abbrev pub rule_at : List Kept → List ℕ → ℕ → Option Kept
 rule_at rules places k = slice_get rules (get_or places k 0)
 
--- The places of the rules below n with exactly these permissions, in their order, but for some that miss.
+-- These are the indexes of the rules below n with exactly these permissions, in their order, except for some that miss.
 pub record Chosen (rules : List Kept) (set n : ℕ) (Miss : Kept → Type 0) (places : List ℕ) : Type 0 where
   pub below : (k : ℕ) → k < length places → get_or places k 0 < n
   pub of_set : (k : ℕ) (rule : Kept) → k < length places → rule_at rules places k ≡ Some rule → perm_set rule ≡ set
@@ -110,7 +112,7 @@ pub record Chosen (rules : List Kept) (set n : ℕ) (Miss : Kept → Type 0) (pl
       → ((k : ℕ) × (k < length places) × (get_or places k 0 ≡ m)) ⊎ Miss rule
   pub rising : (j k : ℕ) → j < k → k < length places → get_or places j 0 < get_or places k 0
 
--- The first of the places below the end whose rule hits, if one does: no rule before it does.
+-- This is the first of the indexes below the end whose rule hits, if one does: no rule before it does.
 pub record FindsFirst (rules : List Kept) (places : List ℕ) (end found : ℕ) (Hit Miss : Kept → Type 0) : Type 0 where
   pub within : found ≤ end
   pub hit : (rule : Kept) → found < end → rule_at rules places found ≡ Some rule → Hit rule

@@ -9,11 +9,11 @@ use Rattle.sm_rules.specs.Access.{written, silenced}
 use Rattle.sm_rules.specs.Keeping.{joins, covers, covered, class_at, perm_at}
 use Rattle.sm_rules.specs.declared.kept.Kept.{Kept}
 
--- The matrix of a permission.
+-- This is the matrix of a permission.
 abbrev pub matrix : List (List (List ℕ)) → ℕ → List (List ℕ)
 matrix matrices b = get_or matrices b []
 
--- A row for each type, with room for each type.
+-- There is a row for each type, with room for each type.
 pub record Square (rows : List (List ℕ)) (n : ℕ) : Type 0 where
   pub count : length rows ≡ n
   pub room : (s : ℕ) → s < n → length (row rows s) ≡ n / 64 + 1
@@ -23,7 +23,7 @@ pub record Compiled (rules : List Kept) (count b : ℕ) (rows : List (List ℕ))
   pub square : Square rows count
   pub says : (s t : ℕ) → s < count → has (row rows s) t ≡ covered rules b s t
 
--- A matrix for each of the first permissions.
+-- There is a matrix for each of the first permissions.
 pub record AllCompiled (rules : List Kept) (count n : ℕ) (matrices : List (List (List ℕ))) : Type 0 where
   pub number : length matrices ≡ n
   pub each : (b : ℕ) → b < n → Compiled rules count b (matrix matrices b)
@@ -38,16 +38,17 @@ pub record SayWhatIsSilenced (policy : Policy) (names : List Name) (matrices : L
   pub says : (b s t : ℕ) → b < 7 → s < length names → t < length names → has (row (matrix matrices b) s) t
       ≡ silenced policy (at names s) (at names t) (class_at b) (perm_at b)
 
--- A matrix of the right size for each permission.
+-- There is a matrix of the right size for each permission.
 pub record AllSquare (matrices : List (List (List ℕ))) (count : ℕ) : Type 0 where
   pub each : (b : ℕ) → b < 7 → Square (matrix matrices b) count
 
 -- ---- rules by the set of their permissions
 
--- The permissions of a rule as a number below 128, a bit for each.
+-- These are the permissions of a rule as a number below 128, with a bit for each.
 abbrev pub perm_set : Kept → ℕ
 perm_set rule = rule.perms.0 % 128
 
+-- A rule has exactly these permissions.
 abbrev pub is_of_set : ℕ → Kept → Bool
 is_of_set set rule = nat_eq (perm_set rule) set
 
@@ -65,7 +66,7 @@ pub record Grouped (rules : List Kept) (count set : ℕ) (rows : List (List ℕ)
   pub square : Square rows count
   pub says : (s t : ℕ) → s < count → has (row rows s) t ≡ joined_by rules set s t
 
--- The matrices have what they had, and for each permission of a set these pairs too.
+-- Besides their old pairs, the matrices have these for each permission of a set.
 pub record Joined (old new : List (List (List ℕ))) (count set : ℕ) (pairs : ℕ → ℕ → Bool) : Type 0 where
   pub number : length new ≡ 7
   pub square : AllSquare new count

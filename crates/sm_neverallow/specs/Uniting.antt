@@ -6,11 +6,11 @@ use Rattle.sm_neverallow.specs.Matrices.{Square}
 use Rattle.sm_neverallow.specs.declared.batch.Batch.{Batch}
 use Rattle.sm_neverallow.specs.declared.gathered.Gathered.{Gathered}
 
--- Each of the rows has so many words.
+-- Each row has this number of words.
 pub record AreWide (words : ℕ) (rows : List (List ℕ)) : Type 0 where
   pub room : (p : ℕ) → p < length rows → length (row rows p) ≡ words
 
--- The rows, and behind them the union of each with one more row.
+-- The new rows are the old ones, followed by the union of each with one more row.
 pub record Doubled (old new : List (List ℕ)) (more : List ℕ) : Type 0 where
   pub number : length new ≡ length old + length old
   pub kept : (p : ℕ) → p < length old → row new p ≡ row old p
@@ -22,7 +22,7 @@ pub record Doubled (old new : List (List ℕ)) (more : List ℕ) : Type 0 where
 abbrev pub in_batch : Batch → ℕ → ℕ → Bool
 in_batch batch s t = has (row batch.unions (get_or batch.places.items s 0)) t
 
--- There is a place for each source, and the first union is empty.
+-- There is an index for each source, and the first union is empty.
 pub record FitsBatch (count : ℕ) (batch : Batch) : Type 0 where
   pub few : length batch.unions ≤ 256
   pub wide : AreWide (count / 64 + 1) batch.unions
@@ -35,6 +35,7 @@ abbrev pub in_gathered : Gathered → ℕ → ℕ → Bool
 in_gathered gathered s t = has (row gathered.rows.items s) t || in_batch gathered.batch s t
     || (has gathered.own s && nat_eq s t)
 
+-- The parts fit the number of types.
 pub record FitsGathered (count : ℕ) (gathered : Gathered) : Type 0 where
   pub square : Square gathered.rows.items count
   pub own : length gathered.own ≡ count / 64 + 1

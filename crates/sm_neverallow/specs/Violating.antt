@@ -10,9 +10,11 @@ use Rattle.sm_neverallow.specs.declared.violation.Violation.{Violation}
 
 -- ---- by number: permission b, source s and target t
 
+-- Two rules both join s to t.
 abbrev pub both_join : ℕ → ℕ → Kept → Kept → Bool
 both_join s t allow never = joins s t allow && joins s t never
 
+-- Two rules both cover permission b on s and t.
 abbrev pub clashes : ℕ → ℕ → ℕ → Kept → Kept → Bool
 clashes b s t allow never = covers b s t allow && covers b s t never
 

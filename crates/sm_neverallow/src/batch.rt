@@ -12,14 +12,13 @@ use sm_rules::Kept;
 use sm_types::TypeCount;
 use std::alloc::{AllocError, Global};
 
-/// How many rules a batch may have.
+/// The most rules of a batch.
 pub const BATCH: usize = 8;
 
-/// How many unions a batch may have before it takes a rule, which doubles them: those of seven
-/// rules.
+/// The most unions at which a batch still takes a rule, which doubles them: those of seven rules.
 const MOST_UNIONS: usize = 128;
 
-/// The place of a union for a source when a rule doubles the unions.
+/// Returns the index of a union for a source when a rule doubles the unions.
 fn moved(place: usize, joined: bool, weight: usize) -> usize
     requires place { place < weight }
     requires weight { weight ≤ 128 }
@@ -28,7 +27,7 @@ fn moved(place: usize, joined: bool, weight: usize) -> usize
     if joined { place + weight } else { place }
 }
 
-/// Moves the places for the sources of a rule on to the unions that have its targets.
+/// Moves the indexes of the sources of a rule to the unions that have its targets.
 fn move_places(places: &mut [usize], sources: &SharedSet, weight: usize)
     requires sources { length places.old ≤ 64 * length sources.now }
     requires places { (s : ℕ) → s < length places.old → slice_index places.old s < weight }
@@ -41,7 +40,7 @@ fn move_places(places: &mut [usize], sources: &SharedSet, weight: usize)
     }
 }
 
-/// The row of a set.
+/// Returns the row of a set.
 fn row_of(alloc: Global, set: &SharedSet, words: usize) -> Result<BitRow, AllocError>
     requires { length set.now ≡ words }
     ensures room { IfOk result (λ row. length row ≡ words) }
@@ -59,12 +58,12 @@ fn row_of(alloc: Global, set: &SharedSet, words: usize) -> Result<BitRow, AllocE
 pub struct Batch {
     /// The unions of the targets of these rules.
     unions: Unions,
-    /// For each source, the place of the union for those rules that have it.
+    /// For each source, the index of the union for those rules that have it.
     places: Vec<usize>,
 }
 
 impl Batch {
-    /// The batch of no rule.
+    /// Returns the batch of no rule.
     pub fn empty(alloc: Global, count: TypeCount) -> Result<Batch, AllocError>
         ensures fits { IfOk result (λ batch. FitsBatch count batch) }
         ensures room { IfOk result (λ batch. length batch.unions ≡ 1) }
@@ -75,7 +74,7 @@ impl Batch {
         Ok(Batch { unions, places })
     }
 
-    /// Whether the batch has as many rules as it may.
+    /// Returns whether the batch has as many rules as it may.
     pub fn is_full(&self) -> bool
         ensures { result ≡ nat_lt 128 (length self.now.unions) }
     {

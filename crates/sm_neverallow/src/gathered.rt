@@ -107,7 +107,7 @@ pub struct Gathered {
 }
 
 impl Gathered {
-    /// The pairs of no rule.
+    /// Returns the pairs of no rule.
     pub fn empty(alloc: Global, count: TypeCount) -> Result<Gathered, AllocError>
         ensures fits { IfOk result (λ gathered. FitsGathered count gathered) }
         ensures none { IfOk result (λ gathered. (s t : ℕ) → in_gathered gathered s t ≡ false) }
@@ -190,7 +190,7 @@ impl Gathered {
         self.add(alloc, rule, count)
     }
 
-    /// The pairs as rows.
+    /// Returns the pairs as rows.
     pub fn into_rows(self, count: TypeCount) -> Vec<BitRow>
         requires fits { FitsGathered count self }
         ensures square { Square result.items count }

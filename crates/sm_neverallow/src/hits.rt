@@ -21,10 +21,10 @@ use sm_rules::Kept;
 use sm_types::TypeCount;
 use std::alloc::{AllocError, Global};
 
-/// How many rules with every source cost as much as the unions of all groups.
+/// The number of rules with every source that cost as much as the unions of all groups.
 const MANY: usize = 192;
 
-/// How many groups are tested together.
+/// The number of groups that are tested together.
 const GROUPS: usize = 4;
 
 /// Adds a bit, if the rule has that source of the group.
@@ -55,7 +55,7 @@ fn place_of(rule: &Kept, group: usize) -> u8
     place
 }
 
-/// Whether a rule joins a source of the group to a target of its row.
+/// Returns whether a rule joins a source of the group to a target of its row.
 fn is_group_hit(unions: &Unions, rule: &Kept, count: TypeCount, group: usize) -> bool
     requires group { group < 8 * (count / 64 + 1) }
     requires number { length unions.now ≡ 256 }
@@ -71,7 +71,7 @@ fn is_group_hit(unions: &Unions, rule: &Kept, count: TypeCount, group: usize) ->
     place != 0 && unions.meets(place as usize, &rule.targets, words)
 }
 
-/// Whether a rule joins one of these sources to itself by `self`.
+/// Returns whether a rule joins one of these sources to itself by `self`.
 fn is_own_hit(own: &BitRow, rule: &Kept) -> bool
     requires { length own.now ≡ length rule.now.sources }
     ensures none { result ≡ false → OwnMisses own.now rule.now }
@@ -80,7 +80,7 @@ fn is_own_hit(own: &BitRow, rule: &Kept) -> bool
     rule.to_self && rule.sources.meets_row(own)
 }
 
-/// Whether a rule joins a source of one of the groups to a target of its row.
+/// Returns whether a rule joins a source of one of the groups to a target of its row.
 fn is_hit(all: &[Unions], rule: &Kept, count: TypeCount, first: usize) -> bool
     requires groups { first + length all.now ≤ 8 * (count / 64 + 1) }
     requires ready { AreReady count all.now }
@@ -97,8 +97,8 @@ fn is_hit(all: &[Unions], rule: &Kept, count: TypeCount, first: usize) -> bool
     false
 }
 
-/// The first of the places below `end` whose rule joins a source of one of the groups to a target
-/// of its row; `end`, if there is none.
+/// Returns the first of the indexes below `end` whose rule joins a source of one of the groups to a target of its row,
+/// or `end` if there is none.
 fn first_in_groups(
     all: &[Unions],
     rules: &[Kept],
@@ -123,7 +123,7 @@ fn first_in_groups(
     end
 }
 
-/// The unions of the rows of a few groups.
+/// Returns the unions of the rows of a few groups.
 fn unions_of(
     alloc: Global,
     matrix: &Matrix,
@@ -145,8 +145,8 @@ fn unions_of(
     Ok(all)
 }
 
-/// The first of the places whose rule joins one of these sources to itself by `self`; their
-/// number, if there is none.
+/// Returns the first of the indexes whose rule joins one of these sources to itself by `self`, or their number if there
+/// is none.
 fn first_own(own: &BitRow, rules: &[Kept], places: &[usize], count: TypeCount) -> usize
     requires own { length own.now ≡ count / 64 + 1 }
     requires fits { All (FitsRule count) rules.now }
@@ -162,8 +162,8 @@ fn first_own(own: &BitRow, rules: &[Kept], places: &[usize], count: TypeCount) -
     places.len()
 }
 
-/// The first of the places below `end` whose rule joins a source of one of a few groups to a
-/// target of its row in the matrix; `end`, if there is none.
+/// Returns the first of the indexes below `end` whose rule joins a source of one of a few groups to a target of its row
+/// in the matrix, or `end` if there is none.
 fn first_of_groups(
     alloc: Global,
     matrix: &Matrix,
@@ -185,8 +185,8 @@ fn first_of_groups(
     Ok(first_in_groups(&all, rules, places, count, first, end))
 }
 
-/// The first of the places whose rule joins a pair of the matrix, sought by groups of sources;
-/// the number of places, if there is none.
+/// Returns the first of the indexes whose rule joins a pair of the matrix, found by groups of sources, or the number of
+/// indexes if there is none.
 fn first_by_groups(
     alloc: Global,
     matrix: &Matrix,
@@ -209,7 +209,7 @@ fn first_by_groups(
     Ok(found)
 }
 
-/// The same, sought rule by rule.
+/// Returns the same, found rule by rule.
 fn first_by_rules(matrix: &Matrix, rules: &[Kept], places: &[usize], count: TypeCount) -> usize
     requires square { Square matrix.now count }
     requires fits { All (FitsRule count) rules.now }
@@ -225,7 +225,7 @@ fn first_by_rules(matrix: &Matrix, rules: &[Kept], places: &[usize], count: Type
     places.len()
 }
 
-/// Whether a rule may join a source to one of these targets, which are those of all sources.
+/// Returns whether a rule may join a source to one of these targets, which are those of all sources.
 fn may_hit(targets: &BitRow, rule: &Kept) -> bool
     requires row { length targets.now ≡ length rule.now.targets }
     requires own { length targets.now ≡ length rule.now.sources }
@@ -234,7 +234,7 @@ fn may_hit(targets: &BitRow, rule: &Kept) -> bool
     rule.targets.meets_row(targets) || is_own_hit(targets, rule)
 }
 
-/// Whether a rule has exactly the permissions `set`, and may join a source to one of these targets.
+/// Returns whether a rule has exactly the permissions `set`, and may join a source to one of these targets.
 fn is_candidate(targets: &BitRow, rule: &Kept, count: TypeCount, set: u8) -> bool
     requires row { length targets.now ≡ count / 64 + 1 }
     requires rule { FitsRule count rule.now }
@@ -244,8 +244,8 @@ fn is_candidate(targets: &BitRow, rule: &Kept, count: TypeCount, set: u8) -> boo
     perm_set(rule) == set && may_hit(targets, rule)
 }
 
-/// The places of the rules below `end` that have exactly the permissions `set`, but for some that join no source
-/// to one of these targets, which are those of all sources: most neverallow rules forbid what no rule allows to
+/// Returns the indexes of the rules below `end` that have exactly the permissions `set`, except for some that join no
+/// source to one of these targets, which are those of all sources: most neverallow rules forbid what no rule allows to
 /// any source.
 fn places_of(
     alloc: Global,
@@ -269,8 +269,8 @@ fn places_of(
     Ok(places)
 }
 
-/// Whether the rules have so many sources in all that the unions cost less than they save. Either
-/// answer is right, and only the time is another.
+/// Returns whether the rules have enough sources in all for the unions to cost less than they save. Either answer is
+/// right; only the time differs.
 fn have_many_sources(rules: &[Kept], places: &[usize], count: TypeCount) -> bool
     requires fits { All (FitsRule count) rules.now }
     requires places { ArePlaces rules.now places.now }
@@ -286,7 +286,7 @@ fn have_many_sources(rules: &[Kept], places: &[usize], count: TypeCount) -> bool
     false
 }
 
-/// The first of the places whose rule joins a pair of the matrix; their number, if there is none.
+/// Returns the first of the indexes whose rule joins a pair of the matrix, or their number if there is none.
 fn first_of_places(
     alloc: Global,
     matrix: &Matrix,
@@ -306,8 +306,8 @@ fn first_of_places(
     first_by_groups(alloc, matrix, rules, places, count)
 }
 
-/// The place of the first rule below `end` that has exactly the permissions `set` and joins a
-/// pair of the matrix; `end`, if none does.
+/// Returns the index of the first rule below `end` that has exactly the permissions `set` and joins a pair of the
+/// matrix, or `end` if none does.
 pub fn first_hit(
     alloc: Global,
     matrix: &Matrix,

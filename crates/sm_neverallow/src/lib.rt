@@ -1,4 +1,4 @@
-//! Which pairs of types the allow rules of a rule text join, and which of these a neverallow rule of it
+//! Which pairs of types the allow rules of a policy source join, and which of these a neverallow rule of it
 //! forbids.
 #![tactic(auto)]
 

@@ -1,4 +1,4 @@
-//! The pairs of types that rules of a rule text join, for each permission.
+//! The pairs of types that rules of a policy source join, for each permission.
 
 use crate::matrix::{Matrix, matrices_of};
 use sm_bits::BitRow;
@@ -6,7 +6,7 @@ use sm_rules::Rules;
 use std::alloc::{AllocError, Global};
 use std::marker::Model;
 
-/// A matrix of bits for each permission, by its place in the order of bits.
+/// A matrix of bits for each permission, in the order of bits.
 #[derive(Drop)]
 pub struct Matrices {
     list: Vec<Matrix>,
@@ -27,11 +27,11 @@ impl Matrices {
     ghost use Rattle.sm_rules.specs.Keeping.{RulesOf};
     ghost use Rattle.sm_neverallow.specs.Matrices.{matrix, AllCompiled, SayWhatIsWritten, SayWhatIsSilenced};
 
-    /// The matrices of the allow rules.
+    /// Returns the matrices of the allow rules.
     ///
     /// # Errors
     ///
-    /// An error where memory was refused.
+    /// An error if an allocation fails.
     pub fn compile(alloc: Global, rules: &Rules) -> Result<Matrices, AllocError>
         ensures compiled { IfOk result (λ m. AllCompiled rules.now.allows rules.now.count 7 m) }
         ensures written { IfOk result (λ m. (policy : List TheStatement) (names : List (List ℕ))
@@ -42,11 +42,11 @@ impl Matrices {
         Ok(Matrices { list })
     }
 
-    /// The matrices of the dontaudit rules.
+    /// Returns the matrices of the dontaudit rules.
     ///
     /// # Errors
     ///
-    /// An error where memory was refused.
+    /// An error if an allocation fails.
     pub fn compile_silences(alloc: Global, rules: &Rules) -> Result<Matrices, AllocError>
         ensures compiled { IfOk result (λ m. AllCompiled rules.now.silences rules.now.count 7 m) }
         ensures silenced { IfOk result (λ m. (policy : List TheStatement) (names : List (List ℕ))
@@ -57,7 +57,7 @@ impl Matrices {
         Ok(Matrices { list })
     }
 
-    /// The targets of a source for permission `bit`.
+    /// Returns the targets of a source for permission `bit`.
     pub fn targets(&self, bit: u32, source: usize) -> &BitRow
         requires bit { bit < length self.now }
         requires source { source < length (matrix self.now bit) }
@@ -66,7 +66,7 @@ impl Matrices {
         self.list[bit as usize].targets(source)
     }
 
-    /// The matrices by their places.
+    /// Returns the matrices, in the order of bits.
     pub(crate) fn list(&self) -> &[Matrix]
         ensures { result.now ≡ self.now }
     {

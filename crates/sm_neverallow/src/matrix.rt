@@ -20,7 +20,7 @@ use sm_types::TypeCount;
 use std::alloc::{AllocError, Global};
 use std::marker::Model;
 
-/// How many sources are tested together, by the unions of their rows.
+/// The number of sources that are tested together, by the unions of their rows.
 pub const GROUP: usize = 8;
 
 /// Adds the targets of other rows.
@@ -37,7 +37,7 @@ fn add_rows(rows: &mut Vec<BitRow>, others: &[BitRow], count: TypeCount)
     }
 }
 
-/// Whether a rule joins the source to one of the targets of its row.
+/// Returns whether a rule joins the source to one of the targets of its row.
 fn source_meets(row: &BitRow, rule: &Kept, s: usize) -> bool
     requires sources { length rule.now.sources ≡ length row.now }
     requires targets { length rule.now.targets ≡ length row.now }
@@ -54,7 +54,7 @@ fn source_meets(row: &BitRow, rule: &Kept, s: usize) -> bool
     rule.to_self && row.has(s)
 }
 
-/// Whether a rule joins some source to one of the targets of its row.
+/// Returns whether a rule joins some source to one of the targets of its row.
 fn rows_meet(rows: &[BitRow], rule: &Kept, count: TypeCount) -> bool
     requires square { Square rows.now count }
     requires fits { FitsRule count rule.now }
@@ -92,7 +92,7 @@ fn add_row(
     unions.add(alloc, &nothing, words)
 }
 
-/// The unions of the rows of eight sources.
+/// Returns the unions of the rows of eight sources.
 fn unions_of(
     alloc: Global,
     rows: &[BitRow],
@@ -123,7 +123,7 @@ fn add_if_own(own: &mut BitRow, row: &BitRow, s: usize)
     }
 }
 
-/// The sources that are targets of their own.
+/// Returns the sources that are targets of their own.
 fn own_sources(alloc: Global, rows: &[BitRow], count: TypeCount) -> Result<BitRow, AllocError>
     requires square { Square rows.now count }
     ensures room { IfOk result (λ own. length own ≡ count / 64 + 1) }
@@ -136,7 +136,7 @@ fn own_sources(alloc: Global, rows: &[BitRow], count: TypeCount) -> Result<BitRo
     Ok(own)
 }
 
-/// The targets of all sources.
+/// Returns the targets of all sources.
 fn all_targets(alloc: Global, rows: &[BitRow], count: TypeCount) -> Result<BitRow, AllocError>
     requires square { Square rows.now count }
     ensures room { IfOk result (λ targets. length targets ≡ count / 64 + 1) }
@@ -164,7 +164,7 @@ impl Model for Matrix {
 }
 
 impl Matrix {
-    /// The matrix of no pair.
+    /// Returns the matrix of no pair.
     pub fn empty(alloc: Global, count: TypeCount) -> Result<Matrix, AllocError>
         ensures square { IfOk result (λ m. Square m count) }
         ensures none { IfOk result (λ m. (s t : ℕ) → has (row m s) t ≡ false) }
@@ -173,7 +173,7 @@ impl Matrix {
         Ok(Matrix { rows })
     }
 
-    /// The matrix of the pairs of types that some rule with exactly the permissions `set` joins.
+    /// Returns the matrix of the pairs of types that some rule with exactly the permissions `set` joins.
     pub fn compile(
         alloc: Global,
         rules: &[Kept],
@@ -201,7 +201,7 @@ impl Matrix {
         }
     }
 
-    /// The matrix of the pairs that some permission of the set has.
+    /// Returns the matrix of the pairs that some permission of the set has.
     pub fn union_of(
         alloc: Global,
         matrices: &[Matrix],
@@ -219,7 +219,7 @@ impl Matrix {
         Ok(joined)
     }
 
-    /// Whether a rule joins two types that the matrix joins.
+    /// Returns whether a rule joins two types that the matrix joins.
     pub fn meets(&self, rule: &Kept, count: TypeCount) -> bool
         requires square { Square self.now count }
         requires fits { FitsRule count rule.now }
@@ -231,7 +231,7 @@ impl Matrix {
         rows_meet(&self.rows, rule, count)
     }
 
-    /// The targets of a source.
+    /// Returns the targets of a source.
     pub fn targets(&self, source: usize) -> &BitRow
         requires { source < length self.now }
         ensures { result.now ≡ row self.now source }
@@ -239,7 +239,7 @@ impl Matrix {
         &self.rows[source]
     }
 
-    /// The unions of the rows of eight sources, from source 8 times `group` on.
+    /// Returns the unions of the rows of eight sources, from source 8 times `group` on.
     pub fn unions_of(
         &self,
         alloc: Global,
@@ -254,7 +254,7 @@ impl Matrix {
         unions_of(alloc, &self.rows, count, group)
     }
 
-    /// The targets of all sources.
+    /// Returns the targets of all sources.
     pub fn all_targets(&self, alloc: Global, count: TypeCount) -> Result<BitRow, AllocError>
         requires square { Square self.now count }
         ensures room { IfOk result (λ targets. length targets ≡ count / 64 + 1) }
@@ -263,7 +263,7 @@ impl Matrix {
         all_targets(alloc, &self.rows, count)
     }
 
-    /// The sources that the matrix joins to themselves.
+    /// Returns the sources that the matrix joins to themselves.
     pub fn own_sources(&self, alloc: Global, count: TypeCount) -> Result<BitRow, AllocError>
         requires square { Square self.now count }
         ensures room { IfOk result (λ own. length own ≡ count / 64 + 1) }

@@ -9,18 +9,18 @@ use sm_bits::BitRow;
 use sm_rules::Kept;
 use std::alloc::{AllocError, Global};
 
-/// How many sets of permissions there are, each a number below this one.
+/// The number of sets of permissions, each a number below this one.
 pub const SET_COUNT: u8 = 128;
 
-/// The permissions of a rule as a number below 128, a bit for each.
+/// Returns the permissions of a rule as a number below 128, a bit for each.
 pub fn perm_set(rule: &Kept) -> u8
     ensures { result ≡ perm_set rule.now }
 {
     rule.perms.0 % SET_COUNT
 }
 
-/// The sets of permissions that some rules have, by their numbers: so one pass over the rules tells which sets
-/// have none.
+/// Returns the sets of permissions that some rules have, by their numbers, so that one pass over the rules finds the
+/// sets without rules.
 pub fn sets_of(alloc: Global, rules: &[Kept]) -> Result<BitRow, AllocError>
     ensures { IfOk result (λ sets. AreSetsOf rules.now sets) }
 {

@@ -12,7 +12,7 @@ use sm_bits::{BitRow, SharedSet};
 use std::alloc::{AllocError, Global};
 use std::marker::Model;
 
-/// The union of two rows.
+/// Returns the union of two rows.
 fn union_of(
     alloc: Global,
     first: &BitRow,
@@ -64,7 +64,7 @@ impl Model for Unions {
 }
 
 impl Unions {
-    /// The only union of no row.
+    /// Returns the only union of no row.
     pub fn none(alloc: Global, words: usize) -> Result<Unions, AllocError>
         ensures number { IfOk result (λ unions. length unions ≡ 1) }
         ensures wide { IfOk result (λ unions. AreWide words unions) }
@@ -76,7 +76,7 @@ impl Unions {
         Ok(Unions { rows })
     }
 
-    /// How many unions there are.
+    /// Returns the number of unions.
     pub fn len(&self) -> usize
         ensures { result ≡ length self.now }
     {
@@ -93,7 +93,7 @@ impl Unions {
         double(alloc, &mut self.rows, row, words)
     }
 
-    /// Adds the union at a place to a row.
+    /// Adds the union at an index to a row.
     pub fn add_to(&self, place: usize, to: &mut BitRow, words: usize)
         requires wide { AreWide words self.now }
         requires place { place < length self.now }
@@ -104,7 +104,7 @@ impl Unions {
         to.union_with(&self.rows[place]);
     }
 
-    /// Whether the union at a place has something in common with a row.
+    /// Returns whether the union at an index has something in common with a row.
     pub fn meets(&self, place: usize, other: &SharedSet, words: usize) -> bool
         requires wide { AreWide words self.now }
         requires place { place < length self.now }

@@ -35,7 +35,7 @@ pub struct Violation {
     pub perm: Perms,
 }
 
-/// The lowest permission in both sets.
+/// Returns the lowest permission in both sets.
 fn common_bit(first: u8, second: u8) -> Option<u32>
     ensures none { IfNone result ((b : ℕ) → b < 7 → (has_bit first b && has_bit second b) ≡ false) }
     ensures some { IfSome result (λ b. (b < 7) × ((has_bit first b && has_bit second b) ≡ true)) }
@@ -50,7 +50,7 @@ fn common_bit(first: u8, second: u8) -> Option<u32>
     None
 }
 
-/// Whether two rules join a type to itself, one of them by `self`.
+/// Returns whether two rules join a type to itself, one of them by `self`.
 fn own_meet(a: &Kept, b: &Kept, s: usize) -> bool
     requires a_source { s < 64 * length a.now.sources }
     requires a_target { s < 64 * length a.now.targets }
@@ -61,7 +61,7 @@ fn own_meet(a: &Kept, b: &Kept, s: usize) -> bool
     a.joins(s, s) && b.joins(s, s)
 }
 
-/// Whether two rules join some pair of types both.
+/// Returns whether two rules join some pair of types both.
 fn meet(a: &Kept, b: &Kept, count: TypeCount) -> bool
     requires first { FitsRule count a.now }
     requires second { FitsRule count b.now }
@@ -81,7 +81,7 @@ fn meet(a: &Kept, b: &Kept, count: TypeCount) -> bool
     false
 }
 
-/// The first target to which two rules join a source both.
+/// Returns the first target to which two rules join a source both.
 fn first_target(a: &Kept, b: &Kept, count: TypeCount, s: usize) -> Option<usize>
     requires first { FitsRule count a.now }
     requires second { FitsRule count b.now }
@@ -101,7 +101,7 @@ fn first_target(a: &Kept, b: &Kept, count: TypeCount, s: usize) -> Option<usize>
     None
 }
 
-/// The first source, and its first target, that two rules join both.
+/// Returns the first source, and its first target, that two rules join both.
 fn first_pair(a: &Kept, b: &Kept, count: TypeCount) -> Option<(u16, u16)>
     requires first { FitsRule count a.now }
     requires second { FitsRule count b.now }
@@ -121,7 +121,7 @@ fn first_pair(a: &Kept, b: &Kept, count: TypeCount) -> Option<(u16, u16)>
     None
 }
 
-/// What an allow rule and a neverallow rule have in common first, if anything.
+/// Returns the first violation of a neverallow rule by an allow rule, if there is one.
 fn violation_between(allow: &Kept, never: &Kept, count: TypeCount) -> Option<Violation>
     requires allow { FitsRule count allow.now }
     requires never { FitsRule count never.now }
@@ -143,7 +143,7 @@ fn violation_between(allow: &Kept, never: &Kept, count: TypeCount) -> Option<Vio
     })
 }
 
-/// What a neverallow rule has in common with the first allow rule that breaks it, if one does.
+/// Returns the first violation of a neverallow rule by the first allow rule that breaks it, if one does.
 fn first_of(allows: &[Kept], never: &Kept, count: TypeCount) -> Option<Violation>
     requires allows { All (FitsRule count) allows.now }
     requires never { FitsRule count never.now }
@@ -159,8 +159,8 @@ fn first_of(allows: &[Kept], never: &Kept, count: TypeCount) -> Option<Violation
     None
 }
 
-/// The place of the first neverallow rule below `end` that has exactly the permissions `set` and
-/// forbids something that the matrices have; `end`, if none does.
+/// Returns the index of the first neverallow rule below `end` that has exactly the permissions `set` and forbids
+/// something that the matrices have, or `end` if none does.
 fn first_broken_of(
     alloc: Global,
     matrices: &[Matrix],
@@ -190,10 +190,10 @@ fn first_broken_of(
     first_hit(alloc, &joined, neverallows, count, set, end)
 }
 
-/// The place of the first neverallow rule that forbids something that the matrices have.
+/// Returns the index of the first neverallow rule that forbids something that the matrices have.
 ///
-/// The rules are gone through by the sets of their permissions: all rules of a set are tested
-/// against one matrix, of the pairs that some permission of the set has.
+/// Rules are tested by the sets of their permissions: all rules of a set against one matrix, of the pairs that some
+/// permission of the set has.
 fn first_broken(
     alloc: Global,
     matrices: &[Matrix],
@@ -223,8 +223,7 @@ fn first_broken(
     }
 }
 
-/// The first violation: of the first neverallow rule that is broken, by the first allow rule
-/// that breaks it.
+/// Returns the first violation: that of the first broken neverallow rule, by the first allow rule that breaks it.
 fn first_among(
     alloc: Global,
     matrices: &[Matrix],
@@ -245,15 +244,14 @@ fn first_among(
     }
 }
 
-/// The first violation of the neverallow rules: of the first neverallow rule in the order of
-/// the text that is broken, by the first allow rule that breaks it; then of the least source
-/// and the least target by the order of declaration, and the lowest permission by the order
-/// of bits. `None`: no allow rule allows what a neverallow rule forbids. The matrices are those of
-/// the rules.
+/// Returns the first violation of the neverallow rules: of the first broken neverallow rule in the order of the source,
+/// by the first allow rule that breaks it; then of the least source and the least target by the order of declaration,
+/// and the lowest permission by the order of bits. `None` if no allow rule allows what a neverallow rule forbids. The
+/// matrices are those of the rules.
 ///
 /// # Errors
 ///
-/// An error where memory was refused.
+/// An error if an allocation fails.
 pub fn first_violation(
     alloc: Global,
     rules: &Rules,

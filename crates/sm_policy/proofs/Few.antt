@@ -1,4 +1,4 @@
--- A rule text has no more statements than bytes.
+-- A policy source has no more statements than bytes.
 use Rattle.std.proofs.Common.{◌≡◌, ℕ, zero, suc, ◌+◌, ◌≤◌, Bool, true, false, ◌&&◌, cond, List, [], ◌∷◌, ◌++◌, length}
 use Rattle.std.proofs.Common.{length-append, Option, None, Some, Ok, Err, refl, ap, arith}
 use Rattle.std.specs.Prelude.{nat_lt, nat_le}

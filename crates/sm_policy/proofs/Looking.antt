@@ -86,7 +86,7 @@ undeclared policy names s of distinct none = false_from_ne_true (declares policy
     place_of (types policy) s r.0 (subst Distinct of distinct) found in
     absurd (cc (sym none ∙ e)))
 
--- a check of what isn't declared passes nowhere, and leaves a record
+-- a check of what isn't declared passes nowhere, and is audited
 refusal_is : (policy : Policy) (s t : Name) (class : Class) (perm : Perms) → ((r : Rule) → joins policy s t r ≡ false)
     → (is_permissive policy s && (declares policy t && is_some (perm_of class perm))) ≡ false
     → refusal ≡ record { allowed = allowed policy s t class perm; audited = audits policy s t class perm }

@@ -1,4 +1,4 @@
--- The first entry with an undeclared type stands on the first entry line with an undeclared type.
+-- The first entry with an undeclared type is on the first entry line with an undeclared type.
 use Rattle.std.proofs.Common.{◌≡◌, ℕ, ◌+◌, Bool, true, false, not, ◌&&◌, cond, if◌then◌else◌, List, [], ◌∷◌, ◌++◌}
 use Rattle.std.proofs.Common.{length, Option, None, Some, Ok, Err, refl, sym, ap, ◌∙◌}
 use Rattle.std.specs.Prelude.{find, option_map, nat_lt, count_by}

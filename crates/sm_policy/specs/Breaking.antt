@@ -1,4 +1,4 @@
--- A policy that is refused for a neverallow rule.
+-- Policies that are refused for a neverallow rule.
 use Rattle.std.specs.Prelude.{◌≡◌, ℕ, true, List, Ok}
 use Rattle.sm_ruletext.specs.declared.statement.Statement.{Statement}
 use Rattle.sm_rules.specs.Access.{written, forbidden, IsConsistent}
@@ -8,7 +8,7 @@ use Rattle.sm_policy.specs.declared.fault.PolicyFault.{PolicyFault}
 use Rattle.sm_policy.specs.declared.fault.PolicyFault.TheVariants.{Rules, Types, Access, Contexts, UndeclaredLabel}
 use Rattle.sm_policy.specs.declared.fault.PolicyFault.TheVariants.{Neverallow, Memory}
 
--- A claim on a violation, where that is the fault.
+-- A claim on the violation, if the fault is a broken neverallow rule.
 abbrev pub IfNeverallow : PolicyFault → (Violation → Type 0) → Type 0
 IfNeverallow (Neverallow v) P = P v
 IfNeverallow (Rules e) P = Unit {0}
@@ -18,13 +18,13 @@ IfNeverallow (Contexts e) P = Unit {0}
 IfNeverallow (UndeclaredLabel n) P = Unit {0}
 IfNeverallow Memory P = Unit {0}
 
--- What the violation names is both allowed and forbidden: so the statements aren't consistent.
+-- What the violation names is both allowed and forbidden, so the statements aren't consistent.
 pub record IsBroken (statements : List Statement) (v : Violation) : Type 0 where
   pub allowed : written statements v.source v.target v.class v.perm ≡ true
   pub refused : forbidden statements v.source v.target v.class v.perm ≡ true
   pub inconsistent : IsConsistent statements → ⊥
 
--- The rule text says something that is so broken.
+-- The policy source has statements that are broken so.
 pub record IsBrokenText (text : List ℕ) (v : Violation) : Type 0 where
   pub statements : List Statement
   pub read : rules_of text ≡ Ok statements

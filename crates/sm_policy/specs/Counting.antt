@@ -1,4 +1,4 @@
--- The sizes of a policy.
+-- The counts of a policy.
 use Rattle.std.specs.Prelude.{ℕ, Bool, true, false, List, length, count_by}
 use Rattle.sm_ruletext.specs.declared.statement.Statement.{Statement}
 use Rattle.sm_ruletext.specs.declared.statement.What.{What}
@@ -9,7 +9,7 @@ use Rattle.sm_contexts.specs.Reading.{Entry}
 use Rattle.sm_policy.specs.declared.counts.Counts.{Counts}
 use Rattle.sm_policy.specs.Policy.{Policy}
 
--- It is an allow or a neverallow rule.
+-- A statement is an allow or a neverallow rule.
 abbrev pub is_counted : What → Bool
 is_counted (Allow r) = true
 is_counted (Neverallow r) = true
@@ -19,9 +19,11 @@ is_counted (Attribute n) = false
 is_counted (Declared n names) = false
 is_counted (Member n names) = false
 
+-- This is the number of allow and neverallow rules.
 abbrev pub rule_count : List Statement → ℕ
 rule_count statements = count_by (λ s. is_counted s.what) statements
 
+-- These are the counts of statements and entries.
 abbrev pub counted : List Statement → List Entry → Counts
 counted statements entries = record {
   types = length (types statements);
@@ -30,6 +32,7 @@ counted statements entries = record {
   labels = length entries;
 }
 
--- Declared types and attributes, kept allow and neverallow rules, and distinct keys.
+-- A policy's counts are those of declared types and attributes, of kept allow and neverallow rules, and of distinct
+-- keys.
 abbrev pub counts_of : Policy → Counts
 counts_of policy = counted policy.statements policy.entries

@@ -5,10 +5,10 @@ use Rattle.sm_kinds.specs.Contexts.{type_of}
 use Rattle.sm_types.specs.Names.{Name}
 use Rattle.sm_contexts.specs.Reading.{Entry}
 
--- The number of the type in an entry's context, if it is declared.
+-- This is the number of the type in an entry's context, if the type is declared.
 abbrev pub number_of : List Name → Entry → Option ℕ
 number_of types e = position (bytes_eq (type_of e.context)) types
 
--- Each entry has the number of its type at its place.
+-- Each entry's number is that of its type.
 pub record AreNumbered (types : List Name) (entries : List Entry) (numbers : List ℕ) : Type 0 where
   pub each : map (number_of types) entries ≡ map Some numbers

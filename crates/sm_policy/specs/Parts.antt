@@ -1,4 +1,4 @@
--- What is true of the parts of a policy.
+-- The invariant of a policy's parts.
 use Rattle.std.specs.Prelude.{◌≡◌, ℕ, List}
 use Rattle.sm_ruletext.specs.declared.statement.Statement.{Statement}
 use Rattle.sm_types.specs.declared.table.Table.{Table}
@@ -11,8 +11,7 @@ use Rattle.sm_policy.specs.Counting.{counted}
 use Rattle.sm_policy.specs.Labelling.{AreNumbered}
 use Rattle.sm_policy.specs.declared.counts.Counts.{Counts}
 
--- The types, the rules, the bytes, the sizes and the numbers of the labels' types are those of the statements and
--- entries.
+-- The types, rules, bytes, counts and labels' numbers are those of the same statements and entries.
 pub record AreOneText (statements : List Statement) (entries : List Entry) (types : Table) (rules : KeptRules)
     (tables : vectors.Tables) (counts : Counts) (indexes : List ℕ) : Type 0 where
   pub typed : IsOf statements types

@@ -1,4 +1,4 @@
--- A policy: the statements of its rule text and the entries of its contexts text.
+-- A policy: the statements of its policy source and the entries of its contexts file.
 use Rattle.std.specs.Prelude.{ℕ, Bool, not, ◌&&◌, ◌||◌, nat_lt, List, [], length, position, Option, is_some, unwrap_or}
 use Rattle.std.specs.Str.{bytes_eq}
 use Rattle.sm_kinds.specs.Permissions.{perm_of}
@@ -11,69 +11,70 @@ use Rattle.sm_contexts.specs.Reading.{Entry, label}
 use Rattle.sm_rules.specs.Access as access
 use Rattle.sm_vectors.specs.declared.decision.Decision.{Decision}
 
+-- A policy has the statements of its source and the entries of its contexts file.
 pub record Policy : Type 0 where
   pub statements : List Statement
   pub entries : List Entry
 
--- A policy that declares nothing and allows nothing.
+-- This policy declares nothing and allows nothing.
 abbrev pub no_policy : Policy
 no_policy = record { statements = []; entries = [] }
 
--- Some allow rule gives the source type this permission on the target type.
+-- Some allow rule grants the source type this permission on the target type.
 abbrev pub written : Policy → List ℕ → List ℕ → Class → Perms → Bool
 written policy source target class perm = access.written policy.statements source target class perm
 
--- The rule text makes the type permissive.
+-- The policy source makes the type permissive.
 abbrev pub is_permissive : Policy → List ℕ → Bool
 is_permissive policy source = access.is_permissive policy.statements source
 
--- Some dontaudit rule covers it.
+-- Some dontaudit rule covers the access.
 abbrev pub silenced : Policy → List ℕ → List ℕ → Class → Perms → Bool
 silenced policy source target class perm = access.silenced policy.statements source target class perm
 
--- A check of it passes: some allow rule gives it; or the source is permissive, the target is declared, and the
+-- A check passes: some allow rule grants the permission; or the source is permissive, the target is declared, and the
 -- permission is a single one of the class.
 unfoldable pub allowed : Policy → List ℕ → List ℕ → Class → Perms → Bool
 allowed policy source target class perm =
     written policy source target class perm
     || (is_permissive policy source && (declares policy.statements target && is_some (perm_of class perm)))
 
--- A check of it leaves a record, passed or not: no allow rule gives it, and no dontaudit rule covers it.
+-- A check is audited, passed or not: no allow rule grants the permission, and no dontaudit rule covers it.
 unfoldable pub audits : Policy → List ℕ → List ℕ → Class → Perms → Bool
 audits policy source target class perm =
     not (written policy source target class perm) && not (silenced policy source target class perm)
 
--- Both of it.
+-- A decision says whether the access is allowed, and whether it is audited.
 abbrev pub decision : Policy → List ℕ → List ℕ → Class → Perms → Decision
 decision policy source target class perm = record {
   allowed = allowed policy source target class perm;
   audited = audits policy source target class perm;
 }
 
--- The line of the first allow rule that gives it.
+-- This is the line of the first allow rule that grants the permission.
 unfoldable pub written_at : Policy → List ℕ → List ℕ → Class → Perms → Option ℕ
 written_at policy source target class perm = access.written_line policy.statements source target class perm
 
--- The number of a declared type: types are numbered from 0 in the order of their declaration.
+-- This is the number of a declared type. Types are numbered from 0 in the order of their declaration.
 abbrev pub type_index : Policy → List ℕ → Option ℕ
 type_index policy name = position (bytes_eq name) (types policy.statements)
 
--- The same as `allowed` for the types of these numbers; nothing is allowed where there is no such type.
+-- The same as `allowed`, for the types of these numbers. Nothing is allowed if a number has no type.
 abbrev pub allowed_at : Policy → ℕ → ℕ → Class → Perms → Bool
 allowed_at policy source target class perm =
     (nat_lt source (length (types policy.statements)) && nat_lt target (length (types policy.statements)))
     && allowed policy (at (types policy.statements) source) (at (types policy.statements) target) class perm
 
--- The context of the services of a name.
+-- This is the context of the services of a name.
 unfoldable pub label_of : Policy → List ℕ → List ℕ
 label_of policy name = unwrap_or (label policy.entries name) []
 
--- Nothing that an allow rule gives is forbidden by a neverallow rule. What a permissive type may do besides doesn't
+-- Nothing that an allow rule grants is forbidden by a neverallow rule. What only a permissive type may do doesn't
 -- count.
 pub record IsConsistent (policy : Policy) : Type 0 where
   pub apart : access.IsConsistent policy.statements
 
--- A policy and the number of its version.
+-- A policy has a version.
 pub record Versioned : Type 0 where
   pub policy : Policy
   pub number : ℕ

@@ -1,4 +1,4 @@
--- What comes of the two texts of a policy: a policy, or the first refusal.
+-- The result of reading the two files of a policy: a policy, or the first refusal.
 use Rattle.std.specs.Prelude.{ℕ, ◌+◌, Bool, true, false, not, ◌&&◌, if◌then◌else◌, List, [], ◌∷◌, Option, Some, None}
 use Rattle.std.specs.Prelude.{Result, Ok, Err}
 use Rattle.sm_kinds.specs.Contexts.{type_of}
@@ -26,10 +26,11 @@ use Rattle.sm_policy.specs.declared.fault.PolicyFault.TheVariants.{Neverallow, M
 use Rattle.sm_policy.specs.Policy.{Policy}
 use Rattle.sm_policy.specs.Violating.{first_violation}
 
+-- Each step of reading has a result or a fault of the policy.
 abbrev pub Step : Type 0 → Type 0
 Step A = Result A PolicyFault
 
--- Want of memory.
+-- The fault is a failed allocation.
 abbrev pub is_memory : PolicyFault → Bool
 is_memory Memory = true
 is_memory (Rules e) = false
@@ -41,6 +42,7 @@ is_memory (Neverallow v) = false
 
 -- ---- faults of each part, as faults of the policy
 
+-- A fault of the policy source is this fault of the policy.
 abbrev pub of_text : RuleTextFault → PolicyFault
 of_text text.TooLarge = Rules text.TooLarge
 of_text (text.Syntax n) = Rules (text.Syntax n)
@@ -48,17 +50,20 @@ of_text (text.Unsupported n) = Rules (text.Unsupported n)
 of_text text.TooMany = Rules text.TooMany
 of_text text.Memory = Memory
 
+-- A fault of the declarations is this fault of the policy.
 abbrev pub of_types : TypesFault → PolicyFault
 of_types (types.Twice n) = Types (types.Twice n)
 of_types (types.Unknown n) = Types (types.Unknown n)
 of_types types.TooMany = Types types.TooMany
 of_types types.Memory = Memory
 
+-- A fault of the rules is this fault of the policy.
 abbrev pub of_access : RulesFault → PolicyFault
 of_access (access.Unknown n) = Access (access.Unknown n)
 of_access (access.UnknownPermission n) = Access (access.UnknownPermission n)
 of_access access.Memory = Memory
 
+-- A fault of the contexts file is this fault of the policy.
 abbrev pub of_contexts : ContextsFault → PolicyFault
 of_contexts labels.TooLarge = Contexts labels.TooLarge
 of_contexts (labels.BadLine n) = Contexts (labels.BadLine n)
@@ -67,44 +72,46 @@ of_contexts (labels.TwoDefaults n) = Contexts (labels.TwoDefaults n)
 of_contexts labels.NoDefault = Contexts labels.NoDefault
 of_contexts labels.Memory = Memory
 
--- A part's result, with its fault as one of the policy.
+-- A part's result has its fault as a fault of the policy.
 abbrev pub through : {A E : Type 0} → (E → PolicyFault) → Result A E → Step A
 through f (Ok x) = Ok x
 through f (Err e) = Err (f e)
 
--- Refused by a fault, if there is one.
+-- A fault, if there is one, refuses the policy.
 abbrev pub refused_by : {A E : Type 0} → (E → PolicyFault) → Option E → A → Step A
 refused_by f None x = Ok x
 refused_by f (Some e) x = Err (f e)
 
--- ---- the rule text
+-- ---- the policy source
 
+-- These are the statements of a policy source.
 unfoldable pub rules_of : List ℕ → Step (List Statement)
 rules_of bytes = through of_text (rules.read bytes)
 
--- Nothing that an allow rule allows is forbidden.
+-- Statements are refused if an allow rule allows what a neverallow rule forbids.
 unfoldable pub unbroken : List Statement → Step (List Statement)
 unbroken statements = refused_by Neverallow (first_violation statements) statements
 
--- ---- the contexts text
+-- ---- the contexts file
 
--- An entry line whose context has a type that the rule text doesn't declare.
+-- An entry line has a context whose type the policy source doesn't declare.
 abbrev pub is_undeclared_line : List Statement → List ℕ → Bool
 is_undeclared_line statements line = is_entry line && not (declares statements (type_of (first_word (after_word line))))
 
--- The first such line, from line n on. A line that repeats a key counts too.
+-- This is the first such line, from line n on. A line that repeats a key counts, too.
 abbrev pub undeclared_from : List Statement → ℕ → List (List ℕ) → Option ℕ
 undeclared_from statements n [] = None
 undeclared_from statements n (line ∷ more) =
     if is_undeclared_line statements line then Some n else undeclared_from statements (n + 1) more
 
+-- These are the entries of a contexts file, all of whose types are declared.
 unfoldable pub labels_of : List Statement → List ℕ → Step (List Entry)
 labels_of statements text =
     through of_contexts (contexts.read text)
     >>= λ entries. refused_by UndeclaredLabel (undeclared_from statements 1 (lines text)) entries
 
--- The policy of a rule text and a contexts text, or the first refusal: the grammar of the rule text, its declarations,
--- its rules, then the contexts text and its types, then the neverallow rules.
+-- This is the policy of a policy source and a contexts file, or the first refusal in this order: the grammar of the
+-- policy source, its declarations, its rules, the contexts file and its types, the neverallow rules.
 unfoldable pub prepared : List ℕ → List ℕ → Step Policy
 prepared rules contexts = do
   statements ← rules_of rules

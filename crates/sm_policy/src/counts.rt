@@ -10,7 +10,7 @@ use sm_contexts::Contexts;
 use sm_ruletext::{Statement, What};
 use sm_types::Types;
 
-/// What `svcmgr check` tells of a policy.
+/// The counts that `svcmgr check` prints of a policy.
 #[derive(Clone, Copy, Debug, PartialEq, Eq)]
 pub struct Counts {
     /// Declared types.
@@ -19,11 +19,11 @@ pub struct Counts {
     pub attributes: u32,
     /// Allow and neverallow rules for the classes `service_manager` and `binder`.
     pub rules: u32,
-    /// Distinct keys of the contexts text.
+    /// Distinct keys of the contexts file.
     pub labels: u32,
 }
 
-/// Whether it is an allow or a neverallow rule.
+/// Returns whether a statement is an allow or a neverallow rule.
 fn is_counted(what: &What) -> bool
     ensures { result ≡ is_counted what.now }
 {
@@ -43,7 +43,7 @@ fn rule_count(statements: &[Statement]) -> u32
     count
 }
 
-/// The sizes of a policy, whose types these are.
+/// Counts the statements and labels of a policy that has these types.
 pub fn counted(statements: &[Statement], types: &Types, contexts: &Contexts) -> Counts
     requires few { length statements.now ≤ MOST_TEXT_BYTES }
     requires typed { IsOf statements.now types.now }

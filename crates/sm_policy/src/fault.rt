@@ -11,22 +11,22 @@ use sm_ruletext::RuleTextFault;
 use sm_types::TypesFault;
 use std::alloc::{AllocError, AllocFailed};
 
-/// The first refusal of the two texts of a policy. Want of memory is `Memory`, wherever it was met.
+/// The first refusal of a policy. A failed allocation is `Memory`, wherever it happened.
 #[derive(Debug, Drop)]
 pub enum PolicyFault {
-    /// The rule text isn't in the grammar, or is too large.
+    /// The policy source isn't in the grammar, or is too large.
     Rules(RuleTextFault),
     /// A declaration is refused.
     Types(TypesFault),
     /// A rule is refused.
     Access(RulesFault),
-    /// The contexts text is refused.
+    /// The contexts file is refused.
     Contexts(ContextsFault),
-    /// The context on this line of the contexts text has a type that the rule text doesn't declare.
+    /// The context on this line of the contexts file has a type that the policy source doesn't declare.
     UndeclaredLabel(u32),
     /// An allow rule allows what a neverallow rule forbids.
     Neverallow(Violation),
-    /// Memory was refused.
+    /// An allocation failed.
     Memory,
 }
 

@@ -26,14 +26,14 @@ pub struct Label<'a> {
     pub index: u16,
 }
 
-/// The labels of a contexts text.
+/// The labels of a contexts file, each with the number of its type.
 pub struct Labels {
     pub contexts: Contexts,
     /// The number of the type in each context, in the order of the entries.
     pub indexes: Vec<u16>,
 }
 
-// By hand: where they are let go, a caller's proof has one step, and not those of their parts.
+// Drop: see docs/PROOFS.md.
 impl Drop for Labels {
     fn drop(self) {
         let Labels {
@@ -43,7 +43,7 @@ impl Drop for Labels {
     }
 }
 
-/// The number of the type in an entry's context; or the entry's line, if its type isn't declared.
+/// Returns the number of the type in an entry's context, or the entry's line if its type isn't declared.
 fn number_of(types: &Types, contexts: &Contexts, i: u32) -> Result<u16, u32>
     requires { i < length contexts.now }
     ensures number { IfOk result (λ n. option_map (number_of types.now.symbols.types) (slice_get contexts.now i) ≡ Some (Some n)) }
@@ -61,7 +61,7 @@ fn number_of(types: &Types, contexts: &Contexts, i: u32) -> Result<u16, u32>
     }
 }
 
-/// The number of the type in each context; or the first entry line whose type isn't declared.
+/// Returns the number of the type in each context, or the first entry line whose type isn't declared.
 fn numbers_of(alloc: Global, types: &Types, contexts: &Contexts) -> Result<Vec<u16>, PolicyFault>
     ensures exact { (policy : List TheStatement) → IsOf policy types.now
         → Gives is_memory (λ v. contexts.now) result
@@ -80,7 +80,7 @@ fn numbers_of(alloc: Global, types: &Types, contexts: &Contexts) -> Result<Vec<u
     Ok(numbers)
 }
 
-/// The labels of a contexts text.
+/// Reads the labels of a contexts file.
 #[tactic(auto, unfolding(crate::specs::Preparing::labels_of))]
 pub fn labels_of(alloc: Global, types: &Types, text: &[u8]) -> Result<Labels, PolicyFault>
     ensures exact { (policy : List TheStatement) → IsOf policy types.now

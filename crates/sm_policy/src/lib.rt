@@ -1,4 +1,4 @@
-//! Policies that were read and found good: the rules and the labels that servicemanager decides by.
+//! Accepted policies: the rules and labels by which servicemanager decides.
 #![tactic(auto)]
 
 mod counts;

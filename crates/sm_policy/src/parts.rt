@@ -1,4 +1,4 @@
-//! What the owners of a policy share.
+//! The parts of a policy, which all its references share.
 
 use crate::PolicyFault;
 use crate::counts::{Counts, counted};
@@ -17,7 +17,7 @@ use std::snapshot;
 /// A policy's types and rules as tables, and its labels.
 #[derive(Drop)]
 pub struct Parts {
-    /// What the rule text states, for contracts alone: it takes no memory.
+    /// The statements of the policy source, for contracts only. They need no memory.
     statements: snapshot::Snapshot<Vec<Statement>>,
     counts: Counts,
     types: Types,
@@ -37,7 +37,7 @@ impl Model for Parts {
     ghost invariant = { λ p. AreOneText p.statements.value.items p.labels.contexts p.types p.rules p.vectors p.counts p.labels.indexes.items };
 }
 
-/// The statements as contracts see them. They themselves are let go.
+/// Keeps the statements for contracts, and drops them.
 fn seen(statements: Vec<Statement>) -> snapshot::Snapshot<Vec<Statement>>
     ensures { result.value ≡ statements }
 {
@@ -55,7 +55,7 @@ impl Parts {
     ghost use Rattle.sm_kinds.specs.Reading.{Gives};
     ghost use Rattle.sm_policy.specs.Preparing.{is_memory, prepared};
 
-    /// The parts of a policy, or the first refusal of its texts.
+    /// Prepares the parts of a policy, or returns the first refusal.
     #[tactic(auto, unfolding(crate::specs::Preparing::prepared))]
     pub fn from_texts(alloc: Global, rules: &[u8], contexts: &[u8]) -> Result<Parts, PolicyFault>
         ensures exact { Gives is_memory (λ p. p) result (prepared rules.now contexts.now) }
@@ -81,21 +81,21 @@ impl Parts {
         })
     }
 
-    /// The number of a type.
+    /// Returns the number of a type.
     pub fn type_index(&self, name: &[u8]) -> Option<u16>
         ensures { result ≡ type_index self.now name.now }
     {
         self.types.index(name)
     }
 
-    /// Whether the permission on the types of these numbers passes.
+    /// Returns whether a check of the permission on the types of these numbers passes.
     pub fn allows_at(&self, source: u16, target: u16, class: Class, perm: Perms) -> bool
         ensures { result ≡ allowed_at self.now source target class perm }
     {
         self.vectors.allows(source, target, class, perm)
     }
 
-    /// The decision on types that may have a number.
+    /// Returns the decision on two types by their numbers, if they have any.
     pub fn decide_at(
         &self,
         source: Option<u16>,
@@ -122,7 +122,7 @@ impl Parts {
         vectors.decide(s, t, class, perm)
     }
 
-    /// The decision on types by their names.
+    /// Returns the decision on two types by their names.
     pub fn decide(&self, source: &[u8], target: &[u8], class: Class, perm: Perms) -> Decision
         ensures { result ≡ decision self.now source.now target.now class perm }
     {
@@ -134,7 +134,7 @@ impl Parts {
         )
     }
 
-    /// The line of the first allow rule that gives the permission, if there is one.
+    /// Returns the line of the first allow rule that grants the permission, if there is one.
     #[tactic(auto, unfolding(crate::specs::Policy::written_at))]
     pub fn why(&self, source: &[u8], target: &[u8], class: Class, perm: Perms) -> Option<u32>
         ensures { result ≡ written_at self.now source.now target.now class perm }
@@ -143,7 +143,7 @@ impl Parts {
             .written_by_name(&self.types, source, target, class, perm)
     }
 
-    /// The label of a name.
+    /// Returns the label of a name.
     #[tactic(auto, unfolding(crate::specs::Policy::label_of))]
     pub fn label(&self, name: &[u8]) -> &Context
         ensures { result.now ≡ label_of self.now name.now }
@@ -151,7 +151,7 @@ impl Parts {
         self.labels.contexts.label(name)
     }
 
-    /// The label of a name, with the number of its type.
+    /// Returns the label of a name, with the number of its type.
     #[tactic(auto, unfolding(crate::specs::Policy::label_of))]
     pub fn labelled(&self, name: &[u8]) -> Label<'_>
         ensures context { result.context.now ≡ label_of self.now name.now }
@@ -168,7 +168,7 @@ impl Parts {
         }
     }
 
-    /// The sizes of the policy.
+    /// Returns the counts of the policy.
     pub fn counts(&self) -> Counts
         ensures { result ≡ counts_of self.now }
     {

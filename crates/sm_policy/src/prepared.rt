@@ -1,4 +1,4 @@
-//! A policy that was read.
+//! Prepared policies.
 
 use crate::counts::Counts;
 use crate::parts::Parts;
@@ -8,8 +8,8 @@ use std::alloc::{AllocError, Global};
 use std::marker::Model;
 use std::sync::Arc;
 
-/// A policy, of which all owners share one copy. Contracts see the statements of its rule text and the
-/// entries of its contexts text.
+/// A prepared policy. Its clones share one copy. Contracts see the statements of its policy source and the entries of
+/// its contexts file.
 pub struct Prepared {
     parts: Arc<Parts, Global>,
 }
@@ -28,7 +28,7 @@ impl Model for Prepared {
     ghost invariant = { λ p. IsConsistent (arc_value p.parts) };
 }
 
-// By hand: where a policy is let go, a caller's proof has one step, and not those of its parts.
+// Drop: see docs/PROOFS.md.
 impl Drop for Prepared {
     fn drop(self) {
         let Prepared { parts: _ } = self;
@@ -44,15 +44,15 @@ impl Prepared {
     ghost use Rattle.sm_kinds.specs.Reading.{Gives};
     ghost use Rattle.sm_policy.specs.Preparing.{is_memory, prepared};
 
-    /// The policy of a rule text and a contexts text.
+    /// Prepares the policy of a policy source and a contexts file.
     ///
     /// # Errors
     ///
-    /// The first refusal in this order: the grammar of the rule text (`Rules`); its declarations and memberships
-    /// (`Types`); the names and permissions of its rules (`Access`); the contexts text (`Contexts`); the first entry
-    /// line whose context has a type that the rule text doesn't declare (`UndeclaredLabel`); the first neverallow
-    /// rule that an allow rule breaks (`Neverallow`): the rule text isn't consistent then. `Memory` where memory was
-    /// refused, in place of what would follow.
+    /// The first refusal in this order: the grammar of the policy source (`Rules`); its declarations and memberships
+    /// (`Types`); the names and permissions of its rules (`Access`); the contexts file (`Contexts`); the first entry
+    /// line whose context has a type that the policy source doesn't declare (`UndeclaredLabel`); the first neverallow
+    /// rule that an allow rule breaks (`Neverallow`). If an allocation fails before the first refusal is found,
+    /// `Memory`.
     pub fn from_texts(alloc: Global, rules: &[u8], contexts: &[u8]) -> Result<Prepared, PolicyFault>
         ensures exact { Gives is_memory (λ p. p) result (prepared rules.now contexts.now) }
         ensures consistent { IfOk result IsConsistent }
@@ -63,40 +63,40 @@ impl Prepared {
         Ok(Prepared { parts })
     }
 
-    /// Whether a check of this permission passes: some allow rule gives it to the source type on the target type,
-    /// or the source is permissive and the target declared. Types are given by their names. `false` for a type that
-    /// isn't declared and for a `perm` that is no single permission of the class.
+    /// Returns whether a check of this permission passes: some allow rule grants it to the source type on the target
+    /// type, or the source is permissive and the target declared. Types are given by their names. `false` for a type
+    /// that isn't declared and for a `perm` that is no single permission of the class.
     pub fn allows(&self, source: &[u8], target: &[u8], class: Class, perm: Perms) -> bool
         ensures { result ≡ allowed self.now source.now target.now class perm }
     {
         self.parts.decide(source, target, class, perm).allowed
     }
 
-    /// Whether a check of it leaves a record, passed or not: no allow rule gives it, and no dontaudit rule covers
-    /// it. `true` for a type that isn't declared and for a `perm` that is no single permission of the class.
+    /// Returns whether a check is audited, passed or not: no allow rule grants the permission, and no dontaudit rule
+    /// covers it. `true` for a type that isn't declared and for a `perm` that is no single permission of the class.
     pub fn audits(&self, source: &[u8], target: &[u8], class: Class, perm: Perms) -> bool
         ensures { result ≡ audits self.now source.now target.now class perm }
     {
         self.parts.decide(source, target, class, perm).audited
     }
 
-    /// The index of a type, by which `allows_at` and `decide_at` ask: 0 for the first that is declared. `None` if the
-    /// rule text declares no type of that name. Another policy may give the type another index.
+    /// Returns the number of a type, which `allows_at` and `decide_at` take: 0 for the first that is declared. `None`
+    /// if the policy source declares no type of that name. Another policy may number the type otherwise.
     pub fn type_index(&self, name: &[u8]) -> Option<u16>
         ensures { result ≡ type_index self.now name.now }
     {
         self.parts.type_index(name)
     }
 
-    /// The same as `allows` for the types of these numbers. `false` where there is no type of such a number.
+    /// Like `allows`, for the types of these numbers. `false` if a number has no type.
     pub fn allows_at(&self, source: u16, target: u16, class: Class, perm: Perms) -> bool
         ensures { result ≡ allowed_at self.now source target class perm }
     {
         self.parts.allows_at(source, target, class, perm)
     }
 
-    /// The decision on two types whose `type_index` is `source` and `target`: whether the access is allowed, and
-    /// whether it is audited. An access is audited if no allow rule grants it and no dontaudit rule covers it. Where
+    /// Returns the decision on two types whose `type_index` is `source` and `target`: whether the access is allowed,
+    /// and whether it is audited. An access is audited if no allow rule grants it and no dontaudit rule covers it. If
     /// an index is `None`, nothing is allowed and everything is audited.
     pub fn decide_at(
         &self,
@@ -111,21 +111,22 @@ impl Prepared {
         self.parts.decide_at(source, target, class, perm)
     }
 
-    /// The line of the first allow rule that gives it. A permissive source has none for what no rule gives.
+    /// Returns the line of the first allow rule that grants the permission, or `None` if no rule does, even if the
+    /// source is permissive.
     pub fn why(&self, source: &[u8], target: &[u8], class: Class, perm: Perms) -> Option<u32>
         ensures { result ≡ written_at self.now source.now target.now class perm }
     {
         self.parts.why(source, target, class, perm)
     }
 
-    /// The context of a name's service: the one on the line with this key, else the one on the line `*`.
+    /// Returns the context of a name's service: the one on the line with this key, otherwise the one on the line `*`.
     pub fn label(&self, name: &[u8]) -> &Context
         ensures { result.now ≡ label_of self.now name.now }
     {
         self.parts.label(name)
     }
 
-    /// The same, with the number of its type: all types in contexts are declared.
+    /// Like `label`, with the number of the type: all types in contexts are declared.
     pub fn labelled(&self, name: &[u8]) -> Label<'_>
         ensures context { result.context.now ≡ label_of self.now name.now }
         ensures index { type_index self.now (type_of (label_of self.now name.now)) ≡ Some result.index }
@@ -133,14 +134,14 @@ impl Prepared {
         self.parts.labelled(name)
     }
 
-    /// What `svcmgr check` tells of the policy.
+    /// Returns the counts that `svcmgr check` prints.
     pub fn counts(&self) -> Counts
         ensures { result ≡ counts_of self.now }
     {
         self.parts.counts()
     }
 
-    /// One more owner of the same policy. `Err`: no more owners fit.
+    /// Returns another reference to the same policy. Returns an error if no more references fit.
     pub fn share(&self) -> Result<Prepared, AllocError>
         ensures same { IfOk result (λ p. p ≡ self.now) }
         ensures consistent { IsConsistent self.now }

@@ -1,4 +1,4 @@
-//! Reads the two texts of a policy.
+//! Reads the two files of a policy.
 
 ghost use Rattle.std.specs.Prelude.{◌≡◌, ◌≤◌, List, IfOk, IfErr, OnOk, length};
 ghost use Rattle.sm_kinds.specs.Reading.{Gives};
@@ -22,7 +22,7 @@ use sm_ruletext::Statement;
 use sm_types::Types;
 use std::alloc::{AllocError, Global};
 
-/// The statements of a rule text.
+/// Reads the statements of a policy source.
 #[tactic(auto, unfolding(crate::specs::Preparing::rules_of))]
 pub fn rules_of(alloc: Global, text: &[u8]) -> Result<Vec<Statement>, PolicyFault>
     ensures exact { Gives is_memory (λ v. v.items) result (spec.rules_of text.now) }
@@ -33,7 +33,7 @@ pub fn rules_of(alloc: Global, text: &[u8]) -> Result<Vec<Statement>, PolicyFaul
     Ok(statements)
 }
 
-/// The name of a type by its number, empty where there is none.
+/// Returns the name of a type by its number, or nothing if there is no such type.
 fn type_name(types: &Types, index: u16) -> &[u8]
     ensures { result.now ≡ at types.now.symbols.types index }
 {
@@ -43,7 +43,7 @@ fn type_name(types: &Types, index: u16) -> &[u8]
     }
 }
 
-/// A violation with the names of its types.
+/// Looks up the names of a violation's types.
 fn named(
     alloc: Global,
     types: &Types,
@@ -63,7 +63,7 @@ fn named(
     })
 }
 
-/// Refuses rules of which an allow rule allows what a neverallow rule forbids.
+/// Refuses rules in which an allow rule allows what a neverallow rule forbids.
 pub fn refuse_violation(
     alloc: Global,
     types: &Types,

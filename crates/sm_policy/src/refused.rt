@@ -1,4 +1,4 @@
-//! The words for a policy that is refused.
+//! The words of a refusal.
 
 ghost use Rattle.std.specs.Prelude.{◌≡◌, IfOk};
 ghost use Rattle.sm_kinds.specs.Messages.{numbered};
@@ -112,7 +112,7 @@ fn violated(alloc: Global, violation: &Violation) -> Result<Vec<u8>, AllocError>
     Ok(text)
 }
 
-/// The words that tell an administrator why a policy was refused.
+/// Returns the words that say why a policy was refused.
 pub fn refused_text(alloc: Global, fault: &PolicyFault) -> Result<Vec<u8>, AllocError>
     ensures { IfOk result (λ v. v.items ≡ refused_words fault.now) }
 {

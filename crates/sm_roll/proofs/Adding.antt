@@ -17,7 +17,7 @@ prefix_whole (x ∷ xs) [] p le = absurd (cc (p.1))
 prefix_whole (x ∷ xs) (y ∷ ys) p le =
     let rest = prefix_whole xs ys (p.0, cc (p.1)) (omega arith) in cc (p.1, rest)
 
--- What stands in a beginning stands in the whole, at the same number.
+-- What is in a prefix is in the whole, at the same number.
 pub noted_prefix : (xs ys : List Book) (k : ℕ) → IsPrefix xs ys → k < length xs → noted ys k ≡ noted xs k
 noted_prefix [] ys k p less = absurd (omega arith)
 noted_prefix (x ∷ xs) [] k p less = absurd (cc (p.1))
@@ -39,7 +39,7 @@ shown log = []
 abbrev pub moved : List Book → List Book → ℕ → Type 0
 moved xs ys n = Unit {0}
 
--- The word after the exchange, and what the exchange tells.
+-- The word after the exchange, and the result of the exchange.
 abbrev pub exchanged : ℕ → ℕ → ℕ
 exchanged old n = either (n == old) (old + 1) n
 

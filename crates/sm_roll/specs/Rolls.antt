@@ -1,26 +1,26 @@
--- A roll: a list of books, of which each number stands for one for good.
+-- A roll: a list of books in which each number denotes one book for good.
 use Rattle.std.specs.Prelude.{ℕ, ◌≡◌, ◌==◌, true, List, [], ◌∷◌, ◌++◌, length, slice_index_or, MatchBool}
 use Rattle.logbook.specs.Pages.{Cell, Step, View, Named}
 use Rattle.logbook.specs.Pages.{Book as Log}
 use Rattle.sm_history.specs.Books.{Book}
 use Rattle.sm_history.specs.Histories.{whole}
 
--- The book of no history, with no place.
+-- This book has no history and no slots.
 abbrev pub blank_book : Book
 blank_book = record { places = 0; history = whole [] }
 
--- The book that is noted at a number.
+-- This is the book at a number.
 abbrev pub noted : List Book → ℕ → Book
 noted roll number = slice_index_or roll number blank_book
 
--- The rule: the first word is how many books are noted. A log has two words, of which the second stays 0.
+-- The rule is that the first word is the number of recorded books. A log has two words; the second stays 0.
 abbrev pub IsKept : List Cell → List Book → Type 0
 IsKept cells roll = cells ≡ (length roll, true) ∷ (0, true) ∷ []
 
--- The first word of a log.
+-- This is the first word of a log.
 abbrev pub head_of : Log → Named
 head_of l = record { tracked = true; key = 0; book = l }
 
--- What a step tells: the book was noted behind all that had been seen; or more were noted, and were seen.
+-- A step says that the book was appended after all that had been seen, or that more were recorded, and are seen now.
 abbrev pub Adds : Step Book → View Book ℕ → ℕ → View Book ℕ → Type 0
 Adds s v found w = MatchBool (found == s.old) (w.0 ≡ v.0 ++ s.ask ∷ []) (length w.0 ≡ found)

@@ -1,12 +1,12 @@
-//! Numbers for histories: in all threads, one number stands for one history.
+//! Numbers for histories: in all threads, one number denotes one history.
 //!
-//! What a thread finds published is a page, and nothing that it can look at says which history it is of. So each page
-//! carries a **badge**, a number that was given to its history when it was made; two badges with one number stand for
-//! one history (`Badge::is`), and that is how a thread which holds the lock knows that it found the page of the very
-//! history under the lock, and not an older one.
+//! A thread that finds a published page can't see which history the page is of. So each page carries a **badge**, a
+//! number that was given to its history when the page was made. Two badges with the same number denote the same history
+//! (`Badge::is`), so a thread that holds the lock knows whether it found the page of the history under the lock, or an
+//! older one.
 //!
-//! The **roll** gives out these numbers, in order (`Roll::add`). The histories themselves are noted in proofs alone: at
-//! run time a roll is a count, and a badge one number.
+//! The **roll** gives out these numbers, in order (`Roll::add`). It records the histories only in proofs: at run time a
+//! roll is a counter, and a badge is a number.
 #![tactic(auto)]
 
 mod roll;

@@ -8,8 +8,8 @@ use logbook::{Offer, Seen, Start, Word};
 use std::marker::{Brand, Model, PhantomData};
 use std::sync::Wait;
 
-/// Which roll it is, and the book that it opens with. A program picks both at the one call that makes a door; so a
-/// badge of one roll is never taken for one of another.
+/// Names a roll, and the book that it begins with. A program picks both at the one call that makes a door, so badges of
+/// different rolls have different types.
 pub trait Naming {
     ghost use Rattle.logbook.specs.Pages.{Book as Log};
     ghost use Rattle.sm_history.specs.Books.{Book};
@@ -27,7 +27,7 @@ impl Naming for Brand {
     ghost opening = { blank_book };
 }
 
-/// An empty roll, which has no name yet: a name can be picked only for a roll that is there.
+/// An empty roll without a name. A name can be picked only for a roll that exists.
 #[derive(Drop)]
 pub struct Blank {
     head: Word<Noted, u64, Law>,
@@ -37,7 +37,7 @@ pub struct Blank {
 }
 
 impl Blank {
-    /// A roll of its own.
+    /// Makes a roll.
     pub fn new() -> Blank {
         let (seen, mut first, _second) = Seen::open(Start::alone(), 0, 0);
         Blank {
@@ -46,7 +46,7 @@ impl Blank {
         }
     }
 
-    /// The roll under its name.
+    /// Names the roll.
     pub fn named<J: Naming>(self) -> Roll<J>
         requires { self.seen.book ≡ J.roll }
         ensures { result ≡ [] }
@@ -61,7 +61,7 @@ impl Blank {
     }
 }
 
-/// A roll. Contracts see the books that were noted, as far as this thread has seen them.
+/// A roll. Contracts see the recorded books, as far as this thread has seen them.
 #[derive(Drop)]
 pub struct Roll<J: Naming> {
     head: Word<Noted, u64, Law>,
@@ -82,7 +82,7 @@ impl<J: Naming> Model for Roll<J> {
     ghost invariant = { λ r. (r.head ≡ head_of J.roll) × (r.count ≡ length r.seen.log) × (r.seen.book ≡ J.roll) };
 }
 
-/// The number of a history, which contracts see as that history's book.
+/// The number of a history. Contracts see that history's book.
 #[derive(Drop)]
 pub struct Badge<J: Naming> {
     number: u64,
@@ -103,7 +103,7 @@ impl<J: Naming> Model for Badge<J> {
 }
 
 impl<J: Naming> Badge<J> {
-    /// A copy, which stands for the same history.
+    /// Copies the badge; the copy denotes the same history.
     pub fn again(&self) -> Badge<J>
         ensures { result ≡ self.now }
     {
@@ -114,8 +114,8 @@ impl<J: Naming> Badge<J> {
         }
     }
 
-    /// Whether the other badge has the same number. Then both stand for one history: the longer of the two beginnings
-    /// of the roll that they have seen has one book at that number.
+    /// Returns whether the other badge has the same number. Then both denote the same history: of the two prefixes of
+    /// the roll that they have seen, the longer one has one book at that number.
     pub fn is(&self, other: &Badge<J>) -> bool
         ensures { IsTrue result → self.now ≡ other.now }
     {
@@ -126,8 +126,8 @@ impl<J: Naming> Badge<J> {
 }
 
 impl<J: Naming> Roll<J> {
-    /// Notes the book that a value shows at the next number, whose badge it gives. It tries again where another thread
-    /// came first. At `None` all 2^64 - 1 numbers are given out.
+    /// Records the book that a value shows at the next number, and returns that number's badge. It tries again if
+    /// another thread was faster. Returns `None` once all 2^64 - 1 numbers are used.
     pub fn add<V, M: Shows<V>, R: Wait>(&mut self, rt: &R, value: &V) -> Option<Badge<J>>
         ensures { IfSome result (λ b. b ≡ M.book value.now) }
     {
@@ -142,7 +142,7 @@ impl<J: Naming> Roll<J> {
         unreachable!()
     }
 
-    /// The same in one step. At `None` more had been noted than this thread had seen, which it has seen now.
+    /// Tries once. At `None` other books were recorded than this thread had seen; it has seen them now.
     fn try_add<V, M: Shows<V>>(&mut self, value: &V) -> Option<Badge<J>>
         requires { length self.old + 1 < 2 ^ 64 }
         ensures { IfSome result (λ b. b ≡ M.book value.now) }

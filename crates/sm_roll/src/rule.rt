@@ -5,7 +5,7 @@ use sm_history::Entry;
 use std::marker::{Model, PhantomData};
 use std::snapshot::Snapshot;
 
-/// What a roll notes, in proofs alone: a book. No value of it is made.
+/// The entry of a roll, in proofs only: a book. No value of it is made.
 pub struct Noted {
     places: u32,
     entries: Snapshot<Vec<Entry>>,
@@ -20,8 +20,8 @@ impl Model for Noted {
     ghost view = { λ n. record { places = n.places; history = whole n.entries.value.items } };
 }
 
-/// How a type of values, here `V`, shows a book. It is implemented for a type without values, so that a crate may say
-/// it of a type of another crate.
+/// Says which book values of type `V` show. It is implemented for a type without values, so a crate may implement it
+/// for a type of another crate.
 pub trait Shows<V> {
     ghost use Rattle.sm_history.specs.Books.{Book};
 
@@ -49,7 +49,7 @@ impl Rule<Noted, u64> for Law {
     ghost moves = { λ ask before after answer. Unit {0} };
 }
 
-/// Callers trade nothing.
+/// Callers exchange nothing.
 pub struct Nothing;
 
 impl Gain<Noted, u64> for Nothing {
@@ -58,7 +58,7 @@ impl Gain<Noted, u64> for Nothing {
     ghost after = { λ names about answer. ftrue };
 }
 
-/// A step that notes a book.
+/// A step that records a book.
 pub struct Add;
 
 impl Play<Noted, u64> for Add {
@@ -67,7 +67,7 @@ impl Play<Noted, u64> for Add {
     ghost then = { Adds };
 }
 
-/// What such a step asks for: the book that a value shows.
+/// The argument of such a step: the book that a value shows.
 pub struct Asks<M> {
     of: PhantomData<M>,
 }

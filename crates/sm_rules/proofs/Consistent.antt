@@ -102,7 +102,7 @@ silenced_any policy s t class perm = among policy where
     by (Declared n names) e = e
     by (Member n names) e = e
 
--- ---- kept rules and the rules that they stand for, place by place
+-- ---- kept rules and the rules that they represent, index by index
 
 stands_at : (policy : Policy) (names : List Name) (rs : List (ℕ × Rule)) (ks : List Kept) (n : ℕ) (k : Kept)
     → AllStandFor policy names rs ks → slice_get ks n ≡ Some k

@@ -1,4 +1,4 @@
--- Kept rules stand for the rules of a text.
+-- Kept rules represent the rules of a source.
 use Rattle.std.proofs.Common.{◌≡◌, ℕ, ◌+◌, ◌<◌, List, [], ◌∷◌, ◌++◌, length, get_or, take, Option, Some, None, refl}
 use Rattle.std.proofs.Common.{add-one}
 use Rattle.std.specs.List.{filter_map, cons_option}

@@ -1,4 +1,4 @@
--- The walk over the statements of a text.
+-- The loop over the statements of a source.
 use Rattle.std.proofs.Common.{◌≡◌, List, [], ◌∷◌, Option, Some, None, refl, sym, ◌∙◌}
 use Rattle.std.specs.Option.{option_or}
 use Rattle.sm_ruletext.specs.declared.statement.Statement.{Statement}

@@ -1,4 +1,4 @@
--- Rules as they are kept: types by their numbers, permissions by their bits.
+-- Kept rules: types as numbers, permissions as bits.
 use Rattle.std.specs.Prelude.{◌≡◌, ℕ, Bool, true, ◌&&◌, ◌||◌, ◌==◌, ◌<◌, ◌≤◌, ◌+◌, ◌/◌, ◌^◌, nat_eq, nat_lt, false}
 use Rattle.std.specs.Prelude.{if◌then◌else◌, List, [], ◌∷◌, ◌++◌, length, find, option_map, slice_get, Option, Some}
 use Rattle.std.specs.Prelude.{None, All}
@@ -21,9 +21,11 @@ use Rattle.sm_rules.specs.declared.kept.Kept.{Kept}
 
 -- ---- permissions by number, from 0 to 6, in the order of their bits
 
+-- This is the class of a permission.
 abbrev pub class_at : ℕ → Class
 class_at b = if nat_lt b 3 then ServiceManager else Binder
 
+-- This is the permission of a number.
 abbrev pub perm_at : ℕ → Perms
 perm_at b =
     if b == 0 then bit 1
@@ -36,43 +38,48 @@ perm_at b =
 
 -- ---- what kept rules cover, for permission b, source s and target t
 
+-- A kept rule joins the types s and t.
 abbrev pub joins : ℕ → ℕ → Kept → Bool
 joins s t rule = has rule.sources s && (has rule.targets t || (rule.to_self && nat_eq s t))
 
+-- A kept rule covers permission b on the types s and t.
 abbrev pub covers : ℕ → ℕ → ℕ → Kept → Bool
 covers b s t rule = joins s t rule && has_bit rule.perms.0 b
 
--- The line of the first rule that covers it.
+-- This is the line of the first kept rule that covers the access.
 abbrev pub covered_line : List Kept → ℕ → ℕ → ℕ → Option ℕ
 covered_line rules b s t = option_map (λ r. r.line) (find (covers b s t) rules)
 
--- Some rule covers it.
+-- Some kept rule covers the access.
 abbrev pub covered : List Kept → ℕ → ℕ → ℕ → Bool
 covered rules b s t = list_any (covers b s t) rules
 
--- The rows of a rule have room for each type, and no number past the types.
+-- The rows of a kept rule have room for each type, and no number past the types.
 pub record FitsRule (count : ℕ) (rule : Kept) : Type 0 where
   pub sources : length rule.sources ≡ count / 64 + 1
   pub targets : length rule.targets ≡ count / 64 + 1
   pub sources_past : (i : ℕ) → count ≤ i → has rule.sources i ≡ false
   pub targets_past : (i : ℕ) → count ≤ i → has rule.targets i ≡ false
 
+-- The rows of all kept rules fit.
 pub record FitsRules (count : ℕ) (allows neverallows silences : List Kept) : Type 0 where
   pub allowing : All (FitsRule count) allows
   pub forbidding : All (FitsRule count) neverallows
   pub silencing : All (FitsRule count) silences
 
--- What is true of the parts of all rules that are built.
+-- This is the invariant of built rules.
 pub record IsSound (count : ℕ) (allows neverallows silences : List Kept) (permissive : List ℕ) : Type 0 where
   pub few : length allows + length neverallows < 2 ^ 64
   pub fits : FitsRules count allows neverallows silences
   pub room : length permissive ≡ count / 64 + 1
 
--- ---- the rules of a text, and those that are kept for them
+-- ---- the rules of a source, and the kept ones
 
+-- A rule is kept if it selects one of the two classes.
 abbrev pub kept_only : ℕ → Rule → Option (ℕ × Rule)
 kept_only line rule = if is_kept rule then Some (line, rule) else None
 
+-- This is the kept allow rule of a statement, with its line.
 abbrev pub allow_in : ℕ → What → Option (ℕ × Rule)
 allow_in line (Allow r) = kept_only line r
 allow_in line (Neverallow r) = None
@@ -82,6 +89,7 @@ allow_in line (Attribute n) = None
 allow_in line (Declared n names) = None
 allow_in line (Member n names) = None
 
+-- This is the kept neverallow rule of a statement, with its line.
 abbrev pub neverallow_in : ℕ → What → Option (ℕ × Rule)
 neverallow_in line (Neverallow r) = kept_only line r
 neverallow_in line (Allow r) = None
@@ -91,6 +99,7 @@ neverallow_in line (Attribute n) = None
 neverallow_in line (Declared n names) = None
 neverallow_in line (Member n names) = None
 
+-- This is the kept dontaudit rule of a statement, with its line.
 abbrev pub dontaudit_in : ℕ → What → Option (ℕ × Rule)
 dontaudit_in line (Dontaudit r) = kept_only line r
 dontaudit_in line (Allow r) = None
@@ -100,17 +109,19 @@ dontaudit_in line (Attribute n) = None
 dontaudit_in line (Declared n names) = None
 dontaudit_in line (Member n names) = None
 
--- The allow rules of a text, its neverallow rules, and its dontaudit rules, each behind its line.
+-- These are the kept allow rules of a source, each with its line.
 abbrev pub allow_rules : Policy → List (ℕ × Rule)
 allow_rules policy = filter_map (λ st. allow_in st.line st.what) policy
 
+-- These are its kept neverallow rules.
 abbrev pub neverallow_rules : Policy → List (ℕ × Rule)
 neverallow_rules policy = filter_map (λ st. neverallow_in st.line st.what) policy
 
+-- These are its kept dontaudit rules.
 abbrev pub dontaudit_rules : Policy → List (ℕ × Rule)
 dontaudit_rules policy = filter_map (λ st. dontaudit_in st.line st.what) policy
 
--- The kept rule says of the types by number what the rule of the policy says of them by name.
+-- A kept rule says of the types by number what a rule of the policy says of them by name.
 pub record StandsFor (policy : Policy) (names : List Name) (written : ℕ × Rule) (kept : Kept) : Type 0 where
   pub line : kept.line ≡ written.0
   pub sources : (i : ℕ) → i < length names → has kept.sources i ≡ in_set policy written.1.source (at names i)
@@ -118,41 +129,41 @@ pub record StandsFor (policy : Policy) (names : List Name) (written : ℕ × Rul
   pub to_self : kept.to_self ≡ written.1.to_self
   pub perms : (b : ℕ) → b < 7 → has_bit kept.perms.0 b ≡ gives (class_at b) (perm_at b) written.1
 
--- The kept rules stand for those rules, one for each, in order.
+-- Each kept rule represents the rule at the same index of the list.
 abbrev pub AllStandFor : Policy → List Name → List (ℕ × Rule) → List Kept → Type 0
 AllStandFor policy names [] [] = Unit {0}
 AllStandFor policy names (r ∷ rs) (k ∷ ks) = StandsFor policy names r k × AllStandFor policy names rs ks
 AllStandFor policy names [] (k ∷ ks) = ⊥
 AllStandFor policy names (r ∷ rs) [] = ⊥
 
--- The list goes on by a kept rule that stands for this one, if there is one.
+-- The list is extended by a kept rule that represents this one, if there is one.
 abbrev pub Extends : Policy → List Name → Option (ℕ × Rule) → List Kept → List Kept → Type 0
 Extends policy names None old new = new ≡ old
 Extends policy names (Some rule) old new = (kept : Kept) × StandsFor policy names rule kept × (new ≡ old ++ kept ∷ [])
 
--- The kept rule covers by number what the rule of the policy covers by name, and names its line.
+-- A kept rule covers by number what the rule of the policy covers by name, and has its line.
 pub record Says (policy : Policy) (names : List Name) (written : ℕ × Rule) (kept : Kept) : Type 0 where
   pub line : kept.line ≡ written.0
   pub covers : (b s t : ℕ) → b < 7 → s < length names → t < length names
       → covers b s t kept ≡ access.covers policy (at names s) (at names t) (class_at b) (perm_at b) written.1
 
--- Each kept rule says what the rule at its place in the list says, and each rule of the list has one.
+-- Each kept rule says what the rule at the same index of the list says, and each rule of the list has one.
 pub record AllSay (policy : Policy) (names : List Name) (rules : List (ℕ × Rule)) (kept : List Kept) : Type 0 where
   pub of_kept : (n : ℕ) (k : Kept) → slice_get kept n ≡ Some k
       → (r : ℕ × Rule) × (slice_get rules n ≡ Some r) × Says policy names r k
   pub of_rule : (n : ℕ) (r : ℕ × Rule) → slice_get rules n ≡ Some r
       → (k : Kept) × (slice_get kept n ≡ Some k) × Says policy names r k
 
--- The row has the types that the statements make permissive.
+-- A row has the types that the statements make permissive.
 pub record SaysPermissive (statements : Policy) (names : List Name) (row : List ℕ) : Type 0 where
   pub says : (i : ℕ) → i < length names → has row i ≡ is_permissive statements (at names i)
 
--- The row goes on by the types that a statement makes permissive.
+-- A row is extended by the types that a statement makes permissive.
 pub record Permits (names : List Name) (what : What) (old new : List ℕ) : Type 0 where
   pub says : (i : ℕ) → i < length names → has new i ≡ (names_permissive (at names i) what || has old i)
 
--- What contracts see of the rules: the number of types, the allow rules, the neverallow rules, the dontaudit rules, and
--- the permissive types.
+-- Contracts see these of the rules: the number of types, the allow rules, the neverallow rules, the dontaudit rules,
+-- and the permissive types.
 pub record KeptRules : Type 0 where
   pub count : ℕ
   pub allows : List Kept

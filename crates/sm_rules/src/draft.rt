@@ -1,4 +1,4 @@
-//! The rules of a text, while it is gone through.
+//! Collects the rules of a policy source.
 
 ghost use Rattle.std.specs.Prelude.{◌≡◌, ◌<◌, ◌≤◌, ◌+◌, ◌/◌, ◌^◌, ◌||◌, ℕ, List, length, All, IfOk, IfErr, Some, None};
 ghost use Rattle.std.specs.Str.{bytes_eq};
@@ -19,7 +19,7 @@ use sm_ruletext::{Rule, Statement, What};
 use sm_types::Types;
 use std::alloc::Global;
 
-/// The rules that are kept so far, and the types that are permissive.
+/// The kept rules and the permissive types of the statements so far.
 #[derive(Drop)]
 pub struct Draft {
     pub allows: Vec<Kept>,
@@ -28,7 +28,7 @@ pub struct Draft {
     pub permissive: BitRow,
 }
 
-/// Adds a rule, if it is kept.
+/// Appends a rule, if it is kept.
 fn add_rule(
     alloc: Global,
     types: &Types,
@@ -78,7 +78,7 @@ fn permit(types: &Types, permissive: &mut BitRow, line: u32, name: &Name) -> Res
     }
 }
 
-/// Adds what a statement says, if it is a rule that is kept or makes a type permissive.
+/// Applies a statement, if it is a rule that is kept or makes a type permissive.
 fn add_statement(
     alloc: Global,
     types: &Types,
@@ -123,7 +123,7 @@ fn add_statement(
     }
 }
 
-/// All rules, in the order of the text.
+/// Collects all rules, in the order of the source.
 pub fn all_rules(
     alloc: Global,
     statements: &[Statement],

@@ -1,4 +1,4 @@
-//! Why the rules of a rule text were refused.
+//! Why the rules of a policy source were refused.
 
 ghost use Rattle.std.specs.Prelude.{◌≡◌};
 ghost use Rattle.sm_rules.specs.declared.fault.RulesFault.TheVariants.{Memory};
@@ -13,7 +13,7 @@ pub enum RulesFault {
     /// The rule at this line has a permission that none of its classes has, and its class set
     /// has neither `*` nor `~` nor the name of another class.
     UnknownPermission(u32),
-    /// Memory was refused.
+    /// An allocation failed.
     Memory,
 }
 

@@ -1,4 +1,4 @@
-//! A rule whose sets are expanded.
+//! Kept rules, with their sets expanded.
 
 ghost use Rattle.std.specs.Prelude.{◌≡◌, ◌<◌, ◌≤◌, ◌+◌, ◌/◌, ◌*◌, ℕ, List, length, nat_eq, IfOk, IfErr, Some, None, true, false};
 ghost use Rattle.std.specs.List.{list_all};
@@ -22,21 +22,21 @@ use sm_ruletext::{Rule, Set};
 use sm_types::{Types, TypesFault};
 use std::alloc::Global;
 
-/// A kept rule: its types by their numbers, its permissions as bits.
+/// A kept rule: its types as numbers, its permissions as bits.
 #[derive(Drop)]
 pub struct Kept {
     /// The line of its statement.
     pub line: u32,
     pub sources: SharedSet,
     pub targets: SharedSet,
-    /// `self` stands in its target: each source is a target of its own.
+    /// Its target has `self`: each source type is also a target of itself.
     pub to_self: bool,
-    /// The permissions that it gives, each of a class that it selects.
+    /// The permissions that it grants, each of a class that it selects.
     pub perms: Perms,
 }
 
 impl Kept {
-    /// Whether the rule joins the two types.
+    /// Returns whether the rule joins the two types.
     pub fn joins(&self, s: usize, t: usize) -> bool
         requires source { s < 64 * length self.now.sources }
         requires target { t < 64 * length self.now.targets }
@@ -45,7 +45,7 @@ impl Kept {
         self.sources.has(s) && (self.targets.has(t) || (self.to_self && s == t))
     }
 
-    /// Whether the rule gives permission `bit` on the two types.
+    /// Returns whether the rule grants permission `bit` on the two types.
     pub fn covers(&self, bit: u32, s: usize, t: usize) -> bool
         requires bit { bit < 8 }
         requires source { s < 64 * length self.now.sources }
@@ -93,7 +93,7 @@ fn perms_known(rule: &Rule) -> bool
     is_open(&rule.class) || (all_apply(rule, &rule.perm.plus) && all_apply(rule, &rule.perm.minus))
 }
 
-/// The types of a set of the rule at a line.
+/// Expands a set of types of the rule at a line.
 fn expand(
     alloc: Global,
     types: &Types,
@@ -129,7 +129,7 @@ fn expand(
     }
 }
 
-/// The rule at a line, with its sets expanded: first its source, then its target, then its permissions.
+/// Expands the rule at a line: first its source, then its target, then its permissions.
 #[tactic(auto, unfolding(crate::specs::Faults::rule_fault))]
 pub fn keep(
     alloc: Global,

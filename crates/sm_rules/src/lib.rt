@@ -1,4 +1,4 @@
-//! What the rules of a rule text allow.
+//! What the rules of a policy source allow.
 #![tactic(auto)]
 
 mod draft;

@@ -12,10 +12,10 @@ use sm_bits::with_bit;
 use sm_kinds::{Class, Perms};
 use sm_ruletext::Rule;
 
-/// How many permissions there are, numbered from 0 in the order of their bits.
+/// The number of permissions, which are numbered from 0 in the order of their bits.
 pub const PERM_COUNT: u32 = 7;
 
-/// The class of a permission, by its place.
+/// Returns the class of a permission, by its number.
 pub fn class_at(bit: u32) -> Class
     ensures { result ≡ class_at bit }
 {
@@ -26,7 +26,7 @@ pub fn class_at(bit: u32) -> Class
     }
 }
 
-/// The permission at a place.
+/// Returns the permission of a number.
 pub fn perm_at(bit: u32) -> Perms
     ensures { result ≡ perm_at bit }
 {
@@ -41,7 +41,7 @@ pub fn perm_at(bit: u32) -> Perms
     }
 }
 
-/// The number of a permission, if it is a single one of the class.
+/// Returns the number of a permission, if it is a single one of the class.
 pub fn number_of(class: Class, perm: Perms) -> Option<u32>
     ensures some { IfSome result (λ b. (b < 7) × (class_at b ≡ class) × (perm_at b ≡ perm)) }
     ensures none { IfNone result (perm_of class perm ≡ None) }
@@ -64,7 +64,7 @@ pub fn number_of(class: Class, perm: Perms) -> Option<u32>
     }
 }
 
-/// Adds a permission, if the rule gives it; whether the rule selects the permission's class is known.
+/// Adds a permission, if the rule grants it; the caller says whether the rule selects the permission's class.
 #[tactic(auto, unfolding(crate::specs::Access::gives))]
 fn with_perm(byte: u8, rule: &Rule, of_class: bool, bit: u32) -> u8
     requires range { bit < 7 }
@@ -79,7 +79,7 @@ fn with_perm(byte: u8, rule: &Rule, of_class: bool, bit: u32) -> u8
     }
 }
 
-/// The permissions that a rule gives, each of a class that it selects.
+/// Returns the permissions that a rule grants, each of a class that it selects.
 pub fn perms_of(rule: &Rule) -> Perms
     ensures given { (b : ℕ) → b < 7 → has_bit result.0 b ≡ gives (class_at b) (perm_at b) rule.now }
     ensures other { (b : ℕ) → 7 ≤ b → has_bit result.0 b ≡ false }

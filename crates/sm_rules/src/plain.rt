@@ -1,4 +1,4 @@
-//! What a rule text allows, by a plain walk over its statements: the meaning of rules as a program.
+//! What a policy source allows, by a plain loop over its statements: the meaning of rules as a program.
 
 ghost use Rattle.std.specs.Prelude.{◌≡◌, option_map};
 ghost use Rattle.std.specs.List.{list_any};
@@ -74,7 +74,7 @@ fn joins(statements: &[Statement], rule: &Rule, source: &[u8], target: &[u8]) ->
         && (in_set(statements, &rule.target, target) || (rule.to_self && source == target))
 }
 
-/// The word of a single permission of the class.
+/// Returns the word of a single permission of the class.
 fn word_of(class: Class, perm: Perms) -> Option<&'static [u8]>
     ensures { option_map (λ w. w.now) result ≡ perm_of class perm }
 {
@@ -95,7 +95,7 @@ fn word_of(class: Class, perm: Perms) -> Option<&'static [u8]>
     }
 }
 
-/// Whether a set of permissions has this single permission of the class.
+/// Returns whether a set of permissions has this single permission of the class.
 pub fn picks(set: &Set, class: Class, perm: Perms) -> bool
     ensures { result ≡ spec.picks set.now (perm_of class perm) }
 {
@@ -105,7 +105,7 @@ pub fn picks(set: &Set, class: Class, perm: Perms) -> bool
     }
 }
 
-/// Whether a rule is of this class and has this permission.
+/// Returns whether a rule is of this class and has this permission.
 #[tactic(auto, unfolding(crate::specs::Access::gives))]
 fn gives(rule: &Rule, class: Class, perm: Perms) -> bool
     ensures { result ≡ spec.gives class perm rule.now }
@@ -142,9 +142,9 @@ fn allows(
     }
 }
 
-/// The line of the first allow rule that allows it, by names.
+/// Returns the line of the first allow rule that grants the permission, by names.
 ///
-/// Slow: it walks over all statements for each name of each rule. The tables answer the same.
+/// Slow: it loops over all statements for each name of each rule. The tables give the same answers.
 pub fn written_plainly(
     statements: &[Statement],
     source: &[u8],

@@ -1,4 +1,4 @@
-//! The rows of sets, each kept once.
+//! A pool of rows, each stored once.
 
 ghost use Rattle.std.specs.Prelude.{◌≡◌, ◌<◌, ◌+◌, ◌^◌, ◌*◌, ℕ, length, IfOk, IfSome, nat_eq};
 ghost use Rattle.std.specs.Arc.{arc_value};
@@ -12,7 +12,7 @@ use std::alloc::{AllocError, Global};
 use std::marker::Model;
 use std::sync::Arc;
 
-/// The number of a set that has no other.
+/// Returns the number in a set of one number.
 fn only_number(row: &BitRow) -> Option<usize>
     requires { length row.now < 2 ^ 32 }
     ensures inside { IfSome result (λ i. i < 64 * length row.now) }
@@ -25,8 +25,8 @@ fn only_number(row: &BitRow) -> Option<usize>
     }
 }
 
-/// The set of each attribute by its number, and rows by their digests. Two rows of one digest are compared before one
-/// is taken for the other.
+/// The set of each attribute by its number, and rows by their digests. Rows with equal digests are compared before one
+/// is used for the other.
 ///
 /// Contracts see the sets of the attributes.
 #[derive(Drop)]
@@ -44,7 +44,7 @@ impl Model for RowPool {
 }
 
 impl RowPool {
-    /// The sets of the attributes, and no other row.
+    /// Makes a pool with the sets of the attributes.
     pub fn new(alloc: Global, types: &Types) -> Result<RowPool, AllocError>
         ensures { IfOk result (λ pool. HasMembers types.now pool) }
     {
@@ -58,7 +58,7 @@ impl RowPool {
         Ok(pool)
     }
 
-    /// Adds the set of the attribute that comes next.
+    /// Adds the set of the next attribute.
     fn add_members(
         &mut self,
         alloc: Global,
@@ -76,7 +76,7 @@ impl RowPool {
         Ok(())
     }
 
-    /// The set of an attribute.
+    /// Returns the set of an attribute.
     pub fn members(&self, attribute: usize) -> Result<SharedSet, AllocError>
         requires { attribute < length self.now }
         ensures { IfOk result (λ set. set ≡ row self.now attribute) }
@@ -84,7 +84,7 @@ impl RowPool {
         self.members[attribute].clone()
     }
 
-    /// The same row as one that was shared before, if there is one.
+    /// Returns a reference to an equal row that was shared before, if there is one.
     fn known(&self, digest: u64, row: &BitRow) -> Result<Option<Arc<BitRow, Global>>, AllocError>
         ensures { IfOk result (λ o. IfSome o (λ shared. arc_value shared ≡ row.now)) }
     {
@@ -101,7 +101,7 @@ impl RowPool {
         }
     }
 
-    /// The row, shared with the same one from before, if there was one.
+    /// Returns a reference to the row, shared with an equal one from before, if there was one.
     fn shared_row(&mut self, alloc: Global, row: BitRow) -> Result<Arc<BitRow, Global>, AllocError>
         ensures members { self.new ≡ self.old }
         ensures row { IfOk result (λ shared. arc_value shared ≡ row) }
@@ -116,7 +116,7 @@ impl RowPool {
         Ok(shared)
     }
 
-    /// The set of a row: a single number, or a row that may be shared.
+    /// Returns the set of a row: a single number, or a row that may be shared.
     pub fn share(&mut self, alloc: Global, row: BitRow) -> Result<SharedSet, AllocError>
         requires { length row < 2 ^ 32 }
         ensures members { self.new ≡ self.old }

@@ -1,4 +1,4 @@
-//! The rules of a rule text.
+//! The rules of a policy source.
 
 ghost use Rattle.std.specs.Prelude.{◌≡◌, ◌<◌, ◌≤◌, ◌+◌, ◌/◌, ◌^◌, ℕ, List, length, All, IfOk, IfErr, Some, None, false, option_map, slice_get};
 ghost use Rattle.sm_ruletext.specs.declared.statement.Statement.{Statement as TheStatement};
@@ -19,9 +19,9 @@ use sm_types::{TypeCount, Types};
 use std::alloc::Global;
 use std::marker::Model;
 
-/// The rules of a rule text, with their sets expanded.
+/// The rules of a policy source, with their sets expanded.
 ///
-/// Contracts see them as the lists of kept rules; `RulesOf` says that they are those of a text.
+/// Contracts see them as the lists of kept rules; `RulesOf` says that they are those of a source.
 pub struct Rules {
     count: TypeCount,
     allows: Vec<Kept>,
@@ -47,7 +47,7 @@ impl Model for Rules {
     ghost invariant = { λ r. IsSound r.count r.allows.items r.neverallows.items r.silences.items r.permissive };
 }
 
-// By hand: where rules are let go, a caller's proof has one step, and not those of their parts.
+// Drop: see docs/PROOFS.md.
 impl Drop for Rules {
     fn drop(self) {
         let Rules {
@@ -60,7 +60,7 @@ impl Drop for Rules {
     }
 }
 
-/// The line of the first rule that gives permission `bit` on the two types.
+/// Returns the line of the first rule that grants permission `bit` on the two types.
 fn first_line(rules: &[Kept], count: TypeCount, bit: u32, s: usize, t: usize) -> Option<u32>
     requires fits { All (FitsRule count) rules.now }
     requires bit { bit < 8 }
@@ -74,7 +74,7 @@ fn first_line(rules: &[Kept], count: TypeCount, bit: u32, s: usize, t: usize) ->
         .map(|rule| rule.line)
 }
 
-/// Whether some rule gives permission `bit` on the two types.
+/// Returns whether some rule grants permission `bit` on the two types.
 fn any_covers(rules: &[Kept], count: TypeCount, bit: u32, s: usize, t: usize) -> bool
     requires fits { All (FitsRule count) rules.now }
     requires bit { bit < 8 }
@@ -86,16 +86,15 @@ fn any_covers(rules: &[Kept], count: TypeCount, bit: u32, s: usize, t: usize) ->
 }
 
 impl Rules {
-    /// The rules of a rule text whose types are `types`.
+    /// Builds the rules of a policy source whose types are `types`.
     ///
     /// # Errors
     ///
-    /// The first fault of a kept rule or of a `permissive` statement in the order of the text:
-    /// `Unknown` where the source or the target of the rule has a name that isn't declared, as
-    /// a type or as an attribute, or what is made permissive is no declared type; then
-    /// `UnknownPermission` where a name of its permissions, also one behind a `-`, is one of no
-    /// selected class, unless the class set has `*`, `~` or the name of another class. Rules
-    /// that select neither class are skipped. `Memory` where memory was refused.
+    /// The first fault of a kept rule or of a `permissive` statement in the order of the source: `Unknown` if the
+    /// source or the target of the rule has a name that isn't declared, as a type or as an attribute, or if a
+    /// `permissive` statement names no declared type; then `UnknownPermission` if a name of its permissions, also one
+    /// behind a `-`, is one of no selected class, unless the class set has `*`, `~` or the name of another class. Rules
+    /// that select neither class are skipped. `Memory` if an allocation fails.
     pub fn build(
         alloc: Global,
         statements: &[Statement],
@@ -122,14 +121,14 @@ impl Rules {
         })
     }
 
-    /// How many types the text declares.
+    /// Returns the number of declared types.
     pub fn type_count(&self) -> TypeCount
         ensures { result ≡ self.now.count }
     {
         self.count
     }
 
-    /// The allow rules that are kept, in the order of the text.
+    /// Returns the kept allow rules, in the order of the source.
     pub fn allows(&self) -> &[Kept]
         ensures kept { result.now ≡ self.now.allows }
         ensures fits { All (FitsRule self.now.count) result.now }
@@ -145,14 +144,14 @@ impl Rules {
         &self.allows
     }
 
-    /// The kept allow rule at this index in the order of the text, from 0. `None` past the last one.
+    /// Returns the kept allow rule at this index in the order of the source, from 0, or `None` past the last one.
     pub fn kept(&self, i: u32) -> Option<&Kept>
         ensures { option_map (λ rule. rule.now) result ≡ slice_get self.now.allows i }
     {
         self.allows.get(i as usize)
     }
 
-    /// The neverallow rules that are kept, in the order of the text.
+    /// Returns the kept neverallow rules, in the order of the source.
     pub fn neverallows(&self) -> &[Kept]
         ensures kept { result.now ≡ self.now.neverallows }
         ensures fits { All (FitsRule self.now.count) result.now }
@@ -168,7 +167,7 @@ impl Rules {
         &self.neverallows
     }
 
-    /// The dontaudit rules that are kept, in the order of the text.
+    /// Returns the kept dontaudit rules, in the order of the source.
     pub fn silences(&self) -> &[Kept]
         ensures kept { result.now ≡ self.now.silences }
         ensures fits { All (FitsRule self.now.count) result.now }
@@ -181,7 +180,7 @@ impl Rules {
         &self.silences
     }
 
-    /// The permissive types, as bits by their numbers.
+    /// Returns the permissive types, as bits by their numbers.
     pub fn permissive_types(&self) -> &BitRow
         ensures kept { result.now ≡ self.now.permissive }
         ensures room { length result.now ≡ self.now.count / 64 + 1 }
@@ -189,8 +188,8 @@ impl Rules {
         &self.permissive
     }
 
-    /// Whether a `permissive` statement names the type of this number: what it asks is refused by no want
-    /// of an allow rule. `false` where there is no type of such a number.
+    /// Returns whether a `permissive` statement names the type of this number: no check of that source on a declared
+    /// target fails for a missing allow rule. `false` if there is no such type.
     pub fn permissive(&self, source: u16) -> bool
         ensures permissive { (policy : List TheStatement) (names : List (List ℕ))
             → RulesOf policy names self.now → source < length names
@@ -204,9 +203,9 @@ impl Rules {
         self.permissive.has(s)
     }
 
-    /// Whether some dontaudit rule covers the permission on the two types, by their numbers: then no
-    /// record is kept of a check of it that no allow rule passes. `false` where none does, or there is no
-    /// type of such a number, or `perm` is no single permission of the class.
+    /// Returns whether some dontaudit rule covers the permission on the two types, by their numbers: then a check that
+    /// no allow rule passes isn't recorded. `false` if no rule does, if there is no type of such a number, or if `perm`
+    /// is no single permission of the class.
     pub fn silenced(&self, source: u16, target: u16, class: Class, perm: Perms) -> bool
         ensures silenced { (policy : List TheStatement) (names : List (List ℕ))
             → RulesOf policy names self.now
@@ -229,16 +228,15 @@ impl Rules {
         }
     }
 
-    /// How many allow and neverallow rules are kept.
+    /// Returns the number of kept allow and neverallow rules.
     pub fn count(&self) -> usize
         ensures { result ≡ length self.now.allows + length self.now.neverallows }
     {
         self.allows.len() + self.neverallows.len()
     }
 
-    /// The line of the first allow rule that gives the permission on the two types, by their
-    /// numbers. `None`: none does, or there is no type of such a number, or `perm` is no single
-    /// permission of the class.
+    /// Returns the line of the first allow rule that grants the permission on the two types, by their numbers. `None`
+    /// if no rule does, if there is no type of such a number, or if `perm` is no single permission of the class.
     pub fn written(&self, source: u16, target: u16, class: Class, perm: Perms) -> Option<u32>
         ensures line { (policy : List TheStatement) (names : List (List ℕ))
             → RulesOf policy names self.now
@@ -259,8 +257,8 @@ impl Rules {
         first_line(&self.allows, self.count, bit, s, t)
     }
 
-    /// The same by the names of the types, `types` being those of the text. `None` also where a
-    /// name is that of no declared type.
+    /// The same by the names of the types, `types` being those of the source. `None` also if a name isn't that of a
+    /// declared type.
     pub fn written_by_name(
         &self,
         types: &Types,

@@ -100,12 +100,12 @@ word_spelled line l m i j w e = elim (word_cases line m i j w e) [
   | inr h ↦ rw h.1 (SpellsItems.name l w i h.0)
 ]
 
--- no item, where one has stood before, or items
+-- no item, if there was one before, or items
 abbrev Added : Bool → Bool → Tokens → Items → Items → Type 0
 Added m true vs i j = SpellsItems m vs i j
 Added m false vs i j = SpellsItems m vs i j ⊎ ((vs ≡ []) × (i ≡ j))
 
--- the rest of a group, and of the `depth` groups that stand open inside it, up to its `}`
+-- the rest of a group, and of the `depth` open groups inside it, up to its `}`
 record Rest (m fresh : Bool) (ts ws : Tokens) (i n : Items) : Type 0 where
   vs : Tokens
   l : ℕ

@@ -106,7 +106,7 @@ placed sts ts = Ok (sts, ts)
 abbrev pub added : ℕ → List Statement → Option What × Tokens → Read (List Statement)
 added line sts what = with_statement line sts what.0 >>= λ more. placed more what.1
 
--- what stands before the semicolon, and how it is spelled
+-- the tokens before the semicolon, and their spelling
 pub record Ends (Spelled : Tokens → Type 0) (ts us : Tokens) : Type 0 where
   pub vs : Tokens
   pub l : ℕ

@@ -12,15 +12,15 @@ use Rattle.sm_ruletext.specs.declared.rule.Rule.{Rule}
 use Rattle.sm_ruletext.specs.Lexing.{Tokens}
 use Rattle.sm_ruletext.specs.Words.{is_self}
 
--- a value or a fault
+-- A step has a value or a fault.
 abbrev pub Step : Type 0 → Type 0
 Step A = Result A RuleTextFault
 
--- a value and the tokens behind it
+-- A reader returns a value and the tokens after it, or a fault.
 abbrev pub Read : Type 0 → Type 0
 Read A = Step (A × Tokens)
 
--- want of memory
+-- The fault is a failed allocation.
 abbrev pub is_memory : RuleTextFault → Bool
 is_memory Memory = true
 is_memory TooLarge = false
@@ -28,30 +28,33 @@ is_memory (Syntax line) = false
 is_memory (Unsupported line) = false
 is_memory TooMany = false
 
--- What was returned, and the tokens that are left, are what was expected, unless memory was refused.
+-- The value and the tokens that are left are the expected ones, or an allocation failed.
 abbrev pub Reads : {A B : Type 0} → (A → B) → Step A → Tokens → Read B → Type 0
 Reads view result left expected = Gives is_memory (λ x. (view x, left)) result expected
 
 -- ---- tokens and names
 
+-- This reads the next token.
 unfoldable pub kind_at : ℕ → Tokens → Read Kind
 kind_at line [] = Err (Syntax line)
 kind_at line ((l, k) ∷ ts) = Ok (k, ts)
 
+-- This reads a colon.
 unfoldable pub colon_at : ℕ → Tokens → Read (Unit {0})
 colon_at line ((l, Colon) ∷ ts) = Ok (tt, ts)
 colon_at line ts = Err (Syntax line)
 
+-- This reads a semicolon.
 unfoldable pub semicolon_at : ℕ → Tokens → Read (Unit {0})
 semicolon_at line ((l, Semicolon) ∷ ts) = Ok (tt, ts)
 semicolon_at line ts = Err (Syntax line)
 
--- a name other than `self`
+-- This reads a name other than `self`.
 unfoldable pub name_at : ℕ → Tokens → Read (List ℕ)
 name_at line ((l, Word w) ∷ ts) = if is_self w then Err (Syntax line) else Ok (w, ts)
 name_at line ts = Err (Syntax line)
 
--- a comma before each further name, and the semicolon
+-- This reads a comma before each further name, and the semicolon.
 unfoldable pub names_at : ℕ → List (List ℕ) → Tokens → Read (List (List ℕ))
 names_at line names ((l, Semicolon) ∷ ts) = Ok (names, ts)
 names_at line names ((l, Comma) ∷ (m, Word w) ∷ ts) =
@@ -60,17 +63,18 @@ names_at line names ts = Err (Syntax line)
 
 -- ---- sets
 
+-- This is the empty list of items.
 abbrev pub no_items : Items
 no_items = record { all = false; to_self = false; plus = []; minus = [] }
 
--- one more word, which may be `self` where may_self says so
+-- A word is appended to items; it may be `self` if may_self says so.
 unfoldable pub with_word : ℕ → Bool → Items → List ℕ → Step Items
 with_word line may_self items w =
     if is_self w then (if may_self then Ok (record items { to_self = true }) else Err (Syntax line))
     else Ok (record items { plus = items.plus ++ w ∷ [] })
 
--- The items up to the `}` of the group. `depth` groups stand open inside it;
--- `fresh` says that a `{` stands just before.
+-- This reads the items up to the `}` of the group. `depth` inner groups are open; `fresh` says that the token before is
+-- a `{`.
 unfoldable pub group_at : ℕ → Bool → ℕ → Bool → Items → Tokens → Read Items
 group_at line may_self depth fresh items ((l, Word w) ∷ ts) =
     with_word line may_self items w >>= λ i. group_at line may_self depth false i ts
@@ -84,19 +88,20 @@ group_at line may_self zero false items ((l, Close) ∷ ts) = Ok (items, ts)
 group_at line may_self (suc depth) false items ((l, Close) ∷ ts) = group_at line may_self depth false items ts
 group_at line may_self depth fresh items ts = Err (Syntax line)
 
--- a word or a group, whose first token is k
+-- This reads a word or a group, whose first token is k.
 unfoldable pub items_from : ℕ → Bool → Kind → Tokens → Read Items
 items_from line may_self (Word w) ts = with_word line may_self no_items w >>= λ i. Ok (i, ts)
 items_from line may_self Open ts = group_at line may_self zero true no_items ts
 items_from line may_self k ts = Err (Syntax line)
 
--- the set of these items, and whether `self` is among them
+-- This is the set of items, and whether `self` is among them.
 abbrev pub set_of : ℕ → Bool → Items → Set × Bool
 set_of line complement items = (
   record { line = line; all = items.all; complement = complement; plus = items.plus; minus = items.minus },
   items.to_self,
 )
 
+-- This reads a set whose first token is k.
 unfoldable pub set_from : ℕ → Bool → Kind → Tokens → Read (Set × Bool)
 set_from line may_self Star ts = Ok (set_of line false (record no_items { all = true }), ts)
 set_from line may_self Tilde ts = do
@@ -107,11 +112,13 @@ set_from line may_self k ts = do
   items ← items_from line may_self k ts
   Ok (set_of line false items.0, items.1)
 
+-- This reads a set.
 unfoldable pub set_at : ℕ → Bool → Tokens → Read (Set × Bool)
 set_at line may_self ts = do
   k ← kind_at line ts
   set_from line may_self k.0 k.1
 
+-- This reads a rule, from its source on.
 unfoldable pub rule_at : ℕ → Tokens → Read Rule
 rule_at line ts = do
   source ← set_at line false ts

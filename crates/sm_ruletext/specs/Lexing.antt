@@ -1,4 +1,4 @@
--- The tokens of a text, each behind the line that it begins in.
+-- The tokens of a source, each with the line that it begins in.
 use Rattle.std.specs.Prelude.{ℕ, zero, suc, ◌+◌, Bool, false, not, ◌&&◌, ◌||◌, ◌==◌, if◌then◌else◌, List, [], ◌∷◌}
 use Rattle.std.specs.Prelude.{take, slice_index, IsTrue}
 use Rattle.std.specs.List.{prefix_len, list_all}
@@ -7,31 +7,32 @@ use Rattle.sm_ruletext.specs.declared.token.Kind.{Kind}
 use Rattle.sm_ruletext.specs.declared.token.Kind.TheVariants.{Word, Semicolon, Comma, Colon, Open, Close, Star, Tilde}
 use Rattle.sm_ruletext.specs.declared.token.Kind.TheVariants.{Dash, Other}
 
+-- Tokens have the line that they begin in.
 abbrev pub Tokens : Type 0
 Tokens = List (ℕ × Kind)
 
--- space, tab and carriage return
+-- A byte is a space, a tab or a carriage return.
 abbrev pub is_blank : ℕ → Bool
 is_blank b = (b == 32 || b == 9) || b == 13
 
--- not a newline
+-- A byte isn't a newline.
 abbrev pub is_in_line : ℕ → Bool
 is_in_line b = not (b == 10)
 
--- a letter, a digit, `_`, `.` or `-`
+-- A byte is a letter, a digit, `_`, `.` or `-`.
 abbrev pub is_word_byte : ℕ → Bool
 is_word_byte b = ((is_ascii_alphanumeric b || b == 95) || b == 46) || b == 45
 
--- a letter, and then letters, digits, `_`, `.` or `-`
+-- The bytes are a letter, and then letters, digits, `_`, `.` or `-`.
 unfoldable pub is_word : List ℕ → Bool
 is_word [] = false
 is_word (b ∷ bs) = is_ascii_alphabetic b && list_all is_word_byte bs
 
--- neither a double quote nor a newline
+-- A byte is neither a double quote nor a newline.
 abbrev pub is_quoted : ℕ → Bool
 is_quoted b = not (b == 34 || b == 10)
 
--- the token of one byte
+-- This is the token of one byte.
 abbrev pub mark : ℕ → Kind
 mark b =
     if b == 59 then Semicolon
@@ -44,20 +45,21 @@ mark b =
     else if b == 45 then Dash
     else Other
 
--- how many bytes behind a double quote end with the next one in the same line, or 0
+-- This is the number of bytes after a double quote up to the next one in the same line, or 0.
 unfoldable pub quoted_len : List ℕ → ℕ
 quoted_len bytes =
     if slice_index bytes (prefix_len is_quoted bytes) == 34 then prefix_len is_quoted bytes + 1 else 0
 
--- the token that begins with byte b, and how many of the bytes behind b belong to it
+-- This is the token that begins with byte b.
 unfoldable pub kind_at : ℕ → List ℕ → Kind
 kind_at b bytes = if is_ascii_alphabetic b then Word (b ∷ take (prefix_len is_word_byte bytes) bytes) else mark b
 
+-- This is the number of bytes after b that belong to that token.
 unfoldable pub len_after : ℕ → List ℕ → ℕ
 len_after b bytes =
     if is_ascii_alphabetic b then prefix_len is_word_byte bytes else if b == 34 then quoted_len bytes else 0
 
--- The tokens from a line on. The first `skip` bytes belong to what stands before them.
+-- These are the tokens from a line on. The first `skip` bytes belong to an earlier token.
 unfoldable pub tokens : ℕ → ℕ → List ℕ → Tokens
 tokens skip line [] = []
 tokens (suc skip) line (b ∷ bytes) = tokens skip line bytes
@@ -67,7 +69,7 @@ tokens zero line (b ∷ bytes) =
     else if b == 35 then tokens (prefix_len is_in_line bytes) line bytes
     else (line, kind_at b bytes) ∷ tokens (len_after b bytes) line bytes
 
--- at the end, or at a byte that begins a token
+-- The bytes are empty, or begin with a byte that begins a token.
 abbrev pub IsAtToken : List ℕ → Type 0
 IsAtToken [] = Unit {0}
 IsAtToken (b ∷ bytes) = IsTrue (not (b == 10 || (is_blank b || b == 35)))

@@ -1,10 +1,10 @@
--- Sets of names that stand for themselves, as classes and permissions do.
+-- Sets of names that denote only themselves, as classes and permissions do.
 use Rattle.std.specs.Prelude.{ℕ, Bool, not, ◌&&◌, ◌||◌, if◌then◌else◌, List, codes}
 use Rattle.sm_kinds.specs.Names.{contains}
 use Rattle.sm_ruletext.specs.declared.set.Set.{Set}
 use Rattle.sm_ruletext.specs.declared.rule.Rule.{Rule}
 
--- Whether the set has the name: a positive item is that name and no `-` item is; `~` turns that round.
+-- A set has a name: a positive item is that name and no `-` item is; `~` negates that.
 unfoldable pub selects : Set → List ℕ → Bool
 selects set name =
     let among = (set.all || contains set.plus name) && not (contains set.minus name) in

@@ -1,4 +1,4 @@
--- The written grammar: which tokens spell what. The line of a token says nothing.
+-- The written grammar: which tokens spell what. The lines of tokens don't matter.
 use Rattle.std.specs.Prelude.{◌≡◌, ◌<◌, length, ℕ, Bool, true, false, List, [], ◌∷◌, ◌++◌, Option, Some, None, Ok}
 use Rattle.std.specs.Prelude.{Err, if◌then◌else◌}
 use Rattle.sm_kinds.specs.declared.limits.TheConstants.{MOST_TEXT_BYTES}
@@ -21,7 +21,7 @@ use Rattle.sm_ruletext.specs.Statements.{with_statement}
 use Rattle.sm_ruletext.specs.Words.{is_self, keyword_of}
 use Rattle.sm_ruletext.specs.Grammar.{no_items, set_of}
 
--- item, or item item ..: one item or more, which add to the items before them
+-- Tokens spell items: item, or item item ..: one item or more, which are added to the items before them.
 pub data SpellsItems (may_self : Bool) : Tokens → Items → Items → Type 0 where
   name : (l : ℕ) (w : List ℕ) (i : Items) → is_self w ≡ false
       → SpellsItems may_self ((l, Word w) ∷ []) i (record i { plus = i.plus ++ w ∷ [] })
@@ -35,7 +35,7 @@ pub data SpellsItems (may_self : Bool) : Tokens → Items → Items → Type 0 w
   more : (ts us : Tokens) (i j k : Items) → SpellsItems may_self ts i j → SpellsItems may_self us j k
       → SpellsItems may_self (ts ++ us) i k
 
--- word or group
+-- Tokens spell a word or a group.
 pub data SpellsSimple (may_self : Bool) : Tokens → Items → Type 0 where
   name : (l : ℕ) (w : List ℕ) → is_self w ≡ false
       → SpellsSimple may_self ((l, Word w) ∷ []) (record no_items { plus = w ∷ [] })
@@ -44,14 +44,14 @@ pub data SpellsSimple (may_self : Bool) : Tokens → Items → Type 0 where
   group : (l m : ℕ) (ts : Tokens) (i : Items) → SpellsItems may_self ts no_items i
       → SpellsSimple may_self ((l, Open) ∷ (ts ++ (m, Close) ∷ [])) i
 
--- set = * | ~ word | ~ group | word | group
+-- Tokens spell a set: * | ~ word | ~ group | word | group.
 pub data SpellsSet (line : ℕ) (may_self : Bool) : Tokens → Set × Bool → Type 0 where
   all : (l : ℕ) → SpellsSet line may_self ((l, Star) ∷ []) (set_of line false (record no_items { all = true }))
   complement : (l : ℕ) (ts : Tokens) (i : Items) → SpellsSimple false ts i
       → SpellsSet line may_self ((l, Tilde) ∷ ts) (set_of line true i)
   simple : (ts : Tokens) (i : Items) → SpellsSimple may_self ts i → SpellsSet line may_self ts (set_of line false i)
 
--- SOURCE TARGET : CLASS PERM
+-- Tokens spell a rule: SOURCE TARGET : CLASS PERM.
 pub data SpellsRule (line : ℕ) : Tokens → Rule → Type 0 where
   rule : (l : ℕ) (a b c d : Tokens) (source target class perm : Set × Bool)
       → SpellsSet line false a source → SpellsSet line true b target → SpellsSet line false c class
@@ -59,18 +59,19 @@ pub data SpellsRule (line : ℕ) : Tokens → Rule → Type 0 where
       → SpellsRule line (a ++ (b ++ ((l, Colon) ∷ (c ++ d))))
       (record { source = source.0; target = target.0; class = class.0; perm = perm.0; to_self = target.1 })
 
--- , A , ..
+-- Tokens spell further names: , A , ..
 pub data SpellsNames : Tokens → List (List ℕ) → Type 0 where
   none : SpellsNames [] []
   more : (l m : ℕ) (w : List ℕ) (ts : Tokens) (names : List (List ℕ)) → is_self w ≡ false → SpellsNames ts names
       → SpellsNames ((l, Comma) ∷ (m, Word w) ∷ ts) (w ∷ names)
 
+-- No token is a semicolon.
 abbrev pub HasNoSemicolon : Tokens → Type 0
 HasNoSemicolon [] = Unit {0}
 HasNoSemicolon ((l, Semicolon) ∷ ts) = ⊥
 HasNoSemicolon ((l, k) ∷ ts) = HasNoSemicolon ts
 
--- what stands between the first word of a statement and its semicolon
+-- Tokens spell what is between the first word of a statement and its semicolon.
 pub data SpellsStatement (line : ℕ) : Keyword → Tokens → Option What → Type 0 where
   attribute : (l : ℕ) (w : List ℕ) → is_self w ≡ false
       → SpellsStatement line word.Attribute ((l, Word w) ∷ []) (Some (what.Attribute w))
@@ -89,7 +90,7 @@ pub data SpellsStatement (line : ℕ) : Keyword → Tokens → Option What → T
       → SpellsStatement line word.Permissive ((l, Word w) ∷ []) (Some (what.Permissive w))
   skipped : (ts : Tokens) → HasNoSemicolon ts → SpellsStatement line word.Skipped ts None
 
--- The tokens are statements, which add to those before them.
+-- The tokens are statements, which are added to those before them.
 pub data SpellsText : List Statement → Tokens → List Statement → Type 0 where
   end : (sts : List Statement) → SpellsText sts [] sts
   empty : (l : ℕ) (ts : Tokens) (sts all : List Statement) → SpellsText sts ts all
@@ -99,13 +100,13 @@ pub data SpellsText : List Statement → Tokens → List Statement → Type 0 wh
       → with_statement line sts what ≡ Ok more → SpellsText more ts all
       → SpellsText sts ((line, Word w) ∷ (vs ++ (l, Semicolon) ∷ ts)) all
 
--- neither a word nor a semicolon
+-- A token is neither a word nor a semicolon.
 abbrev pub BeginsNoStatement : Kind → Type 0
 BeginsNoStatement (Word w) = ⊥
 BeginsNoStatement Semicolon = ⊥
 BeginsNoStatement k = Unit {0}
 
--- no statement of the grammar stands in front, behind its first word
+-- The tokens after the first word are no statement of the grammar.
 abbrev pub SpellsNone : ℕ → Keyword → Tokens → Type 0
 SpellsNone line k ts = (vs us : Tokens) (l : ℕ) (what : Option What) → ts ≡ vs ++ (l, Semicolon) ∷ us
     → SpellsStatement line k vs what → ⊥
@@ -128,7 +129,7 @@ pub data HasFault : List Statement → Tokens → RuleTextFault → Type 0 where
   syntax : (line : ℕ) (w : List ℕ) (ts : Tokens) (sts : List Statement) → (keyword_of w ≡ word.Unknown → ⊥)
       → SpellsNone line (keyword_of w) ts → HasFault sts ((line, Word w) ∷ ts) (Syntax line)
 
--- what each error says of the text
+-- Each error says this of the source.
 abbrev pub IsFaultOf : RuleTextFault → List ℕ → Type 0
 IsFaultOf Memory text = Unit {0}
 IsFaultOf TooLarge text = MOST_TEXT_BYTES < length text

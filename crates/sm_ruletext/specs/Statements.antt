@@ -1,4 +1,4 @@
--- The statements of a rule text.
+-- The statements of a policy source.
 use Rattle.std.specs.Prelude.{ℕ, zero, suc, Bool, true, false, ◌&&◌, nat_le, nat_lt, count_by, if◌then◌else◌, List}
 use Rattle.std.specs.Prelude.{[], ◌∷◌, ◌++◌, length, Option, Some, None, Ok, Err}
 use Rattle.sm_kinds.specs.Reading.{◌>>=◌}
@@ -17,12 +17,13 @@ use Rattle.sm_ruletext.specs.Lexing.{Tokens, tokens}
 use Rattle.sm_ruletext.specs.Words.{keyword_of}
 use Rattle.sm_ruletext.specs.Grammar.{Step, Read, semicolon_at, name_at, names_at, rule_at}
 
+-- This skips tokens up to the semicolon.
 unfoldable pub skipped_at : ℕ → Tokens → Read (Unit {0})
 skipped_at line [] = Err (Syntax line)
 skipped_at line ((l, Semicolon) ∷ ts) = Ok (tt, ts)
 skipped_at line ((l, k) ∷ ts) = skipped_at line ts
 
--- what stands behind the first word of a statement; what is skipped is nothing
+-- This reads what follows the first word of a statement; a skipped statement has no content.
 unfoldable pub what_at : ℕ → Keyword → Tokens → Read (Option What)
 what_at line word.Attribute ts = do
   name ← name_at line ts
@@ -55,6 +56,7 @@ what_at line word.Skipped ts = do
   Ok (None, end.1)
 what_at line word.Unknown ts = Err (Unsupported line)
 
+-- A statement's content is a rule.
 abbrev pub is_rule : What → Bool
 is_rule (what.Attribute n) = false
 is_rule (what.Declared n ns) = false
@@ -64,17 +66,18 @@ is_rule (what.Neverallow r) = true
 is_rule (what.Dontaudit r) = true
 is_rule (what.Permissive n) = false
 
+-- This is the number of rules.
 abbrev pub rule_count : List Statement → ℕ
 rule_count sts = count_by (λ s. is_rule s.what) sts
 
--- one more statement, unless it is a rule too many
+-- A statement is appended, unless it is a rule too many.
 unfoldable pub with_statement : ℕ → List Statement → Option What → Step (List Statement)
 with_statement line sts None = Ok sts
 with_statement line sts (Some w) =
     if is_rule w && nat_le MOST_RULES (rule_count sts) then Err TooMany
     else Ok (sts ++ record { line = line; what = w } ∷ [])
 
--- one statement, whose first token is k
+-- This reads one statement, whose first token is k.
 unfoldable pub statement_from : ℕ → Kind → List Statement → Tokens → Read (List Statement)
 statement_from line Semicolon sts ts = Ok (sts, ts)
 statement_from line (Word w) sts ts = do
@@ -83,7 +86,7 @@ statement_from line (Word w) sts ts = do
   Ok (more, what.1)
 statement_from line k sts ts = Err (Syntax line)
 
--- the statements behind those of `sts`, if there are at most `most`
+-- This reads the statements after those of `sts`, if there are at most `most`.
 unfoldable pub statements_within : ℕ → List Statement → Tokens → Step (List Statement)
 statements_within most sts [] = Ok sts
 statements_within zero sts (t ∷ ts) = Ok sts
@@ -91,9 +94,10 @@ statements_within (suc most) sts ((line, k) ∷ ts) = do
   next ← statement_from line k sts ts
   statements_within most next.0 next.1
 
--- a statement takes a token at least
+-- These are the statements of tokens. Each statement takes at least one token, so there are no more.
 unfoldable pub statements_of : Tokens → Step (List Statement)
 statements_of ts = statements_within (length ts) [] ts
 
+-- These are the statements of a policy source, or the first fault.
 unfoldable pub read : List ℕ → Step (List Statement)
 read text = if nat_lt MOST_TEXT_BYTES (length text) then Err TooLarge else statements_of (tokens 0 1 text)

@@ -5,9 +5,11 @@ use Rattle.sm_ruletext.specs.declared.keyword.Keyword.{Keyword}
 use Rattle.sm_ruletext.specs.declared.keyword.Keyword.TheVariants.{Attribute, Types, Typeattribute, Allow, Neverallow}
 use Rattle.sm_ruletext.specs.declared.keyword.Keyword.TheVariants.{Dontaudit, Permissive, Skipped, Unknown}
 
+-- A word is `self`.
 abbrev pub is_self : List ℕ → Bool
 is_self w = bytes_eq w (codes "self")
 
+-- A word begins a statement that is skipped.
 unfoldable pub is_skipped : List ℕ → Bool
 is_skipped w =
     bytes_eq w (codes "auditallow") || (bytes_eq w (codes "type_transition")
@@ -15,6 +17,7 @@ is_skipped w =
     || (bytes_eq w (codes "allowxperm") || (bytes_eq w (codes "auditallowxperm")
     || (bytes_eq w (codes "dontauditxperm") || bytes_eq w (codes "neverallowxperm"))))))
 
+-- This is the kind of the statement that a word begins.
 unfoldable pub keyword_of : List ℕ → Keyword
 keyword_of w =
     if bytes_eq w (codes "attribute") then Attribute

@@ -1,22 +1,22 @@
-//! Why a rule text was refused.
+//! Why a policy source was refused.
 
 ghost use Rattle.std.specs.Prelude.{◌≡◌};
 ghost use Rattle.sm_ruletext.specs.declared.fault.RuleTextFault.TheVariants.{Memory};
 
 use std::alloc::{AllocError, AllocFailed};
 
-/// The first fault of a rule text.
+/// The first fault of a policy source.
 #[derive(Clone, Copy, Debug, PartialEq, Eq)]
 pub enum RuleTextFault {
-    /// The text has more than `MOST_TEXT_BYTES` bytes.
+    /// The source has more than `MOST_TEXT_BYTES` bytes.
     TooLarge,
     /// The statement at this line is not in the grammar.
     Syntax(u32),
-    /// The statement at this line begins with a word that begins no statement of the grammar.
+    /// The statement at this line begins with a word that begins no statement.
     Unsupported(u32),
     /// There are more than `MOST_RULES` kept rules.
     TooMany,
-    /// Memory was refused.
+    /// An allocation failed.
     Memory,
 }
 

@@ -1,4 +1,4 @@
-//! Reads the parts of a statement. A fault is at the statement's line.
+//! Reads parts of statements. A fault has the statement's line.
 
 ghost use Rattle.std.specs.Prelude.{◌≡◌, ◌<◌, ◌≤◌, ◌+◌, ◌^◌, ◌++◌, ◌∷◌, [], zero, true, false, length, option_to_list, OnOk, IfOk};
 ghost use Rattle.sm_ruletext.specs.Grammar as spec;
@@ -13,7 +13,7 @@ use crate::{Rule, RuleTextFault, Set};
 use sm_kinds::{Name, Names};
 use std::alloc::Global;
 
-/// The next token.
+/// Returns the next token.
 #[tactic(auto, unfolding(crate::specs::Grammar::kind_at))]
 pub fn kind<'a>(tokens: &mut Tokens<'a>, line: u32) -> Result<Kind<'a>, RuleTextFault>
     ensures read { Reads (λ k. k) result tokens.new (spec.kind_at line tokens.old) }
@@ -37,7 +37,7 @@ fn colon(tokens: &mut Tokens, line: u32) -> Result<(), RuleTextFault>
     }
 }
 
-/// A semicolon.
+/// Reads a semicolon.
 #[tactic(auto, unfolding(crate::specs::Grammar::kind_at, crate::specs::Grammar::semicolon_at))]
 pub fn semicolon(tokens: &mut Tokens, line: u32) -> Result<(), RuleTextFault>
     ensures read { Reads (λ _. tt) result tokens.new (spec.semicolon_at line tokens.old) }
@@ -49,7 +49,7 @@ pub fn semicolon(tokens: &mut Tokens, line: u32) -> Result<(), RuleTextFault>
     }
 }
 
-/// A word that may be a name.
+/// Reads a word that may be a name.
 #[tactic(auto, unfolding(crate::specs::Grammar::kind_at, crate::specs::Grammar::name_at))]
 pub fn name(alloc: Global, tokens: &mut Tokens, line: u32) -> Result<Name, RuleTextFault>
     ensures read { Reads (λ n. n) result tokens.new (spec.name_at line tokens.old) }
@@ -67,7 +67,7 @@ pub fn name(alloc: Global, tokens: &mut Tokens, line: u32) -> Result<Name, RuleT
     }
 }
 
-/// Reads further names, each behind a comma, and the semicolon.
+/// Reads further names, each after a comma, and the semicolon.
 #[tactic(auto, unfolding(crate::specs::Grammar::names_at, crate::specs::Grammar::kind_at, crate::specs::Grammar::name_at))]
 pub fn names(
     alloc: Global,
@@ -115,7 +115,7 @@ fn add_word(
     Ok(items)
 }
 
-/// Reads the items up to the end of a group, behind its brace.
+/// Reads items up to the end of a group, from after its brace.
 #[tactic(auto, unfolding(crate::specs::Grammar::group_at, crate::specs::Grammar::kind_at, crate::specs::Grammar::name_at))]
 fn group(
     alloc: Global,
@@ -216,7 +216,7 @@ fn set(
     }
 }
 
-/// What stands behind `allow`, `neverallow` or `dontaudit`.
+/// Reads what follows `allow`, `neverallow` or `dontaudit`.
 #[tactic(auto, unfolding(crate::specs::Grammar::rule_at))]
 pub fn rule(alloc: Global, tokens: &mut Tokens, line: u32) -> Result<Rule, RuleTextFault>
     ensures read { Reads (λ r. r) result tokens.new (spec.rule_at line tokens.old) }

@@ -7,7 +7,7 @@ use crate::Set;
 use sm_kinds::Names;
 use std::alloc::Global;
 
-/// The items of a set, while it is read.
+/// The items of a set that is being read.
 #[derive(Debug, Drop)]
 pub struct Items {
     pub all: bool,
@@ -17,7 +17,7 @@ pub struct Items {
 }
 
 impl Items {
-    /// A set without items.
+    /// Makes an empty list of items.
     pub fn none(alloc: Global) -> Items
         ensures { result ≡ spec.no_items }
     {
@@ -29,7 +29,7 @@ impl Items {
         }
     }
 
-    /// The set of these items, and whether `self` is among them.
+    /// Returns the set of these items, and whether `self` is among them.
     pub fn into_set(self, line: u32, complement: bool) -> (Set, bool)
         ensures { result ≡ spec.set_of line complement self }
     {

@@ -5,7 +5,7 @@ ghost use Rattle.sm_ruletext.specs.Words as spec;
 
 use sm_kinds::spells;
 
-/// What a statement begins with.
+/// The kind of a statement, by its first word.
 #[derive(Clone, Copy, Debug)]
 pub enum Keyword {
     Attribute,
@@ -19,7 +19,7 @@ pub enum Keyword {
     Unknown,
 }
 
-/// Whether a word is `self`.
+/// Returns whether a word is `self`.
 pub fn is_self(word: &[u8]) -> bool
     ensures { result ≡ spec.is_self word.now }
 {
@@ -39,7 +39,7 @@ fn is_skipped(word: &[u8]) -> bool
         || spells(word, b"neverallowxperm")
 }
 
-/// What a statement that begins with this word is.
+/// Returns the kind of a statement that begins with this word.
 #[tactic(auto, unfolding(crate::specs::Words::keyword_of))]
 pub fn keyword_of(word: &[u8]) -> Keyword
     ensures { result ≡ spec.keyword_of word.now }

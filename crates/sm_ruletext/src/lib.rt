@@ -1,6 +1,5 @@
-//! The reader of the rule text: the statements of SELinux's policy language that declare types
-//! and attributes, give types attributes, allow, forbid, and say of which denials there is no record,
-//! each with the line it stands in.
+//! The reader of policy sources: the statements of SELinux's policy language that declare types and attributes, give
+//! attributes to types, allow, forbid, and silence denials, each with its line.
 #![tactic(auto)]
 
 mod fault;

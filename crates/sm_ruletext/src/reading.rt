@@ -1,4 +1,4 @@
-//! Reads a whole rule text.
+//! Reads a whole policy source.
 
 ghost use Rattle.std.specs.Prelude.{◌≡◌, ◌<◌, ◌≤◌, ◌+◌, ◌^◌, ◌++◌, ◌∷◌, [], List, length, OnOk, IfOk, IfErr};
 ghost use Rattle.sm_kinds.specs.Reading.{Gives};
@@ -29,7 +29,7 @@ fn skipped(tokens: &mut Tokens, line: u32) -> Result<(), RuleTextFault>
     }
 }
 
-/// What stands behind `allow`: nothing, if the rule isn't kept.
+/// Reads what follows `allow`: nothing, if the rule isn't kept.
 #[tactic(auto, unfolding(crate::specs::Statements::what_at))]
 fn allow(alloc: Global, tokens: &mut Tokens, line: u32) -> Result<Option<What>, RuleTextFault>
     ensures read { Reads (λ w. w) result tokens.new (spec.what_at line word.Allow tokens.old) }
@@ -43,7 +43,7 @@ fn allow(alloc: Global, tokens: &mut Tokens, line: u32) -> Result<Option<What>, 
     }
 }
 
-/// What stands behind `neverallow`: nothing, if the rule isn't kept.
+/// Reads what follows `neverallow`: nothing, if the rule isn't kept.
 #[tactic(auto, unfolding(crate::specs::Statements::what_at))]
 fn neverallow(alloc: Global, tokens: &mut Tokens, line: u32) -> Result<Option<What>, RuleTextFault>
     ensures read { Reads (λ w. w) result tokens.new (spec.what_at line word.Neverallow tokens.old) }
@@ -57,7 +57,7 @@ fn neverallow(alloc: Global, tokens: &mut Tokens, line: u32) -> Result<Option<Wh
     }
 }
 
-/// What stands behind `dontaudit`: nothing, if the rule isn't kept.
+/// Reads what follows `dontaudit`: nothing, if the rule isn't kept.
 #[tactic(auto, unfolding(crate::specs::Statements::what_at))]
 fn dontaudit(alloc: Global, tokens: &mut Tokens, line: u32) -> Result<Option<What>, RuleTextFault>
     ensures read { Reads (λ w. w) result tokens.new (spec.what_at line word.Dontaudit tokens.old) }
@@ -116,7 +116,7 @@ fn what(
     }
 }
 
-/// The statements of a rule text, in order.
+/// Reads the statements of a policy source, in order.
 pub fn read(alloc: Global, text: &[u8]) -> Result<Vec<Statement>, RuleTextFault>
     // Which fault it is, if it is one.
     ensures exact { Gives is_memory (λ v. v.items) result (spec.read text.now) }
@@ -142,7 +142,7 @@ fn exactly(alloc: Global, text: &[u8]) -> Result<Vec<Statement>, RuleTextFault>
     all(alloc, Tokens::new(alloc, text))
 }
 
-/// Reads one statement, whose first token is taken.
+/// Reads one statement, whose first token has been taken.
 #[tactic(auto, unfolding(crate::specs::Statements::statement_from))]
 fn statement(
     alloc: Global,

@@ -1,23 +1,23 @@
-//! A rule.
+//! Rules.
 
 ghost use Rattle.std.specs.Prelude.{◌≡◌};
 ghost use Rattle.sm_ruletext.specs.Sets as spec;
 
 use crate::Set;
 
-/// What stands behind `allow`, `neverallow` or `dontaudit`: `SOURCE TARGET : CLASS PERM`.
+/// What follows `allow`, `neverallow` or `dontaudit`: `SOURCE TARGET : CLASS PERM`.
 #[derive(Debug, Drop)]
 pub struct Rule {
     pub source: Set,
     pub target: Set,
     pub class: Set,
     pub perm: Set,
-    /// `self` stands in the target.
+    /// Whether `self` is in the target.
     pub to_self: bool,
 }
 
 impl Rule {
-    /// Whether its classes have one of those that servicemanager checks: other rules say nothing here.
+    /// Returns whether its classes have one of those that servicemanager checks. Other rules have no effect here.
     #[tactic(auto, unfolding(crate::specs::Sets::is_kept))]
     pub fn is_kept(&self) -> bool
         ensures { result ≡ spec.is_kept self.now }

@@ -1,9 +1,9 @@
-//! A statement of the rule text.
+//! Statements of a policy source.
 
 use crate::Rule;
 use sm_kinds::{Name, Names};
 
-/// What a statement says.
+/// The content of a statement.
 #[derive(Debug, Drop)]
 pub enum What {
     /// `attribute A;`
@@ -26,7 +26,7 @@ impl What {
     ghost use Rattle.std.specs.Prelude.{◌≡◌};
     ghost use Rattle.sm_ruletext.specs.Statements.{is_rule};
 
-    /// Whether it is an allow, a neverallow or a dontaudit rule.
+    /// Returns whether the statement is an allow, a neverallow or a dontaudit rule.
     pub fn is_rule(&self) -> bool
         ensures { result ≡ is_rule self.now }
     {

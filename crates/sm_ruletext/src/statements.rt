@@ -1,4 +1,4 @@
-//! The statements of a text, while it is read.
+//! The statements of a source that is being read.
 
 ghost use Rattle.std.specs.Prelude.{◌≡◌, []};
 ghost use Rattle.sm_kinds.specs.Reading.{Gives};
@@ -9,7 +9,7 @@ use crate::{MOST_RULES, RuleTextFault, Statement, What};
 use std::alloc::Global;
 use std::marker::Model;
 
-/// The statements so far, and how many of them are rules.
+/// The statements so far, and the number of rules among them.
 #[derive(Drop)]
 pub struct Statements {
     list: Vec<Statement>,
@@ -30,7 +30,7 @@ impl Model for Statements {
 }
 
 impl Statements {
-    /// No statement.
+    /// Makes an empty list.
     pub fn new(alloc: Global) -> Statements
         ensures { result ≡ [] }
     {
@@ -40,7 +40,7 @@ impl Statements {
         }
     }
 
-    /// Adds a statement, unless it is skipped or a rule too many.
+    /// Appends a statement, unless it is skipped or a rule too many.
     #[tactic(auto, unfolding(crate::specs::Statements::with_statement))]
     pub fn add(&mut self, line: u32, what: Option<What>) -> Result<(), RuleTextFault>
         ensures { Gives is_memory (λ _. self.new) result (spec.with_statement line self.old what) }
@@ -59,7 +59,7 @@ impl Statements {
         Ok(())
     }
 
-    /// The statements in their order.
+    /// Returns the statements in their order.
     pub fn into_vec(self) -> Vec<Statement>
         ensures { result.items ≡ self }
     {

@@ -1,4 +1,4 @@
-//! What the text is cut into.
+//! Tokens.
 
 use sm_kinds::Word;
 
@@ -14,9 +14,9 @@ pub enum Kind<'a> {
     Star,
     Tilde,
     Dash,
-    /// A byte that begins no token, or a text in double quotes.
+    /// A byte that begins no token, or a string in double quotes.
     Other,
 }
 
-/// A token, behind the line that it begins in.
+/// A token, after the line that it begins in.
 pub type Token<'a> = (u32, Kind<'a>);

@@ -1,4 +1,4 @@
-//! Cuts a text into tokens, as they are asked for.
+//! Cuts a source into tokens, one by one.
 
 ghost use Rattle.std.specs.Prelude.{◌≡◌, ◌≢◌, ◌<◌, ◌≤◌, ◌+◌, ◌^◌, ◌++◌, [], length, drop, slice_index, option_to_list, IfSome, IfNone, IfOk};
 ghost use Rattle.std.specs.List.{prefix_len};
@@ -11,7 +11,7 @@ use sm_kinds::{MOST_TEXT_BYTES, Name, Word};
 use std::alloc::{AllocError, Global};
 use std::marker::Model;
 
-/// The bytes behind the first ones.
+/// Returns the bytes after the first `count` ones.
 fn behind(bytes: &[u8], count: usize) -> &[u8]
     requires { count ≤ length bytes.now }
     ensures { result.now ≡ drop count bytes.now }
@@ -78,7 +78,7 @@ fn mark<'a>(b: u8) -> Kind<'a>
     }
 }
 
-/// The token at the front, and how many bytes it takes.
+/// Returns the first token, and the number of its bytes.
 #[tactic(auto, unfolding(crate::specs::Lexing::kind_at, crate::specs::Lexing::len_after))]
 fn first(bytes: &[u8]) -> (Kind<'_>, usize)
     requires { 0 < length bytes.now }
@@ -98,7 +98,7 @@ fn first(bytes: &[u8]) -> (Kind<'_>, usize)
     }
 }
 
-/// After white space and comments, with the line there.
+/// Skips white space and comments, and returns the rest with its line.
 fn skip_blanks(bytes: &[u8], start: u32) -> (u32, &[u8])
     requires { start + length bytes.now < 2 ^ 32 }
     ensures same { spec.tokens 0 result.0 result.1.now ≡ spec.tokens 0 start bytes.now }
@@ -124,7 +124,7 @@ fn skip_blanks(bytes: &[u8], start: u32) -> (u32, &[u8])
     (line, rest)
 }
 
-/// The tokens of a text that are left, and the names of its words so far, which contracts don't see.
+/// The remaining tokens of a source, and the names of its words so far, which contracts don't see.
 #[derive(Drop)]
 pub struct Tokens<'a> {
     rest: &'a [u8],
@@ -144,7 +144,7 @@ impl<'a> Model for Tokens<'a> {
 }
 
 impl<'a> Tokens<'a> {
-    /// The tokens of a text, the first next.
+    /// Makes an iterator over the tokens of a source.
     pub fn new(alloc: Global, text: &'a [u8]) -> Tokens<'a>
         requires { length text.now ≤ MOST_TEXT_BYTES }
         ensures { result ≡ spec.tokens 0 1 text.now }
@@ -173,7 +173,7 @@ impl<'a> Tokens<'a> {
         Some((line, kind))
     }
 
-    /// The name of a word of the text.
+    /// Returns the name of a word.
     pub fn name(&mut self, alloc: Global, bytes: &[u8]) -> Result<Name, AllocError>
         ensures name { IfOk result (λ n. n ≡ bytes.now) }
         ensures same { self.new ≡ self.old }

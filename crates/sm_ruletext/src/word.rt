@@ -1,10 +1,10 @@
-//! Words of a rule text.
+//! Words of a policy source.
 
 ghost use Rattle.std.specs.Prelude.{◌≡◌};
 ghost use Rattle.std.specs.List.{list_all};
 ghost use Rattle.sm_ruletext.specs.Lexing as spec;
 
-// Each byte of a word stands at its own place, and a comma at every other place: one load tells them apart.
+// Each byte of a word has its own index, and all other entries are commas, so one load tells them apart.
 static WORD_MAP: [u8; 256] = *b"\
     ,,,,,,,,,,,,,,,,,,,,,,,,,,,,,,,,\
     ,,,,,,,,,,,,,-.,0123456789,,,,,,\
@@ -15,7 +15,7 @@ static WORD_MAP: [u8; 256] = *b"\
     ,,,,,,,,,,,,,,,,,,,,,,,,,,,,,,,,\
     ,,,,,,,,,,,,,,,,,,,,,,,,,,,,,,,,";
 
-/// Whether a byte may stand in a word.
+/// Returns whether a byte may be in a word.
 pub fn is_word_byte(b: u8) -> bool
     ensures { result ≡ spec.is_word_byte b }
 {
@@ -28,7 +28,7 @@ fn all_word_bytes(bytes: &[u8]) -> bool
     bytes.iter().all(|b| is_word_byte(*b))
 }
 
-/// Whether these bytes are a word: a letter, and then letters, digits, `_`, `.` or `-`.
+/// Returns whether these bytes are a word: a letter, and then letters, digits, `_`, `.` or `-`.
 #[tactic(auto, unfolding(crate::specs::Lexing::is_word))]
 pub fn is_word(bytes: &[u8]) -> bool
     ensures { result ≡ spec.is_word bytes.now }

@@ -1,4 +1,4 @@
-//! The words of a text, each kept once.
+//! The words of a source, each stored once.
 
 ghost use Rattle.std.specs.Prelude.{◌≡◌, IfOk};
 
@@ -7,10 +7,10 @@ use sm_kinds::Name;
 use std::alloc::{AllocError, Global};
 use std::marker::Model;
 
-/// How many words are kept: more than a text has that declares as many types and attributes as it may.
+/// The most words that are stored: more than there are in a source with the most types and attributes.
 const MOST_WORDS: usize = 16_384;
 
-/// Names by their bytes, which contracts don't see. A name that stands in a text a thousand times is one text in memory.
+/// Names by their bytes, which contracts don't see. A name that occurs a thousand times is stored once.
 #[derive(Drop)]
 pub struct Words {
     names: IndexMap<Vec<u8>, Name>,
@@ -24,19 +24,19 @@ impl Model for Words {
 
     ghost view = { λ w. tt };
 
-    // Each name is its key: so what a look-up finds needn't be compared with what was asked for.
+    // Each name is its own key, so the result of a look-up needn't be compared.
     ghost invariant = { λ w. AllByRecursion (λ e. e.1 ≡ e.0.items) w.names.entries };
 }
 
 impl Words {
-    /// No word.
+    /// Makes an empty set.
     pub fn new(alloc: Global) -> Words {
         Words {
             names: IndexMap::new(alloc),
         }
     }
 
-    /// Keeps a new name.
+    /// Stores a new name.
     fn keep(&mut self, alloc: Global, bytes: &[u8], name: &Name) -> Result<(), AllocError>
         requires { name.now ≡ bytes.now }
     {
@@ -47,7 +47,7 @@ impl Words {
         Ok(())
     }
 
-    /// The name of these bytes: one more owner of the same, if it was asked for before.
+    /// Returns the name of these bytes, shared with an earlier one, if there was one.
     pub fn name(&mut self, alloc: Global, bytes: &[u8]) -> Result<Name, AllocError>
         ensures { IfOk result (λ n. n ≡ bytes.now) }
     {

@@ -1,4 +1,4 @@
-//! What tests share: policy texts, request lines with their answers, and readers and writers that give little or fail.
+//! Shared by tests: policies, request lines with their answers, and readers and writers that give little or fail.
 #![tactic(auto)]
 
 mod failing;

@@ -27,7 +27,7 @@ impl Said {
         }
     }
 
-    /// These lines behind what was said. `Err`: memory was refused, and a part may have been added.
+    /// Appends these lines. On error a part may have been appended.
     pub fn talk(&mut self, talk: Talk) -> Result<(), AllocError>
         ensures script { OnOk result (self.new.script.items ≡ self.old.script.items ++ flat_map (λ l. line_of l.0.now) talk.now) }
         ensures wanted { OnOk result (self.new.wanted.items ≡ self.old.wanted.items ++ flat_map (λ l. line_of l.1.now) talk.now) }
@@ -39,8 +39,8 @@ impl Said {
         Ok(())
     }
 
-    /// A `reload` line with its texts, and the line that answers it; both with their newline. `Err`: memory was refused,
-    /// and a part may have been added.
+    /// Appends a `reload` line with its files, and the line that answers it; both with their newline. On error a part
+    /// may have been appended.
     pub fn reload(
         &mut self,
         line: &[u8],

@@ -69,7 +69,7 @@ pub const RULE_FOR_DEFAULTS: &[u8] =
 /// A further rule, which breaks the neverallow rule of a device's.
 pub const BROKEN_RULE: &[u8] = b"allow untrusted_app activity_service:service_manager add;\n";
 
-/// A device's rules, and this one behind them. `Err`: memory was refused.
+/// A device's rules with this one appended. Returns an error if an allocation fails.
 pub fn device_rules_with(alloc: Global, rule: &[u8]) -> Result<Vec<u8>, AllocError>
     ensures { IfOk result (λ v. v.items ≡ DEVICE_RULES.now ++ rule.now) }
 {
@@ -78,7 +78,7 @@ pub fn device_rules_with(alloc: Global, rule: &[u8]) -> Result<Vec<u8>, AllocErr
     Ok(rules)
 }
 
-/// `activity` has a label of its own.
+/// `activity` has its own label.
 pub const DEVICE_LABELS: &[u8] = b"# labels
 activity u:object_r:activity_service:s0
 * u:object_r:default_android_service:s0

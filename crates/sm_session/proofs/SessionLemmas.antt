@@ -1,4 +1,4 @@
--- What an item that was asked is answered, and how a whole session ends.
+-- The answer to an item that was asked, and the end of a whole session.
 use Rattle.std.proofs.Common.{◌≡◌, ◌⊎◌, ℕ, List, Bool, true, ap, refl, sym, inl, inr, Option, Result, Err, OnOk}
 use Rattle.sm_history.specs.declared.reply.Reply.{Reply}
 use Rattle.sm_wire.specs.declared.item.Item.{Item}
@@ -13,7 +13,7 @@ use Rattle.sm_session.specs.declared.sitting.Sitting.{Sitting}
 use Rattle.sm_session.specs.Responses.{response_text}
 use Rattle.sm_session.specs.Sessions.{Asks, TakesItem, is_asked, told_to}
 
--- the line of an answer has no more of a reply than what is told of it
+-- the line of an answer depends only on the visible part of a reply
 pub response_text-same : (f g : Reply → Reply) → ((r : Reply) → f r ≡ g r) → (response : Response)
     → response_text f response ≡ response_text g response
 unfolding response_text

@@ -5,7 +5,7 @@ use Rattle.sm_wire.specs.Replies.{denials_text, policy_refused_text, told_text}
 use Rattle.sm_session.specs.declared.response.Response.{Response}
 use Rattle.sm_session.specs.declared.response.Response.TheVariants.{Replied, PolicyRefused, Denied}
 
--- the line of an answer, or its lines, where so much of a reply is told
+-- These are the line or the lines of an answer, with this visibility.
 unfoldable pub response_text : (Reply → Reply) → Response → List ℕ
 response_text told (Replied reply) = told_text (told reply)
 response_text told (PolicyRefused fault) = policy_refused_text fault

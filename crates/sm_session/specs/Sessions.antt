@@ -1,4 +1,4 @@
--- What a session asks of its desk, and what it writes.
+-- What a session asks its desk, and what it writes.
 use Rattle.std.specs.Prelude.{◌≡◌, ◌⊎◌, ℕ, List, [], ◌++◌, Bool, true, false, ◌||◌, ◌&&◌, not, codes, MatchBool}
 use Rattle.std.specs.Prelude.{Option, Some, Result, OnOk}
 use Rattle.std.specs.Io.KnownBytes.{IsAtEnd}
@@ -20,7 +20,7 @@ use Rattle.sm_session.specs.declared.response.Response.TheVariants.{Replied}
 use Rattle.sm_session.specs.declared.sitting.Sitting.{Sitting}
 use Rattle.sm_session.specs.Responses.{response_text}
 
--- a client says who it is first, and then no more; before that it asks nothing
+-- A client says who it is first, and only once; before that it may ask nothing else.
 unfoldable pub client_may : Bool → Request → Bool
 client_may connected (Hello who) = not connected
 client_may connected (Change client event) = connected
@@ -29,7 +29,7 @@ client_may connected (Reload expected rules contexts) = false
 client_may connected Denials = false
 client_may connected Seal = false
 
--- an administrator asks about the policy and for the last denials, and that the open segment be closed
+-- An administrator may ask about the policy and for the last denials, and may close the open segment.
 unfoldable pub admin_may : Request → Bool
 admin_may (Hello who) = false
 admin_may (Change client event) = false
@@ -38,63 +38,65 @@ admin_may (Reload expected rules contexts) = false
 admin_may Denials = true
 admin_may Seal = true
 
--- this request is in its place; a session isn't a script
+-- This request is allowed in this state. A session is never a script's.
 unfoldable pub may_ask : Kind → Bool → Request → Bool
 may_ask Client connected request = client_may connected request
 may_ask Admin connected request = admin_may request
 may_ask Script connected request = false
 
--- an administrator alone replaces the policy
+-- Only an administrator replaces the policy.
 unfoldable pub may_reload : Kind → Bool
 may_reload Client = false
 may_reload Admin = true
 may_reload Script = false
 
--- the item is put to the desk
+-- An item is passed to the desk.
 abbrev pub is_asked : Kind → Bool → Item → Bool
 is_asked kind connected (Asked request) = may_ask kind connected request
 is_asked kind connected (Policy texts) = may_reload kind
 is_asked kind connected Malformed = false
 is_asked kind connected LineTooLong = false
 
--- what is written for an item that isn't put to the desk
+-- An item that isn't passed to the desk is answered so.
 abbrev pub said_to : Item → List ℕ
 said_to (Asked request) = codes "malformed\n"
 said_to (Policy texts) = codes "malformed\n"
 said_to Malformed = codes "malformed\n"
 said_to LineTooLong = codes "fault long\n"
 
--- how much of a reply to the item is told
+-- This is the visible part of a reply to the item.
 abbrev pub told_to : Item → Reply → Reply
 told_to (Asked request) reply = told_of request reply
 told_to (Policy texts) reply = reply
 told_to Malformed reply = reply
 told_to LineTooLong reply = reply
 
+-- An answer is a client's number.
 unfoldable pub is_connected : Response → Bool
 is_connected (Replied (Done (Connected client))) = true
 is_connected _ = false
 
+-- An answer says that the client has ended.
 unfoldable pub is_died : Response → Bool
 is_died (Replied (Done Died)) = true
 is_died _ = false
 
--- a desk hears of a `hello` by a call of its own
+-- A request is a `hello`, for which a desk has its own call.
 abbrev pub is_hello : Request → Bool
 is_hello (Hello who) = true
 is_hello _ = false
 
--- a `hello` is answered by a client's number
+-- A `hello` is answered by a client's number.
 abbrev pub makes_client : Item → Response → Bool
 makes_client (Asked (Hello who)) response = is_connected response
 makes_client _ response = false
 
--- a `bye` is answered by `bye`
+-- A `bye` is answered by `bye`.
 abbrev pub ends : Item → Response → Bool
 ends (Asked (Change client event)) response = is_die event && is_died response
 ends _ response = false
 
--- the desk was asked the item once, and this was its answer
+-- The desk was asked the item once, and this was its answer.
 pub record Asks {D : Type 0} (answers : D → Item → Response → D → Type 0) (old : Sitting D) (item : Item)
     (response : Response) (new : Sitting D) : Type 0 where
   pub asked : answers old.desk item response new.desk
@@ -102,51 +104,51 @@ pub record Asks {D : Type 0} (answers : D → Item → Response → D → Type 0
   pub over : new.over ≡ (ends item response || old.over)
   pub kind : new.kind ≡ old.kind
 
--- the desk was asked the item once, and its answer's line is written
+-- The desk was asked the item once, and its answer's line is written.
 abbrev pub AsksOnce : {D : Type 0} → (D → Item → Response → D → Type 0) → Sitting D → Item → List ℕ → Sitting D
     → Type 0
 AsksOnce answers old item text new = (response : Response) × Asks answers old item response new
     × (text ≡ response_text (told_to item) response)
 
--- nothing is asked, and these words are written
+-- Nothing was asked, and these words are written.
 abbrev pub SaysOnly : {D : Type 0} → Sitting D → List ℕ → List ℕ → Sitting D → Type 0
 SaysOnly old words text new = (text ≡ words) × (new ≡ old)
 
--- an item of a session that goes on: it is asked once if it is in its place
+-- In a session that goes on, an item is asked once if it is allowed.
 abbrev pub TakesItem : {D : Type 0} → (D → Item → Response → D → Type 0) → Sitting D → Item → List ℕ → Sitting D
     → Type 0
 TakesItem answers old item text new = MatchBool (is_asked old.kind old.connected item)
     (AsksOnce answers old item text new) (SaysOnly old (said_to item) text new)
 
--- an item of a session: once a `bye` was answered by `bye`, nothing is asked and nothing written
+-- In any session, an item is taken so: once a `bye` was answered by `bye`, nothing is asked and nothing written.
 abbrev pub SitsThrough : {D : Type 0} → (D → Item → Response → D → Type 0) → Sitting D → Item → List ℕ → Sitting D
     → Type 0
 SitsThrough answers old item text new = MatchBool old.over (SaysOnly old [] text new)
     (TakesItem answers old item text new)
 
--- the same, with the audit lines, of which a session has none
+-- The same with audit lines, of which a session has none.
 abbrev pub AnswersItem : {D : Type 0} → (D → Item → Response → D → Type 0) → Sitting D → Item → List ℕ → List ℕ
     → Sitting D → Type 0
 AnswersItem answers old item text audit new = SitsThrough answers old item text new × (audit ≡ [])
 
--- a session is over once a `bye` was answered by `bye`
+-- A session is over once a `bye` was answered by `bye`.
 abbrev pub is_over : {D : Type 0} → Sitting D → Bool
 is_over s = s.over
 
--- replies of fewer bytes may wait until the lines that came with theirs are answered
+-- Fewer bytes of replies may be held back until all lines of one read are answered.
 abbrev pub held_limit : ℕ
 held_limit = 8192
 
--- a session before its first line
+-- This is a session before its first line.
 abbrev pub begins : {D : Type 0} → Kind → D → Sitting D
 begins kind desk = record { kind = kind; desk = desk; connected = false; over = false }
 
--- the desk is told once that the session has ended, if a client was made, and else it is left alone
+-- The desk's `bye` was called once, if a client was made; otherwise the desk is as it was.
 abbrev pub Leaves : {D : Type 0} → (D → D → Type 0) → Sitting D → D → Type 0
 Leaves leaves last desk = MatchBool last.connected (leaves last.desk desk) (desk ≡ last.desk)
 
--- a whole session: what it asked for the bytes that it read by so many reads, what it wrote for them, and how it left
--- the desk
+-- A whole session has asked the desk this for the bytes that it read in this number of reads, has written this for
+-- them, and has left the desk so.
 pub record Attends {D : Type 0} (kind : Kind) (answers : D → Item → Response → D → Type 0) (leaves : D → D → Type 0)
     (result : Result (Unit {0}) Fault) (bound reads : ℕ) (old : D) (r r_new w w_new : Option (List ℕ)) (new : D)
     : Type 0 where
@@ -158,10 +160,10 @@ pub record Attends {D : Type 0} (kind : Kind) (answers : D → Item → Response
   pub end : OnOk result (MatchBool last.over (Unit {0}) (IsAtEnd r_new))
   pub left : Leaves leaves last new
 
--- this text stands behind another
+-- This text was appended to another.
 abbrev pub Adds : (List ℕ → Type 0) → List ℕ → List ℕ → Type 0
 Adds IsText old new = (text : List ℕ) × IsText text × (new ≡ old ++ text)
 
--- an item was answered and its text was lost for want of memory, or it wasn't answered
+-- An item was answered and its text was lost because an allocation failed, or it wasn't answered.
 abbrev pub Loses : {S : Type 0} → (List ℕ → S → Type 0) → S → S → Type 0
 Loses answered old new = (new ≡ old) ⊎ ((text : List ℕ) × answered text new)

@@ -1,4 +1,4 @@
-//! What answers the lines of a session.
+//! Desks, which answer the lines of a session.
 
 ghost use Rattle.std.specs.Prelude.{◌≡◌, false};
 ghost use Rattle.sm_kinds.specs.declared.identity.Identity.{Identity};
@@ -12,38 +12,38 @@ use crate::response::Response;
 use sm_kinds::Identity;
 use sm_wire::Request;
 
-/// What answers the lines of a session. A session puts each line to it at most once.
+/// Answers the lines of a session. A session passes each line to it at most once.
 pub trait Desk {
-    // It may be asked.
+    // It may be asked in this state.
     ghost can_answer: { Self → Type 0 } = { λ _. Unit {0} };
 
-    // The item may be answered so, and the desk be left so.
+    // The item may be answered so, with the desk in this state afterwards.
     ghost answers: { Self → Item → Response → Self → Type 0 };
 
-    // When a session ends that made a client, the desk may be left so.
+    // At the end of a session that made a client, the desk may change so.
     ghost leaves: { Self → Self → Type 0 };
 
-    /// A process connects as a client.
+    /// Connects a process as a client.
     fn hello(&mut self, who: Identity) -> Response
         requires can { can_answer self.old }
         ensures can { can_answer self.new }
         ensures answers { answers self.old (Asked (Hello who)) result self.new };
 
-    /// The client or the administrator asks for something. A client's `bye` is asked here, a `hello` isn't.
+    /// Answers a request of the client or the administrator. A client's `bye` comes here, a `hello` doesn't.
     fn ask(&mut self, request: Request) -> Response
         requires can { can_answer self.old }
         requires other { is_hello request ≡ false }
         ensures can { can_answer self.new }
         ensures answers { answers self.old (Asked request) result self.new };
 
-    /// The administrator replaces the policy, if it has the expected version, by the one of these texts.
+    /// Replaces the policy by that of these files, if it has the expected version.
     fn reload(&mut self, expected: u64, rules: &[u8], contexts: &[u8]) -> Response
         requires can { can_answer self.old }
         ensures can { can_answer self.new }
         ensures answers { answers self.old
             (Policy (record { expected = expected; rules = rules.now; contexts = contexts.now })) result self.new };
 
-    /// The session of a client ends. Where the client has left, nothing is to be done.
+    /// Ends the session of a client. If the client has left, there is nothing to do.
     fn bye(&mut self)
         requires can { can_answer self.old }
         ensures leaves { leaves self.old self.new };

@@ -1,4 +1,4 @@
-//! A sitting that tells a gate of each line that it asks.
+//! A session that calls its gate at each line.
 
 ghost use Rattle.std.specs.Prelude.{◌≡◌};
 ghost use Rattle.sm_session.specs.Sessions.{AnswersItem, Leaves, begins, held_limit, is_over};
@@ -11,10 +11,10 @@ use sm_wire::{Item, Kind};
 use std::alloc::{AllocError, Global};
 use std::marker::Model;
 
-/// From this number of bytes on, replies are written.
+/// Replies are written once they have this number of bytes.
 const HELD_LIMIT: usize = 8192;
 
-/// A sitting that tells a gate of each line that it asks.
+/// A session that calls its gate at each line that it passes to the desk.
 pub struct Gated<'a, D: Desk, G> {
     alloc: Global,
     sitting: Sitting<D>,
@@ -35,7 +35,7 @@ impl<'a, D: Desk, G> Model for Gated<'a, D, G> {
 }
 
 impl<'a, D: Desk, G: Gate> Gated<'a, D, G> {
-    /// A session before its first line.
+    /// Makes a session before its first line.
     pub fn new(alloc: Global, kind: Kind, desk: D, gate: &'a G) -> Gated<'a, D, G>
         requires { D.can_answer desk }
         ensures { result ≡ begins kind desk }
@@ -54,7 +54,7 @@ impl<'a, D: Desk, G: Gate> Gated<'a, D, G> {
         }
     }
 
-    /// The end of the session: the desk is told of it if it has a client.
+    /// Ends the session: calls the desk's `bye` if it has a client.
     pub fn close(self) -> D
         ensures { Leaves D.leaves self.entry result }
     {
@@ -105,7 +105,7 @@ impl<'a, D: Desk, G: Gate> Machine for Gated<'a, D, G> {
         self.sitting.over
     }
 
-    // Replies wait for those to the lines that came with theirs.
+    // Replies are held back until all lines of one read are answered.
     fn hold_limit(&self) -> usize {
         HELD_LIMIT
     }

@@ -1,5 +1,5 @@
-//! One connection's session: the lines of a client or of an administrator are put to a desk one after another, and
-//! its answers are written. It knows no service manager.
+//! Sessions: the lines of a client's or an administrator's connection are passed to a desk one after another, and its
+//! answers are written. A session knows nothing of a service manager.
 #![tactic(auto)]
 
 mod desk;

@@ -1,19 +1,19 @@
-//! What a desk answers.
+//! Answers of a desk.
 
 use sm_history::{Record, Reply};
 use sm_policy::PolicyFault;
 
-/// What a desk answers.
+/// An answer of a desk.
 pub enum Response {
     /// A reply of the service manager.
     Replied(Reply),
-    /// The texts of a `reload` are refused.
+    /// The policy of a `reload` is refused.
     PolicyRefused(PolicyFault),
     /// The last denials, oldest first.
     Denied(Vec<Record>),
 }
 
-// By hand: where one is let go, a caller's proof has one step, and not those of its parts.
+// Drop: see docs/PROOFS.md.
 impl Drop for Response {
     fn drop(self) {
         match self {

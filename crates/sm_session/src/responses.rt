@@ -8,8 +8,7 @@ use crate::response::Response;
 use sm_wire::{Telling, push_denials, push_policy_refused, push_reply};
 use std::alloc::{AllocError, Global};
 
-/// Adds the line of an answer, or its lines: of what is told of it. `Err`: memory was refused, and a part may have
-/// been added.
+/// Appends the line or the lines of the visible part of an answer. On error a part may have been appended.
 #[tactic(auto, unfolding(crate::specs::Responses::response_text))]
 pub fn push_response(
     alloc: Global,

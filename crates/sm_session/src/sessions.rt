@@ -12,8 +12,9 @@ use sm_wire::Kind;
 use std::alloc::Global;
 use std::io::{Read, Write};
 
-/// Serves one connection of a client or an administrator: puts its lines to the desk until their end, until a `bye` is
-/// answered by `bye`, a fault, or `bound` reads. The desk comes back; it was told of the end if it had a client.
+/// Serves one connection of a client or an administrator: passes its lines to the desk until they end, until a `bye` is
+/// answered by `bye`, until a fault, or until `bound` reads were made. Returns the desk, whose `bye` was called if it
+/// had a client.
 pub fn session<D: Desk, G: Gate, R: Read, W: Write>(
     alloc: Global,
     kind: Kind,
@@ -52,7 +53,7 @@ pub fn session<D: Desk, G: Gate, R: Read, W: Write>(
     (gated.close(), result)
 }
 
-// A session has no audit lines: were their text to refuse a write, it would be for want of memory.
+// A session has no audit lines, so the audit writer can only fail by a failed allocation.
 fn by_writer(ending: Result<(), Fault>, has_failed: bool) -> Result<(), Fault>
     ensures same { (result ≡ ending) ⊎ ((ending ≡ Err Fault.WriteFault) × (result ≡ Err Fault.Memory)) }
     ensures write_fault { result ≡ Err Fault.WriteFault → has_failed ≡ true }

@@ -1,4 +1,4 @@
-//! A desk with the state of a session.
+//! The state of a session.
 
 ghost use Rattle.std.specs.Prelude.{◌≡◌, OnOk, OnErr, false, if◌then◌else◌};
 ghost use Rattle.sm_history.specs.Verdict.{is_die};
@@ -16,17 +16,17 @@ use std::alloc::{AllocError, Global};
 
 /// A desk with the state of a session.
 pub struct Sitting<D> {
-    /// Whose session it is.
+    /// The kind of the session's peer.
     pub kind: Kind,
     pub desk: D,
-    /// A `hello` was answered by a client's number.
+    /// Whether a `hello` was answered by a client's number.
     pub connected: bool,
-    /// A `bye` was answered by `bye`.
+    /// Whether a `bye` was answered by `bye`.
     pub over: bool,
 }
 
 impl<D: Desk> Sitting<D> {
-    /// Whether the desk will be asked this item.
+    /// Returns whether the desk will be asked this item.
     pub fn will_ask(&self, item: &Item) -> bool
         ensures { result ≡ (if self.now.over then false else is_asked self.now.kind self.now.connected item.now) }
     {
@@ -41,7 +41,7 @@ impl<D: Desk> Sitting<D> {
         }
     }
 
-    /// Puts an item to the desk, if it is in its place, and adds the line of the answer.
+    /// Passes an item to the desk, if it is allowed in this state, and appends the line of the answer.
     pub fn take(
         &mut self,
         alloc: Global,
@@ -128,7 +128,7 @@ impl<D: Desk> Sitting<D> {
         }
     }
 
-    // Asks for a client, and sees whether there is one now.
+    // Asks for a client, and records whether there is one now.
     fn hello(&mut self, who: Identity) -> Response
         requires can { D.can_answer self.old.desk }
         ensures can { D.can_answer self.new.desk }
@@ -139,7 +139,7 @@ impl<D: Desk> Sitting<D> {
         response
     }
 
-    // Asks for a change, and sees whether the client has left.
+    // Asks for a change, and records whether the client has left.
     fn change(&mut self, client: Option<ClientId>, event: Event) -> Response
         requires can { D.can_answer self.old.desk }
         ensures can { D.can_answer self.new.desk }

@@ -119,7 +119,7 @@ step_names symbols next line (Dontaudit r) h = let e : symbols ≡ next = cc h i
 step_names symbols next line (Permissive n) h = let e : symbols ≡ next = cc h in
     (rw (← e) (sym (append-nil symbols.types)), rw (← e) (sym (append-nil symbols.attributes)))
 
--- no word stands in both lists
+-- no word is in both lists
 abbrev Apart : List Name → List Name → Type 0
 Apart xs ys = (word : Name) → list_any (bytes_eq word) xs ≡ true → list_any (bytes_eq word) ys ≡ true → ⊥
 
@@ -252,7 +252,7 @@ declares_type t (st ∷ sts) = by st.what (declares_type t sts) where
   by (Dontaudit r) h = h
   by (Permissive n) h = h
 
--- each type stands in a declaration
+-- each type is in a declaration
 pub declared_type : (policy : List Statement) (table : Table) (i : ℕ) → IsOf policy table
     → i < length table.symbols.types → declares policy (at table.symbols.types i) ≡ true
 declared_type policy table i is h =

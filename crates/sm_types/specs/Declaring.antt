@@ -1,4 +1,4 @@
--- What declarations are refused, in the order of the text.
+-- Which declarations are refused, in the order of the source.
 use Rattle.std.specs.Prelude.{ℕ, Bool, true, false, not, ◌&&◌, ◌||◌, nat_le, if◌then◌else◌, List, [], ◌∷◌, ◌++◌}
 use Rattle.std.specs.Prelude.{length, find, option_map, Option, Some, None, Result, Ok, Err}
 use Rattle.std.specs.Bool.{OnFalse}
@@ -15,10 +15,11 @@ use Rattle.sm_types.specs.declared.fault.TypesFault.{TypesFault}
 use Rattle.sm_types.specs.declared.fault.TypesFault.TheVariants.{Twice, Unknown, TooMany, Memory}
 use Rattle.sm_types.specs.Names.{Name}
 
+-- Each step has a result or a fault of the declarations.
 abbrev pub Step : Type 0 → Type 0
 Step A = Result A TypesFault
 
--- want of memory
+-- The fault is a failed allocation.
 abbrev pub is_memory : TypesFault → Bool
 is_memory Memory = true
 is_memory (Twice line) = false
@@ -27,25 +28,29 @@ is_memory TooMany = false
 
 -- ---- declarations
 
+-- These symbols are those of an empty source.
 abbrev pub nothing : Symbols
 nothing = record { types = []; attributes = [] }
 
--- types and attributes share one space of names
+-- A name is declared; types and attributes share one namespace.
 abbrev pub is_declared : Symbols → Name → Bool
 is_declared symbols name = list_any (bytes_eq name) symbols.types || list_any (bytes_eq name) symbols.attributes
 
+-- A type is declared, unless its name is or there are too many.
 unfoldable pub with_type : Symbols → ℕ → Name → Step Symbols
 with_type symbols line name =
     if is_declared symbols name then Err (Twice line)
     else if nat_le MOST_TYPES (length symbols.types) then Err TooMany
     else Ok (record { types = symbols.types ++ name ∷ []; attributes = symbols.attributes })
 
+-- An attribute is declared, unless its name is or there are too many.
 unfoldable pub with_attribute : Symbols → ℕ → Name → Step Symbols
 with_attribute symbols line name =
     if is_declared symbols name then Err (Twice line)
     else if nat_le MOST_ATTRIBUTES (length symbols.attributes) then Err TooMany
     else Ok (record { types = symbols.types; attributes = symbols.attributes ++ name ∷ [] })
 
+-- A statement's content declares a type, an attribute or nothing.
 unfoldable pub with_declaration : Symbols → ℕ → What → Step Symbols
 with_declaration symbols line (Attribute name) = with_attribute symbols line name
 with_declaration symbols line (Declared name names) = with_type symbols line name
@@ -55,15 +60,18 @@ with_declaration symbols line (Neverallow rule) = Ok symbols
 with_declaration symbols line (Dontaudit rule) = Ok symbols
 with_declaration symbols line (Permissive n) = Ok symbols
 
+-- All statements are read in order.
 unfoldable pub declared : Symbols → List Statement → Step Symbols
 declared symbols [] = Ok symbols
 declared symbols (st ∷ sts) = with_declaration symbols st.line st.what >>= λ next. declared next sts
 
 -- ---- memberships
 
+-- All names are declared attributes.
 abbrev pub all_attributes : Symbols → List Name → Bool
 all_attributes symbols names = list_all (λ name. list_any (bytes_eq name) symbols.attributes) names
 
+-- The names of a statement's content are declared as they should be.
 abbrev pub members_known : Symbols → What → Bool
 members_known symbols (Declared name names) = all_attributes symbols names
 members_known symbols (Member name names) = list_any (bytes_eq name) symbols.types && all_attributes symbols names
@@ -73,18 +81,20 @@ members_known symbols (Neverallow rule) = true
 members_known symbols (Dontaudit rule) = true
 members_known symbols (Permissive n) = true
 
+-- This is the line of the first statement with a name that isn't.
 abbrev pub first_unknown : Symbols → List Statement → Option ℕ
 first_unknown symbols policy = option_map (λ st. st.line) (find (λ st. not (members_known symbols st.what)) policy)
 
+-- A line refuses the symbols.
 abbrev pub unless : Option ℕ → Symbols → Step Symbols
 unless (Some line) symbols = Err (Unknown line)
 unless None symbols = Ok symbols
 
--- the names of a policy, if nothing is refused: all declarations come first, then all memberships
+-- These are the names of a policy, if nothing is refused. All declarations come first, then all memberships.
 unfoldable pub symbols_of : List Statement → Step Symbols
 symbols_of policy = declared nothing policy >>= λ symbols. unless (first_unknown symbols policy) symbols
 
--- A claim on a refusal other than for want of memory.
+-- A claim on a refusal, unless an allocation failed.
 abbrev pub UnlessMemory : TypesFault → Type 0 → Type 0
 UnlessMemory e P = OnFalse (is_memory e) P
 

@@ -1,4 +1,4 @@
--- What a rule text declares and what its sets denote, by the names in its statements.
+-- What a policy source declares and what its sets denote, by names.
 use Rattle.std.specs.Prelude.{◌≡◌, Bool, false, not, ◌&&◌, ◌||◌, if◌then◌else◌, List, [], ◌∷◌, filter, Option, Some}
 use Rattle.std.specs.Prelude.{None}
 use Rattle.std.specs.List.{list_any, list_all, filter_map}
@@ -11,12 +11,13 @@ use Rattle.sm_ruletext.specs.declared.statement.What.TheVariants.{Dontaudit, Per
 use Rattle.sm_ruletext.specs.declared.statement.Statement.{Statement}
 use Rattle.sm_types.specs.Names.{Name}
 
--- The statements of a rule text.
+-- A policy is here the statements of its source.
 abbrev pub Policy : Type 0
 Policy = List Statement
 
 -- ---- types and attributes
 
+-- A statement's content declares type t.
 abbrev pub is_type_named : Name → What → Bool
 is_type_named t (Declared n names) = bytes_eq n t
 is_type_named t (Attribute n) = false
@@ -26,6 +27,7 @@ is_type_named t (Neverallow r) = false
 is_type_named t (Dontaudit r) = false
 is_type_named t (Permissive n) = false
 
+-- A statement's content gives type t the attribute a.
 abbrev pub gives_attribute : Name → Name → What → Bool
 gives_attribute t a (Declared n names) = bytes_eq n t && contains names a
 gives_attribute t a (Member n names) = bytes_eq n t && contains names a
@@ -39,33 +41,34 @@ gives_attribute t a (Permissive n) = false
 abbrev pub declares : Policy → Name → Bool
 declares policy t = list_any (λ s. is_type_named t s.what) policy
 
--- Some statement gives the type the attribute, wherever it stands in the text.
+-- Some statement, anywhere in the source, gives the type the attribute.
 abbrev pub has_attribute : Policy → Name → Name → Bool
 has_attribute policy t a = list_any (λ s. gives_attribute t a s.what) policy
 
--- The word names the type, or an attribute that the type has.
+-- A word names the type, or an attribute that the type has.
 abbrev pub is_named : Policy → Name → Name → Bool
 is_named policy t word = bytes_eq word t || has_attribute policy t word
 
 -- ---- sets
 
--- A positive item names the type and no `-` item does; `~` turns that round.
+-- A set chooses a type: a positive item names it and no `-` item does; `~` negates that.
 unfoldable pub chosen : Policy → Set → Name → Bool
 chosen policy set t =
     let among = (set.all || list_any (is_named policy t) set.plus) && not (list_any (is_named policy t) set.minus) in
     if set.complement then not among else among
 
--- The set is written as that word alone.
+-- A set is written as one word.
 pub record IsWord (word : Name) (set : Set) : Type 0 where
   pub all : set.all ≡ false
   pub complement : set.complement ≡ false
   pub plus : set.plus ≡ word ∷ []
   pub minus : set.minus ≡ []
 
--- A set denotes declared types alone.
+-- A set denotes declared types only.
 abbrev pub in_set : Policy → Set → Name → Bool
 in_set policy set t = declares policy t && chosen policy set t
 
+-- This is the type that a statement's content declares.
 abbrev pub type_of : What → Option Name
 type_of (Declared n names) = Some n
 type_of (Attribute n) = None
@@ -75,16 +78,17 @@ type_of (Neverallow r) = None
 type_of (Dontaudit r) = None
 type_of (Permissive n) = None
 
--- The declared types, in the order of their declaration.
+-- These are the declared types, in the order of their declaration.
 abbrev pub types : Policy → List Name
 types policy = filter_map (λ s. type_of s.what) policy
 
--- The types that a set denotes, in the order of their declaration.
+-- These are the types that a set denotes, in the order of their declaration.
 abbrev pub denoted : Policy → Set → List Name
 denoted policy set = filter (in_set policy set) (types policy)
 
 -- ---- names that are declared
 
+-- This is the attribute that a statement's content declares.
 abbrev pub attribute_of : What → Option Name
 attribute_of (Attribute n) = Some n
 attribute_of (Declared n names) = None
@@ -94,11 +98,11 @@ attribute_of (Neverallow r) = None
 attribute_of (Dontaudit r) = None
 attribute_of (Permissive n) = None
 
--- The declared attributes, in the order of their declaration.
+-- These are the declared attributes, in the order of their declaration.
 abbrev pub attributes : Policy → List Name
 attributes policy = filter_map (λ s. attribute_of s.what) policy
 
--- The word is declared, as a type or as an attribute.
+-- A word is declared, as a type or as an attribute.
 abbrev pub knows : Policy → Name → Bool
 knows policy word = list_any (bytes_eq word) (types policy) || list_any (bytes_eq word) (attributes policy)
 

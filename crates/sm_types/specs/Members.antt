@@ -1,4 +1,4 @@
--- Rows of bits that say which type has which attribute.
+-- Rows of bits for the members of attributes.
 use Rattle.std.specs.Prelude.{◌≡◌, ℕ, false, ◌&&◌, ◌||◌, nat_eq, nat_lt, ◌<◌, ◌≤◌, ◌/◌, ◌+◌, List, length, Ok}
 use Rattle.sm_bits.specs.Bits.{has, row}
 use Rattle.sm_kinds.specs.Names.{contains}
@@ -9,26 +9,26 @@ use Rattle.sm_types.specs.declared.TheConstants.{MOST_TYPES}
 use Rattle.sm_types.specs.declared.symbols.Symbols.{Symbols}
 use Rattle.sm_types.specs.declared.table.Table.{Table}
 
--- In the row of each attribute that is named, t is added, and nothing else is changed.
+-- Type t was added to the row of each named attribute, and nothing else changed.
 pub record Given (old new : List (List ℕ)) (attributes names : List Name) (t : ℕ) : Type 0 where
   pub count : length new ≡ length old
   pub room : (a : ℕ) → length (row new a) ≡ length (row old a)
   pub given : (a i : ℕ) → a < length attributes
       → has (row new a) i ≡ (has (row old a) i || (nat_eq i t && contains names (at attributes a)))
 
--- No type stands twice, and each attribute has a row, with room for each type and no number past the types.
+-- No type is there twice, and each attribute has a row with room for each type and no number past the types.
 pub record Fits (members : List (List ℕ)) (symbols : Symbols) : Type 0 where
   pub distinct : Distinct symbols.types
   pub count : length members ≡ length symbols.attributes
   pub room : (a : ℕ) → a < length symbols.attributes → length (row members a) ≡ length symbols.types / 64 + 1
   pub past : (a i : ℕ) → a < length symbols.attributes → length symbols.types ≤ i → has (row members a) i ≡ false
 
--- The row has every type and nothing else.
+-- A row has exactly all types.
 pub record HasAll (symbols : Symbols) (row : List ℕ) : Type 0 where
   pub room : length row ≡ length symbols.types / 64 + 1
   pub full : (i : ℕ) → has row i ≡ nat_lt i (length symbols.types)
 
--- What is true of every table.
+-- This is the invariant of every table.
 pub record IsSound (table : Table) : Type 0 where
   pub few : length table.symbols.types ≤ MOST_TYPES
   pub fits : Fits table.members.items table.symbols

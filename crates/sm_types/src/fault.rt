@@ -1,11 +1,11 @@
-//! Why the declarations of a rule text, or a set of types, were refused.
+//! Why the declarations of a policy source, or a set of types, were refused.
 
 ghost use Rattle.std.specs.Prelude.{◌≡◌};
 ghost use Rattle.sm_types.specs.declared.fault.TypesFault.TheVariants.{Memory};
 
 use std::alloc::{AllocError, AllocFailed};
 
-/// The first fault of the declarations, or that of a set.
+/// The first fault of the declarations, or of a set.
 #[derive(Clone, Copy, Debug, PartialEq, Eq)]
 pub enum TypesFault {
     /// The name that the statement at this line declares is declared already.
@@ -15,7 +15,7 @@ pub enum TypesFault {
     /// There are more than [`MOST_TYPES`](crate::MOST_TYPES) types or
     /// [`MOST_ATTRIBUTES`](crate::MOST_ATTRIBUTES) attributes.
     TooMany,
-    /// Memory was refused.
+    /// An allocation failed.
     Memory,
 }
 

@@ -1,5 +1,4 @@
-//! The types and attributes that a rule text declares, and the types that a set of one of its
-//! rules denotes.
+//! The types and attributes that a policy source declares, and the types that a rule's set denotes.
 #![tactic(auto)]
 
 mod fault;
@@ -14,8 +13,8 @@ pub use fault::TypesFault;
 pub use type_count::TypeCount;
 pub use types::Types;
 
-/// The most types that a rule text may declare.
+/// The most types that a policy source may declare.
 pub const MOST_TYPES: usize = 4096;
 
-/// The most attributes that a rule text may declare.
+/// The most attributes that a policy source may declare.
 pub const MOST_ATTRIBUTES: usize = 1024;

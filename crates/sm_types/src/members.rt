@@ -1,4 +1,4 @@
-//! Which types have which attribute.
+//! The members of attributes.
 
 ghost use Rattle.std.specs.Prelude.{◌≡◌, ◌||◌, ◌&&◌, ◌*◌, ◌<◌, ◌≤◌, ℕ, [], nat_eq, take, length, slice_index, false, IfOk};
 ghost use Rattle.std.specs.List.{list_any};
@@ -15,7 +15,7 @@ use sm_kinds::Names;
 use sm_ruletext::{Statement, What};
 use std::alloc::{AllocError, Global};
 
-/// Adds a type to the row of an attribute, if that is declared.
+/// Adds a type to the row of an attribute, if the attribute is declared.
 fn give_one(members: &mut Vec<BitRow>, attributes: &NameSet, t: usize, name: &[u8])
     requires count { length members.old.items ≡ length attributes.now }
     requires room { (a : ℕ) → a < length attributes.now
@@ -32,7 +32,7 @@ fn give_one(members: &mut Vec<BitRow>, attributes: &NameSet, t: usize, name: &[u
     }
 }
 
-/// Adds a type to the row of each attribute that is named.
+/// Adds a type to the row of each named attribute.
 fn give(members: &mut Vec<BitRow>, attributes: &NameSet, t: usize, names: &Names)
     requires count { length members.old.items ≡ length attributes.now }
     requires room { (a : ℕ) → a < length attributes.now
@@ -44,7 +44,7 @@ fn give(members: &mut Vec<BitRow>, attributes: &NameSet, t: usize, names: &Names
     }
 }
 
-/// Adds what a statement says of a type to the rows of its attributes.
+/// Adds the memberships of a statement to the rows of its attributes.
 fn with_members(members: &mut Vec<BitRow>, symbols: &Symbols, what: &What)
     requires { Fits members.old.items symbols.now }
     ensures fits { Fits members.new.items symbols.now }
@@ -69,7 +69,7 @@ fn with_members(members: &mut Vec<BitRow>, symbols: &Symbols, what: &What)
     }
 }
 
-/// An empty row for each attribute.
+/// Makes an empty row for each attribute.
 fn no_members(alloc: Global, symbols: &Symbols) -> Result<Vec<BitRow>, AllocError>
     ensures { IfOk result (λ m. (Fits m.items symbols.now) × ((a i : ℕ)
         → has (row m.items a) i ≡ false)) }
@@ -78,7 +78,7 @@ fn no_members(alloc: Global, symbols: &Symbols) -> Result<Vec<BitRow>, AllocErro
     empty_rows(alloc, symbols.attributes.len(), words)
 }
 
-/// Which types have which attribute.
+/// Computes which types have which attribute.
 pub fn members_of(
     alloc: Global,
     symbols: &Symbols,

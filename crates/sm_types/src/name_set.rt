@@ -4,7 +4,7 @@ use indexmap::IndexSet;
 use std::alloc::{AllocError, Global};
 use std::marker::Model;
 
-/// Distinct names, which contracts see as the list of their bytes.
+/// Distinct names. Contracts see the list of their bytes.
 #[derive(Drop)]
 pub struct NameSet {
     names: IndexSet<Vec<u8>>,
@@ -27,7 +27,7 @@ impl NameSet {
     ghost use Rattle.std.specs.Str.{bytes_eq};
     ghost use Rattle.sm_types.specs.Names.{Distinct, is_at, at};
 
-    /// No name.
+    /// Makes an empty set.
     pub fn new(alloc: Global) -> NameSet
         ensures { result ≡ [] }
     {
@@ -36,7 +36,7 @@ impl NameSet {
         }
     }
 
-    /// How many names there are.
+    /// Returns the number of names.
     pub fn len(&self) -> usize
         ensures len { result ≡ length self.now }
         ensures distinct { Distinct self.now }
@@ -44,14 +44,14 @@ impl NameSet {
         self.names.len()
     }
 
-    /// Whether a name is in the set.
+    /// Returns whether a name is in the set.
     pub fn contains(&self, name: &[u8]) -> bool
         ensures { result ≡ list_any (bytes_eq name.now) self.now }
     {
         self.names.contains(name)
     }
 
-    /// The place of a name, found by its hash.
+    /// Returns the index of a name, found by its hash.
     pub fn index(&self, name: &[u8]) -> Option<usize>
         ensures place { result ≡ position (bytes_eq name.now) self.now }
         ensures known { is_some result ≡ list_any (bytes_eq name.now) self.now }
@@ -61,7 +61,7 @@ impl NameSet {
         self.names.get_index_of(name)
     }
 
-    /// The name with this number, if there is one.
+    /// Returns the name at an index, if there is one.
     pub fn name(&self, index: usize) -> Option<&[u8]>
         ensures { option_map (λ n. n.now) result ≡ slice_get self.now index }
     {
@@ -71,7 +71,7 @@ impl NameSet {
         }
     }
 
-    /// Adds a name, which isn't there, at the end.
+    /// Appends a name that isn't in the set.
     pub fn insert(&mut self, alloc: Global, name: &[u8]) -> Result<(), AllocError>
         requires { list_any (bytes_eq name.now) self.old ≡ false }
         ensures { OnOk result (self.new ≡ self.old ++ name.now ∷ []) }

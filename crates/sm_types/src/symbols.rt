@@ -1,4 +1,4 @@
-//! The names that a rule text declares.
+//! The names that a policy source declares.
 
 ghost use Rattle.std.specs.Prelude.{◌≡◌, ◌≤◌, length, IfOk, not, find, option_map};
 ghost use Rattle.std.specs.List.{list_any, list_all};
@@ -14,7 +14,7 @@ use sm_kinds::Names;
 use sm_ruletext::{Statement, What};
 use std::alloc::Global;
 
-/// The types and the attributes of a rule text, which share one space of names.
+/// The types and the attributes of a policy source, which share one space of names.
 #[derive(Drop)]
 pub struct Symbols {
     pub types: NameSet,
@@ -87,7 +87,7 @@ fn with_declaration(
     }
 }
 
-/// All declarations, in the order of the text.
+/// Reads all declarations, in the order of the source.
 fn declared(alloc: Global, statements: &[Statement]) -> Result<Symbols, TypesFault>
     ensures few { IfOk result (λ s. length s.types ≤ MOST_TYPES) }
     ensures exact { Gives is_memory (λ s. s) result (spec.declared spec.nothing statements.now) }
@@ -111,7 +111,7 @@ fn all_attributes(symbols: &Symbols, names: &Names) -> bool
         .all(|name| symbols.attributes.contains(name.bytes()))
 }
 
-/// Whether the attributes that a statement gives are declared, and the type that it gives them.
+/// Returns whether the attributes that a statement gives are declared, and the type that gets them.
 fn members_known(symbols: &Symbols, what: &What) -> bool
     ensures { result ≡ spec.members_known symbols.now what.now }
 {
@@ -124,7 +124,7 @@ fn members_known(symbols: &Symbols, what: &What) -> bool
     }
 }
 
-/// The line of the first statement whose names aren't declared so.
+/// Returns the line of the first statement with a name that isn't declared as it should be.
 fn first_unknown(symbols: &Symbols, statements: &[Statement]) -> Option<u32>
     ensures { result ≡ spec.first_unknown symbols.now statements.now }
 {
@@ -134,7 +134,7 @@ fn first_unknown(symbols: &Symbols, statements: &[Statement]) -> Option<u32>
         .map(|statement| statement.line)
 }
 
-/// The names that a rule text declares, where no declaration and no membership is refused.
+/// Reads the names that a policy source declares, unless a declaration or a membership is refused.
 #[tactic(auto, unfolding(crate::specs::Declaring::symbols_of))]
 pub fn symbols_of(alloc: Global, statements: &[Statement]) -> Result<Symbols, TypesFault>
     ensures few { IfOk result (λ s. length s.types ≤ MOST_TYPES) }

@@ -1,4 +1,4 @@
-//! Which types a set denotes.
+//! The table of types, and the types that a set denotes.
 
 ghost use Rattle.std.specs.Prelude.{◌≡◌, ◌||◌, ◌&&◌, ◌<◌, ◌≤◌, ◌+◌, ◌/◌, ℕ, List, length, IfOk, IfErr, IfSome, IsTrue, not, nat_eq, nat_lt, false, true};
 ghost use Rattle.std.specs.List.{list_any};
@@ -21,7 +21,7 @@ use sm_kinds::Names;
 use sm_ruletext::{Set, Statement};
 use std::alloc::{AllocError, Global};
 
-/// The types of a rule text, and for each attribute the row of those that have it.
+/// The types of a policy source, and for each attribute the row of its members.
 #[derive(Drop)]
 pub struct Table {
     pub symbols: Symbols,
@@ -30,7 +30,7 @@ pub struct Table {
     pub all: BitRow,
 }
 
-/// The table of a rule text, or the first refusal.
+/// Reads the table of a policy source, or returns the first refusal.
 pub fn table_of(alloc: Global, statements: &[Statement]) -> Result<Table, TypesFault>
     ensures refused { IfErr result (λ e. Fails is_memory e (symbols_of statements.now)) }
     ensures built { IfOk result (λ t. IsOf statements.now t) }
@@ -47,7 +47,7 @@ pub fn table_of(alloc: Global, statements: &[Statement]) -> Result<Table, TypesF
     })
 }
 
-/// Adds the type of that name. `false`: there is none.
+/// Adds the type of that name. Returns `false` if there is none.
 fn add_type(table: &Table, set: &mut BitRow, word: &[u8]) -> bool
     requires { length set.old ≡ length table.now.symbols.types / 64 + 1 }
     ensures room { length set.new ≡ length set.old }
@@ -65,7 +65,7 @@ fn add_type(table: &Table, set: &mut BitRow, word: &[u8]) -> bool
     }
 }
 
-/// Adds the types that have the attribute of that name. `false`: there is none.
+/// Adds the types that have the attribute of that name. Returns `false` if there is no such attribute.
 fn add_members(table: &Table, set: &mut BitRow, word: &[u8]) -> bool
     requires fits { Fits table.now.members.items table.now.symbols }
     requires room { length set.old ≡ length table.now.symbols.types / 64 + 1 }
@@ -86,7 +86,7 @@ fn add_members(table: &Table, set: &mut BitRow, word: &[u8]) -> bool
     }
 }
 
-/// The type that a word names.
+/// Returns the type that a word names.
 fn named_type(table: &Table, word: &[u8]) -> Option<usize>
     ensures inside { IfSome result (λ t. t < length table.now.symbols.types) }
     ensures named { IfSome result (λ t. (policy : List TheStatement) → IsOf policy table.now → (i : ℕ)
@@ -98,7 +98,7 @@ fn named_type(table: &Table, word: &[u8]) -> Option<usize>
     Some(t)
 }
 
-/// The attribute that a word names.
+/// Returns the attribute that a word names.
 fn named_attribute(table: &Table, word: &[u8]) -> Option<usize>
     ensures inside { IfSome result (λ a. a < length table.now.symbols.attributes) }
     ensures named { IfSome result (λ a. (policy : List TheStatement) → IsOf policy table.now → (i : ℕ)
@@ -110,7 +110,7 @@ fn named_attribute(table: &Table, word: &[u8]) -> Option<usize>
     Some(a)
 }
 
-/// Adds the types that a word names. `false`: the word isn't declared.
+/// Adds the types that a word names. Returns `false` if the word isn't declared.
 fn add_named(table: &Table, set: &mut BitRow, word: &[u8]) -> bool
     requires fits { Fits table.now.members.items table.now.symbols }
     requires room { length set.old ≡ length table.now.symbols.types / 64 + 1 }
@@ -125,7 +125,7 @@ fn add_named(table: &Table, set: &mut BitRow, word: &[u8]) -> bool
     add_type(table, set, word) || add_members(table, set, word)
 }
 
-/// Adds the types that words name. `false`: some word isn't declared.
+/// Adds the types that words name. Returns `false` if some word isn't declared.
 fn add_all(table: &Table, set: &mut BitRow, words: &Names) -> bool
     requires fits { Fits table.now.members.items table.now.symbols }
     requires room { length set.old ≡ length table.now.symbols.types / 64 + 1 }
@@ -145,7 +145,7 @@ fn add_all(table: &Table, set: &mut BitRow, words: &Names) -> bool
     true
 }
 
-/// All types.
+/// Makes the row of all types.
 fn all_types(alloc: Global, symbols: &Symbols) -> Result<BitRow, AllocError>
     ensures { IfOk result (λ row. HasAll symbols.now row) }
 {
@@ -157,7 +157,7 @@ fn all_types(alloc: Global, symbols: &Symbols) -> Result<BitRow, AllocError>
     Ok(set)
 }
 
-/// All types, or none.
+/// Makes a row of all types, or of none.
 fn all_or_none(alloc: Global, table: &Table, is_all: bool) -> Result<BitRow, AllocError>
     requires { HasAll table.now.symbols table.now.all }
     ensures room { IfOk result (λ row. length row ≡ length table.now.symbols.types / 64 + 1) }
@@ -171,7 +171,7 @@ fn all_or_none(alloc: Global, table: &Table, is_all: bool) -> Result<BitRow, All
     Ok(set)
 }
 
-/// Removes the types that a word names. `false`: the word isn't declared.
+/// Removes the types that a word names. Returns `false` if the word isn't declared.
 fn remove_named(table: &Table, set: &mut BitRow, word: &[u8]) -> bool
     requires fits { Fits table.now.members.items table.now.symbols }
     requires room { length set.old ≡ length table.now.symbols.types / 64 + 1 }
@@ -197,7 +197,7 @@ fn remove_named(table: &Table, set: &mut BitRow, word: &[u8]) -> bool
     }
 }
 
-/// Removes the types that words name. `false`: some word isn't declared.
+/// Removes the types that words name. Returns `false` if some word isn't declared.
 fn remove_all(table: &Table, set: &mut BitRow, words: &Names) -> bool
     requires fits { Fits table.now.members.items table.now.symbols }
     requires room { length set.old ≡ length table.now.symbols.types / 64 + 1 }
@@ -218,7 +218,7 @@ fn remove_all(table: &Table, set: &mut BitRow, words: &Names) -> bool
     true
 }
 
-/// The word of a set that is written as one word alone.
+/// Returns the word of a set that is written as one word.
 fn only_word(set: &Set) -> Option<&[u8]>
     ensures { IfSome result (λ word. IsWord word.now set.now) }
 {
@@ -231,7 +231,7 @@ fn only_word(set: &Set) -> Option<&[u8]>
     }
 }
 
-/// The type that a set denotes, if the set is written as the name of a type alone.
+/// Returns the type that a set denotes, if the set is written as the name of one type.
 #[tactic(auto, unfolding(crate::specs::Denoting::chosen))]
 pub fn only_chosen(table: &Table, set: &Set) -> Option<usize>
     ensures inside { IfSome result (λ t. t < length table.now.symbols.types) }
@@ -244,7 +244,7 @@ pub fn only_chosen(table: &Table, set: &Set) -> Option<usize>
     named_type(table, only_word(set)?)
 }
 
-/// The attribute that a set denotes, if the set is written as the name of an attribute alone.
+/// Returns the attribute that a set denotes, if the set is written as the name of one attribute.
 #[tactic(auto, unfolding(crate::specs::Denoting::chosen))]
 pub fn only_attribute(table: &Table, set: &Set) -> Option<usize>
     ensures inside { IfSome result (λ a. a < length table.now.symbols.attributes) }
@@ -257,7 +257,7 @@ pub fn only_attribute(table: &Table, set: &Set) -> Option<usize>
     named_attribute(table, only_word(set)?)
 }
 
-/// The types that the items of a set choose.
+/// Returns the types that the items of a set choose.
 #[tactic(auto, unfolding(crate::specs::Denoting::chosen))]
 pub fn chosen_types(alloc: Global, table: &Table, set: &Set) -> Result<BitRow, TypesFault>
     requires fits { Fits table.now.members.items table.now.symbols }

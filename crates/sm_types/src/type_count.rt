@@ -1,8 +1,8 @@
-//! How many types there are.
+//! The number of types, with its bound.
 
 use std::marker::Model;
 
-/// How many types a rule text declares, at most [`MOST_TYPES`](crate::MOST_TYPES).
+/// The number of types of a policy source, at most [`MOST_TYPES`](crate::MOST_TYPES).
 ///
 /// Contracts see it as the number.
 #[derive(Clone, Copy, Debug, PartialEq, Eq)]
@@ -27,7 +27,7 @@ ghost use Rattle.std.specs.Prelude.{◌≡◌, ◌≤◌, ◌+◌, ◌/◌};
 ghost use Rattle.sm_types.specs.declared.TheConstants.{MOST_TYPES};
 
 impl TypeCount {
-    /// The number of so many types.
+    /// Makes a count.
     pub(crate) fn new(count: usize) -> TypeCount
         requires { count ≤ MOST_TYPES }
         ensures { result ≡ count }
@@ -35,7 +35,7 @@ impl TypeCount {
         TypeCount { count }
     }
 
-    /// The number itself.
+    /// Returns the number.
     pub fn get(self) -> usize
         ensures number { result ≡ self }
         ensures few { result ≤ MOST_TYPES }
@@ -43,7 +43,7 @@ impl TypeCount {
         self.count
     }
 
-    /// How many words a row has that has a bit for each type, and for one more.
+    /// Returns the number of words of a row that has a bit for each type, and for one more.
     pub fn words(self) -> usize
         ensures number { result ≡ self / 64 + 1 }
         ensures few { result ≤ MOST_TYPES / 64 + 1 }

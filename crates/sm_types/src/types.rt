@@ -1,4 +1,4 @@
-//! The types of a rule text.
+//! The types of a policy source.
 
 ghost use Rattle.std.specs.Prelude.{◌≡◌, ◌<◌, ◌≤◌, ◌+◌, ◌/◌, ℕ, List, length, position, slice_get, option_map, IfOk, IfErr, IfSome, Some, is_some, nat_eq, false, true};
 ghost use Rattle.std.specs.Str.{bytes_eq};
@@ -19,10 +19,10 @@ use sm_ruletext::{Set, Statement};
 use std::alloc::Global;
 use std::marker::Model;
 
-/// The declared types of a rule text, numbered from 0 in the order of their declaration, and
-/// which of them have which attribute.
+/// The declared types of a policy source, numbered from 0 in the order of their declaration, and the members of its
+/// attributes.
 ///
-/// Contracts see it as a table of names and rows; `IsOf` says that the table is that of a text.
+/// Contracts see it as a table of names and rows; `IsOf` says that the table is that of a source.
 #[derive(Drop)]
 pub struct Types {
     table: Table,
@@ -40,15 +40,14 @@ impl Model for Types {
 }
 
 impl Types {
-    /// The types of a rule text.
+    /// Builds the types of a policy source.
     ///
     /// # Errors
     ///
-    /// First all declarations in the order of the text: `Twice` for a name that is declared
-    /// again, as a type or an attribute, and `TooMany` for a type past [`MOST_TYPES`] or an
-    /// attribute past [`MOST_ATTRIBUTES`]. Then all memberships in that order: `Unknown` where a `type` statement gives
-    /// a name that is no attribute, or a `typeattribute` statement has a name that is no type,
-    /// or no attribute. `Memory` where memory was refused.
+    /// First all declarations in the order of the source: `Twice` for a name that is declared again, as a type or an
+    /// attribute, and `TooMany` for a type past [`MOST_TYPES`] or an attribute past [`MOST_ATTRIBUTES`]. Then all
+    /// memberships in that order: `Unknown` if a `type` statement gives a name that is no attribute, or a
+    /// `typeattribute` statement has a name that is no type, or no attribute. `Memory` if an allocation fails.
     pub fn build(alloc: Global, statements: &[Statement]) -> Result<Types, TypesFault>
         ensures refused { IfErr result (λ e. Fails is_memory e (symbols_of statements.now)) }
         ensures built { IfOk result (λ types. IsOf statements.now types) }
@@ -57,14 +56,14 @@ impl Types {
         Ok(Types { table })
     }
 
-    /// How many types there are, as a number that is known to be small.
+    /// Returns the number of types, with its bound.
     pub fn type_count(&self) -> TypeCount
         ensures { result ≡ length self.now.symbols.types }
     {
         TypeCount::new(self.table.symbols.types.len())
     }
 
-    /// How many types there are.
+    /// Returns the number of types.
     pub fn count(&self) -> usize
         ensures count { result ≡ length self.now.symbols.types }
         ensures few { result ≤ MOST_TYPES }
@@ -72,14 +71,14 @@ impl Types {
         self.type_count().get()
     }
 
-    /// How many attributes there are, at most [`MOST_ATTRIBUTES`](crate::MOST_ATTRIBUTES).
+    /// Returns the number of attributes, at most [`MOST_ATTRIBUTES`](crate::MOST_ATTRIBUTES).
     pub fn attribute_count(&self) -> usize
         ensures { result ≡ length self.now.symbols.attributes }
     {
         self.table.symbols.attributes.len()
     }
 
-    /// The number of a type.
+    /// Returns the number of a type.
     pub fn index(&self, name: &[u8]) -> Option<u16>
         ensures place { result ≡ position (bytes_eq name.now) self.now.symbols.types }
         ensures named { IfSome result (λ i. slice_get self.now.symbols.types i ≡ Some name.now) }
@@ -92,7 +91,7 @@ impl Types {
         }
     }
 
-    /// The name of a type by its number.
+    /// Returns the name of a type by its number.
     pub fn name(&self, index: u16) -> Option<&[u8]>
         ensures name { option_map (λ n. n.now) result ≡ slice_get self.now.symbols.types index }
         ensures index { IfSome result (λ n. position (bytes_eq n.now) self.now.symbols.types
@@ -102,7 +101,7 @@ impl Types {
         Some(name)
     }
 
-    /// The number of the type that a set denotes, if the set is written as the name of a type alone. `None` says
+    /// Returns the number of the type that a set denotes, if the set is written as the name of one type. `None` says
     /// nothing of the set: [`expand`](Types::expand) has its types.
     pub fn only(&self, set: &Set) -> Option<u16>
         ensures inside { IfSome result (λ t. t < length self.now.symbols.types) }
@@ -116,8 +115,8 @@ impl Types {
         Some(t as u16)
     }
 
-    /// The number of the attribute that a set denotes, if the set is written as the name of an attribute alone. `None`
-    /// says nothing of the set: [`expand`](Types::expand) has its types.
+    /// Returns the number of the attribute that a set denotes, if the set is written as the name of one attribute.
+    /// `None` says nothing of the set: [`expand`](Types::expand) has its types.
     pub fn only_attribute(&self, set: &Set) -> Option<usize>
         ensures inside { IfSome result (λ a. a < length self.now.symbols.attributes) }
         ensures denoted { IfSome result (λ a. (policy : List TheStatement) → IsOf policy self.now
@@ -130,7 +129,7 @@ impl Types {
         Some(a)
     }
 
-    /// The types that have an attribute, as bits by their numbers.
+    /// Returns the types that have an attribute, as bits by their numbers.
     pub fn members(&self, attribute: usize) -> &BitRow
         requires { attribute < length self.now.symbols.attributes }
         ensures row { result.now ≡ row self.now.members.items attribute }
@@ -140,12 +139,12 @@ impl Types {
         &self.table.members[attribute]
     }
 
-    /// The types that a set denotes, as bits by their numbers.
+    /// Returns the types that a set denotes, as bits by their numbers.
     ///
     /// # Errors
     ///
-    /// `Unknown`, with the set's line, where a name of the set isn't declared, as a type or as
-    /// an attribute; `Memory` where memory was refused.
+    /// `Unknown`, with the set's line, if a name of the set isn't declared, as a type or as an attribute; `Memory` if
+    /// an allocation fails.
     pub fn expand(&self, alloc: Global, set: &Set) -> Result<BitRow, TypesFault>
         ensures room { IfOk result (λ row. length row ≡ length self.now.symbols.types / 64 + 1) }
         ensures denoted { IfOk result (λ row. (policy : List TheStatement) → IsOf policy self.now

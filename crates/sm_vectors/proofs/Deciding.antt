@@ -59,7 +59,7 @@ decided_audited policy names tables b s t class perm of hs ht number =
     ) (records (has_bit (byte_at tables.written s t) b) (has tables.permissive s)
     (has_bit (byte_at tables.silenced s t) b))
 
--- what is no single permission of the class passes nowhere, and leaves a record
+-- what is no single permission of the class passes nowhere, and is audited
 
 nowhere : (p d : Bool) → (false || (p && (d && false))) ≡ false
 nowhere true true = refl

@@ -1,4 +1,4 @@
--- The table of bytes as its rows are added.
+-- The table of bytes while its rows are added.
 use Rattle.std.specs.Prelude.{◌≡◌, ℕ, ◌<◌, List, length}
 use Rattle.std.proofs.Common.{get_or}
 use Rattle.sm_bits.specs.Bits.{has, row, has_bit}

@@ -1,4 +1,4 @@
--- Bytes for pairs of types: a bit for each permission.
+-- Bytes for pairs of types, with a bit for each permission.
 use Rattle.std.specs.Prelude.{◌≡◌, ℕ, true, false, not, ◌<◌, if◌then◌else◌, List, length}
 use Rattle.std.proofs.Common.{get_or}
 use Rattle.sm_bits.specs.Bits.{row, has, has_bit}
@@ -8,28 +8,28 @@ use Rattle.sm_rules.specs.Access.{written, silenced}
 use Rattle.sm_rules.specs.Keeping.{class_at, perm_at, SaysPermissive}
 use Rattle.sm_vectors.specs.declared.decision.Decision.{Decision}
 
--- Distinct rows of a byte for each target, and for each source the place of its row.
+-- A table has distinct rows of a byte for each target, and for each source the index of its row.
 pub record Table : Type 0 where
   pub places : List ℕ
   pub rows : List (List ℕ)
 
--- The byte of source s and target t.
+-- This is the byte of source s and target t.
 abbrev pub byte_at : Table → ℕ → ℕ → ℕ
 byte_at table s t = get_or (row table.rows (get_or table.places s 0)) t 0
 
--- What contracts see of the tables of a policy: the number of types, what its allow rules give, what its dontaudit
--- rules cover, and its permissive types.
+-- Contracts see these of a policy's tables: the number of types, what its allow rules grant, what its dontaudit rules
+-- cover, and its permissive types.
 pub record Tables : Type 0 where
   pub count : ℕ
   pub written : Table
   pub silenced : Table
   pub permissive : List ℕ
 
--- The decision where nothing is said: it doesn't pass, and a record is kept.
+-- Without any rule this is the decision: the check doesn't pass, and is audited.
 abbrev pub refusal : Decision
 refusal = record { allowed = false; audited = true }
 
--- The decision of the tables for permission b, source s and target t.
+-- This is the decision of the tables for permission b, source s and target t.
 abbrev pub decision : Tables → ℕ → ℕ → ℕ → Decision
 decision tables b s t =
     if has_bit (byte_at tables.written s t) b then record { allowed = true; audited = false }
@@ -40,7 +40,7 @@ pub record SaysWritten (policy : Policy) (names : List Name) (table : Table) : T
   pub says : (b s t : ℕ) → b < 7 → s < length names → t < length names
       → has_bit (byte_at table s t) b ≡ written policy (at names s) (at names t) (class_at b) (perm_at b)
 
--- The table says what its dontaudit rules cover.
+-- The table says what the policy's dontaudit rules cover.
 pub record SaysSilenced (policy : Policy) (names : List Name) (table : Table) : Type 0 where
   pub says : (b s t : ℕ) → b < 7 → s < length names → t < length names
       → has_bit (byte_at table s t) b ≡ silenced policy (at names s) (at names t) (class_at b) (perm_at b)

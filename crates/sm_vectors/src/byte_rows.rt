@@ -1,4 +1,4 @@
-//! Rows of bytes, each kept once.
+//! Rows of bytes, each stored once.
 
 ghost use Rattle.std.specs.Prelude.{◌≡◌};
 
@@ -36,11 +36,11 @@ impl ByteRow {
     }
 }
 
-/// Rows of bytes, found by a number that equal rows have in common. Contracts see them as a list of rows.
+/// Rows of bytes, found by a digest, which equal rows have in common. Contracts see them as a list of rows.
 #[derive(Drop)]
 pub struct ByteRows {
     rows: Vec<ByteRow>,
-    /// For such a number the place of the last row that came with it.
+    /// For each digest the index of the last row that came with it.
     places: IndexMap<u64, usize>,
 }
 
@@ -56,7 +56,7 @@ impl ByteRows {
     ghost use Rattle.std.specs.Prelude.{◌≡◌, ◌<◌, ◌≤◌, ℕ, [], length, slice_get, option_map, OnOk, IfOk, IfSome};
     ghost use Rattle.sm_bits.specs.Bits.{row};
 
-    /// No row.
+    /// Makes an empty list of rows.
     pub fn new(alloc: Global) -> ByteRows
         ensures { result ≡ [] }
     {
@@ -66,7 +66,7 @@ impl ByteRows {
         }
     }
 
-    /// The row at a place, if there is one.
+    /// Returns the row at an index, if there is one.
     pub fn get(&self, place: usize) -> Option<&[u8]>
         ensures { option_map (λ r. r.now) result ≡ slice_get self.now place }
     {
@@ -76,7 +76,7 @@ impl ByteRows {
         }
     }
 
-    /// The place of a row that came with this number, if it is the same.
+    /// Returns the index of a row that came with this digest, if it is equal.
     fn known(&self, digest: u64, bytes: &[u8]) -> Option<usize>
         ensures inside { IfSome result (λ place. place < length self.now) }
         ensures same { IfSome result (λ place. row self.now place ≡ bytes.now) }
@@ -88,9 +88,8 @@ impl ByteRows {
         None
     }
 
-    /// The place of a row, which is added where it isn't there yet. The others stay where they are. The number is
-    /// one that equal rows have in common, such as a digest: it says nothing else, and what is found by it is
-    /// compared.
+    /// Returns the index of a row, which is appended unless it is there. The others keep their indexes. The digest must
+    /// be the same for equal rows; rows with equal digests are compared.
     pub fn place_of(&mut self, digest: u64, bytes: Vec<u8>) -> Result<usize, AllocError>
         ensures place { IfOk result (λ place. row self.new place ≡ bytes.items) }
         ensures inside { IfOk result (λ place. place < length self.new) }

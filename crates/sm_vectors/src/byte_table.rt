@@ -1,4 +1,4 @@
-//! A byte for each pair of types.
+//! A table of a byte for each pair of types.
 
 ghost use Rattle.std.specs.Prelude.{◌≡◌, ◌<◌, ◌≤◌, ◌+◌, ◌-◌, ◌/◌, ℕ, List, length, slice_index, IfOk, true, false};
 ghost use Rattle.sm_bits.specs.Bits.{has, has_bit, row};
@@ -29,7 +29,7 @@ fn mark_source(bytes: &mut [u8], matrices: &Matrices, count: TypeCount, source: 
     }
 }
 
-/// The bytes of a source.
+/// Returns the bytes of a source.
 fn bytes_of(
     alloc: Global,
     matrices: &Matrices,
@@ -48,7 +48,7 @@ fn bytes_of(
     Ok(bytes)
 }
 
-/// A number that sources with the same targets have in common: it says nothing else.
+/// Returns a digest, which is the same for sources with the same targets.
 fn digest_of(matrices: &Matrices, count: TypeCount, source: usize) -> u64
     requires number { length matrices.now ≡ 7 }
     requires square { AllSquare matrices.now count }
@@ -62,7 +62,7 @@ fn digest_of(matrices: &Matrices, count: TypeCount, source: usize) -> u64
     digest
 }
 
-/// Whether a source has the targets of the one before it, for each permission.
+/// Returns whether a source has the same targets as the one before it, for each permission.
 fn is_as_before(matrices: &Matrices, count: TypeCount, source: usize) -> bool
     requires number { length matrices.now ≡ 7 }
     requires square { AllSquare matrices.now count }
@@ -80,8 +80,8 @@ fn is_as_before(matrices: &Matrices, count: TypeCount, source: usize) -> bool
     true
 }
 
-/// The place of the bytes of a source, where those before it have theirs. Sources that follow each other are
-/// often the same to all rules, and then no bytes are made.
+/// Returns the index of the bytes of a source, after those of the sources before it. Consecutive sources are often the
+/// same to all rules; then no bytes are made.
 fn place_for(
     alloc: Global,
     rows: &mut ByteRows,
@@ -107,7 +107,7 @@ fn place_for(
     rows.place_of(digest_of(matrices, count, source), bytes)
 }
 
-/// For each pair of types a byte, with a bit for each permission. A row of equal bytes is kept once.
+/// For each pair of types a byte, with a bit for each permission. Equal rows are stored once.
 #[derive(Drop)]
 pub struct ByteTable {
     places: Vec<usize>,
@@ -127,7 +127,7 @@ impl ByteTable {
     ghost use Rattle.std.proofs.Common.{get_or};
     ghost use Rattle.sm_vectors.specs.Tables.{byte_at};
 
-    /// A table without rows: each byte is 0.
+    /// Makes a table without rows: each byte is 0.
     pub fn empty(alloc: Global) -> ByteTable
         ensures { (s t : ℕ) → byte_at result s t ≡ 0 }
     {
@@ -137,11 +137,11 @@ impl ByteTable {
         }
     }
 
-    /// The bytes that have the pairs of the matrices.
+    /// Compiles the bytes of the pairs in the matrices.
     ///
     /// # Errors
     ///
-    /// An error where memory was refused.
+    /// An error if an allocation fails.
     pub fn compile(
         alloc: Global,
         matrices: &Matrices,
@@ -161,7 +161,7 @@ impl ByteTable {
         Ok(ByteTable { places, rows })
     }
 
-    /// The place of a source's row; 0 where there is no such source.
+    /// Returns the index of a source's row, or 0 if there is no such source.
     fn place(&self, source: usize) -> usize
         ensures { result ≡ get_or self.now.places source 0 }
     {
@@ -171,7 +171,7 @@ impl ByteTable {
         }
     }
 
-    /// The byte of a source and a target; 0 where there is no such target.
+    /// Returns the byte of a source and a target, or 0 if there is no such target.
     pub fn byte(&self, source: usize, target: usize) -> u8
         ensures { result ≡ byte_at self.now source target }
     {

@@ -1,4 +1,4 @@
-//! What a policy decides, as bytes for each pair of types: a decision is a look at one or two of them.
+//! Compiled decisions of a policy: one byte for each pair of types, so that a decision reads one or two of them.
 #![tactic(auto)]
 
 mod byte_rows;

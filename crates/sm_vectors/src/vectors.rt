@@ -1,4 +1,4 @@
-//! What a policy decides for each pair of types.
+//! The compiled decisions of a policy.
 
 ghost use Rattle.std.specs.Prelude.{◌≡◌, ◌+◌, ◌/◌, ℕ, List, length, IfOk};
 ghost use Rattle.sm_bits.specs.Bits.{has};
@@ -16,7 +16,7 @@ use sm_types::TypeCount;
 use std::alloc::{AllocError, Global};
 use std::marker::Model;
 
-/// The bytes of the dontaudit rules.
+/// Compiles the bytes of the dontaudit rules.
 fn silenced_bytes(alloc: Global, rules: &Rules) -> Result<ByteTable, AllocError>
     ensures { IfOk result (λ table. (policy : List TheStatement) (names : List (List ℕ))
         → RulesOf policy names rules.now → SaysSilenced policy names table) }
@@ -28,7 +28,7 @@ fn silenced_bytes(alloc: Global, rules: &Rules) -> Result<ByteTable, AllocError>
     ByteTable::compile(alloc, &matrices, rules.type_count())
 }
 
-/// The permissive types, in a row of their own.
+/// Copies the permissive types into a row.
 fn permissive_row(alloc: Global, rules: &Rules) -> Result<BitRow, AllocError>
     ensures room { IfOk result (λ row. length row ≡ rules.now.count / 64 + 1) }
     ensures same { IfOk result (λ row. (i : ℕ) → has row i ≡ has rules.now.permissive i) }
@@ -38,7 +38,7 @@ fn permissive_row(alloc: Global, rules: &Rules) -> Result<BitRow, AllocError>
     Ok(row)
 }
 
-/// For each pair of types the permissions that allow rules give and those that dontaudit rules cover, and the
+/// For each pair of types the permissions that allow rules grant and those that dontaudit rules cover, and the
 /// permissive types.
 pub struct Vectors {
     count: TypeCount,
@@ -63,7 +63,7 @@ impl Model for Vectors {
     ghost invariant = { λ v. length v.permissive ≡ v.count / 64 + 1 };
 }
 
-// By hand: where vectors are let go, a caller's proof has one step, and not those of their parts.
+// Drop: see docs/PROOFS.md.
 impl Drop for Vectors {
     fn drop(self) {
         let Vectors {
@@ -84,11 +84,11 @@ impl Vectors {
     ghost use Rattle.sm_neverallow.specs.Matrices.{AllCompiled, SayWhatIsWritten};
     ghost use Rattle.sm_vectors.specs.Tables.{TablesOf, decision, refusal};
 
-    /// The decisions of some rules, `matrices` being those of the allow rules.
+    /// Compiles the decisions of rules, `matrices` being those of the allow rules.
     ///
     /// # Errors
     ///
-    /// An error where memory was refused.
+    /// An error if an allocation fails.
     pub fn compile(alloc: Global, rules: &Rules, matrices: &Matrices) -> Result<Vectors, AllocError>
         requires { AllCompiled rules.now.allows rules.now.count 7 matrices.now }
         ensures { IfOk result (λ vectors. (policy : List TheStatement) (names : List (List ℕ))
@@ -107,7 +107,7 @@ impl Vectors {
         })
     }
 
-    /// The decision for permission `bit`. What an allow rule gives needs one look.
+    /// Returns the decision for permission `bit`. If an allow rule grants it, that reads one byte.
     fn decide_bit(&self, s: usize, t: usize, bit: u32) -> Decision
         requires bit { bit < 7 }
         requires source { s < self.now.count }
@@ -125,8 +125,8 @@ impl Vectors {
         }
     }
 
-    /// The decision on the two types, by their numbers. Where there is no type of such a number, or `perm` is no
-    /// single permission of the class, nothing is allowed, and it is audited.
+    /// Returns the decision on the two types, by their numbers. If a number has no type, or `perm` is no single
+    /// permission of the class, nothing is allowed, and the check is audited.
     pub fn decide(&self, source: u16, target: u16, class: Class, perm: Perms) -> Decision
         ensures allowed { (policy : List TheStatement) (names : List (List ℕ))
             → TablesOf policy names self.now
@@ -157,9 +157,8 @@ impl Vectors {
         }
     }
 
-    /// Whether the permission on the two types passes, by their numbers: some allow rule gives it, or the source
-    /// is permissive. `false` where there is no type of such a number, or `perm` is no single permission of the
-    /// class.
+    /// Returns whether the permission on the two types passes, by their numbers: some allow rule grants it, or the
+    /// source is permissive. `false` if a number has no type, or if `perm` is no single permission of the class.
     pub fn allows(&self, source: u16, target: u16, class: Class, perm: Perms) -> bool
         ensures allowed { (policy : List TheStatement) (names : List (List ℕ))
             → TablesOf policy names self.now
@@ -171,9 +170,9 @@ impl Vectors {
         self.decide(source, target, class, perm).allowed
     }
 
-    /// Whether a check of the permission on the two types leaves a record, by their numbers: no allow rule gives
-    /// it, and no dontaudit rule covers it. `true` where there is no type of such a number, or `perm` is no
-    /// single permission of the class.
+    /// Returns whether a check of the permission on the two types is audited, by their numbers: no allow rule grants
+    /// it, and no dontaudit rule covers it. `true` if a number has no type, or if `perm` is no single permission of the
+    /// class.
     pub fn audits(&self, source: u16, target: u16, class: Class, perm: Perms) -> bool
         ensures audited { (policy : List TheStatement) (names : List (List ℕ))
             → TablesOf policy names self.now

@@ -254,7 +254,7 @@ const MALFORMED: &[&str] = &[
     // Words are written in small letters.
     "1 Take",
     "1 bye\r",
-    // Who is told is an object of the client's own.
+    // The watcher's object must be the client's own.
     "1 watch a h1",
     "1 watch a null",
     "1 watch a 1",
@@ -297,7 +297,7 @@ fn malformed_lines(rt: HostRuntime) -> Result<(), Fail> {
     Ok(())
 }
 
-// A call with so many bytes, in letters of either case, and so many references.
+// A call with `bytes` bytes, in digits of either case, and `refs` references.
 fn call_line(alloc: Global, bytes: usize, refs: usize) -> Result<Vec<u8>, AllocError> {
     let mut line = Vec::from_slice(alloc, b"1 call 1 ")?;
     for _ in 0..bytes {
@@ -340,7 +340,7 @@ fn replies_to_requests(rt: HostRuntime) {
     let granted = Reply::Done(Outcome::Granted(3));
     let died = Reply::Done(Outcome::Died);
     let isolated = Reply::Refused(Refusal::Denied(Denial::Isolated(99001)));
-    // A get isn't told that the service isn't for isolated processes.
+    // A get hides that the service isn't for isolated processes.
     let replies = [
         ("2 get activity", &granted, "handle 3\n"),
         ("2 get activity", &isolated, "null\n"),
@@ -381,7 +381,7 @@ fn lines_in_pieces(rt: HostRuntime) {
     assert!(rt; !lines.rest());
 }
 
-// What the lines of a client's stream are read as, in words, each on a line of its own.
+// The requests of a client's stream, in words, one on each line.
 fn streamed(rt: &impl Abort, alloc: Global, stream: &[u8]) -> Result<Vec<u8>, AllocError> {
     let mut lines = Lines::new(alloc, Kind::Client);
     let mut out = Vec::new(alloc);
@@ -396,7 +396,7 @@ fn streamed(rt: &impl Abort, alloc: Global, stream: &[u8]) -> Result<Vec<u8>, Al
     Ok(out)
 }
 
-// Of the names that a stream keeps, `Aa` and `BB` have the same place.
+// Among the names that a stream caches, `Aa` and `BB` have the same slot.
 #[test]
 fn names_that_come_again(rt: HostRuntime) -> Result<(), Fail> {
     let stream =

@@ -1,4 +1,4 @@
-//! What is written in answer to a line, and the texts behind a `reload` line.
+//! The answers to lines, and the files after a `reload` line.
 
 use sm_history::{Denial, Outcome, Record, Reply};
 use sm_kinds::{Class, ClientId, Context, Identity, Name, Perms};

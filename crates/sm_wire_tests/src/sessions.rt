@@ -1,4 +1,4 @@
-//! A session's end, and the gate that is told where it stands, over a desk that only counts.
+//! A session's end, and its calls of the gate, over a desk that only counts.
 
 use sm_engine::Counted;
 use sm_history::{Event, Outcome, Refusal, Reply};
@@ -13,7 +13,7 @@ use std::process::Abort;
 use std::sync::atomic::{AtomicU64, Ordering};
 use std::test::*;
 
-/// A desk that counts what it is asked, and how often it is told of an end.
+/// A desk that counts its questions, and the ends of sessions.
 #[derive(Drop)]
 struct Clerk {
     alloc: Global,
@@ -36,7 +36,7 @@ impl Desk for Clerk {
 
     ghost leaves = { λ _ _. Unit {0} };
 
-    /// There is one client, and the first who asks is told to try again.
+    /// Refuses the first `hello`, and accepts the second one.
     fn hello(&mut self, who: Identity) -> Response {
         self.asked = self.asked.saturating_add(1);
         if self.asked == 1 {
@@ -135,8 +135,8 @@ impl Write for OneByte {
     }
 }
 
-/// A session that is to write this, to ask its desk so often, for lines whose numbers have this sum, and to tell it so
-/// often of the end.
+/// Runs a session that must write this, ask its desk this often, for lines whose numbers have this sum, and end this
+/// often.
 fn attend(
     rt: &impl Abort,
     alloc: Global,

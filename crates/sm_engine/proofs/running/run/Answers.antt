@@ -11,7 +11,7 @@ use Rattle.sm_engine.proofs.ServeLemmas.{sofar_start, sofar_next, served_long, s
 use Rattle.sm_engine.proofs.ServeLemmas.{served_enough, served_at_end, served_over}
 use Rattle.sm_engine.proofs.running.run.Goals as goal
 
--- how many reads were made
+-- the number of reads
 few : (old before now n : ℕ) → before ≡ min (old + n) greatest → now ≡ min (before + 1) greatest → now - old ≤ n + 1
 few old before now n e f = omega arith
 
