@@ -1,4 +1,4 @@
--- The newest records of lists that grow.
+-- The newest records of lists that get longer.
 use Rattle.std.proofs.Common.{◌≡◌, ◌≤◌, ◌-◌, ◌+◌, ◌++◌, [], ◌∷◌, List, drop, length, sym, ◌∙◌, ap, arith}
 use Rattle.std.proofs.lemmas.List.{drop-append-le, drop-drop, length-append, length-drop, append_assoc}
 use Rattle.sm_history.specs.declared.records.Record.{Record}
@@ -15,7 +15,7 @@ newest_of_few xs few =
 pub newest_of_length : (xs : List Record) → length (newest_of xs) ≤ MOST_RECORDS
 newest_of_length xs = omega (arith, length-drop (length xs - MOST_RECORDS) xs)
 
--- What was let go before the last records came would go then, too.
+-- What was dropped before the last records came would be dropped with them, too.
 pub newest_of_later : (xs ys : List Record) → newest_of (newest_of xs ++ ys) ≡ newest_of (xs ++ ys)
 newest_of_later xs ys =
     let gone = length xs - MOST_RECORDS in

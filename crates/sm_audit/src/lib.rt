@@ -1,4 +1,4 @@
-//! The records of access that no rule gives: a line for each, and the ring that keeps the newest.
+//! Audit records of denied access: their lines, and the ring of the newest ones.
 #![tactic(auto)]
 
 mod lines;

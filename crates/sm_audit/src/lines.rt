@@ -1,6 +1,6 @@
 //! Audit lines.
 
-ghost use Rattle.std.specs.Prelude.{◌≡◌, ◌++◌, OnOk, IfOk, codes, option_map, unwrap_or, []};
+ghost use Rattle.std.specs.Prelude.{◌≡◌, ◌++◌, OnOk, IfOk, MatchResult, codes, option_map, unwrap_or, []};
 ghost use Rattle.std.specs.List.{flat_map};
 ghost use Rattle.sm_kinds.specs.Permissions.{perm_word};
 ghost use Rattle.sm_audit.specs.AuditLines.{audit_line, place_text, cause_text, missing_text, permissive_text, name_field, process_text, target_text, scope_text};
@@ -9,28 +9,37 @@ use sm_history::{Denial, Record};
 use sm_kinds::{Context, Identity, Name, Perms, push_name, push_numbered};
 use std::alloc::{AllocError, Global};
 
-/// The line of a record, with its newline: one line, whatever the name.
+/// Returns the line of a record, with its newline: one line, whatever the name is.
 pub fn line(alloc: Global, denied: &Record) -> Result<Vec<u8>, AllocError>
     ensures { IfOk result (λ line. line.items ≡ audit_line denied.now) }
 {
     let mut line = Vec::new(alloc);
-    push_line(alloc, &mut line, denied)?;
+    add_line(alloc, &mut line, denied)?;
     Ok(line)
 }
 
-/// Adds the line of each record. `Err`: memory was refused, and a part may have been added.
+/// Appends the lines of records, in their order. On error the text is unchanged.
 pub fn push_lines(alloc: Global, out: &mut Vec<u8>, records: &[Record]) -> Result<(), AllocError>
-    ensures { OnOk result (out.new.items ≡ out.old.items ++ flat_map audit_line records.now) }
+    ensures { MatchResult result (λ _. out.new.items ≡ out.old.items ++ flat_map audit_line records.now) (λ _. out.new.items ≡ out.old.items) }
 {
+    let mut lines = Vec::new(alloc);
     for denied in records {
-        push_line(alloc, out, denied)?;
+        add_line(alloc, &mut lines, denied)?;
     }
-    Ok(())
+    out.extend_from_slice(&lines)
 }
 
-/// Adds the line of a record. `Err`: memory was refused, and a part may have been added.
-#[tactic(auto, unfolding(crate::specs::AuditLines::audit_line))]
+/// Appends the line of a record. On error the text is unchanged.
 pub fn push_line(alloc: Global, out: &mut Vec<u8>, denied: &Record) -> Result<(), AllocError>
+    ensures { MatchResult result (λ _. out.new.items ≡ out.old.items ++ audit_line denied.now) (λ _. out.new.items ≡ out.old.items) }
+{
+    let added = line(alloc, denied)?;
+    out.extend_from_slice(&added)
+}
+
+// Appends the line of a record. On error a part of it may have been appended.
+#[tactic(auto, unfolding(crate::specs::AuditLines::audit_line))]
+fn add_line(alloc: Global, out: &mut Vec<u8>, denied: &Record) -> Result<(), AllocError>
     ensures { OnOk result (out.new.items ≡ out.old.items ++ audit_line denied.now) }
 {
     push_place(out, denied.length, denied.version)?;

@@ -5,10 +5,10 @@ use sm_history::Record;
 use std::alloc::{AllocError, Global};
 use std::marker::Model;
 
-/// How many records a ring keeps.
+/// The most records of a ring.
 pub const MOST_RECORDS: usize = 1024;
 
-/// The newest records, at most 1,024. Contracts see them as a list, the oldest first.
+/// The newest records, at most 1,024. Contracts see them as a list, oldest first.
 #[derive(Drop)]
 pub struct Ring {
     records: HeapCircularBuffer<Record>,
@@ -31,7 +31,7 @@ impl Ring {
     ghost use Rattle.sm_audit.specs.Rings.{newest_of};
     ghost use Rattle.sm_audit.specs.declared.ring.TheConstants.{MOST_RECORDS};
 
-    /// No records, with room for 1,024.
+    /// Makes an empty ring with room for 1,024 records.
     pub fn new(alloc: Global) -> Result<Ring, AllocError>
         ensures { IfOk result (λ r. r ≡ []) }
     {
@@ -39,14 +39,14 @@ impl Ring {
         Ok(Ring { records })
     }
 
-    /// One more record, which takes the place of the oldest one where the ring is full. Takes no memory.
+    /// Appends a record, and drops the oldest one if the ring is full. Allocates nothing.
     pub fn push(&mut self, newest: Record)
         ensures { self.new ≡ newest_of (self.old ++ newest ∷ []) }
     {
         let _ = self.records.push_back(newest);
     }
 
-    /// These records, one behind the other. Takes no memory.
+    /// Appends records in order. Allocates nothing.
     pub fn push_all(&mut self, records: Vec<Record>)
         ensures { self.new ≡ newest_of (self.old ++ records.items) }
     {
@@ -57,7 +57,7 @@ impl Ring {
         self.push_each(records);
     }
 
-    /// The same. Few requests leave records, and those that leave none don't pay for the room of one.
+    /// The same, out of line: few requests have records, and the others shouldn't pay for a record's locals.
     #[inline(never)]
     fn push_each(&mut self, records: Vec<Record>)
         ensures { self.new ≡ newest_of (self.old ++ records.items) }
@@ -68,7 +68,7 @@ impl Ring {
         }
     }
 
-    /// The records, the oldest first; each gets one more owner.
+    /// Returns the records, oldest first, with shared texts.
     pub fn all(&self, alloc: Global) -> Result<Vec<Record>, AllocError>
         ensures all { IfOk result (λ v. v.items ≡ self.now) }
         ensures few { length self.now ≤ MOST_RECORDS }

@@ -4,7 +4,7 @@ use Rattle.sm_audit.specs.Rings.{newest_of}
 use Rattle.sm_audit.proofs.Newest.{newest_of_next, newest_of_length}
 use Rattle.sm_audit.proofs.ring.Ring.push_each.Goals as goal
 
--- What the ring lets go now, it would let go with the later records, too.
+-- What the ring drops now it would drop with the later records, too.
 pub loop-newest-preserved : goal.loop-newest-preserved
 loop-newest-preserved c =
     let ring = c.loop-newest.self in
