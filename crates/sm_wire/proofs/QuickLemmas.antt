@@ -42,7 +42,7 @@ record Said (who : Option ClientId) (words : List ℕ) (wanted : Wanted) : Type 
 parts : (n : ℕ) (words front : List ℕ) → take n words ≡ front → words ≡ front ++ drop n words
 parts n words front e = sym (take-append-drop n words) ∙ ap (λ (l : List ℕ). l ++ drop n words) e
 
--- a name that is wanted, and its spelling
+-- a requested name, and its spelling
 record Named (name : List ℕ) (wanted : Wanted) : Type 0 where
   pub is : Get name ≡ wanted
   pub spells : SpellsName name name

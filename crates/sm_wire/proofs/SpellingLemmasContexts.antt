@@ -45,7 +45,7 @@ whole_length : (part : List ℕ) → NoColon part → prefix_len is_in_part part
 whole_length [] h = refl
 whole_length (b ∷ bs) h = rw (in_part b h.0, whole_length bs h.1) (omega arith)
 
--- a part and its colon in front, with what stands behind them
+-- a first part and its colon, with the bytes after them
 record Front (bytes : List ℕ) : Type 0 where
   part : List ℕ
   rest : List ℕ
@@ -68,7 +68,7 @@ cut (b ∷ bs) = elim (cases_eq b 58) [
   ]
 ]
 
--- what stands behind a part
+-- the bytes after a part
 behind : (part rest : List ℕ) → drop (length part + 1) (part ++ 58 ∷ rest) ≡ rest
 behind part rest =
     let whole : (part ++ 58 ∷ []) ++ rest ≡ part ++ 58 ∷ rest = append_assoc part (58 ∷ []) rest in

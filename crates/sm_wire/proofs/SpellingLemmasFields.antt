@@ -96,7 +96,7 @@ fails_no_space = refl
 pub solid_word : (w : List ℕ) → list_all no_space w ≡ true → Solid w
 solid_word w e = solid_pass no_space fails_no_space w e
 
--- a word that is written out, and what stands behind it
+-- a word that is written out, and the bytes after it
 solid_more : (w bs : List ℕ) → list_all no_space w ≡ true → Solid bs → Solid (w ++ bs)
 solid_more [] bs e h = h
 solid_more (b ∷ w) bs e h =

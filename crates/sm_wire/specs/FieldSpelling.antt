@@ -12,56 +12,56 @@ use Rattle.sm_kinds.specs.declared.perms.Perms.{Perms}
 use Rattle.sm_kinds.specs.Permissions.{bit}
 use Rattle.sm_wire.specs.Number.{u32_max}
 
--- a number that is at most max: its decimal digits, without leading zeros
+-- A number of at most max is spelled by its decimal digits, without leading zeros.
 pub data SpellsNumber (max : ℕ) : List ℕ → ℕ → Type 0 where
   digits : (n : ℕ) → n ≤ max → SpellsNumber max (decimal n) n
 
--- a hexadecimal digit: `0` to `9`, `A` to `F` or `a` to `f`
+-- A hexadecimal digit is `0` to `9`, `A` to `F` or `a` to `f`.
 pub data SpellsDigit : ℕ → ℕ → Type 0 where
   figure : (v : ℕ) → v < 10 → SpellsDigit (48 + v) v
   capital : (v : ℕ) → v < 6 → SpellsDigit (65 + v) (10 + v)
   small : (v : ℕ) → v < 6 → SpellsDigit (97 + v) (10 + v)
 
--- any number of bytes: two hexadecimal digits for each
+-- Bytes are spelled by two hexadecimal digits each.
 pub data SpellsBytes : List ℕ → List ℕ → Type 0 where
   none : SpellsBytes [] []
   more : (a b high low : ℕ) (digits bytes : List ℕ) → SpellsDigit a high → SpellsDigit b low → SpellsBytes digits bytes
       → SpellsBytes (a ∷ b ∷ digits) ((16 * high + low) ∷ bytes)
 
--- NAME: itself, if its bytes are from 0x21 to 0x7E and the first one isn't `%` (37); or `%` and hexadecimal digits
+-- NAME is itself, if its bytes are from 0x21 to 0x7E and the first one isn't `%` (37); or `%` and hexadecimal digits.
 pub data SpellsName : List ℕ → List ℕ → Type 0 where
   plain : (b : ℕ) (bs : List ℕ) → b ≢ 37 → AllByRecursion (IsInRange 33 126) (b ∷ bs) → SpellsName (b ∷ bs) (b ∷ bs)
   coded : (digits name : List ℕ) → SpellsBytes digits name → SpellsName (codes "%" ++ digits) name
 
--- REF: `oN`, `hN` or `null`
+-- REF is `oN`, `hN` or `null`.
 pub data SpellsReference : List ℕ → ObjRef → Type 0 where
   own : (digits : List ℕ) (n : ℕ) → SpellsNumber u32_max digits n → SpellsReference (codes "o" ++ digits) (Own n)
   handle : (digits : List ℕ) (n : ℕ) → SpellsNumber u32_max digits n → SpellsReference (codes "h" ++ digits) (Handle n)
   null : SpellsReference (codes "null") Null
 
--- REF, any number of times
+-- REF may be repeated any number of times.
 pub data SpellsReferences : List (List ℕ) → List ObjRef → Type 0 where
   none : SpellsReferences [] []
   more : (field : List ℕ) (fields : List (List ℕ)) (first : ObjRef) (others : List ObjRef) → SpellsReference field first
       → SpellsReferences fields others → SpellsReferences (field ∷ fields) (first ∷ others)
 
--- PAYLOAD: `-` for no bytes, or hexadecimal digits
+-- PAYLOAD is `-` for no bytes, or hexadecimal digits.
 pub data SpellsPayload : List ℕ → List ℕ → Type 0 where
   none : SpellsPayload (codes "-") []
   some : (digits bytes : List ℕ) → SpellsBytes digits bytes → 0 < length bytes → length bytes ≤ MOST_PAYLOAD_BYTES
       → SpellsPayload digits bytes
 
--- ALLOW
+-- ALLOW is `0` or `1`.
 pub data SpellsFlag : List ℕ → Bool → Type 0 where
   no : SpellsFlag (codes "0") false
   yes : SpellsFlag (codes "1") true
 
--- CLASS
+-- CLASS is the word of a class.
 pub data SpellsClass : List ℕ → Class → Type 0 where
   manager : SpellsClass (codes "service_manager") ServiceManager
   binder : SpellsClass (codes "binder") Binder
 
--- PERM
+-- PERM is the word of a permission.
 pub data SpellsPerm : List ℕ → Perms → Type 0 where
   add : SpellsPerm (codes "add") (bit 1)
   find : SpellsPerm (codes "find") (bit 2)
@@ -71,11 +71,11 @@ pub data SpellsPerm : List ℕ → Perms → Type 0 where
   set_context_mgr : SpellsPerm (codes "set_context_mgr") (bit 32)
   transfer : SpellsPerm (codes "transfer") (bit 64)
 
--- a part of a context: one byte or more from 0x21 to 0x7E, none of them `:`, which is 58
+-- A part of a context is one byte or more from 0x21 to 0x7E, none of them `:`, which is 58.
 abbrev pub IsPart : List ℕ → Type 0
 IsPart part = (0 < length part) × AllByRecursion (IsInRange 33 126) part × AllByRecursion (λ b. b ≢ 58) part
 
--- CONTEXT: `user:role:type` or `user:role:type:range`, where the range is one byte or more from 0x21 to 0x7E
+-- CONTEXT is `user:role:type` or `user:role:type:range`, where the range is one byte or more from 0x21 to 0x7E.
 pub data IsContext : List ℕ → Type 0 where
   three : (user role type : List ℕ) → IsPart user → IsPart role → IsPart type
       → IsContext (join_with_byte 58 (user ∷ role ∷ type ∷ []))

@@ -10,39 +10,41 @@ use Rattle.sm_wire.specs.declared.mode.Mode.TheVariants.{Line, Texts as TextsMod
 use Rattle.sm_wire.specs.declared.announced.Announced.{Announced}
 use Rattle.sm_wire.specs.Grammar.{request_of, announced_of}
 
--- how far the stream has been read: of which kind it is, what comes next, and the bytes of it so far
+-- A scan has the kind of its stream, what comes next, and the bytes of that so far.
 pub record Scan : Type 0 where
   pub kind : Kind
   pub mode : Mode
   pub held : List ℕ
 
+-- This is the most bytes of a line, without its newline.
 abbrev pub line_limit : ℕ
 line_limit = 4096
 
+-- This is the most bytes of a file.
 abbrev pub text_limit : ℕ
 text_limit = 4194304
 
--- before the first byte, and after an item
+-- This is the scan before the first byte, and after an item.
 abbrev pub scan_start : Kind → Scan
 scan_start kind = record { kind = kind; mode = Line; held = [] }
 
--- after a line or an announced text that was too long
+-- This is the scan after a line or an announced file that was too long.
 abbrev pub scan_dead : Kind → Scan
 scan_dead kind = record { kind = kind; mode = Dead; held = [] }
 
--- no line and no announced text was too long yet
+-- No line and no announced file was too long yet.
 abbrev pub IsAlive : Scan → Type 0
 IsAlive s = s.mode ≢ Dead
 
--- a line or an announced text was too long
+-- A line or an announced file was too long.
 abbrev pub IsDead : Scan → Type 0
 IsDead s = s.mode ≡ Dead
 
--- where one byte leads, and the item that it ends
+-- A step has the scan after one byte, and the item that this byte completes.
 abbrev pub Step : Type 0
 Step = Scan × List Item
 
--- the item of a line
+-- This is the item of a line.
 unfoldable pub item_of : Kind → List ℕ → Item
 item_of kind line = asked (request_of kind line)
   where
@@ -50,7 +52,7 @@ item_of kind line = asked (request_of kind line)
     asked (Some request) = Asked request
     asked None = Malformed
 
--- the item of a `reload` line and of the bytes behind it
+-- This is the item of a `reload` line and the bytes of its files.
 abbrev pub policy_item : Announced → List ℕ → Item
 policy_item a bytes = Policy (record {
   expected = a.expected;
@@ -58,7 +60,7 @@ policy_item a bytes = Policy (record {
   contexts = drop a.rules bytes;
 })
 
--- the end of a `reload` line: its texts come, if it announces any
+-- At the end of a `reload` line its files follow, if it announces any bytes.
 unfoldable pub text_start : Kind → Announced → Step
 text_start kind a =
     if nat_le a.rules text_limit && nat_le a.contexts text_limit
@@ -66,7 +68,7 @@ text_start kind a =
     else (record { kind = kind; mode = TextsMode a; held = [] }, []))
     else (scan_dead kind, LineTooLong ∷ [])
 
--- the end of a line
+-- This is the step at the end of a line.
 unfoldable pub line_end : Kind → List ℕ → Step
 line_end kind line = ended (announced_of kind line)
   where
@@ -74,56 +76,61 @@ line_end kind line = ended (announced_of kind line)
     ended (Some a) = text_start kind a
     ended None = (scan_start kind, item_of kind line ∷ [])
 
--- one more byte of a line
+-- This is the step of one more byte of a line.
 unfoldable pub line_step : Kind → List ℕ → ℕ → Step
 line_step kind held b = if b == 10 then line_end kind held
     else (if nat_le line_limit (length held) then (scan_dead kind, LineTooLong ∷ [])
     else (record { kind = kind; mode = Line; held = held ++ b ∷ [] }, []))
 
--- the bytes of the texts, with one more
+-- This is the step of one more byte of the files.
 unfoldable pub text_step : Kind → Announced → List ℕ → Step
 text_step kind a bytes = if length bytes == a.rules + a.contexts then (scan_start kind, policy_item a bytes ∷ [])
     else (record { kind = kind; mode = TextsMode a; held = bytes }, [])
 
--- one more byte
+-- This is the step of one more byte.
 unfoldable pub mode_step : Kind → Mode → List ℕ → ℕ → Step
 mode_step kind Line held b = line_step kind held b
 mode_step kind (TextsMode a) held b = text_step kind a (held ++ b ∷ [])
 mode_step kind Dead held b = (scan_dead kind, [])
 
+-- This is the step of one more byte in a scan.
 abbrev pub byte_step : Scan → ℕ → Step
 byte_step s b = mode_step s.kind s.mode s.held b
 
--- where the bytes lead, and the items that are whole
+-- This is the scan after the bytes.
 abbrev pub scan_after : Scan → List ℕ → Scan
 scan_after s [] = s
 scan_after s (b ∷ bs) = scan_after (byte_step s b).0 bs
 
+-- These are the items that the bytes end.
 abbrev pub items_after : Scan → List ℕ → List Item
 items_after s [] = []
 items_after s (b ∷ bs) = (byte_step s b).1 ++ items_after (byte_step s b).0 bs
 
--- the items of a stream, and what is left of it
+-- These are the items of a stream.
 abbrev pub items_of : Kind → List ℕ → List Item
 items_of kind bytes = items_after (scan_start kind) bytes
 
+-- This is the scan after a whole stream.
 abbrev pub rest_of : Kind → List ℕ → Scan
 rest_of kind bytes = scan_after (scan_start kind) bytes
 
--- a step's end as the code has it: what is read next, the bytes that it has of it, and one item more, if any
+-- The code represents a step so: what is read next, the bytes of it so far, and one more item, if any.
 pub record Makes (s : Step) (kind : Kind) (mode : Mode) (held : List ℕ) (old new : List Item) : Type 0 where
   pub scan : s.0 ≡ record { kind = kind; mode = mode; held = held }
   pub items : new ≡ old ++ s.1
 
+-- The files of a `reload` line are being read.
 abbrev pub in_texts : Mode → Bool
 in_texts Line = false
 in_texts (TextsMode a) = true
 in_texts Dead = false
 
+-- There is at least one byte.
 abbrev pub is_some_byte : List ℕ → Bool
 is_some_byte [] = false
 is_some_byte (b ∷ bs) = true
 
--- the stream stands inside a line or a text
+-- The stream is inside a line or a file.
 abbrev pub has_rest : Scan → Bool
 has_rest s = in_texts s.mode || is_some_byte s.held

@@ -1,5 +1,5 @@
--- The lines that clients send most, by their bytes. That they ask for the same by the grammar is `quick_asked` of
--- proofs/QuickLemmas.antt.
+-- The fast path for the most frequent lines, by their bytes. `quick_asked` of proofs/QuickLemmas.antt says that the
+-- grammar reads the same requests.
 use Rattle.std.specs.Prelude.{ℕ, ◌+◌, List, [], ◌∷◌, take, drop, Option, Some, None, ◌==◌, if◌then◌else◌, codes}
 use Rattle.std.specs.Prelude.{position}
 use Rattle.std.specs.List.{list_all}
@@ -18,55 +18,58 @@ use Rattle.sm_wire.specs.declared.quick.Wanted.TheVariants.{List as Listing, Ver
 use Rattle.sm_wire.specs.Number.{u32_max, number_of}
 use Rattle.sm_wire.specs.Reading.{◌>>=◌}
 
--- what is wanted as a request
+-- This is such a line's content as a request.
 abbrev pub asked_in : Option ClientId → Wanted → Request
 asked_in client (Listing mask) = requests.Look client (queries.List mask)
 asked_in client Version = requests.Look client queries.Version
 asked_in client (Get name) = requests.Change client (events.Get name)
 
+-- This is such a line as a request.
 abbrev pub asked_by : Quick → Request
 asked_by quick = asked_in quick.client quick.wanted
 
+-- This parses a name in plain bytes.
 abbrev pub plain_of : List ℕ → Option Wanted
 plain_of name = if list_all is_graphic name then Some (Get name) else None
 
--- NAME, in plain bytes, which don't begin with `%` (37)
+-- This parses NAME, in plain bytes that don't begin with `%` (37).
 unfoldable pub named_of : List ℕ → Option Wanted
 named_of [] = None
 named_of (b ∷ bs) = if b == 37 then None else plain_of (b ∷ bs)
 
--- MASK
+-- This parses MASK.
 unfoldable pub listed_of : List ℕ → Option Wanted
 listed_of mask = do
   m ← number_of u32_max mask
   Some (Listing m)
 
--- `check NAME`
+-- This parses `check NAME`.
 unfoldable pub checked_of : List ℕ → Option Wanted
 checked_of words = if bytes_eq (take 6 words) (codes "check ") then named_of (drop 6 words) else None
 
--- `version`, `list MASK` or `check NAME`
+-- This parses `version`, `list MASK` or `check NAME`.
 unfoldable pub other_of : List ℕ → Option Wanted
 other_of words = if bytes_eq words (codes "version") then Some Version
     else (if bytes_eq (take 5 words) (codes "list ") then listed_of (drop 5 words) else checked_of words)
 
--- `get NAME`, or another of these
+-- This parses `get NAME`, or another of these.
 unfoldable pub wanted_of : List ℕ → Option Wanted
 wanted_of words = if bytes_eq (take 4 words) (codes "get ") then named_of (drop 4 words) else other_of words
 
+-- This parses the words of a client.
 unfoldable pub request_by : Option ClientId → List ℕ → Option Quick
 request_by client words = do
   wanted ← wanted_of words
   Some (record { client = client; wanted = wanted })
 
--- a client's number, a space, and one of these
+-- This parses a client's number, a space, and one of these.
 unfoldable pub numbered_of : List ℕ → Option Quick
 numbered_of line = do
   place ← position (λ b. b == 32) line
   n ← number_of u32_max (take place line)
   request_by (Some (record { 0 = n })) (drop (place + 1) line)
 
--- what a line of this kind asks, if it is one of these
+-- This parses a line of this kind, if it is one of these.
 unfoldable pub quick_of : Kind → List ℕ → Option Quick
 quick_of Client line = request_by None line
 quick_of Admin line = None

@@ -1,18 +1,19 @@
--- What a reader of a field or a line returns.
+-- Results of parsing a field or a line.
 use Rattle.std.specs.Prelude.{◌≡◌, Option, Some, None, option_and_then, Result, Ok, Err}
 use Rattle.sm_wire.specs.declared.read_error.ReadError.{ReadError}
 use Rattle.sm_wire.specs.declared.read_error.ReadError.TheVariants.{Malformed, Memory}
 
+-- A value goes to the next parser.
 infixl 10 ◌>>=◌
 abbrev pub ◌>>=◌ : {A B : Type 0} → Option A → (A → Option B) → Option B
 o >>= f = option_and_then f o
 
--- the first reading that there is
+-- This is the first of two results that there is.
 abbrev pub first_of_two : {A : Type 0} → Option A → Option A → Option A
 first_of_two (Some r) other = Some r
 first_of_two None other = other
 
--- what is read is what the grammar says, and Malformed comes where it says nothing; want of memory may come at any text
+-- The value is that of the grammar, and `Malformed` means that there is none; out of memory may come for any bytes.
 abbrev pub Reads : {A : Type 0} → Result A ReadError → Option A → Type 0
 Reads (Ok x) o = o ≡ Some x
 Reads (Err Malformed) o = o ≡ None

@@ -39,55 +39,59 @@ use Rattle.sm_wire.specs.declared.request.Request.TheVariants.{Hello, Change, Lo
 use Rattle.sm_wire.specs.declared.telling.Telling.{Telling}
 use Rattle.sm_wire.specs.declared.telling.Telling.TheVariants.{Whole, ToGet}
 
+-- A name is written after a space.
 abbrev pub spaced_name : List ℕ → List ℕ
 spaced_name name = codes " " ++ name_text name
 
--- `names VERSION LENGTH COUNT` and the names
+-- This is `names VERSION LENGTH COUNT` and the names.
 unfoldable pub names_text : ℕ → ℕ → List (List ℕ) → List ℕ
 names_text version count names =
     numbered (codes "names ") version ++ numbered (codes " ") count ++ numbered (codes " ") (length names)
     ++ flat_map spaced_name names
 
--- `allowed VERSION LINE` or `unwritten VERSION`
+-- This is `allowed VERSION LINE` or `unwritten VERSION`.
 unfoldable pub why_text : ℕ → Option ℕ → List ℕ
 why_text version (Some line) = numbered (codes "allowed ") version ++ numbered (codes " ") line
 why_text version None = numbered (codes "unwritten ") version
 
+-- This is the answer to a query.
 unfoldable pub answer_text : ℕ → ℕ → Answer → List ℕ
 answer_text version count (Names names) = names_text version count names
 answer_text version count Version = numbered (codes "version ") version ++ numbered (codes " ") count
 answer_text version count (Why line) = why_text version line
 
--- `hN`, `oN` or `null`
+-- This is `hN`, `oN` or `null`.
 unfoldable pub given_text : Given → List ℕ
 given_text (Handle n) = numbered (codes "h") n
 given_text (Own n) = numbered (codes "o") n
 given_text Null = codes "null"
 
+-- A reference is written after a space.
 abbrev pub spaced_given : Given → List ℕ
 spaced_given given = codes " " ++ given_text given
 
--- two lower-case hexadecimal digits for each byte, or `-` for none
+-- This is two lower-case hexadecimal digits for each byte, or `-` for none.
 unfoldable pub payload_text : List ℕ → List ℕ
 payload_text [] = codes "-"
 payload_text (b ∷ bs) = encode_lower (b ∷ bs)
 
--- `call oO PID UID` and a space
+-- This is `call oO PID UID` and a space.
 unfoldable pub caller_text : ℕ → ℕ → ℕ → List ℕ
 caller_text object pid uid =
     numbered (codes "call o") object ++ numbered (codes " ") pid ++ numbered (codes " ") uid ++ codes " "
 
--- `registered oO NAME REF`
+-- This is `registered oO NAME REF`.
 unfoldable pub registered_text : ℕ → List ℕ → Given → List ℕ
 registered_text object name given =
     numbered (codes "registered o") object ++ spaced_name name ++ spaced_given given
 
--- `call oO PID UID PAYLOAD` and the references, or `registered oO NAME REF`
+-- This is `call oO PID UID PAYLOAD` and the references, or `registered oO NAME REF`.
 unfoldable pub message_text : ℕ → Message → List ℕ
 message_text object (Called pid uid payload refs) = caller_text object pid uid ++ payload_text payload
     ++ flat_map spaced_given refs
 message_text object (Registered name given) = registered_text object name given
 
+-- This is the answer to a change that was done.
 unfoldable pub outcome_text : Outcome → List ℕ
 outcome_text Opened = codes "ok"
 outcome_text (Connected client) = numbered (codes "client ") client.0
@@ -102,7 +106,7 @@ outcome_text (Taken delivery) = message_text delivery.object delivery.what
 outcome_text Died = codes "bye"
 outcome_text (Reloaded version) = numbered (codes "reloaded ") version
 
--- binder's exception codes
+-- This is an exception with binder's code.
 abbrev pub exception_text : Exception → List ℕ
 exception_text NotAdder = codes "exception -1 not-adder"
 exception_text InvalidName = codes "exception -3 invalid-name"
@@ -115,6 +119,7 @@ exception_text NotRegistered = codes "exception -5 not-registered"
 exception_text OtherObject = codes "exception -5 other-object"
 exception_text InUse = codes "exception -5 in-use"
 
+-- This is a failure.
 unfoldable pub failure_text : Failure → List ℕ
 failure_text NotYours = codes "failed not-yours"
 failure_text NotConnected = codes "failed not-connected"
@@ -122,19 +127,22 @@ failure_text (OutOfTurn have) = numbered (codes "failed out-of-turn ") have
 failure_text BadHandle = codes "failed bad-handle"
 failure_text TargetFull = codes "failed target-full"
 
--- a missing rule of `service_manager` is the exception EX_SECURITY, one of `binder` a failed transaction
+-- A missing rule of `service_manager` is the exception EX_SECURITY, one of `binder` a failed transaction.
 abbrev pub denied_by : Class → List ℕ
 denied_by ServiceManager = codes "exception -1 denied "
 denied_by Binder = codes "failed denied "
 
+-- This is a missing rule.
 unfoldable pub rule_text : List ℕ → List ℕ → Class → Perms → List ℕ
 rule_text source target class perm = denied_by class ++ access_words source target class perm
 
+-- This is a denial.
 unfoldable pub denial_text : Denial → List ℕ
 denial_text (Rule source target class perm) = rule_text source target class perm
 denial_text (App uid) = numbered (codes "exception -1 app ") uid
 denial_text (Isolated uid) = numbered (codes "exception -1 isolated ") uid
 
+-- This is a refusal.
 unfoldable pub refusal_text : Refusal → List ℕ
 refusal_text (refusals.Denied denial) = denial_text denial
 refusal_text (refusals.Exception exception) = exception_text exception
@@ -147,10 +155,11 @@ refusal_text refusals.JournalFull = codes "failed journal-full"
 refusal_text refusals.Memory = codes "failed memory"
 refusal_text refusals.NoSeat = codes "failed no-seat"
 
--- `sealed NUMBER LENGTH`
+-- This is `sealed NUMBER LENGTH`.
 unfoldable pub sealed_text : ℕ → ℕ → List ℕ
 sealed_text number count = numbered (codes "sealed ") number ++ numbered (codes " ") count
 
+-- This is a reply without its newline.
 unfoldable pub answered_text : Reply → List ℕ
 answered_text (Done outcome) = outcome_text outcome
 answered_text GotNull = codes "null"
@@ -159,11 +168,11 @@ answered_text (Looked version count answer) = answer_text version count answer
 answered_text (Sealed number count) = sealed_text number count
 answered_text (Refused refusal) = refusal_text refusal
 
--- the line of a reply, as it is told
+-- This is the line of the visible part of a reply.
 unfoldable pub told_text : Reply → List ℕ
 told_text reply = answered_text reply ++ codes "\n"
 
--- what the one who asks is told of the reply
+-- This is the visible part of a reply to a request.
 abbrev pub told_of : Request → Reply → Reply
 told_of (Hello who) reply = told (events.Connect who) reply
 told_of (Change client event) reply = told event reply
@@ -172,19 +181,19 @@ told_of (Reload expected rules contexts) reply = reply
 told_of Denials reply = reply
 told_of Seal reply = reply
 
--- what is told of a reply in this way
+-- This is the visible part of a reply, by its visibility.
 abbrev pub told_in : Telling → Reply → Reply
 told_in Whole reply = reply
 told_in ToGet reply = told_to_get reply
 
--- the line of a reply to a request
+-- This is the line of a reply to a request.
 abbrev pub reply_text : Request → Reply → List ℕ
 reply_text request reply = told_text (told_of request reply)
 
--- `denials K`, and then K audit lines
+-- This is `denials K`, and then K audit lines.
 unfoldable pub denials_text : List Record → List ℕ
 denials_text records = numbered (codes "denials ") (length records) ++ codes "\n" ++ flat_map audit_line records
 
--- the line for a policy that is refused
+-- This is the line for a policy that is refused.
 unfoldable pub policy_refused_text : PolicyFault → List ℕ
 policy_refused_text fault = codes "refused " ++ refused_words fault ++ codes "\n"

@@ -21,7 +21,7 @@ use Rattle.sm_wire.specs.Number.{u32_max, u64_max}
 use Rattle.sm_wire.specs.FieldSpelling.{SpellsNumber, SpellsName, SpellsReference, SpellsReferences, SpellsPayload}
 use Rattle.sm_wire.specs.FieldSpelling.{SpellsFlag, SpellsClass, SpellsPerm, IsContext}
 
--- the fields of what a client asks for
+-- Fields spell a request of a client.
 pub data SpellsRequest (who : Option ClientId) : List (List ℕ) → Request → Type 0 where
   add : (name reference allow dump n : List ℕ) (r : ObjRef) (a : Bool) (d : ℕ) → SpellsName name n
       → SpellsReference reference r → SpellsFlag allow a → SpellsNumber u32_max dump d
@@ -45,14 +45,14 @@ pub data SpellsRequest (who : Option ClientId) : List (List ℕ) → Request →
       → SpellsRequest who (codes "list" ∷ mask ∷ []) (Look who (queries.List m))
   version : SpellsRequest who (codes "version" ∷ []) (Look who queries.Version)
 
--- the fields of the line by which a process connects
+-- Fields spell the line by which a process connects.
 pub data SpellsGreeting : List (List ℕ) → Request → Type 0 where
   hello : (pid uid context : List ℕ) (p u : ℕ) → SpellsNumber u32_max pid p → SpellsNumber u32_max uid u
       → IsContext context
       → SpellsGreeting (codes "hello" ∷ pid ∷ uid ∷ context ∷ [])
       (Hello (record { pid = p; uid = u; context = context }))
 
--- the fields of the administrator's lines that a script has, too
+-- Fields spell an administrator's line that a script has, too.
 pub data SpellsAdmin : List (List ℕ) → Request → Type 0 where
   reload : (expected rules contexts : List ℕ) (e r c : ℕ) → SpellsNumber u64_max expected e
       → SpellsNumber u32_max rules r → SpellsNumber u32_max contexts c
@@ -64,7 +64,7 @@ pub data SpellsAdmin : List (List ℕ) → Request → Type 0 where
   denials : SpellsAdmin (codes "denials" ∷ []) Denials
   seal : SpellsAdmin (codes "seal" ∷ []) Seal
 
--- the fields of a line, by its kind
+-- Fields spell a line, by its kind.
 pub data SpellsFields : Kind → List (List ℕ) → Request → Type 0 where
   greeting : (fields : List (List ℕ)) (request : Request) → SpellsGreeting fields request
       → SpellsFields Client fields request
@@ -80,20 +80,20 @@ pub data SpellsFields : Kind → List (List ℕ) → Request → Type 0 where
       → SpellsNumber u32_max number n → SpellsRequest (Some (record { 0 = n })) fields request
       → SpellsFields Script (number ∷ fields) request
 
--- fields joined by single spaces
+-- These are fields joined by single spaces.
 abbrev pub joined : List (List ℕ) → List ℕ
 joined fields = join_with_byte 32 fields
 
--- a line of this kind, without its newline, spells a request
+-- A line of this kind, without its newline, spells a request.
 pub data Spells : Kind → List ℕ → Request → Type 0 where
   line : (kind : Kind) (fields : List (List ℕ)) (request : Request) → SpellsFields kind fields request
       → Spells kind (joined fields) request
 
--- a line of this kind, without its newline, spells no request
+-- A line of this kind, without its newline, spells no request.
 abbrev pub SpellsNothing : Kind → List ℕ → Type 0
 SpellsNothing kind bytes = (request : Request) → Spells kind bytes request → ⊥
 
--- a request that is read is spelled so, and Malformed comes where none is; want of memory may come at any line
+-- A request that is read is spelled so, and `Malformed` means that none is; out of memory may come for any line.
 abbrev pub ReadsSpelled : Kind → List ℕ → Result Request ReadError → Type 0
 ReadsSpelled kind bytes (Ok request) = Spells kind bytes request
 ReadsSpelled kind bytes (Err Malformed) = SpellsNothing kind bytes

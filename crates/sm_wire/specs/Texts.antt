@@ -1,7 +1,7 @@
--- What stands behind a `reload` line.
+-- The files after a `reload` line.
 use Rattle.std.specs.Prelude.{ℕ, List}
 
--- a `reload` line with the texts behind it
+-- A `reload` line has these files after it.
 pub record Texts : Type 0 where
   pub expected : ℕ
   pub rules : List ℕ

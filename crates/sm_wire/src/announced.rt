@@ -1,9 +1,9 @@
-//! What a `reload` line announces.
+//! Headers of `reload` lines.
 
 ghost use Rattle.std.specs.Prelude.{◌≡◌, ◌+◌};
 
-/// What a `reload` line announces: the expected version of the policy in force, and how many bytes of rule text and
-/// then of contexts text follow the line.
+/// The header of a `reload` line: the expected version of the policy in force, and the sizes of the policy source and
+/// of the contexts file that follow the line, in bytes.
 #[derive(Clone, Copy, Debug, PartialEq, Eq)]
 pub struct Announced {
     pub expected: u64,
@@ -12,7 +12,7 @@ pub struct Announced {
 }
 
 impl Announced {
-    /// How many bytes follow the line.
+    /// Returns the number of bytes that follow the line.
     pub fn length(&self) -> u64
         ensures { result ≡ self.now.rules + self.now.contexts }
     {

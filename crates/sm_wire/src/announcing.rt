@@ -8,7 +8,7 @@ use crate::numbers::{u32_field, u64_field};
 use crate::read_error::ReadError;
 use crate::request::Request;
 
-/// `reload EXPECTED R C`
+/// Reads `reload EXPECTED R C`.
 #[tactic(auto, unfolding(crate::specs::Grammar::reload_of))]
 pub fn reload(fields: &[&[u8]]) -> Result<Request, ReadError>
     ensures { Reads result (reload_of (map (λ f. f.now) fields.now)) }

@@ -1,4 +1,4 @@
-//! What a client asks: a function for each production. Each is given the fields behind its word.
+//! Requests of clients: a function for each production. Each takes the fields after its word.
 
 ghost use Rattle.std.specs.Prelude.{map};
 ghost use Rattle.sm_wire.specs.Reading.{Reads};
@@ -14,7 +14,7 @@ use sm_history::{Event, Query};
 use sm_kinds::ClientId;
 use std::alloc::Global;
 
-/// What a client asks: a look or a change.
+/// Reads a query or a change of a client.
 #[tactic(auto, unfolding(crate::specs::Grammar::client_request_of))]
 pub fn client_request(
     alloc: Global,
@@ -53,7 +53,7 @@ fn change(
     Ok(Request::Change(client, event))
 }
 
-// What a client asks to be told.
+// Reads a query of a client.
 #[tactic(auto, unfolding(crate::specs::Grammar::query_of))]
 fn query(word: &[u8], fields: &[&[u8]]) -> Result<Query, ReadError>
     ensures { Reads result (query_of word.now (map (λ f. f.now) fields.now)) }
@@ -67,7 +67,7 @@ fn query(word: &[u8], fields: &[&[u8]]) -> Result<Query, ReadError>
     }
 }
 
-// `list MASK`
+// Reads `list MASK`.
 #[tactic(auto, unfolding(crate::specs::Grammar::list_of))]
 fn list(fields: &[&[u8]]) -> Result<Query, ReadError>
     ensures { Reads result (list_of (map (λ f. f.now) fields.now)) }
@@ -79,7 +79,7 @@ fn list(fields: &[&[u8]]) -> Result<Query, ReadError>
     Ok(Query::List(mask))
 }
 
-// `version`
+// Reads `version`.
 #[tactic(auto, unfolding(crate::specs::Grammar::version_of))]
 fn version(fields: &[&[u8]]) -> Result<Query, ReadError>
     ensures { Reads result (version_of (map (λ f. f.now) fields.now)) }
@@ -90,7 +90,7 @@ fn version(fields: &[&[u8]]) -> Result<Query, ReadError>
     }
 }
 
-// A change that a client makes.
+// Reads a change of a client.
 #[tactic(auto, unfolding(crate::specs::Grammar::event_of))]
 fn event(alloc: Global, word: &[u8], fields: &[&[u8]]) -> Result<Event, ReadError>
     ensures { Reads result (event_of word.now (map (λ f. f.now) fields.now)) }
@@ -101,7 +101,7 @@ fn event(alloc: Global, word: &[u8], fields: &[&[u8]]) -> Result<Event, ReadErro
     }
 }
 
-// A change that has to do with names.
+// Reads a change that concerns names.
 #[tactic(auto, unfolding(crate::specs::Grammar::service_event_of))]
 fn service_event(alloc: Global, word: &[u8], fields: &[&[u8]]) -> Result<Event, ReadError>
     ensures { Reads result (service_event_of word.now (map (λ f. f.now) fields.now)) }
@@ -123,7 +123,7 @@ fn service_event(alloc: Global, word: &[u8], fields: &[&[u8]]) -> Result<Event, 
     }
 }
 
-// A change that has to do with handles and deliveries.
+// Reads a change that concerns handles and deliveries.
 #[tactic(auto, unfolding(crate::specs::Grammar::binder_event_of))]
 fn binder_event(alloc: Global, word: &[u8], fields: &[&[u8]]) -> Result<Event, ReadError>
     ensures { Reads result (binder_event_of word.now (map (λ f. f.now) fields.now)) }
@@ -141,7 +141,7 @@ fn binder_event(alloc: Global, word: &[u8], fields: &[&[u8]]) -> Result<Event, R
     }
 }
 
-// `add NAME REF ALLOW DUMP`
+// Reads `add NAME REF ALLOW DUMP`.
 #[tactic(auto, unfolding(crate::specs::Grammar::add_of))]
 fn add(alloc: Global, fields: &[&[u8]]) -> Result<Event, ReadError>
     ensures { Reads result (add_of (map (λ f. f.now) fields.now)) }
@@ -161,7 +161,7 @@ fn add(alloc: Global, fields: &[&[u8]]) -> Result<Event, ReadError>
     })
 }
 
-// `get NAME` or `check NAME`, which means the same
+// Reads `get NAME` or `check NAME`, which means the same.
 #[tactic(auto, unfolding(crate::specs::Grammar::get_of))]
 fn get(alloc: Global, fields: &[&[u8]]) -> Result<Event, ReadError>
     ensures { Reads result (get_of (map (λ f. f.now) fields.now)) }
@@ -173,7 +173,7 @@ fn get(alloc: Global, fields: &[&[u8]]) -> Result<Event, ReadError>
     Ok(Event::Get { name })
 }
 
-// `watch NAME oN`
+// Reads `watch NAME oN`.
 #[tactic(auto, unfolding(crate::specs::Grammar::watch_of))]
 fn watch(alloc: Global, fields: &[&[u8]]) -> Result<Event, ReadError>
     ensures { Reads result (watch_of (map (λ f. f.now) fields.now)) }
@@ -186,7 +186,7 @@ fn watch(alloc: Global, fields: &[&[u8]]) -> Result<Event, ReadError>
     Ok(Event::Watch { name, object })
 }
 
-// `unwatch NAME oN`
+// Reads `unwatch NAME oN`.
 #[tactic(auto, unfolding(crate::specs::Grammar::unwatch_of))]
 fn unwatch(alloc: Global, fields: &[&[u8]]) -> Result<Event, ReadError>
     ensures { Reads result (unwatch_of (map (λ f. f.now) fields.now)) }
@@ -199,7 +199,7 @@ fn unwatch(alloc: Global, fields: &[&[u8]]) -> Result<Event, ReadError>
     Ok(Event::Unwatch { name, object })
 }
 
-// `unregister NAME REF`
+// Reads `unregister NAME REF`.
 #[tactic(auto, unfolding(crate::specs::Grammar::unregister_of))]
 fn unregister(alloc: Global, fields: &[&[u8]]) -> Result<Event, ReadError>
     ensures { Reads result (unregister_of (map (λ f. f.now) fields.now)) }
@@ -212,7 +212,7 @@ fn unregister(alloc: Global, fields: &[&[u8]]) -> Result<Event, ReadError>
     Ok(Event::Unregister { name, obj })
 }
 
-// `call N PAYLOAD REF ..`
+// Reads `call N PAYLOAD REF ..`.
 #[tactic(auto, unfolding(crate::specs::Grammar::call_of))]
 fn call(alloc: Global, fields: &[&[u8]]) -> Result<Event, ReadError>
     ensures { Reads result (call_of (map (λ f. f.now) fields.now)) }
@@ -230,7 +230,7 @@ fn call(alloc: Global, fields: &[&[u8]]) -> Result<Event, ReadError>
     })
 }
 
-// `release N`
+// Reads `release N`.
 #[tactic(auto, unfolding(crate::specs::Grammar::release_of))]
 fn release(fields: &[&[u8]]) -> Result<Event, ReadError>
     ensures { Reads result (release_of (map (λ f. f.now) fields.now)) }
@@ -242,7 +242,7 @@ fn release(fields: &[&[u8]]) -> Result<Event, ReadError>
     Ok(Event::Release { handle })
 }
 
-// `take`
+// Reads `take`.
 #[tactic(auto, unfolding(crate::specs::Grammar::take_of))]
 fn take(fields: &[&[u8]]) -> Result<Event, ReadError>
     ensures { Reads result (take_of (map (λ f. f.now) fields.now)) }
@@ -253,7 +253,7 @@ fn take(fields: &[&[u8]]) -> Result<Event, ReadError>
     }
 }
 
-// `bye`
+// Reads `bye`.
 #[tactic(auto, unfolding(crate::specs::Grammar::bye_of))]
 fn bye(fields: &[&[u8]]) -> Result<Event, ReadError>
     ensures { Reads result (bye_of (map (λ f. f.now) fields.now)) }

@@ -18,17 +18,17 @@ use crate::request::Request;
 use crate::texts::PolicyTexts;
 use std::alloc::{AllocError, Global};
 
-/// The greatest length of each text behind a `reload` line.
+/// The most bytes of each file after a `reload` line.
 const TEXT_LIMIT: u32 = 4_194_304;
 
-/// What is read next behind some bytes, and where its own begin among them.
+/// What is read next after some bytes, and the index at which its own bytes begin.
 #[derive(Clone, Copy)]
 pub struct Remainder {
     pub mode: Mode,
     pub start: usize,
 }
 
-/// Cuts bytes that begin with an item, and adds their items.
+/// Cuts bytes that begin with an item, and appends their items.
 pub fn cut(
     alloc: Global,
     kind: Kind,
@@ -72,7 +72,7 @@ pub fn cut(
     Ok(Remainder { mode, start })
 }
 
-/// Adds the item that stands alone in these bytes, and says what is read next.
+/// Appends the item that is these bytes, and says what is read next.
 pub fn lone_item(
     alloc: Global,
     kind: Kind,
@@ -88,7 +88,7 @@ pub fn lone_item(
     whole_item(alloc, kind, mode, bytes, &mut fields, recent, items)
 }
 
-/// Says of a line that is too long that it is, once.
+/// Reports a line that is too long, once.
 pub fn end_stream(mode: Mode, items: &mut Vec<Item>) -> Result<(), AllocError>
     ensures { OnOk result (items.new.items ≡ items.old.items ++ never_items mode) }
 {
@@ -101,7 +101,7 @@ pub fn end_stream(mode: Mode, items: &mut Vec<Item>) -> Result<(), AllocError>
     }
 }
 
-// The item of these bytes, which end with it. `fields` is room for the fields of a line.
+// Returns the item that is these bytes. `fields` is a buffer for the fields of a line.
 #[tactic(auto, unfolding(crate::specs::Ends::whole_step))]
 fn whole_item<'a>(
     alloc: Global,
@@ -129,7 +129,7 @@ fn whole_item<'a>(
     }
 }
 
-// The texts behind a `reload` line.
+// Reads the files after a `reload` line.
 #[inline(never)]
 fn texts(
     alloc: Global,
@@ -146,7 +146,7 @@ fn texts(
     Ok(Mode::Line)
 }
 
-// A line, without its newline. What clients send most is read before all else.
+// Reads a line, without its newline. The most frequent lines are tried first.
 #[tactic(auto, using(crate::proofs::QuickLemmas::quick_ends))]
 fn line<'a>(
     alloc: Global,
@@ -167,7 +167,7 @@ fn line<'a>(
     }
 }
 
-// A line that may ask for anything.
+// Reads a line of any kind.
 #[inline(never)]
 #[tactic(auto, unfolding(crate::specs::Items::line_end, crate::specs::Items::item_of, crate::specs::Grammar::announced_of, crate::specs::Grammar::request_of))]
 fn wide_line<'a>(
@@ -207,7 +207,7 @@ fn wide_line<'a>(
     }
 }
 
-// The end of a `reload` line.
+// Handles the end of a `reload` line.
 #[tactic(auto, unfolding(crate::specs::Items::text_start))]
 fn texts_begin(
     alloc: Global,
@@ -229,7 +229,7 @@ fn texts_begin(
     Ok(Mode::Line)
 }
 
-// A `reload` line with its texts.
+// Makes the item of a `reload` line and its files.
 fn policy(alloc: Global, announced: Announced, texts: &[u8]) -> Result<Item, AllocError>
     requires { length texts.now ≡ announced.rules + announced.contexts }
     ensures { IfOk result (λ i. i ≡ policy_item announced texts.now) }

@@ -1,4 +1,4 @@
-//! Deliveries, as reply lines have them.
+//! Deliveries in reply lines.
 
 ghost use Rattle.std.specs.Prelude.{◌≡◌, ◌++◌, OnOk, codes};
 ghost use Rattle.std.specs.List.{flat_map};
@@ -9,7 +9,7 @@ use sm_history::{Delivery, Given, Message};
 use sm_kinds::push_numbered;
 use std::alloc::{AllocError, Global};
 
-/// Adds the words of a delivery.
+/// Appends the words of a delivery.
 pub fn push_delivery(
     alloc: Global,
     out: &mut Vec<u8>,
@@ -84,7 +84,7 @@ fn push_payload(alloc: Global, out: &mut Vec<u8>, payload: &[u8]) -> Result<(), 
     }
 }
 
-// Each reference after a space.
+// Appends each reference after a space.
 fn push_refs(out: &mut Vec<u8>, refs: &[Given]) -> Result<(), AllocError>
     ensures { OnOk result (out.new.items ≡ out.old.items ++ flat_map spaced_given refs.now) }
 {

@@ -8,8 +8,8 @@ use sm_history::Record;
 use sm_kinds::push_numbered;
 use std::alloc::{AllocError, Global};
 
-/// Adds the reply to `denials`: a line with the number of the records, and then the audit line of each, in their order.
-/// `Err`: memory was refused, and a part may have been added.
+/// Appends the reply to `denials`: a line with the number of the records, and then the audit line of each, in their
+/// order. On error a part may have been appended.
 #[tactic(auto, unfolding(crate::specs::Replies::denials_text))]
 pub fn push_denials(alloc: Global, out: &mut Vec<u8>, records: &[Record]) -> Result<(), AllocError>
     ensures { OnOk result (out.new.items ≡ out.old.items ++ denials_text records.now) }

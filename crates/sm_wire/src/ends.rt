@@ -1,25 +1,25 @@
-//! Where the next item of a stream ends.
+//! Finds the end of the next item of a stream.
 
 ghost use Rattle.sm_wire.specs.Ends.{EndsAs, LineEndsAs, TextsEndAs};
 
 use crate::mode::Mode;
 use memchr::memchr;
 
-/// The greatest length of a line, without its newline.
+/// The most bytes of a line, without its newline.
 const LINE_LIMIT: usize = 4096;
 
-/// Where an item ends, among the bytes that come next.
+/// Where an item ends, among the next bytes.
 #[derive(Clone, Copy)]
 pub enum End {
-    /// With so many of them, at least one.
+    /// After this many of them, at least one.
     At(usize),
-    /// Not with any of them.
+    /// After none of them.
     Later,
     /// Nowhere: a line is too long.
     Never,
 }
 
-/// Where the item ends of which so many bytes are held, if these come next.
+/// Returns where an item ends, of which `held` bytes have come before these.
 pub fn item_end(mode: Mode, held: usize, bytes: &[u8]) -> End
     ensures { EndsAs mode held bytes.now result }
 {
@@ -52,7 +52,7 @@ fn newline_end(held: usize, bytes: &[u8]) -> End
     }
 }
 
-// Where texts of this length end.
+// Returns where files of this length end.
 fn texts_end(length: u64, held: usize, bytes: &[u8]) -> End
     ensures { TextsEndAs length held bytes.now result }
 {

@@ -1,6 +1,6 @@
 //! The fields of a line.
 
-ghost use Rattle.std.specs.Prelude.{◌≡◌, OnOk, map};
+ghost use Rattle.std.specs.Prelude.{◌≡◌, ◌++◌, ◌∷◌, [], OnOk, map};
 ghost use Rattle.sm_wire.specs.Fields.{fields_of};
 
 use std::alloc::AllocError;
@@ -14,10 +14,17 @@ pub fn split_fields<'a>(line: &'a [u8], fields: &mut Vec<&'a [u8]>) -> Result<()
     let mut start = 0;
     for (i, b) in line.iter().enumerate() {
         if *b == b' ' {
-            fields.push(&line[start..i])?;
+            push_field(fields, &line[start..i])?;
             start = i + 1;
         }
     }
-    fields.push(&line[start..])?;
+    push_field(fields, &line[start..])
+}
+
+/// Appends a field, even an empty one: between two spaces there is one.
+fn push_field<'a>(fields: &mut Vec<&'a [u8]>, field: &'a [u8]) -> Result<(), AllocError>
+    ensures { OnOk result (fields.new.items ≡ fields.old.items ++ field.entry ∷ []) }
+{
+    fields.push(field)?;
     Ok(())
 }

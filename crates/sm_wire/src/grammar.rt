@@ -1,4 +1,4 @@
-//! Requests, read from the fields of a line: a function for each production.
+//! Requests, parsed from the fields of a line: a function for each production.
 
 ghost use Rattle.std.specs.Prelude.{map};
 ghost use Rattle.sm_wire.specs.Reading.{Reads};
@@ -16,7 +16,7 @@ use sm_history::Query;
 use sm_kinds::{ClientId, Identity};
 use std::alloc::Global;
 
-/// What the line of this kind asks for. The line has no newline.
+/// Parses a line of this kind. The line has no newline.
 #[tactic(auto, unfolding(crate::specs::Grammar::request_of))]
 pub fn request(alloc: Global, kind: Kind, line: &[u8]) -> Result<Request, ReadError>
     ensures { Reads result (request_of kind line.now) }
@@ -26,7 +26,7 @@ pub fn request(alloc: Global, kind: Kind, line: &[u8]) -> Result<Request, ReadEr
     fields_request(alloc, kind, &fields)
 }
 
-/// What a line of this kind and these fields asks for.
+/// Parses a line of this kind from its fields.
 #[tactic(auto, unfolding(crate::specs::Grammar::fields_request_of))]
 pub fn fields_request(alloc: Global, kind: Kind, fields: &[&[u8]]) -> Result<Request, ReadError>
     ensures { Reads result (fields_request_of kind (map (λ f. f.now) fields.now)) }
@@ -38,7 +38,7 @@ pub fn fields_request(alloc: Global, kind: Kind, fields: &[&[u8]]) -> Result<Req
     }
 }
 
-// A line of a client's connection.
+// Parses a line of a client's connection.
 #[tactic(auto, unfolding(crate::specs::Grammar::client_fields_of))]
 fn client_fields(alloc: Global, fields: &[&[u8]]) -> Result<Request, ReadError>
     ensures { Reads result (client_fields_of (map (λ f. f.now) fields.now)) }
@@ -49,7 +49,7 @@ fn client_fields(alloc: Global, fields: &[&[u8]]) -> Result<Request, ReadError>
     }
 }
 
-// A line of an administrator's connection.
+// Parses a line of an administrator's connection.
 #[tactic(auto, unfolding(crate::specs::Grammar::admin_fields_of))]
 fn admin_fields(alloc: Global, fields: &[&[u8]]) -> Result<Request, ReadError>
     ensures { Reads result (admin_fields_of (map (λ f. f.now) fields.now)) }
@@ -60,7 +60,7 @@ fn admin_fields(alloc: Global, fields: &[&[u8]]) -> Result<Request, ReadError>
     }
 }
 
-// A line of a script.
+// Parses a line of a script.
 #[tactic(auto, unfolding(crate::specs::Grammar::script_fields_of))]
 fn script_fields(alloc: Global, fields: &[&[u8]]) -> Result<Request, ReadError>
     ensures { Reads result (script_fields_of (map (λ f. f.now) fields.now)) }
@@ -71,7 +71,7 @@ fn script_fields(alloc: Global, fields: &[&[u8]]) -> Result<Request, ReadError>
     }
 }
 
-// A line of a script that doesn't begin with a client's number.
+// Parses a line of a script that doesn't begin with a client's number.
 #[tactic(auto, unfolding(crate::specs::Grammar::unnumbered_of))]
 fn unnumbered(alloc: Global, fields: &[&[u8]]) -> Result<Request, ReadError>
     ensures { Reads result (unnumbered_of (map (λ f. f.now) fields.now)) }
@@ -82,7 +82,7 @@ fn unnumbered(alloc: Global, fields: &[&[u8]]) -> Result<Request, ReadError>
     }
 }
 
-// The administrator's lines that a script has, too.
+// Parses an administrator's line that a script has, too.
 #[tactic(auto, unfolding(crate::specs::Grammar::policy_request_of))]
 fn policy_request(alloc: Global, fields: &[&[u8]]) -> Result<Request, ReadError>
     ensures { Reads result (policy_request_of (map (λ f. f.now) fields.now)) }
@@ -93,7 +93,7 @@ fn policy_request(alloc: Global, fields: &[&[u8]]) -> Result<Request, ReadError>
     }
 }
 
-// What the administrator asks about the policy in force, or of the journal.
+// Parses a question of an administrator about the policy in force, or a request to the journal.
 #[tactic(auto, unfolding(crate::specs::Grammar::asking_of))]
 fn asking(alloc: Global, fields: &[&[u8]]) -> Result<Request, ReadError>
     ensures { Reads result (asking_of (map (λ f. f.now) fields.now)) }
@@ -104,7 +104,7 @@ fn asking(alloc: Global, fields: &[&[u8]]) -> Result<Request, ReadError>
     }
 }
 
-// What the administrator asks of the journal.
+// Parses an administrator's request to the journal.
 #[tactic(auto, unfolding(crate::specs::Grammar::journal_request_of))]
 fn journal_request(fields: &[&[u8]]) -> Result<Request, ReadError>
     ensures { Reads result (journal_request_of (map (λ f. f.now) fields.now)) }
@@ -115,7 +115,7 @@ fn journal_request(fields: &[&[u8]]) -> Result<Request, ReadError>
     }
 }
 
-// `denials`
+// Parses `denials`.
 #[tactic(auto, unfolding(crate::specs::Grammar::denials_of))]
 fn denials(fields: &[&[u8]]) -> Result<Request, ReadError>
     ensures { Reads result (denials_of (map (λ f. f.now) fields.now)) }
@@ -126,7 +126,7 @@ fn denials(fields: &[&[u8]]) -> Result<Request, ReadError>
     }
 }
 
-// `seal`
+// Parses `seal`.
 #[tactic(auto, unfolding(crate::specs::Grammar::seal_of))]
 fn seal(fields: &[&[u8]]) -> Result<Request, ReadError>
     ensures { Reads result (seal_of (map (λ f. f.now) fields.now)) }
@@ -137,7 +137,7 @@ fn seal(fields: &[&[u8]]) -> Result<Request, ReadError>
     }
 }
 
-// The administrator's `version`.
+// Parses the administrator's `version`.
 #[tactic(auto, unfolding(crate::specs::Grammar::standing_of))]
 fn standing(fields: &[&[u8]]) -> Result<Request, ReadError>
     ensures { Reads result (standing_of (map (λ f. f.now) fields.now)) }
@@ -148,7 +148,7 @@ fn standing(fields: &[&[u8]]) -> Result<Request, ReadError>
     }
 }
 
-// `hello PID UID CONTEXT`
+// Parses `hello PID UID CONTEXT`.
 #[tactic(auto, unfolding(crate::specs::Grammar::greeting_of))]
 fn greeting(alloc: Global, fields: &[&[u8]]) -> Result<Request, ReadError>
     ensures { Reads result (greeting_of (map (λ f. f.now) fields.now)) }
@@ -169,7 +169,7 @@ fn hello(alloc: Global, pid: &[u8], uid: &[u8], context: &[u8]) -> Result<Reques
     Ok(Request::Hello(Identity { pid, uid, context }))
 }
 
-// `explain SOURCE TARGET CLASS PERM`
+// Parses `explain SOURCE TARGET CLASS PERM`.
 #[tactic(auto, unfolding(crate::specs::Grammar::explaining_of))]
 fn explaining(alloc: Global, fields: &[&[u8]]) -> Result<Request, ReadError>
     ensures { Reads result (explaining_of (map (λ f. f.now) fields.now)) }
@@ -205,7 +205,7 @@ fn explain(
     ))
 }
 
-// `N REQUEST`
+// Parses `N REQUEST`.
 #[tactic(auto, unfolding(crate::specs::Grammar::client_line_of))]
 fn client_line(alloc: Global, fields: &[&[u8]]) -> Result<Request, ReadError>
     ensures { Reads result (client_line_of (map (λ f. f.now) fields.now)) }

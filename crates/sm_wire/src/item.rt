@@ -1,17 +1,18 @@
-//! What a stream of request lines is cut into.
+//! Items of a stream of request lines.
 
 use crate::request::Request;
 use crate::texts::PolicyTexts;
 
-/// What a stream of request lines is cut into.
+/// An item of a stream of request lines.
 #[derive(Drop)]
 pub enum Item {
-    /// A line that asks for something.
+    /// A line with a request.
     Asked(Request),
-    /// A `reload` line with its texts: the administrator replaces the policy.
+    /// A `reload` line with its files: the administrator replaces the policy.
     Policy(PolicyTexts),
-    /// A line that the grammar does not have.
+    /// A line outside the grammar.
     Malformed,
-    /// A line of more than 4,096 bytes, or a `reload` line that announces a text of more than 4,194,304. It is the last item of a stream.
+    /// A line of more than 4,096 bytes, or a `reload` line that announces a file of more than 4,194,304. It is the last
+    /// item of a stream.
     LineTooLong,
 }

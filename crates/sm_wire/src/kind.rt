@@ -1,9 +1,9 @@
-//! Who is at the other end of a stream.
+//! Kinds of streams.
 
-/// Who is at the other end of a stream of request lines, which decides what lines there are.
+/// The peer of a stream of request lines, which decides which lines are valid.
 #[derive(Clone, Copy, Debug, PartialEq, Eq)]
 pub enum Kind {
-    /// A process that connects as a client: its lines name no client.
+    /// A process that connects as a client. Its lines have no client numbers.
     Client,
     /// An administrator, who replaces the policy and asks about it.
     Admin,

@@ -1,4 +1,4 @@
-//! What the grammar says, in plainer terms.
+//! The grammar's consequences, as laws.
 
 ghost use Rattle.std.specs.Prelude.{◌≡◌, ◌≢◌, ◌<◌, ◌≤◌, ◌^◌, ◌↔◌, ℕ, List, Some, None, ◌++◌, ◌∷◌, [], length};
 ghost use Rattle.std.specs.Fmt.{decimal};
@@ -12,14 +12,14 @@ ghost use Rattle.sm_wire.specs.Grammar.{announced_of, request_of};
 ghost use Rattle.sm_wire.specs.Spelling.{Spells, SpellsNothing};
 ghost use Rattle.sm_wire.specs.Items.{item_of, items_of, items_after, rest_of, scan_after};
 
-/// A line that is no `reload` line and its newline give its item, and then come the items of what follows.
+/// A line that is no `reload` line, with its newline, gives its item, followed by the items of the rest.
 pub fn first_line()
     ensures { (kind : Kind) (line rest : List ℕ) → AllByRecursion (λ b. b ≢ 10) line → length line ≤ 4096 → announced_of kind line ≡ None
         → items_of kind (line ++ 10 ∷ rest) ≡ item_of kind line ∷ items_of kind rest }
 {}
 
-/// A `reload` line, its newline and the two texts that it announces, of any bytes, give one item, and then come the
-/// items of what follows.
+/// A `reload` line, its newline and the two files that it announces, of any bytes, give one item, followed by the items
+/// of the rest.
 pub fn reload_line()
     ensures { (kind : Kind) (line rules contexts rest : List ℕ) (a : Announced) → AllByRecursion (λ b. b ≢ 10) line → length line ≤ 4096
         → announced_of kind line ≡ Some a → a.rules ≡ length rules → a.contexts ≡ length contexts → length rules ≤ 4194304 → length contexts ≤ 4194304
@@ -27,26 +27,26 @@ pub fn reload_line()
         ≡ items.Policy (record { expected = a.expected; rules = rules; contexts = contexts }) ∷ items_of kind rest }
 {}
 
-/// A line is too long at its 4,097th byte, whatever comes after it, and no item comes after it.
+/// A line is too long at its 4,097th byte, whatever follows, and no item comes after it.
 pub fn long_line()
     ensures { (kind : Kind) (line rest : List ℕ) (b : ℕ) → AllByRecursion (λ c. c ≢ 10) line → length line ≡ 4096
         → b ≢ 10 → items_of kind (line ++ b ∷ rest) ≡ items.LineTooLong ∷ [] }
 {}
 
-/// It doesn't matter where a stream is cut.
+/// A stream gives the same items, however it is split into pieces.
 pub fn any_cut()
     ensures items { (kind : Kind) (xs ys : List ℕ) → items_of kind (xs ++ ys) ≡ items_of kind xs ++ items_after (rest_of kind xs) ys }
     ensures rest { (kind : Kind) (xs ys : List ℕ) → rest_of kind (xs ++ ys) ≡ scan_after (rest_of kind xs) ys }
 {}
 
-/// A number has one spelling, decimal and without leading zeros, and is read where it is at most `max`.
+/// A number has one spelling, decimal and without leading zeros, and is read if it is at most `max`.
 pub fn one_spelling()
     ensures { (max n : ℕ) (text : List ℕ) → max < 2 ^ 64
         → (number_of max text ≡ Some n) ↔ ((text ≡ decimal n) × (n ≤ max)) }
 {}
 
-/// The lines of the written grammar, and no others, are read, each as the request that it spells. In a stream every
-/// other line is malformed.
+/// Exactly the lines of the written grammar are read, each as the request that it spells. In a stream every other line
+/// is malformed.
 pub fn written_lines()
     ensures requests { (kind : Kind) (line : List ℕ) (request : Request) → (request_of kind line ≡ Some request) ↔ Spells kind line request }
     ensures items { (kind : Kind) (line : List ℕ) (request : Request) → (item_of kind line ≡ items.Asked request) ↔ Spells kind line request }

@@ -1,5 +1,5 @@
-//! The lines that a service manager is spoken to in: request lines read, reply lines written, and a stream of bytes
-//! cut into its requests, whatever pieces it comes in.
+//! The line protocol: request lines are parsed, reply lines are written, and a stream of bytes is cut into its
+//! requests, in whatever pieces it comes.
 #![tactic(auto)]
 
 mod announced;

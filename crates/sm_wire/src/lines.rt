@@ -1,4 +1,4 @@
-//! The reader of a stream that comes in pieces.
+//! Reads a stream that comes in pieces.
 
 ghost use Rattle.std.specs.Prelude.{◌≡◌, ◌≤◌, ◌↔◌, ◌++◌, IfOk, OnOk, OnErr, IsTrue, vec_len, length, drop};
 ghost use Rattle.sm_wire.specs.Items.{has_rest, IsAlive, IsDead, scan_start, scan_after, items_after};
@@ -19,7 +19,7 @@ use std::marker::Model;
 pub enum FeedError {
     /// An earlier piece gave `Item::LineTooLong`.
     LineTooLong,
-    /// Memory was refused.
+    /// An allocation failed.
     Memory,
 }
 
@@ -34,7 +34,7 @@ impl From<AllocError> for FeedError {
     }
 }
 
-/// Cuts a stream into items, whatever pieces it comes in.
+/// Cuts a stream into items, in whatever pieces it comes.
 #[derive(Drop)]
 pub struct Lines {
     alloc: Global,
@@ -53,7 +53,7 @@ impl Model for Lines {
 }
 
 impl Lines {
-    /// A reader before the first byte of its stream, whose lines are of this kind.
+    /// Makes a reader of a stream of this kind, before its first byte.
     pub fn new(alloc: Global, kind: Kind) -> Lines
         ensures { result ≡ scan_start kind }
     {
@@ -66,7 +66,8 @@ impl Lines {
         }
     }
 
-    /// The items that the next piece ends. A line or a text that is too long is the last of them, and each later piece is refused.
+    /// Returns the items that end in the next piece. A line or a file that is too long is the last of them, and each
+    /// later piece is refused.
     pub fn feed(&mut self, piece: &[u8]) -> Result<Vec<Item>, FeedError>
         ensures items { IfOk result (λ v. v.items ≡ items_after self.old piece.now) }
         ensures scan { IfOk result (λ v. self.new ≡ scan_after self.old piece.now) }
@@ -87,7 +88,8 @@ impl Lines {
         }
     }
 
-    // Adds the items that the piece ends. An error leaves what was held, and maybe more behind it.
+    // Appends the items that end in the piece. After an error the held bytes are still there, perhaps with more after
+    // them.
     fn take_piece(&mut self, piece: &[u8], items: &mut Vec<Item>) -> Result<(), AllocError>
         requires { IsAlive self.old }
         ensures items { OnOk result (items.new.items ≡ items.old.items ++ items_after self.old piece.now) }
@@ -106,8 +108,8 @@ impl Lines {
         }
     }
 
-    // The same, where the piece ends what is held with so many of its bytes. What lies whole in the rest of the piece is
-    // read there.
+    // The same, if the held item ends after the first `n` bytes of the piece. Items that are whole in the rest of the
+    // piece are read in place.
     fn take_end(&mut self, piece: &[u8], n: usize, items: &mut Vec<Item>) -> Result<(), AllocError>
         requires { EndsAs self.old.mode (length self.old.held) piece.now (At n) }
         ensures items { OnOk result (items.new.items ≡ items.old.items ++ items_after self.old piece.now) }
@@ -138,14 +140,14 @@ impl Lines {
         Ok(())
     }
 
-    /// Whether the stream stands inside a line or a text.
+    /// Returns whether the stream is inside a line or a file.
     pub fn rest(&self) -> bool
         ensures { result ≡ has_rest self.now }
     {
         matches!(self.mode, Mode::Texts(_)) || !self.held.is_empty()
     }
 
-    /// Whether `Item::LineTooLong` was given.
+    /// Returns whether `Item::LineTooLong` was given.
     pub fn is_dead(&self) -> bool
         ensures { IsTrue result ↔ IsDead self.now }
     {
@@ -153,12 +155,12 @@ impl Lines {
     }
 }
 
-// Lets the first `n` bytes go.
+// Removes the first `n` bytes.
 fn drop_front(bytes: &mut Vec<u8>, n: usize)
     requires { n ≤ vec_len bytes.old }
     ensures { bytes.new.items ≡ drop n bytes.old.items }
 {
-    // Where no item ends, the bytes stay where they are: a long item in small pieces is read in linear time.
+    // While no item ends, the bytes aren't moved, so a long item in small pieces is read in linear time.
     if n == 0 {
         return;
     }

@@ -6,8 +6,8 @@ use crate::announced::Announced;
 #[derive(Clone, Copy)]
 pub enum Mode {
     Line,
-    /// The texts behind a `reload` line.
+    /// The files after a `reload` line.
     Texts(Announced),
-    /// Nothing: a line or a text was too long.
+    /// Nothing: a line or a file was too long.
     Dead,
 }

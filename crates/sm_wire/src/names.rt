@@ -1,4 +1,4 @@
-//! Names, as reply lines have them.
+//! Names in reply lines.
 
 ghost use Rattle.std.specs.Prelude.{◌≡◌, ◌++◌, OnOk, codes};
 ghost use Rattle.std.specs.List.{flat_map};
@@ -7,7 +7,7 @@ ghost use Rattle.sm_wire.specs.Replies.{spaced_name};
 use sm_kinds::{Name, push_name};
 use std::alloc::{AllocError, Global};
 
-/// Each name after a space.
+/// Appends each name after a space.
 pub fn push_names(alloc: Global, out: &mut Vec<u8>, names: &[Name]) -> Result<(), AllocError>
     ensures { OnOk result (out.new.items ≡ out.old.items ++ flat_map spaced_name names.now) }
 {
@@ -17,7 +17,7 @@ pub fn push_names(alloc: Global, out: &mut Vec<u8>, names: &[Name]) -> Result<()
     Ok(())
 }
 
-/// Adds a space and a name.
+/// Appends a space and a name.
 pub fn push_spaced_name(alloc: Global, out: &mut Vec<u8>, name: &[u8]) -> Result<(), AllocError>
     ensures { OnOk result (out.new.items ≡ out.old.items ++ spaced_name name.now) }
 {

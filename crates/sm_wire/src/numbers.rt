@@ -7,7 +7,7 @@ ghost use Rattle.sm_wire.specs.Reading.{Reads};
 
 use crate::read_error::ReadError;
 
-/// The number that the bytes spell, if it is at most `max`.
+/// Returns the number that the bytes spell, if it is at most `max`.
 pub fn number(bytes: &[u8], max: u64) -> Option<u64>
     ensures value { result ≡ number_of max bytes.now }
     ensures bound { IfSome result (λ n. n ≤ max) }
@@ -31,7 +31,7 @@ fn digits(bytes: &[u8], max: u64) -> Option<u64>
     Some(n)
 }
 
-// The number with one more digit, if it is at most `max`.
+// Returns the number with one more digit, if it is at most `max`.
 fn grown(n: u64, digit: u8, max: u64) -> Option<u64>
     ensures value { result ≡ (if is_ascii_digit digit && nat_le (10 * n + (digit - 48)) max
         then Some (10 * n + (digit - 48)) else None) }
@@ -44,7 +44,7 @@ fn grown(n: u64, digit: u8, max: u64) -> Option<u64>
     if more <= max { Some(more) } else { None }
 }
 
-/// A field that is a number of at most 32 bits.
+/// Parses a number of at most 32 bits.
 pub fn u32_field(field: &[u8]) -> Result<u32, ReadError>
     ensures { Reads result (number_of u32_max field.now) }
 {
@@ -54,7 +54,7 @@ pub fn u32_field(field: &[u8]) -> Result<u32, ReadError>
     }
 }
 
-/// A field that is a number of at most 64 bits.
+/// Parses a number of at most 64 bits.
 pub fn u64_field(field: &[u8]) -> Result<u64, ReadError>
     ensures { Reads result (number_of u64_max field.now) }
 {

@@ -1,4 +1,4 @@
-//! The reply to a `reload` whose texts are refused.
+//! The reply to a `reload` whose policy is refused.
 
 ghost use Rattle.std.specs.Prelude.{◌≡◌, ◌++◌, OnOk};
 ghost use Rattle.sm_wire.specs.Replies.{policy_refused_text};
@@ -6,7 +6,7 @@ ghost use Rattle.sm_wire.specs.Replies.{policy_refused_text};
 use sm_policy::{PolicyFault, refused_text};
 use std::alloc::{AllocError, Global};
 
-/// Adds `refused`, and why. `Err`: memory was refused, and a part may have been added.
+/// Appends `refused`, and why. On error a part may have been appended.
 #[tactic(auto, unfolding(crate::specs::Replies::policy_refused_text))]
 pub fn push_policy_refused(
     alloc: Global,

@@ -1,5 +1,5 @@
-//! The lines that clients send most, read from their bytes. A function pays for the width of its locals when it is
-//! entered, so such a line stays small until its request is added to the items.
+//! A fast path for the most frequent lines, parsed from their bytes. A function zeroes its locals on entry, so such a
+//! line keeps to small values until its request is appended to the items.
 
 ghost use Rattle.std.specs.Prelude.{◌≡◌, ◌==◌, ◌++◌, ◌∷◌, [], OnOk, IfOk, position};
 ghost use Rattle.sm_wire.specs.declared.item.Item.TheVariants.{Asked};
@@ -14,25 +14,25 @@ use sm_history::{Event, Query};
 use sm_kinds::{ClientId, Word, all_graphic};
 use std::alloc::{AllocError, Global};
 
-/// What a client may ask in such a line.
+/// A request of such a line.
 #[derive(Drop)]
 pub enum Wanted<'a> {
     /// `list MASK`
     List(u32),
     /// `version`
     Version,
-    /// `get NAME` or `check NAME`, whose name stands in plain bytes
+    /// `get NAME` or `check NAME`, with the name in plain bytes
     Get(Word<'a>),
 }
 
-/// What such a line asks. A script names the client.
+/// A parsed line. A script names the client.
 #[derive(Drop)]
 pub struct Quick<'a> {
     pub client: Option<ClientId>,
     pub wanted: Wanted<'a>,
 }
 
-/// What a line of this kind asks, if it is one of these. The line has no newline.
+/// Parses a line of this kind, if it is one of these. The line has no newline.
 #[tactic(auto, unfolding(crate::specs::Quick::quick_of))]
 pub fn quick_request<'a>(kind: Kind, line: &'a [u8]) -> Option<Quick<'a>>
     ensures { result ≡ quick_of kind line.now }
@@ -44,7 +44,7 @@ pub fn quick_request<'a>(kind: Kind, line: &'a [u8]) -> Option<Quick<'a>>
     }
 }
 
-// `N REQUEST`
+// Parses `N REQUEST`.
 #[tactic(auto, unfolding(crate::specs::Quick::numbered_of))]
 fn numbered<'a>(line: &'a [u8]) -> Option<Quick<'a>>
     ensures { result ≡ numbered_of line.now }
@@ -54,7 +54,7 @@ fn numbered<'a>(line: &'a [u8]) -> Option<Quick<'a>>
     request_by(Some(ClientId(n as u32)), &line[place + 1..])
 }
 
-// Where the first space stands.
+// Returns the index of the first space.
 fn space_place(line: &[u8]) -> Option<usize>
     ensures { result ≡ position (λ b. b == 32) line.now }
 {
@@ -69,7 +69,7 @@ fn request_by<'a>(client: Option<ClientId>, words: &'a [u8]) -> Option<Quick<'a>
     Some(Quick { client, wanted })
 }
 
-// `get NAME`, or another of these
+// Parses `get NAME`, or another of these.
 #[tactic(auto, unfolding(crate::specs::Quick::wanted_of))]
 fn wanted_by<'a>(words: &'a [u8]) -> Option<Wanted<'a>>
     ensures { result ≡ wanted_of words.now }
@@ -80,7 +80,7 @@ fn wanted_by<'a>(words: &'a [u8]) -> Option<Wanted<'a>>
     other(words)
 }
 
-// `version`, `list MASK` or `check NAME`
+// Parses `version`, `list MASK` or `check NAME`.
 #[tactic(auto, unfolding(crate::specs::Quick::other_of))]
 fn other<'a>(words: &'a [u8]) -> Option<Wanted<'a>>
     ensures { result ≡ other_of words.now }
@@ -94,7 +94,7 @@ fn other<'a>(words: &'a [u8]) -> Option<Wanted<'a>>
     checked(words)
 }
 
-// `check NAME`
+// Parses `check NAME`.
 #[tactic(auto, unfolding(crate::specs::Quick::checked_of))]
 fn checked<'a>(words: &'a [u8]) -> Option<Wanted<'a>>
     ensures { result ≡ checked_of words.now }
@@ -105,7 +105,7 @@ fn checked<'a>(words: &'a [u8]) -> Option<Wanted<'a>>
     named(&words[6..])
 }
 
-// MASK
+// Parses MASK.
 #[tactic(auto, unfolding(crate::specs::Quick::listed_of))]
 fn listed<'a>(mask: &'a [u8]) -> Option<Wanted<'a>>
     ensures { result ≡ listed_of mask.now }
@@ -114,7 +114,7 @@ fn listed<'a>(mask: &'a [u8]) -> Option<Wanted<'a>>
     Some(Wanted::List(mask as u32))
 }
 
-// NAME, in plain bytes
+// Parses NAME, in plain bytes.
 #[tactic(auto, unfolding(crate::specs::Quick::named_of))]
 fn named<'a>(name: &'a [u8]) -> Option<Wanted<'a>>
     ensures { result ≡ named_of name.now }
@@ -135,11 +135,11 @@ fn plain<'a>(name: &'a [u8]) -> Option<Wanted<'a>>
     Some(Wanted::Get(Word::new(name)))
 }
 
-/// Adds the item of such a line.
+/// Appends the item of such a line.
 ///
 /// # Errors
 ///
-/// An error where memory was refused; the items are as they were then.
+/// An error if an allocation fails; the items are then unchanged.
 pub fn push_quick(
     alloc: Global,
     quick: Quick,
@@ -153,7 +153,7 @@ pub fn push_quick(
     Ok(())
 }
 
-// Such a line as a request.
+// Returns such a line as a request.
 fn asked(alloc: Global, quick: Quick, recent: &mut RecentNames) -> Result<Request, AllocError>
     ensures { IfOk result (λ r. r ≡ asked_by quick.entry) }
 {

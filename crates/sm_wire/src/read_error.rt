@@ -5,9 +5,9 @@ use std::alloc::AllocError;
 /// Why a field or a line was not read.
 #[derive(Clone, Copy, Debug, PartialEq, Eq)]
 pub enum ReadError {
-    /// The grammar of request lines does not have it.
+    /// It isn't in the grammar of request lines.
     Malformed,
-    /// Memory was refused.
+    /// An allocation failed.
     Memory,
 }
 

@@ -1,4 +1,4 @@
-//! Names that were read lately, so that one that comes again needs no memory of its own.
+//! A cache of recently read names, so that a repeated name needs no allocation.
 
 ghost use Rattle.std.specs.Prelude.{◌≡◌, IfOk};
 
@@ -6,11 +6,11 @@ use sm_kinds::{MOST_NAME_BYTES, Name, spells};
 use std::alloc::{AllocError, Global};
 use std::marker::Model;
 
-/// For how many names there is a place.
+/// The number of the cache's slots.
 const PLACES: usize = 1024;
 
-/// Names that were read lately, each at the place that its bytes give. Of two with one place the later one is kept. What
-/// is kept changes no name that is given, so contracts see nothing of it.
+/// Recently read names, each in the slot that its bytes select. A later name replaces an earlier one in its slot. The
+/// cache changes no name that is returned, so contracts don't see it.
 #[derive(Drop)]
 pub struct RecentNames {
     places: Vec<Option<Name>>,
@@ -23,19 +23,19 @@ impl Model for RecentNames {
 }
 
 impl RecentNames {
-    /// No name yet, and no memory.
+    /// Makes an empty cache. Allocates nothing.
     pub fn new(alloc: Global) -> RecentNames {
         RecentNames {
             places: Vec::new(alloc),
         }
     }
 
-    /// A name of these bytes: one more owner of one that is kept, or else a new one, which is kept from now on. One that is too
-    /// long for a service isn't.
+    /// Returns a name of these bytes: a reference to a cached one, or a new one, which is cached unless it is too long
+    /// for a service.
     ///
     /// # Errors
     ///
-    /// An error where memory for the name was refused. Without memory for the places none is kept.
+    /// An error if the name can't be allocated. If the slots can't, nothing is cached.
     pub fn name(&mut self, alloc: Global, bytes: &[u8]) -> Result<Name, AllocError>
         ensures { IfOk result (λ n. n ≡ bytes.now) }
     {
@@ -49,7 +49,7 @@ impl RecentNames {
         }
     }
 
-    // Makes the places when the first name comes.
+    // Allocates the slots when the first name comes.
     fn make_places(&mut self) {
         if !self.places.is_empty() || self.places.reserve_exact(PLACES).is_err() {
             return;
@@ -62,7 +62,7 @@ impl RecentNames {
     }
 }
 
-// The place of a name.
+// Returns the slot of a name.
 fn place_of(bytes: &[u8]) -> usize {
     let mut sum = 0u32;
     for byte in bytes {
@@ -71,7 +71,7 @@ fn place_of(bytes: &[u8]) -> usize {
     sum as usize % PLACES
 }
 
-// The name of these bytes from its place, which has it from now on.
+// Returns the name of these bytes from its slot, and caches it there.
 fn kept_name(alloc: Global, place: &mut Option<Name>, bytes: &[u8]) -> Result<Name, AllocError>
     ensures { IfOk result (λ n. n ≡ bytes.now) }
 {

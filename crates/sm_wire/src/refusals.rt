@@ -1,4 +1,4 @@
-//! Refusals, as reply lines have them.
+//! Refusals in reply lines.
 
 ghost use Rattle.std.specs.Prelude.{◌≡◌, ◌++◌, OnOk, codes};
 ghost use Rattle.sm_wire.specs.Replies.{exception_text, failure_text, denied_by, rule_text, denial_text, refusal_text};
@@ -7,7 +7,7 @@ use sm_history::{Denial, Exception, Failure, Refusal};
 use sm_kinds::{Class, Perms, push_access, push_numbered};
 use std::alloc::AllocError;
 
-/// Adds the words of a refusal.
+/// Appends the words of a refusal.
 #[tactic(auto, unfolding(crate::specs::Replies::refusal_text))]
 pub fn push_refusal(out: &mut Vec<u8>, refusal: &Refusal) -> Result<(), AllocError>
     ensures { OnOk result (out.new.items ≡ out.old.items ++ refusal_text refusal.now) }
@@ -42,7 +42,7 @@ fn push_denial(out: &mut Vec<u8>, denial: &Denial) -> Result<(), AllocError>
     }
 }
 
-// The rule that is missing.
+// Appends the missing rule.
 #[tactic(auto, unfolding(crate::specs::Replies::rule_text))]
 fn push_rule(
     out: &mut Vec<u8>,

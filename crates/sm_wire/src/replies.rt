@@ -14,7 +14,7 @@ use sm_history::{Answer, Outcome, Reply, is_hidden};
 use sm_kinds::{Name, push_numbered};
 use std::alloc::{AllocError, Global};
 
-/// The line of a reply, with its newline: of what is told of it.
+/// Returns the line of the visible part of a reply, with its newline.
 pub fn reply_line(alloc: Global, telling: Telling, reply: &Reply) -> Result<Vec<u8>, AllocError>
     ensures { IfOk result (λ line. line.items ≡ told_text (told_in telling reply.now)) }
 {
@@ -23,8 +23,7 @@ pub fn reply_line(alloc: Global, telling: Telling, reply: &Reply) -> Result<Vec<
     Ok(line)
 }
 
-/// Adds the line of a reply, with its newline: of what is told of it. `Err`: memory was refused, and a part may have
-/// been added.
+/// Appends the line of the visible part of a reply, with its newline. On error a part may have been appended.
 pub fn push_reply(
     alloc: Global,
     out: &mut Vec<u8>,
@@ -39,7 +38,7 @@ pub fn push_reply(
     }
 }
 
-// The line of a reply to a Get.
+// Appends the line of a reply to a Get.
 fn push_got(alloc: Global, out: &mut Vec<u8>, reply: &Reply) -> Result<(), AllocError>
     ensures { OnOk result (out.new.items ≡ out.old.items ++ told_text (told_to_get reply.now)) }
 {
@@ -49,7 +48,7 @@ fn push_got(alloc: Global, out: &mut Vec<u8>, reply: &Reply) -> Result<(), Alloc
     push_told(alloc, out, reply)
 }
 
-// The line of a reply that is told as it is, with its newline.
+// Appends the line of a reply, all of which is visible, with its newline.
 #[tactic(auto, unfolding(crate::specs::Replies::told_text))]
 fn push_told(alloc: Global, out: &mut Vec<u8>, reply: &Reply) -> Result<(), AllocError>
     ensures { OnOk result (out.new.items ≡ out.old.items ++ told_text reply.now) }
@@ -76,7 +75,7 @@ fn push_answered(alloc: Global, out: &mut Vec<u8>, reply: &Reply) -> Result<(), 
     }
 }
 
-// `sealed NUMBER LENGTH`
+// Appends `sealed NUMBER LENGTH`.
 #[tactic(auto, unfolding(crate::specs::Replies::sealed_text))]
 fn push_sealed(out: &mut Vec<u8>, number: u64, count: u64) -> Result<(), AllocError>
     ensures { OnOk result (out.new.items ≡ out.old.items ++ sealed_text number count) }
@@ -122,7 +121,7 @@ fn push_answer(
     }
 }
 
-// `version VERSION LENGTH`
+// Appends `version VERSION LENGTH`.
 fn push_version(out: &mut Vec<u8>, version: u64, count: u64) -> Result<(), AllocError>
     ensures { OnOk result (out.new.items ≡ out.old.items ++ numbered (codes "version ") version ++ numbered (codes " ") count) }
 {
@@ -132,7 +131,7 @@ fn push_version(out: &mut Vec<u8>, version: u64, count: u64) -> Result<(), Alloc
     push_decimal(out, count)
 }
 
-// A number in decimal digits. A single digit takes no buffer.
+// Appends a number in decimal digits. A single digit needs no buffer.
 #[tactic(auto, using(std::proofs::lemmas::Fmt::decimal_digit))]
 fn push_decimal(out: &mut Vec<u8>, n: u64) -> Result<(), AllocError>
     ensures { OnOk result (out.new.items ≡ out.old.items ++ decimal n) }

@@ -1,4 +1,4 @@
-//! What a request line asks for.
+//! Requests.
 
 ghost use Rattle.std.specs.Prelude.{◌≡◌};
 ghost use Rattle.sm_history.specs.declared.reply.Reply.{Reply};
@@ -16,18 +16,17 @@ use sm_history::{Event, Query};
 use sm_kinds::{ClientId, Identity};
 use std::alloc::Global;
 
-/// What a request line asks for.
+/// The request of a line.
 #[derive(Drop)]
 pub enum Request {
     /// A process connects.
     Hello(Identity),
-    /// A client makes a change. A script names the client.
+    /// A client makes a change. Only a script names the client.
     Change(Option<ClientId>, Event),
-    /// A client or an administrator asks to be told something. A script names the client, and none for the
-    /// administrator.
+    /// A client or an administrator makes a query. Only a script names the client; the administrator has no number.
     Look(Option<ClientId>, Query),
-    /// The administrator replaces the policy, if it has the expected version, by the one of the texts behind the line:
-    /// so many bytes of rule text, and then of contexts text.
+    /// The administrator replaces the policy, if it has the expected version, by that of the two files after the line,
+    /// which have these sizes in bytes.
     Reload {
         expected: u64,
         rules: u32,
@@ -35,12 +34,12 @@ pub enum Request {
     },
     /// The administrator asks for the last denials.
     Denials,
-    /// The administrator asks that the open segment of the journal be closed.
+    /// The administrator closes the open segment of the journal.
     Seal,
 }
 
 impl Request {
-    /// Reads a line of this kind, which is given without its newline.
+    /// Parses a line of this kind, given without its newline.
     pub fn read(alloc: Global, kind: Kind, line: &[u8]) -> Result<Request, ReadError>
         ensures reads { Reads result (request_of kind line.now) }
         ensures spelled { ReadsSpelled kind line.now result }
@@ -48,7 +47,7 @@ impl Request {
         request(alloc, kind, line)
     }
 
-    /// How much of its reply the one who asks is told.
+    /// Returns how much of the reply is visible to whoever asked.
     pub fn telling(&self) -> Telling
         ensures { (reply : Reply) → told_of self.now reply ≡ told_in result reply }
     {
@@ -59,7 +58,7 @@ impl Request {
     }
 }
 
-// How much of its reply the actor of an event is told.
+// Returns how much of the reply is visible to the actor of an event.
 fn event_telling(event: &Event) -> Telling
     ensures { (reply : Reply) → told event.now reply ≡ told_in result reply }
 {

@@ -1,10 +1,10 @@
-//! How much of a reply is told.
+//! Visibility of replies.
 
-/// How much of a reply is told to the one who asked.
+/// How much of a reply is visible to whoever asked.
 #[derive(Clone, Copy, Debug, PartialEq, Eq)]
 pub enum Telling {
     /// All of it.
     Whole,
-    /// What a Get is told: that nothing was found, where it may not know of the service.
+    /// A denied `find` is hidden: a Get is answered that nothing was found.
     ToGet,
 }

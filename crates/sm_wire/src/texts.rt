@@ -1,8 +1,8 @@
-//! The texts behind a `reload` line.
+//! The files after a `reload` line.
 
 use std::marker::Model;
 
-/// A `reload` line with the texts that follow it.
+/// A `reload` line with the files that follow it.
 #[derive(Drop)]
 pub struct PolicyTexts {
     expected: u64,
@@ -21,7 +21,7 @@ impl Model for PolicyTexts {
 impl PolicyTexts {
     ghost use Rattle.std.specs.Prelude.{◌≡◌};
 
-    /// The texts of a `reload` that expects this version.
+    /// Makes the item of a `reload` that expects this version.
     pub fn new(expected: u64, rules: Vec<u8>, contexts: Vec<u8>) -> PolicyTexts
         ensures { result ≡ record { expected = expected; rules = rules.items; contexts = contexts.items } }
     {
@@ -32,21 +32,21 @@ impl PolicyTexts {
         }
     }
 
-    /// The version that the policy in force must have.
+    /// Returns the version that the policy in force must have.
     pub fn expected(&self) -> u64
         ensures { result ≡ self.now.expected }
     {
         self.expected
     }
 
-    /// The rule text.
+    /// Returns the policy source.
     pub fn rules(&self) -> &[u8]
         ensures { result.now ≡ self.now.rules }
     {
         self.rules.as_slice()
     }
 
-    /// The contexts text.
+    /// Returns the contexts file.
     pub fn contexts(&self) -> &[u8]
         ensures { result.now ≡ self.now.contexts }
     {

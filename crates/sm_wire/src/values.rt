@@ -1,4 +1,4 @@
-//! The fields of request lines: a function for each kind of value.
+//! Fields of request lines: a function for each kind of value.
 
 ghost use Rattle.std.specs.Prelude.{map};
 ghost use Rattle.std.specs.Result.{result_ok, result_map_both};
@@ -17,7 +17,7 @@ use sm_kinds::{
 use sm_ruletext::is_word;
 use std::alloc::Global;
 
-// NAME: plain bytes, or `%` and two hexadecimal digits for each byte.
+// Parses NAME: plain bytes, or `%` and two hexadecimal digits for each byte.
 #[tactic(auto, unfolding(crate::specs::Values::name_of))]
 pub fn name_field(alloc: Global, field: &[u8]) -> Result<Name, ReadError>
     ensures { Reads result (name_of field.now) }
@@ -36,7 +36,7 @@ fn hex_name(alloc: Global, digits: &[u8]) -> Result<Name, ReadError>
     Ok(Name::new(alloc, &bytes)?)
 }
 
-// Two hexadecimal digits for each byte.
+// Parses two hexadecimal digits for each byte.
 fn hex_bytes(alloc: Global, digits: &[u8]) -> Result<Vec<u8>, ReadError>
     ensures { Reads (result_map_both (λ bytes. bytes.items) (λ e. e) result) (result_ok (decode_of digits.now)) }
 {
@@ -57,7 +57,7 @@ fn plain_name(alloc: Global, field: &[u8]) -> Result<Name, ReadError>
     Ok(Name::new(alloc, field)?)
 }
 
-// A word of a rule text.
+// Parses a word of a policy source.
 #[tactic(auto, unfolding(crate::specs::Values::word_of))]
 pub fn word_field(alloc: Global, field: &[u8]) -> Result<Name, ReadError>
     ensures { Reads result (word_of field.now) }
@@ -77,7 +77,7 @@ pub fn class_field(field: &[u8]) -> Result<Class, ReadError>
     }
 }
 
-// A permission of either class.
+// Parses a permission of either class.
 #[tactic(auto, unfolding(crate::specs::Values::perm_of))]
 pub fn perm_field(field: &[u8]) -> Result<Perms, ReadError>
     ensures { Reads result (perm_of field.now) }
@@ -91,7 +91,7 @@ pub fn perm_field(field: &[u8]) -> Result<Perms, ReadError>
     }
 }
 
-// REF: `oN`, `hN` or `null`.
+// Parses REF: `oN`, `hN` or `null`.
 #[tactic(auto, unfolding(crate::specs::Values::reference_of))]
 pub fn reference_field(field: &[u8]) -> Result<ObjRef, ReadError>
     ensures { Reads result (reference_of field.now) }
@@ -104,7 +104,7 @@ pub fn reference_field(field: &[u8]) -> Result<ObjRef, ReadError>
     }
 }
 
-// `oN`, the one form of REF that names an object of the client's own.
+// Parses `oN`, the form of REF that names an object of the client's own.
 #[tactic(auto, unfolding(crate::specs::Values::own_object_of))]
 pub fn own_object_field(field: &[u8]) -> Result<u32, ReadError>
     ensures { Reads result (own_object_of field.now) }
@@ -116,7 +116,7 @@ pub fn own_object_field(field: &[u8]) -> Result<u32, ReadError>
     }
 }
 
-// REF, at most 16 times.
+// Parses at most 16 REF.
 #[tactic(auto, unfolding(crate::specs::Values::call_references_of))]
 pub fn reference_fields(alloc: Global, fields: &[&[u8]]) -> Result<Refs, ReadError>
     ensures { Reads result (call_references_of (map (λ f. f.now) fields.now)) }
@@ -135,7 +135,7 @@ pub fn reference_fields(alloc: Global, fields: &[&[u8]]) -> Result<Refs, ReadErr
     }
 }
 
-// PAYLOAD: `-` for no bytes, or two hexadecimal digits for each of at most 1,024 bytes.
+// Parses PAYLOAD: `-` for no bytes, or two hexadecimal digits for each of at most 1,024 bytes.
 #[tactic(auto, unfolding(crate::specs::Values::payload_of))]
 pub fn payload_field(alloc: Global, field: &[u8]) -> Result<Payload, ReadError>
     ensures { Reads result (payload_of field.now) }
@@ -165,7 +165,7 @@ fn payload(alloc: Global, bytes: &[u8]) -> Result<Payload, ReadError>
     }
 }
 
-// ALLOW: `0` or `1`.
+// Parses ALLOW: `0` or `1`.
 #[tactic(auto, unfolding(crate::specs::Values::flag_of))]
 pub fn flag_field(field: &[u8]) -> Result<bool, ReadError>
     ensures { Reads result (flag_of field.now) }

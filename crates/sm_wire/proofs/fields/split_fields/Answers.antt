@@ -2,11 +2,12 @@ use Rattle.std.proofs.Common.{◌≡◌, ◌≢◌, ◌∙◌, map, ℕ, suc, �
 use Rattle.std.proofs.Common.{◌++◌, arith, Bor, length-drop, inl, inr, append_assoc, refl}
 use Rattle.std.proofs.lemmas.Bool.{cases_lt}
 use Rattle.std.proofs.Math.Seq.{take-length}
+use Rattle.std.proofs.lemmas.Result.{on_ok_weaker}
 use Rattle.std.proofs.lemmas.List.{get_or-drop, drop-drop, map-append}
 use Rattle.sm_wire.specs.Fields.{fields_of}
 use Rattle.sm_wire.proofs.FieldLemmas.{first_field, last_field}
 use Rattle.sm_wire.proofs.fields.split_fields.Goals as goal
-use Rattle.sm_wire.proofs.fields.split_fields.Goals.{then-b-eq32+in_ok-push, else-b-eq32}
+use Rattle.sm_wire.proofs.fields.split_fields.Goals.{then-b-eq32+in_ok-push_field, else-b-eq32}
 
 -- one more field, at a space
 next : (line : List ℕ) (start i : ℕ) → start ≤ i → i < length line → ((k : ℕ) → start + k < i
@@ -41,12 +42,12 @@ still line start i le plain here k h = elim (cases_lt (start + k) i) [
 
 pub loop-i-preserved : goal.loop-i-preserved
 loop-i-preserved c = elim c.if-b-eq32.branch [
-  | then-b-eq32+in_ok-push w ↦ record {
+  | then-b-eq32+in_ok-push_field w ↦ record {
     start = omega arith;
     plain = λ k h. absurd (omega arith);
     fields = rw w.fields-is (more c.args.line.now c.loop-i.fields.items _ c.loop-i.start c.loop-i.i
         c.loop-i.invariant.start c.loop-i-test.true c.loop-i.invariant.plain w.if-b-eq32.true refl
-        c.loop-i.invariant.fields _ w.in_ok-push.ensures.items _ w.start-is);
+        c.loop-i.invariant.fields _ w.in_ok-push_field.ensures _ w.start-is);
   }
   | else-b-eq32 w ↦ record {
     start = omega arith;
@@ -69,5 +70,6 @@ ends line fields part start plain now inv all is =
     rw (is, p, now, whole, ← l) inv
 
 pub returns : goal.returns
-returns c = ends c.args.line.now c.loop-i.fields.items _ c.loop-i.start
-    (λ k h. c.loop-i.invariant.plain k (omega arith)) refl c.loop-i.invariant.fields _ c.in_ok-push-2.ensures.items
+returns c = on_ok_weaker c.push_field-2.result
+    (ends c.args.line.now c.loop-i.fields.items _ c.loop-i.start (λ k h. c.loop-i.invariant.plain k (omega arith)) refl
+    c.loop-i.invariant.fields _) c.push_field-2.ensures
