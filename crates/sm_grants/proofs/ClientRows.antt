@@ -37,7 +37,7 @@ no_row a (r ∷ rs) c h =
       | false ↦ λ f. no_row (a + 1) rs c f
     ] h
 
--- What stands in a client's row.
+-- This is the content of a client's row.
 pub record AtRow (rows : List ClientHandles) (c i : ℕ) : Type 0 where
   pub inside : i < length rows
   pub here : (d : ClientHandles) → (table_of rows c ≡ Some (get_or rows i d).handles) × ((get_or rows i d).client ≡ c)

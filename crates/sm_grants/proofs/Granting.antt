@@ -1,5 +1,5 @@
--- When a grant can be made, in words of the effects.
-use Rattle.std.proofs.Common.{◌≡◌, ℕ, ◌+◌, ◌-◌, ◌<◌, ◌^◌, ◌∷◌, true, false, refl, ap, sym, ◌∙◌, length}
+-- When a grant can be made: in the handles of a client, and in words of the effects.
+use Rattle.std.proofs.Common.{◌≡◌, ℕ, ◌+◌, ◌-◌, ◌<◌, ◌^◌, List, ◌∷◌, true, false, refl, ap, sym, subst, ◌∙◌, length}
 use Rattle.std.proofs.Common.{Option, Some, None, arith}
 use Rattle.std.specs.Prelude.{nat_le}
 use Rattle.std.proofs.lemmas.Bool.Decides.{nat_tests}
@@ -11,8 +11,10 @@ use Rattle.sm_history.specs.Holdings.{refs_at, number_at, is_held, held_nodes, f
 use Rattle.sm_history.proofs.Grants.{count_gives}
 use Rattle.sm_grants.specs.declared.grants.Grants.{Grants}
 use Rattle.sm_grants.specs.declared.held.Held.{Held}
-use Rattle.sm_grants.specs.Slots.{slot, node_of, count_of, held_in}
-use Rattle.sm_grants.specs.Rows.{slots_of, spare_for, Tracks, CanGrant}
+use Rattle.sm_history.specs.declared.limits.TheConstants.{MOST_HANDLES}
+use Rattle.sm_grants.specs.declared.rows.ClientHandles.{ClientHandles}
+use Rattle.sm_grants.specs.Slots.{HandleTable, slot, node_of, count_of, held_in, IsAbsent}
+use Rattle.sm_grants.specs.Rows.{table_of, slots_in, spare_in, slots_of, spare_for, Tracks, CanGrant, CanGrantRow}
 use Rattle.sm_grants.proofs.Tracked.{not_held, held_count}
 use Rattle.sm_grants.proofs.Small.{zero_test}
 
@@ -23,6 +25,34 @@ count_is : (o : Option Held) (n : Node) (refs : Node → ℕ) → node_of o ≡ 
     → ((h : Held) → o ≡ Some h → refs h.node ≡ h.count) → count_of o ≡ refs n
 count_is None n refs here are = cc
 count_is (Some h) n refs here are = let node : h.node ≡ n = cc in sym (are h refl) ∙ ap refs node
+
+-- ---- in the row of a client
+
+-- A grant can be made in one client's handles.
+abbrev pub CanGrantIn : HandleTable → Node → Type 0
+CanGrantIn t n =
+    (IsAbsent t.slots n → (held_in t.slots < MOST_HANDLES) × (0 < t.spare))
+    × ((i : ℕ) → node_of (slot t.slots i) ≡ Some n → count_of (slot t.slots i) < 2 ^ 64 - 1)
+
+pub can_here : (rows : List ClientHandles) (c : ℕ) (n : Node) (t : HandleTable) → table_of rows c ≡ Some t
+    → CanGrantIn t n → CanGrantRow rows c n
+can_here rows c n t at can = record {
+  placed = subst (λ (o : Option HandleTable). IsAbsent (slots_in o) n → (held_in (slots_in o) < MOST_HANDLES)
+      × (0 < spare_in o)) (sym at) can.0;
+  few = subst (λ (o : Option HandleTable). (i : ℕ) → node_of (slot (slots_in o) i) ≡ Some n
+      → count_of (slot (slots_in o) i) < 2 ^ 64 - 1) (sym at) can.1;
+}
+
+pub can_in : (rows : List ClientHandles) (c : ℕ) (n : Node) (t : HandleTable) → table_of rows c ≡ Some t
+    → CanGrantRow rows c n → CanGrantIn t n
+can_in rows c n t at can = (
+  subst (λ (o : Option HandleTable). IsAbsent (slots_in o) n → (held_in (slots_in o) < MOST_HANDLES)
+      × (0 < spare_in o)) at can.placed,
+  subst (λ (o : Option HandleTable). (i : ℕ) → node_of (slot (slots_in o) i) ≡ Some n
+      → count_of (slot (slots_in o) i) < 2 ^ 64 - 1) at can.few,
+)
+
+-- ---- in words of the effects
 
 -- A grant can be made where the client has room for it, there is memory if the object is new, and its count can rise.
 pub can_grant : (d : Effects) (g : Grants) (c : ℕ) (n : Node) (r : ℕ) → Tracks d g → is_live d c ≡ true

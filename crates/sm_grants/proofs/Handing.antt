@@ -1,4 +1,4 @@
--- The references of a call, handed over in order: their numbers, and what stands then.
+-- The references of a call, passed in order: their numbers, and the effects afterwards.
 use Rattle.std.proofs.Common.{◌≡◌, ℕ, Bool, true, false, ◌&&◌, ◌==◌, List, [], ◌∷◌, refl, ap, sym, ◌∙◌, subst, Option}
 use Rattle.std.proofs.Common.{Some, None, if◌then◌else◌}
 use Rattle.std.specs.Prelude.{is_some}
@@ -74,7 +74,7 @@ other_first : (to : ℕ) (n : Node) (os : List (Option Node)) (k : ℕ) (numbers
     → Handle k ∷ given_as to os numbers ≡ given_as to (Some n ∷ os) (k ∷ numbers)
 other_first to n os k numbers e = rw e refl
 
--- What the receiver of a call gets, and what stands after it was handed over.
+-- This is what the receiver of a call gets, and the effects after it was passed.
 pub handed_are : (d : Effects) (from to : ℕ) (rs : List ObjRef) (os : List (Option Node)) → Sound d
     → is_live d to ≡ true → AreNamed d from rs os
     → (given_refs d from to rs ≡ given_as to os (numbers_for d to (others to os)))

@@ -1,4 +1,4 @@
--- How many live clients hold an object.
+-- The number of live clients that hold an object.
 use Rattle.std.proofs.Common.{◌≡◌, ℕ, ◌≤◌, ◌<◌, Bool, true, false, ◌&&◌, ◌||◌, ◌==◌, List, [], ◌∷◌, refl, ap, sym}
 use Rattle.std.proofs.Common.{◌∙◌, subst, length, map, Option, Some, if◌then◌else◌, arith}
 use Rattle.std.specs.Prelude.{nat_lt, nat_eq, not, count_by, cond, filter}
@@ -25,7 +25,7 @@ use Rattle.sm_grants.specs.Holders.{holders_at}
 use Rattle.sm_grants.proofs.ClientRows.{none_table}
 use Rattle.sm_grants.proofs.Tracked.{held_is_in}
 
--- ---- lists of numbers, each of which stands once
+-- ---- lists in which each number is once
 
 flipped : (xs : List ℕ) (n : ℕ) → list_any (nat_eq n) xs ≡ list_any (λ y. y == n) xs
 flipped [] n = refl
@@ -43,7 +43,7 @@ unfolding IsDistinct
 distinct [] once = tt
 distinct (x ∷ xs) once = (all_other x xs once.0, distinct xs once.1)
 
--- Of both lists as many pass a test which only those pass that stand in both.
+-- As many of both lists pass a test, if only numbers in both lists pass it.
 counts_alike : (p : ℕ → Bool) (xs ys : List ℕ) → IsOnce xs → IsOnce ys
     → ((n : ℕ) → p n ≡ true → list_any (λ y. y == n) xs ≡ true)
     → ((n : ℕ) → p n ≡ true → list_any (λ y. y == n) ys ≡ true) → count_by p xs ≡ count_by p ys

@@ -2,7 +2,7 @@
 use Rattle.std.proofs.Common.{inl, inr, ◌≡◌, ℕ, zero, suc, ◌+◌, ◌≤◌, ◌<◌, Bool, true, false, not, ◌&&◌, ◌||◌, ◌==◌}
 use Rattle.std.proofs.Common.{List, [], ◌∷◌, refl, ap, sym, ◌∙◌, subst, length, Option, Some, None, if◌then◌else◌}
 use Rattle.std.proofs.Common.{arith}
-use Rattle.std.specs.Prelude.{is_some, cond, nat_le, nat_lt, MatchOption, IfSome, IsOk, IfOk, OnOk, Result, Ok, Err}
+use Rattle.std.specs.Prelude.{is_some, cond, nat_le, MatchOption, IfSome, IsOk, IfOk, OnOk, Result, Ok, Err}
 use Rattle.std.proofs.lemmas.Bool.{true≢false, cases_lt}
 use Rattle.std.proofs.lemmas.Bool.Decides.{nat_tests}
 use Rattle.std.proofs.lemmas.List.{get_or_past}
@@ -118,13 +118,13 @@ last_indexed p q f g words less n i here put by taken long a = record {
   room = long ∙ a.room;
 }
 
--- ---- how many
+-- ---- counts
 
 some_of : (o : Option Held) → is_some (node_of o) ≡ is_some o
 some_of None = refl
 some_of (Some h) = refl
 
--- So many slots in front are taken: at least as many objects are held.
+-- If the first m slots are in use, at least m objects are held.
 pub taken_front : (m : ℕ) (s : Slots) → ((j : ℕ) → j < m → is_some (slot s j) ≡ true) → m ≤ held_in s
 taken_front zero s all = omega arith
 taken_front (suc m) [] all = absurd (true≢false (sym (all 0 (omega arith))))
@@ -135,7 +135,7 @@ taken_front (suc m) (x ∷ s) all =
     let one = ap (λ (b : Bool). let n : ℕ = cond b 1 0 in n) here in
     omega (arith, i, c, one)
 
--- The first free slot lies within, or just past the end.
+-- The first free slot is within the slots, or just past the end.
 pub free_within : (s : Slots) (f : Index) (words : List ℕ) (many i : ℕ) → AreHandles s f words many
     → held_in s < 65536 → has words i ≡ false → ((j : ℕ) → j < i → has words j ≡ true)
     → (i ≤ length s) × (i < 65536) × (slot s i ≡ None) × ((j : ℕ) → j < i → is_some (slot s j) ≡ true)
@@ -245,7 +245,7 @@ pub ok_if : {A E : Type 0} (r : Result A E) (P : A → Type 0) → IsOk r → If
 ok_if (Ok x) P ok p = (x, p)
 ok_if (Err e) P ok p = absurd (true≢false (sym ok))
 
--- What a new entry adds to how many there are.
+-- A new entry changes the number of entries so.
 pub one_entry : {E : Type 0} (r : Result (Option ℕ) E) (was : Option ℕ) (m n : ℕ) → was ≡ None → IsOk r
     → IfOk r (λ old. old ≡ was) → IfOk r (λ old. n ≡ m + (if is_some old then 0 else 1)) → n ≡ m + 1
 one_entry (Ok None) was m n none ok is len = len
@@ -272,12 +272,6 @@ inside_most s f words many n (Some i) a e =
 pub only_slot : (s : Slots) (f : Index) (words : List ℕ) (many : ℕ) (n : Node) → AreHandles s f words many → (i j : ℕ)
     → node_of (slot s i) ≡ Some n → node_of (slot s j) ≡ Some n → i ≡ j
 only_slot s f words many n a i j p q = some_number i j (sym (a.indexed.index n i p) ∙ a.indexed.index n j q)
-
-pub few_at : (s : Slots) (i j : ℕ) (x : Held) (m : ℕ) → j ≡ i → Some x ≡ slot s i → nat_lt x.count m ≡ true
-    → count_of (slot s j) < m
-few_at s i j x m same at lt =
-    let less : x.count < m = grind (arith, nat_tests) in
-    subst (λ (o : Option Held). count_of o < m) (at ∙ ap (λ (v : ℕ). slot s v) (sym same)) less
 
 pub count_at : (s : Slots) (i j : ℕ) (x : Held) → j ≡ i → Some x ≡ slot s i → x.count ≡ count_of (slot s j)
 count_at s i j x same at =

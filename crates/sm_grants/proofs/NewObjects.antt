@@ -1,4 +1,4 @@
--- How many objects are held after grants in order.
+-- The number of held objects after grants in order.
 use Rattle.std.proofs.Common.{◌≡◌, ℕ, ◌+◌, ◌-◌, ◌≤◌, Bool, true, false, ◌&&◌, ◌||◌, ◌==◌, List, [], ◌∷◌, ◌++◌, refl}
 use Rattle.std.proofs.Common.{ap, sym, ◌∙◌, length, if◌then◌else◌, arith}
 use Rattle.std.specs.Prelude.{nat_le}
@@ -34,7 +34,7 @@ more_case true false c = refl
 more_case false true c = refl
 more_case false false c = refl
 
--- One more of a list counts where it isn't held and didn't stand before.
+-- One more object of a list counts if it isn't held and isn't earlier in the list.
 pub new_more : (p : Node → Bool) (ns : List Node) (n : Node)
     → new_among p (ns ++ n ∷ []) ≡ new_among p ns + (if p n || list_any (λ m. same_node m n) ns then 0 else 1)
 new_more p [] n = elim (p n) as (λ b. (let k : ℕ = (if b then 0 else 1) + 0 in k) ≡ 0 + (if b || false then 0 else 1))

@@ -276,7 +276,7 @@ node_zero d c s t =
           absurd (omega (arith, a, b))
     ] refl
 
--- ---- how many
+-- ---- counts
 
 as_many : (s : Slots) → length (nodes_in s) ≡ held_in s
 as_many [] = refl

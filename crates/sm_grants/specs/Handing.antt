@@ -16,13 +16,13 @@ AreNamed d from (r ∷ rs) [] = ⊥
 AreNamed d from (r ∷ rs) (o ∷ os) = (resolve_at d from r ≡ o) × (is_null r ≡ false → is_some o ≡ true)
     × AreNamed d from rs os
 
--- Those that the receiver doesn't own, which need handles.
+-- These are the objects that the receiver doesn't own, which need handles.
 abbrev pub others : ℕ → List (Option Node) → List Node
 others to [] = []
 others to (None ∷ os) = others to os
 others to (Some n ∷ os) = if n.owner.0 == to then others to os else n ∷ others to os
 
--- What the receiver gets, with numbers for those that need handles.
+-- The receiver gets these references, with numbers for those that need handles.
 abbrev pub given_as : ℕ → List (Option Node) → List ℕ → List Given
 given_as to [] numbers = []
 given_as to (None ∷ os) numbers = Null ∷ given_as to os numbers

@@ -11,52 +11,56 @@ use Rattle.sm_grants.specs.declared.grants.Grants.{Grants}
 use Rattle.sm_grants.specs.Slots.{Slots, slot, node_of, count_of, held_in, IsAbsent, HandleTable}
 use Rattle.sm_grants.specs.Tracking.{TracksSlots}
 
--- The handles in the first row of a client.
+-- These are the handles in the first row of a client.
 abbrev pub table_of : List ClientHandles → ℕ → Option HandleTable
 table_of [] c = None
 table_of (r ∷ rs) c = if r.client == c then Some r.handles else table_of rs c
 
--- The place of that row, counted from a.
+-- This is the index of that row, counted from a.
 abbrev pub index_from : ℕ → List ClientHandles → ℕ → Option ℕ
 index_from a [] c = None
 index_from a (r ∷ rs) c = if r.client == c then Some a else index_from (a + 1) rs c
 
+-- These are the slots of handles, if there are any.
 abbrev pub slots_in : Option HandleTable → Slots
 slots_in None = []
 slots_in (Some t) = t.slots
 
+-- This is the number of new objects for which handles have room, if there are any.
 abbrev pub spare_in : Option HandleTable → ℕ
 spare_in None = 0
 spare_in (Some t) = t.spare
 
+-- These are the slots of a client.
 abbrev pub slots_of : List ClientHandles → ℕ → Slots
 slots_of rows c = slots_in (table_of rows c)
 
--- For how many new objects of a client there is memory.
+-- A client's handles have room for this many new objects without an allocation.
 abbrev pub spare_of : List ClientHandles → ℕ → ℕ
 spare_of rows c = spare_in (table_of rows c)
 
--- The rows are what the clients hold.
+-- The rows have what the clients hold.
 pub record TracksRows (d : Effects) (rows : List ClientHandles) : Type 0 where
   pub balanced : IsBalanced d
   pub live : IsOnce (live_clients d)
   pub slots : (c : ℕ) → TracksSlots d c (slots_of rows c)
   pub once : IsOnce (map (λ r. r.client) rows)
 
--- A grant that takes no memory: there is room for a new object, and the count of a held one can grow.
+-- A grant allocates nothing: there is room for a new object, and the count of a held one can go up.
 pub record CanGrantRow (rows : List ClientHandles) (c : ℕ) (n : Node) : Type 0 where
   pub placed : IsAbsent (slots_of rows c) n → (held_in (slots_of rows c) < MOST_HANDLES) × (0 < spare_of rows c)
   pub few : (i : ℕ) → node_of (slot (slots_of rows c) i) ≡ Some n → count_of (slot (slots_of rows c) i) < 2 ^ 64 - 1
 
--- ---- of the table
+-- ---- the table
 
--- The table is what the clients hold after the effects.
+-- The table has what the clients hold after the effects.
 abbrev pub Tracks : Effects → Grants → Type 0
 Tracks d g = TracksRows d g.rows.items
 
+-- A grant to client c allocates nothing.
 abbrev pub CanGrant : Grants → ℕ → Node → Type 0
 CanGrant g c n = CanGrantRow g.rows.items c n
 
--- For how many new objects of a client there is memory.
+-- A client's handles have room for this many new objects without an allocation.
 abbrev pub spare_for : Grants → ℕ → ℕ
 spare_for g c = spare_of g.rows.items c

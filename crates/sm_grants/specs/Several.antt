@@ -10,34 +10,36 @@ use Rattle.sm_history.specs.Holdings.{number_for}
 use Rattle.sm_grants.specs.declared.held.Held.{Held}
 use Rattle.sm_grants.specs.Slots.{Slots, slot, node_of, IsAbsent, IsNumberFor, granted_slot}
 
--- What stands after objects were granted to a client in order.
+-- These are the effects after objects were granted to a client in order.
 abbrev pub after_grants : Effects → ℕ → List Node → Effects
 after_grants d c [] = d
 after_grants d c (n ∷ ns) = after_grants (Gives c n (number_for d c n) ∷ d) c ns
 
--- The numbers of these grants: each is that of the object where the client holds it by then, else the least free one.
+-- These are the numbers of the grants: each is that of the object if the client holds it by then, otherwise the least
+-- free one.
 abbrev pub numbers_for : Effects → ℕ → List Node → List ℕ
 numbers_for d c [] = []
 numbers_for d c (n ∷ ns) = number_for d c n ∷ numbers_for (Gives c n (number_for d c n) ∷ d) c ns
 
--- How many of the objects aren't held, each counted once.
+-- This is the number of objects that aren't held, each counted once.
 abbrev pub new_among : (Node → Bool) → List Node → ℕ
 new_among held [] = 0
 new_among held (n ∷ ns) = (if held n then 0 else 1) + new_among (λ m. same_node n m || held m) ns
 
--- ---- in slots
+-- ---- slots
 
--- The slots with x at i.
+-- These are the slots with x at i.
 abbrev pub put_at : Slots → ℕ → Option Held → Slots
 put_at [] zero x = x ∷ []
 put_at [] (suc i) x = None ∷ put_at [] i x
 put_at (y ∷ s) zero x = x ∷ s
 put_at (y ∷ s) (suc i) x = y ∷ put_at s i x
 
--- The slots after one grant under a number.
+-- These are the slots after one grant under a number.
 abbrev pub with_grant : Slots → Node → ℕ → Slots
 with_grant s n r = put_at s (r - 1) (granted_slot n (slot s (r - 1)))
 
+-- These are the slots after grants in order.
 abbrev pub with_grants : Slots → List Node → List ℕ → Slots
 with_grants s [] rs = s
 with_grants s (n ∷ ns) [] = s
@@ -50,8 +52,8 @@ AreNumbersFor s [] (r ∷ rs) = ⊥
 AreNumbersFor s (n ∷ ns) [] = ⊥
 AreNumbersFor s (n ∷ ns) (r ∷ rs) = IsNumberFor s n r × AreNumbersFor (with_grant s n r) ns rs
 
--- The slots t are the slots s after grants of ns under rs. Those below `behind` are taken, and those from it on are
--- as free as they were.
+-- The slots t are the slots s after grants of ns under rs. Those below `behind` are in use, and those from it on are as
+-- free as they were.
 pub record Along (s t : Slots) (ns : List Node) (rs : List ℕ) (behind : ℕ) : Type 0 where
   pub kept : (j : ℕ) (n : Node) → node_of (slot s j) ≡ Some n → node_of (slot t j) ≡ Some n
   pub given : (p : ℕ) (n : Node) → p < length ns

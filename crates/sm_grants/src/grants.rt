@@ -1,6 +1,6 @@
 //! The handles of all clients.
 
-ghost use Rattle.std.specs.Prelude.{◌≡◌, ◌≤◌, ◌<◌, ◌+◌, ◌++◌, [], ◌∷◌, true, false, ◌==◌, ◌↔◌, ◌||◌, not, ℕ, min, max, nat_lt, length, is_some, Some, OnOk, IsOk, IfOk, IfSome, MatchOption, IsTrue};
+ghost use Rattle.std.specs.Prelude.{◌≡◌, ◌≤◌, ◌<◌, ◌+◌, ◌++◌, [], ◌∷◌, true, false, ◌==◌, ◌↔◌, ◌||◌, not, ℕ, min, max, nat_lt, length, is_some, Some, OnOk, IsOk, IsSome, IfOk, IfNone, IfSome, MatchOption};
 ghost use Rattle.std.specs.List.{list_any};
 ghost use Rattle.sm_kinds.specs.declared.number.Node.{Node};
 ghost use Rattle.sm_kinds.specs.declared.limits.TheConstants.{MOST_REFS};
@@ -21,7 +21,7 @@ use sm_history::{Held as Listed, MOST_HANDLES};
 use sm_kinds::{ClientId, Node, ObjRef};
 use std::alloc::{AllocError, Global};
 
-/// Which client holds which object, under which number, and how often.
+/// The handles of all clients: who holds which object, under which number, and how often.
 #[derive(Drop)]
 pub struct Grants {
     alloc: Global,
@@ -34,7 +34,7 @@ pub struct Grants {
 impl Grants {
     ghost use Rattle.sm_grants.specs.Rows.{slots_of, Tracks, CanGrant, spare_for};
 
-    /// No handles.
+    /// Makes an empty table.
     pub fn new(alloc: Global) -> Grants
         ensures { Tracks [] result }
     {
@@ -49,7 +49,7 @@ impl Grants {
     ///
     /// # Errors
     ///
-    /// An error where memory was refused.
+    /// An error if an allocation fails.
     pub fn reserve(&mut self, client: u32, n: usize) -> Result<(), AllocError>
         ensures same { (d : Effects) → Tracks d self.old → Tracks d self.new }
         ensures room { OnOk result (n ≤ spare_for self.new client) }
@@ -74,33 +74,28 @@ impl Grants {
         }
     }
 
-    /// One grant of an object that the client doesn't own: the number of its handle.
-    pub fn grant(&mut self, client: u32, node: Node) -> u32
-        requires { CanGrant self.old client node }
+    /// Grants an object that the client doesn't own once, and returns the number of its handle. Returns `None` and
+    /// changes nothing if there is no number or memory for it, or its count is at its greatest value.
+    pub fn grant(&mut self, client: u32, node: Node) -> Option<u32>
+        ensures ready { IsSome result ↔ CanGrant self.old client node }
+        ensures unchanged { IfNone result (self.new.rows.items ≡ self.old.rows.items) }
         ensures tracks { (d : Effects) → Tracks d self.old → is_live d client ≡ true
-            → (result ≡ number_for d client node) × Tracks (Gives client node result ∷ d) self.new }
+            → IfSome result (λ number. (number ≡ number_for d client node) × Tracks (Gives client node number ∷ d) self.new) }
         ensures spare { spare_for self.old client ≤ spare_for self.new client + 1 }
         ensures others { (k : ℕ) → (client == k) ≡ false → spare_for self.new k ≡ spare_for self.old k }
     {
         let Some(i) = row_of(&self.rows, client) else {
-            return 0;
+            return None;
+        };
+        let row = &mut self.rows[i];
+        let Some(number) = row.handles.grant(node) else {
+            return None;
         };
         self.bound = self.bound.saturating_add(1);
-        let row = &mut self.rows[i];
-        row.handles.grant(node)
+        Some(number)
     }
 
-    /// Whether one grant of an object takes no memory, has a number and can be counted.
-    pub fn is_ready(&self, client: u32, node: Node) -> bool
-        ensures { IsTrue result ↔ CanGrant self.now client node }
-    {
-        match handles_of(&self.rows, client) {
-            Some(handles) => handles.is_ready(node),
-            None => false,
-        }
-    }
-
-    /// Gives back one grant of what the client holds under a number. The last one frees the number.
+    /// Releases one grant of what the client holds under a number. The last release frees the number.
     pub fn release(&mut self, client: u32, number: u32) -> Option<Node>
         ensures tracks { (d : Effects) → Tracks d self.old → (result ≡ node_at d client number)
             × MatchOption result (Tracks d self.new) (λ n. Tracks (Releases client n ∷ d) self.new) }
@@ -120,7 +115,7 @@ impl Grants {
         Some(held.node)
     }
 
-    /// Forgets what a client holds, at its death.
+    /// Removes what a client holds, at its death.
     pub fn forget(&mut self, client: u32)
         ensures tracks { (d : Effects) → Tracks d self.old → Tracks (Dies client ∷ d) self.new }
         ensures others { (k : ℕ) → (client == k) ≡ false → spare_for self.new k ≡ spare_for self.old k }
@@ -130,7 +125,7 @@ impl Grants {
         }
     }
 
-    /// The object that a client's reference names.
+    /// Returns the object that a client's reference names.
     pub fn resolve(&self, client: u32, obj: ObjRef) -> Option<Node>
         ensures { (d : Effects) → Tracks d self.now → result ≡ resolve_at d client obj }
     {
@@ -144,7 +139,7 @@ impl Grants {
         }
     }
 
-    /// The object that a client holds under a number.
+    /// Returns the object that a client holds under a number.
     pub fn node(&self, client: u32, number: u32) -> Option<Node>
         ensures { (d : Effects) → Tracks d self.now → result ≡ node_at d client number }
     {
@@ -160,8 +155,8 @@ impl Grants {
         Some(held.node)
     }
 
-    /// The number of a client's handle for an object, or the one that a grant would give it, from 1: 65,537 where
-    /// all are taken.
+    /// Returns the number of a client's handle for an object, or the one that a grant would give it, from 1. It is
+    /// 65,537 if all numbers are in use.
     pub fn number_for(&self, client: u32, node: Node) -> u32
         ensures { (d : Effects) → Tracks d self.now → result ≡ number_for d client node }
     {
@@ -171,11 +166,11 @@ impl Grants {
         }
     }
 
-    /// What a client holds under each number, from 0 on.
+    /// Returns what a client holds under each number, from 0 on.
     ///
     /// # Errors
     ///
-    /// An error where memory was refused.
+    /// An error if an allocation fails.
     pub fn listed(&self, alloc: Global, client: u32) -> Result<Vec<Option<Listed>>, AllocError>
         ensures { IfOk result (λ v. (d : Effects) → Tracks d self.now → (k : ℕ) → row_slot v.items k ≡ slot_at d client k) }
     {
@@ -185,7 +180,7 @@ impl Grants {
         }
     }
 
-    /// How often an object was granted to a client and not released: 0 where it isn't held.
+    /// Returns the number of grants of an object that a client hasn't released, 0 if it doesn't hold the object.
     pub fn count(&self, client: u32, node: Node) -> u64
         ensures { (d : Effects) → Tracks d self.now → result ≡ refs_at d client node }
     {
@@ -195,25 +190,28 @@ impl Grants {
         }
     }
 
-    /// A number that no client's count of grants of an object exceeds: the number of grants so far, at most `u64::MAX`.
+    /// Returns a number that no client's count of grants of an object exceeds: the number of grants so far, at most
+    /// `u64::MAX`.
     pub fn count_bound(&self) -> u64
         ensures { (d : Effects) → Tracks d self.now → (c : ℕ) (n : Node) → refs_at d c n ≤ result }
     {
         self.bound
     }
 
-    /// Whether a client's handles have room for one grant of an object that it doesn't own.
-    pub fn fits(&self, client: u32, node: Node) -> bool
-        ensures { (d : Effects) (r : ℕ) → Tracks d self.now → is_live d client ≡ true
-            → result ≡ fits_handles (Gives client node r ∷ d) client }
+    /// Returns the number of a client's handle for an object that it doesn't own, or the one that a grant would give it,
+    /// `None` if its handles have no room for a grant.
+    pub fn number_if_room(&self, client: u32, node: Node) -> Option<u32>
+        ensures room { (d : Effects) (r : ℕ) → Tracks d self.now → is_live d client ≡ true
+            → is_some result ≡ fits_handles (Gives client node r ∷ d) client }
+        ensures number { (d : Effects) → Tracks d self.now → IfSome result (λ number. number ≡ number_for d client node) }
     {
         match handles_of(&self.rows, client) {
-            Some(handles) => handles.fits(node),
-            None => true,
+            Some(handles) => handles.number_if_room(node),
+            None => Some(1),
         }
     }
 
-    /// How many live clients other than `except` hold an object, at most `u32::MAX`.
+    /// Returns the number of live clients other than `except` that hold an object, at most `u32::MAX`.
     pub fn holders(&self, node: Node, except: u32) -> u32
         ensures count { (d : Effects) → Tracks d self.now → result ≡ min (holders_at d except node) u32.MAX }
         ensures in_use { (d : Effects) → Tracks d self.now → nat_lt 0 result ≡ is_in_use d except node }
@@ -222,11 +220,11 @@ impl Grants {
         count.min(u32::MAX as usize) as u32
     }
 
-    /// The numbers of a client's handles where objects that it doesn't own are granted to it in order.
+    /// Returns the numbers of a client's handles if objects that it doesn't own are granted to it in order.
     ///
     /// # Errors
     ///
-    /// An error where the memory for the numbers was refused.
+    /// An error if the numbers can't be allocated.
     pub fn numbers(
         &self,
         alloc: Global,
@@ -253,7 +251,7 @@ impl Grants {
         Ok(numbers)
     }
 
-    /// Whether a client's handles have room for objects that it doesn't own, all granted in order.
+    /// Returns whether a client's handles have room for objects that it doesn't own, all granted in order.
     pub fn room(&self, client: u32, nodes: &[Node]) -> bool
         ensures { (d : Effects) → Tracks d self.now → is_live d client ≡ true
             → result ≡ fits_handles (after_grants d client nodes.now) client }
@@ -261,8 +259,8 @@ impl Grants {
         self.count_new(client, nodes) <= MOST_HANDLES - self.len_of(client)
     }
 
-    /// The number of an object behind grants of others, and the slot from which on slots are as free as
-    /// before these grants.
+    /// Returns the number of an object after grants of others, and the slot from which on slots are as free as before
+    /// these grants.
     fn number_behind(
         &self,
         client: u32,
@@ -290,7 +288,7 @@ impl Grants {
         (free as u32 + 1, free + 1)
     }
 
-    /// How many of the objects a client doesn't hold, each counted once.
+    /// Returns the number of objects that a client doesn't hold, each counted once.
     fn count_new(&self, client: u32, nodes: &[Node]) -> usize
         ensures { result ≡ new_among (is_in (slots_of self.now.rows.items client)) nodes.now }
     {
@@ -303,14 +301,14 @@ impl Grants {
         count
     }
 
-    /// Whether a client doesn't hold an object, and it isn't among earlier ones.
+    /// Returns whether a client doesn't hold an object that isn't among earlier ones, either.
     fn is_new(&self, client: u32, earlier: &[Node], node: Node) -> bool
         ensures { result ≡ not (is_in (slots_of self.now.rows.items client) node || list_any (λ n. same_node n node) earlier.now) }
     {
         !self.holds(client, node) && place_of(earlier, node).is_none()
     }
 
-    /// The slot of an object that a client holds.
+    /// Returns the slot of an object that a client holds.
     fn index_of(&self, client: u32, node: Node) -> Option<u32>
         ensures found { MatchOption result (IsAbsent (slots_of self.now.rows.items client) node)
             (λ i. node_of (slot (slots_of self.now.rows.items client) i) ≡ Some node) }
@@ -322,7 +320,7 @@ impl Grants {
         }
     }
 
-    /// Whether a client holds an object.
+    /// Returns whether a client holds an object.
     fn holds(&self, client: u32, node: Node) -> bool
         ensures { result ≡ is_in (slots_of self.now.rows.items client) node }
     {
@@ -332,7 +330,7 @@ impl Grants {
         }
     }
 
-    /// A client's first free slot from `from` on.
+    /// Returns a client's first free slot from `from` on.
     fn free_from(&self, client: u32, from: usize) -> usize
         ensures behind { from ≤ result }
         ensures free { is_some (slot (slots_of self.now.rows.items client) result) ≡ false }
@@ -345,7 +343,7 @@ impl Grants {
         }
     }
 
-    /// How many objects a client holds.
+    /// Returns the number of objects that a client holds.
     fn len_of(&self, client: u32) -> usize
         ensures is { result ≡ held_in (slots_of self.now.rows.items client) }
         ensures most { result ≤ MOST_HANDLES }

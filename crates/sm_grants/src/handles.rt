@@ -1,11 +1,11 @@
-//! The handles of one client.
+//! Handles of one client.
 
 use std::marker::Model;
 
-/// A client's handles: by number, by object, and the numbers that are taken.
+/// A client's handles: by number, by object, and the numbers in use.
 ///
-/// A slot, an index and a row of bits: an object is found by its hash, a number by its place,
-/// and the least free number by words of 64 numbers.
+/// Slots, an index and a row of bits: an object is found by its hash, a number by its slot, and the least free number
+/// by words of 64 numbers.
 #[derive(Drop)]
 pub struct Handles {
     slots: Vec<Option<Held>>,
@@ -27,7 +27,7 @@ impl Model for Handles {
     ghost invariant = { λ h. AreHandles h.slots.items (λ k. hash.get same_key h.numbers k) h.taken (hash.hash_map_len h.numbers) };
 }
 
-ghost use Rattle.std.specs.Prelude.{◌≡◌, ℕ, ◌+◌, ◌-◌, ◌≤◌, ◌<◌, ◌^◌, ◌++◌, map, option_map, true, false, is_some, Some, None, [], IfOk, IsOk, max, IfSome, IsTrue, nat_lt, OnOk, MatchOption};
+ghost use Rattle.std.specs.Prelude.{◌≡◌, ℕ, ◌+◌, ◌-◌, ◌≤◌, ◌<◌, ◌^◌, ◌++◌, map, option_map, true, false, is_some, Some, None, [], ◌↔◌, IfOk, IsOk, IsSome, max, IfNone, IfSome, IsTrue, nat_lt, OnOk, MatchOption};
 ghost use Rattle.sm_grants.specs.Listed.{listed, listed_slots};
 ghost use Rattle.sm_grants.specs.Slots.{slot, node_of, count_of, held_in, is_in, IsPut, IsAbsent, IsFirstFree, granted_slot, released_slot, IsGranted, IsNumberFor};
 
@@ -39,7 +39,7 @@ use sm_kinds::Node;
 use std::alloc::{AllocError, Global};
 use std::collections::HashMap;
 
-/// What slots have, behind a list.
+/// Appends what slots have to a list.
 fn append_slots(list: &mut Vec<Option<Listed>>, slots: &[Option<Held>]) -> Result<(), AllocError>
     ensures { OnOk result (list.new.items ≡ list.old.items ++ map (option_map listed) slots.now) }
 {
@@ -49,7 +49,7 @@ fn append_slots(list: &mut Vec<Option<Listed>>, slots: &[Option<Held>]) -> Resul
     Ok(())
 }
 
-/// What a slot has, in a row's words.
+/// Returns what a slot has, as a segment's row has it.
 fn listed_slot(slot: Option<Held>) -> Option<Listed>
     ensures { result ≡ option_map listed slot }
 {
@@ -63,11 +63,11 @@ fn listed_slot(slot: Option<Held>) -> Option<Listed>
 }
 
 impl Handles {
-    /// No handles.
+    /// Makes an empty table.
     ///
     /// # Errors
     ///
-    /// An error where memory was refused.
+    /// An error if an allocation fails.
     pub fn new(alloc: Global) -> Result<Handles, AllocError>
         ensures { IfOk result (λ h. h.slots ≡ []) }
     {
@@ -83,7 +83,7 @@ impl Handles {
     ///
     /// # Errors
     ///
-    /// An error where memory was refused.
+    /// An error if an allocation fails.
     pub fn reserve(&mut self, n: usize) -> Result<(), AllocError>
         ensures slots { self.new.slots ≡ self.old.slots }
         ensures room { OnOk result (n ≤ self.new.spare) }
@@ -94,29 +94,30 @@ impl Handles {
         self.numbers.reserve(n)
     }
 
-    /// What is in a slot.
+    /// Returns what is in a slot.
     pub fn at(&self, i: usize) -> Option<Held>
         ensures { result ≡ slot self.now.slots i }
     {
         self.slots.get(i).copied().flatten()
     }
 
-    /// The slot of an object.
+    /// Returns the slot of an object.
     pub fn index_of(&self, node: Node) -> Option<u32>
         ensures found { MatchOption result (IsAbsent self.now.slots node) (λ i. node_of (slot self.now.slots i) ≡ Some node) }
         ensures small { IfSome result (λ i. i < MOST_HANDLES) }
+        ensures alone { (i j : ℕ) → node_of (slot self.now.slots i) ≡ Some node → node_of (slot self.now.slots j) ≡ Some node → i ≡ j }
     {
         self.numbers.get(&(node.owner.0, node.object)).copied()
     }
 
-    /// Whether an object is held.
+    /// Returns whether an object is held.
     pub fn holds(&self, node: Node) -> bool
         ensures { result ≡ is_in self.now.slots node }
     {
         self.index_of(node).is_some()
     }
 
-    /// The first free slot from `from` on; slots go on past the last number that a handle can have.
+    /// Returns the first free slot from `from` on; slots continue past the last number that a handle can have.
     pub fn free_from(&self, from: usize) -> usize
         ensures behind { from ≤ result }
         ensures free { is_some (slot self.now.slots result) ≡ false }
@@ -126,11 +127,11 @@ impl Handles {
         self.taken.first_free_from(from)
     }
 
-    /// What is held under each number, from 0 on.
+    /// Returns what is held under each number, from 0 on.
     ///
     /// # Errors
     ///
-    /// An error where memory was refused.
+    /// An error if an allocation fails.
     pub fn listed(&self, alloc: Global) -> Result<Vec<Option<Listed>>, AllocError>
         ensures { IfOk result (λ v. v.items ≡ listed_slots self.now.slots) }
     {
@@ -140,7 +141,7 @@ impl Handles {
         Ok(list)
     }
 
-    /// How many objects are held.
+    /// Returns the number of held objects.
     pub fn len(&self) -> usize
         ensures is { result ≡ held_in self.now.slots }
         ensures most { result ≤ MOST_HANDLES }
@@ -148,7 +149,7 @@ impl Handles {
         self.numbers.len()
     }
 
-    /// One more grant of a held object.
+    /// Grants a held object once more.
     pub fn grant_again(&mut self, i: usize)
         requires held { is_some (slot self.old.slots i) ≡ true }
         requires few { count_of (slot self.old.slots i) < 2 ^ 64 - 1 }
@@ -158,7 +159,7 @@ impl Handles {
         add_one(&mut self.slots, i);
     }
 
-    /// The first grant of an object.
+    /// Grants an object for the first time, and returns its number.
     pub fn grant_new(&mut self, node: Node) -> u32
         requires absent { IsAbsent self.old.slots node }
         requires fits { held_in self.old.slots < MOST_HANDLES }
@@ -175,7 +176,7 @@ impl Handles {
         i as u32
     }
 
-    /// Gives back one grant of several.
+    /// Releases one grant of several.
     fn release_one(&mut self, i: usize)
         requires { 1 < count_of (slot self.old.slots i) }
         ensures put { IsPut self.old.slots self.new.slots i (released_slot (slot self.old.slots i)) }
@@ -184,7 +185,7 @@ impl Handles {
         take_one(&mut self.slots, i);
     }
 
-    /// Gives back the last grant of an object.
+    /// Releases the last grant of an object.
     fn release_last(&mut self, i: usize, node: Node)
         requires { node_of (slot self.old.slots i) ≡ Some node }
         ensures put { IsPut self.old.slots self.new.slots i None }
@@ -195,7 +196,7 @@ impl Handles {
         self.taken.remove(i);
     }
 
-    /// Gives back one grant of what is in a slot.
+    /// Releases one grant of what is in a slot.
     pub fn release(&mut self, i: usize)
         ensures put { IsPut self.old.slots self.new.slots i (released_slot (slot self.old.slots i)) }
         ensures spare { self.old.spare ≤ self.new.spare }
@@ -209,28 +210,60 @@ impl Handles {
         }
     }
 
-    /// One grant of an object: its number, or the least free one.
-    pub fn grant(&mut self, node: Node) -> u32
-        requires placed { IsAbsent self.old.slots node → (held_in self.old.slots < MOST_HANDLES) × (0 < self.old.spare) }
-        requires few { (i : ℕ) → node_of (slot self.old.slots i) ≡ Some node → count_of (slot self.old.slots i) < 2 ^ 64 - 1 }
-        ensures granted { IsGranted self.old.slots self.new.slots node result }
+    /// Returns whether there are a number and memory for a new object.
+    fn has_room(&self) -> bool
+        ensures { IsTrue result ↔ ((held_in self.now.slots < MOST_HANDLES) × (0 < self.now.spare)) }
+    {
+        self.numbers.len() < MOST_HANDLES
+            && self.slots.len() < self.slots.capacity()
+            && self.numbers.len() < self.numbers.capacity()
+    }
+
+    /// Returns whether one more grant of what is in a slot can be counted.
+    fn can_count(&self, i: usize) -> bool
+        requires { is_some (slot self.now.slots i) ≡ true }
+        ensures { IsTrue result ↔ (count_of (slot self.now.slots i) < 2 ^ 64 - 1) }
+    {
+        match self.at(i) {
+            Some(held) => held.count < u64::MAX,
+            None => false,
+        }
+    }
+
+    /// Grants an object once, and returns its number, or else the least free one. Returns `None` and changes nothing if
+    /// there is no number or memory for it, or its count is at its greatest value.
+    pub fn grant(&mut self, node: Node) -> Option<u32>
+        ensures placed { IsSome result → IsAbsent self.old.slots node → (held_in self.old.slots < MOST_HANDLES) × (0 < self.old.spare) }
+        ensures few { IsSome result → (i : ℕ) → node_of (slot self.old.slots i) ≡ Some node → count_of (slot self.old.slots i) < 2 ^ 64 - 1 }
+        ensures all { (IsAbsent self.old.slots node → (held_in self.old.slots < MOST_HANDLES) × (0 < self.old.spare))
+            → ((i : ℕ) → node_of (slot self.old.slots i) ≡ Some node → count_of (slot self.old.slots i) < 2 ^ 64 - 1)
+            → IsSome result }
+        ensures granted { IfSome result (IsGranted self.old.slots self.new.slots node) }
+        ensures unchanged { IfNone result (self.new ≡ self.old) }
         ensures spare { self.old.spare ≤ self.new.spare + 1 }
     {
         match self.index_of(node) {
             Some(i) => {
+                if !self.can_count(i as usize) {
+                    return None;
+                }
                 self.grant_again(i as usize);
-                i + 1
+                Some(i + 1)
             }
-            None => self.grant_new(node) + 1,
+            None => {
+                if !self.has_room() {
+                    return None;
+                }
+                Some(self.grant_new(node) + 1)
+            }
         }
     }
 
-    /// How often an object was granted and not released: 0 where it isn't held.
+    /// Returns the number of grants of an object that weren't released, 0 if it isn't held.
     pub fn count(&self, node: Node) -> u64
         ensures absent { IsAbsent self.now.slots node → result ≡ 0 }
         ensures held { (i : ℕ) → node_of (slot self.now.slots i) ≡ Some node → result ≡ count_of (slot self.now.slots i) }
     {
-        let _ = &self.slots;
         match self.index_of(node) {
             Some(i) => match self.at(i as usize) {
                 Some(held) => held.count,
@@ -240,7 +273,7 @@ impl Handles {
         }
     }
 
-    /// The number of an object, or the least free one.
+    /// Returns the number of an object, or the least free one.
     pub fn number_for(&self, node: Node) -> u32
         ensures { IsNumberFor self.now.slots node result }
     {
@@ -250,32 +283,21 @@ impl Handles {
         }
     }
 
-    /// Whether one grant of an object takes no memory and has a number.
-    pub fn is_ready(&self, node: Node) -> bool
-        ensures placed { IsTrue result → IsAbsent self.now.slots node → (held_in self.now.slots < MOST_HANDLES) × (0 < self.now.spare) }
-        ensures few { IsTrue result → (i : ℕ) → node_of (slot self.now.slots i) ≡ Some node → count_of (slot self.now.slots i) < 2 ^ 64 - 1 }
-        ensures all { (IsAbsent self.now.slots node → (held_in self.now.slots < MOST_HANDLES) × (0 < self.now.spare))
-            → ((i : ℕ) → node_of (slot self.now.slots i) ≡ Some node → count_of (slot self.now.slots i) < 2 ^ 64 - 1)
-            → IsTrue result }
+    /// Returns the number of an object, or the least free one, `None` if it isn't held and no more objects can be.
+    pub fn number_if_room(&self, node: Node) -> Option<u32>
+        ensures absent { IsAbsent self.now.slots node → is_some result ≡ nat_lt (held_in self.now.slots) MOST_HANDLES }
+        ensures held { (i : ℕ) → node_of (slot self.now.slots i) ≡ Some node → IsSome result × (held_in self.now.slots ≤ MOST_HANDLES) }
+        ensures number { IfSome result (IsNumberFor self.now.slots node) }
     {
         match self.index_of(node) {
-            Some(i) => match self.at(i as usize) {
-                Some(held) => held.count < u64::MAX,
-                None => false,
-            },
+            Some(i) => Some(i + 1),
             None => {
-                self.numbers.len() < MOST_HANDLES
-                    && self.slots.len() < self.slots.capacity()
-                    && self.numbers.len() < self.numbers.capacity()
+                if self.numbers.len() < MOST_HANDLES {
+                    Some(self.taken.first_free() as u32 + 1)
+                } else {
+                    None
+                }
             }
         }
-    }
-
-    /// Whether an object is held, or one more can be.
-    pub fn fits(&self, node: Node) -> bool
-        ensures absent { IsAbsent self.now.slots node → result ≡ nat_lt (held_in self.now.slots) MOST_HANDLES }
-        ensures held { (i : ℕ) → node_of (slot self.now.slots i) ≡ Some node → IsTrue result × (held_in self.now.slots ≤ MOST_HANDLES) }
-    {
-        self.numbers.len() < MOST_HANDLES || self.index_of(node).is_some()
     }
 }

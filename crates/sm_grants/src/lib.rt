@@ -1,6 +1,6 @@
-//! Handles: which client holds which object, under which number, and how often.
+//! The handles of clients: who holds which object, under which number, and how often.
 //!
-//! A table of handles is what the effects of a history say of grants and releases.
+//! A table of handles has what the effects of a history say of grants and releases.
 #![tactic(auto)]
 
 mod grants;

@@ -1,5 +1,6 @@
-use Rattle.std.proofs.Common.{◌∙◌}
-use Rattle.sm_grants.proofs.Indexed.{index_found, inside_most}
+use Rattle.std.proofs.Common.{◌≡◌, ℕ, Some, subst, ◌∙◌}
+use Rattle.sm_grants.specs.Slots.{slot, node_of, HandleTable}
+use Rattle.sm_grants.proofs.Indexed.{index_found, inside_most, only_slot}
 use Rattle.sm_grants.proofs.handles.Handles.index_of.Goals as goal
 
 pub returns-clause-found : goal.returns-clause-found
@@ -10,3 +11,8 @@ returns-clause-found c = rw (← c.self.view_is)
 pub returns-clause-small : goal.returns-clause-small
 returns-clause-small c = inside_most c.self.inside.slots.items _ _ _ c.args.node c.copied.result c.self.invariant
     (c.copied.ensures ∙ c.get.ensures.value)
+
+pub returns-clause-alone : goal.returns-clause-alone
+returns-clause-alone c = subst (λ (t : HandleTable). (i j : ℕ) → node_of (slot t.slots i) ≡ Some c.args.node
+    → node_of (slot t.slots j) ≡ Some c.args.node → i ≡ j) c.self.view_is
+    (only_slot c.self.inside.slots.items _ _ _ c.args.node c.self.invariant)
