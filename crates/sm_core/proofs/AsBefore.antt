@@ -1,4 +1,4 @@
--- Telling a watcher leaves what is asked before other watchers are told.
+-- Notifying a watcher leaves what is read before other watchers are notified.
 use Rattle.std.proofs.Common.{◌≡◌, ℕ, ◌+◌, Bool, true, false, ◌==◌, List, ◌∷◌, refl}
 use Rattle.std.proofs.Common.{ap, sym, ◌∙◌, subst, length, if◌then◌else◌, arith}
 use Rattle.std.specs.Prelude.{nat_le}
@@ -41,7 +41,7 @@ number_other e k n r c s other =
     (number_gives e k n r c n ∙ rw other refl)
     (free_alike (Gives k n r ∷ e) e c (held_other e k n r c s other) (numbers_other e k n r c other) (s.single c))
 
--- How many objects a client holds where one more was handed to it.
+-- This is the number of objects that a client holds after one more was passed to it.
 count_handed : (d : Effects) (c : ℕ) (n : Node) → Sound d → is_live d c ≡ true
     → length (held_nodes (handed d c n) c)
     ≡ (if n.owner.0 == c then length (held_nodes d c)
@@ -98,7 +98,7 @@ fits_now e c n s s' live other =
     ∙ rw (other, held_now e c n (number_for e c n) s live) refl
     ∙ ap (λ (x : Effects). length (held_nodes x c)) (sym now))
 
--- ---- what was told
+-- ---- notices
 
 pub before_gives : (d e : Effects) (n : Node) (k : ℕ) → AsBefore d e n → is_live d k ≡ true → (n.owner.0 == k) ≡ false
     → AsBefore d (Gives k n (number_for e k n) ∷ e) n

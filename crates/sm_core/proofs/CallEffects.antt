@@ -36,7 +36,7 @@ use Rattle.sm_core.specs.Judging.{AllPass, IsPlan, Judged, wanted}
 use Rattle.sm_core.specs.Calling.{Sends, gives_of, sent, target_checks}
 use Rattle.sm_core.proofs.CallChecks.{call_passes}
 
--- ---- how many
+-- ---- counts
 
 pub numbers_many : (d : Effects) (k : ℕ) (ns : List Node) → length (numbers_for d k ns) ≡ length ns
 numbers_many d k [] = refl
@@ -57,7 +57,7 @@ others_few k (Some n ∷ os) =
     elim (n.owner.0 == k) as (λ b. length (if b then others k os else n ∷ others k os) ≤ length (Some n ∷ os))
     [ true ↦ omega (arith, i) | false ↦ omega (arith, i) ]
 
--- ---- what stands then
+-- ---- the effects afterwards
 
 followed_gives : (d : Effects) (k : ℕ) (ns : List Node) (x : Effect)
     → followed d (gives_of k ns (numbers_for d k ns) ++ x ∷ []) ≡ x ∷ after_grants d k ns
@@ -165,7 +165,7 @@ call_plan m d c handle n payload refs named plan at s live are room fits sends =
       sound = tt;
     }
 
--- Behind all checks, a call is as it was planned, or memory was wanted.
+-- After all checks, a call is as it was planned, or an allocation failed.
 pub call_judged : (h : History) (old one new : List Record) (c handle : ℕ) (n : Node) (payload : List ℕ)
     (refs : List ObjRef) (named : List (Option Node)) (result : Result Plan Stop)
     → let d = effects_of h in let m = moment_of h in AllPass m old one (target_checks d c (node_at d c handle))

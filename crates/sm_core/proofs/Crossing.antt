@@ -11,8 +11,8 @@ use Rattle.std.specs.contracts.option.Option as Option
 use Rattle.std.specs.contracts.snapshot.Snapshot as Snapshot
 use Rattle.std.specs.contracts.sync.Arc as Arc
 use Rattle.sm_policy.proofs.Crossing.{prepared_send, prepared_sync}
-use Rattle.sm_history.specs.contracts.by.By as By
 use Rattle.sm_history.specs.contracts.entry.Entry as Entry
+use Rattle.sm_history.specs.contracts.turn.TurnRow as TurnRow
 use Rattle.sm_names.specs.contracts.services.Services as Services
 use Rattle.sm_names.proofs.services.Services.TheSendSync as ServicesCross
 use Rattle.sm_core.specs.contracts.client.ClientRow as ClientRow
@@ -44,11 +44,11 @@ u64_send = search sendable depth 20
 pub u64_sync : IsSync Field.u64-field.row
 u64_sync = search sendable depth 20
 
-by_send : IsSend By.the_row
-by_send = search sendable depth 20
+turn_row_send : IsSend TurnRow.the_row
+turn_row_send = search sendable depth 20
 
-by_sync : IsSync By.the_row
-by_sync = search sendable depth 20
+turn_row_sync : IsSync TurnRow.the_row
+turn_row_sync = search sendable depth 20
 
 pub client_send : IsSend ClientRow.the_row
 client_send = recorded_send _ _ _ ClientRow.the_type.to_one ClientRowCrosses.the_field_send
@@ -77,12 +77,12 @@ people_sync =
 tally_send : IsSend Tally.the_field.row
 tally_send =
     struct_send (struct.shape Tally.the_type)
-    (Arc-send Turns.the_row turns_send turns_sync, (Vec-send By.the_row by_send, tt))
+    (Arc-send Turns.the_row turns_send turns_sync, (Vec-send TurnRow.the_row turn_row_send, tt))
 
 tally_sync : IsSync Tally.the_field.row
 tally_sync =
     struct_sync (struct.shape Tally.the_type)
-    (Arc-sync Turns.the_row turns_send turns_sync, (Vec-sync By.the_row by_sync, tt))
+    (Arc-sync Turns.the_row turns_send turns_sync, (Vec-sync TurnRow.the_row turn_row_sync, tt))
 
 journal_send : IsSend (Snapshot.the_row Journal.the_row)
 journal_send = search (sendable, crosses) depth 20

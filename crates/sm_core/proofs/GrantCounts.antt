@@ -39,7 +39,7 @@ one_first false n = omega arith
 
 -- ---- effects that give something back
 
--- How many of some effects give something back, or make a client.
+-- This is the number of effects that release something, or make a client.
 abbrev backs : List Effect → ℕ
 backs [] = 0
 backs (x ∷ xs) = if gives_back x then backs xs + 1 else backs xs
@@ -239,7 +239,7 @@ refs_one d (Unwatches w) s may h k m = omega arith
 refs_one d (Delivers c x) s may h k m = omega arith
 refs_one d (Takes c) s may h k m = omega arith
 
--- Where nothing is given back, each count rises by what is granted.
+-- If nothing is released, each count rises by what is granted.
 refs_all : (d : Effects) (xs : List Effect) → Sound d → MayAllApart d xs → backs xs ≡ 0 → (k : ℕ) (m : Node)
     → refs_at (followed d xs) k m ≡ refs_at d k m + given_in k m xs
 refs_all d [] s may none k m = omega arith

@@ -2,7 +2,7 @@
 use Rattle.std.proofs.Common.{◌≡◌, ℕ, ◌+◌, ◌≤◌, ◌==◌, false, List, [], ◌∷◌, refl, ap, sym, ◌∙◌, length, arith}
 use Rattle.std.specs.Prelude.{◌≢◌}
 use Rattle.std.proofs.lemmas.Bool.{true≢false}
-use Rattle.std.proofs.lemmas.List.Elements.{All-nil, All-weaker}
+use Rattle.std.proofs.lemmas.List.Elements.{All-weaker}
 use Rattle.sm_history.specs.declared.by.By.{By}
 use Rattle.sm_history.specs.declared.entry.Entry.{Entry}
 use Rattle.sm_history.specs.declared.records.Record.{Record}
@@ -41,20 +41,6 @@ small_number places h turns s k some =
     let numbered = k.numbered in
     let length = small_length places h turns s k in
     omega (arith, one, numbered, length)
-
--- Nothing is asked of no records.
-pub kept_unrecorded : (places : ℕ) (h : History) (turns : Turns) (s : State) (ring : List Record)
-    → Kept places h turns s ring → Kept places h turns s []
-kept_unrecorded places h turns s ring k = record {
-  lawful = k.lawful;
-  numbered = k.numbered;
-  fits = k.fits;
-  few = k.few;
-  turns_are = k.turns_are;
-  admins_are = k.admins_are;
-  stands = k.stands;
-  true_records = All-nil (IsTrueSince h);
-}
 
 pub kept_sealed : (places : ℕ) (h h' : History) (turns turns' : Turns) (s : State) (ring : List Record)
     → Kept places h turns s ring → h.entries ≢ [] → h' ≡ sealed h

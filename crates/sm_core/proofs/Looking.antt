@@ -25,7 +25,8 @@ use Rattle.sm_history.specs.Queries.{checks_of_query, looked, query_verdict}
 use Rattle.sm_history.specs.Records.{moment_of, records, query_records}
 use Rattle.sm_view.specs.Replies.{takes_memory}
 use Rattle.sm_core.specs.Judging.{Halts, AllPass, asked, IsAskerStop, wanted}
-use Rattle.sm_core.specs.Managed.{LooksAs, is_memory, look_leaves}
+use Rattle.sm_core.specs.Managed.{is_memory, look_leaves}
+use Rattle.sm_view.specs.Promises.{Looks}
 use Rattle.sm_core.proofs.Stopping.{failing_is, left_is}
 use Rattle.sm_core.proofs.Keeping.{stop_records}
 
@@ -39,7 +40,7 @@ stopped_reply b by q new s reply e is = is ∙ sym (ap (looked b.history q)
 -- Where the query takes memory, that may have been what stopped it.
 look_wants : (b : Book) (by : By) (q : Query) (new : List Record) (s : Stop) (reply : Reply)
     → Halts (moment_of b.history) [] new (checks_of_query b.history by q) s
-    → (reply ≡ Refused Memory) ⊎ (reply ≡ answer_of s) → takes_memory q ≡ true → LooksAs b by q reply
+    → (reply ≡ Refused Memory) ⊎ (reply ≡ answer_of s) → takes_memory q ≡ true → Looks b by q reply
 look_wants b by q new s reply halts (inl w) takes = inl (w, takes)
 look_wants b by q new s reply (inl w) (inr is) takes = inl (is ∙ ap answer_of w, takes)
 look_wants b by q new s reply (inr e) (inr is) takes = inr (stopped_reply b by q new s reply e is)
@@ -47,7 +48,7 @@ look_wants b by q new s reply (inr e) (inr is) takes = inr (stopped_reply b by q
 -- Else only the asker stops it.
 look_asked : (b : Book) (by : By) (q : Query) (new : List Record) (s : Stop) (reply : Reply) (f : Failure)
     → Halts (moment_of b.history) [] new (checks_of_query b.history by q) s → s ≡ Unmet (Refuses (Failed f))
-    → reply ≡ answer_of s → LooksAs b by q reply
+    → reply ≡ answer_of s → Looks b by q reply
 look_asked b by q new s reply f (inl w) is answers = cc
 look_asked b by q new s reply f (inr e) is answers = inr (stopped_reply b by q new s reply e answers)
 
@@ -55,9 +56,9 @@ look_asked b by q new s reply f (inr e) is answers = inr (stopped_reply b by q n
 pub look_stops : (b : Book) (by : By) (q : Query) (new : List Record) (s : Stop) (reply : Reply)
     → Halts (moment_of b.history) [] new (checks_of_query b.history by q) s
     → (reply ≡ Refused Memory) ⊎ (reply ≡ answer_of s) → ((i : Instead) → s ≡ Unmet i → reply ≡ answer_of s)
-    → (takes_memory q ≡ false → IsAskerStop s) → LooksAs b by q reply
+    → (takes_memory q ≡ false → IsAskerStop s) → Looks b by q reply
 look_stops b by q new s reply halts answers unmet asker =
-    elim (takes_memory q) as (λ t. takes_memory q ≡ t → LooksAs b by q reply) [
+    elim (takes_memory q) as (λ t. takes_memory q ≡ t → Looks b by q reply) [
       | true ↦ λ takes. look_wants b by q new s reply halts answers takes
       | false ↦ λ none. elim (asker none) [
         | inl is ↦ look_asked b by q new s reply NotYours halts is (unmet (Refuses (Failed NotYours)) is)
@@ -75,18 +76,18 @@ pub query_passed : (h : History) (by : By) (q : Query) (new : List Record)
     → AllPass (moment_of h) [] new (checks_of_query h by q) → new ≡ query_records h by q
 query_passed h by q new e = sym (left_is (moment_of h) [] new (checks_of_query h by q) None e)
 
--- The records of an event that was stopped, and not for want of memory.
+-- These are the records of an event that was refused, unless by a failed allocation.
 pub event_left : (places : ℕ) (h : History) (by : By) (turn : ℕ) (event : Event) (new : List Record) (s : Stop)
     → Halts (moment_of h) [] new (checks places h by turn event) s → (s ≡ wanted → ⊥)
     → new ≡ records places h by turn event
 event_left places h by turn event new s (inl w) other = absurd (other w)
 event_left places h by turn event new s (inr e) other = stop_records places h by turn event new s e
 
--- What isn't said to want memory doesn't.
+-- A stop that isn't called a failed allocation is none.
 pub not_wanted : (b : Bool) (s : Stop) → (IsTrue b ↔ (s ≡ wanted)) → b ≡ false → s ≡ wanted → ⊥
 not_wanted b s both isnt w = true≢false (sym (both.1 w) ∙ isnt)
 
--- What isn't answered as want of memory wasn't stopped by it.
+-- A reply other than `Memory` doesn't come from a failed allocation.
 other_stop : (s : Stop) (reply : Reply) → (reply ≡ Refused Memory) ⊎ (reply ≡ answer_of s) → is_memory reply ≡ false
     → s ≡ wanted → ⊥
 other_stop s reply (inl is) other w = true≢false (sym (ap is_memory is) ∙ other)

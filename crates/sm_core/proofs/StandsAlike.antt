@@ -1,4 +1,4 @@
--- Tables that stand for effects stand for all effects that leave the same.
+-- Tables of effects are also those of all effects that leave the same.
 use Rattle.std.proofs.Common.{Some, ◌-◌, ◌≡◌, ℕ, ◌+◌, ◌<◌, Bool, true, false, List, [], ◌∷◌, refl, ap, sym, subst, ◌∙◌, map}
 use Rattle.std.proofs.Common.{if◌then◌else◌, arith}
 use Rattle.std.specs.Prelude.{nat_lt, filter, bytes_eq, reverse, filter_map, count_by}
@@ -20,14 +20,18 @@ use Rattle.sm_grants.specs.Tracking.{TracksSlots}
 use Rattle.sm_grants.specs.Rows.{TracksRows, slots_of}
 use Rattle.sm_grants.specs.declared.rows.ClientHandles.{ClientHandles}
 use Rattle.sm_names.specs.declared.names.Names.{Names}
+use Rattle.sm_names.specs.declared.row.NameRow.{NameRow}
+use Rattle.sm_names.specs.Rows.{TracksRows as TracksServices}
 use Rattle.sm_names.specs.Tracking.{TracksNames}
 use Rattle.sm_inbox.specs.declared.inboxes.Inboxes.{Inboxes}
 use Rattle.sm_inbox.specs.Tracking.{TracksInboxes}
 use Rattle.sm_core.specs.declared.client.ClientRow.{ClientRow}
+use Rattle.sm_core.specs.declared.people.People.{People}
 use Rattle.sm_core.specs.declared.process.Process.{Process}
 use Rattle.sm_core.specs.declared.state.State.{State}
 use Rattle.sm_core.specs.Stands.{Stands}
 use Rattle.sm_core.specs.Tables.{process_under, process_at, client_row, client_rows}
+use Rattle.sm_core.specs.Viewing.{StandPeople}
 
 lt_test : (a : ℕ) → 0 < a → nat_lt 0 a ≡ true
 lt_test a h = grind (arith, nat_tests)
@@ -57,12 +61,16 @@ grants_alike d e rows a s tr = record {
   once = tr.once;
 }
 
+pub services_alike : (d e : Effects) (rows : List NameRow) → Agree d e → TracksServices d rows
+    → TracksServices e rows
+services_alike d e rows a tr = record {
+  services = λ name. tr.services name ∙ a.services name;
+  rises = tr.rises;
+}
+
 names_alike : (d e : Effects) (t : Names) → Agree d e → TracksNames d t → TracksNames e t
 names_alike d e t a tr = record {
-  services = record {
-    services = λ name. tr.services.services name ∙ a.services name;
-    rises = tr.services.rises;
-  };
+  services = services_alike d e t.services.rows.items a tr.services;
   watches = record {
     watchers = λ name. tr.watches.watchers name
         ∙ ap (filter (λ (w : Watch). bytes_eq w.name name)) a.watches;
@@ -98,6 +106,14 @@ rows_alike d e a =
     (process_alike d e (identity_at e k) a))
     ∙ ap (map (client_row e)) a.live_list
 
+pub people_alike : (d e : Effects) (p : People) → Agree d e → StandPeople d p → StandPeople e p
+people_alike d e p a s = record {
+  manager = s.manager ∙ process_alike d e (manager_at d) a ∙ ap (process_at e) a.manager;
+  policy = s.policy ∙ a.policy;
+  version = s.version ∙ a.version;
+  clients = s.clients ∙ rows_alike d e a;
+}
+
 pub stands_alike : (d e : Effects) (s : State) → Agree d e → Sound e → Stands d s → Stands e s
 stands_alike d e s a sound t = record {
   sound = sound;
@@ -113,7 +129,7 @@ stands_alike d e s a sound t = record {
   foreign = λ c n held. t.foreign c n (ap (nat_lt 0) (a.refs c n) ∙ held);
 }
 
--- The tables stand for what is left behind a seal.
+-- The tables are those after a seal.
 pub stands_sealed : (h : History) (s : State) → Stands (effects_of h) s → Stands (effects_of (sealed h)) s
 stands_sealed h s t =
     let d = effects_of h in

@@ -1,4 +1,4 @@
--- Watchers are told in order.
+-- Watchers are notified in order.
 use Rattle.std.proofs.Common.{◌≡◌, ℕ, suc, ◌+◌, ◌<◌, Bool, true, List, [], ◌∷◌, ◌++◌}
 use Rattle.std.proofs.Common.{ap, sym, ◌∙◌, length, drop, get_or, append_assoc, arith}
 use Rattle.std.specs.List.{list_all}

@@ -1,4 +1,4 @@
--- One watcher is told, or isn't.
+-- One watcher is notified, or isn't.
 use Rattle.std.proofs.Common.{◌≡◌, ℕ, ◌+◌, ◌-◌, inl, inr, Bool, true, false, ◌&&◌, ◌||◌, ◌==◌}
 use Rattle.std.proofs.Common.{List, [], ◌∷◌, ◌++◌, refl, ap, sym, ◌∙◌, subst, length, Option}
 use Rattle.std.proofs.Common.{Some, None, if◌then◌else◌, cond, arith, append-nil, length-append}
@@ -102,7 +102,7 @@ delivered_may d n xs c x m live room = record {
   none_dies = none_more is_death xs (Delivers c x ∷ []) m.none_dies refl;
 }
 
--- ---- the object is handed over
+-- ---- the object is passed
 
 record IsHanded (d : Effects) (n : Node) (xs : List Effect) (c : ℕ) (g : Given) : Type 0 where
   may : MayTell d n (xs ++ gives_of c n g)
@@ -197,7 +197,7 @@ free_other f c x k taken other =
 
 -- ---- one watcher
 
--- A watcher is told, where the checks hold.
+-- A watcher is notified if the checks hold.
 pub tells : (h : History) (n : Node) (w : Watch) (old new : Telling) (mid : List Record) (left : ℕ) (g : Given)
     (x : Delivery) → let d = effects_of h in IsTelling d n old → is_live d w.client ≡ true
     → left ≡ left_at d old w.client
@@ -267,7 +267,7 @@ tells h n w old new mid left g x t live is asks noted given told items counts =
       },
     )
 
--- A watcher isn't told, where a check fails.
+-- A watcher isn't notified if a check fails.
 pub tells_not : (h : History) (n : Node) (w : Watch) (old new : Telling) (left : ℕ) (s : Stop) (r : Reason)
     → let d = effects_of h in new.effects ≡ old.effects → new.left ≡ old.left → IsTelling d n old
     → is_live d w.client ≡ true → left ≡ left_at d old w.client

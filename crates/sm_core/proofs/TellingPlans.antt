@@ -1,4 +1,4 @@
--- Plans of what watchers are told.
+-- Plans of notices to watchers.
 use Rattle.std.proofs.Common.{◌≡◌, ℕ, inl, Bool, true, false, ◌||◌, List, [], ◌∷◌, Option}
 use Rattle.std.proofs.Common.{Some, None, refl, ap, sym, ◌∙◌, subst, length}
 use Rattle.std.specs.Prelude.{nat_lt, MatchResult, Result, Ok, Err}
@@ -44,7 +44,7 @@ last_of_none (x ∷ xs) h =
       | false ↦ λ e f. ((λ t. absurd (true≢false (sym t ∙ e))), last_of_none xs f)
     ] refl h
 
--- What was told is a plan.
+-- The notices are a plan.
 told_plan : (m : Moment) (d : Effects) (c : ℕ) (event : Event) (plan : Plan) (after : Effects)
     → plan.records ≡ left_by_telling m d c event → Tells d after plan → plan.outcome ≡ outcome_of d c event
     → after ≡ after_event d c event → HasSoundPolicy event → IsPlan m d c event plan
@@ -72,7 +72,7 @@ precede_watches d n xs w s live few is = subst (MayPrecede d n) (sym is) (record
   inboxes = λ c. refl;
 })
 
--- A plan that is made, or memory that is wanted, is a judgement where the checks hold.
+-- A plan that is made, or a failed allocation, is a judgement if the checks hold.
 judged : (m : Moment) (old new : List Record) (d : Effects) (c : ℕ) (event : Event) (r : Result Plan Stop)
     (P : Plan → Type 0) (checks : List Check)
     → AllPass m old new checks → ((plan : Plan) → P plan → IsPlan m d c event plan)

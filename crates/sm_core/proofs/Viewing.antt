@@ -10,13 +10,16 @@ use Rattle.sm_history.specs.declared.effect.Effect.TheVariants.{Resumes}
 use Rattle.sm_history.specs.Effects.{Effects}
 use Rattle.sm_history.specs.Following.{MayFollowApart, MayAllApart, followed}
 use Rattle.sm_history.specs.Histories.{History, effects_of, entered, length_of, turn_of}
+use Rattle.sm_history.specs.Segments.{sealed}
 use Rattle.sm_history.specs.Openings.{is_same}
+use Rattle.sm_history.specs.declared.turn.TurnRow.{TurnRow}
 use Rattle.sm_history.specs.Sound.{Sound}
 use Rattle.sm_history.specs.declared.by.By.{By}
 use Rattle.sm_history.specs.declared.limits.TheConstants.{GREATEST}
 use Rattle.sm_history.proofs.Fits.{fits_any}
-use Rattle.sm_history.proofs.HistoryLaws.{turns_small}
-use Rattle.sm_history.proofs.NumbersFit.{numbers_fit}
+use Rattle.sm_history.proofs.Induction.{sound_lawful}
+use Rattle.sm_history.proofs.NumbersFit.{numbers_fit, sealed_lawful, sealed_fits}
+use Rattle.sm_history.proofs.RowsSound.{sim_rows}
 use Rattle.sm_history.proofs.LawfulLaws.{turn_more, turn_same}
 use Rattle.sm_names.specs.declared.services.Services.{Services}
 use Rattle.sm_core.specs.declared.ready.Ready.{Ready}
@@ -31,6 +34,7 @@ use Rattle.sm_names.specs.declared.row.NameRow.{NameRow}
 use Rattle.sm_names.specs.Rows.{TracksRows}
 use Rattle.sm_names.proofs.Others.{same_rows}
 use Rattle.sm_core.specs.declared.people.People.{People}
+use Rattle.sm_core.proofs.StandsAlike.{people_alike, services_alike}
 use Rattle.sm_core.specs.Viewing.{IsComing, StandPeople, Viewed, counted_in, moves_people, moves_services}
 
 -- ---- effects that a part doesn't hear of
@@ -119,7 +123,7 @@ gone P d xs left is g = subst P (ap (followed g.0) (sym is) ∙ g.4) g.2
 
 -- The parts of a view of what there is now.
 pub viewed_now : (places : ℕ) (h : History) (turns : Turns) (s : State) (len : ℕ) (people : People)
-    (services : Services) (base : Turns) (since : List By)
+    (services : Services) (base : Turns) (since : List TurnRow)
     → Kept places h turns s [] → len ≡ length_of h
     → ((d : Effects) → Stands d s → StandPeople d people)
     → ((d : Effects) → Stands d s → TracksRows d services.rows.items)
@@ -137,7 +141,7 @@ viewed_now places h turns s len people services base since k is asks named count
 
 -- The parts of a view of what there is once an event is committed.
 pub viewed_more : (places : ℕ) (h : History) (turns : Turns) (s : State) (r : Ready) (len : ℕ)
-    (people people' : People) (services services' : Services) (base base' : Turns) (since since' : List By)
+    (people people' : People) (services services' : Services) (base base' : Turns) (since since' : List TurnRow)
     → Kept places h turns s [] → IsComing places h s.version r → Viewed places h len people services base since
     → ((d : Effects) → Stands d s → StandPeople d people → MayAllApart d r.effects.items
     → StandPeople (followed d r.effects.items) people')
@@ -162,18 +166,28 @@ viewed_more places h turns s r len people people' services services' base base' 
           ] refl;
     }
 
--- The counts of a view are below the greatest number, and so is its length.
+-- The parts of a view of what a seal leaves. People and services stay.
+pub viewed_sealed : (places : ℕ) (h : History) (len : ℕ) (people : People) (services : Services) (base base' : Turns)
+    (since since' : List TurnRow) → Viewed places h len people services base since
+    → ((by : By) → counted_in base' since' by ≡ turn_of (sealed h) by)
+    → Viewed places (sealed h) len people services base' since'
+viewed_sealed places h len people services base base' since since' v counts =
+    let d = effects_of h in
+    let sim = sim_rows d (sound_lawful places h v.lawful) in
+    let is = v.length_is in record {
+      lawful = sealed_lawful places h v.lawful;
+      fits = sealed_fits places h v.fits;
+      few = v.few;
+      length_is = omega (arith, is);
+      asks = people_alike d (effects_of (sealed h)) people sim.agree v.asks;
+      named = services_alike d (effects_of (sealed h)) services.rows.items sim.agree v.named;
+      turns = counts;
+    }
+
+-- The length of a view is below the greatest number.
 pub viewed_length : (places : ℕ) (h : History) (len : ℕ) (people : People) (services : Services) (base : Turns)
-    (since : List By) → Viewed places h len people services base since → len < GREATEST
+    (since : List TurnRow) → Viewed places h len people services base since → len < GREATEST
 viewed_length places h len people services base since v =
     let fits = (numbers_fit places h v.lawful).lengths in
     let is = v.length_is in
     omega (arith, fits, is)
-
-pub viewed_turns : (places : ℕ) (h : History) (len : ℕ) (people : People) (services : Services) (base : Turns)
-    (since : List By) (by : By) → Viewed places h len people services base since → counted_in base since by < GREATEST
-viewed_turns places h len people services base since by v =
-    let fits = (numbers_fit places h v.lawful).lengths in
-    let few = turns_small places h v.lawful by in
-    let are = v.turns by in
-    omega (arith, fits, few, are)

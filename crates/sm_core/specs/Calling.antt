@@ -20,7 +20,7 @@ use Rattle.sm_grants.specs.Several.{after_grants, numbers_for}
 use Rattle.sm_grants.specs.Handing.{others, given_as}
 use Rattle.sm_core.specs.declared.plan.Plan.{Plan}
 
--- The checks of a call up to its references, by the object that the handle names.
+-- These are the checks of a call up to its references, by the object of the handle.
 abbrev pub target_checks : Effects → ℕ → Option Node → List Check
 target_checks d c node =
     Wants (is_some node) (Refused (Failed BadHandle))
@@ -28,23 +28,23 @@ target_checks d c node =
     ∷ to_client d c (found node).owner.0 calling
     ∷ []
 
--- The checks of a reference to client k that isn't null, by the object that it names.
+-- These are the checks of a reference to client k that isn't null, by the object that it names.
 abbrev pub passing_checks : Effects → ℕ → ℕ → Option Node → List Check
 passing_checks d c k node =
     Wants (is_some node) (Refused (Failed BadHandle)) ∷ to_client d c k transferring ∷ []
 
--- The check of a receiver's room for a delivery and for handles to these objects.
+-- This is the check of a receiver's room for a delivery and for handles to these objects.
 abbrev pub room_check : Effects → ℕ → List Node → List Check
 room_check d k nodes =
     Wants (has_inbox_room d k && fits_handles (after_grants d k nodes) k) (Refused (Failed TargetFull)) ∷ []
 
--- Grants of objects under these numbers, in order.
+-- These are grants of objects under these numbers, in order.
 abbrev pub gives_of : ℕ → List Node → List ℕ → List Effect
 gives_of k [] rs = []
 gives_of k (n ∷ ns) [] = []
 gives_of k (n ∷ ns) (r ∷ rs) = Gives k n r ∷ gives_of k ns rs
 
--- What a call of client c delivers to the owner of an object, from the objects that its references name.
+-- A call of client c delivers this to the owner of an object, by the objects that its references name.
 abbrev pub sent : Effects → ℕ → Node → List ℕ → List (Option Node) → Delivery
 sent d c n payload named =
     let who = identity_at d c in
@@ -52,7 +52,7 @@ sent d c n payload named =
     let refs = given_as k named (numbers_for d k (others k named)) in
     record { object = n.object; what = Called who.pid who.uid payload refs }
 
--- A call's plan, from the objects that its references name.
+-- This is a call's plan, by the objects that its references name.
 pub record Sends (d : Effects) (c : ℕ) (n : Node) (payload : List ℕ) (named : List (Option Node)) (plan : Plan)
     : Type 0 where
   pub records : plan.records ≡ []

@@ -1,4 +1,4 @@
--- What stops a request, in little room.
+-- Why a request makes no change, in a small value.
 use Rattle.std.specs.Box.{box_value}
 use Rattle.sm_history.specs.declared.stop.Stop.{Stop}
 use Rattle.sm_history.specs.declared.stop.Stop.TheVariants.{Unmet}
@@ -10,7 +10,7 @@ use Rattle.sm_core.specs.declared.halt.Plain.TheVariants as plain
 use Rattle.sm_core.specs.declared.halt.Held.{Held}
 use Rattle.sm_core.specs.declared.halt.Held.TheVariants as held
 
--- What is answered to a condition that has no text.
+-- This is the answer for a failed condition without texts.
 abbrev pub instead_of : Plain → Instead
 instead_of plain.GotNull = answered.GotNull
 instead_of (plain.GotOwn object) = answered.GotOwn object
@@ -23,7 +23,7 @@ instead_of (plain.VersionMoved version) = answered.Refused (refused.VersionMoved
 instead_of plain.JournalFull = answered.Refused refused.JournalFull
 instead_of plain.Memory = answered.Refused refused.Memory
 
--- The stop that is kept.
+-- This is the stop that is stored.
 abbrev pub stop_of : Held → Stop
 stop_of (held.Plain p) = Unmet (instead_of p)
 stop_of (held.Whole s) = box_value s

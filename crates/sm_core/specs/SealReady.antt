@@ -1,4 +1,4 @@
--- What is ready for a seal.
+-- Seals that were made ready.
 use Rattle.std.specs.Prelude.{◌≡◌, ◌≢◌, []}
 use Rattle.sm_history.specs.declared.by.By.{By}
 use Rattle.sm_history.specs.Histories.{turn_of}
@@ -7,7 +7,7 @@ use Rattle.sm_core.specs.declared.sealing.ReadySeal.{ReadySeal}
 use Rattle.sm_core.specs.Counting.{admins_in, made}
 use Rattle.sm_core.specs.Managed.{Managed}
 
--- The open segment has changes, and the next one and its counts are there.
+-- The open segment has changes, and the next one and its counts are made.
 pub record IsReadySeal (m : Managed) (r : ReadySeal) : Type 0 where
   pub some : m.book.history.entries ≢ []
   pub opens : r.journal.history ≡ sealed m.book.history

@@ -1,4 +1,4 @@
--- Telling watchers: what is asked of the state before the first of them was told.
+-- Notifying watchers, in terms of the state before the first notice.
 use Rattle.std.specs.Prelude.{ℕ, ◌-◌, ◌≡◌, true, false, ◌&&◌, nat_lt, nat_eq}
 use Rattle.std.specs.Prelude.{List, [], ◌∷◌, ◌++◌, Option, length, unwrap_or}
 use Rattle.std.specs.List.{list_any}
@@ -28,7 +28,7 @@ use Rattle.sm_core.specs.Stands.{is_death}
 use Rattle.sm_core.specs.declared.plan.Plan.{Plan}
 use Rattle.sm_core.specs.declared.telling.Telling.{Telling}
 
--- The checks of a notice, where so many deliveries still fit into the watcher's inbox.
+-- These are the checks of a notice, if this many deliveries still fit into the watcher's inbox.
 abbrev pub told_checks : Effects → Node → Watch → ℕ → List Check
 told_checks d n w left =
     to_label d w.client w.name finding
@@ -37,20 +37,20 @@ told_checks d n w left =
     ∷ Wants (nat_lt 0 left && fits_handles (handed d w.client n) w.client) (Refused (Failed TargetFull))
     ∷ []
 
--- The grant by which an object reaches a client.
+-- This is the grant by which an object reaches a client.
 abbrev pub gives_of : ℕ → Node → Given → List Effect
 gives_of c n (Handle r) = Gives c n r ∷ []
 gives_of c n _ = []
 
--- What a watcher is told, where the object reaches it so.
+-- A watcher gets this delivery, with the object as it reaches it.
 abbrev pub told_to : Watch → Given → Delivery
 told_to w g = record { object = w.object; what = Registered w.name g }
 
--- How many deliveries fit into a client's inbox.
+-- This many deliveries fit into a client's inbox.
 abbrev pub free_at : Effects → ℕ → ℕ
 free_at d c = MOST_DELIVERIES - length (inbox_at d c)
 
--- Effects e which, since d, have only told watchers of an object n, as far as rules and handles are asked of them.
+-- Since d, effects e have only notified watchers of an object n, as far as rules and handles see.
 pub record AsBefore (d e : Effects) (n : Node) : Type 0 where
   pub sound : Sound e
   pub policy : policy_at e ≡ policy_at d
@@ -60,42 +60,43 @@ pub record AsBefore (d e : Effects) (n : Node) : Type 0 where
   pub numbers : (c : ℕ) → is_live d c ≡ true → number_for e c n ≡ number_for d c n
   pub fits : (c : ℕ) → is_live d c ≡ true → fits_handles (handed e c n) c ≡ fits_handles (handed d c n) c
 
--- Effects that may be put onto d, and tell of n alone.
+-- These effects may be put onto d, and concern only n.
 pub record MayTell (d : Effects) (n : Node) (xs : List Effect) : Type 0 where
   pub before : AsBefore d (followed d xs) n
   pub may : MayAllApart d xs
   pub none_dies : list_any is_death xs ≡ false
 
--- How many deliveries still fit into an inbox, where it was told.
+-- This many deliveries still fit into an inbox of a notified client.
 abbrev pub left_in : Telling → ℕ → Option ℕ
 left_in t c = get nat_eq t.left c
 
+-- This many deliveries still fit into a client's inbox.
 abbrev pub left_at : Effects → Telling → ℕ → ℕ
 left_at d t c = unwrap_or (left_in t c) (free_at d c)
 
--- What stands while watchers of n are told.
+-- This holds while watchers of n are being notified.
 pub record IsTelling (d : Effects) (n : Node) (t : Telling) : Type 0 where
   pub may : MayTell d n t.effects.items
   pub left : (c : ℕ) → is_live d c ≡ true → left_at d t c ≡ free_at (followed d t.effects.items) c
 
--- One more watcher was told, or wasn't.
+-- One more watcher was notified, or wasn't.
 pub record GoesOn (m : Moment) (d : Effects) (n : Node) (w : Watch) (old new : Telling) : Type 0 where
   pub records : new.records ≡ old.records ++ left_by_all m (notice_checks (followed d old.effects.items) n w)
   pub telling : IsTelling d n new
   pub after : followed d new.effects.items ≡ after_notice (followed d old.effects.items) n w
 
--- Watchers were told, or weren't, in order.
+-- Watchers were notified, or weren't, in order.
 pub record GoesFar (m : Moment) (d : Effects) (n : Node) (ws : List Watch) (old new : Telling) : Type 0 where
   pub records : new.records ≡ old.records ++ left_by_notices m (followed d old.effects.items) n ws
   pub telling : IsTelling d n new
   pub after : followed d new.effects.items ≡ after_notices (followed d old.effects.items) n ws
 
--- Effects that may be put onto d before watchers of n are told, and put nothing into an inbox.
+-- These effects may be put onto d before watchers of n are notified, and put nothing into an inbox.
 pub record MayPrecede (d : Effects) (n : Node) (xs : List Effect) : Type 0 where
   pub may : MayTell d n xs
   pub inboxes : (c : ℕ) → inbox_at (followed d xs) c ≡ inbox_at d c
 
--- A plan of what was told, apart from its outcome.
+-- This is a plan of notices, apart from its outcome.
 pub record Tells (d after : Effects) (plan : Plan) : Type 0 where
   pub told : plan.told ≡ plan.outcome
   pub effects : followed d plan.effects.items ≡ after

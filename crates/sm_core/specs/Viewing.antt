@@ -1,5 +1,6 @@
--- What a view is of, and what its parts say.
-use Rattle.std.specs.Prelude.{ℕ, ◌≡◌, ◌≤◌, ◌<◌, ◌+◌, ◌⊎◌, Bool, true, false, List, Option, Some, None, count_by}
+-- Views and their parts.
+use Rattle.std.specs.Prelude.{ℕ, ◌≡◌, ◌≤◌, ◌<◌, ◌+◌, ◌⊎◌, Bool, true, false, List, Option, Some, None, filter, find}
+use Rattle.std.specs.Prelude.{not, option_map, unwrap_or}
 use Rattle.sm_kinds.specs.Contexts.{type_of}
 use Rattle.sm_kinds.specs.declared.class.Class.{Class}
 use Rattle.sm_kinds.specs.declared.class.Class.TheVariants.{Binder, ServiceManager}
@@ -19,6 +20,7 @@ use Rattle.sm_history.specs.declared.reply.Reply.TheVariants.{Done}
 use Rattle.sm_history.specs.Following.{MayAllApart, followed}
 use Rattle.sm_history.specs.Histories.{History, after_event, client_of, effects_of, entered, length_of, turn_of}
 use Rattle.sm_history.specs.Openings.{is_same}
+use Rattle.sm_history.specs.declared.turn.TurnRow.{TurnRow}
 use Rattle.sm_history.specs.Lawful.{IsLawful, FitsPlaces, HasSoundPolicy}
 use Rattle.sm_history.specs.Verdict.{verdict}
 use Rattle.sm_kinds.specs.declared.limits.TheConstants.{MOST_PLACES}
@@ -32,7 +34,7 @@ use Rattle.sm_core.specs.Stands.{sets_in}
 use Rattle.sm_history.specs.declared.limits.TheConstants.{GREATEST}
 use Rattle.sm_core.specs.Tables.{process_at, client_rows}
 
--- A history, and the change that comes next where there is one.
+-- This is a history with the next change, if there is one.
 abbrev pub with_next : {S : Type 0} → (S → Entry) → Option S → History → History
 with_next value None h = h
 with_next value (Some s) h = entered (value s) h
@@ -44,7 +46,7 @@ pub record StandPeople (d : Effects) (p : People) : Type 0 where
   pub version : p.version ≡ version_at d
   pub clients : p.clients.items ≡ client_rows d
 
--- An effect on who asks, and under which policy.
+-- An effect changes the processes or the policy.
 abbrev pub moves_people : Effect → Bool
 moves_people (Opens who) = true
 moves_people (Sets policy) = true
@@ -53,19 +55,19 @@ moves_people (Dies c) = true
 moves_people (Resumes version clients) = true
 moves_people _ = false
 
--- An effect on the services under names.
+-- An effect changes the services.
 abbrev pub moves_services : Effect → Bool
 moves_services (Adds name s) = true
 moves_services (Removes name) = true
 moves_services (Dies c) = true
 moves_services _ = false
 
--- A rule gives a process a permission on the manager's context.
+-- A rule grants a process a permission on the manager's context.
 abbrev pub IsGiven : Effects → Identity → Class → Perms → Type 0
 IsGiven d who class perm =
     allowed (policy_at d) (type_of who.context) (type_of (manager_at d).context) class perm ≡ true
 
--- It doesn't, and that is the denial; or memory was wanted.
+-- No rule does, and that is the denial; or an allocation failed.
 abbrev pub IsMissing : Effects → Identity → Class → Perms → Refusal → Type 0
 IsMissing d who class perm refusal =
     (refusal ≡ Memory)
@@ -77,19 +79,27 @@ pub record MayList (d : Effects) (who : Identity) : Type 0 where
   pub calls : IsGiven d who Binder calling
   pub lists : IsGiven d who ServiceManager listing
 
--- The first of the two rules that isn't there.
+-- This is the denial of the first of the two rules that is missing.
 abbrev pub MayNotList : Effects → Identity → Refusal → Type 0
 MayNotList d who refusal =
     IsMissing d who Binder calling refusal
     ⊎ (IsGiven d who Binder calling × IsMissing d who ServiceManager listing refusal)
 
--- An actor's changes: those counted in a table, and those listed since.
-abbrev pub counted_in : Turns → List By → By → ℕ
-counted_in base since by = made base by + count_by (is_same by) since
+-- The number in an actor's row, where rows have one of that actor.
+abbrev pub listed_turns : List TurnRow → By → Option ℕ
+listed_turns since by = option_map (λ r. r.turns) (find (λ r. is_same by r.by) since)
+
+-- The rows of all actors but one.
+abbrev pub rows_of_others : By → List TurnRow → List TurnRow
+rows_of_others by since = filter (λ r. not (is_same by r.by)) since
+
+-- An actor's changes: the number in its row, or that in the table where it has no row.
+abbrev pub counted_in : Turns → List TurnRow → By → ℕ
+counted_in base since by = unwrap_or (listed_turns since by) (made base by)
 
 -- The parts of a view are those of its history.
 pub record Viewed (places : ℕ) (h : History) (length : ℕ) (people : People) (services : Services) (base : Turns)
-    (since : List By) : Type 0 where
+    (since : List TurnRow) : Type 0 where
   pub lawful : IsLawful places h
   pub fits : FitsPlaces places h
   pub few : places ≤ MOST_PLACES

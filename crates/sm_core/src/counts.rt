@@ -11,7 +11,7 @@ use sm_grants::Grants;
 use sm_history::{Effect, GREATEST};
 use sm_kinds::Node;
 
-/// Whether an effect grants an object to a client.
+/// Returns whether an effect grants an object to a client.
 fn is_grant_of(client: u32, node: Node, effect: &Effect) -> bool
     ensures { result ≡ spec.is_grant_of client node effect.now }
 {
@@ -25,7 +25,7 @@ fn is_grant_of(client: u32, node: Node, effect: &Effect) -> bool
     }
 }
 
-/// How often effects grant an object to a client.
+/// Returns the number of times that effects grant an object to a client.
 fn times_given(effects: &[Effect], client: u32, node: Node) -> u64
     ensures { result ≡ count_by (spec.is_grant_of client node) effects.now }
 {
@@ -35,7 +35,7 @@ fn times_given(effects: &[Effect], client: u32, node: Node) -> u64
         .count() as u64
 }
 
-/// Whether the count that an effect raises stays below the greatest number where all of these are made.
+/// Returns whether the count that an effect raises stays below the greatest number after all of these.
 fn count_fits(grants: &Grants, effects: &[Effect], effect: &Effect) -> bool
     ensures { (d : Effects) → Tracks d grants.now → result ≡ fits_among d effects.now effect.now }
 {
@@ -48,7 +48,7 @@ fn count_fits(grants: &Grants, effects: &[Effect], effect: &Effect) -> bool
     }
 }
 
-/// Whether each count that these effects raise stays below the greatest number where all of them are made.
+/// Returns whether each count that these effects raise stays below the greatest number after all of them.
 fn each_count_fits(grants: &Grants, effects: &[Effect]) -> bool
     ensures { (d : Effects) → Tracks d grants.now → result ≡ list_all (fits_among d effects.now) effects.now }
 {
@@ -60,8 +60,8 @@ fn each_count_fits(grants: &Grants, effects: &[Effect]) -> bool
     true
 }
 
-/// Whether each count stays below the greatest number where these effects are made. Unless the table's bound is near
-/// that number, no count is looked up.
+/// Returns whether each count stays below the greatest number after these effects. Single counts are looked up only if
+/// the table's bound is near that number.
 pub fn counts_fit(grants: &Grants, effects: &[Effect]) -> bool
     ensures { (d : Effects) → Tracks d grants.now → result ≡ list_all (fits_among d effects.now) effects.now }
 {

@@ -1,4 +1,4 @@
-//! What stops a request, in little room.
+//! Why a request makes no change, in a small value.
 
 ghost use Rattle.std.specs.Prelude.{◌≡◌, ◌⊎◌};
 ghost use Rattle.sm_history.specs.declared.stop.Stop.TheVariants.{Unmet};
@@ -9,42 +9,42 @@ use sm_history::{Exception, Failure, Stop};
 use std::alloc::Global;
 use std::marker::Model;
 
-/// A condition that has no text, and what is answered: `Instead`, without its denials.
+/// A condition without texts, and the answer if it fails: `Instead`, without its denials.
 #[derive(Clone, Copy, Debug, PartialEq, Eq)]
 pub enum Plain {
     /// A Get found nothing.
     GotNull,
-    /// A Get found an object of the caller's own, by its number for it.
+    /// A Get found an object of the caller's own; has the caller's number for it.
     GotOwn(u32),
-    /// A service call failed by one of Binder's exceptions.
+    /// A service call failed with a Binder exception.
     Exception(Exception),
-    /// The request can't be made, or has no room.
+    /// The request is invalid for its actor, or there is no room.
     Failed(Failure),
     /// The owner of the called object has died.
     Dead,
     /// The inbox has no delivery.
     Empty,
-    /// 64 clients are live, or the client numbers are spent.
+    /// 64 clients are live, or all client numbers are used.
     TooManyClients,
-    /// The policy has another version, which is given, than the expected one.
+    /// The version of the policy isn't the expected one; has the version in force.
     VersionMoved(u64),
-    /// The journal has no place for the change.
+    /// The journal has no slot for the change.
     JournalFull,
-    /// A growth of memory was refused.
+    /// An allocation failed.
     Memory,
 }
 
-/// Where a stop is kept.
+/// How a stop is stored.
 #[derive(Drop)]
 pub enum Held {
-    /// In place.
+    /// Inline.
     Plain(Plain),
-    /// In a place of its own.
+    /// Boxed.
     Whole(Box<Stop>),
 }
 
-/// What stops a request, which contracts see as the stop. Each judgement hands it on, so it is small: only a stop that
-/// has texts lies in a place of its own.
+/// Why a request makes no change. Contracts see the stop. Each judgement passes it on, so it is small: only a stop with
+/// texts is boxed.
 pub struct Halt {
     held: Held,
 }
@@ -58,7 +58,7 @@ impl Model for Halt {
     ghost view = { λ h. stop_of h.held };
 }
 
-// By hand: where one is let go, a caller's proof has one step, and not those of its parts.
+// Drop: see docs/PROOFS.md.
 impl Drop for Halt {
     fn drop(self) {
         let Halt { held: _ } = self;
@@ -66,7 +66,7 @@ impl Drop for Halt {
 }
 
 impl Halt {
-    /// A condition that has no text.
+    /// Makes a stop without texts.
     #[inline]
     pub fn unmet(plain: Plain) -> Halt
         ensures { result ≡ Unmet (instead_of plain) }
@@ -76,7 +76,7 @@ impl Halt {
         }
     }
 
-    /// A stop that has texts; or memory is wanted.
+    /// Boxes a stop with texts; if that fails, makes the stop for a failed allocation.
     pub fn whole(alloc: Global, stop: Stop) -> Halt
         ensures { (result ≡ spec.wanted) ⊎ (result ≡ stop) }
     {
@@ -88,14 +88,14 @@ impl Halt {
         }
     }
 
-    /// How it is kept.
+    /// Returns how the stop is stored.
     pub fn held(&self) -> &Held
         ensures { stop_of result.now ≡ self.now }
     {
         &self.held
     }
 
-    /// How it is kept.
+    /// Returns how the stop is stored.
     pub fn into_held(self) -> Held
         ensures { stop_of result ≡ self }
     {

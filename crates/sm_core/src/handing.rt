@@ -1,4 +1,4 @@
-//! Handles, deliveries and watches, which a table takes as judged events have made sure that it may.
+//! Table calls for judged events, which have made sure that the table can take them.
 
 ghost use Rattle.std.specs.Prelude.{◌≡◌, ◌≤◌, ◌<◌, ◌+◌, ◌-◌, ◌^◌, ◌==◌, ℕ, true, false, nat_lt, ◌∷◌, length, OnOk};
 ghost use Rattle.std.specs.List.{list_any};
@@ -22,7 +22,7 @@ use sm_kinds::Node;
 use sm_names::Names;
 use std::alloc::AllocError;
 
-/// One grant of an object.
+/// Grants an object once more.
 pub fn give(grants: &mut Grants, client: u32, node: Node)
     ensures tracks { (d : Effects) (r : ℕ) → Tracks d grants.old → is_live d client ≡ true → r ≡ number_for d client node
         → fits_handles (Gives client node r ∷ d) client ≡ true → 0 < spare_for grants.old client
@@ -31,12 +31,10 @@ pub fn give(grants: &mut Grants, client: u32, node: Node)
     ensures spare { spare_for grants.old client ≤ spare_for grants.new client + 1 }
     ensures others { (k : ℕ) → (client == k) ≡ false → spare_for grants.new k ≡ spare_for grants.old k }
 {
-    if grants.is_ready(client, node) {
-        let _ = grants.grant(client, node);
-    }
+    let _ = grants.grant(client, node);
 }
 
-/// One grant of an object is given back.
+/// Releases one grant of an object.
 pub fn give_back(grants: &mut Grants, client: u32, node: Node)
     ensures tracks { (d : Effects) → Tracks d grants.old → is_live d client ≡ true → is_held d client node ≡ true
         → HasOneEach d client → Tracks (Releases client node ∷ d) grants.new }
@@ -46,7 +44,7 @@ pub fn give_back(grants: &mut Grants, client: u32, node: Node)
     let _ = grants.release(client, number);
 }
 
-/// One more delivery.
+/// Appends a delivery.
 pub fn deliver(inboxes: &mut Inboxes, client: u32, delivery: BoxedDelivery)
     ensures tracks { (d : Effects) → TracksInboxes d inboxes.old → is_live d client ≡ true → has_inbox_room d client ≡ true
         → is_open inboxes.old client ≡ true → TracksInboxes (Delivers client delivery ∷ d) inboxes.new }
@@ -57,7 +55,7 @@ pub fn deliver(inboxes: &mut Inboxes, client: u32, delivery: BoxedDelivery)
     }
 }
 
-/// The oldest delivery is taken.
+/// Takes the oldest delivery.
 pub fn take_oldest(inboxes: &mut Inboxes, client: u32)
     ensures tracks { (d : Effects) → TracksInboxes d inboxes.old → nat_lt 0 (length (inbox_at d client)) ≡ true
         → TracksInboxes (Takes client ∷ d) inboxes.new }
@@ -66,7 +64,7 @@ pub fn take_oldest(inboxes: &mut Inboxes, client: u32)
     let _ = inboxes.take(client);
 }
 
-/// One more watch of a name.
+/// Adds a watch of a name.
 pub fn watch(names: &mut Names, made: WatchPair)
     requires { HasRoom 1 names.old }
     ensures tracks { (d : Effects) → TracksNames d names.old → is_live d made.client ≡ true
@@ -78,7 +76,7 @@ pub fn watch(names: &mut Names, made: WatchPair)
     }
 }
 
-/// Memory for the handles of every client that effects give one to.
+/// Makes room for the handles of every client to which effects give one.
 pub fn reserve_handles(grants: &mut Grants, effects: &[Effect]) -> Result<(), AllocError>
     ensures same { (d : Effects) → Tracks d grants.old → Tracks d grants.new }
     ensures room { OnOk result ((c : ℕ) → list_any (gives_to c) effects.now ≡ true
@@ -93,7 +91,7 @@ pub fn reserve_handles(grants: &mut Grants, effects: &[Effect]) -> Result<(), Al
     Ok(())
 }
 
-/// An inbox for a client that connects.
+/// Makes an inbox for a client that connects.
 fn reserve_inbox(inboxes: &mut Inboxes, effect: &Effect) -> Result<(), AllocError>
     ensures same { (d : Effects) → TracksInboxes d inboxes.old → TracksInboxes d inboxes.new }
     ensures still { (c : ℕ) → is_open inboxes.old c ≡ true → is_open inboxes.new c ≡ true }
@@ -105,7 +103,7 @@ fn reserve_inbox(inboxes: &mut Inboxes, effect: &Effect) -> Result<(), AllocErro
     }
 }
 
-/// An inbox for every client that connects.
+/// Makes an inbox for every client that connects.
 pub fn reserve_inboxes(inboxes: &mut Inboxes, effects: &[Effect]) -> Result<(), AllocError>
     ensures same { (d : Effects) → TracksInboxes d inboxes.old → TracksInboxes d inboxes.new }
     ensures still { (c : ℕ) → is_open inboxes.old c ≡ true → is_open inboxes.new c ≡ true }

@@ -13,7 +13,7 @@ use sm_history::Effect;
 use sm_names::Services;
 use std::alloc::{AllocError, Global};
 
-/// Whether an effect is one on the services under names.
+/// Returns whether an effect changes the services.
 fn moves_services(effect: &Effect) -> bool
     ensures { result ≡ spec.moves_services effect.now }
 {
@@ -25,18 +25,18 @@ fn moves_services(effect: &Effect) -> bool
     }
 }
 
-/// Whether one of some effects is one on the services under names.
+/// Returns whether one of some effects changes the services.
 pub fn moves_any_services(effects: &[Effect]) -> bool
     ensures { result ≡ list_any spec.moves_services effects.now }
 {
     effects.iter().any(|effect| moves_services(effect))
 }
 
-/// These services, and some effects on.
+/// Copies these services, and applies effects.
 ///
 /// # Errors
 ///
-/// An error where memory was refused.
+/// An error if an allocation fails.
 pub fn services_after(
     alloc: Global,
     last: &Services,
@@ -52,7 +52,7 @@ pub fn services_after(
     Ok(services)
 }
 
-/// One effect on.
+/// Applies one effect.
 fn follow(services: &mut Services, effect: &Effect) -> Result<(), AllocError>
     requires { length services.old.rows.items + 1 ≤ vec_capacity services.old.rows }
     ensures tracks { OnOk result ((d : Effects) → Sound d → MayFollowApart d effect.now → TracksRows d services.old.rows.items

@@ -15,7 +15,7 @@ use sm_history::{ClientRow as Listed, Tables};
 use sm_inbox::Inboxes;
 use std::alloc::{AllocError, Global};
 
-/// A client's row. `Err`: memory was refused.
+/// Copies a client's row for a segment. Returns an error if an allocation fails.
 fn listed_client(
     alloc: Global,
     grants: &Grants,
@@ -35,7 +35,7 @@ fn listed_client(
     })
 }
 
-/// The rows of clients. `Err`: memory was refused.
+/// Copies the rows of clients for a segment. Returns an error if an allocation fails.
 fn listed_clients(
     alloc: Global,
     grants: &Grants,
@@ -52,7 +52,7 @@ fn listed_clients(
     Ok(list)
 }
 
-/// The tables as rows.
+/// Returns the tables as rows.
 ///
 /// # Errors
 ///

@@ -1,4 +1,4 @@
-//! What a judgement notes.
+//! Audit records of a judgement.
 
 ghost use Rattle.std.specs.Prelude.{◌≡◌, [], ◌∷◌, ◌++◌, OnOk, OnErr, IfOk};
 
@@ -6,7 +6,7 @@ use sm_history::Record;
 use std::alloc::{AllocError, Global};
 use std::marker::Model;
 
-/// The records that the checks of a judgement leave, in their order. Contracts see the list.
+/// The audit records of a judgement's checks, in their order. Contracts see the list.
 #[derive(Drop)]
 pub struct Notes {
     records: Vec<Record>,
@@ -22,7 +22,7 @@ impl Model for Notes {
 }
 
 impl Notes {
-    /// Nothing is noted.
+    /// Makes an empty list.
     pub fn none(alloc: Global) -> Notes
         ensures { result ≡ [] }
     {
@@ -31,7 +31,7 @@ impl Notes {
         }
     }
 
-    /// One more record.
+    /// Appends a record.
     pub fn note(&mut self, denied: Record) -> Result<(), AllocError>
         ensures ok { OnOk result (self.new ≡ self.old ++ denied ∷ []) }
         ensures err { OnErr result (self.new ≡ self.old) }
@@ -40,7 +40,7 @@ impl Notes {
         Ok(())
     }
 
-    /// These records, and more behind them.
+    /// Returns these records, followed by more.
     pub fn and(self, more: Notes) -> Result<Vec<Record>, AllocError>
         ensures { IfOk result (λ v. v.items ≡ self ++ more) }
     {
@@ -53,7 +53,7 @@ impl Notes {
         Ok(records)
     }
 
-    /// The records themselves.
+    /// Returns the records.
     pub fn into_list(self) -> Vec<Record>
         ensures { result.items ≡ self }
     {
@@ -61,7 +61,7 @@ impl Notes {
         records
     }
 
-    /// A copy of the records. `Err`: memory was refused.
+    /// Copies the records. Returns an error if an allocation fails.
     pub fn copies(&self, alloc: Global) -> Result<Vec<Record>, AllocError>
         ensures { IfOk result (λ v. v.items ≡ self.now) }
     {
@@ -69,7 +69,7 @@ impl Notes {
     }
 }
 
-/// A copy of some records, each of which gets one more owner. `Err`: memory was refused.
+/// Copies records, which share their texts. Returns an error if an allocation fails.
 pub fn copies_of(alloc: Global, records: &[Record]) -> Result<Vec<Record>, AllocError>
     ensures { IfOk result (λ v. v.items ≡ records.now) }
 {
@@ -79,7 +79,7 @@ pub fn copies_of(alloc: Global, records: &[Record]) -> Result<Vec<Record>, Alloc
     copy_each(alloc, records)
 }
 
-/// The same, where there are records: mostly there are none, and then their room on the stack isn't paid for.
+/// The same for a list with records, out of line: most lists have none, and shouldn't pay for the locals.
 #[inline(never)]
 fn copy_each(alloc: Global, records: &[Record]) -> Result<Vec<Record>, AllocError>
     ensures { IfOk result (λ v. v.items ≡ records.now) }

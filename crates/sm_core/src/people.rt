@@ -1,13 +1,18 @@
-//! Who asks, and under which policy.
+//! The processes of a view, and the policy in force.
 
-ghost use Rattle.std.specs.Prelude.{◌≡◌, ◌≤◌, ◌<◌, ◌+◌, [], ◌∷◌, true, false, IfOk, OnOk, MatchOption, MatchResult, ◌⊎◌};
+ghost use Rattle.std.specs.Prelude.{◌≡◌, ◌≤◌, ◌<◌, ◌+◌, [], ◌∷◌, ◌++◌, true, false, None, IfOk, IfErr, OnOk, MatchOption, MatchResult, ◌⊎◌};
 ghost use Rattle.std.specs.List.{list_any};
 ghost use Rattle.sm_history.specs.Effects.{Effects};
 ghost use Rattle.sm_history.specs.Books.{Book};
-ghost use Rattle.sm_history.specs.Clients.{identity_at, is_live};
+ghost use Rattle.sm_history.specs.Clients.{identity_at, is_live, manager_at, policy_at};
 ghost use Rattle.sm_history.specs.declared.query.Query.TheVariants.{List as ListNames};
 ghost use Rattle.sm_history.specs.Histories.{effects_of, length_of};
 ghost use Rattle.sm_history.specs.Queries.{found_out};
+ghost use Rattle.sm_history.specs.Checks.{Needs};
+ghost use Rattle.sm_history.specs.Records.{left_by, moment_of, query_records};
+ghost use Rattle.sm_kinds.specs.Contexts.{type_of};
+ghost use Rattle.sm_policy.specs.Policy.{allowed};
+ghost use Rattle.sm_view.specs.Replies.{takes_memory};
 ghost use Rattle.sm_names.specs.Rows.{TracksRows};
 ghost use Rattle.sm_view.specs.Promises.{Looks};
 ghost use Rattle.sm_history.specs.Following.{MayFollowApart, MayAllApart, followed};
@@ -25,7 +30,7 @@ use crate::manager::looking::may_ask;
 use crate::manager::replying::denial;
 use crate::process::Process;
 use crate::state::State;
-use sm_history::{Answer, By, Effect, Failure, NameList, Query, Refusal, Reply};
+use sm_history::{Answer, By, Effect, Failure, NameList, Query, Record, Refusal, Reply};
 use sm_kinds::{Class, Perms};
 use sm_names::Services;
 use sm_policy::Prepared;
@@ -40,7 +45,7 @@ pub struct People {
     pub clients: Vec<ClientRow>,
 }
 
-/// Whether an effect is one on people.
+/// Returns whether an effect changes the processes or the policy.
 fn moves_people(effect: &Effect) -> bool
     ensures { result ≡ spec.moves_people effect.now }
 {
@@ -54,7 +59,7 @@ fn moves_people(effect: &Effect) -> bool
     }
 }
 
-/// Whether one of some effects is one on people.
+/// Returns whether one of some effects changes the processes or the policy.
 pub fn moves_any_people(effects: &[Effect]) -> bool
     ensures { result ≡ list_any spec.moves_people effects.now }
 {
@@ -62,11 +67,11 @@ pub fn moves_any_people(effects: &[Effect]) -> bool
 }
 
 impl People {
-    /// Those in a manager's tables.
+    /// Copies the processes and the policy from a manager's tables.
     ///
     /// # Errors
     ///
-    /// An error where memory was refused.
+    /// An error if an allocation fails.
     pub fn of(alloc: Global, state: &State) -> Result<People, AllocError>
         ensures stand { IfOk result (λ p. (d : Effects) → Stands d state.now → StandPeople d p) }
         ensures version { IfOk result (λ p. p.version ≡ state.now.version) }
@@ -83,11 +88,11 @@ impl People {
         })
     }
 
-    /// Those in a manager's tables, and some effects on.
+    /// Copies the processes and the policy from a manager's tables, and applies effects.
     ///
     /// # Errors
     ///
-    /// An error where memory was refused.
+    /// An error if an allocation fails.
     pub fn after(alloc: Global, state: &State, effects: &[Effect]) -> Result<People, AllocError>
         requires { state.now.version + sets_in effects.now < GREATEST }
         ensures { IfOk result (λ p. (d : Effects) → Stands d state.now → MayAllApart d effects.now
@@ -100,7 +105,7 @@ impl People {
         Ok(people)
     }
 
-    /// One effect on.
+    /// Applies one effect.
     fn follow(&mut self, effect: &Effect) -> Result<(), AllocError>
         requires { self.old.version + sets_in (effect.now ∷ []) < GREATEST }
         ensures stand { OnOk result ((d : Effects) → Sound d → MayFollowApart d effect.now → StandPeople d self.old
@@ -131,7 +136,7 @@ impl People {
         Ok(())
     }
 
-    /// The row of a live client.
+    /// Returns the row of a live client.
     pub fn client(&self, id: u32) -> Option<&ClientRow>
         ensures { (d : Effects) → StandPeople d self.now → MatchOption result (is_live d id ≡ false)
             (λ r. (is_live d id ≡ true) × (r.now ≡ client_row d id)) }
@@ -139,7 +144,7 @@ impl People {
         row_of(&self.clients, id)
     }
 
-    /// Whether an actor may act: a client while it is live.
+    /// Returns whether an actor may act: a client only while it is live.
     pub fn is_there(&self, by: By) -> bool
         ensures { (d : Effects) → StandPeople d self.now → result ≡ is_there d by }
     {
@@ -150,12 +155,12 @@ impl People {
         }
     }
 
-    /// Whether a process may list the names: it may send a transaction to the manager, and `list` is given on the
+    /// Checks that a process may list the names: it may send a transaction to the manager, and has `list` on the
     /// manager's own context.
     ///
     /// # Errors
     ///
-    /// `Denied` by the first of the two rules that isn't there, `Memory` where memory was refused for it.
+    /// `Denied` by the first of the two rules that is missing, `Memory` if its denial can't be allocated.
     pub fn may_list(&self, alloc: Global, who: &Process) -> Result<(), Refusal>
         ensures { (d : Effects) → StandPeople d self.now → who.now ≡ process_at d who.now.who
             → MatchResult result (λ done. spec.MayList d who.now.who) (spec.MayNotList d who.now.who) }
@@ -164,11 +169,11 @@ impl People {
         self.needs(alloc, who, Class::ServiceManager, Perms::LIST)
     }
 
-    /// The names whose dump flags share a bit with the mask, where a live client may list them.
+    /// Returns the names whose dump flags share a bit with the mask, if a live client may list them.
     ///
     /// # Errors
     ///
-    /// As `may_list`; `Memory` also where memory was refused for the names.
+    /// As `may_list`; `Memory` also if the names can't be allocated.
     fn list(
         &self,
         alloc: Global,
@@ -192,7 +197,7 @@ impl People {
         }
     }
 
-    /// The answer to a query, with these services and after so many changes. It leaves no record.
+    /// Answers a query, with these services and after `length` changes. Nothing is recorded.
     pub fn answer(
         &self,
         alloc: Global,
@@ -236,7 +241,7 @@ impl People {
         }
     }
 
-    /// A rule gives a permission from a process to the manager's context.
+    /// Checks that a rule grants a permission from a process to the manager's context.
     fn needs(&self, alloc: Global, who: &Process, class: Class, perm: Perms) -> Result<(), Refusal>
         ensures { (d : Effects) → StandPeople d self.now → who.now ≡ process_at d who.now.who
             → MatchResult result (λ done. spec.IsGiven d who.now.who class perm)
@@ -251,5 +256,87 @@ impl People {
             Ok(denial) => Err(Refusal::Denied(denial)),
             Err(_) => Err(Refusal::Memory),
         }
+    }
+
+    /// The audit records of a query, as its checks leave them after this many changes. Only those of a `List` ask for
+    /// rules.
+    ///
+    /// # Errors
+    ///
+    /// `AllocError` if an allocation failed.
+    pub fn records(
+        &self,
+        alloc: Global,
+        length: u64,
+        by: By,
+        query: &Query,
+    ) -> Result<Vec<Record>, AllocError>
+        ensures records { (b : Book) → StandPeople (effects_of b.history) self.now → length ≡ length_of b.history
+            → IfOk result (λ v. v.items ≡ query_records b.history by query.now) }
+        ensures takes { IfErr result (λ e. takes_memory query.now ≡ true) }
+    {
+        let mut records = Vec::new(alloc);
+        let Query::List(_) = query else {
+            return Ok(records);
+        };
+        let By::Client(client) = by else {
+            return Ok(records);
+        };
+        let Some(row) = self.client(client.0) else {
+            return Ok(records);
+        };
+        let process = &row.process;
+        if self.note(
+            alloc,
+            length,
+            process,
+            Class::Binder,
+            Perms::CALL,
+            &mut records,
+        )? {
+            self.note(
+                alloc,
+                length,
+                process,
+                Class::ServiceManager,
+                Perms::LIST,
+                &mut records,
+            )?;
+        }
+        Ok(records)
+    }
+
+    /// Appends what the check of a permission on the manager's context leaves, and returns whether it is given.
+    fn note(
+        &self,
+        alloc: Global,
+        length: u64,
+        who: &Process,
+        class: Class,
+        perm: Perms,
+        records: &mut Vec<Record>,
+    ) -> Result<bool, AllocError>
+        ensures { (b : Book) → StandPeople (effects_of b.history) self.now → length ≡ length_of b.history
+            → who.now ≡ process_at (effects_of b.history) who.now.who
+            → IfOk result (λ given.
+            (given ≡ allowed (policy_at (effects_of b.history)) (type_of who.now.who.context) (type_of (manager_at (effects_of b.history)).context) class perm)
+            × (records.new.items ≡ records.old.items
+            ++ left_by (moment_of b.history) (Needs class perm who.now.who (manager_at (effects_of b.history)).context None))) }
+    {
+        let manager = &self.manager;
+        let decision = self.policy.decide_at(who.index, manager.index, class, perm);
+        if decision.audited {
+            let target = &manager.who.context;
+            records.push(Record {
+                length,
+                version: self.version,
+                denial: denial(alloc, class, perm, &who.who, target)?,
+                permissive: decision.allowed,
+                who: who.who.clone()?,
+                target: Some(target.clone()?),
+                name: None,
+            })?;
+        }
+        Ok(decision.allowed)
     }
 }

@@ -1,4 +1,4 @@
-//! Processes, as the rules of a policy see them.
+//! Processes under a policy.
 
 ghost use Rattle.std.specs.Prelude.{◌≡◌};
 ghost use Rattle.sm_core.specs.Tables.{process_under};
@@ -7,8 +7,8 @@ use sm_kinds::Identity;
 use sm_policy::Prepared;
 use std::alloc::AllocError;
 
-/// A process under a policy: who it is, and the number of its type there (`Prepared::type_index`), by which rules
-/// are asked. `None`: the policy doesn't declare its type.
+/// A process under a policy: its identity, and the number of its type there (`Prepared::type_index`), by which rules
+/// are looked up. `None` if the policy doesn't declare its type.
 #[derive(Drop)]
 pub struct Process {
     pub who: Identity,
@@ -18,7 +18,7 @@ pub struct Process {
 impl Clone for Process {
     ghost is_clone = { λ p copy. copy ≡ p };
 
-    /// The same process; its texts get one more owner.
+    /// Copies the process; its texts are shared.
     fn clone(&self) -> Result<Process, AllocError> {
         let who = self.who.clone()?;
         let index = self.index;
@@ -27,7 +27,7 @@ impl Clone for Process {
 }
 
 impl Process {
-    /// A process under a policy.
+    /// Makes a process under a policy.
     pub fn new(who: Identity, policy: &Prepared) -> Process
         ensures { result ≡ process_under policy.now who }
     {
@@ -35,7 +35,7 @@ impl Process {
         Process { who, index }
     }
 
-    /// The same process under another policy.
+    /// Renumbers its type for another policy.
     pub fn renumber(&mut self, policy: &Prepared)
         ensures { self.new ≡ process_under policy.now self.old.who }
     {

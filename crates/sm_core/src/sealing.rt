@@ -1,9 +1,10 @@
-//! What is ready for a seal.
+//! Seals that were made ready.
 
 use crate::journal::Journal;
 use crate::turns::Turns;
 
-/// What a seal makes, for which all memory is there: the next segment's journal, and the counts that it begins with.
+/// A seal that was made ready, with all its allocations: the next segment's journal, and the counts that it begins
+/// with.
 #[derive(Drop)]
 pub struct ReadySeal {
     pub journal: Journal,

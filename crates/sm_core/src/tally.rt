@@ -1,26 +1,27 @@
-//! The changes of actors, as a view tells them.
+//! The turns of actors in a view.
 
-ghost use Rattle.std.specs.Prelude.{◌≡◌, ◌<◌, ◌+◌, ◌++◌, ◌∷◌, [], IfOk, count_by, if◌then◌else◌};
+ghost use Rattle.std.specs.Prelude.{◌≡◌, ◌<◌, ◌+◌, ◌∷◌, IfOk, if◌then◌else◌};
 ghost use Rattle.std.specs.Arc.{arc_value};
 ghost use Rattle.sm_history.specs.declared.by.By.{By};
 ghost use Rattle.sm_history.specs.Openings.{is_same};
 ghost use Rattle.sm_history.specs.declared.limits.TheConstants.{GREATEST};
 ghost use Rattle.sm_core.specs.Counting.{made};
-ghost use Rattle.sm_core.specs.Viewing.{counted_in};
+ghost use Rattle.sm_core.specs.Viewing.{counted_in, listed_turns, rows_of_others};
 
 use crate::turns::Turns;
-use sm_history::By;
+use sm_history::{By, TurnRow};
 use std::alloc::{AllocError, Global};
 use std::sync::Arc;
 
-/// So many actors are listed before the table is made anew.
-const MOST_SINCE: usize = 256;
+/// The number of rows at which the table is copied: more than one for each of the 64 clients that can be live at once.
+const MOST_SINCE: usize = 80;
 
-/// How many changes each actor made: a table that views share, and the actors of the changes since.
+/// The number of changes of each actor: a table that views share, and a row for each actor that made a change since the
+/// table was copied. A row has the number of all changes of its actor.
 #[derive(Drop)]
 pub struct Tally {
     pub base: Arc<Turns>,
-    pub since: Vec<By>,
+    pub since: Vec<TurnRow>,
 }
 
 /// Whether they are one actor.
@@ -35,31 +36,36 @@ fn is_same(one: By, other: By) -> bool
     }
 }
 
-/// How many of these are an actor.
-fn times(by: By, since: &[By]) -> u64
-    ensures { result ≡ count_by (is_same by) since.now }
+/// The number in an actor's row, if there is one.
+fn listed_turns(by: By, since: &[TurnRow]) -> Option<u64>
+    ensures { result ≡ listed_turns since.now by }
 {
-    since.iter().filter(|other| is_same(by, **other)).count() as u64
+    since
+        .iter()
+        .find(|row| is_same(by, row.by))
+        .map(|row| row.turns)
 }
 
-/// These actors, with one more.
-fn with_one_more(alloc: Global, since: &[By], by: By) -> Result<Vec<By>, AllocError>
-    ensures { IfOk result (λ v. v.items ≡ since.now ++ by ∷ []) }
+/// Copies the rows, with this row in place of the one that its actor had.
+fn with_row(alloc: Global, since: &[TurnRow], row: TurnRow) -> Result<Vec<TurnRow>, AllocError>
+    ensures { IfOk result (λ v. v.items ≡ row ∷ rows_of_others row.by since.now) }
 {
     let mut list = Vec::with_capacity(alloc, since.len() + 1)?;
+    list.push_reserved(row);
     for other in since {
-        list.push(*other)?;
+        if !is_same(row.by, other.by) {
+            list.push_reserved(*other);
+        }
     }
-    list.push(by)?;
     Ok(list)
 }
 
 impl Tally {
-    /// The counts of a table.
+    /// Makes the counts of a table.
     ///
     /// # Errors
     ///
-    /// An error where memory was refused.
+    /// An error if an allocation fails.
     pub fn of(alloc: Global, turns: &Turns) -> Result<Tally, AllocError>
         ensures { IfOk result (λ t. (b : By) → counted_in (arc_value t.base) t.since.items b ≡ made turns.now b) }
     {
@@ -68,31 +74,38 @@ impl Tally {
         Ok(Tally { base, since })
     }
 
-    /// The counts once this actor has made one change more. `turns` are the counts up to now, in a table.
+    /// Returns the counts after one more change of this actor. `turns` is a table of the counts up to now.
     ///
     /// # Errors
     ///
-    /// An error where memory was refused.
+    /// An error where an allocation failed.
     pub fn after(&self, alloc: Global, turns: &Turns, by: By) -> Result<Tally, AllocError>
-        requires { (b : By) → counted_in (arc_value self.now.base) self.now.since.items b ≡ made turns.now b }
+        requires counts { (b : By) → counted_in (arc_value self.now.base) self.now.since.items b ≡ made turns.now b }
+        requires few { made turns.now by < GREATEST }
         ensures { IfOk result (λ t. (b : By) → counted_in (arc_value t.base) t.since.items b
             ≡ (if is_same b by then made turns.now b + 1 else made turns.now b)) }
     {
+        let row = TurnRow {
+            by,
+            turns: turns.of(by) + 1,
+        };
         if self.since.len() >= MOST_SINCE {
             let base = Arc::new(alloc, turns.copy()?)?;
-            let since = with_one_more(alloc, &[], by)?;
+            let since = with_row(alloc, &[], row)?;
             return Ok(Tally { base, since });
         }
         let base = Arc::try_clone(&self.base)?;
-        let since = with_one_more(alloc, &self.since, by)?;
+        let since = with_row(alloc, &self.since, row)?;
         Ok(Tally { base, since })
     }
 
-    /// How many changes an actor made.
+    /// Returns the number of changes of an actor.
     pub fn of_actor(&self, by: By) -> u64
-        requires { counted_in (arc_value self.now.base) self.now.since.items by < GREATEST }
         ensures { result ≡ counted_in (arc_value self.now.base) self.now.since.items by }
     {
-        self.base.of(by) + times(by, &self.since)
+        match listed_turns(by, &self.since) {
+            Some(turns) => turns,
+            None => self.base.of(by),
+        }
     }
 }

@@ -1,4 +1,4 @@
-//! What telling watchers of a registration does.
+//! Notices to watchers of a registration.
 
 ghost use Rattle.std.specs.Prelude.{◌≡◌, ◌∷◌, ◌++◌, ◌<◌, ◌-◌, ℕ, [], Some, cond, nat_eq, OnOk, IfOk};
 ghost use Rattle.sm_kinds.specs.declared.number.Node.{Node};
@@ -14,8 +14,8 @@ use sm_kinds::Node;
 use std::alloc::{AllocError, Global};
 use std::collections::HashMap;
 
-/// What telling watchers has done: its effects in order, and for how many more deliveries the inbox of each
-/// client that was told has place; and the records that the checks of all these notices leave.
+/// The notices to watchers so far: their effects in order, the number of deliveries for which the inbox of each
+/// notified client still has room, and the records of the checks.
 #[derive(Drop)]
 pub struct Telling {
     pub effects: Vec<Effect>,
@@ -23,7 +23,7 @@ pub struct Telling {
     pub records: Notes,
 }
 
-/// What a watcher is told, where the object reaches it so.
+/// Returns the delivery to a watcher, with the object as it reaches it.
 fn registration(alloc: Global, watch: &Watch, given: Given) -> Result<BoxedDelivery, AllocError>
     ensures { IfOk result (λ x. x ≡ told_to watch.now given) }
 {
@@ -35,7 +35,7 @@ fn registration(alloc: Global, watch: &Watch, given: Given) -> Result<BoxedDeliv
     BoxedDelivery::new(alloc, delivery)
 }
 
-/// A notice twice, each in a place of its own.
+/// Boxes a notice twice.
 pub fn boxed_twice(alloc: Global, notice: Notice) -> Result<(BoxedNotice, BoxedNotice), AllocError>
     ensures { IfOk result (λ both. (both.0 ≡ notice) × (both.1 ≡ notice)) }
 {
@@ -44,7 +44,7 @@ pub fn boxed_twice(alloc: Global, notice: Notice) -> Result<(BoxedNotice, BoxedN
     Ok((first, copy))
 }
 
-/// Notices twice.
+/// Copies notices.
 pub fn listed_twice(notices: Vec<Notice>) -> Result<(Notices, Notices), AllocError>
     ensures { IfOk result (λ both. (both.0 ≡ notices.items) × (both.1 ≡ notices.items)) }
 {
@@ -52,7 +52,7 @@ pub fn listed_twice(notices: Vec<Notice>) -> Result<(Notices, Notices), AllocErr
     Ok((Notices::new(notices), Notices::new(copies)))
 }
 
-/// A client gets a handle, unless the object is its own.
+/// Grants a handle to a client, unless the object is its own.
 fn give(effects: &mut Vec<Effect>, client: u32, node: Node, given: Given) -> Result<(), AllocError>
     ensures { OnOk result (effects.new.items ≡ effects.old.items ++ gives_of client node given) }
 {
@@ -71,7 +71,7 @@ fn give(effects: &mut Vec<Effect>, client: u32, node: Node, given: Given) -> Res
 }
 
 impl Telling {
-    /// Behind these effects, none of which told anyone.
+    /// Begins with these effects, before any notice.
     pub fn behind(alloc: Global, effects: Vec<Effect>) -> Telling
         ensures effects { result.effects ≡ effects }
         ensures records { result.records ≡ [] }
@@ -84,7 +84,7 @@ impl Telling {
         }
     }
 
-    /// Tells a watcher, whose inbox has place for so many deliveries. What it was told.
+    /// Notifies a watcher whose inbox has room for `left` deliveries, and returns the delivery.
     pub fn tell(
         &mut self,
         alloc: Global,

@@ -1,14 +1,18 @@
-//! What readers see.
+//! Views.
 
 ghost use Rattle.std.specs.Prelude.{◌≡◌, ◌<◌, ◌+◌, [], IfOk};
 ghost use Rattle.std.specs.Arc.{arc_value};
 ghost use Rattle.sm_history.specs.Effects.{Effects};
 ghost use Rattle.sm_history.specs.Following.{MayAllApart, followed};
 ghost use Rattle.sm_history.specs.Histories.{entered, turn_of};
+ghost use Rattle.sm_history.specs.Segments.{sealed};
+ghost use Rattle.sm_history.specs.declared.by.By.{By};
 ghost use Rattle.sm_history.specs.declared.limits.TheConstants.{GREATEST};
 ghost use Rattle.sm_history.specs.Sound.{Sound};
 ghost use Rattle.sm_names.specs.Rows.{TracksRows};
+ghost use Rattle.sm_core.specs.Counting.{made};
 ghost use Rattle.sm_core.specs.Kept.{Kept};
+ghost use Rattle.sm_core.specs.Managed.{look_leaves};
 ghost use Rattle.sm_core.specs.Stands.{Stands, sets_in};
 ghost use Rattle.sm_core.specs.Viewing.{IsComing, StandPeople};
 ghost use Rattle.sm_view.specs.Begins.{IsLawfulBook};
@@ -16,19 +20,20 @@ ghost use Rattle.sm_view.specs.Promises.{Looks};
 
 use crate::journal::Journal;
 use crate::listed::{moves_any_services, services_after};
+use crate::manager::replying::is_memory;
 use crate::people::{People, moves_any_people};
 use crate::ready::Ready;
 use crate::state::State;
 use crate::tally::Tally;
 use crate::turns::Turns;
-use sm_history::{By, Effect, Entry, Query, Reply};
+use sm_history::{By, Effect, Entry, Query, Record, Refusal, Reply};
 use sm_names::Services;
 use std::alloc::{AllocError, Global};
 use std::marker::Model;
 use std::snapshot::Snapshot;
 use std::sync::Arc;
 
-/// Who asks once these effects are made: what readers see now, where none of them is on people.
+/// Returns the processes after these effects: those of the present view, if no effect changes them.
 fn next_people(
     alloc: Global,
     last: &Arc<People>,
@@ -45,7 +50,7 @@ fn next_people(
     Ok(Arc::new(alloc, People::after(alloc, state, effects)?)?)
 }
 
-/// The services once these effects are made: those that readers see now, where none of them is on services.
+/// Returns the services after these effects: those of the present view, if no effect changes them.
 fn next_services(
     alloc: Global,
     last: &Arc<Services>,
@@ -60,11 +65,10 @@ fn next_services(
     Ok(Arc::new(alloc, services_after(alloc, last, effects)?)?)
 }
 
-/// What readers see of a manager at one moment: who may ask what, and what is found then. Contracts see the places and
-/// the history.
+/// A manager at one moment, for readers: the processes that may ask, and the answers. Contracts see the slots and the
+/// history.
 ///
-/// Its parts are shared with other views that have the same ones: a change that leaves the names as they are copies
-/// no name.
+/// Its parts are shared with other views that have the same ones: a change that doesn't alter the names copies no name.
 #[derive(Drop)]
 pub struct View {
     alloc: Global,
@@ -90,7 +94,7 @@ impl Model for View {
 }
 
 impl View {
-    /// The view of what there is now.
+    /// Makes the view of the present state.
     pub(crate) fn of(
         alloc: Global,
         places: u32,
@@ -116,8 +120,8 @@ impl View {
         })
     }
 
-    /// The view once an event that is ready is committed. What it doesn't change is shared with this one, which is of
-    /// what there is now.
+    /// Returns the view after a ready event is committed. Parts that the event doesn't change are shared with this
+    /// view, which is of the present state.
     pub(crate) fn after(
         &self,
         journal: &Journal,
@@ -146,14 +150,37 @@ impl View {
         })
     }
 
-    /// The history may come about.
+    /// Returns the view after the open segment is closed. `journal` is the next segment, `turns` are the counts that it
+    /// begins with. Processes and services are shared with this view, since a seal changes neither.
+    pub(crate) fn after_seal(&self, journal: &Journal, turns: &Turns) -> Result<View, AllocError>
+        requires history { journal.now.history ≡ sealed self.now.history }
+        requires turns { (by : By) → made turns.now by ≡ turn_of (sealed self.now.history) by }
+        ensures { IfOk result (λ v. v ≡ record { places = self.now.places; history = journal.now.history }) }
+    {
+        let alloc = self.alloc;
+        let people = Arc::try_clone(&self.people)?;
+        let services = Arc::try_clone(&self.services)?;
+        let tally = Tally::of(alloc, turns)?;
+        Ok(View {
+            alloc,
+            places: self.places,
+            length: self.length,
+            people,
+            services,
+            tally,
+            journal: Snapshot::of(journal),
+            next: None,
+        })
+    }
+
+    /// The history is lawful.
     pub fn lawful(&self)
         ensures { IsLawfulBook self.now }
     {
         let _ = &self.places;
     }
 
-    /// How many changes an actor made.
+    /// Returns the number of changes of an actor.
     pub fn turn(&self, by: By) -> u64
         ensures { result ≡ turn_of self.now.history by }
     {
@@ -161,12 +188,28 @@ impl View {
         self.tally.of_actor(by)
     }
 
-    /// The answer to a query, on the history that it is of. It leaves no record.
+    /// The answer to a query, on the history that it is of. It adds no record to the ring.
     pub fn look(&self, by: By, query: Query) -> Reply
         ensures { Looks self.now by query result }
     {
+        let (reply, _records) = self.look_recorded(by, query);
+        reply
+    }
+
+    /// As `look`, and returns the audit records of the query, oldest first.
+    pub fn look_recorded(&self, by: By, query: Query) -> (Reply, Vec<Record>)
+        ensures looks { Looks self.now by query result.0 }
+        ensures records { result.1.items ≡ look_leaves self.now by query result.0 }
+    {
+        let alloc = self.alloc;
         let length = self.length;
-        self.people
-            .answer(self.alloc, &self.services, length, by, query)
+        let Ok(records) = self.people.records(alloc, length, by, &query) else {
+            return (Reply::Refused(Refusal::Memory), Vec::new(alloc));
+        };
+        let reply = self.people.answer(alloc, &self.services, length, by, query);
+        if is_memory(&reply) {
+            return (reply, Vec::new(alloc));
+        }
+        (reply, records)
     }
 }

@@ -86,7 +86,7 @@ unasked_request (Ok x) old request replies replies_new audit none replied = reco
 }
 unasked_request (Err e) old request replies replies_new audit none replied = replied
 
--- The last denials were told, or memory was refused.
+-- The last denials were returned, or an allocation failed.
 pub denials_request : {T E : Type 0} (result : Result T E) (old : Recorded) (replies replies_new audit : List ℕ)
     → OnOk result ((replies_new ≡ replies ++ denials_text old.ring)
     ⊎ (replies_new ≡ replies ++ told_text (Refused Memory)))
@@ -107,7 +107,7 @@ denials_request (Ok x) old replies replies_new audit (inr replied) = record {
 }
 denials_request (Err e) old replies replies_new audit found = found
 
--- The open segment was to be closed, and the answer was told.
+-- The open segment was to be closed, and the answer was written.
 pub seal_request : {T E : Type 0} (result : Result T E) (old new : Recorded) (replies replies_new audit : List ℕ)
     → OnOk result ((reply : Reply) × SealsNow old reply new × (replies_new ≡ replies ++ told_text reply))
     → OnOk result (Answered AnswersItem old (Asked Seal) replies replies_new audit audit new)

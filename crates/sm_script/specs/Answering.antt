@@ -1,4 +1,4 @@
--- What the items of a script are answered.
+-- The answers to the items of a script.
 use Rattle.std.specs.Prelude.{◌≡◌, ◌⊎◌, ℕ, List, [], ◌++◌, Ok, codes, Option, Some, None}
 use Rattle.std.specs.List.{flat_map}
 use Rattle.sm_kinds.specs.declared.number.AdminId.{AdminId}
@@ -20,7 +20,8 @@ use Rattle.sm_history.specs.declared.records.Record.{Record}
 use Rattle.sm_history.specs.declared.refusal.Refusal.TheVariants.{Memory}
 use Rattle.sm_history.specs.declared.reply.Reply.TheVariants.{Refused}
 use Rattle.sm_audit.specs.AuditLines.{audit_line}
-use Rattle.sm_core.specs.Managed.{Managed, LooksAs, look_leaves, ring_after, step_leaves}
+use Rattle.sm_core.specs.Managed.{Managed, look_leaves, ring_after, step_leaves}
+use Rattle.sm_view.specs.Promises.{Looks}
 use Rattle.sm_view.specs.Steps.{Steps, AnswersSeal}
 use Rattle.sm_wire.specs.declared.request.Request.{Request}
 use Rattle.sm_wire.specs.declared.request.Request.TheVariants.{Hello, Change, Look, Denials, Seal}
@@ -31,39 +32,40 @@ use Rattle.sm_wire.specs.declared.telling.Telling.{Telling}
 use Rattle.sm_wire.specs.Replies.{denials_text, policy_refused_text, reply_text, told_text, told_in}
 use Rattle.sm_wire.specs.Texts.{Texts}
 
--- a manager as its script sees it: its book, and its newest records, the oldest first
+-- A script sees these of its manager: its book, and its newest records, oldest first.
 pub record Recorded : Type 0 where
   pub book : Book
   pub ring : List Record
 
+-- This is what a script sees of a manager.
 abbrev pub recorded : Managed → Recorded
 recorded m = record { book = m.book; ring = m.ring }
 
--- an actor's event is answered by the verdict at the turn that the actor has, and the records that it leaves go into
--- the ring; or memory was refused, and nothing changed
+-- An actor's event is answered by the verdict at the actor's turn, and its records go into the ring; or an allocation
+-- failed, and nothing changed.
 pub record AnswersNow (old : Recorded) (by : By) (event : Event) (reply : Reply) (noted : List Record) (new : Recorded)
     : Type 0 where
   pub answers : Steps old.book by (turn_of old.book.history by) event reply new.book
   pub records : noted ≡ step_leaves old.book by (turn_of old.book.history by) event reply
   pub ring : new.ring ≡ ring_after old.ring old.book by (turn_of old.book.history by) event reply
 
--- a query is answered on the history as it stands, and leaves these records to be written, none of them in the ring
+-- A query is answered on the present history; its records are written, but don't go into the ring.
 pub record AnswersQuery (old : Recorded) (by : By) (query : Query) (reply : Reply) (noted : List Record)
     (new : Recorded) : Type 0 where
-  pub looks : LooksAs old.book by query reply
+  pub looks : Looks old.book by query reply
   pub records : noted ≡ look_leaves old.book by query reply
   pub unchanged : new ≡ old
 
--- the open segment is closed, which the answer tells, or it isn't, and nothing changed; the records in the ring stay
+-- The open segment is closed, and the answer says so, or it isn't, and nothing changed. The records in the ring stay.
 pub record SealsNow (old : Recorded) (reply : Reply) (new : Recorded) : Type 0 where
   pub answers : AnswersSeal old.book reply new.book
   pub ring : new.ring ≡ old.ring
 
--- the administrator of a script
+-- This is the administrator of a script.
 abbrev pub the_administrator : AdminId
 the_administrator = record { 0 = 1 }
 
--- a request is judged on the history that the requests before it left
+-- A request is judged on the history after the requests before it.
 abbrev pub Judges : Recorded → Request → Reply → List Record → Recorded → Type 0
 Judges old (Hello who) reply noted new = AnswersNow old Manager (Connect who) reply noted new
 Judges old (Change (Some client) event) reply noted new = AnswersNow old (Client client) event reply noted new
@@ -74,7 +76,7 @@ Judges old (requests.Reload expected rules contexts) reply noted new = ⊥
 Judges old Denials reply noted new = (reply ≡ Refused Memory) × (noted ≡ []) × (new ≡ old)
 Judges old Seal reply noted new = SealsNow old reply new × (noted ≡ [])
 
--- a request that no line of a script asks: a change of a client without a number, and a `reload` without its texts
+-- No line of a script spells this request: a change without a client, or a `reload` without its files.
 abbrev pub IsUnasked : Request → Type 0
 IsUnasked (Hello who) = ⊥
 IsUnasked (Change (Some client) event) = ⊥
@@ -84,18 +86,18 @@ IsUnasked (requests.Reload expected rules contexts) = Unit {0}
 IsUnasked Denials = ⊥
 IsUnasked Seal = ⊥
 
--- who asks for a look: a client, or, where none is named, the administrator
+-- A query comes from a client, or from the administrator if none is named.
 abbrev pub asker_of : Option ClientId → By
 asker_of (Some client) = Client client
 asker_of None = Admin the_administrator
 
--- what is told of a reply stands at the end of one text, and the lines of its records at the end of another
+-- The visible part of a reply was appended to one text, and the lines of its records to another.
 pub record Told (telling : Telling) (reply : Reply) (noted : List Record)
     (replies replies_new audit audit_new : List ℕ) : Type 0 where
   pub replied : replies_new ≡ replies ++ told_text (told_in telling reply)
   pub audited : audit_new ≡ audit ++ flat_map audit_line noted
 
--- the texts are those of a policy, and this is the answer to the administrator who replaces the one in force by it
+-- The files are those of a policy, and this is the answer to the administrator who replaces the one in force by it.
 pub record Reloads (old : Recorded) (texts : Texts) (line lines : List ℕ) (new : Recorded) : Type 0 where
   pub policy : Policy
   pub reads : prepared texts.rules texts.contexts ≡ Ok policy
@@ -105,7 +107,7 @@ pub record Reloads (old : Recorded) (texts : Texts) (line lines : List ℕ) (new
   pub written : line ≡ told_text (told (Reload texts.expected policy) reply)
   pub audited : lines ≡ flat_map audit_line noted
 
--- the texts are refused, and nothing changed
+-- The policy of the files is refused, and nothing changed.
 pub record Refuses (old : Recorded) (texts : Texts) (line lines : List ℕ) (new : Recorded) : Type 0 where
   pub fault : PolicyFault
   pub fails : Fails is_memory fault (prepared texts.rules texts.contexts)
@@ -113,11 +115,11 @@ pub record Refuses (old : Recorded) (texts : Texts) (line lines : List ℕ) (new
   pub written : line ≡ policy_refused_text fault
   pub audited : lines ≡ []
 
--- the line that a `reload` is answered, its audit lines, and the state that it leaves
+-- A `reload` has this line and these audit lines as its answer, and leaves this state.
 abbrev pub AnswersTexts : Recorded → Texts → List ℕ → List ℕ → Recorded → Type 0
 AnswersTexts old texts line lines new = Reloads old texts line lines new ⊎ Refuses old texts line lines new
 
--- the reply lines of a request, its audit lines, and the state that it leaves
+-- A request has these reply lines and these audit lines, and leaves this state.
 abbrev pub AnswersRequest : Recorded → Request → List ℕ → List ℕ → Recorded → Type 0
 AnswersRequest old request line lines new =
     ((reply : Reply) × (noted : List Record) × Judges old request reply noted new × (line ≡ reply_text request reply)
@@ -125,11 +127,11 @@ AnswersRequest old request line lines new =
     ⊎ ((request ≡ Denials) × (line ≡ denials_text old.ring) × (lines ≡ []) × (new ≡ old))
     ⊎ (IsUnasked request × (line ≡ codes "malformed\n") × (lines ≡ []) × (new ≡ old))
 
--- replies, and audit lines, of fewer bytes may wait until the items that came with theirs are answered
+-- Fewer bytes of replies, and of audit lines, may be held back until the items that came with theirs are answered.
 abbrev pub held_limit : ℕ
 held_limit = 65536
 
--- the reply lines of an item, its audit lines, and the state that it leaves
+-- An item has these reply lines and these audit lines, and leaves this state.
 abbrev pub AnswersItem : Recorded → Item → List ℕ → List ℕ → Recorded → Type 0
 AnswersItem old (items.Asked request) line lines new = AnswersRequest old request line lines new
 AnswersItem old (items.Policy texts) line lines new = AnswersTexts old texts line lines new

@@ -1,4 +1,4 @@
--- What a script's run leaves.
+-- The result of a script's run.
 use Rattle.std.specs.Prelude.{◌≡◌, ◌⊎◌, ℕ, List, [], false, Option, Result, Ok, Err}
 use Rattle.sm_kinds.specs.declared.class.Class.TheVariants.{Binder}
 use Rattle.sm_kinds.specs.Contexts.{type_of}
@@ -18,37 +18,37 @@ use Rattle.sm_script.specs.declared.script_fault.ScriptFault.{ScriptFault}
 use Rattle.sm_script.specs.declared.script_fault.ScriptFault.TheVariants.{Policy as PolicyRefused, Opening, Engine}
 use Rattle.sm_script.specs.Answering.{AnswersItem, Recorded, held_limit}
 
--- a manager that was just opened
+-- This is the book of a manager that was just opened.
 abbrev pub opened_manager : ℕ → Policy → Book
 opened_manager places policy = opened places the_manager policy
 
--- the texts are those of a policy under which the manager may be opened, and this is it; there is no record
+-- The files are those of a policy that lets the manager open, and this is the manager; there is no record.
 pub record Opens (rules contexts : List ℕ) (places : ℕ) (manager : Recorded) : Type 0 where
   pub policy : Policy
   pub reads : prepared rules contexts ≡ Ok policy
   pub may_open : MayOpen the_manager policy
   pub opens : manager ≡ record { book = opened_manager places policy; ring = [] }
 
--- the manager may not be opened under a policy, and the refusal names the rule that is missing; or memory was refused
+-- The policy doesn't let the manager open, and the refusal names the missing rule; or an allocation failed.
 abbrev pub MayNotOpen : Policy → Refusal → Type 0
 MayNotOpen policy refusal =
     (refusal ≡ Memory)
     ⊎ ((allowed policy (type_of the_manager.context) (type_of the_manager.context) Binder managing ≡ false)
     × (refusal ≡ opening_denial the_manager))
 
--- the texts are those of a policy under which the manager wasn't opened
+-- The files are those of a policy under which the manager wasn't opened.
 pub record OpeningFails (rules contexts : List ℕ) (refusal : Refusal) : Type 0 where
   pub policy : Policy
   pub reads : prepared rules contexts ≡ Ok policy
   pub fails : MayNotOpen policy refusal
 
--- why nothing was run
+-- Nothing was run, for this reason.
 abbrev pub NotRun : List ℕ → List ℕ → ScriptFault → Type 0
 NotRun rules contexts (PolicyRefused fault) = Fails is_memory fault (prepared rules contexts)
 NotRun rules contexts (Opening refusal) = OpeningFails rules contexts refusal
 NotRun rules contexts (Engine fault) = ⊥
 
--- what the engine read and wrote, from a manager that was just opened to the last one
+-- The engine read and wrote this, from a manager that was just opened to the last state.
 pub record Ran (rules contexts : List ℕ) (places bound reads : ℕ) (result : Result (Unit {0}) Fault)
     (r r_new w w_new a a_new : Option (List ℕ)) : Type 0 where
   pub first : Recorded
@@ -56,7 +56,7 @@ pub record Ran (rules contexts : List ℕ) (places bound reads : ℕ) (result : 
   pub last : Recorded
   pub served : Served Script AnswersItem never held_limit result bound reads first r r_new w w_new a a_new last
 
--- how a script ended
+-- A script has this result.
 abbrev pub RunsScript : Result (Unit {0}) ScriptFault → List ℕ → List ℕ → ℕ → ℕ → ℕ → Option (List ℕ) → Option (List ℕ)
     → Option (List ℕ) → Option (List ℕ) → Option (List ℕ) → Option (List ℕ) → Type 0
 RunsScript (Ok x) rules contexts places bound reads r r_new w w_new a a_new =
@@ -68,7 +68,7 @@ RunsScript (Err (PolicyRefused fault)) rules contexts places bound reads r r_new
 RunsScript (Err (Opening refusal)) rules contexts places bound reads r r_new w w_new a a_new =
     NotRun rules contexts (Opening refusal)
 
--- a fact, if nothing was run
+-- This holds if nothing was run.
 abbrev pub IfNotRun : Result (Unit {0}) ScriptFault → Type 0 → Type 0
 IfNotRun (Ok x) fact = Unit {0}
 IfNotRun (Err (Engine fault)) fact = Unit {0}

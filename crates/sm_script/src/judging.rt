@@ -1,5 +1,5 @@
-//! Requests, answered by a manager at the turns that their actors have: the words of a reply go to the end of one text,
-//! the lines of its records to the end of another.
+//! Answers requests with a manager, at the turns of their actors. The words of a reply are appended to one text, the
+//! lines of its records to another.
 
 ghost use Rattle.std.specs.Prelude.{◌≡◌, ◌⊎◌, ◌++◌, List, OnOk, OnErr, codes};
 ghost use Rattle.sm_history.specs.declared.by.By.TheVariants.{Admin, Manager as ByManager, Client as ByClient};
@@ -23,7 +23,7 @@ use std::alloc::{AllocError, Global};
 /// The administrator of a script.
 const ADMINISTRATOR: AdminId = AdminId(1);
 
-/// Answers a process that connects.
+/// Connects a process.
 #[inline(never)]
 pub fn answer_hello(
     alloc: Global,
@@ -50,7 +50,7 @@ pub fn answer_hello(
     )
 }
 
-/// Answers a client's change, and tells as much of the reply as `telling` says.
+/// Makes a client's change, and answers with the visible part of the reply.
 #[inline(never)]
 pub fn answer_change(
     alloc: Global,
@@ -78,7 +78,7 @@ pub fn answer_change(
     )
 }
 
-/// Answers the administrator who replaces the policy.
+/// Replaces the policy.
 #[inline(never)]
 pub fn answer_prepared(
     alloc: Global,
@@ -100,7 +100,7 @@ pub fn answer_prepared(
     answer_event(alloc, manager, by, event, Telling::Whole, replies, audit)
 }
 
-// Answers an actor's event, at the turn that the actor has, and tells as much of the reply as `telling` says.
+// Makes an actor's event, at the actor's turn, and answers with the visible part of the reply.
 fn answer_event(
     alloc: Global,
     manager: &mut Manager,
@@ -122,7 +122,7 @@ fn answer_event(
     told
 }
 
-/// Answers what a client asks to be told, or, where no client is named, the administrator.
+/// Answers a query of a client, or of the administrator if no client is named.
 #[inline(never)]
 pub fn answer_query(
     alloc: Global,
@@ -144,7 +144,7 @@ pub fn answer_query(
     told
 }
 
-// An actor's event, at the turn that the actor has.
+// Makes an actor's event, at the actor's turn.
 fn step(manager: &mut Manager, by: By, event: Event) -> (Reply, Vec<Record>)
     ensures { AnswersNow (recorded manager.old) by event result.0 result.1.items (recorded manager.new) }
 {
@@ -158,7 +158,7 @@ fn look(manager: &Manager, by: By, query: Query) -> (Reply, Vec<Record>)
     manager.look_recorded(by, query)
 }
 
-// Who asks.
+// Returns who asks.
 fn asker(client: Option<ClientId>) -> By
     ensures { result ≡ asker_of client }
 {
@@ -168,7 +168,7 @@ fn asker(client: Option<ClientId>) -> By
     }
 }
 
-/// Answers the administrator who asks for the last denials.
+/// Answers with the last denials.
 #[inline(never)]
 pub fn answer_denials(
     alloc: Global,
@@ -189,7 +189,7 @@ pub fn answer_denials(
     }
 }
 
-/// Answers the administrator who asks that the open segment be closed, and lets it go.
+/// Closes the open segment, and drops it.
 #[inline(never)]
 pub fn answer_seal(
     alloc: Global,
@@ -204,7 +204,7 @@ pub fn answer_seal(
     push_reply(alloc, replies, Telling::Whole, &reply)
 }
 
-// Closes the open segment, and lets it go.
+// Closes the open segment, and drops it.
 fn seal(manager: &mut Manager) -> Reply
     ensures { SealsNow (recorded manager.old) result (recorded manager.new) }
 {
@@ -217,7 +217,7 @@ fn seal(manager: &mut Manager) -> Reply
     }
 }
 
-/// Answers a change of no client, which no line of a script asks.
+/// Answers a change without a client, which no line of a script spells.
 #[cold]
 #[inline(never)]
 pub fn answer_nobody(_event: Event, replies: &mut Vec<u8>) -> Result<(), AllocError>
@@ -226,7 +226,7 @@ pub fn answer_nobody(_event: Event, replies: &mut Vec<u8>) -> Result<(), AllocEr
     answer_unasked(replies)
 }
 
-/// Answers what no line of a script asks.
+/// Answers a request that no line of a script spells.
 #[cold]
 #[inline(never)]
 pub fn answer_unasked(replies: &mut Vec<u8>) -> Result<(), AllocError>
@@ -235,7 +235,7 @@ pub fn answer_unasked(replies: &mut Vec<u8>) -> Result<(), AllocError>
     replies.extend_from_slice(b"malformed\n")
 }
 
-// Adds what is told of a reply, and the lines of its records.
+// Appends the visible part of a reply, and the lines of its records.
 fn tell(
     alloc: Global,
     telling: Telling,
@@ -253,6 +253,6 @@ fn tell(
     push_lines(alloc, audit, records)
 }
 
-// Lets a reply and its records go: for a caller's proof one step, where their drops would each make its cases.
+// Drops a reply and its records: one step for a caller's proof, where their drops would each add cases.
 #[inline(always)]
 fn let_go(_reply: Reply, _records: Vec<Record>) {}

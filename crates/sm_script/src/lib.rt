@@ -1,5 +1,5 @@
-//! Scripts: request lines in, reply lines out, each request judged by one service manager on what the requests before
-//! it left.
+//! Scripts: request lines in, reply lines out. One service manager judges each request on the state after those before
+//! it.
 #![tactic(auto)]
 
 mod judging;

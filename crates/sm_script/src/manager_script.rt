@@ -17,7 +17,7 @@ use sm_wire::{Item, PolicyTexts, Request, push_policy_refused};
 use std::alloc::{AllocError, Global};
 use std::marker::Model;
 
-/// From this number of bytes on, replies and audit lines are written.
+/// Replies and audit lines are written once they have this number of bytes.
 const HELD_LIMIT: usize = 65536;
 
 /// A service manager that answers the items of a script.
@@ -68,7 +68,7 @@ impl Machine for Script {
 }
 
 impl Script {
-    /// A manager behind an engine.
+    /// Makes a script of a manager.
     pub fn new(alloc: Global, manager: Manager) -> Script
         ensures { result ≡ recorded manager }
     {

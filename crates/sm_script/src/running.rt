@@ -1,4 +1,4 @@
-//! Scripts, from their policy texts to the end of their input.
+//! Runs scripts.
 
 ghost use Rattle.std.specs.Prelude.{◌≡◌, ◌<◌, ◌≤◌, ◌+◌, ◌-◌, min, [], OnOk, IfOk, MatchResult};
 ghost use Rattle.std.specs.Io.KnownBytes.{IsAtEnd};
@@ -18,9 +18,9 @@ use sm_wire::Kind;
 use std::alloc::Global;
 use std::io::{Read, Write};
 
-/// Runs a script under the policy of these texts: answers the requests that come from the reader until its end, a
-/// fault, or `bound` reads. The journal has so many places. The audit lines of each request are written when it is
-/// answered, those of `list` among them.
+/// Runs a script under the policy of these files: answers the requests from the reader until its end, a fault, or
+/// `bound` reads. The journal has `places` slots. The audit lines of each request are written when it is answered,
+/// including those of `list`.
 pub fn run_script<R: Read, W: Write, A: Write>(
     alloc: Global,
     rules: &[u8],
@@ -34,7 +34,7 @@ pub fn run_script<R: Read, W: Write, A: Write>(
     requires reader { failures_of reader.old < greatest }
     requires writer { failures_of writer.old < greatest }
     requires audit { failures_of audit.old < greatest }
-    // What is written are the answers to the items of what is read, each judged on what those before it left.
+    // The answers to the items of the input are written, each judged on the state after those before it.
     ensures ran { RunsScript result rules.now contexts.now places bound (calls_of reader.new - calls_of reader.old)
         (R.remaining (inner_of reader.old)) (R.remaining (inner_of reader.new))
         (W.contents (inner_of writer.old)) (W.contents (inner_of writer.new))
@@ -68,7 +68,7 @@ pub fn run_script<R: Read, W: Write, A: Write>(
     }
 }
 
-// The script before its first request.
+// Opens a manager and makes the script before its first request.
 fn opened_script(
     alloc: Global,
     rules: &[u8],
@@ -82,7 +82,7 @@ fn opened_script(
     Ok(Script::new(alloc, manager))
 }
 
-// The manager that was just opened under a policy.
+// Opens a manager under a policy.
 fn opened_manager(alloc: Global, policy: Prepared, places: Places) -> Result<Manager, Refusal>
     ensures { MatchResult result
         (λ m. MayOpen the_manager policy × (m.book ≡ opened_manager places policy) × (m.ring ≡ []))

@@ -39,7 +39,7 @@ book_through x y z p q = record {
 pub one_more : (b : Book) (e : Entry) → turn_of (extended b e).history e.by ≡ turn_of b.history e.by + 1
 one_more b e = turn_same e b.history e.by (same_actor e.by)
 
--- What stood before the last change.
+-- The history before the last change.
 last_change : (e x : Entry) (g h : History) → entered e g ≡ entered x h → g ≡ h
 last_change e x g h is =
     let number : g.number ≡ h.number = ap (λ k. k.number) is in

@@ -17,7 +17,7 @@ use Rattle.sm_view.specs.Replies.{LeaveReply, InstallReply}
 use Rattle.sm_view.specs.Tokens.{Knows, turn}
 use Rattle.sm_view.proofs.Answers.{leave_answer, install_answer}
 
--- What holds of want of memory and of each verdict holds of the answer.
+-- What holds of a failed allocation and of each verdict holds of the answer.
 module _ (Of : Reply → Type 0) (old new : Knows) (event : Event) (memory : Of (Refused Memory))
     (verdicts : (b : Book) → Of (verdict b.places b.history old.by (turn old) event)) where
   not_made : (r : Reply) → NotMade old new event r → Of r

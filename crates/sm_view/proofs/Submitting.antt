@@ -72,8 +72,8 @@ module _ (b after : Book) (old new : Knows) (event : Event) (sees : Sees old aft
   submitted (Sealed n l) m s = not_made (Sealed n l) m s
   submitted (Refused r) m s = not_made (Refused r) m s
 
--- The token stays as it is where memory was wanted, and where the event isn't its actor's, which each history refuses
--- alike.
+-- The token stays as it is if an allocation failed, or if the event isn't its actor's, which each history refuses in
+-- the same way.
 stays : (b after : Book) (old : Knows) (event : Event) (r : Refusal) → IsLawfulBook old.seen
     → (r ≡ Memory) ⊎ (r ≡ Failed NotYours) → Steps b old.by (turn old) event (Refused r) after
     → NotMade old old event (Refused r)

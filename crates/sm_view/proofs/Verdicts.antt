@@ -1,4 +1,4 @@
--- What a verdict tells of the actor's turn.
+-- What a verdict says of the actor's turn.
 use Rattle.std.proofs.Common.{◌≡◌, ◌≢◌, ℕ, ◌==◌, ◌++◌, ◌&&◌, Bool, true, false, List, [], ◌∷◌, Option, Some, None}
 use Rattle.std.proofs.Common.{refl, sym, ap, ◌∙◌, arith, if◌then◌else◌}
 use Rattle.std.specs.List.{list_all}
@@ -27,6 +27,7 @@ use Rattle.sm_history.specs.Checks.{Check, Needs, Spares, Wants, holds, stop_of,
 use Rattle.sm_history.specs.Histories.{History, effects_of, turn_of, client_of, found}
 use Rattle.sm_history.specs.Verdict.{verdict, answered, is_theirs, is_there, outcome_of, handing_checks}
 use Rattle.sm_history.specs.Verdict.{passes_to_client, all_pass_to_client}
+use Rattle.sm_history.specs.Records.{records}
 use Rattle.sm_history.proofs.Passed.{actor_done, later_checks}
 use Rattle.sm_history.proofs.Balanced.{number_same}
 
@@ -187,3 +188,15 @@ not_yours a b by turn other event is =
     (yours_of (policy_at d) (turn_of a.history by) (later_checks a.places a.history by event)
     (outcome_of d (client_of by) event) (is_theirs by event) (is_there d by) (turn == turn_of a.history by)
     (later_plain a.places a.history by event) is)
+
+-- It leaves no record in any history.
+pub not_yours_leaves : (a b : Book) (by : By) (turn other : ℕ) (event : Event)
+    → verdict a.places a.history by turn event ≡ Refused (Failed NotYours)
+    → records b.places b.history by other event ≡ []
+not_yours_leaves a b by turn other event is =
+    let d = effects_of a.history in
+    let isnt : is_theirs by event ≡ false =
+    yours_of (policy_at d) (turn_of a.history by) (later_checks a.places a.history by event)
+    (outcome_of d (client_of by) event) (is_theirs by event) (is_there d by) (turn == turn_of a.history by)
+    (later_plain a.places a.history by event) is in
+    rw isnt refl

@@ -1,4 +1,4 @@
--- Books of which one begins with another.
+-- Books that begin with other books.
 use Rattle.std.specs.Prelude.{◌≡◌}
 use Rattle.sm_history.specs.declared.entry.Entry.{Entry}
 use Rattle.sm_history.specs.Histories.{entered}
@@ -7,19 +7,20 @@ use Rattle.sm_history.specs.Books.{Book}
 use Rattle.sm_history.specs.Beginning.{BeginsWith}
 use Rattle.sm_history.specs.Lawful.{IsLawful}
 
--- The book with one change more.
+-- This is the book with one more change.
 abbrev pub extended : Book → Entry → Book
 extended b e = record { places = b.places; history = entered e b.history }
 
--- The book behind a seal: its open segment is the next one, without changes.
+-- This is the book after a seal: its open segment is the next one, without changes.
 abbrev pub sealed_book : Book → Book
 sealed_book b = record { places = b.places; history = sealed b.history }
 
--- The book `new` begins with the book `old`: both have the same places, and the one history begins with the other.
+-- The book `new` begins with the book `old`: both have the same number of slots, and the one history begins with the
+-- other.
 pub record Begins (new old : Book) : Type 0 where
   pub places : new.places ≡ old.places
   pub history : BeginsWith new.history old.history
 
--- A history that may come about with these places.
+-- A book's history is lawful with its slots.
 abbrev pub IsLawfulBook : Book → Type 0
 IsLawfulBook b = IsLawful b.places b.history

@@ -1,4 +1,4 @@
--- What holds of books, of verdicts and of tokens: each the contract of a function of `laws.rt`.
+-- Laws of books, of verdicts and of tokens. Each is the contract of a function of `laws.rt`.
 use Rattle.std.specs.Prelude.{true, false, ◌≡◌, ◌≢◌, ◌⊎◌, ◌≤◌, ◌<◌, ℕ, ◌+◌}
 use Rattle.sm_kinds.specs.declared.identity.Identity.{Identity}
 use Rattle.sm_kinds.specs.declared.number.AdminId.{AdminId}
@@ -30,67 +30,72 @@ use Rattle.sm_view.specs.Tokens.{Knows, Grows, Sees, token, turn}
 
 -- ---- books
 
+-- A book begins with itself.
 abbrev pub BookBeginsWithItself : Type 0
 BookBeginsWithItself = (b : Book) → Begins b b
 
+-- A book begins with the one before its last change.
 abbrev pub BookBeginsWithTheOneBefore : Type 0
 BookBeginsWithTheOneBefore = (b : Book) (e : Entry) → Begins (extended b e) b
 
+-- A book begins with the one that was sealed.
 abbrev pub BookBeginsWithTheOneSealed : Type 0
 BookBeginsWithTheOneSealed = (b : Book) → Begins (sealed_book b) b
 
+-- A book begins with each book that a beginning of it begins with.
 abbrev pub BookBeginsWithItsBeginnings : Type 0
 BookBeginsWithItsBeginnings = (x y z : Book) → Begins x y → Begins y z → Begins x z
 
--- A change is one more of its actor.
+-- A change adds one to the turn of its actor.
 abbrev pub ChangeCounts : Type 0
 ChangeCounts = (b : Book) (e : Entry) → turn_of (extended b e).history e.by ≡ turn_of b.history e.by + 1
 
--- A beginning of the book after a change, with as many changes of its actor as there were before it, is a beginning of
--- the book before it.
+-- A beginning of the book after a change, with as many changes of the actor as before the change, is a beginning of the
+-- book before it.
 abbrev pub BeginningIsBefore : Type 0
 BeginningIsBefore = (b o : Book) (e : Entry) → Begins (extended b e) o
     → turn_of o.history e.by ≡ turn_of b.history e.by → Begins b o
 
--- What a token sees never goes back: neither the number of the segment, the length nor the version of the policy in
--- force, nor the changes of an actor that is there.
+-- What a token sees never goes back: neither the segment's number, the length nor the version of the policy in force,
+-- nor the number of changes of an actor that is there.
 abbrev pub NothingGoesBack : Type 0
 NothingGoesBack = (new old : Book) → IsLawfulBook old → Begins new old → IsLater new.history old.history
 
--- Where both are of one segment, it has the same opening, and its changes were made behind the older ones.
+-- If both books have the same segment, it has the same opening, and its newer changes come after the older ones.
 abbrev pub SegmentGoesOn : Type 0
 SegmentGoesOn = (new old : Book) → Begins new old → new.history.number ≡ old.history.number
     → IsLonger new.history old.history
 
--- A client that lives in a book, and had connected in one with which it begins, lived there, as the same process.
+-- A client that lives in a book, and had connected in a beginning of it, lived there, as the same process.
 abbrev pub ClientStays : Type 0
 ClientStays = (new old : Book) (c : ℕ) → Begins new old → c < next_client (effects_of old.history)
     → is_live (effects_of new.history) c ≡ true
     → (is_live (effects_of old.history) c ≡ true)
     × (identity_at (effects_of new.history) c ≡ identity_at (effects_of old.history) c)
 
--- A seal is no change: it leaves the length, the version, and the changes of each actor that is there.
+-- A seal is no change: it keeps the length, the version, and the number of changes of each actor that is there.
 pub record IsNoChange (h : History) : Type 0 where
   pub length : length_of (sealed h) ≡ length_of h
   pub version : version_at (effects_of (sealed h)) ≡ version_at (effects_of h)
   pub turns : (by : By) → is_there (effects_of h) by ≡ true → turn_of (sealed h) by ≡ turn_of h by
 
+-- Sealing a book is no change.
 abbrev pub SealIsNoChange : Type 0
 SealIsNoChange = (b : Book) → IsNoChange b.history
 
 -- ---- verdicts
 
--- What is done has the turn of its actor.
+-- A change that is done has the turn of its actor.
 abbrev pub DoneIsInTurn : Type 0
 DoneIsInTurn = (places : ℕ) (h : History) (by : By) (turn : ℕ) (event : Event) (outcome : Outcome)
     → verdict places h by turn event ≡ Done outcome → turn ≡ turn_of h by
 
--- An event is out of turn where its actor made another number of changes, which is the answer.
+-- An event is out of turn if its actor made another number of changes; the answer has that number.
 abbrev pub OutOfTurnTellsTurn : Type 0
 OutOfTurnTellsTurn = (places : ℕ) (h : History) (by : By) (turn : ℕ) (event : Event) (n : ℕ)
     → verdict places h by turn event ≡ Refused (Failed (OutOfTurn n)) → (n ≡ turn_of h by) × (turn ≢ turn_of h by)
 
--- Any other answer but those that come before it has the event in turn.
+-- Any answer after that check means that the event had its turn.
 abbrev pub OthersAreInTurn : Type 0
 OthersAreInTurn = (places : ℕ) (h : History) (by : By) (turn : ℕ) (event : Event)
     → verdict places h by turn event ≢ Refused (Failed NotYours)
@@ -98,7 +103,7 @@ OthersAreInTurn = (places : ℕ) (h : History) (by : By) (turn : ℕ) (event : E
     → ((n : ℕ) → verdict places h by turn event ≢ Refused (Failed (OutOfTurn n)))
     → turn ≡ turn_of h by
 
--- An event that isn't its actor's is refused alike on each history.
+-- An event that isn't its actor's is refused in the same way on each history.
 abbrev pub NotYoursIsAlike : Type 0
 NotYoursIsAlike = (a b : Book) (by : By) (turn other : ℕ) (event : Event)
     → verdict a.places a.history by turn event ≡ Refused (Failed NotYours)
@@ -112,43 +117,44 @@ TokenGoesOn = (old new : Knows) → IsLawfulBook old.seen → Grows old new
     → IsLater new.seen.history old.seen.history
     × (is_there (effects_of new.seen.history) old.by ≡ true → turn old ≤ turn new)
 
--- Of one step by the token's actor, at the token's turn: where the token sees the book that the step left, it knows
--- what the call promises.
+-- If a token's actor makes a step at the token's turn, and the token then sees the book after the step, the call's
+-- promise holds.
 abbrev pub StepIsSubmitted : Type 0
 StepIsSubmitted = (b after : Book) (old new : Knows) (event : Event) (reply : Reply) → Sees old after new
     → moves reply ≡ true → Steps b old.by (turn old) event reply after → Submitted old new event reply
 
--- Where the answer isn't one to be seen, the token knows it as it is.
+-- If the answer moves no token, the promise holds for the token as it is.
 abbrev pub UnseenIsSubmitted : Type 0
 UnseenIsSubmitted = (b after : Book) (old : Knows) (event : Event) (reply : Reply) → IsLawfulBook old.seen
     → moves reply ≡ false → Steps b old.by (turn old) event reply after → Submitted old old event reply
 
--- A Die by a client and a Reload by an administrator are answered as these may be.
+-- A client's Die has one of its possible answers.
 abbrev pub LeaveIsAnswered : Type 0
 LeaveIsAnswered = (old new : Knows) (c : ClientId) (reply : Reply) → old.by ≡ Client c
     → Submitted old new Die reply → LeaveReply reply
 
+-- An administrator's Reload has one of its possible answers.
 abbrev pub InstallIsAnswered : Type 0
 InstallIsAnswered = (old new : Knows) (a : AdminId) (expected : ℕ) (policy : Policy) (reply : Reply) → old.by ≡ Admin a
     → Submitted old new (Reload expected policy) reply → InstallReply reply
 
--- Of the manager's step at its own turn that lets a process in, or doesn't.
+-- The manager's step at its own turn that connects a process has one of its possible answers.
 abbrev pub ConnectIsAnswered : Type 0
 ConnectIsAnswered = (b after : Book) (who : Identity) (due : ℕ) (reply : Reply) → due ≡ turn_of b.history Manager
     → Steps b Manager due (Connect who) reply after → ConnectReply reply
 
--- Whoever holds a place, it sees the same.
+-- A slot sees the same, whoever owns it.
 abbrev pub PlaceSeesAlike : Type 0
 PlaceSeesAlike = (old new : Knows) (b : Book) (by : By) → Sees old b new
     → Sees (token by old.seen old.reads) b (token by new.seen new.reads)
 
--- A place that sees the book after it, in the hands of the new client, is a session that has joined.
+-- A slot of the new client that sees the book after the step is a session that has joined.
 abbrev pub ConnectJoins : Type 0
 ConnectJoins = (b after : Book) (old seat : Knows) (who : Identity) (due : ℕ) (c : ClientId)
     → due ≡ turn_of b.history Manager → Steps b Manager due (Connect who) (Done (Connected c)) after
     → Sees old after seat → Joined old (token (Client c) seat.seen seat.reads) who
 
--- A seat that sees the book that refused is turned away; for want of memory it stays.
+-- A seat that sees the book that refused is turned away; if an allocation failed, it stays as it is.
 abbrev pub ConnectTurns : Type 0
 ConnectTurns = (b after : Book) (old new : Knows) (who : Identity) (due : ℕ) (refusal : Refusal)
     → due ≡ turn_of b.history Manager → Steps b Manager due (Connect who) (Refused refusal) after
@@ -157,13 +163,12 @@ ConnectTurns = (b after : Book) (old new : Knows) (who : Identity) (due : ℕ) (
 
 -- ---- seals
 
--- Of one seal of a book that the token sees: where it then sees the book that the seal left, it knows what the call
--- promises.
+-- If a token sees a book that is sealed, and then the book after the seal, the call's promise holds.
 abbrev pub SealCloses : Type 0
 SealCloses = (b after : Book) (old between new : Knows) (segment : History) → Sees old b between
     → Seals b segment after → Sees between after new → Closed old new segment
 
--- Where no segment was closed, it is enough that the token sees the book.
+-- If no segment was closed, it is enough that the token sees the book.
 abbrev pub OpenIsNotClosed : Type 0
 OpenIsNotClosed = (b after : Book) (old new : Knows) (refusal : Refusal) → Sees old b new → StaysOpen b refusal after
     → NotClosed old new refusal

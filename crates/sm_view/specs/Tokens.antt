@@ -5,20 +5,21 @@ use Rattle.sm_history.specs.Books.{Book}
 use Rattle.sm_history.specs.Histories.{turn_of}
 use Rattle.sm_view.specs.Begins.{Begins, IsLawfulBook}
 
--- Whose token it is, the book that it has seen, and how often it has read.
+-- A token has an actor, the book that it has seen, and the number of its reads.
 pub record Knows : Type 0 where
   pub by : By
   pub seen : Book
   pub reads : ℕ
 
+-- This is the token with these parts.
 abbrev pub token : By → Book → ℕ → Knows
 token by seen reads = record { by = by; seen = seen; reads = reads }
 
--- How many changes of the token's actor stand in what it has seen.
+-- This is the number of changes of the token's actor in what it has seen.
 abbrev pub turn : Knows → ℕ
 turn t = turn_of t.seen.history t.by
 
--- What a place gives, or something else where there is none.
+-- This is the value of an option, seen by a function, or a default.
 abbrev pub at_or : {R K : Type 0} → K → (R → K) → Option R → K
 at_or other value None = other
 at_or other value (Some r) = value r

@@ -1,18 +1,18 @@
-//! What is told where a session stands.
+//! Gates, at which tests hold a session.
 
-/// What is told where a session stands, as a test that holds it there. Lines are numbered from 1 in each session.
+/// Called at points of a session, so that a test can hold the session there. Lines are numbered from 1 in each session.
 pub trait Gate {
-    /// The desk is about to be asked this line.
+    /// The desk will be asked this line next.
     fn enter(&self, line: u64);
 
-    /// The desk is about to make a change.
+    /// The desk will make a change next.
     fn inside(&self);
 
-    /// The answer to this line is written.
+    /// The answer to this line was written.
     fn leave(&self, line: u64);
 }
 
-/// The gate of a program, which does nothing.
+/// The gate of the program, which does nothing.
 #[derive(Drop)]
 pub struct NoGate;
 

@@ -1,4 +1,4 @@
-//! Answers, taken apart.
+//! Takes answers apart.
 
 ghost use Rattle.std.specs.Prelude.{◌≡◌, MatchResult, MatchOption};
 ghost use Rattle.sm_history.specs.Verdict.{is_die};
@@ -9,8 +9,8 @@ ghost use Rattle.sm_view.specs.Replies.{moves, refusal_moves, ConnectReply, Leav
 use sm_history::{Event, Failure, Outcome, Refusal, Reply};
 use sm_kinds::ClientId;
 
-/// Whether the token of the actor is to see the history that answered: not after want of memory, which leaves it as
-/// it is, and not after `NotYours`, which tells nothing of a history.
+/// Returns whether the actor's token is to see the history that answered: not if an allocation failed, which leaves the
+/// token as it is, and not after `NotYours`, which says nothing of a history.
 pub fn moves(reply: &Reply) -> bool
     ensures { result ≡ moves reply.now }
 {
@@ -30,14 +30,14 @@ fn refusal_moves(refusal: &Refusal) -> bool
     }
 }
 
-/// Whether the event is a client's death, by which its session ends.
+/// Returns whether the event is a client's death, which ends its session.
 pub fn is_death(event: &Event) -> bool
     ensures { result ≡ is_die event.now }
 {
     matches!(event, Event::Die)
 }
 
-/// The number of the client that was let in, or why it wasn't: `TooManyClients`, `JournalFull` or `Memory`.
+/// Returns the number of the client that was connected, or why it wasn't: `TooManyClients`, `JournalFull` or `Memory`.
 pub fn connected(reply: Reply) -> Result<ClientId, Refusal>
     requires { ConnectReply reply }
     ensures { MatchResult result (λ c. reply ≡ Done (Connected c)) (λ r. (reply ≡ Refused r) × OfConnect r) }
@@ -49,7 +49,7 @@ pub fn connected(reply: Reply) -> Result<ClientId, Refusal>
     }
 }
 
-/// Why a client hasn't left (`OutOfTurn`, `NotConnected` or `Memory`), or nothing where it has.
+/// Returns why a client hasn't left (`OutOfTurn`, `NotConnected` or `Memory`), or `None` if it has.
 pub fn left(reply: Reply) -> Option<Refusal>
     requires { LeaveReply reply }
     ensures { MatchOption result (reply ≡ Done Died) (λ r. (reply ≡ Refused r) × OfLeave r) }
@@ -61,8 +61,8 @@ pub fn left(reply: Reply) -> Option<Refusal>
     }
 }
 
-/// The number of the policy that is in force now, or why it wasn't set: `OutOfTurn`, `VersionMoved`, `JournalFull`
-/// or `Memory`.
+/// Returns the version of the policy that is in force now, or why it wasn't set: `OutOfTurn`, `VersionMoved`,
+/// `JournalFull` or `Memory`.
 pub fn installed(reply: Reply) -> Result<u64, Refusal>
     requires { InstallReply reply }
     ensures { MatchResult result (λ v. reply ≡ Done (Reloaded v)) (λ r. (reply ≡ Refused r) × OfInstall r) }

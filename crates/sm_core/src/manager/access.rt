@@ -1,4 +1,4 @@
-//! Who may do what: each check of an allow rule, as in AOSP's `Access.cpp`. All rule checks come through here.
+//! Access checks: each check of an allow rule, as in AOSP's `Access.cpp`. All rule checks go through these functions.
 
 ghost use Rattle.std.specs.Prelude.{◌≡◌, ◌⊎◌, ℕ, List, [], ◌∷◌, ◌++◌, None, Some, option_map, IfOk, MatchResult};
 ghost use Rattle.sm_kinds.specs.Contexts.{type_of};
@@ -23,7 +23,7 @@ use sm_kinds::{Class, Context, Identity, Name, Perms};
 use sm_policy::Decision;
 use std::alloc::{AllocError, Global};
 
-/// That no allow rule gives a permission from a process to a context, which is the label of a name or not.
+/// Returns the stop for a missing allow rule from a process to a context; has the name if the context is its label.
 #[cold]
 #[inline(never)]
 fn unruled(
@@ -61,7 +61,7 @@ fn unruled(
 }
 
 impl Manager {
-    /// Notes what a decision leaves on record.
+    /// Appends the audit record of a decision, if there is one.
     #[tactic(auto, unfolding(crate::specs::Judging::noted))]
     fn audit(
         &self,
@@ -83,7 +83,7 @@ impl Manager {
         self.record(made.allowed, who, target, name, class, perm, notes)
     }
 
-    /// Notes the record of a rule that isn't there. Few checks leave one, and the others don't pay for its room.
+    /// Appends the record of a missing rule. Few checks have one, so this is out of line.
     #[cold]
     #[inline(never)]
     fn record(
@@ -109,7 +109,7 @@ impl Manager {
         }
     }
 
-    /// The record of a rule that isn't there.
+    /// Returns the record of a missing rule.
     fn missing(
         &self,
         who: &Identity,
@@ -138,7 +138,7 @@ impl Manager {
         })
     }
 
-    /// That a clause on the user number bars a request, which is noted.
+    /// Returns the stop for a failed clause on the user number, and appends its record.
     #[cold]
     #[inline(never)]
     pub fn barred(&self, denial: Denial, who: &Identity, name: &Name, notes: &mut Notes) -> Halt
@@ -151,7 +151,7 @@ impl Manager {
         }
     }
 
-    /// The same; or memory is wanted.
+    /// The same, or the stop for a failed allocation.
     #[tactic(auto, unfolding(crate::specs::Judging::clause_noted))]
     fn bars(
         &self,
@@ -180,7 +180,7 @@ impl Manager {
         })
     }
 
-    /// A process may send a transaction to the manager.
+    /// Checks that a process may send a transaction to the manager.
     pub fn can_call_manager(&self, who: &Process, notes: &mut Notes) -> Result<(), Halt>
         requires { who.now ≡ process_at (effects_of self.now.book.history) who.now.who }
         ensures { IsRuled (moment_of self.now.book.history) notes.old notes.new Binder calling who.now.who (manager_at (effects_of self.now.book.history)).context None result }
@@ -188,7 +188,7 @@ impl Manager {
         self.needs_binder(who, &self.state.manager, Perms::CALL, notes)
     }
 
-    /// A process may pass a reference to the manager.
+    /// Checks that a process may pass a reference to the manager.
     pub fn can_transfer_to_manager(&self, who: &Process, notes: &mut Notes) -> Result<(), Halt>
         requires { who.now ≡ process_at (effects_of self.now.book.history) who.now.who }
         ensures { IsRuled (moment_of self.now.book.history) notes.old notes.new Binder transferring who.now.who (manager_at (effects_of self.now.book.history)).context None result }
@@ -196,7 +196,7 @@ impl Manager {
         self.needs_binder(who, &self.state.manager, Perms::TRANSFER, notes)
     }
 
-    /// The manager may send a transaction to a process.
+    /// Checks that the manager may send a transaction to a process.
     pub fn can_call_from_manager(&self, who: &Process, notes: &mut Notes) -> Result<(), Halt>
         requires { who.now ≡ process_at (effects_of self.now.book.history) who.now.who }
         ensures { IsRuled (moment_of self.now.book.history) notes.old notes.new Binder calling (manager_at (effects_of self.now.book.history)) who.now.who.context None result }
@@ -204,7 +204,7 @@ impl Manager {
         self.needs_binder(&self.state.manager, who, Perms::CALL, notes)
     }
 
-    /// The manager may pass a reference to a process.
+    /// Checks that the manager may pass a reference to a process.
     pub fn can_transfer_from_manager(&self, who: &Process, notes: &mut Notes) -> Result<(), Halt>
         requires { who.now ≡ process_at (effects_of self.now.book.history) who.now.who }
         ensures { IsRuled (moment_of self.now.book.history) notes.old notes.new Binder transferring (manager_at (effects_of self.now.book.history)) who.now.who.context None result }
@@ -212,7 +212,7 @@ impl Manager {
         self.needs_binder(&self.state.manager, who, Perms::TRANSFER, notes)
     }
 
-    /// A process may send a transaction to another one.
+    /// Checks that a process may send a transaction to another one.
     pub fn can_call_client(
         &self,
         who: &Process,
@@ -226,7 +226,7 @@ impl Manager {
         self.needs_binder(who, other, Perms::CALL, notes)
     }
 
-    /// A process may pass a reference to another one.
+    /// Checks that a process may pass a reference to another one.
     pub fn can_transfer_to_client(
         &self,
         who: &Process,
@@ -240,7 +240,7 @@ impl Manager {
         self.needs_binder(who, other, Perms::TRANSFER, notes)
     }
 
-    /// A process may add a service under a name, whose label is the target.
+    /// Checks that a process may add a service under a name, whose label is the target.
     pub fn can_add(&self, who: &Process, name: &Name, notes: &mut Notes) -> Result<(), Halt>
         requires { who.now ≡ process_at (effects_of self.now.book.history) who.now.who }
         ensures { IsRuled (moment_of self.now.book.history) notes.old notes.new ServiceManager adding who.now.who (label_at (effects_of self.now.book.history) name.now) (Some name.now) result }
@@ -248,7 +248,7 @@ impl Manager {
         self.needs_label(who, name, Perms::ADD, notes)
     }
 
-    /// A process may find the service under a name, whose label is the target.
+    /// Checks that a process may find the service of a name, whose label is the target.
     pub fn can_find(&self, who: &Process, name: &Name, notes: &mut Notes) -> Result<(), Halt>
         requires { who.now ≡ process_at (effects_of self.now.book.history) who.now.who }
         ensures { IsRuled (moment_of self.now.book.history) notes.old notes.new ServiceManager finding who.now.who (label_at (effects_of self.now.book.history) name.now) (Some name.now) result }
@@ -256,7 +256,7 @@ impl Manager {
         self.needs_label(who, name, Perms::FIND, notes)
     }
 
-    /// A process may list the names; the manager's own context is the target.
+    /// Checks that a process may list the names; the manager's own context is the target.
     pub fn can_list(&self, who: &Process, notes: &mut Notes) -> Result<(), Halt>
         requires { who.now ≡ process_at (effects_of self.now.book.history) who.now.who }
         ensures { IsRuled (moment_of self.now.book.history) notes.old notes.new ServiceManager listing who.now.who (manager_at (effects_of self.now.book.history)).context None result }
@@ -274,7 +274,7 @@ impl Manager {
         )
     }
 
-    /// An allow rule gives a permission of Binder from a process to another one.
+    /// Checks that an allow rule grants a permission of Binder from a process to another one.
     fn needs_binder(
         &self,
         source: &Process,
@@ -298,7 +298,7 @@ impl Manager {
         )
     }
 
-    /// An allow rule gives a permission of the service manager from a process to the label of a name.
+    /// Checks that an allow rule grants a permission of the service manager from a process to the label of a name.
     fn needs_label(
         &self,
         source: &Process,
@@ -321,8 +321,8 @@ impl Manager {
         )
     }
 
-    /// An allow rule gives a permission from a process to a context, which is the label of a name or not, and whose
-    /// type has this number.
+    /// Checks that an allow rule grants a permission from a process to a context, whose type has this number; the name
+    /// is there if the context is its label.
     fn needs(
         &self,
         source: &Process,

@@ -26,7 +26,7 @@ use sm_history::{BoxedDelivery, Delivery, Effect, Failure, Given, GivenRefs, Mes
 use sm_kinds::{Identity, Node, ObjRef, Payload, Refs};
 use std::alloc::{AllocError, Global};
 
-/// The objects that a receiver doesn't own, which it needs handles for.
+/// Returns the objects that a receiver doesn't own, for which it needs handles.
 fn foreign(alloc: Global, receiver: u32, named: &[Option<Node>]) -> Result<Vec<Node>, AllocError>
     ensures { IfOk result (λ v. v.items ≡ others receiver named.now) }
 {
@@ -41,7 +41,7 @@ fn foreign(alloc: Global, receiver: u32, named: &[Option<Node>]) -> Result<Vec<N
     Ok(nodes)
 }
 
-/// What the receiver gets, with numbers for those that need handles.
+/// Returns what the receiver gets, with numbers for the objects that need handles.
 fn given(
     alloc: Global,
     receiver: u32,
@@ -67,7 +67,7 @@ fn given(
     Ok(list)
 }
 
-/// Grants of objects under these numbers.
+/// Returns grants of objects under these numbers.
 fn gives(
     alloc: Global,
     receiver: u32,
@@ -89,7 +89,7 @@ fn gives(
     Ok(effects)
 }
 
-/// What a process sends to an object by a call.
+/// Returns the delivery of a call to an object.
 fn delivery(
     alloc: Global,
     who: &Identity,
@@ -109,7 +109,7 @@ fn delivery(
 }
 
 impl Manager {
-    /// A client calls another one's object by a handle: a one-way transaction, as Linux's binder driver checks it
+    /// Judges a call of another client's object by a handle: a one-way transaction, as Linux's binder driver checks it
     /// by `selinux_binder_transaction` and, for each reference, `selinux_binder_transfer_binder`.
     pub fn judge_call(
         &self,
@@ -142,7 +142,7 @@ impl Manager {
         self.plan_call(row, target, payload, named.as_slice(), nodes.as_slice())
     }
 
-    /// The object that is called: the caller may call the process that owns it, which lives.
+    /// Returns the called object, if its owner lives and the caller may call the owner.
     fn judge_target(&self, row: &ClientRow, handle: u32, notes: &mut Notes) -> Result<Node, Halt>
         requires { row.now ≡ client_row (effects_of self.now.book.history) row.now.id }
         ensures { MatchResult result
@@ -165,7 +165,7 @@ impl Manager {
         Ok(node)
     }
 
-    /// The objects that a call's references name, if each may be passed to the receiver.
+    /// Returns the objects that a call's references name, if each may be passed to the receiver.
     fn judge_references(
         &self,
         row: &ClientRow,
@@ -193,7 +193,7 @@ impl Manager {
         Ok(named)
     }
 
-    /// The object that a reference names, if it is null or may be passed to the receiver.
+    /// Returns the object that a reference names, if it is null or may be passed to the receiver.
     fn judge_passed(
         &self,
         row: &ClientRow,
@@ -215,7 +215,7 @@ impl Manager {
         }
     }
 
-    /// The object of a reference, if it names one that may be passed to the receiver.
+    /// Returns the object of a reference, if it names one that may be passed to the receiver.
     fn judge_named(
         &self,
         row: &ClientRow,
@@ -240,7 +240,7 @@ impl Manager {
         Ok(node)
     }
 
-    /// Whether a receiver has room for a delivery, and for handles to these objects.
+    /// Returns whether a receiver has room for a delivery, and for handles to these objects.
     fn has_room(&self, receiver: u32, nodes: &[Node]) -> bool
         requires { is_live (effects_of self.now.book.history) receiver ≡ true }
         ensures { result ≡ (has_inbox_room (effects_of self.now.book.history) receiver
@@ -249,7 +249,7 @@ impl Manager {
         self.state.inboxes.has_room(receiver) && self.state.grants.room(receiver, nodes)
     }
 
-    /// The numbers that a receiver has for these objects, granted in order.
+    /// Returns the numbers that a receiver has for these objects, granted in order.
     fn numbers(&self, receiver: u32, nodes: &[Node]) -> Result<Vec<u32>, AllocError>
         requires live { is_live (effects_of self.now.book.history) receiver ≡ true }
         requires few { length nodes.now ≤ MOST_REFS }
@@ -258,7 +258,7 @@ impl Manager {
         self.state.grants.numbers(self.alloc, receiver, nodes)
     }
 
-    /// What a call does that meets its checks.
+    /// Returns the plan of a call that passes its checks.
     fn plan_call(
         &self,
         row: &ClientRow,

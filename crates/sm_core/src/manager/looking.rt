@@ -7,9 +7,10 @@ ghost use Rattle.sm_history.specs.Clients.{is_live, policy_at, version_at};
 ghost use Rattle.sm_history.specs.Histories.{effects_of, length_of, client_of};
 ghost use Rattle.sm_history.specs.Queries.{names_by_mask, is_their_query, query_checks, checks_of_query, found_out};
 ghost use Rattle.sm_history.specs.Verdict.{is_there};
-ghost use Rattle.sm_core.specs.Managed.{LooksAs, look_leaves};
+ghost use Rattle.sm_core.specs.Managed.{look_leaves};
 ghost use Rattle.sm_history.specs.Records.{moment_of};
 ghost use Rattle.sm_core.specs.Judging.{AllPass, Halts, IsAskerStop};
+ghost use Rattle.sm_view.specs.Promises.{Looks};
 ghost use Rattle.sm_view.specs.Replies.{takes_memory};
 
 use crate::halt::{Halt, Plain};
@@ -20,7 +21,7 @@ use sm_history::{Answer, By, Failure, NameList, Query, Record, Reply};
 use sm_kinds::Name;
 use std::alloc::AllocError;
 
-/// Who may ask which query.
+/// Returns whether an actor may ask a query.
 pub fn may_ask(by: By, query: &Query) -> bool
     ensures { result ≡ is_their_query by query.now }
 {
@@ -32,20 +33,17 @@ pub fn may_ask(by: By, query: &Query) -> bool
 }
 
 impl Manager {
-    /// The answer to a query, on the history as it stands.
+    /// Answers a query, on the present history.
     pub fn look(&self, by: By, query: Query) -> Reply
-        ensures { LooksAs self.now.book by query result }
+        ensures { Looks self.now.book by query result }
     {
-        let mut notes = Notes::none(self.alloc);
-        match self.judge_query(by, &query, &mut notes) {
-            Ok(found) => self.looked(found),
-            Err(stop) => answer(self.alloc, stop),
-        }
+        let (reply, _records) = self.look_recorded(by, query);
+        reply
     }
 
-    /// As `look`, and gives the records of the query.
+    /// As `look`, and returns the records of the query.
     pub fn look_recorded(&self, by: By, query: Query) -> (Reply, Vec<Record>)
-        ensures looks { LooksAs self.now.book by query result.0 }
+        ensures looks { Looks self.now.book by query result.0 }
         ensures records { result.1.items ≡ look_leaves self.now.book by query result.0 }
     {
         let mut notes = Notes::none(self.alloc);
@@ -61,7 +59,7 @@ impl Manager {
         }
     }
 
-    /// What was found out, with the version and the length.
+    /// Returns a result with the version and the length.
     fn looked(&self, found: Answer) -> Reply
         ensures { result ≡ Looked (version_at (effects_of self.now.book.history)) (length_of self.now.book.history) found }
     {
@@ -72,7 +70,7 @@ impl Manager {
         }
     }
 
-    /// What stops a query, or what it finds out.
+    /// Returns why a query is refused, or its result.
     pub fn judge_query(&self, by: By, query: &Query, notes: &mut Notes) -> Result<Answer, Halt>
         ensures judged { MatchResult result
             (λ found. AllPass (moment_of self.now.book.history) notes.old notes.new (checks_of_query self.now.book.history by query.now)
@@ -124,7 +122,7 @@ impl Manager {
         }
     }
 
-    /// The names whose dump flags share a bit with the mask, in rising byte order.
+    /// Returns the names whose dump flags share a bit with the mask, in rising byte order.
     fn names_by_mask(&self, mask: u32) -> Result<Vec<Name>, AllocError>
         ensures { IfOk result (λ v. v.items ≡ names_by_mask (effects_of self.now.book.history) mask) }
     {

@@ -1,4 +1,4 @@
-//! The records of what no rule gives.
+//! The audit records of a manager.
 
 ghost use Rattle.std.specs.Prelude.{◌≡◌, ◌≤◌, length, IfOk};
 ghost use Rattle.sm_audit.specs.declared.ring.TheConstants.{MOST_RECORDS};
@@ -12,7 +12,7 @@ use sm_history::{By, Event, Query, Record};
 use std::alloc::AllocError;
 
 impl Manager {
-    /// The newest records, at most 1,024, the oldest first. `Err`: memory was refused.
+    /// Returns the newest records, at most 1,024, oldest first. Returns an error if an allocation fails.
     pub fn records(&self) -> Result<Vec<Record>, AllocError>
         ensures all { IfOk result (λ v. v.items ≡ self.now.ring) }
         ensures few { length self.now.ring ≤ MOST_RECORDS }
@@ -20,7 +20,8 @@ impl Manager {
         self.ring.all(self.alloc)
     }
 
-    /// The records that a `step` of this event would put into the ring now. `Err`: memory was refused.
+    /// Returns the records that a `step` of this event would add to the ring now. Returns an error if an allocation
+    /// fails.
     pub fn step_records(&self, by: By, turn: u64, event: &Event) -> Result<Vec<Record>, AllocError>
         ensures { IfOk result (λ v. v.items ≡ records self.now.book.places self.now.book.history by turn event.now) }
     {
@@ -44,7 +45,7 @@ impl Manager {
         }
     }
 
-    /// The records of a query. `Err`: memory was refused.
+    /// Returns the records of a query. Returns an error if an allocation fails.
     pub fn look_records(&self, by: By, query: &Query) -> Result<Vec<Record>, AllocError>
         ensures { IfOk result (λ v. v.items ≡ query_records self.now.book.history by query.now) }
     {

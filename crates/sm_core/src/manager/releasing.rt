@@ -17,7 +17,7 @@ use sm_history::{Effect, Failure, Outcome};
 use sm_kinds::ObjRef;
 
 impl Manager {
-    /// A client gives back one grant of a handle. The last one frees its number.
+    /// Judges a release of one grant of a handle. The last release frees the number.
     pub fn judge_release(&self, client: u32, handle: u32) -> Result<Plan, Halt>
         requires { is_live (effects_of self.now.book.history) client ≡ true }
         ensures { (old : List Record) → Judged self.now.book.history old old client (Release handle) result }

@@ -19,11 +19,11 @@ use std::alloc::AllocError;
 use std::mem;
 
 impl Manager {
-    /// Closes the open segment, and gives it. It is no event, and takes no turn.
+    /// Closes the open segment, and returns it. A seal is no event, and has no turn.
     ///
     /// # Errors
     ///
-    /// `Empty`: the segment has no changes. `Memory` where memory was refused.
+    /// `Empty` if the segment has no changes, `Memory` if an allocation fails.
     pub fn seal(&mut self) -> Result<Segment, Refusal>
         ensures seals { MatchResult result (λ s. Seals self.old.book s self.new.book) (λ r. StaysOpen self.old.book r self.new.book) }
         ensures ring { self.new.ring ≡ self.old.ring }
@@ -34,7 +34,7 @@ impl Manager {
         }
     }
 
-    /// Makes all that a seal takes memory for.
+    /// Makes all allocations of a seal.
     ///
     /// # Errors
     ///
@@ -54,7 +54,7 @@ impl Manager {
         }
     }
 
-    /// The next segment, and the counts that it begins with.
+    /// Makes the next segment, and the counts that it begins with.
     fn opened_next(&self) -> Result<ReadySeal, AllocError>
         requires { self.now.book.history.entries ≢ [] }
         ensures { IfOk result (λ r. IsReadySeal self.now r) }
@@ -68,7 +68,7 @@ impl Manager {
         Ok(ReadySeal { journal, turns })
     }
 
-    /// What the changes so far left, as rows.
+    /// Returns the rows that the changes so far left.
     fn rows(&self) -> Result<Rows, AllocError>
         ensures { IfOk result (λ r. r ≡ rows_of self.now.book.history) }
     {
@@ -79,7 +79,7 @@ impl Manager {
         Ok(Rows::new(tables, turns, length))
     }
 
-    /// Closes the open segment. It takes no memory.
+    /// Closes the open segment. Allocates nothing.
     pub fn commit_seal(&mut self, ready: ReadySeal) -> Segment
         requires { IsReadySeal self.old ready }
         ensures segment { result ≡ self.old.book.history }
@@ -93,22 +93,17 @@ impl Manager {
         closed.closed()
     }
 
-    /// What readers see of it once the segment is closed.
+    /// Returns the view after the segment is closed. What a seal doesn't change is shared with the last view, which is
+    /// of the present state.
     ///
     /// # Errors
     ///
-    /// An error where memory was refused.
-    pub fn view_sealed(&self, ready: &ReadySeal) -> Result<View, AllocError>
-        requires { IsReadySeal self.now ready.now }
+    /// An error if an allocation fails.
+    pub fn view_sealed(&self, ready: &ReadySeal, last: &View) -> Result<View, AllocError>
+        requires ready { IsReadySeal self.now ready.now }
+        requires last { last.now ≡ self.now.book }
         ensures { IfOk result (λ v. v ≡ sealed_book self.now.book) }
     {
-        let alloc = self.alloc;
-        View::of(
-            alloc,
-            self.places,
-            &ready.journal,
-            &self.state,
-            &ready.turns,
-        )
+        last.after_seal(&ready.journal, &ready.turns)
     }
 }

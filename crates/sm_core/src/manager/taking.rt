@@ -1,4 +1,4 @@
-//! Taking what waits.
+//! Takes of deliveries.
 
 ghost use Rattle.std.specs.Prelude.{◌≡◌, ◌∷◌, true, [], drop, MatchOption};
 ghost use Rattle.sm_history.specs.declared.event.Event.TheVariants.{Take};
@@ -17,7 +17,7 @@ use crate::plan::Plan;
 use sm_history::{BoxedDelivery, Effect, Outcome};
 
 impl Manager {
-    /// The delivery that has waited longest for a client.
+    /// Returns a client's oldest delivery.
     fn oldest(&self, client: u32) -> Option<&BoxedDelivery>
         ensures { MatchOption result (inbox_at (effects_of self.now.book.history) client ≡ [])
             (λ x. inbox_at (effects_of self.now.book.history) client
@@ -26,7 +26,7 @@ impl Manager {
         self.state.inboxes.first(client)
     }
 
-    /// A client takes the delivery that has waited longest in its inbox.
+    /// Judges a take of the oldest delivery from a client's inbox.
     pub fn judge_take(&self, client: u32) -> Result<Plan, Halt>
         requires { is_live (effects_of self.now.book.history) client ≡ true }
         ensures { (old : List Record) → Judged self.now.book.history old old client Take result }

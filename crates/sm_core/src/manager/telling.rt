@@ -1,4 +1,4 @@
-//! Telling watchers of a registration.
+//! Notices to watchers of a registration.
 
 ghost use Rattle.std.specs.Prelude.{◌≡◌, ◌==◌, true, false, [], ◌∷◌, Some, MatchOption, MatchResult};
 ghost use Rattle.std.specs.List.{list_all};
@@ -23,7 +23,7 @@ use crate::telling::{Telling, boxed_twice, listed_twice};
 use sm_history::{Effect, Failure, Given, Notice, Outcome, Told, Watch};
 use sm_kinds::{ClientId, Name, Node};
 
-/// That a watcher's inbox or its handles have no room.
+/// Returns the stop for a watcher whose inbox or handles have no room.
 fn full() -> Halt
     ensures { result ≡ spec.full }
 {
@@ -31,7 +31,7 @@ fn full() -> Halt
 }
 
 impl Manager {
-    /// Whether a client holds no more handles than it may.
+    /// Returns whether a client holds no more handles than it may.
     fn fits_handles(&self, client: u32) -> bool
         requires { is_live (effects_of self.now.book.history) client ≡ true }
         ensures { result ≡ fits_handles (effects_of self.now.book.history) client }
@@ -39,7 +39,7 @@ impl Manager {
         self.state.grants.room(client, &[])
     }
 
-    /// How an object reaches a client, if its handles have room.
+    /// Returns an object as it reaches a client, if the client's handles have room.
     fn given_to(&self, client: u32, node: Node) -> Option<Given>
         requires { is_live (effects_of self.now.book.history) client ≡ true }
         ensures { MatchOption result (fits_handles (handed (effects_of self.now.book.history) client node) client ≡ false)
@@ -58,7 +58,7 @@ impl Manager {
         }
     }
 
-    /// For how many more deliveries a client's inbox has place.
+    /// Returns the number of deliveries for which a client's inbox still has room.
     fn left(&self, telling: &Telling, client: u32) -> usize
         ensures { result ≡ left_at (effects_of self.now.book.history) telling.now client }
     {
@@ -68,7 +68,7 @@ impl Manager {
         }
     }
 
-    /// How the object reaches a watcher that may be told, and whose inbox has place for so many deliveries.
+    /// Returns the object as it reaches a watcher that may be notified, and whose inbox has room for `left` deliveries.
     fn judge_told(
         &self,
         watch: &Watch,
@@ -97,7 +97,7 @@ impl Manager {
         }
     }
 
-    /// Tells a watcher, or finds why it may not be told.
+    /// Notifies a watcher, or finds why it may not be notified.
     fn tell(&self, watch: &Watch, node: Node, telling: &mut Telling) -> Result<Told, Halt>
         requires live { is_live (effects_of self.now.book.history) watch.now.client ≡ true }
         requires telling { IsTelling (effects_of self.now.book.history) node telling.old }
@@ -120,7 +120,8 @@ impl Manager {
         }
     }
 
-    /// Tells a watcher that an object was put under the name, and gives it the object; or says why it may not be told.
+    /// Notifies a watcher that an object was registered under the name, and gives it the object; or returns why it may
+    /// not be notified.
     pub fn notify(&self, watch: &Watch, node: Node, telling: &mut Telling) -> Result<Notice, Halt>
         requires live { is_live (effects_of self.now.book.history) watch.now.client ≡ true }
         requires telling { IsTelling (effects_of self.now.book.history) node telling.old }
@@ -137,8 +138,8 @@ impl Manager {
         })
     }
 
-    /// Tells the watchers of a name in order that an object was put under it, each as the ones before it left
-    /// things.
+    /// Notifies the watchers of a name in order that an object was registered under it, each on the state after the
+    /// ones before it.
     pub fn notify_all(
         &self,
         watches: &[Watch],
@@ -163,14 +164,14 @@ impl Manager {
         Ok(notices)
     }
 
-    /// The watches of a name, in the order of watching.
+    /// Returns the watches of a name, oldest first.
     fn watchers(&self, name: &[u8]) -> &[Watch]
         ensures { result.now ≡ watchers_at (effects_of self.now.book.history) name.now }
     {
         self.state.names.watchers(name)
     }
 
-    /// What an accepted Watch does behind these effects, where the name has an object.
+    /// Returns the plan of an accepted Watch after these effects, if the name has an object.
     pub fn plan_watched(
         &self,
         watch: &Watch,
@@ -199,7 +200,8 @@ impl Manager {
         })
     }
 
-    /// What an accepted Add does behind these effects: all who watch the name are told, or it is said why not.
+    /// Returns the plan of an accepted Add after these effects: each watcher of the name is notified, or has the reason
+    /// why not.
     pub fn plan_added(&self, name: &Name, node: Node, effects: Vec<Effect>) -> Result<Plan, Halt>
         requires { MayPrecede (effects_of self.now.book.history) node effects.items }
         ensures { MatchResult result

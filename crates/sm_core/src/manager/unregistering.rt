@@ -1,4 +1,4 @@
-//! Taking names back.
+//! Unregistering of names.
 
 ghost use Rattle.std.specs.Prelude.{◌≡◌, true, MatchResult};
 ghost use Rattle.sm_history.specs.declared.event.Event.TheVariants.{Unregister};
@@ -21,7 +21,7 @@ use crate::plan::Plan;
 use sm_history::{Effect, Exception, Outcome};
 use sm_kinds::{Name, Node, ObjRef};
 
-/// That a call of the service manager fails by one of Binder's exceptions.
+/// Returns the stop for a call that fails with a Binder exception.
 fn failed(exception: Exception) -> Halt
     ensures { result ≡ Unmet (Refused (Excepted exception)) }
 {
@@ -29,7 +29,7 @@ fn failed(exception: Exception) -> Halt
 }
 
 impl Manager {
-    /// A client takes back the name under which it put an object (`tryUnregisterService`).
+    /// Judges the removal of a service by the client that added it (`tryUnregisterService`).
     pub fn judge_unregister(
         &self,
         client: u32,
@@ -60,7 +60,7 @@ impl Manager {
         })
     }
 
-    /// Whether the caller may take a name from an object.
+    /// Checks that the caller may remove an object from a name.
     fn judge_removal(
         &self,
         row: &ClientRow,
@@ -92,7 +92,7 @@ impl Manager {
         Ok(())
     }
 
-    /// Whether a live client other than one holds an object.
+    /// Returns whether a live client other than one holds an object.
     fn is_in_use(&self, except: u32, node: Node) -> bool
         ensures { result ≡ is_in_use (effects_of self.now.book.history) except node }
     {

@@ -10,11 +10,11 @@ use crate::view::View;
 use std::alloc::AllocError;
 
 impl Manager {
-    /// What readers see of it now.
+    /// Returns a view of the present state.
     ///
     /// # Errors
     ///
-    /// An error where memory was refused.
+    /// An error if an allocation fails.
     pub fn view(&self) -> Result<View, AllocError>
         ensures { IfOk result (λ v. v ≡ self.now.book) }
     {
@@ -22,12 +22,12 @@ impl Manager {
         View::of(alloc, self.places, &self.journal, &self.state, &self.turns)
     }
 
-    /// What readers see of it once this event is committed. What the event doesn't change is shared with the last
-    /// view, which is of what there is now.
+    /// Returns the view after this event is committed. What the event doesn't change is shared with the last view,
+    /// which is of the present state.
     ///
     /// # Errors
     ///
-    /// An error where memory was refused.
+    /// An error if an allocation fails.
     pub fn view_after(&self, ready: &Ready, last: &View) -> Result<View, AllocError>
         requires ready { IsReady self.now ready.now }
         requires last { last.now ≡ self.now.book }

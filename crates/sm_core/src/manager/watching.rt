@@ -1,4 +1,4 @@
-//! Watching names.
+//! Watches of names.
 
 ghost use Rattle.std.specs.Prelude.{◌≡◌, ◌≤◌, true, length, count_by, nat_lt, MatchResult};
 ghost use Rattle.std.specs.List.{list_any};
@@ -22,7 +22,7 @@ use crate::plan::Plan;
 use sm_history::{Denial, Effect, Exception, MOST_WATCHES, Outcome, Watch, WatchPair};
 use sm_kinds::{Name, is_isolated, valid_name};
 
-/// A client's object as one that watches a name.
+/// Makes the watch of a name by a client's object.
 fn watch_of(client: u32, name: &Name, object: u32) -> Result<Watch, Halt>
     ensures { MatchResult result (λ w. w ≡ watch client name.now object) (λ s. s ≡ spec.wanted) }
 {
@@ -36,7 +36,7 @@ fn watch_of(client: u32, name: &Name, object: u32) -> Result<Watch, Halt>
     }
 }
 
-/// The same, twice.
+/// Makes the watch and its copy.
 fn pair_of(client: u32, name: &Name, object: u32) -> Result<WatchPair, Halt>
     ensures { MatchResult result (λ w. w ≡ watch client name.now object) (λ s. s ≡ spec.wanted) }
 {
@@ -47,7 +47,7 @@ fn pair_of(client: u32, name: &Name, object: u32) -> Result<WatchPair, Halt>
 }
 
 impl Manager {
-    /// A client's object watches a name (`registerForNotifications`).
+    /// Judges a new watch of a name by a client's object (`registerForNotifications`).
     pub fn judge_watch(
         &self,
         client: u32,
@@ -78,7 +78,7 @@ impl Manager {
         }
     }
 
-    /// Whether a client may watch a name.
+    /// Checks that a client may watch a name.
     fn judge_watching(&self, row: &ClientRow, name: &Name, notes: &mut Notes) -> Result<(), Halt>
         requires { row.now ≡ client_row (effects_of self.now.book.history) row.now.id }
         ensures { MatchResult result
@@ -102,7 +102,7 @@ impl Manager {
         Ok(())
     }
 
-    /// How many watches live clients have.
+    /// Returns the number of watches of live clients.
     pub fn watches(&self) -> usize
         ensures count { result ≡ length (watches_at (effects_of self.now.book.history)) }
         ensures few { result ≤ MOST_WATCHES }
@@ -110,7 +110,7 @@ impl Manager {
         self.state.names.watches()
     }
 
-    /// A client's object no longer watches a name (`unregisterForNotifications`): every such watch ends.
+    /// Judges the removal of every watch of a name by a client's object (`unregisterForNotifications`).
     pub fn judge_unwatch(
         &self,
         client: u32,
@@ -141,14 +141,14 @@ impl Manager {
         })
     }
 
-    /// Whether a client's object watches a name.
+    /// Returns whether a client's object watches a name.
     fn is_watching(&self, client: u32, name: &[u8], object: u32) -> bool
         ensures { result ≡ list_any (same_watch (watch client name.now object)) (watches_at (effects_of self.now.book.history)) }
     {
         self.state.names.is_watching(client, name, object)
     }
 
-    /// How many watches of a name a client's object has.
+    /// Returns the number of watches of a name by a client's object.
     fn watching(&self, client: u32, name: &[u8], object: u32) -> u32
         ensures { result ≡ count_by (same_watch (watch client name.now object)) (watches_at (effects_of self.now.book.history)) }
     {

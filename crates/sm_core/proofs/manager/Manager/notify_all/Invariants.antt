@@ -8,7 +8,7 @@ use Rattle.sm_core.specs.Telling.{IsTelling}
 use Rattle.sm_history.specs.Records.{moment_of, left_by_notices}
 use Rattle.sm_core.proofs.manager.Manager.notify_all.Given as goal
 
--- The watchers that are left are live, and telling them comes to the same.
+-- The remaining watchers are live, and notifying them has the same result.
 abbrev pub invariant-loop-watch : goal.invariant-loop-watch
 invariant-loop-watch l = record {
   live : list_all (λ w. is_live (effects_of l.self.book.history) w.client) (drop l.watch-index l.watches) ≡ true;

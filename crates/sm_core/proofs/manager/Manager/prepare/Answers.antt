@@ -4,13 +4,14 @@ use Rattle.sm_core.proofs.manager.Manager.prepare.Goals as goal
 
 pub make_room-requires : goal.make_room-requires
 make_room-requires c =
-    rw c.deref.ensures.value (numbers_planned c.args.self.now.book c.args.self.now.state c.self.inside.turns c.self.inside.ring c.args.by c.args.turn c.args.event c.args.plan
+    rw c.deref-2.ensures.value (numbers_planned c.args.self.now.book c.args.self.now.state c.self.inside.turns
+    c.self.inside.ring c.args.by c.args.turn c.args.event c.args.plan
     (rw (← c.self.view_is) c.self.invariant) c.requires.pass c.requires.plan)
 
 pub returns-clause-ready : goal.returns-clause-ready
 returns-clause-ready c = (
   ready_planned c.args.self.now.book c.make_room.new.self c.args.by c.args.turn c.args.event c.args.plan
-      c.args.plan.told c.in-Ok.records c.make_room.ensures.same c.requires.pass c.requires.plan c.requires.plan.told
+      c.args.plan.told c.in_ok-records.records c.make_room.ensures.same c.requires.pass c.requires.plan c.requires.plan.told
       (search rules) (search rules) (search rules),
   refl,
   refl,

@@ -1,50 +1,25 @@
-use Rattle.std.proofs.Common.{List, subst}
-use Rattle.sm_history.specs.declared.records.Record.{Record}
-use Rattle.sm_history.specs.Records.{moment_of}
-use Rattle.sm_history.specs.Verdict.{checks}
-use Rattle.sm_core.specs.Judging.{Halts, AllPass}
-use Rattle.sm_core.proofs.Keeping.{kept_answers, refused_leaves, refused_ring, stop_answers, stop_true}
+use Rattle.sm_core.proofs.Keeping.{done_answers, done_leaves, done_ring, kept_answers}
 use Rattle.sm_core.proofs.manager.Manager.step_recorded.Goals as goal
 
-pub carry_out-requires-clause-pass : goal.carry_out-requires-clause-pass
-carry_out-requires-clause-pass c =
-    let b = c.args.self.now.book in
-    subst (λ (old : List Record). AllPass (moment_of b.history) old c.judge.new.notes
-    (checks b.places b.history c.args.by c.args.turn c.args.event)) c.none-notes.ensures c.in-Ok.ensures.0
+pub returns-in-Ok-clause-answers : goal.returns-in-Ok-clause-answers
+returns-in-Ok-clause-answers c =
+    let r = c.in-Ok.ensures.ready in
+    done_answers c.args.self.now.book c.ready_recorded.new.self.book c.commit.new.self.book c.args.by c.args.turn
+    c.args.event c.in-Ok.ready c.commit.result c.in-Ok.ensures.same r.0.done r.1 r.2 r.3 c.commit.ensures.places
+    c.commit.ensures.history c.commit.ensures.reply
 
-pub refuse_recorded-requires : goal.refuse_recorded-requires
-refuse_recorded-requires c =
-    let b = c.args.self.now.book in
-    stop_true b.places b.history c.args.by c.args.turn c.args.event c.judge.new.notes c.in-Err.stop
-    (rw (← c.self.view_is) c.self.invariant.lawful)
-    (subst (λ (old : List Record). Halts (moment_of b.history) old c.judge.new.notes
-    (checks b.places b.history c.args.by c.args.turn c.args.event) c.in-Err.stop) c.none-notes.ensures c.in-Err.ensures)
+pub returns-in-Ok-clause-ring : goal.returns-in-Ok-clause-ring
+returns-in-Ok-clause-ring c =
+    done_ring c.args.self.now c.ready_recorded.new.self c.commit.new.self.ring c.args.by c.args.turn c.args.event
+    c.in-Ok.ready c.commit.result c.in-Ok.ensures.kept c.in-Ok.ensures.noted c.commit.ensures.ring
+    c.commit.ensures.reply
+
+pub returns-in-Ok-clause-records : goal.returns-in-Ok-clause-records
+returns-in-Ok-clause-records c =
+    done_leaves c.args.self.now.book c.args.by c.args.turn c.args.event c.in-Ok.ready.entry.outcome
+    c.in-Ok.records.items c.commit.result c.in-Ok.ensures.copied c.commit.ensures.reply
 
 pub returns-in-Err-clause-answers : goal.returns-in-Err-clause-answers
 returns-in-Err-clause-answers c =
-    let b = c.args.self.now.book in
-    kept_answers b c.refuse_recorded.new.self.book c.args.by c.args.turn c.args.event c.refuse_recorded.result.0
-    c.refuse_recorded.ensures.same
-    (stop_answers b.places b.history c.args.by c.args.turn c.args.event c.judge.new.notes c.in-Err.stop
-    c.refuse_recorded.result.0
-    (subst (λ (old : List Record). Halts (moment_of b.history) old c.judge.new.notes
-    (checks b.places b.history c.args.by c.args.turn c.args.event) c.in-Err.stop) c.none-notes.ensures c.in-Err.ensures)
-    c.refuse_recorded.ensures.answer)
-
-pub returns-in-Err-clause-ring : goal.returns-in-Err-clause-ring
-returns-in-Err-clause-ring c =
-    let b = c.args.self.now.book in
-    refused_ring c.args.self.now c.args.by c.args.turn c.args.event c.in-Err.stop c.judge.new.notes _
-    c.refuse_recorded.result.0
-    (subst (λ (old : List Record). Halts (moment_of b.history) old c.judge.new.notes
-    (checks b.places b.history c.args.by c.args.turn c.args.event) c.in-Err.stop) c.none-notes.ensures c.in-Err.ensures)
-    c.refuse_recorded.ensures.answer c.refuse_recorded.ensures.ring
-
-pub returns-in-Err-clause-records : goal.returns-in-Err-clause-records
-returns-in-Err-clause-records c =
-    let b = c.args.self.now.book in
-    refused_leaves b c.args.by c.args.turn c.args.event c.in-Err.stop c.judge.new.notes _
-    c.refuse_recorded.result.0
-    (subst (λ (old : List Record). Halts (moment_of b.history) old c.judge.new.notes
-    (checks b.places b.history c.args.by c.args.turn c.args.event) c.in-Err.stop) c.none-notes.ensures c.in-Err.ensures)
-    c.refuse_recorded.ensures.answer c.refuse_recorded.ensures.records
+    kept_answers c.args.self.now.book c.ready_recorded.new.self.book c.args.by c.args.turn c.args.event
+    c.in-Err.refused.0 c.in-Err.ensures.same c.in-Err.ensures.refused

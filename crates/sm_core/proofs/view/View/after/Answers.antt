@@ -5,11 +5,15 @@ use Rattle.sm_history.specs.Histories.{History, entered}
 use Rattle.sm_history.specs.declared.entry.Entry.{Entry}
 use Rattle.sm_core.specs.Journals.{Written}
 use Rattle.sm_core.specs.Viewing.{Viewed}
+use Rattle.sm_core.proofs.Small.{small_turns}
 use Rattle.sm_core.proofs.Viewing.{viewed_length, viewed_more}
 use Rattle.sm_core.proofs.view.View.after.Goals as goal
 
 pub overflow_add-result : goal.overflow_add-result
 overflow_add-result c = let v = viewed_length _ _ _ _ _ _ _ c.self.invariant in omega (arith, v)
+
+pub after-requires-clause-few : goal.after-requires-clause-few
+after-requires-clause-few c = small_turns _ _ _ _ c.args.ready.now.entry.by c.requires.kept
 
 pub invariant_of-result : goal.invariant_of-result
 invariant_of-result c =
