@@ -26,6 +26,8 @@ use Rattle.sm_door.specs.contracts.desk.Desk as Desk
 use Rattle.sm_door.specs.contracts.actor.Actor as Actor
 use Rattle.sm_door.specs.contracts.actor.Actor.TheInside as ActorInside
 use Rattle.sm_door.specs.contracts.desk.Desk.TheInside as DeskInside
+use Rattle.sm_door.specs.contracts.publisher.Publisher as Publisher
+use Rattle.sm_door.specs.contracts.publisher.Publisher.TheInside as PublisherInside
 
 module _ (T : RattleType) (g : Ghosts T.Denot) where
   abbrev pub reader_row : RattleType
@@ -52,29 +54,43 @@ module _ (T : RattleType) (g : Ghosts T.Denot) where
   u64_send : IsSend Field.u64-field.row
   u64_send = search sendable depth 20
 
+  global_send : IsSend (Global.the_field).row
+  global_send = search (sendable, crosses) depth 20 fits 20000
+
   inside_send : IsSend reader_row → IsSend (ActorInside.the_row T g)
   inside_send r =
       let D = ActorInside.the_type T g in
-      recorded_send _ _ _ D.to_one (struct_send (struct.shape D) (by_send, (u64_send, (option_send reader_row r, tt))))
+      recorded_send _ _ _ D.to_one
+      (struct_send (struct.shape D) (global_send, (by_send, (u64_send, (option_send reader_row r, tt)))))
 
   pub actor_send : IsSend reader_row → IsSend (Actor.the_row T g)
   actor_send r = view_send (ActorInside.the_row T g) _ _ _ _ (inside_send r)
 
-  global_send : IsSend (Global.the_field).row
-  global_send = search (sendable, crosses) depth 20 fits 20000
-
   abbrev pub page_row : RattleType
   page_row = Arc.the_row (Page.the_row T g) Global.the_row Heap.ghosts
 
-  desk_inside_send : IsSend (Manager.the_field).row → IsSend (Roll.the_field T g).row → IsSend page_row
-      → IsSend writer_row → IsSend (DeskInside.the_row T (Absorb.ghosts T g Absorb.no_dict) g)
-  desk_inside_send manager roll page w =
-      let D = DeskInside.the_type T (Absorb.ghosts T g Absorb.no_dict) g in
+  publisher_inside_send : IsSend (Roll.the_field T g).row → IsSend page_row → IsSend writer_row
+      → IsSend (PublisherInside.the_row T (Absorb.ghosts T g Absorb.no_dict) g)
+  publisher_inside_send roll page w =
+      let D = PublisherInside.the_type T (Absorb.ghosts T g Absorb.no_dict) g in
       recorded_send _ _ _ D.to_one
-      (struct_send (struct.shape D) (global_send, (manager, (roll, (page, (option_send writer_row w, tt))))))
+      (struct_send (struct.shape D) (global_send, (roll, (page, (option_send writer_row w, tt)))))
+
+  publisher_send : IsSend (Roll.the_field T g).row → IsSend page_row → IsSend writer_row
+      → IsSend (Publisher.the_row T (Absorb.ghosts T g Absorb.no_dict) g)
+  publisher_send roll page w =
+      let inside = publisher_inside_send roll page w in
+      view_send (PublisherInside.the_row T (Absorb.ghosts T g Absorb.no_dict) g) _ _ _ _ inside
+
+  desk_inside_send : IsSend (Manager.the_field).row → IsSend (Roll.the_field T g).row → IsSend page_row
+      → IsSend writer_row → IsSend (DeskInside.the_row T g (Absorb.ghosts T g Absorb.no_dict))
+  desk_inside_send manager roll page w =
+      let D = DeskInside.the_type T g (Absorb.ghosts T g Absorb.no_dict) in
+      recorded_send _ _ _ D.to_one
+      (struct_send (struct.shape D) (global_send, (manager, (publisher_send roll page w, tt))))
 
   pub desk_send : IsSend (Manager.the_field).row → IsSend (Roll.the_field T g).row → IsSend page_row
-      → IsSend writer_row → IsSend (Desk.the_row T (Absorb.ghosts T g Absorb.no_dict) g)
+      → IsSend writer_row → IsSend (Desk.the_row T g (Absorb.ghosts T g Absorb.no_dict))
   desk_send manager roll page w =
       let inside = desk_inside_send manager roll page w in
-      view_send (DeskInside.the_row T (Absorb.ghosts T g Absorb.no_dict) g) _ _ _ _ inside
+      view_send (DeskInside.the_row T g (Absorb.ghosts T g Absorb.no_dict)) _ _ _ _ inside

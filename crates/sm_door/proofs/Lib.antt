@@ -1,3 +1,4 @@
 mod Places
+mod Logging
 mod Counting
 pub mod Crossing

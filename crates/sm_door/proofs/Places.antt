@@ -19,7 +19,7 @@ use Rattle.sm_history.specs.declared.refusal.Refusal.TheVariants.{Memory}
 use Rattle.sm_history.specs.declared.reply.Reply.{Reply}
 use Rattle.sm_history.specs.declared.reply.Reply.TheVariants.{Done, Refused}
 use Rattle.sm_audit.specs.Rings.{newest_of}
-use Rattle.sm_core.specs.Managed.{IsSame, IsAnswer, ring_after}
+use Rattle.sm_core.specs.Managed.{IsSame, IsAnswer, ring_after, step_leaves}
 use Rattle.sm_view.specs.Begins.{Begins}
 use Rattle.sm_view.specs.Steps.{Steps, Seals}
 use Rattle.sm_view.proofs.Books.{book_itself, book_through}
@@ -130,6 +130,12 @@ pub ring_done : (ring between new : List Record) (b : Book) (by : By) (turn : �
 ring_done ring between new b by turn event noted outcome r is same left made =
     subst (λ (r : Reply). new ≡ ring_after ring b by turn event r) (sym is)
     (made ∙ λ i. newest_of (same i ++ left i))
+
+-- The records that come with a change that was made.
+pub leaves_done : (b : Book) (by : By) (turn : ℕ) (event : Event) (noted : List Record) (outcome : Outcome) (r : Reply)
+    → r ≡ Done outcome → noted ≡ records b.places b.history by turn event → noted ≡ step_leaves b by turn event r
+leaves_done b by turn event noted outcome r is left =
+    subst (λ (r : Reply). noted ≡ step_leaves b by turn event r) (sym is) left
 
 -- A segment that was closed.
 pub seals_done : (b b' : Book) (segment : History) → b.history.entries ≢ [] → segment ≡ b.history

@@ -1,4 +1,4 @@
--- The rule over the published view: what a place has seen is a beginning of the published history.
+-- The rule over the published view: what a slot has seen is a beginning of the published history.
 use Rattle.std.specs.Prelude.{◌≡◌, ℕ, ◌+◌, List}
 use mathlib.Core.Option.{some}
 use lib.ListN.{get_elem?}
@@ -6,13 +6,14 @@ use Rattle.sm_history.specs.Books.{Book}
 use Rattle.sm_view.specs.Begins.{Begins}
 use Rattle.sm_door.specs.declared.published.Known.{Known}
 
+-- A slot knows this book and has read this often.
 abbrev pub known : Book → ℕ → Known
 known b reads = record { seen = b; reads = reads }
 
--- the history begins with the one of the opening, and with what each place has seen
+-- The history begins with the one of the opening, and with what each slot has seen.
 abbrev pub Keeps : Book → Book → List Known → Type 0
 Keeps opening b views = Begins b opening × ((seat : ℕ) (v : Known) → get_elem? views seat ≡ some v → Begins b v.seen)
 
--- a reader takes the published history x, which begins with what it had seen, and has read once more
+-- A reader takes the published history x, which begins with what it had seen, and has read once more.
 abbrev pub Enters : Known → Book → Known → Type 0
 Enters v x w = Begins x v.seen × (w ≡ known x (v.reads + 1))

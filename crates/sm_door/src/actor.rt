@@ -1,27 +1,30 @@
-//! What each token is inside: an actor, and its place among the readers.
+//! Actors with their reader slots.
 
-ghost use Rattle.std.specs.Prelude.{◌≡◌};
+ghost use Rattle.std.specs.Prelude.{◌≡◌, [], MatchOption};
 ghost use Rattle.left_right.specs.Sides.{view as place_view};
 ghost use Rattle.sm_history.specs.Histories.{turn_of};
 ghost use Rattle.sm_view.specs.Begins.{IsLawfulBook};
 ghost use Rattle.sm_view.specs.Promises.{Read};
 ghost use Rattle.sm_view.specs.Tokens.{Sees as SeesNow, token, turn};
+ghost use Rattle.sm_door.specs.Logged.{ReadFrom, ReadLogged};
 ghost use Rattle.sm_door.specs.Rule.{known};
 
 use crate::desk::Desk;
 use crate::published::{Sees, ViewReader};
-use sm_history::{By, Query, Refusal, Reply};
+use sm_history::{By, Query, Record, Refusal, Reply};
 use sm_roll::Naming;
+use std::alloc::Global;
 use std::marker::Model;
 use std::sync::Wait;
 
-/// An actor's place. Contracts see it as whose it is, the history that it has seen, and how often it has read.
+/// An actor with its reader slot. Contracts see the actor, the history that it has seen, and the number of its reads.
 #[derive(Drop)]
 pub struct Actor<J: Naming> {
+    alloc: Global,
     by: By,
-    /// How many changes of its own it has seen.
+    /// The number of its own changes that it has seen.
     turn: u64,
-    /// Its place. It is away within a call alone.
+    /// Its reader slot, which is absent only within a call.
     reader: Option<ViewReader<J>>,
 }
 
@@ -41,28 +44,37 @@ impl<J: Naming> Model for Actor<J> {
 }
 
 impl<J: Naming> Actor<J> {
-    /// The actor of a new place.
-    pub(crate) fn new(by: By, turn: u64, reader: ViewReader<J>) -> Actor<J>
+    /// Makes an actor with a new slot.
+    pub(crate) fn new(alloc: Global, by: By, turn: u64, reader: ViewReader<J>) -> Actor<J>
         requires new { place_view reader.place ≡ known J.opening 0 }
         requires turn { turn ≡ turn_of J.opening.history by }
         requires lawful { IsLawfulBook J.opening }
         ensures { result ≡ token by J.opening 0 }
     {
         Actor {
+            alloc,
             by,
             turn,
             reader: Some(reader),
         }
     }
 
-    /// Whose place it is.
+    /// Returns the actor.
     pub fn by(&self) -> By
         ensures { result ≡ self.now.by }
     {
         self.by
     }
 
-    /// How many changes of its own it has seen: the turn of its next one. What it has seen may come about.
+    /// Returns an empty list of records.
+    pub(crate) fn no_records(&self) -> Vec<Record>
+        ensures { result.items ≡ [] }
+    {
+        Vec::new(self.alloc)
+    }
+
+    /// Returns the number of its own changes that it has seen, which is its next turn. The history that it has seen is
+    /// lawful.
     pub fn due(&self) -> u64
         ensures turn { result ≡ turn self.now }
         ensures lawful { IsLawfulBook self.now.seen }
@@ -73,22 +85,42 @@ impl<J: Naming> Actor<J> {
         }
     }
 
-    /// Answers a query from the page that is published. It waits for nobody. `NoSeat`: no entry was to be had, and the
-    /// place stays as it is.
+    /// Answers a query from the published page. Never blocks. `NoSeat` if no entry was free; the token is then
+    /// unchanged.
     pub fn read(&mut self, query: Query) -> Reply
         ensures { Read self.old self.new query result }
+    {
+        match self.read_page(query) {
+            Some((reply, _records)) => reply,
+            None => Reply::Refused(Refusal::NoSeat),
+        }
+    }
+
+    /// As `read`, and returns the audit records of the query, oldest first.
+    pub fn read_recorded(&mut self, query: Query) -> (Reply, Vec<Record>)
+        ensures { ReadLogged self.old self.new query result.0 result.1.items }
+    {
+        match self.read_page(query) {
+            Some(answered) => answered,
+            None => (Reply::Refused(Refusal::NoSeat), Vec::new(self.alloc)),
+        }
+    }
+
+    /// Returns the answer of the published page, with the query's records, or `None` if no entry was free.
+    fn read_page(&mut self, query: Query) -> Option<(Reply, Vec<Record>)>
+        ensures { MatchOption result (self.new ≡ self.old) (λ r. ReadFrom self.old self.new query r.0 r.1.items) }
     {
         match self.reader.take().unwrap().enter_as::<Sees>() {
             Ok(reading) => {
                 let page = &reading.get().page;
-                let reply = page.look(self.by, query);
+                let answered = page.look_recorded(self.by, query);
                 self.turn = page.turn(self.by);
                 self.reader = Some(reading.leave());
-                reply
+                Some(answered)
             }
             Err(reader) => {
                 self.reader = Some(reader);
-                Reply::Refused(Refusal::NoSeat)
+                None
             }
         }
     }
@@ -103,16 +135,22 @@ impl<J: Naming> Actor<J> {
         self.reader = Some(reader);
     }
 
-    /// The place in the hands of another actor, who made so many changes.
+    /// Passes the slot to another actor, who made `turn` changes.
     pub(crate) fn passed(self, by: By, turn: u64) -> Actor<J>
         requires { turn ≡ turn_of self.seen.history by }
         ensures { result ≡ token by self.seen self.reads }
     {
         let Actor {
+            alloc,
             by: _,
             turn: _,
             reader,
         } = self;
-        Actor { by, turn, reader }
+        Actor {
+            alloc,
+            by,
+            turn,
+            reader,
+        }
     }
 }

@@ -1,4 +1,4 @@
-//! What administrators hold.
+//! Administrators' tokens.
 
 ghost use Rattle.std.specs.Prelude.{◌≡◌};
 ghost use Rattle.sm_history.specs.declared.by.By.TheVariants.{Admin as TheAdmin};
@@ -11,7 +11,7 @@ use std::marker::Model;
 /// An administrator's token. It can't be copied, and serves the door that made it.
 #[derive(Drop)]
 pub struct Admin<J: Naming> {
-    /// The number of its place. It is read by the invariant alone.
+    /// The administrator's number, which only the invariant reads.
     number: AdminId,
     pub(crate) actor: Actor<J>,
 }
@@ -29,7 +29,7 @@ impl<J: Naming> Model for Admin<J> {
 }
 
 impl<J: Naming> Admin<J> {
-    /// The token of an administrator's place.
+    /// Makes the token of an administrator.
     pub(crate) fn new(number: AdminId, actor: Actor<J>) -> Admin<J>
         requires { actor.by ≡ TheAdmin number }
         ensures { result ≡ actor }

@@ -1,4 +1,4 @@
-//! A client's place at the door, with or without a client.
+//! A client's slot at the door, with or without a client.
 
 ghost use Rattle.std.specs.Prelude.{◌≡◌, MatchResult};
 
@@ -9,8 +9,8 @@ use sm_kinds::ClientId;
 use sm_roll::Naming;
 use std::marker::Model;
 
-/// A client's place at the door, with or without a client: what a server keeps for a connection that may have said
-/// nothing yet. Contracts see it as the free seat or the session that it was made of.
+/// A client's slot at the door, with or without a client: what a server keeps for a connection that may have sent
+/// nothing yet. Contracts see it as the free seat or the session of which it was made.
 #[derive(Drop)]
 pub struct Chair<J: Naming> {
     client: Option<ClientId>,
@@ -31,7 +31,7 @@ impl<J: Naming> Model for Chair<J> {
 }
 
 impl<J: Naming> Chair<J> {
-    /// A free seat.
+    /// Makes a slot without a client.
     pub fn of_seat(seat: Seat<J>) -> Chair<J>
         ensures { result ≡ seat }
     {
@@ -41,7 +41,7 @@ impl<J: Naming> Chair<J> {
         }
     }
 
-    /// A client's session.
+    /// Makes a slot with a client's session.
     pub fn of_session(session: Session<J>) -> Chair<J>
         ensures { result ≡ session }
     {
@@ -52,7 +52,7 @@ impl<J: Naming> Chair<J> {
         }
     }
 
-    /// The session of its client. `Err`: it has none, and is a free seat.
+    /// Returns the session of its client, or the free seat if it has no client.
     pub fn taken(self) -> Result<Session<J>, Seat<J>>
         ensures { MatchResult result (λ session. session ≡ self) (λ seat. seat ≡ self) }
     {

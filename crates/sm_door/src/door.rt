@@ -1,6 +1,6 @@
 //! The door: the desk behind its lock.
 
-ghost use Rattle.std.specs.Prelude.{◌≡◌, ◌⊎◌, true, false, IfOk, IfErr, MatchResult};
+ghost use Rattle.std.specs.Prelude.{◌≡◌, ◌⊎◌, true, false, [], IfOk, IfErr, MatchResult};
 ghost use Rattle.sm_kinds.specs.Contexts.{type_of};
 ghost use Rattle.sm_kinds.specs.declared.class.Class.TheVariants.{Binder};
 ghost use Rattle.sm_policy.specs.Policy.{allowed};
@@ -19,6 +19,7 @@ ghost use Rattle.sm_view.specs.Replies.{OfConnect, OfLeave, OfInstall};
 ghost use Rattle.sm_view.specs.Tokens.{Grows, token};
 ghost use Rattle.sm_history.specs.declared.limits.TheConstants.{MOST_CLIENTS};
 ghost use Rattle.sm_door.specs.declared.opening.TheConstants.{ADMINS};
+ghost use Rattle.sm_door.specs.Logged.{Logged, ReadLogged};
 ghost use Rattle.sm_door.specs.Opening.{new_seats, new_admins};
 
 use crate::actor::Actor;
@@ -27,6 +28,7 @@ use crate::desk::Desk;
 use crate::opening::{tokens_of, writer_of};
 use crate::page::Page;
 use crate::published::Shown;
+use crate::publisher::Publisher;
 use crate::seat::Seat;
 use crate::session::Session;
 use crate::token::Token;
@@ -50,13 +52,13 @@ where
 }
 
 impl<J: Naming, G: Gate + Drop> Door<J, G> {
-    /// Opens a manager under this identity and policy, whose journal has this many places, with a free seat for each
-    /// of 64 clients and the tokens of four administrators, which have all seen the opening. SELinux's
-    /// `set_context_mgr` is wanted from the identity's type to itself.
+    /// Opens a manager under this identity and policy, with a journal of this many slots, a free seat for each of 64
+    /// clients and the tokens of four administrators, which have all seen the opening. The identity's type needs
+    /// SELinux's `set_context_mgr` on itself.
     ///
     /// # Errors
     ///
-    /// A denial of `set_context_mgr`; if it is granted, `NoSeat` if a reader's place was refused. `Memory` if an
+    /// A denial of `set_context_mgr`; if it is granted, `NoSeat` if a reader slot was refused. `Memory` if an
     /// allocation failed.
     pub fn open<R: Wait>(
         rt: &R,
@@ -89,7 +91,8 @@ impl<J: Naming, G: Gate + Drop> Door<J, G> {
         };
         match tokens_of(alloc, &manager, &writer) {
             Ok((seats, admins)) => {
-                let desk = Mutex::new(Desk::new(alloc, manager, roll, page, writer));
+                let publisher = Publisher::new(alloc, roll, page, writer);
+                let desk = Mutex::new(Desk::new(alloc, manager, publisher));
                 Ok((Door { desk, gate }, seats, admins))
             }
             Err(refusal) => {
@@ -99,14 +102,14 @@ impl<J: Naming, G: Gate + Drop> Door<J, G> {
         }
     }
 
-    /// The gate that it was opened with.
+    /// Returns the gate with which it was opened.
     pub fn gate(&self) -> &G
         ensures { result.now ≡ self.now.gate }
     {
         &self.gate
     }
 
-    /// A process connects, by a change of the manager's. At `Err` (`TooManyClients`, `JournalFull` or `Memory`) the
+    /// Connects a process, by a change of the manager's. On error (`TooManyClients`, `JournalFull` or `Memory`) the
     /// seat comes back, and has seen the history that refused.
     pub fn connect<R: Wait>(
         &self,
@@ -121,7 +124,7 @@ impl<J: Naming, G: Gate + Drop> Door<J, G> {
         self.gate.inside();
         let desk = &mut *guard;
         let due = desk.turn(By::Manager);
-        let reply = desk.step(rt, By::Manager, due, Event::Connect(who));
+        let (reply, _records) = desk.step(rt, By::Manager, due, Event::Connect(who));
         match connected(reply) {
             Ok(client) => {
                 seat.actor.see(rt, desk);
@@ -141,26 +144,28 @@ impl<J: Naming, G: Gate + Drop> Door<J, G> {
         }
     }
 
-    /// Has an event of this actor judged, and made where it is accepted.
-    fn act<R: Wait>(&self, rt: &R, me: &mut Actor<J>, event: Event) -> Reply
-        ensures submitted { Submitted me.old me.new event result }
+    /// Judges an event of this actor, and makes it if it is accepted. Returns the event's audit records with the
+    /// answer.
+    fn act<R: Wait>(&self, rt: &R, me: &mut Actor<J>, event: Event) -> (Reply, Vec<Record>)
+        ensures submitted { Submitted me.old me.new event result.0 }
+        ensures logged { Logged me.old me.new event result.0 result.1.items }
         ensures by { me.new.by ≡ me.old.by }
     {
         let mut guard = self.desk.lock(rt);
         self.gate.inside();
         let desk = &mut *guard;
-        let reply = desk.step(rt, me.by(), me.due(), event);
+        let (reply, records) = desk.step(rt, me.by(), me.due(), event);
         if !moves(&reply) {
             MutexGuard::unlock(guard);
-            return reply;
+            return (reply, records);
         }
         me.see(rt, desk);
         MutexGuard::unlock(guard);
-        reply
+        (reply, records)
     }
 
-    /// Has an event of a client's judged, and made where it is accepted. A death is no event to be submitted
-    /// (`NotYours`): it is a `leave`.
+    /// Judges an event of a client, and makes it if it is accepted. A death can't be submitted (`NotYours`): it is a
+    /// `leave`.
     pub fn submit<R: Wait>(&self, rt: &R, me: &mut Session<J>, event: Event) -> Reply
         ensures death { is_die event ≡ true → (result ≡ Refused (Failed NotYours)) × (me.new ≡ me.old) }
         ensures other { is_die event ≡ false → Submitted me.old me.new event result }
@@ -168,25 +173,45 @@ impl<J: Naming, G: Gate + Drop> Door<J, G> {
         if is_death(&event) {
             return Reply::Refused(Refusal::Failed(Failure::NotYours));
         }
+        let (reply, _records) = self.act(rt, &mut me.actor, event);
+        reply
+    }
+
+    /// As `submit`, and returns the audit records that the event added to the ring, oldest first: none where an
+    /// allocation failed, or for a death.
+    pub fn submit_recorded<R: Wait>(
+        &self,
+        rt: &R,
+        me: &mut Session<J>,
+        event: Event,
+    ) -> (Reply, Vec<Record>)
+        ensures death { is_die event ≡ true → (result.0 ≡ Refused (Failed NotYours)) × (result.1.items ≡ []) × (me.new ≡ me.old) }
+        ensures other { is_die event ≡ false → Submitted me.old me.new event result.0 }
+        ensures logged { is_die event ≡ false → Logged me.old me.new event result.0 result.1.items }
+    {
+        if is_death(&event) {
+            let refused = Reply::Refused(Refusal::Failed(Failure::NotYours));
+            return (refused, me.actor.no_records());
+        }
         self.act(rt, &mut me.actor, event)
     }
 
-    /// The client's last change. Its place comes back as a free seat. At `Err` (`OutOfTurn`, `NotConnected` or
-    /// `Memory`, and never `JournalFull`) the session comes back.
+    /// Makes the client's last change, and returns its free seat. On error (`OutOfTurn`, `NotConnected` or `Memory`,
+    /// and never `JournalFull`) the session comes back.
     pub fn leave<R: Wait>(&self, rt: &R, me: Session<J>) -> Result<Seat<J>, (Refusal, Session<J>)>
         ensures { MatchResult result (λ s. Accepted me (token me.by s.seen s.reads) Die Died)
             (λ r. OfLeave r.0 × Submitted me r.1 Die (Refused r.0)) }
     {
         let mut me = me;
-        let reply = self.act(rt, &mut me.actor, Event::Die);
+        let (reply, _records) = self.act(rt, &mut me.actor, Event::Die);
         match left(reply) {
             None => Ok(me.into_seat()),
             Some(refusal) => Err((refusal, me)),
         }
     }
 
-    /// Replaces the policy where the one in force has the expected version, and gives the version of the new one. At
-    /// `Err` (`OutOfTurn`, `VersionMoved`, `JournalFull` or `Memory`) the policy comes back.
+    /// Replaces the policy if the one in force has the expected version, and returns the version of the new one. On
+    /// error (`OutOfTurn`, `VersionMoved`, `JournalFull` or `Memory`) the policy comes back.
     pub fn install<R: Wait>(
         &self,
         rt: &R,
@@ -204,15 +229,15 @@ impl<J: Naming, G: Gate + Drop> Door<J, G> {
             expected,
             prepared: shared,
         };
-        let reply = self.act(rt, &mut me.actor, event);
+        let (reply, _records) = self.act(rt, &mut me.actor, event);
         match installed(reply) {
             Ok(version) => Ok(version),
             Err(refusal) => Err((refusal, prepared)),
         }
     }
 
-    /// The newest records of denials, at most 1,024, the oldest first. Each that was made in the segment which the token
-    /// sees now is true of it. `Err`: memory was refused, and the token stays.
+    /// Returns the newest records of denials, at most 1,024, oldest first. Each that was made in the segment that the
+    /// token sees now is true of it. Returns an error if an allocation failed; the token then stays as it is.
     pub fn denials<R: Wait>(&self, rt: &R, me: &mut Admin<J>) -> Result<Vec<Record>, AllocError>
         ensures { MatchResult result (λ v. TellsRecords me.old me.new v.items) (λ _. me.new ≡ me.old) }
     {
@@ -231,8 +256,8 @@ impl<J: Naming, G: Gate + Drop> Door<J, G> {
         }
     }
 
-    /// Closes the open segment, and gives it: what the token sees from then on is the one behind it, without changes.
-    /// `Empty`: there were none to be closed. What stood before the seal it has seen in any case.
+    /// Closes the open segment, and returns it. The token then sees the next segment, without changes. `Empty` if there
+    /// were no changes. The token has seen the history before the seal in any case.
     pub fn seal<R: Wait>(&self, rt: &R, me: &mut Admin<J>) -> Result<Segment, Refusal>
         ensures { MatchResult result (λ s. Closed me.old me.new s) (λ r. NotClosed me.old me.new r) }
     {
@@ -259,7 +284,7 @@ impl<J: Naming, G: Gate + Drop> Door<J, G> {
         }
     }
 
-    /// Both sessions see the whole history. So what one was answered stands before the other's next answer.
+    /// Shows both sessions the whole history, so the answers of one come before the next answer of the other.
     pub fn meet<R: Wait>(&self, rt: &R, one: &mut Session<J>, other: &mut Session<J>)
         ensures one { Grows one.old one.new }
         ensures other { Grows other.old other.new }
@@ -268,7 +293,7 @@ impl<J: Naming, G: Gate + Drop> Door<J, G> {
         self.bring(rt, &mut one.actor, &mut other.actor);
     }
 
-    /// An administrator and a session see the whole history, as in `meet`.
+    /// Shows an administrator and a session the whole history, as in `meet`.
     pub fn meet_admin<R: Wait>(&self, rt: &R, one: &mut Admin<J>, other: &mut Session<J>)
         ensures one { Grows one.old one.new }
         ensures other { Grows other.old other.new }
@@ -289,22 +314,29 @@ impl<J: Naming, G: Gate + Drop> Door<J, G> {
         MutexGuard::unlock(guard);
     }
 
-    /// The names whose dump flags share a bit with the mask, by `listServices`. It waits for nobody. A denial is in the
-    /// reply, and leaves no record.
+    /// Lists the names whose dump flags share a bit with the mask (`listServices`). Never blocks. A denial is in the
+    /// reply, and isn't added to the ring.
     pub fn list(&self, me: &mut Session<J>, mask: u32) -> Reply
         ensures { Read me.old me.new (ListNames mask) result }
     {
         me.actor.read(Query::List(mask))
     }
 
-    /// The version of the policy in force. It waits for nobody.
+    /// As `list`, and returns the query's audit records, oldest first. They are not added to the ring.
+    pub fn list_recorded(&self, me: &mut Session<J>, mask: u32) -> (Reply, Vec<Record>)
+        ensures { ReadLogged me.old me.new (ListNames mask) result.0 result.1.items }
+    {
+        me.actor.read_recorded(Query::List(mask))
+    }
+
+    /// Returns the version of the policy in force. Never blocks.
     pub fn version<T: Token>(&self, me: &mut T) -> Reply
         ensures { Read (T.knows me.old) (T.knows me.new) Version result }
     {
         me.read_version()
     }
 
-    /// The line of the first allow rule that gives a permission. It waits for nobody.
+    /// Returns the line of the first allow rule that grants a permission. Never blocks.
     pub fn explain(
         &self,
         me: &mut Admin<J>,

@@ -1,4 +1,4 @@
-//! The places of a new door.
+//! The tokens of a new door.
 
 ghost use Rattle.std.specs.Prelude.{◌≡◌, ◌⊎◌, ◌++◌, ◌∷◌, [], IfOk, IfErr};
 ghost use Rattle.sm_history.specs.declared.refusal.Refusal.TheVariants.{Memory, NoSeat as WantsPlace};
@@ -21,13 +21,13 @@ use sm_roll::Naming;
 use std::alloc::{AllocError, Global};
 use std::sync::Arc;
 
-/// So many administrators there are.
+/// The number of administrators' tokens.
 pub const ADMINS: u32 = 4;
 
-/// So many places for readers are made: one for each client and administrator.
+/// The number of reader slots: one for each client and administrator.
 const PLACES: usize = 68;
 
-/// The writer of a door whose first page this is. `Err`: memory was refused.
+/// Makes the writer of a door whose first page this is. Returns an error if an allocation fails.
 pub(crate) fn writer_of<J: Naming>(
     alloc: Global,
     page: &Arc<Page<J>>,
@@ -43,7 +43,7 @@ pub(crate) fn writer_of<J: Naming>(
     }
 }
 
-/// A seat for each client and a token for each administrator, which have seen the opening. `NoSeat`: a place was
+/// Makes a seat for each client and a token for each administrator, which have seen the opening. `NoSeat` if a slot was
 /// refused.
 pub(crate) fn tokens_of<J: Naming>(
     alloc: Global,
@@ -71,18 +71,22 @@ fn seats_of<J: Naming>(
 {
     let mut seats = Vec::new(alloc);
     for _seat in 0..MOST_CLIENTS {
-        let seat = seat_of(manager, writer)?;
+        let seat = seat_of(alloc, manager, writer)?;
         keep(&mut seats, seat)?;
     }
     Ok(seats)
 }
 
-fn seat_of<J: Naming>(manager: &Manager, writer: &ViewWriter<J>) -> Result<Seat<J>, Refusal>
+fn seat_of<J: Naming>(
+    alloc: Global,
+    manager: &Manager,
+    writer: &ViewWriter<J>,
+) -> Result<Seat<J>, Refusal>
     requires { manager.now.book ≡ J.opening }
     ensures seen { IfOk result (λ s. s ≡ token TheManager J.opening 0) }
     ensures refused { IfErr result (λ r. r ≡ WantsPlace) }
 {
-    let actor = enlist(manager, writer, By::Manager)?;
+    let actor = enlist(alloc, manager, writer, By::Manager)?;
     Ok(Seat { actor })
 }
 
@@ -97,13 +101,14 @@ fn admins_of<J: Naming>(
 {
     let mut admins = Vec::new(alloc);
     for number in 0..ADMINS {
-        let admin = admin_of(manager, writer, number)?;
+        let admin = admin_of(alloc, manager, writer, number)?;
         keep(&mut admins, admin)?;
     }
     Ok(admins)
 }
 
 fn admin_of<J: Naming>(
+    alloc: Global,
     manager: &Manager,
     writer: &ViewWriter<J>,
     number: u32,
@@ -112,19 +117,24 @@ fn admin_of<J: Naming>(
     ensures seen { IfOk result (λ s. s ≡ token (TheAdmin (record { 0 = number })) J.opening 0) }
     ensures refused { IfErr result (λ r. r ≡ WantsPlace) }
 {
-    let actor = enlist(manager, writer, By::Admin(AdminId(number)))?;
+    let actor = enlist(alloc, manager, writer, By::Admin(AdminId(number)))?;
     Ok(Admin::new(AdminId(number), actor))
 }
 
-/// The actor of a new place, which begins with the opening.
-fn enlist<J: Naming>(manager: &Manager, writer: &ViewWriter<J>, by: By) -> Result<Actor<J>, Refusal>
+/// Makes an actor with a new slot, which has seen the opening.
+fn enlist<J: Naming>(
+    alloc: Global,
+    manager: &Manager,
+    writer: &ViewWriter<J>,
+    by: By,
+) -> Result<Actor<J>, Refusal>
     requires { manager.now.book ≡ J.opening }
     ensures new { IfOk result (λ s. s ≡ token by J.opening 0) }
     ensures refused { IfErr result (λ r. r ≡ WantsPlace) }
 {
     manager.lawful();
     match writer.factory().reader() {
-        Ok(reader) => Ok(Actor::new(by, manager.turn(by), reader)),
+        Ok(reader) => Ok(Actor::new(alloc, by, manager.turn(by), reader)),
         Err(_) => Err(Refusal::NoSeat),
     }
 }

@@ -1,20 +1,21 @@
-//! What is published: a view, with the badge of its history.
+//! Pages: views with the badges of their histories.
 
 ghost use Rattle.std.specs.Prelude.{◌≡◌, IfOk, IsTrue};
 ghost use Rattle.std.specs.Arc.{arc_value};
+ghost use Rattle.sm_core.specs.Managed.{look_leaves};
 ghost use Rattle.sm_history.specs.Histories.{turn_of};
 ghost use Rattle.sm_view.specs.Begins.{IsLawfulBook};
 ghost use Rattle.sm_view.specs.Promises.{Looks};
 
 use crate::published::ShowsView;
 use sm_core::View;
-use sm_history::{By, Query, Reply};
+use sm_history::{By, Query, Record, Reply};
 use sm_roll::{Badge, Naming, Roll};
 use std::alloc::{AllocError, Global};
 use std::marker::Model;
 use std::sync::{Arc, Wait};
 
-/// A view with the badge of its history. Contracts see it as that history with its places.
+/// A view with the badge of its history. Contracts see that history with its slots.
 #[derive(Drop)]
 pub struct Page<J: Naming> {
     view: View,
@@ -33,7 +34,7 @@ impl<J: Naming> Model for Page<J> {
 }
 
 impl<J: Naming> Page<J> {
-    /// The page of a view, which gets a badge of its own. `Err`: memory was refused, or no number is left.
+    /// Makes a page of a view, with a new badge. Returns an error if an allocation failed or no number is left.
     pub(crate) fn new<R: Wait>(
         rt: &R,
         alloc: Global,
@@ -48,21 +49,21 @@ impl<J: Naming> Page<J> {
         Ok(Arc::new(alloc, Page { view, badge })?)
     }
 
-    /// Its view.
+    /// Returns its view.
     pub(crate) fn view(&self) -> &View
         ensures { result.now ≡ self.now }
     {
         &self.view
     }
 
-    /// Whether it is the other page, by their badges. Then both are of one history.
+    /// Returns whether it is the other page, by their badges. Then both are of one history.
     pub fn is(&self, other: &Page<J>) -> bool
         ensures { IsTrue result → self.now ≡ other.now }
     {
         self.badge.is(&other.badge)
     }
 
-    /// How many changes an actor made. The history may come about.
+    /// Returns the number of changes of an actor. The history is lawful.
     pub fn turn(&self, by: By) -> u64
         ensures turn { result ≡ turn_of self.now.history by }
         ensures lawful { IsLawfulBook self.now }
@@ -71,10 +72,11 @@ impl<J: Naming> Page<J> {
         self.view.turn(by)
     }
 
-    /// The answer to a query, on the history that it is of.
-    pub fn look(&self, by: By, query: Query) -> Reply
-        ensures { Looks self.now by query result }
+    /// Answers a query on the page's history, with the query's audit records.
+    pub fn look_recorded(&self, by: By, query: Query) -> (Reply, Vec<Record>)
+        ensures looks { Looks self.now by query result.0 }
+        ensures records { result.1.items ≡ look_leaves self.now by query result.0 }
     {
-        self.view.look(by, query)
+        self.view.look_recorded(by, query)
     }
 }

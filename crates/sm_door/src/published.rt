@@ -1,4 +1,4 @@
-//! The published page, and the rule over what its places have seen.
+//! The published page, and the rule over what reader slots have seen.
 
 use crate::page::Page;
 use crossbeam_utils::rule::{Outcome, Protocol};
@@ -11,7 +11,7 @@ use std::alloc::AllocError;
 use std::marker::PhantomData;
 use std::sync::Arc;
 
-/// What readers take. Each operation of the writer is a whole page, which stands in place of the one before.
+/// The payload of the readers. Each operation of the writer is a whole page, which replaces the one before.
 #[derive(Drop)]
 pub struct Shown<J: Naming> {
     pub page: Arc<Page<J>>,
@@ -45,15 +45,15 @@ impl<J: Naming> Absorb<Arc<Page<J>>> for Shown<J> {
     }
 }
 
-/// What a place knows, in proofs alone: the history that it has seen, and how often it has read. No value of it is
-/// made.
+/// What a reader slot knows, in proofs only: the history that it has seen, and the number of its reads. No value of it
+/// is made.
 pub struct Known {
     pub seen: View,
     pub reads: u64,
 }
 
-/// The rule: the published history begins with the one of the opening, and with all that each place has seen. A new
-/// place has seen the opening.
+/// The rule: the published history begins with the one of the opening, and with all that each slot has seen. A new slot
+/// has seen the opening.
 pub struct OneHistory<J> {
     of: PhantomData<J>,
 }
@@ -67,7 +67,7 @@ impl<J: Naming> Protocol<Shown<J>, Known> for OneHistory<J> {
     ghost first = { known J.opening 0 };
 }
 
-/// A reader enters: it sees the published history.
+/// A reader enters, and sees the published history.
 pub struct Sees;
 
 impl<J: Naming> Outcome<Shown<J>, Known> for Sees {
@@ -77,20 +77,20 @@ impl<J: Naming> Outcome<Shown<J>, Known> for Sees {
     ghost then = { λ v x y w. Enters v (arc_value y.page) w };
 }
 
-/// The writer publishes. Nothing is told of its own place.
+/// The writer publishes. Nothing is said of its own slot.
 pub struct Publishes;
 
 impl<J: Naming> Outcome<Shown<J>, Known> for Publishes {
     ghost then = { λ v x y w. Unit {0} };
 }
 
-/// A place that reads.
+/// A reader slot.
 pub type ViewReader<J> = Reader<Shown<J>, Known, OneHistory<J>>;
 
-/// The place that publishes.
+/// The writer.
 pub type ViewWriter<J> = Writer<Shown<J>, Arc<Page<J>>, Known, OneHistory<J>>;
 
-/// How a view shows its book to a roll.
+/// A view shows its book to a roll.
 pub struct ShowsView;
 
 impl ShowsBook<View> for ShowsView {

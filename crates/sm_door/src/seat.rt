@@ -1,4 +1,4 @@
-//! Places for clients.
+//! Free seats.
 
 ghost use Rattle.std.specs.Prelude.{◌≡◌};
 ghost use Rattle.sm_history.specs.declared.by.By.TheVariants.{Manager, Client};
@@ -12,8 +12,8 @@ use sm_kinds::ClientId;
 use sm_roll::Naming;
 use std::marker::Model;
 
-/// A free place for a client. It can't be copied, and serves the door that made it. Contracts see it as a token of
-/// the manager's, since it is the manager that lets a client in.
+/// A free seat for a client. It can't be copied, and serves the door that made it. Contracts see it as a token of the
+/// manager, because the manager connects clients.
 #[derive(Drop)]
 pub struct Seat<J: Naming> {
     pub(crate) actor: Actor<J>,
@@ -29,7 +29,7 @@ impl<J: Naming> Model for Seat<J> {
 }
 
 impl<J: Naming> Seat<J> {
-    /// Its place.
+    /// Returns its actor.
     pub(crate) fn into_actor(self) -> Actor<J>
         ensures { token Manager result.seen result.reads ≡ self }
     {
@@ -37,7 +37,7 @@ impl<J: Naming> Seat<J> {
         actor
     }
 
-    /// The session of a client that made so many changes.
+    /// Makes the session of a client that made `turn` changes.
     pub(crate) fn into_session(self, client: ClientId, turn: u64) -> Session<J>
         requires { turn ≡ turn_of self.seen.history (Client client) }
         ensures { result ≡ token (Client client) self.seen self.reads }

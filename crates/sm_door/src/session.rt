@@ -1,4 +1,4 @@
-//! What clients hold.
+//! Clients' sessions.
 
 ghost use Rattle.std.specs.Prelude.{◌≡◌};
 ghost use Rattle.sm_history.specs.declared.by.By.TheVariants.{Manager, Client};
@@ -31,7 +31,7 @@ impl<J: Naming> Model for Session<J> {
 }
 
 impl<J: Naming> Session<J> {
-    /// The session of a client's place.
+    /// Makes a session.
     pub(crate) fn new(client: ClientId, actor: Actor<J>) -> Session<J>
         requires { actor.by ≡ Client client }
         ensures { result ≡ actor }
@@ -39,14 +39,14 @@ impl<J: Naming> Session<J> {
         Session { client, actor }
     }
 
-    /// The client's number.
+    /// Returns the client's number.
     pub fn client(&self) -> ClientId
         ensures { self.now.by ≡ Client result }
     {
         self.client
     }
 
-    /// Its place.
+    /// Returns its actor.
     pub(crate) fn into_actor(self) -> Actor<J>
         ensures { result ≡ self }
     {
@@ -54,7 +54,7 @@ impl<J: Naming> Session<J> {
         actor
     }
 
-    /// The free place of a client that has left.
+    /// Returns the free seat of a client that has left.
     pub(crate) fn into_seat(self) -> Seat<J>
         ensures { result ≡ token Manager self.seen self.reads }
     {

@@ -1,4 +1,4 @@
-//! What sessions and administrators' tokens have in common.
+//! Common parts of sessions and administrators' tokens.
 
 ghost use Rattle.std.specs.Prelude.{◌≡◌};
 ghost use Rattle.sm_history.specs.declared.query.Query.TheVariants.{Version};
@@ -14,7 +14,7 @@ use sm_roll::Naming;
 pub trait Token {
     ghost knows: { Self → Knows };
 
-    /// The version, from the page that is published. It waits for nobody.
+    /// Returns the version, from the published page. Never blocks.
     fn read_version(&mut self) -> Reply
         ensures { Read (knows self.old) (knows self.new) Version result };
 }

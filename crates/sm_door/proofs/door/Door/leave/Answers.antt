@@ -9,14 +9,14 @@ use Rattle.sm_door.proofs.door.Door.leave.Goals as goal
 
 pub left-requires : goal.left-requires
 left-requires g c =
-    leave_answered c.me.inside.actor c.act-reply.new.me c.me.inside.client c.act-reply.result c.me.invariant
+    leave_answered c.me.inside.actor c.act-reply.new.me c.me.inside.client c.act-reply.result.0 c.me.invariant
     c.act-reply.ensures.submitted
 
 pub returns-in-None : goal.returns-in-None
 returns-in-None g c =
     let old = c.me.inside.actor in
     let new = c.act-reply.new.me in
-    let is : c.act-reply.result ≡ Done Died = search rules in
+    let is : c.act-reply.result.0 ≡ Done Died = search rules in
     let a : Accepted old new Die Died = subst (λ r. Submitted old new Die r) is c.act-reply.ensures.submitted in
     let by : new.by ≡ c.args.me.by = c.act-reply.ensures.by ∙ ap (λ (k : Knows). k.by) c.me.view_is in
     let seat : new ≡ token c.args.me.by c.into_seat.result.seen c.into_seat.result.reads = search rules in

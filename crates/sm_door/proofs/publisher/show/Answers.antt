@@ -4,7 +4,7 @@ use Rattle.std.proofs.lemmas.Result.{MatchResult-weaker}
 use Rattle.sm_history.specs.Books.{Book}
 use Rattle.sm_view.specs.Begins.{Begins}
 use Rattle.sm_door.proofs.Places.{shows, last_shown}
-use Rattle.sm_door.proofs.desk.show.Goals as goal
+use Rattle.sm_door.proofs.publisher.show.Goals as goal
 
 pub publish_as-requires : goal.publish_as-requires
 publish_as-requires g c next is =

@@ -4,7 +4,7 @@ use Rattle.left_right.specs.Sides.{view as place_view}
 use Rattle.sm_view.specs.Begins.{Begins}
 use Rattle.sm_view.proofs.Books.{book_itself, book_through}
 use Rattle.sm_door.proofs.Places.{enters}
-use Rattle.sm_door.proofs.desk.Desk.inform.Goals as goal
+use Rattle.sm_door.proofs.publisher.Publisher.inform.Goals as goal
 
 pub loop-init : goal.loop-init
 loop-init g c = book_itself _
@@ -14,7 +14,7 @@ enter_as-requires g c x = enters g.J.Naming.opening (λ s. arc_value s.page) _ _
 
 pub returns-then-found-clause-begins : goal.returns-then-found-clause-begins
 returns-then-found-clause-begins g c =
-    let p : Begins c.args.self.now.book (place_view c.loop.reader.place).seen =
+    let p : Begins c.args.self.now (place_view c.loop.reader.place).seen =
     search (
       rules,
       c.leave-reader.ensures,

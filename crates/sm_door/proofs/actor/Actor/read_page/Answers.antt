@@ -1,15 +1,16 @@
-use Rattle.std.proofs.Common.{rules, ◌≡◌, ◌∙◌, ◌+◌, Some, inr, ap, subst, sym}
+use Rattle.std.proofs.Common.{rules, ◌≡◌, ◌∙◌, ◌+◌, Some, ap, subst, sym}
 use Rattle.std.specs.Arc.{arc_value}
 use Rattle.left_right.specs.Sides.{view as place_view}
 use Rattle.sm_history.specs.declared.by.By.{By}
 use Rattle.sm_history.specs.Books.{Book}
 use Rattle.sm_history.specs.Histories.{turn_of}
+use Rattle.sm_core.specs.Managed.{look_leaves}
 use Rattle.sm_view.specs.Begins.{Begins, IsLawfulBook}
 use Rattle.sm_view.specs.Promises.{Looks}
 use Rattle.sm_view.specs.Tokens.{Knows}
 use Rattle.sm_door.specs.declared.published.Known.{Known}
 use Rattle.sm_door.proofs.Places.{enters}
-use Rattle.sm_door.proofs.actor.Actor.read.Goals as goal
+use Rattle.sm_door.proofs.actor.Actor.read_page.Goals as goal
 
 pub enter_as-requires : goal.enter_as-requires
 enter_as-requires g c x = enters g.J.Naming.opening (λ s. arc_value s.page) _ _ x
@@ -33,16 +34,18 @@ returns-in-Ok g c =
     let had : c.self.inside.reader ≡ Some c.unwrap.result = search (rules, c.take.ensures, c.unwrap.ensures) in
     let view = rw had at c.self.view_is in
     let was : (place_view c.unwrap.result.place).seen ≡ c.args.self.now.seen = ap (λ (k : Knows). k.seen) view in
-    let by : c.self.inside.by ≡ c.args.self.now.by = ap (λ (k : Knows). k.by) c.self.view_is in
-    inr (
+    let by : c.self.inside.by ≡ c.args.self.now.by = ap (λ (k : Knows). k.by) c.self.view_is in (
       record {
         by = by;
         lawful = subst IsLawfulBook (found ∙ seen) c.turn-self-inside.ensures.lawful;
         begins = subst (λ (z : Book × Book). Begins z.0 z.1) (λ i. (seen i, was i)) c.in-Ok.ensures.1.0;
       },
       ap (λ (k : Known). k.reads) now ∙ ap (λ (k : Knows). k.reads + 1) view,
-      subst (λ (z : Book × By). Looks z.0 z.1 c.args.query c.look-reply.result) (λ i. ((looked ∙ seen) i, by i))
-          c.look-reply.ensures,
+      subst (λ (z : Book × By). Looks z.0 z.1 c.args.query c.look_recorded-answered.result.0)
+          (λ i. ((looked ∙ seen) i, by i)) c.look_recorded-answered.ensures.looks,
+      subst (λ (z : Book × By). c.look_recorded-answered.result.1.items
+          ≡ look_leaves z.0 z.1 c.args.query c.look_recorded-answered.result.0)
+          (λ i. ((looked ∙ seen) i, by i)) c.look_recorded-answered.ensures.records,
     )
 
 pub invariant_of-self-in-Err : goal.invariant_of-self-in-Err

@@ -1,0 +1,153 @@
+//! Publication: the page that readers find, and the writer that replaces it.
+
+ghost use Rattle.std.specs.Prelude.{◌≡◌, None, Some, MatchResult};
+ghost use Rattle.std.specs.Arc.{arc_value};
+ghost use Rattle.left_right.specs.Sides.{view as place_view};
+ghost use Rattle.sm_view.specs.Begins.{Begins};
+
+use crate::page::Page;
+use crate::published::{Publishes, Sees, Shown, ViewReader, ViewWriter};
+use left_right::Absorb;
+use sm_core::View;
+use sm_roll::{Naming, Roll};
+use std::alloc::{AllocError, Global};
+use std::marker::Model;
+use std::sync::{Arc, Wait};
+
+/// The published page and its writer. Contracts see the book that readers find.
+pub struct Publisher<J: Naming>
+where
+    Shown<J>: Absorb<Arc<Page<J>>, State = View>,
+{
+    alloc: Global,
+    roll: Roll<J>,
+    /// The page that is published.
+    page: Arc<Page<J>>,
+    /// The writer. It is absent only within `publish`.
+    writer: Option<ViewWriter<J>>,
+}
+
+impl<J: Naming> Model for Publisher<J>
+where
+    Shown<J>: Absorb<Arc<Page<J>>, State = View>,
+{
+    ghost use Rattle.std.specs.Prelude.{◌≡◌, MatchOption};
+    ghost use Rattle.std.specs.Arc.{arc_value};
+    ghost use Rattle.sm_history.specs.Books.{Book};
+
+    ghost Value = { Book };
+
+    ghost view = { λ p. arc_value p.page };
+
+    ghost invariant = { λ p. MatchOption p.writer ⊥ (λ w. arc_value w.desk.shown.value.page ≡ arc_value p.page) };
+}
+
+/// Publishes a page. On an error readers find what they found, and the page that stays pending is overtaken by the
+/// next.
+fn show<J: Naming, R: Wait>(
+    rt: &R,
+    mut writer: ViewWriter<J>,
+    next: Arc<Page<J>>,
+) -> (ViewWriter<J>, Result<(), AllocError>)
+    requires { Begins (arc_value next) (arc_value writer.desk.shown.value.page) }
+    ensures { MatchResult result.1 (λ _. arc_value result.0.desk.shown.value.page ≡ arc_value next)
+        (λ _. result.0.desk.shown.value ≡ writer.desk.shown.value) }
+{
+    match writer.append(next) {
+        Ok(()) => return writer.publish_as::<Publishes, R>(rt),
+        Err(_) => return (writer, Err(AllocError)),
+    }
+}
+
+/// Fills an empty place.
+fn put<J: Naming>(place: &mut Option<ViewWriter<J>>, writer: ViewWriter<J>)
+    requires { place.old ≡ None }
+    ensures { place.new ≡ Some writer }
+{
+    match place.replace(writer) {
+        None => (),
+        Some(_writer) => unreachable!(),
+    }
+}
+
+impl<J: Naming> Publisher<J> {
+    /// The publisher whose writer shows this page.
+    pub(crate) fn new(
+        alloc: Global,
+        roll: Roll<J>,
+        page: Arc<Page<J>>,
+        writer: ViewWriter<J>,
+    ) -> Publisher<J>
+        requires { arc_value writer.desk.shown.value.page ≡ arc_value page }
+        ensures { result ≡ arc_value page }
+    {
+        Publisher {
+            alloc,
+            roll,
+            page,
+            writer: Some(writer),
+        }
+    }
+
+    /// The published view.
+    pub(crate) fn view(&self) -> &View
+        ensures { result.now ≡ self.now }
+    {
+        self.page.view()
+    }
+
+    /// Replaces the published page with that of a view.
+    ///
+    /// # Errors
+    ///
+    /// `AllocError` if an allocation failed, or no badge is left. Readers find the page that they found.
+    pub(crate) fn publish<R: Wait>(&mut self, rt: &R, view: View) -> Result<(), AllocError>
+        requires { Begins view self.old }
+        ensures { MatchResult result (λ done. self.new ≡ view) (λ e. self.new ≡ self.old) }
+    {
+        let page = Page::new(rt, self.alloc, &mut self.roll, view)?;
+        let kept = Arc::try_clone(&page)?;
+        let writer = self.writer.take().unwrap();
+        let (writer, shown) = show(rt, writer, page);
+        put(&mut self.writer, writer);
+        match shown {
+            Ok(()) => {
+                self.page = kept;
+                Ok(())
+            }
+            Err(error) => Err(error),
+        }
+    }
+
+    /// A reader enters until it finds the publisher's own page, whose book begins with all that the reader had seen.
+    /// The first entry does, since nobody else can publish.
+    pub(crate) fn inform<R: Wait>(&self, rt: &R, mut reader: ViewReader<J>) -> ViewReader<J>
+        ensures seen { (place_view result.place).seen ≡ self.now }
+        ensures begins { Begins self.now (place_view reader.place).seen }
+    {
+        for _ in rt.forever() {
+            match reader.enter_as::<Sees>() {
+                Ok(reading) => {
+                    let found = reading.get().page.is(&self.page);
+                    reader = reading.leave();
+                    if found {
+                        return reader;
+                    }
+                }
+                Err(back) => reader = back,
+            }
+        }
+        unreachable!()
+    }
+
+    /// Ends the writer. It waits for the readers that are inside.
+    pub(crate) fn close<R: Wait>(self, rt: &R) {
+        let Publisher {
+            alloc: _,
+            roll: _roll,
+            page: _page,
+            writer,
+        } = self;
+        writer.unwrap().take(rt);
+    }
+}
