@@ -1,4 +1,4 @@
--- What standard error is told where the program ends without an answer.
+-- The line on standard error of a program that ends without an answer.
 use Rattle.std.specs.Prelude.{◌≡◌, ℕ, List, ◌++◌, codes}
 use Rattle.sm_kinds.specs.declared.class.Class.{Class}
 use Rattle.sm_kinds.specs.declared.perms.Perms.{Perms}
@@ -16,13 +16,15 @@ use Rattle.sm_check.specs.Checking.{refused_line}
 use Rattle.sm_command.specs.declared.ending.Ending.{Ending}
 use Rattle.sm_command.specs.declared.ending.Ending.TheVariants.{Memory, File, Script, Serve}
 
--- the line for a file: its path, and the words of the operating system
+-- The line for a file has its path, and the words of the operating system.
 abbrev pub TellsOfFile : List ℕ → List ℕ → Type 0
 TellsOfFile path line = (words : List ℕ) × (line ≡ codes "fault: " ++ path ++ codes ": " ++ words ++ codes "\n")
 
+-- This is the line for a failed allocation.
 abbrev pub no_memory : List ℕ
 no_memory = codes "fault: no memory\n"
 
+-- This is the line for a fault of an engine.
 abbrev pub fault_line : Fault → List ℕ
 fault_line faults.ReadFault = codes "fault: a read failed\n"
 fault_line faults.WriteFault = codes "fault: a write failed\n"
@@ -30,14 +32,15 @@ fault_line faults.TooManyReads = codes "fault: too many reads\n"
 fault_line faults.LineTooLong = codes "fault: a line is too long\n"
 fault_line faults.Memory = no_memory
 
--- the rule that the manager lacks
+-- This is the line for the rule that the manager lacks.
 abbrev pub denied_line : List ℕ → List ℕ → Class → Perms → List ℕ
 denied_line source target class perm = codes "open denied " ++ access_words source target class perm ++ codes "\n"
 
--- what no opening answers
+-- No opening has this line.
 abbrev pub unopened_line : List ℕ
 unopened_line = codes "fault: the manager was not opened\n"
 
+-- This is the line for a refused opening.
 abbrev pub opening_line : Refusal → List ℕ
 opening_line (refusals.Denied (Rule source target class perm)) = denied_line source target class perm
 opening_line (refusals.Denied (App uid)) = unopened_line
@@ -52,17 +55,19 @@ opening_line refusals.JournalFull = unopened_line
 opening_line refusals.NoSeat = unopened_line
 opening_line refusals.Memory = no_memory
 
+-- This is the line for a script that stopped.
 abbrev pub script_line : ScriptFault → List ℕ
 script_line (Policy fault) = refused_line fault
 script_line (Opening refusal) = opening_line refusal
 script_line (Engine fault) = fault_line fault
 
+-- This is the line for a server that ended.
 abbrev pub serve_line : ServeFault → List ℕ
 serve_line serving.AcceptFault = codes "fault: a connection was not accepted\n"
 serve_line serving.NoThread = codes "fault: a thread was not started\n"
 serve_line serving.Memory = no_memory
 
--- the line says why
+-- The line says why the program ended.
 abbrev pub Tells : Ending → List ℕ → Type 0
 Tells Memory line = line ≡ no_memory
 Tells (File path error) line = TellsOfFile path.now line

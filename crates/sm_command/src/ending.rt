@@ -1,4 +1,4 @@
-//! Why the program ended without an answer, and what standard error is told.
+//! Why the program ended without an answer, and its line on standard error.
 
 ghost use Rattle.std.specs.Prelude.{◌≡◌, ◌≢◌, IfOk};
 ghost use Rattle.std.specs.IoError.{error_kind};
@@ -13,17 +13,17 @@ use sm_script::ScriptFault;
 use std::alloc::{AllocError, Global};
 use std::io::{self, ErrorKind};
 
-/// What is said where memory is refused, also to the line that is to say why.
+/// The line for a failed allocation, also for one while a line is made.
 pub const NO_MEMORY: &[u8] = b"fault: no memory\n";
 
 /// Why the program ended without an answer.
 #[derive(Drop)]
 pub enum Ending<'a> {
-    /// Memory was refused, while the command line or the texts of a policy were taken.
+    /// An allocation failed while the command line or the files of a policy were read.
     Memory,
-    /// The file of this path was not read.
+    /// The file of this path couldn't be read.
     File { path: &'a str, error: io::Error },
-    /// The script was not run, or not to its end; or a check was not written.
+    /// The script was not run, or not to its end; or the verdict of a check couldn't be written.
     Script(ScriptFault),
     /// A server ended early.
     Serve(ServeFault),
@@ -51,7 +51,7 @@ impl<'a> From<Fault> for Ending<'a> {
 }
 
 impl<'a> Ending<'a> {
-    /// Why the file of this path was not read.
+    /// Makes the ending for a file that couldn't be read.
     pub fn of_file(path: &'a str, error: io::Error) -> Ending<'a>
         ensures memory { error_kind error ≡ ErrorKind.OutOfMemory → result ≡ Ending.Memory }
         ensures file { error_kind error ≢ ErrorKind.OutOfMemory → result ≡ Ending.File path.entry error }
@@ -62,7 +62,7 @@ impl<'a> Ending<'a> {
         }
     }
 
-    /// The line that says why.
+    /// Returns the line that says why.
     pub fn line(&self, alloc: Global) -> Result<Vec<u8>, AllocError>
         ensures { IfOk result (λ line. Tells self.now line.items) }
     {
@@ -79,7 +79,7 @@ impl<'a> Ending<'a> {
     }
 }
 
-// `fault: PATH: ` and what the operating system says.
+// Returns `fault: PATH: ` and the operating system's words.
 fn file_line(alloc: Global, path: &str, error: &io::Error) -> Result<Vec<u8>, AllocError>
     ensures { IfOk result (λ line. spec.TellsOfFile path.now line.items) }
 {
@@ -92,7 +92,7 @@ fn file_line(alloc: Global, path: &str, error: &io::Error) -> Result<Vec<u8>, Al
     Ok(line)
 }
 
-// An opening is denied by a rule that is missing; beside that, memory may be refused.
+// Returns the line for a refused opening. Only a missing rule or a failed allocation refuses one.
 fn opening_line(alloc: Global, refusal: &Refusal) -> Result<Vec<u8>, AllocError>
     ensures { IfOk result (λ line. line.items ≡ spec.opening_line refusal.now) }
 {
@@ -110,7 +110,7 @@ fn opening_line(alloc: Global, refusal: &Refusal) -> Result<Vec<u8>, AllocError>
     }
 }
 
-// `open denied SOURCE TARGET CLASS PERM`
+// Returns `open denied SOURCE TARGET CLASS PERM`.
 fn denied_line(
     alloc: Global,
     source: &[u8],

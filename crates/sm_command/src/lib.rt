@@ -1,5 +1,5 @@
-//! The command line of `svcmgr`: what it asks for, the files that it names, and what standard error is told where there
-//! is no answer.
+//! The command line of `svcmgr`: its options, the files that it names, and the lines on standard error where there is
+//! no answer.
 #![tactic(auto)]
 
 mod ending;

@@ -1,9 +1,9 @@
-//! What the command line asks for.
+//! Options of the command line.
 
 ghost use Rattle.std.specs.Prelude.{◌≡◌, IfSome};
 
 use clap::error::ErrorKind;
-use clap::{Arg, ArgMatches, Command, Error, value_parser};
+use clap::{Arg, ArgAction, ArgMatches, Command, Error, value_parser};
 use sm_kinds::Places;
 use std::alloc::{AllocError, Global};
 use std::rt::Env;
@@ -15,18 +15,19 @@ const VERSION: &str = "0.1.0";
 /// The greatest permissions of a socket.
 const MOST_PERMISSIONS: u32 = 0o777;
 
-/// What the program is to do.
+/// A command of the program.
 #[derive(Clone, Copy, Debug, PartialEq, Eq)]
 pub enum Mode<'a> {
     /// `svcmgr run [--journal N] RULES CONTEXTS`
     Run,
     /// `svcmgr check RULES CONTEXTS`
     Check,
-    /// `svcmgr serve [--journal N] [--seal-at N] [--workers W] [--mode MODE] --socket PATH --admin PATH RULES CONTEXTS`
+    /// `svcmgr serve [--journal N] [--seal-at N] [--workers W] [--mode MODE] [--audit] --socket PATH --admin PATH RULES
+    /// CONTEXTS`
     Serve(Sockets<'a>),
 }
 
-/// Where a server listens, with how many threads it serves clients, and when it seals its journal by itself.
+/// The sockets of a server, its number of threads for clients, and when it seals its journal by itself.
 #[derive(Clone, Copy, Debug, PartialEq, Eq)]
 pub struct Sockets<'a> {
     /// The path of the clients' socket.
@@ -39,19 +40,21 @@ pub struct Sockets<'a> {
     pub mode: Option<u32>,
     /// The number of entries at which the server seals the open segment, at least 2. `None`: only administrators seal.
     pub seal_at: Option<u32>,
+    /// Whether the audit lines of clients' requests go to standard error.
+    pub audit: bool,
 }
 
-/// What the command line asks for.
+/// The command line.
 #[derive(Drop)]
 pub struct Options<'a> {
     pub mode: Mode<'a>,
-    /// The places of the journal of a run or a server.
+    /// The slots of the journal of a run or a server.
     pub places: Places,
     pub rules: &'a str,
     pub contexts: &'a str,
 }
 
-// A command, with the files of a policy.
+// Adds the files of a policy to a command.
 fn with_files<'a>(alloc: Global, command: Command<'a>) -> Result<Command<'a>, Error> {
     Ok(
         command
@@ -102,6 +105,13 @@ fn permissions<'a>(alloc: Global) -> Arg<'a> {
     )
 }
 
+fn audit<'a>(alloc: Global) -> Arg<'a> {
+    Arg::new(alloc, "audit")
+        .long("audit")
+        .help("Writes the audit lines of clients' requests to standard error")
+        .action(ArgAction::SetTrue)
+}
+
 fn socket<'a>(alloc: Global, name: &'a str, help: &'a str) -> Arg<'a> {
     Arg::new(alloc, name)
         .long(name)
@@ -118,6 +128,7 @@ fn serve<'a>(alloc: Global) -> Result<Command<'a>, Error> {
             .arg(seal_at(alloc))?
             .arg(workers(alloc))?
             .arg(permissions(alloc))?
+            .arg(audit(alloc))?
             .arg(socket(alloc, "socket", "The clients' socket"))?
             .arg(socket(alloc, "admin", "The administrators' socket"))?,
     )
@@ -166,10 +177,11 @@ fn sockets_of<'a>(matches: &ArgMatches<'a>) -> Option<Sockets<'a>> {
         workers: matches.get_one::<u32>("workers")?,
         mode: matches.get_str("mode").and_then(permissions_of),
         seal_at: matches.get_one::<u32>("seal-at"),
+        audit: matches.get_flag("audit"),
     })
 }
 
-/// The permissions of one to four octal digits. `None`: the text isn't that, or they are too great.
+/// Returns the permissions of one to four octal digits, or `None` if the word isn't that, or they are too great.
 fn permissions_of(text: &str) -> Option<u32> {
     let digits = text.as_bytes();
     if digits.len() > 4 || !digits.iter().all(|digit| matches!(*digit, b'0'..=b'7')) {
@@ -181,7 +193,7 @@ fn permissions_of(text: &str) -> Option<u32> {
     }
 }
 
-/// What is wrong with the words for a server, of which each by itself is right.
+/// Returns what is wrong with a server's options, each of which is valid by itself.
 fn misused(matches: &ArgMatches) -> Option<&'static str> {
     let clients = matches.get_str("socket")?;
     let admins = matches.get_str("admin")?;
@@ -204,7 +216,7 @@ fn misused(matches: &ArgMatches) -> Option<&'static str> {
     }
 }
 
-/// The words of the command line, with the program's name first.
+/// Returns the words of the command line, with the program's name first.
 pub fn words_of<R: Env + AllocGlobal>(rt: &R) -> Result<Vec<String>, Error> {
     match env::args(rt) {
         Ok(words) => Ok(words.collect(rt.alloc())?),
@@ -213,13 +225,13 @@ pub fn words_of<R: Env + AllocGlobal>(rt: &R) -> Result<Vec<String>, Error> {
     }
 }
 
-/// What the parser says of a word that isn't UTF-8.
+/// Returns the parser's error for a word that isn't UTF-8.
 fn no_text(alloc: Global) -> Result<Error, Error> {
     let words = "invalid UTF-8 was detected in one or more arguments";
     Ok(command(alloc)?.error(ErrorKind::ValueValidation, words)?)
 }
 
-/// What the words ask for, or the text that the parser has for them.
+/// Parses the words of the command line, or returns the parser's text.
 pub fn options_of<'a>(alloc: Global, words: &'a [String]) -> Result<Options<'a>, Error> {
     let matches = command(alloc)?.try_get_matches_from(words)?;
     if let Some(("serve", serve)) = matches.subcommand()

@@ -1,5 +1,6 @@
 //! An administrator's connection at the door.
 
+use crate::answered::Answered;
 use crate::asked::Asked;
 use crate::notice::Supervisor;
 use crate::refusals::not_yours;
@@ -34,7 +35,7 @@ impl<'a, J: Naming, G: Gate, H, R> Drop for Administrator<'a, J, G, H, R> {
 }
 
 impl<'a, J: Naming, G: Gate + Drop, H: Supervisor, R: Wait> Administrator<'a, J, G, H, R> {
-    /// A connection that has said nothing.
+    /// Makes a connection that has sent nothing.
     pub fn new(
         rt: &'a R,
         door: &'a Door<J, G>,
@@ -49,8 +50,12 @@ impl<'a, J: Naming, G: Gate + Drop, H: Supervisor, R: Wait> Administrator<'a, J,
         }
     }
 
-    /// What is answered.
-    pub fn answer(&self, asked: Asked) -> Response {
+    /// Answers a request. No request of an administrator's has audit records.
+    pub fn answer(&self, asked: Asked) -> Answered {
+        Answered::plain(self.response(asked))
+    }
+
+    fn response(&self, asked: Asked) -> Response {
         match asked {
             Asked::Line(Request::Look(_, query)) => Response::Replied(self.look(query)),
             Asked::Line(Request::Denials) => self.denials(),
@@ -86,7 +91,7 @@ impl<'a, J: Naming, G: Gate + Drop, H: Supervisor, R: Wait> Administrator<'a, J,
         }
     }
 
-    // Closes the open segment, and lets it go.
+    // Closes the open segment, and drops it.
     fn seal(&self) -> Reply {
         let mut guard = self.admin.lock(self.rt);
         let admin = &mut *guard;

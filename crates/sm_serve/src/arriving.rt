@@ -1,4 +1,4 @@
-//! The next connection of an entrance, over failures that pass.
+//! The next connection of an entrance, in spite of failures that pass.
 
 use crate::entrance::Entrance;
 use crate::faults::Faults;
@@ -11,24 +11,24 @@ use std::sync::Wait;
 use std::thread;
 use std::time::Duration;
 
-/// How long an entrance is left alone when files or memory are short, in milliseconds.
+/// Milliseconds that an entrance pauses while files or memory are short.
 const SHORTAGE_PAUSE: u64 = 100;
 
-// Linux's numbers of the errors that no `ErrorKind` stands for.
+// Linux's numbers of errors without an `ErrorKind`.
 const ENFILE: i32 = 23;
 
 const EMFILE: i32 = 24;
 
 const ENOBUFS: i32 = 105;
 
-/// What a failed `accept` says of the calls after it.
+/// What a failed `accept` means for the calls after it.
 #[derive(Clone, Copy, Debug, PartialEq, Eq)]
 enum Failure {
-    /// It concerns one connection or one call.
+    /// It concerns only one connection or one call.
     Passing,
     /// Files or memory are short for now.
     Shortage,
-    /// The listener is of no more use.
+    /// The listener can't be used any more.
     Lasting,
 }
 
@@ -45,8 +45,8 @@ fn failure_of(error: &io::Error) -> Failure {
     }
 }
 
-/// The next connection. `None`: the listener failed for good, or there is a fault, which may have come while this one
-/// waited.
+/// Returns the next connection, or `None` if the listener failed for good, or if there is a fault, which may have come
+/// while this one waited.
 pub fn arrival<E: Entrance, H: Supervisor, R: Wait + Clock>(
     rt: &R,
     entrance: &mut E,
@@ -90,7 +90,7 @@ fn wait_out<H: Supervisor, R: Clock>(rt: &R, host: &H, error: io::Error, told: b
     thread::sleep(rt, Duration::from_millis(SHORTAGE_PAUSE));
 }
 
-// An entrance that was closed for an earlier fault is none of its own.
+// That an entrance was closed for an earlier fault is no fault of its own.
 fn give_up<H: Supervisor, R: Wait>(rt: &R, host: &H, faults: &Faults, error: io::Error) {
     if faults.is_noted(rt) {
         return;

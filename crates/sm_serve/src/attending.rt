@@ -1,6 +1,7 @@
 //! One connection's session, from its first line to its end.
 
 use crate::administrator::Administrator;
+use crate::answered::Answered;
 use crate::asked::Asked;
 use crate::client::Client;
 use crate::door_desk::DoorDesk;
@@ -16,19 +17,19 @@ use crate::watch::Watch;
 use sm_door::Door;
 use sm_engine::Counted;
 use sm_roll::Naming;
-use sm_session::{Response, session};
+use sm_session::session;
 use sm_view::Gate;
 use sm_wire::Kind;
 use std::alloc::Global;
 use std::os::unix::net::UnixStream;
 use std::sync::Wait;
 
-/// So many reads a session makes at most. Each gives a byte or more, or is the last.
+/// The most reads of a session. Each gives at least one byte, or is the last.
 const READS: u32 = 16_777_216;
 
-/// Serves a client's connection. It has a seat from its `hello` to its end. A client that can't leave at its end is
+/// Serves a client's connection, which has a seat from its `hello` to its end. A client that can't leave at its end is
 /// left to the leavers, who are tried again whenever a connection begins or ends. After a change the journal is sealed
-/// where it is due.
+/// if it is due.
 pub fn attend_client<J: Naming, G: Gate + Drop, H: Supervisor, R: Wait>(
     rt: &R,
     alloc: Global,
@@ -135,7 +136,7 @@ pub fn attend_administrator<J: Naming, G: Gate + Drop, H: Supervisor, R: Wait>(
     );
 }
 
-fn attend<F: FnMut(Asked) -> Response + Drop, B: FnMut(Seating) + Drop, H: Supervisor, G: Gate>(
+fn attend<F: FnMut(Asked) -> Answered + Drop, B: FnMut(Seating) + Drop, H: Supervisor, G: Gate>(
     alloc: Global,
     kind: Kind,
     answer: F,

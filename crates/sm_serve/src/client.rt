@@ -1,5 +1,6 @@
 //! A client's connection at the door.
 
+use crate::answered::Answered;
 use crate::asked::Asked;
 use crate::held_chair::HeldChair;
 use crate::patience::lift_read_limit;
@@ -8,16 +9,15 @@ use sm_door::{Chair, Door, Seat, Session};
 use sm_history::{Event, Outcome, Query, Refusal, Reply};
 use sm_kinds::Identity;
 use sm_roll::Naming;
-use sm_session::Response;
 use sm_view::{Gate, is_death};
 use sm_wire::Request;
 use std::os::unix::net::UnixStream;
 use std::sync::Wait;
 
-/// How often a client that is gone tries to leave. Only want of memory refuses it, which may pass.
+/// The number of times that a client that is gone tries to leave. Only a failed allocation refuses it, which may pass.
 const TRIES: u32 = 16;
 
-/// A client's connection at the door. What it has there lies in its chair.
+/// A client's connection at the door. Its seat or session is in its slot.
 pub struct Client<'a, J: Naming, G: Gate, R> {
     rt: &'a R,
     door: &'a Door<J, G>,
@@ -37,7 +37,7 @@ impl<'a, J: Naming, G: Gate, R> Drop for Client<'a, J, G, R> {
 }
 
 impl<'a, J: Naming, G: Gate + Drop, R: Wait> Client<'a, J, G, R> {
-    /// The connection that has this chair and this stream.
+    /// Makes the connection with this slot and this stream.
     pub fn new(
         rt: &'a R,
         door: &'a Door<J, G>,
@@ -52,13 +52,13 @@ impl<'a, J: Naming, G: Gate + Drop, R: Wait> Client<'a, J, G, R> {
         }
     }
 
-    /// What is answered. Nobody reads what is answered to the end.
-    pub fn answer(&self, asked: Asked) -> Response {
+    /// Answers a request. The answer to the end of a session is ignored.
+    pub fn answer(&self, asked: Asked) -> Answered {
         match asked {
-            Asked::Hello(who) => Response::Replied(self.hello(who)),
-            Asked::Line(request) => Response::Replied(self.line(request)),
-            Asked::Install { .. } => Response::Replied(not_yours()),
-            Asked::End => Response::Replied(self.end()),
+            Asked::Hello(who) => Answered::replied(self.hello(who)),
+            Asked::Line(request) => self.line(request),
+            Asked::Install { .. } => Answered::replied(not_yours()),
+            Asked::End => Answered::replied(self.end()),
         }
     }
 
@@ -94,7 +94,7 @@ impl<'a, J: Naming, G: Gate + Drop, R: Wait> Client<'a, J, G, R> {
         self.chair.put(self.rt, Chair::of_session(session));
     }
 
-    // The session is taken from the chair, to be kept there again.
+    // Takes the session from its slot; the caller puts it back.
     fn session(&self) -> Option<Session<J>> {
         match self.chair.take(self.rt)?.taken() {
             Ok(session) => Some(session),
@@ -105,37 +105,40 @@ impl<'a, J: Naming, G: Gate + Drop, R: Wait> Client<'a, J, G, R> {
         }
     }
 
-    fn line(&self, request: Request) -> Reply {
+    fn line(&self, request: Request) -> Answered {
         match request {
             Request::Change(_, event) => self.change(event),
             Request::Look(_, query) => self.look(query),
-            _ => not_yours(),
+            _ => Answered::replied(not_yours()),
         }
     }
 
-    fn change(&self, event: Event) -> Reply {
+    fn change(&self, event: Event) -> Answered {
         if is_death(&event) {
-            return self.leave();
+            return Answered::replied(self.leave());
         }
         let Some(mut session) = self.session() else {
-            return not_connected();
+            return Answered::replied(not_connected());
         };
-        let reply = self.door.submit(self.rt, &mut session, event);
+        let (reply, records) = self.door.submit_recorded(self.rt, &mut session, event);
         self.keep(session);
-        reply
+        Answered::recorded(reply, records)
     }
 
-    fn look(&self, query: Query) -> Reply {
+    fn look(&self, query: Query) -> Answered {
         let Some(mut session) = self.session() else {
-            return not_connected();
+            return Answered::replied(not_connected());
         };
-        let reply = match query {
-            Query::List(mask) => self.door.list(&mut session, mask),
-            Query::Version => self.door.version(&mut session),
-            Query::Explain { .. } => not_yours(),
+        let answered = match query {
+            Query::List(mask) => {
+                let (reply, records) = self.door.list_recorded(&mut session, mask);
+                Answered::recorded(reply, records)
+            }
+            Query::Version => Answered::replied(self.door.version(&mut session)),
+            Query::Explain { .. } => Answered::replied(not_yours()),
         };
         self.keep(session);
-        reply
+        answered
     }
 
     fn leave(&self) -> Reply {

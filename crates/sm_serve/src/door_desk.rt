@@ -2,6 +2,7 @@
 
 ghost use Rattle.std.specs.Prelude.{◌≡◌};
 
+use crate::answered::Answered;
 use crate::asked::Asked;
 use crate::notice::Supervisor;
 use crate::usher::Seating;
@@ -13,8 +14,8 @@ use sm_session::{Desk, Response};
 use sm_wire::Request;
 use std::alloc::Global;
 
-/// A session's desk at a door: it reads the texts of policies itself, has one function answer all else, shows the watch
-/// what was answered, and then tells another function whether a seat is wanted or spare.
+/// A session's desk at a door: it prepares policies itself, lets one function answer all else, shows the watch each
+/// answer, and then tells another function whether a seat is needed or spare.
 #[derive(Drop)]
 pub struct DoorDesk<'a, F, B, H> {
     alloc: Global,
@@ -24,7 +25,7 @@ pub struct DoorDesk<'a, F, B, H> {
 }
 
 impl<'a, F, B, H> DoorDesk<'a, F, B, H> {
-    /// The desk of a session that has asked nothing.
+    /// Makes the desk of a new session.
     pub fn new(
         alloc: Global,
         answer: F,
@@ -43,7 +44,7 @@ impl<'a, F, B, H> DoorDesk<'a, F, B, H> {
     }
 }
 
-impl<'a, F: FnMut(Asked) -> Response, B: FnMut(Seating), H: Supervisor> Desk
+impl<'a, F: FnMut(Asked) -> Answered, B: FnMut(Seating), H: Supervisor> Desk
     for DoorDesk<'a, F, B, H> {
     ghost can_answer = { λ s. F.IsAlwaysCallable s.answer × B.IsAlwaysCallable s.seating };
 
@@ -53,15 +54,13 @@ impl<'a, F: FnMut(Asked) -> Response, B: FnMut(Seating), H: Supervisor> Desk
 
     fn hello(&mut self, who: Identity) -> Response {
         (self.seating)(Seating::Wanted);
-        let response = (self.answer)(Asked::Hello(who));
-        self.watch.see(&response);
+        let response = self.watch.see((self.answer)(Asked::Hello(who)));
         (self.seating)(Seating::Spare);
         response
     }
 
     fn ask(&mut self, request: Request) -> Response {
-        let response = (self.answer)(Asked::Line(request));
-        self.watch.see(&response);
+        let response = self.watch.see((self.answer)(Asked::Line(request)));
         (self.seating)(seating_after(&response));
         response
     }
@@ -71,19 +70,17 @@ impl<'a, F: FnMut(Asked) -> Response, B: FnMut(Seating), H: Supervisor> Desk
             Ok(prepared) => prepared,
             Err(fault) => return Response::PolicyRefused(fault),
         };
-        let response = (self.answer)(Asked::Install { expected, prepared });
-        self.watch.see(&response);
-        response
+        self.watch
+            .see((self.answer)(Asked::Install { expected, prepared }))
     }
 
     fn bye(&mut self) {
-        let response = (self.answer)(Asked::End);
-        self.watch.see(&response);
+        let _ = self.watch.see((self.answer)(Asked::End));
         (self.seating)(Seating::Spare);
     }
 }
 
-/// What a connection needs after this answer.
+/// Returns the need of a connection after this answer.
 fn seating_after(response: &Response) -> Seating {
     match response {
         Response::Replied(Reply::Done(Outcome::Died)) => Seating::Spare,

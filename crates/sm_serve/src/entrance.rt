@@ -1,9 +1,9 @@
-//! Where connections come in.
+//! Entrances, which accept connections.
 
 use std::io;
 use std::os::unix::net::{UnixListener, UnixStream};
 
-/// Where connections come in: a listening socket, or a test's list of connections.
+/// Accepts connections: a listening socket, or a test's list of connections.
 pub trait Entrance {
     /// Waits for the next connection.
     fn accept(&mut self) -> io::Result<UnixStream>;

@@ -11,14 +11,14 @@ pub struct Faults {
 }
 
 impl Faults {
-    /// None yet.
+    /// Makes an empty record.
     pub fn new() -> Faults {
         Faults {
             first: Mutex::new(None),
         }
     }
 
-    /// Keeps a fault if it is the first, and closes the entrances.
+    /// Records a fault if it is the first, and closes the entrances.
     pub fn note<H: Supervisor, R: Wait>(&self, rt: &R, host: &H, fault: ServeFault) {
         {
             let mut first = self.first.lock(rt);
@@ -29,12 +29,12 @@ impl Faults {
         host.close_entrances();
     }
 
-    /// Whether there is one.
+    /// Returns whether there is one.
     pub fn is_noted<R: Wait>(&self, rt: &R) -> bool {
         self.first.lock(rt).is_some()
     }
 
-    /// The first fault, as the result of a server.
+    /// Returns the first fault, as the result of a server.
     pub fn into_result(self) -> Result<(), ServeFault> {
         let Faults { first } = self;
         match first.into_inner() {

@@ -1,34 +1,34 @@
-//! The seats that no client has.
+//! Free seats.
 
 use sm_door::Seat;
 use sm_roll::Naming;
 use std::sync::{Mutex, Wait};
 
-/// The seats that no client has, for all connections.
+/// The free seats, shared by all connections.
 #[derive(Drop)]
 pub struct FreeSeats<J: Naming> {
     seats: Mutex<Vec<Seat<J>>>,
 }
 
 impl<J: Naming> FreeSeats<J> {
-    /// These seats.
+    /// Makes a pool of these seats.
     pub fn new(seats: Vec<Seat<J>>) -> FreeSeats<J> {
         FreeSeats {
             seats: Mutex::new(seats),
         }
     }
 
-    /// One of them, if there is any.
+    /// Takes a seat, if there is any.
     pub(crate) fn take<R: Wait>(&self, rt: &R) -> Option<Seat<J>> {
         self.seats.lock(rt).pop()
     }
 
-    /// A seat comes back. There is room for it, since it was taken from here.
+    /// Returns a seat. There is room for it, since it was taken from here.
     pub(crate) fn give_back<R: Wait>(&self, rt: &R, seat: Seat<J>) {
         let _ = self.seats.lock(rt).push(seat);
     }
 
-    /// How many there are.
+    /// Returns the number of free seats.
     pub fn count<R: Wait>(&self, rt: &R) -> usize {
         self.seats.lock(rt).len()
     }

@@ -1,4 +1,4 @@
-//! Clients that are gone and could not leave.
+//! Clients that are gone and couldn't leave.
 
 use crate::free_seats::FreeSeats;
 use crate::notice::Supervisor;
@@ -9,24 +9,24 @@ use sm_view::Gate;
 use std::alloc::{AllocError, Global};
 use std::sync::{Mutex, Wait};
 
-/// The most sessions that there are at a time.
+/// The most sessions at a time.
 const SESSIONS: usize = 64;
 
-/// Sessions whose connections have ended and that could not leave, since an allocation failed. Each is tried again.
+/// Sessions whose connections have ended and that couldn't leave, because an allocation failed. Each is tried again.
 #[derive(Drop)]
 pub struct Leavers<J: Naming> {
     sessions: Mutex<Vec<Session<J>>>,
 }
 
 impl<J: Naming> Leavers<J> {
-    /// None, with memory for all that there may be.
+    /// Makes an empty list, with room for all sessions that there may be.
     pub fn new(alloc: Global) -> Result<Leavers<J>, AllocError> {
         Ok(Leavers {
             sessions: Mutex::new(Vec::with_capacity(alloc, SESSIONS)?),
         })
     }
 
-    /// Keeps the session of a connection that has ended, if one is left in its chair.
+    /// Keeps the session of a connection that has ended, if its slot still has one.
     pub fn take_over<R: Wait>(&self, rt: &R, seats: &FreeSeats<J>, chair: Option<Chair<J>>) {
         let Some(chair) = chair else {
             return;
@@ -37,7 +37,7 @@ impl<J: Naming> Leavers<J> {
         }
     }
 
-    // There is room, since no more sessions than seats are there.
+    // There is room, since there are no more sessions than seats.
     fn keep<R: Wait>(&self, rt: &R, session: Session<J>) {
         let _ = self.sessions.lock(rt).push(session);
     }
@@ -46,7 +46,7 @@ impl<J: Naming> Leavers<J> {
         self.sessions.lock(rt).pop()
     }
 
-    /// Has them leave one after another, up to the first that can't, and frees their seats.
+    /// Lets them leave one after another, up to the first that can't, and frees their seats.
     pub fn retry<G: Gate + Drop, H: Supervisor, R: Wait>(
         &self,
         rt: &R,

@@ -2,9 +2,11 @@
 #![tactic(auto)]
 
 mod administrator;
+mod answered;
 mod arriving;
 mod asked;
 mod attending;
+mod audit_log;
 mod client;
 mod door_desk;
 mod entrance;
@@ -23,6 +25,7 @@ mod shared_admin;
 mod usher;
 mod watch;
 
+pub use audit_log::{AuditLines, AuditLog};
 pub use entrance::Entrance;
 pub use free_seats::FreeSeats;
 pub use notice::{Notice, Supervisor};

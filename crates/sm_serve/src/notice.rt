@@ -1,26 +1,32 @@
-//! What a server tells and asks of the program that runs it.
+//! Notices of a server to the program that runs it.
 
+use sm_history::Record;
 use std::io;
 
-/// What a server tells the program that runs it.
+/// A notice of a server to the program that runs it.
 #[derive(Clone, Copy)]
 pub enum Notice {
     /// All threads run, and connections are accepted from now on.
     Listening,
-    /// Files or memory were short when a connection was to be accepted. It is tried again, and told once until then.
+    /// Files or memory were short when a connection was to be accepted. It is tried again, and reported once until
+    /// then.
     AcceptDelayed(io::Error),
     /// A listener failed. No more connections are accepted, and those that have begun are served to their ends.
     AcceptFailed(io::Error),
-    /// Nine tenths of the journal's slots are used. It is told once until a seal.
+    /// Nine tenths of the journal's slots are used. Reported once until a seal.
     AlmostFull { used: u64, slots: u64 },
-    /// A change was refused, since the journal has no slot left. It is told once until a seal.
+    /// A change was refused, because the journal has no slot left. Reported once until a seal.
     Full,
 }
 
 /// The program that runs a server.
 pub trait Supervisor {
-    /// Hears a notice, from any thread.
+    /// Takes a notice, from any thread.
     fn tell(&self, notice: Notice);
+
+    /// Hears the audit records of a client's request, one or more, from any thread. The client's reply waits for it, so
+    /// it must not block.
+    fn audit(&self, records: &[Record]);
 
     /// Closes both entrances, from any thread: calls of `accept` return errors from then on, those that wait too.
     fn close_entrances(&self);

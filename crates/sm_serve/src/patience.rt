@@ -1,11 +1,10 @@
-//! How long a server waits for the other end of a connection.
+//! Time limits of connections.
 
 use std::io;
 use std::os::unix::net::UnixStream;
 use std::time::Duration;
 
-/// How long a server waits for the other end of a connection, in seconds, each at least 1. A connection whose time is
-/// up has ended.
+/// Time limits of connections, in seconds, each at least 1. A connection that exceeds one has ended.
 #[derive(Clone, Copy, Debug, PartialEq, Eq)]
 pub struct Patience {
     /// For a read of a client's connection until its `hello` is answered by a number. Later reads have no limit.
@@ -17,7 +16,7 @@ pub struct Patience {
 }
 
 impl Patience {
-    /// Limits a client's connection that has said nothing.
+    /// Limits a client's connection that has sent nothing.
     pub fn limit_client(&self, stream: &UnixStream) -> io::Result<()> {
         stream.set_read_timeout(Some(Duration::from_secs(self.hello)))?;
         stream.set_write_timeout(Some(Duration::from_secs(self.reply)))
@@ -30,8 +29,8 @@ pub fn limit_administrator(seconds: u64, stream: &UnixStream) -> io::Result<()> 
     stream.set_write_timeout(Some(Duration::from_secs(seconds)))
 }
 
-/// Lets a connection wait between its requests for as long as it likes.
+/// Removes the limit on reads, so that a connection may idle between its requests.
 pub fn lift_read_limit(stream: &UnixStream) {
-    // No limit is no wrong one, and the socket is open: nothing is left to fail.
+    // Removing a limit of an open socket can't fail.
     let _ = stream.set_read_timeout(None);
 }

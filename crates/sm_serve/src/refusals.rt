@@ -1,13 +1,13 @@
-//! What a connection is told that the door isn't asked.
+//! Answers of a connection that don't come from the door.
 
 use sm_history::{Failure, Refusal, Reply};
 
-/// What is told of a request that isn't this kind of connection's.
+/// Returns the answer to a request that this kind of connection doesn't have.
 pub fn not_yours() -> Reply {
     Reply::Refused(Refusal::Failed(Failure::NotYours))
 }
 
-/// What is told a client that has left, or never was.
+/// Returns the answer to a client that has left, or never was.
 pub fn not_connected() -> Reply {
     Reply::Refused(Refusal::Failed(Failure::NotConnected))
 }

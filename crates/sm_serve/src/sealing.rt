@@ -1,4 +1,4 @@
-//! The seals that a server makes by itself.
+//! Seals that a server makes by itself.
 
 use crate::notice::Supervisor;
 use crate::shared_admin::SharedAdmin;
@@ -8,8 +8,8 @@ use sm_roll::Naming;
 use sm_view::Gate;
 use std::sync::Wait;
 
-/// Seals the open segment if it has as many entries as were asked for, and lets it go. Where an allocation fails, the
-/// next change tries again.
+/// Seals the open segment if it has the required number of entries, and drops it. If an allocation fails, the next
+/// change tries again.
 pub fn seal_if_due<J: Naming, G: Gate + Drop, H: Supervisor, R: Wait>(
     rt: &R,
     door: &Door<J, G>,

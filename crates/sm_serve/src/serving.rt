@@ -27,14 +27,14 @@ use std::sync::{Arc, Mutex, Wait};
 use std::thread;
 use std::thread::Threads;
 
-/// How many threads serve clients, how many connections of each kind are accepted, and how long each may idle.
+/// The number of worker threads, the connections of each kind that are accepted, and their time limits.
 #[derive(Clone, Copy, Debug, PartialEq, Eq)]
 pub struct Numbers {
-    /// How many clients' connections are served at once.
+    /// The number of clients' connections that are served at once.
     pub workers: u32,
-    /// So many connections of clients are accepted.
+    /// The number of clients' connections that are accepted.
     pub clients: u64,
-    /// So many connections of administrators are accepted, one after the other.
+    /// The number of administrators' connections that are accepted, one after another.
     pub admins: u64,
     pub patience: Patience,
     /// The slots of the journal.
@@ -43,11 +43,11 @@ pub struct Numbers {
     pub seal_at: Option<u32>,
 }
 
-/// Accepts so many connections of each kind, and returns when their sessions have ended. Clients' connections are
-/// served by `workers` threads, each a connection at a time; administrators' by one more, one after the other, all
-/// under `admin`. Seals that are due are made under `sealer`. The supervisor is told when all threads run. `Err`: a
-/// listener failed for good, a thread couldn't be started or an allocation failed; then the entrances are closed, and the
-/// connections that were begun are served to their ends.
+/// Accepts the connections of each kind, and returns when their sessions have ended. Clients' connections are served by
+/// `workers` threads, one connection at a time each; administrators' by one more thread, one after another, all under
+/// `admin`. Seals that are due are made under `sealer`. The supervisor is notified when all threads run. Returns an
+/// error if a listener failed for good, a thread couldn't be started or an allocation failed; then the entrances are
+/// closed, and the connections that have begun are served to their ends.
 pub fn serve<
     J: Naming + Send + Sync,
     G: Gate + Drop + Send + Sync,
@@ -156,7 +156,7 @@ pub fn serve<
     faults.into_result()
 }
 
-/// Serves the connections that wait, until no more come.
+/// Serves connections from the queue, until no more come.
 fn work<J: Naming, G: Gate + Drop, H: Supervisor, R: Wait>(
     rt: &R,
     alloc: Global,
@@ -178,7 +178,7 @@ fn work<J: Naming, G: Gate + Drop, H: Supervisor, R: Wait>(
     }
 }
 
-/// Serves so many connections of administrators, one after the other.
+/// Serves administrators' connections, one after another.
 fn administer<J: Naming, G: Gate + Drop, A: Entrance, H: Supervisor, R: Wait + Clock>(
     rt: &R,
     alloc: Global,
@@ -201,7 +201,7 @@ fn administer<J: Naming, G: Gate + Drop, A: Entrance, H: Supervisor, R: Wait + C
     }
 }
 
-/// Says that the server listens, and passes this number of clients' connections to the workers.
+/// Reports that the server listens, and passes this number of clients' connections to the workers.
 fn admit<C: Entrance, H: Supervisor, R: Wait + Clock>(
     rt: &R,
     entrance: &mut C,
@@ -232,7 +232,7 @@ fn crosses<X: Send + Sync>()
     ensures { IsSend X.row × IsSync X.row }
 {}
 
-/// Makes it a fact of its own that values of the type may be sent to another thread.
+/// Shows that values of the type may be sent to another thread.
 fn sends<X: Send>()
     ensures { IsSend X.row }
 {}

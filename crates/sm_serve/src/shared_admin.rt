@@ -4,21 +4,21 @@ use sm_door::Admin;
 use sm_roll::Naming;
 use std::sync::{Mutex, MutexGuard, Wait};
 
-/// The token that all connections of administrators share, one after the other.
+/// The token that all connections of administrators share, one after another.
 #[derive(Drop)]
 pub struct SharedAdmin<J: Naming> {
     admin: Mutex<Admin<J>>,
 }
 
 impl<J: Naming> SharedAdmin<J> {
-    /// This token.
+    /// Shares this token.
     pub fn new(admin: Admin<J>) -> SharedAdmin<J> {
         SharedAdmin {
             admin: Mutex::new(admin),
         }
     }
 
-    /// The token, for as long as it is held.
+    /// Locks the token.
     pub fn lock<R: Wait>(&self, rt: &R) -> MutexGuard<'_, Admin<J>> {
         self.admin.lock(rt)
     }

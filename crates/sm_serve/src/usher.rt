@@ -1,4 +1,4 @@
-//! Gives a connection a seat, and takes back one that it doesn't need.
+//! Gives seats to connections, and takes back the ones that they don't need.
 
 use crate::free_seats::FreeSeats;
 use crate::held_chair::HeldChair;
@@ -6,14 +6,14 @@ use sm_door::Chair;
 use sm_roll::Naming;
 use std::sync::Wait;
 
-/// What a connection needs.
+/// The need of a connection.
 #[derive(Clone, Copy, Debug, PartialEq, Eq)]
 pub enum Seating {
     /// A seat, since a process says `hello`.
     Wanted,
-    /// None, unless it has a client.
+    /// No seat, unless it has a client.
     Spare,
-    /// What it has.
+    /// The seat that it has, if any.
     Kept,
 }
 
@@ -35,7 +35,7 @@ impl<'a, J: Naming, R> Drop for Usher<'a, J, R> {
 }
 
 impl<'a, J: Naming, R: Wait> Usher<'a, J, R> {
-    /// The usher of this connection's chair.
+    /// Makes an usher for this connection's slot.
     pub fn new(rt: &'a R, seats: &'a FreeSeats<J>, chair: &'a HeldChair<J>) -> Usher<'a, J, R> {
         Usher { rt, seats, chair }
     }

@@ -1,11 +1,12 @@
-//! Tells the supervisor how full the journal is.
+//! Tells the supervisor how full the journal is, and what was denied.
 
+use crate::answered::Answered;
 use crate::gauge::Gauge;
 use crate::notice::{Notice, Supervisor};
 use sm_history::{Refusal, Reply};
 use sm_session::Response;
 
-/// Counts the changes that are answered, and tells the supervisor when the journal fills up.
+/// Counts the changes that are answered, and tells the supervisor when the journal fills up and what was denied.
 pub struct Watch<'a, H> {
     host: &'a H,
     gauge: &'a Gauge,
@@ -23,13 +24,20 @@ impl<'a, H: Supervisor> Watch<'a, H> {
         Watch { host, gauge }
     }
 
-    /// Sees what was answered.
-    pub fn see(&self, response: &Response) {
-        match response {
+    /// Sees what was answered, and passes the response on.
+    pub fn see(&self, answered: Answered) -> Response {
+        let Answered { response, records } = answered;
+        match &response {
             Response::Replied(Reply::Done(_)) => self.count(),
             Response::Replied(Reply::Refused(Refusal::JournalFull)) => self.refuse(),
             _ => {}
         }
+        if let Some(records) = records
+            && !records.is_empty()
+        {
+            self.host.audit(&records);
+        }
+        response
     }
 
     /// Counts a change.
@@ -48,12 +56,12 @@ impl<'a, H: Supervisor> Watch<'a, H> {
         }
     }
 
-    /// Whether the server is to seal the open segment.
+    /// Returns whether the server is to seal the open segment.
     pub fn is_due(&self) -> bool {
         self.gauge.is_due()
     }
 
-    /// A segment was sealed, which ends with the entry of this number.
+    /// Notes that a segment was sealed, which ends with the entry of this number.
     pub fn sealed(&self, length: u64) {
         self.gauge.seal(length);
     }

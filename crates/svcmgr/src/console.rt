@@ -1,41 +1,90 @@
 //! What operators see of a server, on standard error.
 
 use sm_command::Sockets;
-use sm_serve::{Notice, Supervisor};
+use sm_history::Record;
+use sm_serve::{AuditLines, AuditLog, Notice, Supervisor};
 use std::alloc::AllocError;
 use std::io;
 use std::net::Shutdown;
 use std::os::fd::OwnedFd;
 use std::os::unix::net::{UnixListener, UnixStream};
+use std::sync::Wait;
 
 /// What operators see of a server, on standard error, and the means to close its sockets.
-#[derive(Drop)]
-pub struct Console<'a> {
+pub struct Console<'a, R> {
     host: &'a HostRuntime,
+    rt: &'a R,
     // The line that says where it listens.
     listening: String,
     clients: UnixStream,
     admins: UnixStream,
+    // Where audit lines go. `None`: nowhere.
+    log: Option<AuditLog>,
 }
 
-impl<'a> Console<'a> {
+impl<'a, R> Drop for Console<'a, R> {
+    fn drop(self) {
+        let Console {
+            host: _,
+            rt: _,
+            listening: _,
+            clients: _,
+            admins: _,
+            log: _,
+        } = self;
+    }
+}
+
+impl<'a, R: Wait> Console<'a, R> {
     /// The console of a server that listens there.
     pub fn new(
         host: &'a HostRuntime,
+        rt: &'a R,
         sockets: Sockets<'a>,
         clients: &UnixListener,
         admins: &UnixListener,
-    ) -> io::Result<Console<'a>> {
+        log: Option<AuditLog>,
+    ) -> io::Result<Console<'a, R>> {
         let places = (sockets.clients, sockets.admins);
         Ok(Console {
             host,
+            rt,
             listening: format!(in host.alloc();
                 "listening for clients at {} and for administrators at {}\n",
                 places.0, places.1
             )?,
             clients: handle_of(clients)?,
             admins: handle_of(admins)?,
+            log,
         })
+    }
+
+    /// Writes audit lines to standard error as they come, until the log ends. A line that can't be written is lost.
+    pub fn write_log(&self, lines: AuditLines) {
+        for next in lines.iter(self.rt) {
+            let Some(text) = next else {
+                return;
+            };
+            let _ = self.host.stderr().write_all(&text);
+            self.tell_lost();
+        }
+    }
+
+    fn tell_lost(&self) {
+        let Some(log) = &self.log else {
+            return;
+        };
+        let lost = log.take_lost();
+        if lost > 0 {
+            let _ = eprint!(self.host; "warning: {lost} audit lines were lost\n");
+        }
+    }
+
+    /// Ends the log, once the lines that wait are written.
+    pub fn end_log(&self) {
+        if let Some(log) = &self.log {
+            log.end(self.rt);
+        }
     }
 
     fn line_of(&self, notice: Notice) -> Result<String, AllocError> {
@@ -62,7 +111,7 @@ impl<'a> Console<'a> {
     }
 }
 
-impl<'a> Supervisor for Console<'a> {
+impl<'a, R: Wait> Supervisor for Console<'a, R> {
     // A line that can't be written is lost.
     fn tell(&self, notice: Notice) {
         let _ = match self.line_of(notice) {
@@ -72,6 +121,12 @@ impl<'a> Supervisor for Console<'a> {
                 .stderr()
                 .write_all(b"warning: no memory for a line\n"),
         };
+    }
+
+    fn audit(&self, records: &[Record]) {
+        if let Some(log) = &self.log {
+            log.append(self.rt, records);
+        }
     }
 
     fn close_entrances(&self) {

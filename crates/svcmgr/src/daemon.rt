@@ -8,16 +8,19 @@ use crate::sockets::{Claim, OWNER_ALONE};
 use sm_command::{Ending, Sockets};
 use sm_core::manager_identity;
 use sm_door::{Admin, Door};
+use sm_engine::ServeFault;
 use sm_kinds::{Identity, Places};
 use sm_policy::Prepared;
 use sm_roll::{Blank, Naming};
 use sm_script::ScriptFault;
-use sm_serve::{FreeSeats, Numbers, Patience, serve};
+use sm_serve::{AuditLines, AuditLog, FreeSeats, Numbers, Patience, serve};
 use sm_view::NoGate;
+use std::alloc::{AllocError, Global};
 use std::marker::Brand;
 use std::os::unix::net::UnixListener;
 use std::rt::{Clock, Files, Net};
 use std::sync::Wait;
+use std::thread;
 use std::thread::Threads;
 
 /// Serves clients and administrators under this policy. It returns where the manager or a socket wasn't opened, or a
@@ -131,7 +134,7 @@ fn listen_to_both<'a, J: Naming + Send + Sync, R: Files + Net + Threads + Wait +
     ended
 }
 
-/// Serves at these sockets.
+/// Serves at these sockets, with a thread of its own for the audit log if one is asked for.
 fn serve_at<'a, J: Naming + Send + Sync, R: Threads + Wait + Clock + Sync>(
     host: &HostRuntime,
     rt: &R,
@@ -140,10 +143,14 @@ fn serve_at<'a, J: Naming + Send + Sync, R: Threads + Wait + Clock + Sync>(
     tokens: Tokens<J>,
     slots: u32,
     sockets: Sockets<'a>,
-    mut clients: UnixListener,
+    clients: UnixListener,
     admins: UnixListener,
 ) -> Result<(), Ending<'a>> {
-    let console = match Console::new(host, sockets, &clients, &admins) {
+    let (log, lines) = match log_of(host.alloc(), sockets.audit) {
+        Ok(ends) => ends,
+        Err(_) => return Err(Ending::Memory),
+    };
+    let console = match Console::new(host, rt, sockets, &clients, &admins, log) {
         Ok(console) => console,
         Err(error) => return Err(Ending::of_file(sockets.clients, error)),
     };
@@ -155,11 +162,53 @@ fn serve_at<'a, J: Naming + Send + Sync, R: Threads + Wait + Clock + Sync>(
         slots,
         seal_at: sockets.seal_at,
     };
+    let Some(lines) = lines else {
+        return serve_under(
+            host, rt, &console, door, seats, tokens, numbers, clients, admins,
+        );
+    };
+    let shown = &console;
+    thread::scope(thread::scope_env(), rt, |scope| {
+        if scope.spawn(move || shown.write_log(lines)).is_err() {
+            return Err(Ending::Serve(ServeFault::NoThread));
+        }
+        let ended = serve_under(
+            host, rt, shown, door, seats, tokens, numbers, clients, admins,
+        );
+        shown.end_log();
+        ended
+    })
+}
+
+/// The two ends of the audit log, if one is asked for.
+fn log_of(
+    alloc: Global,
+    is_asked_for: bool,
+) -> Result<(Option<AuditLog>, Option<AuditLines>), AllocError> {
+    if !is_asked_for {
+        return Ok((None, None));
+    }
+    let (log, lines) = AuditLog::new(alloc)?;
+    Ok((Some(log), Some(lines)))
+}
+
+/// Serves under the eyes of this console.
+fn serve_under<'a, J: Naming + Send + Sync, R: Threads + Wait + Clock + Sync>(
+    host: &HostRuntime,
+    rt: &R,
+    console: &Console<R>,
+    door: &Door<J, NoGate>,
+    seats: &FreeSeats<J>,
+    tokens: Tokens<J>,
+    numbers: Numbers,
+    mut clients: UnixListener,
+    admins: UnixListener,
+) -> Result<(), Ending<'a>> {
     let Tokens { admin, sealer } = tokens;
     let ended = serve(
         rt,
         host.alloc(),
-        &console,
+        console,
         &mut clients,
         admins,
         door,

@@ -17,7 +17,7 @@ use std::rt::{Clock, Files, Net};
 use std::sync::Wait;
 use std::thread::Threads;
 
-/// The greatest number of reads of one run.
+/// The most reads of one run.
 const BOUND: u32 = 16_777_216;
 
 fn main(rt: HostRuntime) -> ExitCode {
@@ -27,7 +27,7 @@ fn main(rt: HostRuntime) -> ExitCode {
     }
 }
 
-/// Does what the words ask for. The second handle is the same one, for what starts threads and waits.
+/// Runs the command of the command line. The second handle is the same one, for code that starts threads and waits.
 fn answer<R: Files + Net + Threads + Wait + Clock + Sync>(
     host: &HostRuntime,
     rt: &R,
@@ -42,7 +42,7 @@ fn answer<R: Files + Net + Threads + Wait + Clock + Sync>(
     }
 }
 
-/// Says what is wrong with the command line, or its help or version.
+/// Prints what is wrong with the command line, or its help or version.
 fn misuse(rt: &HostRuntime, error: &clap::Error) -> ExitCode {
     if error.kind() == ErrorKind::OutOfMemory {
         return fail(rt, &Ending::Memory);
@@ -50,12 +50,12 @@ fn misuse(rt: &HostRuntime, error: &clap::Error) -> ExitCode {
     if error.kind() == ErrorKind::DisplayVersion {
         return version(rt, error);
     }
-    // There is nowhere else to say that this failed.
+    // A failure can't be reported anywhere else.
     let _ = eprint!(rt; "{error}");
     ExitCode::from(2)
 }
 
-/// Says on standard output which version this is.
+/// Prints the version on standard output.
 fn version(rt: &HostRuntime, words: &clap::Error) -> ExitCode {
     match print!(rt; "{words}") {
         Ok(()) => ExitCode::SUCCESS,
@@ -63,7 +63,7 @@ fn version(rt: &HostRuntime, words: &clap::Error) -> ExitCode {
     }
 }
 
-/// Says why there is no answer.
+/// Prints why there is no answer.
 fn fail(rt: &HostRuntime, ending: &Ending) -> ExitCode {
     let _ = match ending.line(rt.alloc()) {
         Ok(line) => rt.stderr().write_all(&line),
@@ -84,12 +84,12 @@ fn perform<'a, R: Files + Net + Threads + Wait + Clock + Sync>(
     }
 }
 
-/// The text of a file of the policy.
+/// Reads a file of the policy.
 fn text_of<'a>(rt: &HostRuntime, path: &'a str) -> Result<Vec<u8>, Ending<'a>> {
     read_limited(rt, path).map_err(|error| Ending::of_file(path, error))
 }
 
-/// Runs the script that comes on standard input. Replies go to standard output, audit lines to standard error.
+/// Runs the script on standard input. Replies go to standard output, audit lines to standard error.
 fn serve_script<'a>(rt: &HostRuntime, options: &Options<'a>) -> Result<ExitCode, Ending<'a>> {
     let rules = text_of(rt, options.rules)?;
     let contexts = text_of(rt, options.contexts)?;
@@ -126,7 +126,7 @@ fn serve_sockets<'a, R: Files + Net + Threads + Wait + Clock + Sync>(
     Ok(ExitCode::SUCCESS)
 }
 
-/// Tells on standard output whether a policy is accepted.
+/// Prints on standard output whether a policy is accepted.
 fn check_policy<'a>(rt: &HostRuntime, options: &Options<'a>) -> Result<ExitCode, Ending<'a>> {
     let rules = text_of(rt, options.rules)?;
     let contexts = text_of(rt, options.contexts)?;

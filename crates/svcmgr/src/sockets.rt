@@ -1,4 +1,4 @@
-//! The sockets that a server listens at.
+//! The sockets of a server.
 
 use mio::net::UnixStream as Probe;
 use std::fs::{self, File, OpenOptions, TryLockError};
@@ -8,14 +8,14 @@ use std::os::unix::fs::{FileTypeExt, OpenOptionsExt, PermissionsExt};
 use std::os::unix::net::UnixListener;
 use std::rt::Files;
 
-/// Its owner may connect, and nobody else.
+/// Only its owner may connect.
 pub const OWNER_ALONE: u32 = 0o600;
 
 /// Linux's number of "Address already in use".
 const EADDRINUSE: i32 = 98;
 
-/// A path at which this process alone starts servers, by a lock on the file PATH.lock, for as long as it lives. The
-/// file stays: one that is removed could be locked by two.
+/// A path at which only this process starts servers, by a lock on the file PATH.lock, as long as it lives. The file
+/// stays: one that is removed could be locked by two.
 #[derive(Drop)]
 pub struct Claim<'a> {
     path: &'a str,
@@ -36,8 +36,8 @@ impl<'a> Claim<'a> {
         }
     }
 
-    /// Listens at the path, by a socket with these permissions (`None`: the umask decides). A socket that a dead server
-    /// left there is replaced; a live server's is in use.
+    /// Listens at the path, by a socket with these permissions (`None`: the umask decides). The socket of a dead server
+    /// is replaced; that of a live server is in use.
     pub fn listen<R: Files + Net>(&self, rt: &R, mode: Option<u32>) -> io::Result<UnixListener> {
         let listener = self.bind(rt)?;
         if let Some(mode) = mode {
@@ -70,7 +70,7 @@ impl<'a> Claim<'a> {
     }
 }
 
-/// Whether this is a socket at which nobody listens.
+/// Returns whether this is a socket at which nobody listens.
 fn is_left_behind<R: Files + Net>(rt: &R, path: &str) -> bool {
     let is_socket = match fs::symlink_metadata(rt, path) {
         Ok(metadata) => metadata.file_type().is_socket(),
