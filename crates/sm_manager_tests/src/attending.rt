@@ -19,7 +19,7 @@ pub struct Attended<R, W> {
     pub writer: Counted<W>,
 }
 
-/// Serves a connection at the desk, of so many reads at most.
+/// Serves a connection at the desk, with at most `bound` reads.
 pub fn attend<R: Read, W: Write>(
     alloc: Global,
     kind: Kind,
@@ -39,7 +39,7 @@ pub fn attend<R: Read, W: Write>(
     }
 }
 
-/// Serves a connection that says this, and wants these answers; gives the desk back, and how the connection ended.
+/// Serves a connection that sends this, checks its answers, and returns the desk and how the connection ended.
 pub fn ending_at(
     rt: &impl Abort,
     alloc: Global,
@@ -54,7 +54,7 @@ pub fn ending_at(
     (left.desk, left.ending)
 }
 
-/// Serves a connection that says this to its end, and wants these answers; gives the desk back.
+/// Serves a connection that sends this to its end, checks its answers, and returns the desk.
 pub fn hears(
     rt: &impl Abort,
     alloc: Global,
@@ -67,7 +67,8 @@ pub fn hears(
     desk
 }
 
-/// Serves a connection of the lines on the left, and wants those on the right; gives the desk back.
+/// Serves a connection that sends the lines on the left, checks that the answers are those on the right, and returns
+/// the desk.
 pub fn holds_at(
     rt: &impl Abort,
     alloc: Global,

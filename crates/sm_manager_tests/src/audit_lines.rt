@@ -104,14 +104,14 @@ fn lines_come_behind_what_is_there_in_their_order(rt: HostRuntime) -> Result<(),
     Ok(())
 }
 
-/// Pushes so many records, each made at another length.
+/// Pushes `many` records, each with another length.
 fn push_many(rt: &impl Abort, ring: &mut Ring, alloc: Global, many: u64) {
     for length in 0..many {
         ring.push(app_barred(rt, alloc, length));
     }
 }
 
-/// What the ring holds: how many records, and the lengths at which the oldest and the newest were made.
+/// The number of records in the ring, and the lengths of the oldest and of the newest one.
 fn held(rt: &impl Abort, ring: &Ring, alloc: Global) -> Option<(usize, u64, u64)> {
     let all = ring.all(alloc).ok().expect(rt, "memory");
     let oldest = all.first()?.length;

@@ -12,7 +12,7 @@ use std::alloc::{AllocError, Global};
 use std::process::Abort;
 use std::test::Fail;
 
-/// A client's connection, each line in its place or not.
+/// A client's connection, with lines that are allowed when they come and others.
 pub const A_CLIENT: Talk = &[
     ("take", "malformed"),
     ("hello 100 1000 u:r:system_server:s0", "client 1"),
@@ -23,7 +23,7 @@ pub const A_CLIENT: Talk = &[
     ("bye", "bye"),
 ];
 
-// A desk of a device's policy, with so many places in its journal.
+// A desk with a device's policy and a journal of `places` slots.
 fn device_desk(rt: &impl Abort, alloc: Global, places: u32) -> ManagerDesk {
     ManagerDesk::open(rt, alloc, &policy(rt, alloc), places)
 }
@@ -67,7 +67,7 @@ const AN_APPLICATION: Talk = &[
     ("get foo", "null"),
 ];
 
-// What the client was told is less than what stands in the records.
+// The client's answers say less than the records.
 const WHAT_IT_WAS_DENIED: Talk = &[
     (
         "denials",
@@ -192,7 +192,7 @@ const AFTER_A_LOST_SERVER: Talk = &[
     ("take", "empty"),
 ];
 
-// Nothing behind a line that is too long is read; the client has left then.
+// Nothing after a line that is too long is read, and the client has left.
 #[test]
 fn a_line_too_long(rt: HostRuntime) -> Result<(), Fail> {
     let alloc = rt.alloc();

@@ -12,7 +12,7 @@ use std::alloc::{AllocError, Global};
 use std::process::Abort;
 use std::test::Fail;
 
-/// A connection, what it is answered, and how many bytes are written before it has a client.
+/// A connection, its answers, and the number of bytes that are written before it has a client.
 #[derive(Drop)]
 struct Connection {
     kind: Kind,
@@ -20,7 +20,7 @@ struct Connection {
     before: usize,
 }
 
-// A client says `bye`: each line is in its place or not.
+// A client says `bye`; some of its lines aren't allowed when they come.
 fn with_bye(alloc: Global) -> Result<Connection, AllocError> {
     let mut said = Said::new(alloc);
     said.talk(A_CLIENT)?;
@@ -159,7 +159,8 @@ fn each_write_fails(rt: HostRuntime) -> Result<(), Fail> {
     Ok(())
 }
 
-// Lines come one byte a read, and the Nth write fails: no line after the Nth is asked. How many were asked.
+// Lines come one byte a read, and the Nth write fails: no line after the Nth is asked. Returns the number of lines that
+// were asked.
 fn asked_before(rt: &impl Abort, alloc: Global, policy: &Prepared, said: &Said, n: u32) -> u32 {
     let reader = OneByte(said.script.as_slice());
     let writer = FailAt {
@@ -177,7 +178,7 @@ fn nothing_is_asked_after_a_failed_write(rt: HostRuntime) -> Result<(), Fail> {
     let alloc = rt.alloc();
     let client = with_bye(alloc)?;
     let policy = policy(&rt, alloc);
-    // Three of the seven lines are in their place.
+    // Three of the seven lines are allowed when they come.
     let counts = [0u32, 1, 1, 1, 2, 2, 3];
     for (n, asked) in (1..8).zip(counts) {
         assert_eq!(rt; asked_before(&rt, alloc, &policy, &client.said, n), asked);
@@ -205,7 +206,7 @@ fn few_lines_of_a_piece_are_asked_before_a_failed_write(rt: HostRuntime) -> Resu
     Ok(())
 }
 
-// A connection whose bytes come so many at a time, and whose answers are taken one byte a write.
+// A connection whose bytes come in pieces, and whose answers are taken one byte a write.
 fn in_pieces(
     rt: &impl Abort,
     alloc: Global,

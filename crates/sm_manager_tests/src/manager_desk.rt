@@ -21,7 +21,7 @@ pub struct ManagerDesk {
     pub client: Option<ClientId>,
     /// How often it was asked.
     pub asked: u32,
-    /// How often it was told that a connection has ended.
+    /// The number of connections that have ended.
     pub ends: u32,
 }
 
@@ -38,7 +38,7 @@ impl Drop for ManagerDesk {
 }
 
 impl ManagerDesk {
-    /// A manager that was just opened under this policy, with so many places in its journal.
+    /// Opens a manager under this policy, with a journal of `places` slots.
     pub fn open(rt: &impl Abort, alloc: Global, policy: &Prepared, places: u32) -> ManagerDesk {
         let who = process(rt, alloc, b"u:r:servicemanager:s0");
         let policy = policy.share().ok().expect(rt, "memory");

@@ -1,4 +1,4 @@
-//! What became of telling watchers, as the outcomes of an Add and a Watch have it.
+//! Notices to watchers in the outcomes of an Add and a Watch.
 
 use crate::turns::{application, process, server};
 use sm_core::Manager;
@@ -102,13 +102,13 @@ fn add(rt: &impl Abort, alloc: Global) -> Event {
     }
 }
 
-/// What a change tells, and the number of audit records that it leaves.
+/// The notices of a change, and the number of its audit records.
 fn noted(manager: &mut Manager, by: By, turn: u64, event: Event) -> (Heard, usize) {
     let (reply, records) = manager.step_recorded(by, turn, event);
     (told_by(&reply), records.len())
 }
 
-// Under the second policy an application may not find `activity` any more. That it isn't told is recorded.
+// Under the second policy an application may not find `activity` any more. The denied notice is recorded.
 #[test]
 fn a_watcher_is_told_of_what_it_may_find(rt: HostRuntime) {
     let alloc = rt.alloc();

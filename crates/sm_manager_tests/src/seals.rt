@@ -1,4 +1,4 @@
-//! Segments that a manager hands out: what each has, and what the next one begins with.
+//! Segments that a manager returns: their contents, and the openings of the next ones.
 
 use crate::turns::{add, application, policy, process, server};
 use sm_core::Manager;

@@ -318,7 +318,7 @@ fn list_leaves(rt: &impl Abort, alloc: Global, manager: &Manager, lines: &[u8]) 
 
 const APPLICATION: By = By::Client(ClientId(2));
 
-/// An application's connection, behind that of a system service.
+/// An application's connection, after that of a system service.
 fn with_application(rt: &impl Abort, alloc: Global) -> Manager {
     let mut manager = connected(rt, alloc);
     let connect = Event::Connect(application(rt, alloc));

@@ -1,4 +1,4 @@
-//! The declarations of rule texts: which are refused, and the types that sets denote.
+//! The declarations of policy sources: which are refused, and the types that sets denote.
 
 use sm_ruletext::{What, read};
 use sm_types::{Types, TypesFault};

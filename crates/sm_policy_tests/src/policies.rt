@@ -235,9 +235,14 @@ fn nested(alloc: Global, depth: u32) -> Result<Vec<u8>, AllocError> {
     Ok(text)
 }
 
+fn statement_count(rt: &impl Abort, alloc: Global, rules: &[u8]) -> usize {
+    read(alloc, rules).ok().expect(rt, "statements").len()
+}
+
 #[test]
 fn nested_braces_decide_as_written(rt: HostRuntime) -> Result<(), Fail> {
     let text = nested(rt.alloc(), 1_000_000)?;
+    assert_eq!(rt; statement_count(&rt, rt.alloc(), &text), 2);
     let prepared = prepared(&rt, rt.alloc(), &text, b"* u:r:a\n");
     assert_eq!(rt;
         prepared.why(b"a", b"a", Class::Binder, Perms::CALL),

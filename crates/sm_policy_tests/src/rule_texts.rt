@@ -1,4 +1,4 @@
-//! Rule texts: which are refused, what their sets denote, what they allow, and what breaks them.
+//! Policy sources: which are refused, what their sets denote, what they allow, and what breaks them.
 
 use sm_kinds::{Class, Perms};
 use sm_neverallow::{Matrices, Violation, first_violation};
@@ -62,7 +62,7 @@ fn faults(rt: HostRuntime) {
     );
 }
 
-// Rules and vectors are asked by the indexes of types; there is no third one.
+// Rules and vectors are looked up by the indexes of types; there is no third type.
 #[test]
 fn permissive_and_silenced(rt: HostRuntime) {
     let text = b"type a;\ntype b;\npermissive a;\ndontaudit b self:binder call;\n";
@@ -92,7 +92,7 @@ fn permissive_and_silenced(rt: HostRuntime) {
     assert_eq!(rt; of(2, 0), (false, true));
 }
 
-// The allow rules of `POLICY`, which has a neverallow rule behind them.
+// The allow rules of `POLICY`, which has a neverallow rule after them.
 #[test]
 fn kept_rules(rt: HostRuntime) {
     let statements = read(rt.alloc(), POLICY).ok().expect(&rt, "statements");
@@ -176,15 +176,37 @@ fn lines(rt: HostRuntime) {
     assert_eq!(rt; line(sets, b"b", b"b", Class::Binder, Perms(8)), Some(4));
     assert_eq!(rt; line(sets, b"a", b"b", Class::Binder, Perms(8)), None);
     assert_eq!(rt; line(sets, b"b", b"a", Class::Binder, Perms(8)), None);
-    // The attribute is given behind the rule that names it.
+    // The attribute is given after the rule that names it.
     let later = b"attribute d;\ntype a;\nallow d d:binder call;\ntypeattribute a d;\n";
     assert_eq!(rt; line(later, b"a", b"a", Class::Binder, Perms(16)), Some(3));
 }
 
-/// A source, a target, a class and a permission, behind a letter that stands for them.
+// `find` is no permission of binder, and no rule of another class than the manager's two is kept.
+#[test]
+fn a_permission_of_none_of_the_classes_writes_nothing(rt: HostRuntime) {
+    let line = |text: &[u8], class, perm| line(
+        &rt,
+        rt.alloc(),
+        text,
+        (b"a", b"a"),
+        class,
+        Perms(perm),
+    );
+    let without = b"type a;\nallow a a:{ binder file } find;\n";
+    let with = b"type a;\nallow a a:{ binder service_manager } find;\n";
+    for class in [Class::ServiceManager, Class::Binder] {
+        for perm in [1, 2, 4, 8, 16, 32, 64] {
+            assert_eq!(rt; line(without, class, perm), None);
+            let found = class == Class::ServiceManager && perm == 2;
+            assert_eq!(rt; line(with, class, perm), found.then_some(2));
+        }
+    }
+}
+
+/// A source, a target, a class and a permission, after a letter for them.
 type Lettered = (u8, &'static [u8], &'static [u8], Class, u8);
 
-// The letters of what a rule gives, whose set `form` stands between the other two parts of it.
+// The letters of the accesses that a rule grants, with the set `form` between the other two parts of the rule.
 fn letters(
     rt: &impl Abort,
     alloc: Global,
@@ -422,7 +444,7 @@ fn call(never_line: u32, allow_line: u32, source: u16, target: u16) -> Option<Vi
 /// The number of neverallow rules in it: enough for them to be checked by groups of sources.
 const NEVERS: u32 = 220;
 
-// Allow rules, and neverallow rules that are all the same but for two, each behind its place.
+// Allow rules, and neverallow rules that are all the same but for two, each with its index.
 fn with_nevers(
     alloc: Global,
     allows: &[u8],

@@ -1,4 +1,4 @@
-//! The reader of rule texts: which statements it gives, and which fault it names.
+//! The reader of policy sources: which statements it gives, and which fault it names.
 
 use sm_ruletext::*;
 use sm_samples::DEVICE_RULES;
@@ -50,7 +50,8 @@ fn first_word(statement: &[u8]) -> &[u8] {
     }
 }
 
-/// The number of statements in a front of the device's rules, or the fault of the statement that it cuts. The rules have
+/// The number of statements in a prefix of the device's rules, or the fault of the statement that it cuts. The rules
+/// have
 /// neither comments nor texts in quotes.
 fn wanted_of_front(front: &[u8]) -> Result<usize, RuleTextFault> {
     let mut statements = 0usize;

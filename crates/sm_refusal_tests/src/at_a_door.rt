@@ -1,11 +1,11 @@
-//! A door: sessions, changes, reads, installs, denials and seals.
+//! A door: sessions, changes, reads, installs, denials, seals and audit records.
 
 ghost use Rattle.std.specs.Prelude.{◌≡◌};
 ghost use Rattle.sm_core.specs.Opening.{opened};
 
 use crate::manager::{activity, is_memory, lists_activity, policy, process};
 use sm_door::{Admin, Door, Seat, Session};
-use sm_history::{Outcome, Refusal, Reply};
+use sm_history::{Outcome, Record, Refusal, Reply};
 use sm_kinds::{Identity, Places};
 use sm_policy::Prepared;
 use sm_roll::{Blank, Naming};
@@ -82,7 +82,7 @@ fn seals<J: Naming, R: Wait + Abort>(rt: &R, door: &Door<J, NoGate>, me: &mut Ad
     assert!(rt; closes(rt, door, me) || closes(rt, door, me));
 }
 
-/// Ends a session. After a refusal the session comes back, and another try succeeds.
+/// Ends a session. After a failed allocation the session comes back, and another try succeeds.
 fn leaves<J: Naming, R: Wait + Abort>(rt: &R, door: &Door<J, NoGate>, me: Session<J>) {
     if let Err((refusal, me)) = door.leave(rt, me) {
         assert!(rt; matches!(refusal, Refusal::Memory));
@@ -90,11 +90,52 @@ fn leaves<J: Naming, R: Wait + Abort>(rt: &R, door: &Door<J, NoGate>, me: Sessio
     }
 }
 
+/// A session of an application.
+fn joined_application<J: Naming, R: Wait + Abort>(
+    rt: &R,
+    alloc: Global,
+    door: &Door<J, NoGate>,
+    seat: Seat<J>,
+) -> Option<Session<J>> {
+    let who = process(alloc, b"u:r:untrusted_app:s0")?;
+    match door.connect(rt, seat, who) {
+        Ok(session) => Some(session),
+        Err((refusal, _)) => {
+            assert!(rt; matches!(refusal, Refusal::Memory));
+            None
+        }
+    }
+}
+
+/// Whether a request was denied, with its record; or an allocation failed, and there is none.
+fn is_denied(reply: &Reply, records: &[Record]) -> bool {
+    match reply {
+        Reply::Refused(Refusal::Denied(_)) => records.len() == 1,
+        _ => is_memory(reply) && records.is_empty(),
+    }
+}
+
+/// An add and a list that are denied come with their records.
+fn is_refused<J: Naming, R: Wait + Abort>(
+    rt: &R,
+    alloc: Global,
+    door: &Door<J, NoGate>,
+    mut me: Session<J>,
+) -> Option<()> {
+    let (reply, records) = door.submit_recorded(rt, &mut me, activity(alloc)?);
+    assert!(rt; is_denied(&reply, &records));
+    let (reply, records) = door.list_recorded(&mut me, 15);
+    assert!(rt; is_denied(&reply, &records));
+    leaves(rt, door, me);
+    Some(())
+}
+
 fn calls<J: Naming, R: Wait + Abort>(
     rt: &R,
     alloc: Global,
     door: &Door<J, NoGate>,
     seat: Seat<J>,
+    other: Seat<J>,
     mut admin: Admin<J>,
 ) -> Option<()> {
     let mut me = joined(rt, alloc, door, seat)?;
@@ -105,7 +146,8 @@ fn calls<J: Naming, R: Wait + Abort>(
     assert!(rt; records.is_empty());
     seals(rt, door, &mut admin);
     leaves(rt, door, me);
-    Some(())
+    let application = joined_application(rt, alloc, door, other)?;
+    is_refused(rt, alloc, door, application)
 }
 
 fn opens<J: Naming, R: Wait + Abort>(
@@ -123,7 +165,8 @@ fn opens<J: Naming, R: Wait + Abort>(
         Ok((door, mut seats, mut admins)) => {
             let seat = seats.pop().expect(rt, "a seat");
             let admin = admins.pop().expect(rt, "an administrator");
-            let ended = calls(rt, alloc, &door, seat, admin);
+            let other = seats.pop().expect(rt, "a seat");
+            let ended = calls(rt, alloc, &door, seat, other, admin);
             door.close(rt);
             ended
         }

@@ -192,7 +192,10 @@ fn seals(rt: &impl Abort, manager: &mut Manager) -> Option<()> {
             return None;
         }
     };
-    let Ok(view) = manager.view_sealed(&ready) else {
+    let Ok(last) = manager.view() else {
+        return None;
+    };
+    let Ok(view) = manager.view_sealed(&ready, &last) else {
         return None;
     };
     let segment = manager.commit_seal(ready);

@@ -35,8 +35,8 @@ fn a_policy_is_checked(rt: HostRuntime) {
     assert!(rt; checked(&rt, rt.alloc()).is_some() || checked(&rt, rt.alloc()).is_some());
 }
 
-/// Whether all of these lines are those that are wanted. `None` if some are missing behind them, or the first that
-/// differs says that an allocation failed.
+/// Whether these lines are the expected ones. `None` if lines are missing at the end, or if the first one that differs
+/// says that an allocation failed.
 fn is_told(rt: &impl Abort, told: &[u8], wanted: &[u8]) -> Option<()> {
     let mut lines = told.split(|byte| *byte == b'\n');
     for line in wanted.split(|byte| *byte == b'\n') {

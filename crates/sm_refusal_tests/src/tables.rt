@@ -1,6 +1,6 @@
 //! The manager's tables, and its audit records.
 
-use sm_audit::{Ring, line};
+use sm_audit::{Ring, line, push_line, push_lines};
 use sm_grants::Grants;
 use sm_history::{
     BoxedDelivery, Delivery, Denial, Given, MOST_WATCHES, Message, Record, Service, WatchPair,
@@ -25,8 +25,9 @@ fn given(rt: &impl Abort, grants: &mut Grants, node: Node) -> Option<u32> {
         assert!(rt; grants.count(7, node) == 0);
         return None;
     }
-    assert!(rt; grants.is_ready(7, node));
-    Some(grants.grant(7, node))
+    let number = grants.number_if_room(7, node);
+    assert!(rt; grants.grant(7, node) == number);
+    number
 }
 
 fn handles(rt: &impl Abort, alloc: Global) -> Option<()> {
@@ -157,4 +158,47 @@ fn records(rt: &impl Abort, alloc: Global) -> Option<()> {
 #[test]
 fn records_are_kept(rt: HostRuntime) {
     assert!(rt; records(&rt, rt.alloc()).is_some() || records(&rt, rt.alloc()).is_some());
+}
+
+/// The text before the lines of records.
+const HEAD: &[u8] = b"denials 1\n";
+
+/// Whether a text is its head with this many lines behind it.
+fn has_lines(text: &[u8], count: u32) -> bool {
+    let mut rest = text.strip_prefix(HEAD);
+    for _ in 0..count {
+        rest = match rest {
+            Some(rest) => rest.strip_prefix(LINE),
+            None => None,
+        };
+    }
+    match rest {
+        Some(rest) => rest.is_empty(),
+        None => false,
+    }
+}
+
+fn lines_behind_a_text(rt: &impl Abort, alloc: Global) -> Option<()> {
+    let denied = record(alloc)?;
+    let mut text = Vec::from_slice(alloc, HEAD).ok()?;
+    if push_line(alloc, &mut text, &denied).is_err() {
+        assert!(rt; has_lines(&text, 0));
+        return None;
+    }
+    assert!(rt; has_lines(&text, 1));
+    let records = [denied, record(alloc)?];
+    if push_lines(alloc, &mut text, &records).is_err() {
+        assert!(rt; has_lines(&text, 1));
+        return None;
+    }
+    assert!(rt; has_lines(&text, 3));
+    Some(())
+}
+
+#[test]
+fn lines_are_pushed_whole(rt: HostRuntime) {
+    assert!(rt;
+        lines_behind_a_text(&rt, rt.alloc()).is_some()
+            || lines_behind_a_text(&rt, rt.alloc()).is_some()
+    );
 }

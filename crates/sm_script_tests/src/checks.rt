@@ -1,4 +1,4 @@
-//! What a check tells of a policy, and writers that fail at it.
+//! The lines of checks, and writers that fail at them.
 
 use sm_check::check;
 use sm_engine::{Counted, Fault};
@@ -7,12 +7,12 @@ use std::alloc::Global;
 use std::process::Abort;
 use std::test::Fail;
 
-/// Rules and contexts, with the line that is told of them.
+/// Rules and contexts, with the line that a check prints.
 type Told = &'static [(&'static [u8], &'static [u8], &'static [u8])];
 
 const ACCEPTED: &[u8] = b"policy ok: 6 types, 2 attributes, 8 rules, 2 labels\n";
 
-// Checks two texts, and wants this line; and whether they are a policy's.
+// Checks a policy source and a contexts file, with the expected line; returns whether they are a policy's.
 fn tells(
     rt: &impl Abort,
     alloc: Global,

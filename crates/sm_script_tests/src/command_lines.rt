@@ -1,4 +1,4 @@
-//! Command lines, and what is told of a file that isn't read.
+//! Command lines, and the line for a file that can't be read.
 
 use clap::error::ErrorKind;
 use sm_command::{Ending, Mode, Sockets, options_of, words_of};
@@ -44,16 +44,18 @@ fn sockets_of_a_server(rt: HostRuntime) -> Result<(), Fail> {
             1_048_576,
             None,
             None,
+            false,
         ),
         (
-            "svcmgr serve --workers 64 --journal 2 --seal-at 2 --admin a --socket s --mode 0660 r c",
+            "svcmgr serve --workers 64 --journal 2 --seal-at 2 --admin a --socket s --audit --mode 0660 r c",
             64,
             2,
             Some(0o660),
             Some(2),
+            true,
         ),
     ];
-    for (line, workers, places, mode, seal_at) in lines {
+    for (line, workers, places, mode, seal_at, audit) in lines {
         let words = words(rt.alloc(), line)?;
         let options = options_of(rt.alloc(), &words)?;
         let wanted = Sockets {
@@ -62,6 +64,7 @@ fn sockets_of_a_server(rt: HostRuntime) -> Result<(), Fail> {
             workers,
             mode,
             seal_at,
+            audit,
         };
         assert!(rt; options.mode == Mode::Serve(wanted));
         assert_eq!(rt; options.places.entries(), places);

@@ -50,7 +50,7 @@ const ONE_WATCH_TOO_MANY: Talk = &[
     ("1 watch activity o4", "ok"),
 ];
 
-// All 4,096 watches are the same one; taking it back ends them all.
+// All 4,096 watches are equal; one `unwatch` removes them all.
 #[test]
 fn a_full_table_of_watches(rt: HostRuntime) -> Result<(), Fail> {
     let alloc = rt.alloc();
@@ -78,7 +78,7 @@ fn connect_watching(said: &mut Said, alloc: Global, client: u32) -> Result<(), A
     Ok(())
 }
 
-// A client takes what its objects were told, in the order of their watches.
+// A client takes the deliveries to its objects, in the order of their watches.
 fn take_all(said: &mut Said, alloc: Global, client: u32) -> Result<(), AllocError> {
     let line = format!(in alloc; "{client} take\n")?;
     let given = if client == 1 { "o1" } else { "h1" };

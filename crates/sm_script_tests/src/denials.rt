@@ -27,7 +27,7 @@ impl Run {
         }
     }
 
-    /// These requests behind those that there are.
+    /// Appends these requests.
     fn hear(&mut self, heard: Heard) -> Result<(), AllocError> {
         for (request, replies, lines) in heard {
             push_line(&mut self.script, request)?;
@@ -47,7 +47,7 @@ impl Run {
         push_line(&mut self.replies, answer)
     }
 
-    /// Runs the script under these rules, and wants its replies and its lines.
+    /// Runs the script under these rules, and checks its replies and its audit lines.
     fn holds(&self, rt: &impl Abort, alloc: Global, rules: &[u8]) {
         let policy = Fixture::new(rules, DEVICE_LABELS);
         policy.audited(rt, alloc, &self.script, &self.replies, &self.lines);
@@ -68,7 +68,7 @@ fn holds(rt: &impl Abort, alloc: Global, heard: Heard) -> Result<(), Fail> {
     Ok(())
 }
 
-// A clause, a `list`, whose record isn't kept, and a `get`, which is told `null`.
+// A clause, a `list`, whose record isn't kept, and a `get`, which is answered `null`.
 const REFUSED_TO_AN_APPLICATION: Heard = &[
     ("hello 100 1000 u:r:system_server:s0", "client 1", ""),
     ("1 add activity o1 0 8", "ok", ""),
@@ -186,7 +186,7 @@ fn a_watcher_is_judged_by_the_policy_in_force(rt: HostRuntime) -> Result<(), Fai
     Ok(())
 }
 
-// What passes since its type is permissive leaves a record all the same; a clause on the user number still bars.
+// What passes only since its type is permissive is recorded all the same; a clause on the user number still refuses.
 const A_PERMISSIVE_APPLICATION: Heard = &[
     ("hello 100 1000 u:r:system_server:s0", "client 1", ""),
     ("1 add activity o1 0 8", "ok", ""),

@@ -34,7 +34,7 @@ pub const REFERENCES_OF_A_CALL: Talk = &[
     ("1 release 1", "failed bad-handle"),
 ];
 
-// The number of a handle that was given back is that of the next new object.
+// The number of a released handle is that of the next new object.
 const NUMBERS_ARE_USED_AGAIN: Talk = &[
     ("hello 100 1000 u:r:system_server:s0", "client 1"),
     ("1 add activity o1 0 8", "ok"),
@@ -193,7 +193,7 @@ fn exchanges(rt: HostRuntime) -> Result<(), Fail> {
     Ok(())
 }
 
-// Of four places one is kept for the death of the client.
+// One of four slots is kept for the death of the client.
 const A_FULL_JOURNAL: Talk = &[
     ("hello 100 1000 u:r:system_server:s0", "client 1"),
     ("1 add activity o1 0 8", "ok"),
@@ -245,7 +245,7 @@ pub fn server_dies(alloc: Global) -> Result<Said, AllocError> {
     Ok(said)
 }
 
-// A call of a dead object is answered so before any rule is asked, and a dead client watches nothing.
+// A call of a dead object is answered so before any rule is checked, and a dead client watches nothing.
 #[test]
 fn a_server_that_dies(rt: HostRuntime) -> Result<(), Fail> {
     let said = server_dies(rt.alloc())?;
@@ -262,7 +262,7 @@ const AN_APPLICATION_HAS_A_HANDLE: Talk = &[
 
 const ONE_CALL: Talk = &[("2 call 1 -", "ok")];
 
-// Who watches a name isn't told of its service either, while the inbox is full.
+// A watcher isn't notified of a service, either, while its inbox is full.
 const ONE_CALL_TOO_MANY: Talk = &[
     ("2 call 1 -", "failed target-full"),
     ("1 take", "call o1 200 10007 -"),

@@ -203,15 +203,15 @@ fn each_audit_write_fails(rt: HostRuntime) -> Result<(), Fail> {
     Ok(())
 }
 
-/// How many bytes of a script its first items take, and how many bytes of replies answer them.
+/// The number of bytes of a script's first items, and the number of bytes of their replies.
 #[derive(Clone, Copy)]
 struct Front {
     read: usize,
     written: usize,
 }
 
-// The fronts of a script that end inside the item behind this one, or right before it, are answered so far, and told
-// that they are cut. The front with that item.
+// A prefix of a script that ends right before an item has the answers of the items so far; one that ends inside the
+// item has `fault cut` after them. Returns the prefix with the item.
 fn cut_inside(
     rt: &impl Abort,
     alloc: Global,

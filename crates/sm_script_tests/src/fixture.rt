@@ -9,7 +9,7 @@ use std::io::{Read, Write};
 use std::process::Abort;
 use std::test::Fail;
 
-/// The texts of a policy, how many places a journal has, and how many reads a run may make.
+/// The files of a policy, the slots of a journal, and the most reads of a run.
 #[derive(Clone, Copy)]
 pub struct Fixture<'a> {
     rules: &'a [u8],
@@ -43,12 +43,12 @@ impl<'a> Fixture<'a> {
         Fixture::new(DEVICE_RULES, DEVICE_LABELS)
     }
 
-    /// The same, where a journal has so many places.
+    /// The same with a journal of this many slots.
     pub fn with_places(self, places: u32) -> Fixture<'a> {
         Fixture { places, ..self }
     }
 
-    /// The same, where a run may make so many reads.
+    /// The same with at most this many reads.
     pub fn with_reads(self, reads: u32) -> Fixture<'a> {
         Fixture { reads, ..self }
     }
@@ -95,7 +95,7 @@ impl<'a> Fixture<'a> {
         }
     }
 
-    /// Runs a script, and wants these replies, and no others; and gives how the run ended.
+    /// Runs a script, checks that it has exactly these replies, and returns how the run ended.
     pub fn ending(
         self,
         rt: &impl Abort,
@@ -108,17 +108,17 @@ impl<'a> Fixture<'a> {
         left.ending
     }
 
-    /// Runs a script to its end, and wants these replies.
+    /// Runs a script to its end, and checks its replies.
     pub fn replies(self, rt: &impl Abort, alloc: Global, script: &[u8], wanted: &[u8]) {
         assert!(rt; self.ending(rt, alloc, script, wanted).is_ok());
     }
 
-    /// Runs what is said to its end, and wants what it is to be answered.
+    /// Runs an exchange to its end, and checks its answers.
     pub fn hears(self, rt: &impl Abort, alloc: Global, said: &Said) {
         self.replies(rt, alloc, &said.script, &said.wanted);
     }
 
-    /// Runs a script to its end, and wants these replies and these audit lines.
+    /// Runs a script to its end, and checks its replies and its audit lines.
     pub fn audited(
         self,
         rt: &impl Abort,
@@ -134,7 +134,7 @@ impl<'a> Fixture<'a> {
     }
 }
 
-/// Runs the lines on the left, and wants those on the right.
+/// Runs the lines on the left, and checks that the answers are those on the right.
 pub fn holds(rt: &impl Abort, alloc: Global, policy: Fixture, talk: Talk) -> Result<(), Fail> {
     let mut said = Said::new(alloc);
     said.talk(talk)?;

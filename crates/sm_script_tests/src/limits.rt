@@ -41,7 +41,7 @@ fn lines_too_long(rt: HostRuntime) -> Result<(), Fail> {
     Ok(())
 }
 
-// Adds `1 add NAME o1 0 8`, where the name is so many letters `a`.
+// Appends `1 add NAME o1 0 8`, with a name of `letters` letters `a`.
 fn push_add(script: &mut Vec<u8>, letters: usize) -> Result<(), Fail> {
     script.extend_from_slice(b"1 add ")?;
     for _ in 0..letters {
@@ -141,7 +141,7 @@ hello 200 10007 u:r:untrusted_app:s0
 1 version
 ";
     let alloc = rt.alloc();
-    // An object of one's own takes no place, and a denial none.
+    // A get of one's own object takes no slot, and neither does a denied one.
     let none = b"client 1
 ok
 client 2

@@ -21,7 +21,7 @@ handle 1
 handle 1
 ";
 
-// Adds a `reload` line, and a device's texts behind it.
+// Appends a `reload` line, and a device's files after it.
 fn push_reload(script: &mut Vec<u8>, line: &[u8]) -> Result<(), Fail> {
     script.extend_from_slice(line)?;
     script.extend_from_slice(DEVICE_RULES)?;
@@ -130,7 +130,7 @@ malformed
     Fixture::device().replies(&rt, rt.alloc(), script, wanted);
 }
 
-// One place is for the opening. A reload takes one, and a client two.
+// One slot is for the opening. A reload takes one, and a client two.
 #[test]
 fn journals_without_a_place_for_a_policy(rt: HostRuntime) -> Result<(), Fail> {
     let alloc = rt.alloc();
@@ -140,7 +140,7 @@ fn journals_without_a_place_for_a_policy(rt: HostRuntime) -> Result<(), Fail> {
     push_reload(&mut script, b"reload 1 686 89\n")?;
     script.extend_from_slice(b"reload 2 0 0\n")?;
     script.extend_from_slice(b"explain untrusted_app system_server binder call\n")?;
-    // The version is asked before the place, and the texts before either.
+    // The version is checked before the slot, and the files before either.
     let wanted = b"reloaded 2
 failed journal-full
 moved 2
@@ -200,7 +200,7 @@ fn texts_cut_short(rt: HostRuntime) -> Result<(), Fail> {
     push_reload(&mut script, b"reload 1 686 89\n")?;
     let before = b"1 list 15\nreload 1 686 89\n".len();
     let wanted = b"failed not-connected\nfault cut\n";
-    // Before the rule text, inside it, between the texts, and inside the contexts text.
+    // Before the policy source, inside it, between the texts, and inside the contexts file.
     for held in [0usize, 1, 300, 685, 686, 687, 720, 774] {
         let cut = script.get(..before + held).ok_or("a front")?;
         Fixture::device().replies(&rt, alloc, cut, wanted);

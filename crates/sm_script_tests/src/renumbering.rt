@@ -1,4 +1,4 @@
-//! Policies that number types anew while clients live.
+//! Policies that renumber types while clients live.
 
 use crate::fixture::Fixture;
 use sm_samples::{Said, Talk};

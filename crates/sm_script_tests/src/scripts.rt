@@ -87,7 +87,7 @@ const DUMP_FLAGS: Talk = &[
     ("1 list 24", "names 1 3 1 activity"),
 ];
 
-// The label is asked before the object and the name are looked at, and after the handle.
+// The label is checked before the object and the name, and after the handle.
 const NAMES_WITHOUT_LABELS: Talk = &[
     ("hello 100 1000 u:r:system_server:s0", "client 1"),
     (

@@ -1,9 +1,9 @@
-//! Policy texts that differ in one place.
+//! Policy sources that differ in one line or word.
 
 use sm_samples::DEVICE_RULES;
 use std::alloc::{AllocError, Global};
 
-/// A device's rules, with another text in place of the first place where this one stands.
+/// The rules of a device, with the first occurrence of `old` replaced.
 pub fn device_rules_but(alloc: Global, old: &[u8], new: &[u8]) -> Result<Vec<u8>, AllocError> {
     let mut rules = Vec::new(alloc);
     for i in 0..DEVICE_RULES.len() {

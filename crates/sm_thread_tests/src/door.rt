@@ -20,7 +20,7 @@ use std::sync::{Arc, Mutex, Wait};
 use std::thread;
 use std::thread::Threads;
 
-/// So many policies are installed while others read.
+/// The number of policies that are installed while others read.
 const INSTALLS: u64 = 100;
 
 pub fn policy(rt: &impl Abort, alloc: Global, rules: &[u8]) -> Prepared {
@@ -75,7 +75,7 @@ fn is_added(reply: &Reply) -> bool {
     matches!(reply, Reply::Done(Outcome::Added(_)))
 }
 
-/// Whether these names are listed, under the first policy, from a history of so many changes.
+/// Whether these names are listed, under the first policy, from a history of `entries` changes.
 fn lists(reply: &Reply, entries: u64, names: &[&[u8]]) -> bool {
     match reply {
         Reply::Looked {
@@ -263,7 +263,7 @@ fn all_at_once<J: Naming + Send + Sync, R: Threads + Wait + Abort + Sync>(
     done
 }
 
-/// Race the two policies in turn, the stricter one first, and seals behind each.
+/// Race the two policies in turn, the stricter one first, and seals after each.
 fn installs<J: Naming, R: Wait + Abort>(
     rt: &R,
     alloc: Global,
@@ -494,7 +494,7 @@ fn crosses<X: Send + Sync>()
     ensures { IsSend X.row × IsSync X.row }
 {}
 
-/// Makes it a fact of its own that values of the type may be sent to another thread.
+/// Shows that values of the type may be sent to another thread.
 fn sends<X: Send>()
     ensures { IsSend X.row }
 {}

@@ -1,11 +1,13 @@
-//! What two clients and an administrator are answered through a door, one after another, in the words of their lines.
+//! What two clients and an administrator are answered through a door, one after another, in the words of their lines,
+//! and the audit lines of what they ask.
 
 ghost use Rattle.std.specs.Prelude.{◌≡◌};
 ghost use Rattle.sm_core.specs.Opening.{opened};
 
 use crate::door::{manager, policy};
+use sm_audit::push_lines;
 use sm_door::{Admin, Door, Seat, Session};
-use sm_history::{Event, Failure, Outcome, Query, Refusal, Reply};
+use sm_history::{Event, Failure, Outcome, Query, Record, Refusal, Reply};
 use sm_kinds::{Identity, Places};
 use sm_policy::Prepared;
 use sm_roll::{Blank, Naming};
@@ -27,7 +29,7 @@ enum Sender {
 
 use Sender::{Admin as Administrator, Application, Service};
 
-/// Lines, each with who sends it and the line that answers it.
+/// Lines, each with who sends it, and the line that answers it with the audit lines behind it.
 type Exchange = &'static [(Sender, &'static str, &'static str)];
 
 /// The connections at a door.
@@ -65,39 +67,68 @@ fn bye<J: Naming, R: Wait>(rt: &R, door: &Door<J, NoGate>, session: Session<J>) 
     }
 }
 
-/// What a client's change is answered, and its session, if that goes on.
+/// What a client is answered, the audit records of its request, and its session, if that goes on.
+#[derive(Drop)]
+struct Heard<J: Naming> {
+    reply: Reply,
+    records: Vec<Record>,
+    session: Option<Session<J>>,
+}
+
+impl<J: Naming> Heard<J> {
+    /// An answer without records.
+    fn plain(alloc: Global, (reply, session): (Reply, Option<Session<J>>)) -> Heard<J> {
+        Heard {
+            reply,
+            records: Vec::new(alloc),
+            session,
+        }
+    }
+}
+
+/// What a client's change is answered.
 fn change<J: Naming, R: Wait>(
     rt: &R,
+    alloc: Global,
     door: &Door<J, NoGate>,
     session: Option<Session<J>>,
     event: Event,
-) -> (Reply, Option<Session<J>>) {
+) -> Heard<J> {
     let Some(mut session) = session else {
-        return (not_connected(), None);
+        return Heard::plain(alloc, (not_connected(), None));
     };
     if is_death(&event) {
-        return (bye(rt, door, session), None);
+        return Heard::plain(alloc, (bye(rt, door, session), None));
     }
-    let reply = door.submit(rt, &mut session, event);
-    (reply, Some(session))
+    let (reply, records) = door.submit_recorded(rt, &mut session, event);
+    Heard {
+        reply,
+        records,
+        session: Some(session),
+    }
 }
 
 fn look<J: Naming>(
+    alloc: Global,
     door: &Door<J, NoGate>,
     session: Option<Session<J>>,
     query: Query,
-) -> (Reply, Option<Session<J>>) {
+) -> Heard<J> {
     let Some(mut session) = session else {
-        return (not_connected(), None);
+        return Heard::plain(alloc, (not_connected(), None));
     };
-    let reply = match query {
-        Query::List(mask) => door.list(&mut session, mask),
-        _ => door.version(&mut session),
+    let (reply, records) = match query {
+        Query::List(mask) => door.list_recorded(&mut session, mask),
+        _ => (door.version(&mut session), Vec::new(alloc)),
     };
-    (reply, Some(session))
+    Heard {
+        reply,
+        records,
+        session: Some(session),
+    }
 }
 
-/// The line that answers a client's line, and its session, if that goes on.
+/// The line that answers a client's line, with its audit lines, and its session, if that goes on.
 fn client_line<J: Naming, R: Wait + Abort>(
     rt: &R,
     alloc: Global,
@@ -109,14 +140,16 @@ fn client_line<J: Naming, R: Wait + Abort>(
     let request = Request::read(alloc, Kind::Client, line.as_bytes()).ok();
     let request = request.expect(rt, "a request");
     let telling = request.telling();
-    let (reply, session) = match request {
-        Request::Hello(who) => hello(rt, door, seats.pop(), who),
-        Request::Change(_, event) => change(rt, door, session, event),
-        Request::Look(_, query) => look(door, session, query),
-        _ => (not_connected(), session),
+    let heard = match request {
+        Request::Hello(who) => Heard::plain(alloc, hello(rt, door, seats.pop(), who)),
+        Request::Change(_, event) => change(rt, alloc, door, session, event),
+        Request::Look(_, query) => look(alloc, door, session, query),
+        _ => Heard::plain(alloc, (not_connected(), session)),
     };
-    let told = reply_line(alloc, telling, &reply).ok();
-    (told.expect(rt, "a line"), session)
+    let told = reply_line(alloc, telling, &heard.reply).ok();
+    let mut told = told.expect(rt, "a line");
+    assert!(rt; push_lines(alloc, &mut told, &heard.records).is_ok());
+    (told, heard.session)
 }
 
 fn whole_line(rt: &impl Abort, alloc: Global, reply: &Reply) -> Vec<u8> {
@@ -322,7 +355,7 @@ fn changes_of_each_kind(rt: HostRuntime) {
     holds(&rt, rt.alloc(), DEVICE_RULES, 1000, CHANGES_OF_EACH_KIND);
 }
 
-const EXPLANATIONS_AND_A_DENIAL: Exchange = &[
+const EXPLANATIONS_AND_DENIALS: Exchange = &[
     (
         Administrator,
         "explain untrusted_app system_server binder call",
@@ -343,7 +376,11 @@ const EXPLANATIONS_AND_A_DENIAL: Exchange = &[
     ),
     (Application, "get activity", "handle 1"),
     (Application, "get activity", "handle 1"),
-    (Application, "add activity o1 0 8", "exception -1 app 10007"),
+    (
+        Application,
+        "add activity o1 0 8",
+        "exception -1 app 10007\njournal=6 version=1 clause: denied app for pid=200 uid=10007 name=activity scontext=u:r:untrusted_app:s0",
+    ),
     (
         Administrator,
         "denials",
@@ -352,17 +389,33 @@ const EXPLANATIONS_AND_A_DENIAL: Exchange = &[
     (
         Application,
         "list 15",
-        "exception -1 denied untrusted_app servicemanager service_manager list",
+        "exception -1 denied untrusted_app servicemanager service_manager list\njournal=6 version=1 avc: denied { list } for pid=200 uid=10007 scontext=u:r:untrusted_app:s0 tcontext=u:r:servicemanager:s0 tclass=service_manager permissive=0",
+    ),
+    (
+        Application,
+        "get foo",
+        "null\njournal=6 version=1 avc: denied { find } for pid=200 uid=10007 name=foo scontext=u:r:untrusted_app:s0 tcontext=u:object_r:default_android_service:s0 tclass=service_manager permissive=0",
+    ),
+    (
+        Administrator,
+        "denials",
+        "denials 2\njournal=6 version=1 clause: denied app for pid=200 uid=10007 name=activity scontext=u:r:untrusted_app:s0\njournal=6 version=1 avc: denied { find } for pid=200 uid=10007 name=foo scontext=u:r:untrusted_app:s0 tcontext=u:object_r:default_android_service:s0 tclass=service_manager permissive=0",
+    ),
+    (Administrator, "seal", "sealed 1 6"),
+    (
+        Application,
+        "get foo",
+        "null\njournal=6 version=1 avc: denied { find } for pid=200 uid=10007 name=foo scontext=u:r:untrusted_app:s0 tcontext=u:object_r:default_android_service:s0 tclass=service_manager permissive=0",
     ),
 ];
 
 #[test]
-fn explanations_and_a_denial(rt: HostRuntime) {
+fn explanations_and_denials(rt: HostRuntime) {
     holds(
         &rt,
         rt.alloc(),
         DEVICE_RULES,
         1000,
-        EXPLANATIONS_AND_A_DENIAL,
+        EXPLANATIONS_AND_DENIALS,
     );
 }

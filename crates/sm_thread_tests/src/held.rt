@@ -71,7 +71,7 @@ impl Gate for Second {
     }
 }
 
-/// A connection that ends inside a line, and one that is closed there.
+/// A connection that stops inside a line, and one that is closed there.
 struct Failing {
     cut: UnixStream,
     vanishing: Option<UnixStream>,
@@ -95,7 +95,7 @@ impl Failing {
         answers(&self.cut, HELLO, b"client 3\n") && answers(vanishing, HELLO, b"client 4\n")
     }
 
-    /// Has both fail. Whether the one that only stops sending is told so.
+    /// Makes both fail. Returns whether the one that only stops is answered so.
     fn fails(&mut self) -> bool {
         let Some(vanishing) = self.vanishing.take() else {
             return false;

@@ -1,4 +1,4 @@
-//! That a roll gives out numbers which tell badges apart, and that each shows the book of its value.
+//! A roll gives out numbers that tell badges apart, and each badge shows the book of its value.
 
 ghost use Rattle.std.specs.Prelude.{◌≡◌};
 ghost use denote.Param.Send.{IsSend, IsSync};
@@ -8,7 +8,7 @@ use std::marker::Brand;
 use std::process::Abort;
 use std::sync::Wait;
 
-/// A number shows the book of so many places.
+/// A number shows the book of this many slots.
 struct Places;
 
 impl Shows<u32> for Places {

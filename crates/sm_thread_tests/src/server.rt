@@ -5,6 +5,7 @@ ghost use Rattle.sm_core.specs.Opening.{opened};
 
 use sm_door::Door;
 use sm_engine::ServeFault;
+use sm_history::Record;
 use sm_kinds::{Context, Identity, Places};
 use sm_policy::Prepared;
 use sm_roll::{Blank, Naming};
@@ -61,6 +62,8 @@ pub struct Heard {
     pub failed: u64,
     pub almost_full: u64,
     pub full: u64,
+    /// The audit records of clients' requests.
+    pub records: u64,
     pub closed: u64,
 }
 
@@ -71,10 +74,11 @@ pub const LISTENING: Heard = Heard {
     failed: 0,
     almost_full: 0,
     full: 0,
+    records: 0,
     closed: 0,
 };
 
-/// Counts what a server tells.
+/// Counts the notices of a server.
 #[derive(Drop)]
 struct Ear {
     listening: AtomicU64,
@@ -82,6 +86,7 @@ struct Ear {
     failed: AtomicU64,
     almost_full: AtomicU64,
     full: AtomicU64,
+    records: AtomicU64,
     closed: AtomicU64,
 }
 
@@ -93,6 +98,7 @@ impl Ear {
             failed: AtomicU64::new(0),
             almost_full: AtomicU64::new(0),
             full: AtomicU64::new(0),
+            records: AtomicU64::new(0),
             closed: AtomicU64::new(0),
         }
     }
@@ -104,6 +110,7 @@ impl Ear {
             failed: self.failed.load(Ordering::SeqCst),
             almost_full: self.almost_full.load(Ordering::SeqCst),
             full: self.full.load(Ordering::SeqCst),
+            records: self.records.load(Ordering::SeqCst),
             closed: self.closed.load(Ordering::SeqCst),
         }
     }
@@ -121,12 +128,17 @@ impl Supervisor for Ear {
         count.fetch_add(1, Ordering::SeqCst);
     }
 
+    fn audit(&self, records: &[Record]) {
+        self.records
+            .fetch_add(records.len() as u64, Ordering::SeqCst);
+    }
+
     fn close_entrances(&self) {
         self.closed.fetch_add(1, Ordering::SeqCst);
     }
 }
 
-/// What is said over connections while the server runs, from their other ends.
+/// The exchange over connections while the server runs, from the clients' ends.
 pub trait Talk {
     /// Whether all was answered as it should be.
     fn is_answered(&mut self) -> bool;
@@ -157,7 +169,7 @@ pub fn connection<R: Net + Abort>(rt: &R) -> (UnixStream, UnixStream) {
     (near, far)
 }
 
-/// A gate of which is told in the end whether all came through it.
+/// A gate that says in the end whether all came through it.
 pub trait Watched: Gate {
     /// Whether nobody was held for longer than a test waits.
     fn is_well(&self) -> bool;
@@ -214,7 +226,7 @@ pub const ALL_IS_WELL: Left = Left {
     free: 64,
 };
 
-/// Serves these connections, at a door whose journal has so many places, while the talk goes on.
+/// Serves these connections, at a door with a journal of `places` slots, during the exchange.
 pub fn at_a_door<
     T: Talk + Send + Drop,
     G: Watched + Drop + Send + Sync,
@@ -380,7 +392,7 @@ fn two_clients_and_an_administrator(rt: HostRuntime) -> Result<(), Fail> {
 
 pub const HELLO: &[u8] = b"hello 100 1000 u:r:system_server:s0\n";
 
-/// A connection that is cut inside a line, and one after it, where the journal has four places.
+/// A connection that is cut inside a line, and one after it, with a journal of four slots.
 struct Cut {
     first: UnixStream,
     second: UnixStream,
@@ -633,10 +645,15 @@ fn a_policy_is_replaced_while_clients_are_connected(rt: HostRuntime) -> Result<(
         application,
         admin,
     };
-    assert_eq!(rt;
-        at_a_door(&rt, alloc, 1000, NoGate, visits, talk),
-        ALL_IS_WELL
-    );
+    // Of the add that a clause bars, and of the get under the stricter policy.
+    let wanted = Left {
+        heard: Heard {
+            records: 2,
+            ..LISTENING
+        },
+        ..ALL_IS_WELL
+    };
+    assert_eq!(rt; at_a_door(&rt, alloc, 1000, NoGate, visits, talk), wanted);
     Ok(())
 }
 
