@@ -1,4 +1,4 @@
-"""What the checks share: the built program, its policies, and the lines that come from it."""
+"""Shared by the checks: the built program, its policies, and the lines that come from it."""
 
 import os
 import select
@@ -10,19 +10,19 @@ from pathlib import Path
 ROOT = Path(__file__).resolve().parent.parent
 PROGRAM = ROOT / "crates" / "svcmgr" / "out" / "svcmgr"
 
-# Seconds within which a line must be answered, and a program must end that has nothing more to read.
+# Seconds within which a line must be answered, and a program without further input must end.
 PATIENCE = 20
 
 SERVICE = "u:r:system_server:s0"
 APPLICATION = "u:r:untrusted_app:s0"
 
-DEVICE = (ROOT / "examples" / "device.rules").read_text()
-BROKEN = (ROOT / "examples" / "broken.rules").read_text()
-LABELS = (ROOT / "examples" / "device.contexts").read_text()
+DEVICE = (ROOT / "examples" / "policy.te").read_text()
+BROKEN = (ROOT / "examples" / "broken.te").read_text()
+LABELS = (ROOT / "examples" / "service_contexts").read_text()
 
 
 class Wrong(Exception):
-    """What the program did that it must not."""
+    """A wrong answer or a wrong end of the program."""
 
 
 def add_program(parser):
