@@ -12,7 +12,7 @@ APPLICATION = "u:r:untrusted_app:s0"
 
 @dataclass(frozen=True)
 class Input:
-    """One input: `size` is what grows, and `requests` how many lines a script asks (0: a policy to be checked)."""
+    """One input: `size` is what grows, and `requests` the number of a script's lines (0: a policy to be checked)."""
 
     name: str
     size: int
@@ -60,8 +60,8 @@ def target(count: int, draw: random.Random) -> str:
 
 
 def policy(count: int, seed: int) -> Lines:
-    """So many types, fifteen times as many allow rules, and a neverallow rule to each four types. None is broken: a
-    core service is never the target of an allow rule, and `impersonate` and `set_context_mgr` are never given."""
+    """`count` types, fifteen times as many allow rules, and a neverallow rule for each four types. None is broken: a
+    core service is never the target of an allow rule, and `impersonate` and `set_context_mgr` are never granted."""
     draw = random.Random(seed)
     yield from types_of(count, draw)
     for _ in range(15 * count):
@@ -86,8 +86,8 @@ def policy_contexts(count: int) -> Lines:
 
 
 def wide_policy(allows: int, neverallows: int, seed: int) -> Lines:
-    """4,096 types, and rules of all permissions for nearly all sources and nearly half of the targets: those that may
-    be given in the allow rules, the others in the neverallow rules."""
+    """4,096 types, and rules of all permissions for nearly all sources and nearly half of the targets: of one
+    half of the types in the allow rules, of the other half in the neverallow rules."""
     draw = random.Random(seed)
     for attribute in ("a", "g", "n"):
         yield f"attribute {attribute};"
@@ -104,7 +104,7 @@ def wide_contexts() -> Lines:
 
 
 def manager_policy() -> Lines:
-    """What the scripts run under: servers and applications may do all that is asked of them."""
+    """The policy of the scripts: servers and applications may make all their requests."""
     yield "attribute client;"
     yield "type servicemanager;"
     yield "type system_server, client;"
@@ -123,7 +123,7 @@ def manager_contexts() -> Lines:
 
 
 def late_policy(rules: int) -> Lines:
-    """Rules that give nothing that is asked, and behind them what the scripts need: each decision comes late."""
+    """Rules that grant nothing that is needed, followed by the scripts' policy: each decision comes late."""
     yield "type other;"
     for _ in range(rules):
         yield "allow other other:binder call;"
@@ -134,7 +134,7 @@ def late_policy(rules: int) -> Lines:
 
 
 def versions(requests: int) -> Lines:
-    """The simplest request, which changes nothing and asks no rule."""
+    """The simplest request, which changes nothing and checks no rule."""
     yield f"hello 100 1000 {SERVER}"
     for _ in range(requests):
         yield "1 version"
@@ -187,7 +187,7 @@ def many_clients(count: int, requests: int, seed: int) -> Lines:
 
 
 def many_objects(objects: int) -> Lines:
-    """A client that gets so many different objects, each added before."""
+    """A client that gets `objects` different objects, each added before."""
     yield from clients(2)
     for n in range(objects):
         yield f"1 add service o{n + 1} 0 8"
@@ -206,7 +206,7 @@ def calls(rounds: int) -> Lines:
 
 
 def many_watches(watches: int, adds: int) -> Lines:
-    """Adds of a name that so many objects watch, each with a notice for each; all inboxes are emptied by their own."""
+    """Adds of a name with `watches` watches, each of which notifies all watchers; each watcher empties its inbox."""
     yield from clients(64)
     for n in range(watches):
         yield f"{n % 63 + 2} watch service o{n + 1}"

@@ -27,20 +27,20 @@ const USAGE: &str = "usage: load gets|versions|lists PATH NAMES CLIENTS DEPTH OP
 /// How long a read or a write waits for the server before the run is given up.
 const PATIENCE: Duration = Duration::from_secs(5);
 
-/// The most changes of a run: each takes a place of the journal for good. A journal has 1,048,576 by default, and the
+/// The most changes of a run: each takes a slot of the journal for good. A journal has 1,048,576 by default, and the
 /// others are for the connections.
 const MOST_CHANGES: usize = 1_000_000;
 
 /// The most operations of a run, whose round trips are kept up to its end.
 const MOST_OPERATIONS: usize = 10_000_000;
 
-/// The most services that stand under a name at once.
+/// The most services at once.
 const MOST_NAMES: usize = 4096;
 
 /// The most clients besides the one that adds the services: a server has at most 64.
 const MOST_CLIENTS: usize = 63;
 
-/// The most requests under way. So many fit into a socket, so that no client waits to write while its server does.
+/// The most requests under way. They fit into a socket, so that no client waits to write while its server does.
 const MOST_DEPTH: usize = 256;
 
 /// The bytes that are taken from a socket at once, at most.
@@ -70,13 +70,13 @@ fn main() {
     }
 }
 
-/// Ends the program, since it was called in a wrong way.
+/// Ends the program because of wrong arguments.
 fn misuse(why: &str) -> ! {
     eprintln!("load: {why}\n{USAGE}");
     exit(2)
 }
 
-/// Ends the program, since the server doesn't do what is wanted of it. This ends the other threads, too.
+/// Ends the program because of a wrong answer. This ends the other threads, too.
 fn give_up(why: &str) -> ! {
     eprintln!("load: {why}");
     exit(1)
@@ -94,12 +94,12 @@ fn number(what: &str, word: &str, most: usize) -> usize {
     }
 }
 
-/// The names of so many services.
+/// The names of services, as many as `word` says.
 fn names_of(word: &str) -> Vec<String> {
     (0..number("NAMES", word, MOST_NAMES)).map(|n| format!("service.n{n}")).collect()
 }
 
-/// What is asked again and again.
+/// The kind of the requests.
 #[derive(Clone, Copy, PartialEq)]
 enum Kind {
     Gets,
@@ -117,7 +117,7 @@ impl Kind {
         }
     }
 
-    /// What each reply begins with.
+    /// The beginning of each reply.
     fn reply(self) -> &'static str {
         match self {
             Kind::Gets => "handle ",
@@ -214,7 +214,7 @@ impl Client {
         }
     }
 
-    /// Waits for a reply, and takes those that came with it; says how many they are.
+    /// Waits for a reply, and takes those that came with it; returns their number.
     fn hear_all(&mut self, expected: &str) -> usize {
         self.hear(expected);
         let mut replies = 1;
@@ -275,8 +275,8 @@ fn work(client: &mut Client, number: usize, plan: &Plan, over: &AtomicBool) -> P
     Part { began, ended: Instant::now(), operations: answered, trips }
 }
 
-/// Adds the services again and again until it is `over`, or until so many changes were made that the others must stop,
-/// too; says how many.
+/// Adds the services again and again until it is `over`, or until the limit of changes is reached, at which the
+/// others stop, too; returns the number of adds.
 fn change(client: &mut Client, names: &[String], over: &AtomicBool) -> usize {
     let mut changes = 0;
     while changes < MOST_CHANGES - names.len() && !over.load(Ordering::Relaxed) {
