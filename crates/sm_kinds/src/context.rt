@@ -4,17 +4,19 @@ ghost use Rattle.std.specs.Prelude.{◌≡◌, ◌≢◌, ◌≤◌, ◌<◌, le
 ghost use Rattle.std.specs.List.{prefix_len, list_all};
 ghost use Rattle.sm_kinds.specs.Contexts as spec;
 
-use bytes::Bytes;
 use std::alloc::{AllocError, Global};
 use std::marker::Model;
+use std::sync::ArcSlice;
 use thiserror::Error;
 
 /// A security context, `user:role:type` or `user:role:type:range`, which contracts see as its text.
 /// The range is kept as text and never compared.
 #[derive(Debug)]
 pub struct Context {
-    text: Bytes,
-    kind: Bytes,
+    text: ArcSlice<u8>,
+    /// Where the type begins in the text, and its length in bytes.
+    kind_start: usize,
+    kind_len: usize,
 }
 
 /// Why bytes are no context.
@@ -28,20 +30,25 @@ pub enum ContextError {
 }
 
 impl Model for Context {
-    ghost use Rattle.std.specs.Prelude.{List, ℕ, ◌≡◌};
-    ghost use Rattle.sm_kinds.specs.Contexts.{type_of};
+    ghost use Rattle.std.specs.Arc.{arc_slice_items};
+    ghost use Rattle.std.specs.Prelude.{List, ℕ};
+    ghost use Rattle.sm_kinds.specs.Contexts.{IsTypeAt};
 
     ghost Value = { List ℕ };
 
-    ghost view = { λ n. n.text };
+    ghost view = { λ n. arc_slice_items n.text };
 
-    ghost invariant = { λ n. n.kind ≡ type_of n.text };
+    ghost invariant = { λ n. IsTypeAt n.kind_start n.kind_len (arc_slice_items n.text) };
 }
 
 // Drop: see docs/PROOFS.md.
 impl Drop for Context {
     fn drop(self) {
-        let Context { text: _, kind: _ } = self;
+        let Context {
+            text: _,
+            kind_start: _,
+            kind_len: _,
+        } = self;
     }
 }
 
@@ -51,8 +58,11 @@ impl Clone for Context {
     /// Returns another reference to the same text.
     fn clone(&self) -> Result<Context, AllocError> {
         let text = self.text.clone()?;
-        let kind = self.kind.clone()?;
-        Ok(Context { text, kind })
+        Ok(Context {
+            text,
+            kind_start: self.kind_start,
+            kind_len: self.kind_len,
+        })
     }
 }
 
@@ -79,7 +89,8 @@ impl Context {
     pub fn type_name(&self) -> &[u8]
         ensures { result.now ≡ spec.type_of self.now }
     {
-        self.kind.as_slice()
+        let (kind, _) = behind(self.text.as_slice(), self.kind_start).split_at(self.kind_len);
+        kind
     }
 
     /// Returns the whole context.
@@ -93,9 +104,14 @@ impl Context {
 fn copied(alloc: Global, text: &[u8]) -> Result<Context, AllocError>
     ensures { IfOk result (λ c. c ≡ text.now) }
 {
-    let kind = Bytes::copy_from_slice(alloc, type_part(text))?;
-    let text = Bytes::copy_from_slice(alloc, text)?;
-    Ok(Context { text, kind })
+    let kind_start = type_start(text);
+    let kind_len = part_len(behind(text, kind_start));
+    let text = ArcSlice::from_slice(alloc, text)?;
+    Ok(Context {
+        text,
+        kind_start,
+        kind_len,
+    })
 }
 
 fn is_graphic(b: u8) -> bool
@@ -126,24 +142,25 @@ fn behind(bytes: &[u8], count: usize) -> &[u8]
     &bytes[count..]
 }
 
-/// Returns what follows the first part and its colon, or nothing if there is no colon.
-fn behind_part(bytes: &[u8]) -> &[u8]
-    ensures { result.now ≡ spec.behind_part bytes.now }
+/// Returns where what follows the first part and its colon begins, or the length if there is no colon.
+fn part_end(bytes: &[u8]) -> usize
+    ensures value { drop result bytes.now ≡ spec.behind_part bytes.now }
+    ensures within { result ≤ length bytes.now }
 {
     let len = part_len(bytes);
     if len == bytes.len() {
-        return behind(bytes, len);
+        return len;
     }
-    behind(bytes, len + 1)
+    len + 1
 }
 
-/// Returns the third part.
-fn type_part(text: &[u8]) -> &[u8]
-    ensures { result.now ≡ spec.type_of text.now }
+/// Returns where the third part begins, or the length if there is none.
+fn type_start(text: &[u8]) -> usize
+    ensures value { drop result text.now ≡ spec.behind_part (spec.behind_part text.now) }
+    ensures within { result ≤ length text.now }
 {
-    let rest = behind_part(behind_part(text));
-    let (kind, _) = rest.split_at(part_len(rest));
-    kind
+    let role = part_end(text);
+    role + part_end(behind(text, role))
 }
 
 /// Returns what follows a nonempty part and its colon.

@@ -6,22 +6,23 @@ ghost use Rattle.sm_kinds.specs.Names.{is_name_byte, is_valid_name};
 
 use crate::limits::MOST_NAME_BYTES;
 use crate::word::spells;
-use bytes::Bytes;
 use std::alloc::{AllocError, Global};
 use std::marker::Model;
+use std::sync::ArcSlice;
 
 /// A name, which contracts see as its bytes. All bytes are allowed; `valid_name` says which may name a service.
 #[derive(Debug)]
 pub struct Name {
-    bytes: Bytes,
+    bytes: ArcSlice<u8>,
 }
 
 impl Model for Name {
+    ghost use Rattle.std.specs.Arc.{arc_slice_items};
     ghost use Rattle.std.specs.Prelude.{List, ℕ};
 
     ghost Value = { List ℕ };
 
-    ghost view = { λ n. n.bytes };
+    ghost view = { λ n. arc_slice_items n.bytes };
 }
 
 // Drop: see docs/PROOFS.md.
@@ -46,7 +47,7 @@ impl Name {
     pub fn new(alloc: Global, bytes: &[u8]) -> Result<Name, AllocError>
         ensures { IfOk result (λ n. n ≡ bytes.now) }
     {
-        let bytes = Bytes::copy_from_slice(alloc, bytes)?;
+        let bytes = ArcSlice::from_slice(alloc, bytes)?;
         Ok(Name { bytes })
     }
 

@@ -55,7 +55,23 @@ impl Clone for Payload {
 impl Payload {
     ghost use Rattle.sm_kinds.specs.declared.payload.PayloadError.TheVariants.{TooLong};
 
-    /// Makes a payload of these bytes.
+    /// Makes a payload of these bytes, whose memory it keeps.
+    pub fn from_vec(bytes: Vec<u8>) -> Result<Payload, PayloadError>
+        ensures value { IfOk result (λ p. p ≡ bytes.items) }
+        ensures fits { OnOk result (length bytes.items ≤ MOST_PAYLOAD_BYTES) }
+        ensures long { MOST_PAYLOAD_BYTES < length bytes.items → result ≡ Err TooLong }
+        ensures only_long { result ≡ Err TooLong → MOST_PAYLOAD_BYTES < length bytes.items }
+    {
+        if bytes.len() > MOST_PAYLOAD_BYTES {
+            return Err(PayloadError::TooLong);
+        }
+        match Bytes::from_vec(bytes) {
+            Ok(bytes) => Ok(Payload { bytes }),
+            Err(_) => Err(PayloadError::Memory),
+        }
+    }
+
+    /// Makes a payload of a copy of these bytes.
     pub fn new(alloc: Global, bytes: &[u8]) -> Result<Payload, PayloadError>
         ensures value { IfOk result (λ p. p ≡ bytes.now) }
         ensures fits { OnOk result (length bytes.now ≤ MOST_PAYLOAD_BYTES) }

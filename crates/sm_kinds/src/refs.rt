@@ -1,6 +1,6 @@
 //! The references of a call.
 
-ghost use Rattle.std.specs.Prelude.{◌≡◌, ◌≤◌, ◌<◌, length, IfOk, OnOk};
+ghost use Rattle.std.specs.Prelude.{◌≡◌, ◌≤◌, ◌<◌, length, nat_le, if◌then◌else◌, Some, None, IfOk, OnOk};
 
 use crate::limits::MOST_REFS;
 use crate::number::ObjRef;
@@ -46,7 +46,17 @@ impl Drop for Refs {
 impl Refs {
     ghost use Rattle.sm_kinds.specs.declared.refs.RefsError.TheVariants.{TooLong};
 
-    /// Makes a list of these references.
+    /// Makes a list of these references, whose memory it keeps, or returns `None` if there are more than `MOST_REFS`.
+    pub fn from_vec(list: Vec<ObjRef>) -> Option<Refs>
+        ensures { result ≡ (if nat_le (length list.items) MOST_REFS then Some list.items else None) }
+    {
+        if list.len() > MOST_REFS {
+            return None;
+        }
+        Some(Refs { list })
+    }
+
+    /// Makes a list of a copy of these references.
     pub fn new(alloc: Global, list: &[ObjRef]) -> Result<Refs, RefsError>
         ensures value { IfOk result (λ r. r ≡ list.now) }
         ensures fits { OnOk result (length list.now ≤ MOST_REFS) }

@@ -120,6 +120,26 @@ fn a_call_has_16_references_at_most(rt: HostRuntime) {
 }
 
 #[test]
+fn a_payload_and_references_keep_the_memory_of_a_list(rt: HostRuntime) -> Result<(), Fail> {
+    let bytes = Vec::from_slice(rt.alloc(), b"data")?;
+    let payload = Payload::from_vec(bytes).ok();
+    assert_eq!(rt;
+        payload.expect(&rt, "a payload").bytes(),
+        b"data".as_slice()
+    );
+    let long = Vec::from_slice(rt.alloc(), &[7u8; 1_025])?;
+    assert!(rt; matches!(Payload::from_vec(long), Err(PayloadError::TooLong)));
+    let most = Vec::from_slice(rt.alloc(), &[ObjRef::Own(1); 16])?;
+    assert_eq!(rt;
+        Refs::from_vec(most).expect(&rt, "references").list().len(),
+        16
+    );
+    let more = Vec::from_slice(rt.alloc(), &[ObjRef::Own(1); 17])?;
+    assert!(rt; Refs::from_vec(more).is_none());
+    Ok(())
+}
+
+#[test]
 fn messages_name_numbers_and_accesses(rt: HostRuntime) -> Result<(), Fail> {
     let mut text = Vec::from_slice(rt.alloc(), b"failed ")?;
     push_numbered(&mut text, b"out-of-turn ", 18_446_744_073_709_551_615)?;

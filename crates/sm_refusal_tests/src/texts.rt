@@ -16,6 +16,9 @@ fn values(rt: &impl Abort, alloc: Global) -> Option<()> {
     assert!(rt; name.bytes() == b"activity".as_slice());
     let payload = value(rt, Payload::new(alloc, b"data"), PayloadError::Memory)?;
     assert!(rt; payload.bytes() == b"data".as_slice());
+    let bytes = Vec::from_slice(alloc, b"data").ok()?;
+    let payload = value(rt, Payload::from_vec(bytes), PayloadError::Memory)?;
+    assert!(rt; payload.bytes() == b"data".as_slice());
     let list = [ObjRef::Own(5), ObjRef::Handle(9)];
     let refs = value(rt, Refs::new(alloc, &list), RefsError::Memory)?;
     assert!(rt; refs.list() == list.as_slice());
