@@ -4,13 +4,13 @@ use std::marker::Model;
 
 /// A client's handles: by number, by object, and the numbers in use.
 ///
-/// Slots, an index and a row of bits: an object is found by its hash, a number by its slot, and the least free number
-/// by words of 64 numbers.
+/// An object is found by its hash, a number by its slot, and the least free number by words of 64 numbers, from the
+/// first word that may have one.
 #[derive(Drop)]
 pub struct Handles {
     slots: Vec<Option<Held>>,
     numbers: HashMap<(u32, u32), u32>,
-    taken: BitRow,
+    taken: UsedNumbers,
 }
 
 impl Model for Handles {
@@ -33,7 +33,7 @@ ghost use Rattle.sm_grants.specs.Slots.{slot, node_of, count_of, held_in, is_in,
 
 use crate::held::Held;
 use crate::slots::{add_one, empty, fill, take_one};
-use sm_bits::BitRow;
+use crate::used_numbers::UsedNumbers;
 use sm_history::{Held as Listed, MOST_HANDLES};
 use sm_kinds::Node;
 use std::alloc::{AllocError, Global};
@@ -71,7 +71,7 @@ impl Handles {
     pub fn new(alloc: Global) -> Result<Handles, AllocError>
         ensures { IfOk result (λ h. h.slots ≡ []) }
     {
-        let taken = BitRow::empty(alloc, MOST_HANDLES / 64)?;
+        let taken = UsedNumbers::empty(alloc, MOST_HANDLES / 64)?;
         Ok(Handles {
             slots: Vec::new(alloc),
             numbers: HashMap::new(alloc),
@@ -172,7 +172,7 @@ impl Handles {
         let i = self.taken.first_free();
         let _ = self.numbers.insert((node.owner.0, node.object), i as u32);
         fill(&mut self.slots, i, Held { node, count: 1 });
-        self.taken.insert(i);
+        self.taken.insert_first(i);
         i as u32
     }
 

@@ -9,6 +9,7 @@ mod held;
 mod place;
 mod rows;
 mod slots;
+mod used_numbers;
 
 pub use grants::Grants;
 pub use held::Held;

@@ -3,8 +3,8 @@ use Rattle.sm_grants.specs.Slots.{HandleTable, held_in, IsAbsent}
 use Rattle.sm_grants.proofs.Indexed.{kept_new, one_entry, ok_is, free_within, not_indexed}
 use Rattle.sm_grants.proofs.handles.Handles.grant_new.Goals as goal
 
-pub insert-requires-2 : goal.insert-requires-2
-insert-requires-2 c =
+pub insert_first-requires-clause-inside : goal.insert_first-requires-clause-inside
+insert_first-requires-clause-inside c =
     let few : held_in c.self.inside.slots.items < 65536 =
     subst (λ (t : HandleTable). held_in t.slots < 65536) (sym c.self.view_is) c.requires.fits in
     let w = free_within c.self.inside.slots.items _ _ _ c.first_free-i.result c.self.invariant few
@@ -25,7 +25,7 @@ invariant_of-self c =
     let none = not_indexed c.self.inside.slots.items _ _ _ c.args.node c.self.invariant absent in
     let updates = ok_is c.insert.result _ ok c.insert.ensures.updates in
     kept_new c.self.inside.slots.items c.fill.new.slots.items _ _ _ _ _ _ c.first_free-i.result c.args.node _ refl
-    c.self.invariant w.2 absent c.fill.ensures.put updates.0 c.insert-2.ensures.added c.insert-2.ensures.room
+    c.self.invariant w.2 absent c.fill.ensures.put updates.0 c.insert_first.ensures.added c.insert_first.ensures.room
     (c.fill.ensures.long 65536 c.self.invariant.most w.1) c.fill.ensures.more
     (one_entry c.insert.result _ _ _ none ok c.insert.ensures.old c.insert.ensures.len)
 
