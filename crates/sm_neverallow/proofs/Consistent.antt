@@ -12,15 +12,17 @@ use Rattle.sm_kinds.specs.declared.class.Class.TheVariants.{ServiceManager, Bind
 use Rattle.sm_kinds.specs.declared.perms.Perms.{Perms}
 use Rattle.sm_ruletext.specs.Sets.{selects}
 use Rattle.sm_ruletext.specs.declared.rule.Rule.{Rule}
+use Rattle.sm_ruletext.specs.declared.statement.RuleKind.{RuleKind}
+use Rattle.sm_ruletext.specs.declared.statement.RuleKind.TheVariants.{Allow, Neverallow}
 use Rattle.sm_ruletext.specs.declared.statement.What.{What}
-use Rattle.sm_ruletext.specs.declared.statement.What.TheVariants.{Attribute, Declared, Member, Allow, Neverallow}
-use Rattle.sm_ruletext.specs.declared.statement.What.TheVariants.{Dontaudit, Permissive}
+use Rattle.sm_ruletext.specs.declared.statement.What.TheVariants as what
 use Rattle.sm_types.specs.Names.{Name, at}
 use Rattle.sm_types.specs.Denoting.{Policy, types, declares, chosen, in_set, type_of, is_type_named}
 use Rattle.sm_rules.specs.Access as access
-use Rattle.sm_rules.specs.Access.{gives, written, forbidden, picks, IsConsistent}
-use Rattle.sm_rules.specs.Keeping.{class_at, perm_at, covers, covered, AllSay, KeptRules, RulesOf, allow_rules}
-use Rattle.sm_rules.specs.Keeping.{neverallow_rules}
+use Rattle.sm_rules.specs.Access.{rule_of, covered_by, covers_as, gives, written, forbidden, picks, IsConsistent}
+use Rattle.sm_rules.specs.Keeping.{class_at, perm_at, covers, covered, AllSay, KeptRules, RulesOf, rules_in, CoverAs}
+use Rattle.sm_rules.specs.declared.kept.Kept.{Kept}
+use Rattle.sm_neverallow.specs.Matrices.{AllCompiled, SayCovered}
 use Rattle.sm_neverallow.specs.Violating.{AllApart}
 use Rattle.sm_neverallow.proofs.Searches.{some_at}
 
@@ -43,13 +45,11 @@ numbered t policy h =
       by : (what : What) → declares sts t ≡ list_any (λ n. bytes_eq n t) (types sts)
           → (is_type_named t what || declares sts t) ≡ list_any (λ n. bytes_eq n t)
           (cons_option (type_of what) (types sts))
-      by (Declared n names) e = ap (λ (c : Bool). bytes_eq n t || c) e
-      by (Attribute n) e = e
-      by (Member n names) e = e
-      by (Allow r) e = e
-      by (Neverallow r) e = e
-      by (Dontaudit r) e = e
-      by (Permissive n) e = e
+      by (what.Declared n names) e = ap (λ (c : Bool). bytes_eq n t || c) e
+      by (what.Attribute n) e = e
+      by (what.Member n names) e = e
+      by (what.Rule kind r) e = e
+      by (what.Permissive n) e = e
 
 source_declared : (policy : Policy) (s t : Name) (r : Rule) → access.joins policy s t r ≡ true
     → declares policy s ≡ true
@@ -126,27 +126,33 @@ pub record Numbered (policy : Policy) (s t : Name) (class : Class) (perm : Perms
 written_numbered : (policy : Policy) (s t : Name) (class : Class) (perm : Perms) → written policy s t class perm ≡ true
     → Numbered policy s t class perm
 written_numbered policy s t class perm h =
-    let found = some_at (access.allows policy s t class perm) policy h in by found.1.what found.3
+    let found = some_at (covers_as Allow policy s t class perm) policy h in by (rule_of found.1.what Allow) found.3
   where
-    by : (what : What) → access.allowed_by policy s t class perm what ≡ true → Numbered policy s t class perm
-    by (Allow r) g = (let parts = and_parts (access.joins policy s t r) (gives class perm r) g in record {
+    by : (o : Option Rule) → covered_by policy s t class perm o ≡ true → Numbered policy s t class perm
+    by None g = absurd (true≢false (sym g))
+    by (Some r) g = (let parts = and_parts (access.joins policy s t r) (gives class perm r) g in record {
       number = given_number r class perm parts.1;
       source = numbered s policy (source_declared policy s t r parts.0);
       target = numbered t policy (target_declared policy s t r parts.0);
     })
-    by (Neverallow r) g = absurd (true≢false (sym g))
-    by (Dontaudit r) g = absurd (true≢false (sym g))
-    by (Permissive n) g = absurd (true≢false (sym g))
-    by (Attribute n) g = absurd (true≢false (sym g))
-    by (Declared n names) g = absurd (true≢false (sym g))
-    by (Member n names) g = absurd (true≢false (sym g))
+
+-- ---- what is compiled
+
+-- matrices of kept rules of a kind say what the policy's rules of that kind cover
+pub say_covered : (kind : RuleKind) (policy : Policy) (names : List Name) (rules : KeptRules) (kept : List Kept)
+    (count : ℕ) (matrices : List (List (List ℕ))) → RulesOf policy names rules → AllCompiled kept count 7 matrices
+    → count ≡ rules.count → CoverAs kind rules kept → SayCovered kind policy names matrices
+say_covered kind policy names rules kept count matrices is compiled same cover = record {
+  says = λ b s t low hs ht. (let inside : s < count = omega (arith, same, is.count) in
+      (compiled.each b low).says s t inside ∙ cover policy names is b s t low hs ht);
+}
 
 -- ---- consistency
 
 -- the kept rules cover by number what the policy says of the types by name
 pub record AreSaid (policy : Policy) (names : List Name) (rules : KeptRules) : Type 0 where
-  pub allowing : AllSay policy names (allow_rules policy) rules.allows
-  pub refusing : AllSay policy names (neverallow_rules policy) rules.neverallows
+  pub allowing : AllSay policy names (rules_in Allow policy) rules.allows
+  pub refusing : AllSay policy names (rules_in Neverallow policy) rules.neverallows
   pub writing : (b s t : ℕ) → b < 7 → s < length names → t < length names
       → covered rules.allows b s t ≡ written policy (at names s) (at names t) (class_at b) (perm_at b)
   pub forbidding : (b s t : ℕ) → b < 7 → s < length names → t < length names

@@ -3,9 +3,10 @@ use Rattle.std.specs.Prelude.{◌≡◌, ℕ, Bool, true, false, ◌&&◌, ◌||
 use Rattle.std.specs.List.{list_any}
 use Rattle.std.proofs.Common.{get_or}
 use Rattle.sm_bits.specs.Bits.{has, row, has_bit}
+use Rattle.sm_ruletext.specs.declared.statement.RuleKind.{RuleKind}
 use Rattle.sm_types.specs.Names.{Name, at}
 use Rattle.sm_types.specs.Denoting.{Policy}
-use Rattle.sm_rules.specs.Access.{written, silenced}
+use Rattle.sm_rules.specs.Access.{some_covers}
 use Rattle.sm_rules.specs.Keeping.{joins, covers, covered, class_at, perm_at}
 use Rattle.sm_rules.specs.declared.kept.Kept.{Kept}
 
@@ -28,15 +29,11 @@ pub record AllCompiled (rules : List Kept) (count n : ℕ) (matrices : List (Lis
   pub number : length matrices ≡ n
   pub each : (b : ℕ) → b < n → Compiled rules count b (matrix matrices b)
 
--- The matrices say what the policy, whose types have these names, allows.
-pub record SayWhatIsWritten (policy : Policy) (names : List Name) (matrices : List (List (List ℕ))) : Type 0 where
-  pub says : (b s t : ℕ) → b < 7 → s < length names → t < length names → has (row (matrix matrices b) s) t
-      ≡ written policy (at names s) (at names t) (class_at b) (perm_at b)
-
--- The matrices say what its dontaudit rules cover.
-pub record SayWhatIsSilenced (policy : Policy) (names : List Name) (matrices : List (List (List ℕ))) : Type 0 where
-  pub says : (b s t : ℕ) → b < 7 → s < length names → t < length names → has (row (matrix matrices b) s) t
-      ≡ silenced policy (at names s) (at names t) (class_at b) (perm_at b)
+-- The matrices say what the rules of the kind cover in the policy, whose types have these names.
+pub record SayCovered (kind : RuleKind) (policy : Policy) (names : List Name) (matrices : List (List (List ℕ))) : Type 0
+  where
+    pub says : (b s t : ℕ) → b < 7 → s < length names → t < length names → has (row (matrix matrices b) s) t
+        ≡ some_covers kind policy (at names s) (at names t) (class_at b) (perm_at b)
 
 -- There is a matrix of the right size for each permission.
 pub record AllSquare (matrices : List (List (List ℕ))) (count : ℕ) : Type 0 where

@@ -1,10 +1,11 @@
 -- Neverallow rules, and the allow rules that break them.
 use Rattle.std.specs.Prelude.{◌≡◌, ℕ, Bool, true, false, ◌&&◌, ◌<◌, List, length, Some, slice_get}
 use Rattle.sm_ruletext.specs.declared.rule.Rule.{Rule}
+use Rattle.sm_ruletext.specs.declared.statement.RuleKind.TheVariants.{Allow, Neverallow}
 use Rattle.sm_types.specs.Names.{Name, at}
 use Rattle.sm_types.specs.Denoting.{Policy}
 use Rattle.sm_rules.specs.Access as access
-use Rattle.sm_rules.specs.Keeping.{joins, covers, covered, class_at, perm_at, allow_rules, neverallow_rules}
+use Rattle.sm_rules.specs.Keeping.{joins, covers, covered, class_at, perm_at, rules_in}
 use Rattle.sm_rules.specs.declared.kept.Kept.{Kept}
 use Rattle.sm_neverallow.specs.declared.violation.Violation.{Violation}
 
@@ -88,8 +89,8 @@ pub record IsFirstViolation (policy : Policy) (names : List Name) (v : Violation
   pub allow_place : ℕ
   pub never : ℕ × Rule
   pub allow : ℕ × Rule
-  pub never_found : slice_get (neverallow_rules policy) never_place ≡ Some never
-  pub allow_found : slice_get (allow_rules policy) allow_place ≡ Some allow
+  pub never_found : slice_get (rules_in Neverallow policy) never_place ≡ Some never
+  pub allow_found : slice_get (rules_in Allow policy) allow_place ≡ Some allow
   pub never_line : v.never_line ≡ never.0
   pub allow_line : v.allow_line ≡ allow.0
   pub bit : ℕ
@@ -100,11 +101,11 @@ pub record IsFirstViolation (policy : Policy) (names : List Name) (v : Violation
   pub target : v.target < length names
   pub broken : breaks policy names bit v.source v.target allow.1 never.1 ≡ true
   pub no_earlier_never : (n a b s t : ℕ) (other from : ℕ × Rule) → n < never_place
-      → slice_get (neverallow_rules policy) n ≡ Some other
-      → slice_get (allow_rules policy) a ≡ Some from → b < 7 → s < length names → t < length names
+      → slice_get (rules_in Neverallow policy) n ≡ Some other
+      → slice_get (rules_in Allow policy) a ≡ Some from → b < 7 → s < length names → t < length names
       → breaks policy names b s t from.1 other.1 ≡ false
   pub no_earlier_allow : (a b s t : ℕ) (other : ℕ × Rule) → a < allow_place
-      → slice_get (allow_rules policy) a ≡ Some other
+      → slice_get (rules_in Allow policy) a ≡ Some other
       → b < 7 → s < length names → t < length names → breaks policy names b s t other.1 never.1 ≡ false
   pub no_lesser_source : (b s t : ℕ) → s < v.source → b < 7 → t < length names
       → breaks policy names b s t allow.1 never.1 ≡ false

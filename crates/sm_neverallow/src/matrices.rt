@@ -23,19 +23,21 @@ impl Model for Matrices {
 impl Matrices {
     ghost use Rattle.std.specs.Prelude.{◌≡◌, ◌<◌, ℕ, List, length, IfOk};
     ghost use Rattle.sm_bits.specs.Bits.{row};
+    ghost use Rattle.sm_ruletext.specs.declared.statement.RuleKind.TheVariants as kind;
     ghost use Rattle.sm_ruletext.specs.declared.statement.Statement.{Statement as TheStatement};
     ghost use Rattle.sm_rules.specs.Keeping.{RulesOf};
-    ghost use Rattle.sm_neverallow.specs.Matrices.{matrix, AllCompiled, SayWhatIsWritten, SayWhatIsSilenced};
+    ghost use Rattle.sm_neverallow.specs.Matrices.{matrix, AllCompiled, SayCovered};
 
     /// Returns the matrices of the allow rules.
     ///
     /// # Errors
     ///
     /// An error if an allocation fails.
+    #[tactic(auto, using(crate::proofs::Consistent::say_covered))]
     pub fn compile(alloc: Global, rules: &Rules) -> Result<Matrices, AllocError>
         ensures compiled { IfOk result (λ m. AllCompiled rules.now.allows rules.now.count 7 m) }
         ensures written { IfOk result (λ m. (policy : List TheStatement) (names : List (List ℕ))
-            → RulesOf policy names rules.now → SayWhatIsWritten policy names m) }
+            → RulesOf policy names rules.now → SayCovered kind.Allow policy names m) }
     {
         let allows = rules.allows();
         let list = matrices_of(alloc, allows, rules.type_count())?;
@@ -47,10 +49,11 @@ impl Matrices {
     /// # Errors
     ///
     /// An error if an allocation fails.
+    #[tactic(auto, using(crate::proofs::Consistent::say_covered))]
     pub fn compile_silences(alloc: Global, rules: &Rules) -> Result<Matrices, AllocError>
         ensures compiled { IfOk result (λ m. AllCompiled rules.now.silences rules.now.count 7 m) }
         ensures silenced { IfOk result (λ m. (policy : List TheStatement) (names : List (List ℕ))
-            → RulesOf policy names rules.now → SayWhatIsSilenced policy names m) }
+            → RulesOf policy names rules.now → SayCovered kind.Dontaudit policy names m) }
     {
         let silences = rules.silences();
         let list = matrices_of(alloc, silences, rules.type_count())?;

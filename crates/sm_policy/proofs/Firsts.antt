@@ -6,12 +6,13 @@ use Rattle.std.proofs.lemmas.Option.{get_or_from_slice_get, slice_get_within, sl
 use Rattle.sm_kinds.specs.declared.class.Class.{Class}
 use Rattle.sm_kinds.specs.declared.perms.Perms.{Perms}
 use Rattle.sm_ruletext.specs.declared.rule.Rule.{Rule}
+use Rattle.sm_ruletext.specs.declared.statement.RuleKind.TheVariants.{Allow, Neverallow}
 use Rattle.sm_ruletext.specs.declared.statement.Statement.{Statement}
 use Rattle.sm_types.specs.Names.{Name, at}
 use Rattle.sm_types.specs.Denoting.{types}
 use Rattle.sm_rules.specs.Access.{covers, written, forbidden, IsConsistent}
-use Rattle.sm_rules.proofs.Consistent.{written_any, forbidden_any}
-use Rattle.sm_rules.specs.Keeping.{allow_rules, neverallow_rules, class_at, perm_at}
+use Rattle.sm_rules.proofs.Consistent.{some_any}
+use Rattle.sm_rules.specs.Keeping.{rules_in, class_at, perm_at}
 use Rattle.sm_neverallow.specs.Violating.{breaks, IsFirstViolation}
 use Rattle.sm_neverallow.specs.declared.violation.Violation.{Violation as Numbered}
 use Rattle.sm_policy.specs.declared.violation.Violation.{Violation}
@@ -140,15 +141,17 @@ module _ (policy : List Statement) (v : Numbered) (is : IsFirstViolation policy 
   at_never : clash_of_never policy is.never ≡ Some found
   unfolding clash_of_never
   at_never =
-      first_at (first_clash policy is.never) (allow_rules policy) is.allow_place is.allow found is.allow_found at_rules
+      first_at (first_clash policy is.never) (rules_in Allow policy) is.allow_place is.allow found is.allow_found
+      at_rules
       (λ j z less h. no_first policy is.never z
       (λ b s t low source target. is.no_earlier_allow j b s t z less h low source target))
 
   found_first : first_violation policy ≡ Some found
   unfolding first_violation clash_of_never
   found_first =
-      first_at (clash_of_never policy) (neverallow_rules policy) is.never_place is.never found is.never_found at_never
-      (λ j z less h. none_at (first_clash policy z) (allow_rules policy)
+      first_at (clash_of_never policy) (rules_in Neverallow policy) is.never_place is.never found is.never_found
+      at_never
+      (λ j z less h. none_at (first_clash policy z) (rules_in Allow policy)
       (λ i w g. no_first policy z w
       (λ b s t low source target. is.no_earlier_never j i b s t z w less h g low source target)))
 
@@ -160,14 +163,14 @@ module _ (policy : List Statement) (v : Numbered) (is : IsFirstViolation policy 
 pub no_violation : (policy : List Statement) → IsConsistent policy → first_violation policy ≡ None
 unfolding first_violation clash_of_never
 no_violation policy consistent =
-    none_at (clash_of_never policy) (neverallow_rules policy)
-    (λ j z h. none_at (first_clash policy z) (allow_rules policy)
+    none_at (clash_of_never policy) (rules_in Neverallow policy)
+    (λ j z h. none_at (first_clash policy z) (rules_in Allow policy)
     (λ i w g. no_first policy z w
     (λ b s t low source target.
     apart i j w z (at (types policy) s) (at (types policy) t) (class_at b) (perm_at b) g h)))
   where
     apart : (i j : ℕ) (allow never : ℕ × Rule) (s t : Name) (class : Class) (perm : Perms)
-        → slice_get (allow_rules policy) i ≡ Some allow → slice_get (neverallow_rules policy) j ≡ Some never
+        → slice_get (rules_in Allow policy) i ≡ Some allow → slice_get (rules_in Neverallow policy) j ≡ Some never
         → (covers policy s t class perm allow.1 && covers policy s t class perm never.1) ≡ false
     apart i j allow never s t class perm found_allow found_never =
         by (covers policy s t class perm allow.1) (covers policy s t class perm never.1) refl refl where
@@ -176,11 +179,11 @@ no_violation policy consistent =
           by false n ha hn = refl
           by true false ha hn = refl
           by true true ha hn =
-              let w = written_any policy s t class perm
-              ∙ any_at (λ (r : ℕ × Rule). covers policy s t class perm r.1) (allow_rules policy) i allow found_allow
+              let w = some_any Allow policy s t class perm
+              ∙ any_at (λ (r : ℕ × Rule). covers policy s t class perm r.1) (rules_in Allow policy) i allow found_allow
               ha in
-              let f = forbidden_any policy s t class perm
-              ∙ any_at (λ (r : ℕ × Rule). covers policy s t class perm r.1) (neverallow_rules policy) j never
+              let f = some_any Neverallow policy s t class perm
+              ∙ any_at (λ (r : ℕ × Rule). covers policy s t class perm r.1) (rules_in Neverallow policy) j never
               found_never hn in
               let both : (written policy s t class perm && forbidden policy s t class perm) ≡ true = rw (w, f) refl in
               sym both ∙ consistent s t class perm

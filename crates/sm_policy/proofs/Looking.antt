@@ -1,8 +1,7 @@
 -- What is decided of types by their numbers, and of names that aren't declared.
-use Rattle.std.proofs.Common.{inl, inr, ◌≡◌, ℕ, ◌<◌, ◌≤◌, Bool, true, false, ◌&&◌, ◌||◌, ltb, List, [], ◌∷◌}
+use Rattle.std.proofs.Common.{inl, inr, ◌≡◌, ℕ, ◌<◌, ◌≤◌, Bool, true, false, ◌&&◌, ◌||◌, ltb, List, []}
 use Rattle.std.proofs.Common.{length, Some, None, is_some, refl, sym, ap, subst, ◌∙◌, arith, true≢false}
 use Rattle.std.specs.Prelude.{position, slice_get}
-use Rattle.std.specs.List.{list_any}
 use Rattle.std.specs.Str.{bytes_eq}
 use Rattle.std.proofs.lemmas.Bool.{cases_lt, lt-ltb, le-ltb, and_right, false_from_ne_true}
 use Rattle.std.proofs.lemmas.List.Quantifiers.{position-Some}
@@ -11,15 +10,14 @@ use Rattle.sm_kinds.specs.Permissions.{perm_of}
 use Rattle.sm_kinds.specs.declared.class.Class.{Class}
 use Rattle.sm_kinds.specs.declared.perms.Perms.{Perms}
 use Rattle.sm_ruletext.specs.declared.rule.Rule.{Rule}
-use Rattle.sm_ruletext.specs.declared.statement.What.{What}
-use Rattle.sm_ruletext.specs.declared.statement.What.TheVariants.{Attribute, Declared, Member, Allow, Neverallow}
-use Rattle.sm_ruletext.specs.declared.statement.What.TheVariants.{Dontaudit, Permissive}
+use Rattle.sm_ruletext.specs.declared.statement.RuleKind.TheVariants.{Allow, Dontaudit}
 use Rattle.sm_types.specs.Names.{Name, at, Distinct}
 use Rattle.sm_types.specs.Denoting.{Policy, types, declares, in_set}
 use Rattle.sm_types.proofs.Accepted.{declares_type}
 use Rattle.sm_types.proofs.NameLemmas.{place_of}
 use Rattle.sm_neverallow.proofs.Searches.{some_at}
-use Rattle.sm_rules.specs.Access.{joins, allowed_by, allows, silenced_by, silences, is_permissive, allowed, audits}
+use Rattle.sm_rules.specs.Access.{joins, covers, is_permissive, allowed, audits}
+use Rattle.sm_rules.proofs.Consistent.{uncovered}
 use Rattle.sm_vectors.specs.declared.decision.Decision.{Decision}
 use Rattle.sm_vectors.specs.Tables.{Tables, TablesOf, refusal}
 
@@ -43,38 +41,6 @@ no_target policy s t r h = by (bytes_eq s t) refl where
       let none : declares policy s ≡ false = rw same h in rw none refl)
   by false e = rw (h, e) (nothing (in_set policy r.source s) r.to_self)
 
-not_by : (policy : Policy) (s t : Name) (class : Class) (perm : Perms) (what : What)
-    → ((r : Rule) → joins policy s t r ≡ false) → allowed_by policy s t class perm what ≡ false
-not_by policy s t class perm (Allow r) none = rw (none r) refl
-not_by policy s t class perm (Neverallow r) none = refl
-not_by policy s t class perm (Dontaudit r) none = refl
-not_by policy s t class perm (Permissive n) none = refl
-not_by policy s t class perm (Attribute n) none = refl
-not_by policy s t class perm (Declared n names) none = refl
-not_by policy s t class perm (Member n names) none = refl
-
-not_among : (policy statements : Policy) (s t : Name) (class : Class) (perm : Perms)
-    → ((r : Rule) → joins policy s t r ≡ false) → list_any (allows policy s t class perm) statements ≡ false
-not_among policy [] s t class perm none = refl
-not_among policy (st ∷ sts) s t class perm none =
-    rw (not_by policy s t class perm st.what none) (not_among policy sts s t class perm none)
-
-silent_by : (policy : Policy) (s t : Name) (class : Class) (perm : Perms) (what : What)
-    → ((r : Rule) → joins policy s t r ≡ false) → silenced_by policy s t class perm what ≡ false
-silent_by policy s t class perm (Dontaudit r) none = rw (none r) refl
-silent_by policy s t class perm (Allow r) none = refl
-silent_by policy s t class perm (Neverallow r) none = refl
-silent_by policy s t class perm (Permissive n) none = refl
-silent_by policy s t class perm (Attribute n) none = refl
-silent_by policy s t class perm (Declared n names) none = refl
-silent_by policy s t class perm (Member n names) none = refl
-
-silent_among : (policy statements : Policy) (s t : Name) (class : Class) (perm : Perms)
-    → ((r : Rule) → joins policy s t r ≡ false) → list_any (silences policy s t class perm) statements ≡ false
-silent_among policy [] s t class perm none = refl
-silent_among policy (st ∷ sts) s t class perm none =
-    rw (silent_by policy s t class perm st.what none) (silent_among policy sts s t class perm none)
-
 -- what has no number isn't declared
 undeclared : (policy : Policy) (names : List Name) (s : Name) → names ≡ types policy → Distinct names
     → position (bytes_eq s) (types policy) ≡ None → declares policy s ≡ false
@@ -91,7 +57,9 @@ refusal_is : (policy : Policy) (s t : Name) (class : Class) (perm : Perms) → (
     → (is_permissive policy s && (declares policy t && is_some (perm_of class perm))) ≡ false
     → refusal ≡ record { allowed = allowed policy s t class perm; audited = audits policy s t class perm }
 refusal_is policy s t class perm none strict =
-    rw (not_among policy policy s t class perm none, silent_among policy policy s t class perm none, strict) refl
+    let uncovering : (r : Rule) → covers policy s t class perm r ≡ false = λ r. rw (none r) refl in
+    rw (uncovered Allow policy s t class perm uncovering, uncovered Dontaudit policy s t class perm uncovering, strict)
+    refl
 
 pub refused_source : (policy : Policy) (names : List Name) (s t : Name) (class : Class) (perm : Perms)
     → names ≡ types policy → Distinct names → (is_permissive policy s ≡ true → declares policy s ≡ true)

@@ -1,9 +1,9 @@
 -- The counts of a policy.
 use Rattle.std.specs.Prelude.{ℕ, Bool, true, false, List, length, count_by}
 use Rattle.sm_ruletext.specs.declared.statement.Statement.{Statement}
+use Rattle.sm_ruletext.specs.declared.statement.RuleKind.TheVariants.{Allow, Neverallow}
 use Rattle.sm_ruletext.specs.declared.statement.What.{What}
-use Rattle.sm_ruletext.specs.declared.statement.What.TheVariants.{Attribute, Declared, Member, Allow, Neverallow}
-use Rattle.sm_ruletext.specs.declared.statement.What.TheVariants.{Dontaudit, Permissive}
+use Rattle.sm_ruletext.specs.declared.statement.What.TheVariants.{Rule}
 use Rattle.sm_types.specs.Denoting.{types, attributes}
 use Rattle.sm_contexts.specs.Reading.{Entry}
 use Rattle.sm_policy.specs.declared.counts.Counts.{Counts}
@@ -11,13 +11,9 @@ use Rattle.sm_policy.specs.Policy.{Policy}
 
 -- A statement is an allow or a neverallow rule.
 abbrev pub is_counted : What → Bool
-is_counted (Allow r) = true
-is_counted (Neverallow r) = true
-is_counted (Dontaudit r) = false
-is_counted (Permissive n) = false
-is_counted (Attribute n) = false
-is_counted (Declared n names) = false
-is_counted (Member n names) = false
+is_counted (Rule Allow r) = true
+is_counted (Rule Neverallow r) = true
+is_counted content = false
 
 -- This is the number of allow and neverallow rules.
 abbrev pub rule_count : List Statement → ℕ

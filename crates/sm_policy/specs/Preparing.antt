@@ -6,7 +6,6 @@ use Rattle.sm_kinds.specs.Reading.{◌>>=◌}
 use Rattle.sm_ruletext.specs.declared.fault.RuleTextFault.{RuleTextFault}
 use Rattle.sm_ruletext.specs.declared.fault.RuleTextFault.TheVariants as text
 use Rattle.sm_ruletext.specs.declared.statement.Statement.{Statement}
-use Rattle.sm_ruletext.specs.declared.statement.What.TheVariants.{Neverallow}
 use Rattle.sm_ruletext.specs.Statements as rules
 use Rattle.sm_types.specs.declared.fault.TypesFault.{TypesFault}
 use Rattle.sm_types.specs.declared.fault.TypesFault.TheVariants as types

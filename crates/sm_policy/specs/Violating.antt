@@ -2,10 +2,11 @@
 use Rattle.std.specs.Prelude.{ℕ, ◌&&◌, if◌then◌else◌, List, [], ◌∷◌, Option, Some, None}
 use Rattle.std.specs.Option.{option_or}
 use Rattle.sm_ruletext.specs.declared.rule.Rule.{Rule}
+use Rattle.sm_ruletext.specs.declared.statement.RuleKind.TheVariants.{Allow, Neverallow}
 use Rattle.sm_ruletext.specs.declared.statement.Statement.{Statement}
 use Rattle.sm_types.specs.Denoting.{types}
 use Rattle.sm_rules.specs.Access.{covers}
-use Rattle.sm_rules.specs.Keeping.{allow_rules, neverallow_rules, class_at, perm_at}
+use Rattle.sm_rules.specs.Keeping.{rules_in, class_at, perm_at}
 use Rattle.sm_types.specs.Names.{Name, at}
 use Rattle.sm_neverallow.specs.declared.violation.Violation.{Violation as Numbered}
 use Rattle.sm_policy.specs.declared.violation.Violation.{Violation}
@@ -48,12 +49,12 @@ first_clash policy never allow = first_some (clash_of_source policy never allow)
 
 -- This is the first violation of a neverallow rule.
 unfoldable pub clash_of_never : List Statement → ℕ × Rule → Option Violation
-clash_of_never policy never = first_some (first_clash policy never) (allow_rules policy)
+clash_of_never policy never = first_some (first_clash policy never) (rules_in Allow policy)
 
 -- The first violation is that of the first broken neverallow rule in the file, with the first allow rule that breaks it
 -- and the first access that they have in common.
 unfoldable pub first_violation : List Statement → Option Violation
-first_violation policy = first_some (clash_of_never policy) (neverallow_rules policy)
+first_violation policy = first_some (clash_of_never policy) (rules_in Neverallow policy)
 
 -- This is a violation with the names of its types.
 abbrev pub named_violation : List Name → Numbered → Violation

@@ -7,7 +7,7 @@ ghost use Rattle.sm_policy.specs.Counting as spec;
 ghost use Rattle.sm_policy.specs.Counting.{is_counted, rule_count};
 
 use sm_contexts::Contexts;
-use sm_ruletext::{Statement, What};
+use sm_ruletext::{RuleKind, Statement, What};
 use sm_types::Types;
 
 /// The counts that `svcmgr check` prints of a policy.
@@ -27,7 +27,7 @@ pub struct Counts {
 fn is_counted(what: &What) -> bool
     ensures { result ≡ is_counted what.now }
 {
-    matches!(what, What::Allow(_) | What::Neverallow(_))
+    matches!(what, What::Rule(RuleKind::Allow | RuleKind::Neverallow, _))
 }
 
 fn rule_count(statements: &[Statement]) -> u32

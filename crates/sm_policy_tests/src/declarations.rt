@@ -1,6 +1,6 @@
 //! The declarations of policy sources: which are refused, and the types that sets denote.
 
-use sm_ruletext::{What, read};
+use sm_ruletext::{RuleKind, What, read};
 use sm_types::{Types, TypesFault};
 use std::alloc::{AllocError, Global};
 use std::process::Abort;
@@ -19,7 +19,7 @@ fn numbers_and_sets(rt: HostRuntime) {
     assert_eq!(rt; types.name(0), Some(b"a".as_slice()));
     assert_eq!(rt; types.name(2), None);
     for statement in &statements {
-        if let What::Allow(rule) = &statement.what {
+        if let What::Rule(RuleKind::Allow, rule) = &statement.what {
             let sources = types
                 .expand(rt.alloc(), &rule.source)
                 .ok()

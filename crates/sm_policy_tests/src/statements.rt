@@ -169,7 +169,7 @@ fn sets(rt: HostRuntime) {
     // The rule of another class is skipped.
     assert_eq!(rt; statements.len(), 4);
     for statement in &statements {
-        if let What::Allow(rule) = &statement.what {
+        if let What::Rule(RuleKind::Allow, rule) = &statement.what {
             assert_eq!(rt; statement.line, 4);
             assert!(rt; rule.source.all && rule.target.complement && rule.perm.all);
             assert!(rt; rule.source.minus.contains(b"a"));
@@ -186,7 +186,7 @@ fn permissive_and_dontaudit(rt: HostRuntime) {
     assert_eq!(rt; statements.len(), 2);
     for statement in &statements {
         match &statement.what {
-            What::Dontaudit(rule) => {
+            What::Rule(RuleKind::Dontaudit, rule) => {
                 assert_eq!(rt; statement.line, 1);
                 assert!(rt; rule.to_self && statement.what.is_rule());
             }

@@ -6,7 +6,7 @@ use sm_kinds::{Class, Perms};
 use sm_neverallow::{Matrices, first_violation};
 use sm_policy::{PolicyFault, Prepared, refused_text};
 use sm_rules::{Rules, RulesFault};
-use sm_ruletext::{RuleTextFault, Statement, What, read};
+use sm_ruletext::{RuleKind, RuleTextFault, Statement, What, read};
 use sm_samples::{BROKEN_RULE, DEVICE_LABELS, DEVICE_RULES, device_rules_with};
 use sm_types::{Types, TypesFault};
 use sm_vectors::Vectors;
@@ -32,7 +32,7 @@ const OWN_PAIRS: &[u8] = b"type a;\ntype b;\nallow { a b } self:binder call;\n";
 
 /// Whether the sources of a rule are both types.
 fn both_types(rt: &impl Abort, alloc: Global, types: &Types, statement: &Statement) -> Option<()> {
-    let What::Allow(rule) = &statement.what else {
+    let What::Rule(RuleKind::Allow, rule) = &statement.what else {
         panic!(rt; "no allow rule");
     };
     let sources = value(rt, types.expand(alloc, &rule.source), TypesFault::Memory)?;

@@ -1,6 +1,6 @@
 -- What is written is what the kept rules cover, in whichever way they are listed.
 use Rattle.std.proofs.Common.{◌≡◌, ℕ, zero, suc, ◌<◌, Bool, true, false, ◌||◌, List, [], ◌∷◌, length, Some, None}
-use Rattle.std.proofs.Common.{refl, sym, ◌∙◌, slice_get, cond}
+use Rattle.std.proofs.Common.{Option, refl, sym, ◌∙◌, slice_get, cond, option_and_then}
 use Rattle.std.specs.List.{list_any, cons_option}
 use Rattle.std.proofs.lemmas.Bool.{and_right}
 use Rattle.sm_kinds.specs.Permissions.{perm_of}
@@ -8,27 +8,29 @@ use Rattle.sm_kinds.specs.declared.class.Class.{Class}
 use Rattle.sm_kinds.specs.declared.perms.Perms.{Perms}
 use Rattle.sm_ruletext.specs.Sets.{is_kept}
 use Rattle.sm_ruletext.specs.declared.rule.Rule.{Rule}
-use Rattle.sm_ruletext.specs.declared.statement.What.{What}
-use Rattle.sm_ruletext.specs.declared.statement.What.TheVariants.{Attribute, Declared, Member, Allow, Neverallow}
-use Rattle.sm_ruletext.specs.declared.statement.What.TheVariants.{Dontaudit, Permissive}
+use Rattle.sm_ruletext.specs.declared.statement.RuleKind.{RuleKind}
+use Rattle.sm_ruletext.specs.declared.statement.RuleKind.TheVariants.{Dontaudit}
 use Rattle.sm_ruletext.specs.declared.statement.Statement.{Statement}
 use Rattle.sm_types.specs.Names.{Name, at, Distinct}
 use Rattle.sm_types.specs.Denoting.{Policy}
 use Rattle.sm_rules.specs.Access as access
-use Rattle.sm_rules.specs.Access.{gives, written, forbidden, silenced}
+use Rattle.sm_rules.specs.Access.{rule_of, gives, some_covers, silenced}
 use Rattle.sm_rules.specs.Keeping.{class_at, perm_at, covered, StandsFor, AllStandFor, Says, AllSay, KeptRules}
-use Rattle.sm_rules.specs.Keeping.{RulesOf, allow_in, neverallow_in, dontaudit_in, allow_rules, neverallow_rules}
-use Rattle.sm_rules.specs.Keeping.{dontaudit_rules, kept_only}
+use Rattle.sm_rules.specs.Keeping.{RulesOf, kept_only, rules_in, of_kind}
 use Rattle.sm_rules.specs.declared.kept.Kept.{Kept}
 use Rattle.sm_rules.proofs.Lines.{unkept, unnamed, stands_covers}
 
 -- ---- rules of the text as statements and as lists
 
 -- a rule that isn't kept covers nothing
-one_rule : (policy : Policy) (s t : Name) (class : Class) (perm : Perms) (line : ℕ) (r : Rule) (rs : List (ℕ × Rule))
-    → (access.covers policy s t class perm r || list_any (λ (q : ℕ × Rule). access.covers policy s t class perm q.1) rs)
-    ≡ list_any (λ (q : ℕ × Rule). access.covers policy s t class perm q.1) (cons_option (kept_only line r) rs)
-one_rule policy s t class perm line r rs = by (is_kept r) refl where
+one_rule : (policy : Policy) (s t : Name) (class : Class) (perm : Perms) (line : ℕ) (o : Option Rule)
+    (rs : List (ℕ × Rule))
+    → (access.covered_by policy s t class perm o
+    || list_any (λ (q : ℕ × Rule). access.covers policy s t class perm q.1) rs)
+    ≡ list_any (λ (q : ℕ × Rule). access.covers policy s t class perm q.1)
+    (cons_option (option_and_then (kept_only line) o) rs)
+one_rule policy s t class perm line None rs = refl
+one_rule policy s t class perm line (Some r) rs = by (is_kept r) refl where
   by : (k : Bool) → is_kept r ≡ k
       → (access.covers policy s t class perm r || list_any (λ (q : ℕ × Rule). access.covers policy s t class perm q.1)
       rs)
@@ -37,70 +39,16 @@ one_rule policy s t class perm line r rs = by (is_kept r) refl where
   by true e = refl
   by false e = rw (and_right (access.joins policy s t r) (gives class perm r) (unkept r class perm e)) refl
 
--- a tuple is written where some allow rule of the list covers it, forbidden where some neverallow rule does, and
--- silenced where some dontaudit rule does
-pub written_any : (policy : Policy) (s t : Name) (class : Class) (perm : Perms)
-    → written policy s t class perm ≡ list_any (λ (r : ℕ × Rule). access.covers policy s t class perm r.1)
-    (allow_rules policy)
-written_any policy s t class perm = among policy where
-  among : (sts : List Statement) → list_any (access.allows policy s t class perm) sts
-      ≡ list_any (λ (r : ℕ × Rule). access.covers policy s t class perm r.1) (allow_rules sts)
+-- some rule of the kind covers a tuple where some rule of the list does
+pub some_any : (kind : RuleKind) (policy : Policy) (s t : Name) (class : Class) (perm : Perms)
+    → some_covers kind policy s t class perm
+    ≡ list_any (λ (r : ℕ × Rule). access.covers policy s t class perm r.1) (rules_in kind policy)
+some_any kind policy s t class perm = among policy where
+  among : (sts : List Statement) → list_any (access.covers_as kind policy s t class perm) sts
+      ≡ list_any (λ (r : ℕ × Rule). access.covers policy s t class perm r.1) (rules_in kind sts)
   among [] = refl
-  among (st ∷ sts) = by st.what (among sts) where
-    by : (what : What) → list_any (access.allows policy s t class perm) sts
-        ≡ list_any (λ (r : ℕ × Rule). access.covers policy s t class perm r.1) (allow_rules sts)
-        → (access.allowed_by policy s t class perm what || list_any (access.allows policy s t class perm) sts)
-        ≡ list_any (λ (r : ℕ × Rule). access.covers policy s t class perm r.1)
-        (cons_option (allow_in st.line what) (allow_rules sts))
-    by (Allow r) e = rw e (one_rule policy s t class perm st.line r (allow_rules sts))
-    by (Neverallow r) e = e
-    by (Dontaudit r) e = e
-    by (Permissive n) e = e
-    by (Attribute n) e = e
-    by (Declared n names) e = e
-    by (Member n names) e = e
-
-pub forbidden_any : (policy : Policy) (s t : Name) (class : Class) (perm : Perms)
-    → forbidden policy s t class perm ≡ list_any (λ (r : ℕ × Rule). access.covers policy s t class perm r.1)
-    (neverallow_rules policy)
-forbidden_any policy s t class perm = among policy where
-  among : (sts : List Statement) → list_any (access.forbids policy s t class perm) sts
-      ≡ list_any (λ (r : ℕ × Rule). access.covers policy s t class perm r.1) (neverallow_rules sts)
-  among [] = refl
-  among (st ∷ sts) = by st.what (among sts) where
-    by : (what : What) → list_any (access.forbids policy s t class perm) sts
-        ≡ list_any (λ (r : ℕ × Rule). access.covers policy s t class perm r.1) (neverallow_rules sts)
-        → (access.forbidden_by policy s t class perm what || list_any (access.forbids policy s t class perm) sts)
-        ≡ list_any (λ (r : ℕ × Rule). access.covers policy s t class perm r.1)
-        (cons_option (neverallow_in st.line what) (neverallow_rules sts))
-    by (Neverallow r) e = rw e (one_rule policy s t class perm st.line r (neverallow_rules sts))
-    by (Allow r) e = e
-    by (Dontaudit r) e = e
-    by (Permissive n) e = e
-    by (Attribute n) e = e
-    by (Declared n names) e = e
-    by (Member n names) e = e
-
-pub silenced_any : (policy : Policy) (s t : Name) (class : Class) (perm : Perms)
-    → silenced policy s t class perm ≡ list_any (λ (r : ℕ × Rule). access.covers policy s t class perm r.1)
-    (dontaudit_rules policy)
-silenced_any policy s t class perm = among policy where
-  among : (sts : List Statement) → list_any (access.silences policy s t class perm) sts
-      ≡ list_any (λ (r : ℕ × Rule). access.covers policy s t class perm r.1) (dontaudit_rules sts)
-  among [] = refl
-  among (st ∷ sts) = by st.what (among sts) where
-    by : (what : What) → list_any (access.silences policy s t class perm) sts
-        ≡ list_any (λ (r : ℕ × Rule). access.covers policy s t class perm r.1) (dontaudit_rules sts)
-        → (access.silenced_by policy s t class perm what || list_any (access.silences policy s t class perm) sts)
-        ≡ list_any (λ (r : ℕ × Rule). access.covers policy s t class perm r.1)
-        (cons_option (dontaudit_in st.line what) (dontaudit_rules sts))
-    by (Dontaudit r) e = rw e (one_rule policy s t class perm st.line r (dontaudit_rules sts))
-    by (Allow r) e = e
-    by (Neverallow r) e = e
-    by (Permissive n) e = e
-    by (Attribute n) e = e
-    by (Declared n names) e = e
-    by (Member n names) e = e
+  among (st ∷ sts) =
+      rw (among sts) (one_rule policy s t class perm st.line (rule_of st.what kind) (rules_in kind sts))
 
 -- ---- kept rules and the rules that they represent, index by index
 
@@ -154,29 +102,13 @@ covered_any policy names (r ∷ rs) (k ∷ ks) b s t distinct hs ht low all =
           ht low all.1,
     ) refl
 
-pub covered_is_written : (policy : Policy) (names : List Name) (rules : KeptRules) (b s t : ℕ)
-    → RulesOf policy names rules
+pub covered_is : (kind : RuleKind) (policy : Policy) (names : List Name) (rules : KeptRules) (ks : List Kept)
+    (b s t : ℕ) → RulesOf policy names rules → ks ≡ of_kind kind rules
     → b < 7 → s < length names → t < length names
-    → covered rules.allows b s t ≡ written policy (at names s) (at names t) (class_at b) (perm_at b)
-covered_is_written policy names rules b s t is low hs ht =
-    covered_any policy names (allow_rules policy) rules.allows b s t is.distinct hs ht low is.allows
-    ∙ sym (written_any policy (at names s) (at names t) (class_at b) (perm_at b))
-
-pub covered_is_forbidden : (policy : Policy) (names : List Name) (rules : KeptRules) (b s t : ℕ)
-    → RulesOf policy names rules
-    → b < 7 → s < length names → t < length names
-    → covered rules.neverallows b s t ≡ forbidden policy (at names s) (at names t) (class_at b) (perm_at b)
-covered_is_forbidden policy names rules b s t is low hs ht =
-    covered_any policy names (neverallow_rules policy) rules.neverallows b s t is.distinct hs ht low is.neverallows
-    ∙ sym (forbidden_any policy (at names s) (at names t) (class_at b) (perm_at b))
-
-pub covered_is_silenced : (policy : Policy) (names : List Name) (rules : KeptRules) (b s t : ℕ)
-    → RulesOf policy names rules
-    → b < 7 → s < length names → t < length names
-    → covered rules.silences b s t ≡ silenced policy (at names s) (at names t) (class_at b) (perm_at b)
-covered_is_silenced policy names rules b s t is low hs ht =
-    covered_any policy names (dontaudit_rules policy) rules.silences b s t is.distinct hs ht low is.silences
-    ∙ sym (silenced_any policy (at names s) (at names t) (class_at b) (perm_at b))
+    → covered ks b s t ≡ some_covers kind policy (at names s) (at names t) (class_at b) (perm_at b)
+covered_is kind policy names rules ks b s t is same low hs ht =
+    covered_any policy names (rules_in kind policy) ks b s t is.distinct hs ht low (rw same (is.kept kind))
+    ∙ sym (some_any kind policy (at names s) (at names t) (class_at b) (perm_at b))
 
 none_any : {X : Type 0} (p : X → Bool) (xs : List X) → ((x : X) → p x ≡ false) → list_any p xs ≡ false
 none_any p [] fails = refl
@@ -188,12 +120,17 @@ pub silenced_is : (policy : Policy) (names : List Name) (rules : KeptRules) (b s
     → s < length names → t < length names → (b < 7) × (class_at b ≡ class) × (perm_at b ≡ perm)
     → covered rules.silences b s t ≡ silenced policy (at names s) (at names t) class perm
 silenced_is policy names rules b s t class perm is hs ht hb =
-    rw (← hb.1, ← hb.2) (covered_is_silenced policy names rules b s t is hb.0 hs ht)
+    rw (← hb.1, ← hb.2) (covered_is Dontaudit policy names rules rules.silences b s t is refl hb.0 hs ht)
 
--- nothing is silenced of what is no single permission of the class
-pub unsilenced : (policy : Policy) (s t : Name) (class : Class) (perm : Perms) → perm_of class perm ≡ None
-    → silenced policy s t class perm ≡ false
-unsilenced policy s t class perm h =
-    silenced_any policy s t class perm
-    ∙ none_any (λ (r : ℕ × Rule). access.covers policy s t class perm r.1) (dontaudit_rules policy)
-    (λ r. and_right (access.joins policy s t r.1) (gives class perm r.1) (unnamed r.1 class perm h))
+-- some rule of the kind covers only what some rule covers
+pub uncovered : (kind : RuleKind) (policy : Policy) (s t : Name) (class : Class) (perm : Perms)
+    → ((r : Rule) → access.covers policy s t class perm r ≡ false) → some_covers kind policy s t class perm ≡ false
+uncovered kind policy s t class perm none =
+    some_any kind policy s t class perm
+    ∙ none_any (λ (r : ℕ × Rule). access.covers policy s t class perm r.1) (rules_in kind policy) (λ r. none r.1)
+
+-- nothing is covered of what is no single permission of the class
+pub no_single : (kind : RuleKind) (policy : Policy) (s t : Name) (class : Class) (perm : Perms)
+    → perm_of class perm ≡ None → some_covers kind policy s t class perm ≡ false
+no_single kind policy s t class perm h = uncovered kind policy s t class perm
+    (λ r. and_right (access.joins policy s t r) (gives class perm r) (unnamed r class perm h))

@@ -1,6 +1,6 @@
 -- The first rule that covers a tuple, by number and by name.
 use Rattle.std.proofs.Common.{◌≡◌, ℕ, ◌<◌, Bool, true, false, cond, eqb, List, [], ◌∷◌, length, find, option_map}
-use Rattle.std.proofs.Common.{Option, Some, None, refl, sym, ap, ◌∙◌, inl, inr, true≢false}
+use Rattle.std.proofs.Common.{Option, Some, None, refl, sym, ap, ◌∙◌, inl, inr, true≢false, option_and_then}
 use Rattle.std.specs.List.{cons_option}
 use Rattle.std.specs.Str.{bytes_eq}
 use Rattle.std.proofs.lemmas.Bool.{cases_eq, eq-eqb, ne_eqb, false_from_ne_true, or_parts, and_right}
@@ -11,16 +11,14 @@ use Rattle.sm_kinds.specs.declared.class.Class.TheVariants.{ServiceManager, Bind
 use Rattle.sm_kinds.specs.declared.perms.Perms.{Perms}
 use Rattle.sm_ruletext.specs.Sets.{selects, is_kept}
 use Rattle.sm_ruletext.specs.declared.rule.Rule.{Rule}
-use Rattle.sm_ruletext.specs.declared.statement.What.{What}
-use Rattle.sm_ruletext.specs.declared.statement.What.TheVariants.{Attribute, Declared, Member, Allow, Neverallow}
-use Rattle.sm_ruletext.specs.declared.statement.What.TheVariants.{Dontaudit, Permissive}
+use Rattle.sm_ruletext.specs.declared.statement.RuleKind.TheVariants.{Allow}
 use Rattle.sm_ruletext.specs.declared.statement.Statement.{Statement}
 use Rattle.sm_types.specs.Names.{Name, at, Distinct}
 use Rattle.sm_types.specs.Denoting.{Policy}
 use Rattle.sm_rules.specs.Access as access
-use Rattle.sm_rules.specs.Access.{gives, allows, written_line, picks}
+use Rattle.sm_rules.specs.Access.{rule_of, gives, covers_as, written_line, picks}
 use Rattle.sm_rules.specs.Keeping.{covers, covered_line, class_at, perm_at, StandsFor, AllStandFor, KeptRules}
-use Rattle.sm_rules.specs.Keeping.{RulesOf, allow_in, allow_rules}
+use Rattle.sm_rules.specs.Keeping.{RulesOf, kept_only, rules_in}
 use Rattle.sm_rules.specs.declared.kept.Kept.{Kept}
 
 -- a rule that isn't kept gives nothing
@@ -94,30 +92,22 @@ allow_step false false st r p rs o here none rest = rest
 
 -- the walk over the statements finds the line that the walk over the allow rules finds
 pub lines_of : (policy : Policy) (s t : Name) (class : Class) (perm : Perms) (sts : List Statement)
-    → option_map (λ (st : Statement). st.line) (find (allows policy s t class perm) sts)
-    ≡ option_map (λ (r : ℕ × Rule). r.0) (find (λ r. access.covers policy s t class perm r.1) (allow_rules sts))
+    → option_map (λ (st : Statement). st.line) (find (covers_as Allow policy s t class perm) sts)
+    ≡ option_map (λ (r : ℕ × Rule). r.0) (find (λ r. access.covers policy s t class perm r.1) (rules_in Allow sts))
 lines_of policy s t class perm [] = refl
-lines_of policy s t class perm (st ∷ sts) = by st.what refl (lines_of policy s t class perm sts) where
-  Same : What → Type 0
-  Same what = option_map (λ (q : Statement). q.line)
-      (cond (access.allowed_by policy s t class perm what) (Some st) (find (allows policy s t class perm) sts))
-      ≡ option_map (λ (r : ℕ × Rule). r.0)
-      (find (λ r. access.covers policy s t class perm r.1) (cons_option (allow_in st.line what) (allow_rules sts)))
-
-  by : (what : What) → st.what ≡ what
-      → option_map (λ (q : Statement). q.line) (find (allows policy s t class perm) sts)
-      ≡ option_map (λ (r : ℕ × Rule). r.0) (find (λ r. access.covers policy s t class perm r.1) (allow_rules sts))
-      → Same what
-  by (Attribute n) e rest = rest
-  by (Declared n names) e rest = rest
-  by (Member n names) e rest = rest
-  by (Neverallow r) e rest = rest
-  by (Dontaudit r) e rest = rest
-  by (Permissive n) e rest = rest
-  by (Allow r) e rest =
+lines_of policy s t class perm (st ∷ sts) = by (rule_of st.what Allow) (lines_of policy s t class perm sts) where
+  by : (o : Option Rule)
+      → option_map (λ (q : Statement). q.line) (find (covers_as Allow policy s t class perm) sts)
+      ≡ option_map (λ (r : ℕ × Rule). r.0) (find (λ r. access.covers policy s t class perm r.1) (rules_in Allow sts))
+      → option_map (λ (q : Statement). q.line)
+      (cond (access.covered_by policy s t class perm o) (Some st) (find (covers_as Allow policy s t class perm) sts))
+      ≡ option_map (λ (r : ℕ × Rule). r.0) (find (λ r. access.covers policy s t class perm r.1)
+      (cons_option (option_and_then (kept_only st.line) o) (rules_in Allow sts)))
+  by None rest = rest
+  by (Some r) rest =
       allow_step (access.covers policy s t class perm r) (is_kept r) st r (λ q. access.covers policy s t class perm q.1)
-      (allow_rules sts)
-      (find (allows policy s t class perm) sts) refl
+      (rules_in Allow sts)
+      (find (covers_as Allow policy s t class perm) sts) refl
       (λ h. and_right (access.joins policy s t r) (gives class perm r) (unkept r class perm h)) rest
 
 -- what the kept allow rules say by number is what the text says by name
@@ -126,8 +116,8 @@ pub written_is : (policy : Policy) (names : List Name) (rules : KeptRules) (b s 
     → s < length names → t < length names → (b < 7) × (class_at b ≡ class) × (perm_at b ≡ perm)
     → covered_line rules.allows b s t ≡ written_line policy (at names s) (at names t) class perm
 written_is policy names rules b s t class perm is hs ht hb =
-    rw (← hb.1, ← hb.2) (lines_stand policy names (allow_rules policy) rules.allows b s t is.distinct hs ht hb.0
-    is.allows
+    rw (← hb.1, ← hb.2) (lines_stand policy names (rules_in Allow policy) rules.allows b s t is.distinct hs ht hb.0
+    (is.kept Allow)
     ∙ sym (lines_of policy (at names s) (at names t) (class_at b) (perm_at b) policy))
 
 pub none_found : {X : Type 0} (p : X → Bool) (xs : List X) → ((x : X) → p x ≡ false) → find p xs ≡ None
@@ -140,6 +130,6 @@ pub unwritten : (policy : Policy) (s t : Name) (class : Class) (perm : Perms) �
 unwritten policy s t class perm h =
     rw (
       lines_of policy s t class perm policy,
-      none_found (λ (r : ℕ × Rule). access.covers policy s t class perm r.1) (allow_rules policy)
+      none_found (λ (r : ℕ × Rule). access.covers policy s t class perm r.1) (rules_in Allow policy)
           (λ r. and_right (access.joins policy s t r.1) (gives class perm r.1) (unnamed r.1 class perm h)),
     ) refl

@@ -10,8 +10,7 @@ use Rattle.std.proofs.lemmas.Slice.Eq.{bytes_eq-Decides}
 use Rattle.std.specs.Prelude.{slice_get}
 use Rattle.sm_bits.specs.Bits.{has}
 use Rattle.sm_ruletext.specs.declared.statement.What.{What}
-use Rattle.sm_ruletext.specs.declared.statement.What.TheVariants.{Attribute, Declared, Member, Allow, Neverallow}
-use Rattle.sm_ruletext.specs.declared.statement.What.TheVariants.{Dontaudit, Permissive}
+use Rattle.sm_ruletext.specs.declared.statement.What.TheVariants as what
 use Rattle.sm_ruletext.specs.declared.statement.Statement.{Statement}
 use Rattle.sm_types.specs.Names.{Name, at, Distinct}
 use Rattle.sm_types.specs.Denoting.{Policy, declares}
@@ -26,17 +25,15 @@ use Rattle.sm_rules.proofs.Lines.{same_place}
 
 named_declared : (policy : Policy) (s : Name) (line : ℕ) (what : What) → fault_of policy line what ≡ None
     → names_permissive s what ≡ true → declares policy s ≡ true
-named_declared policy s line (Permissive n) none h =
+named_declared policy s line (what.Permissive n) none h =
     let same : s ≡ n = (bytes_eq-Decides s n).0 h in rw same (by (declares policy n) none) where
       by : (b : Bool) → cond {A = Option RulesFault} b None (Some (Unknown line)) ≡ None → b ≡ true
       by true g = refl
       by false g = absurd (cc g)
-named_declared policy s line (Allow r) none h = absurd (cc h)
-named_declared policy s line (Neverallow r) none h = absurd (cc h)
-named_declared policy s line (Dontaudit r) none h = absurd (cc h)
-named_declared policy s line (Attribute n) none h = absurd (cc h)
-named_declared policy s line (Declared n names) none h = absurd (cc h)
-named_declared policy s line (Member n names) none h = absurd (cc h)
+named_declared policy s line (what.Rule kind r) none h = absurd (cc h)
+named_declared policy s line (what.Attribute n) none h = absurd (cc h)
+named_declared policy s line (what.Declared n names) none h = absurd (cc h)
+named_declared policy s line (what.Member n names) none h = absurd (cc h)
 
 declared_among : (policy : Policy) (s : Name) (sts : List Statement) → fault_among policy sts ≡ None
     → is_permissive sts s ≡ true → declares policy s ≡ true

@@ -6,11 +6,12 @@ use Rattle.sm_kinds.specs.declared.class.Class.{Class}
 use Rattle.sm_kinds.specs.declared.perms.Perms.{Perms}
 use Rattle.sm_ruletext.specs.declared.set.Set.{Set}
 use Rattle.sm_ruletext.specs.declared.rule.Rule.{Rule}
+use Rattle.sm_ruletext.specs.declared.statement.RuleKind.TheVariants.{Allow}
 use Rattle.sm_types.specs.Names.{Name}
 use Rattle.sm_types.specs.Denoting.{Policy, declares, in_set}
 use Rattle.sm_rules.specs.Access as access
 use Rattle.sm_rules.specs.Access.{written_line}
-use Rattle.sm_rules.specs.Keeping.{allow_rules}
+use Rattle.sm_rules.specs.Keeping.{rules_in}
 use Rattle.sm_rules.proofs.Lines.{lines_of, none_found}
 
 not_in : (policy : Policy) (set : Set) (t : Name) → declares policy t ≡ false → in_set policy set t ≡ false
@@ -39,7 +40,7 @@ pub no_line_of_source : (policy : Policy) (s t : Name) (class : Class) (perm : P
 no_line_of_source policy s t class perm h =
     rw (
       lines_of policy s t class perm policy,
-      none_found (λ (r : ℕ × Rule). access.covers policy s t class perm r.1) (allow_rules policy)
+      none_found (λ (r : ℕ × Rule). access.covers policy s t class perm r.1) (rules_in Allow policy)
           (λ r. rw (no_source policy s t r.1 h) refl),
     ) refl
 
@@ -48,6 +49,6 @@ pub no_line_of_target : (policy : Policy) (s t : Name) (class : Class) (perm : P
 no_line_of_target policy s t class perm h =
     rw (
       lines_of policy s t class perm policy,
-      none_found (λ (r : ℕ × Rule). access.covers policy s t class perm r.1) (allow_rules policy)
+      none_found (λ (r : ℕ × Rule). access.covers policy s t class perm r.1) (rules_in Allow policy)
           (λ r. rw (no_target policy s t r.1 h) refl),
     ) refl

@@ -8,9 +8,10 @@ use Rattle.sm_kinds.specs.declared.perms.Perms.{Perms}
 use Rattle.sm_ruletext.specs.Sets.{selects}
 use Rattle.sm_ruletext.specs.declared.set.Set.{Set}
 use Rattle.sm_ruletext.specs.declared.rule.Rule.{Rule}
+use Rattle.sm_ruletext.specs.declared.statement.RuleKind.{RuleKind}
+use Rattle.sm_ruletext.specs.declared.statement.RuleKind.TheVariants.{Allow, Neverallow, Dontaudit}
 use Rattle.sm_ruletext.specs.declared.statement.What.{What}
-use Rattle.sm_ruletext.specs.declared.statement.What.TheVariants.{Attribute, Declared, Member, Allow, Neverallow}
-use Rattle.sm_ruletext.specs.declared.statement.What.TheVariants.{Dontaudit, Permissive}
+use Rattle.sm_ruletext.specs.declared.statement.What.TheVariants as what
 use Rattle.sm_ruletext.specs.declared.statement.Statement.{Statement}
 use Rattle.sm_types.specs.Names.{Name}
 use Rattle.sm_types.specs.Denoting.{Policy, declares, in_set}
@@ -34,75 +35,51 @@ gives class perm rule = selects rule.class (class_word class) && picks rule.perm
 abbrev pub covers : Policy → Name → Name → Class → Perms → Rule → Bool
 covers policy s t class perm rule = joins policy s t rule && gives class perm rule
 
--- ---- what a policy source allows and forbids
+-- ---- what a policy source allows, forbids and silences
 
--- A statement's content allows an access.
-abbrev pub allowed_by : Policy → Name → Name → Class → Perms → What → Bool
-allowed_by policy s t class perm (Allow r) = covers policy s t class perm r
-allowed_by policy s t class perm (Neverallow r) = false
-allowed_by policy s t class perm (Dontaudit r) = false
-allowed_by policy s t class perm (Permissive n) = false
-allowed_by policy s t class perm (Attribute n) = false
-allowed_by policy s t class perm (Declared n names) = false
-allowed_by policy s t class perm (Member n names) = false
+-- This is the rule of a statement's content, if it is one of the kind.
+abbrev pub rule_of : What → RuleKind → Option Rule
+rule_of (what.Rule Allow r) Allow = Some r
+rule_of (what.Rule Neverallow r) Neverallow = Some r
+rule_of (what.Rule Dontaudit r) Dontaudit = Some r
+rule_of content kind = None
 
--- A statement allows an access.
-abbrev pub allows : Policy → Name → Name → Class → Perms → Statement → Bool
-allows policy s t class perm statement = allowed_by policy s t class perm statement.what
+-- There is a rule, and it covers an access.
+abbrev pub covered_by : Policy → Name → Name → Class → Perms → Option Rule → Bool
+covered_by policy s t class perm None = false
+covered_by policy s t class perm (Some r) = covers policy s t class perm r
+
+-- A statement is a rule of the kind that covers an access.
+abbrev pub covers_as : RuleKind → Policy → Name → Name → Class → Perms → Statement → Bool
+covers_as kind policy s t class perm statement = covered_by policy s t class perm (rule_of statement.what kind)
+
+-- Some rule of the kind covers the access.
+abbrev pub some_covers : RuleKind → Policy → Name → Name → Class → Perms → Bool
+some_covers kind policy s t class perm = list_any (covers_as kind policy s t class perm) policy
 
 -- Some allow rule grants the access.
 abbrev pub written : Policy → Name → Name → Class → Perms → Bool
-written policy s t class perm = list_any (allows policy s t class perm) policy
+written policy s t class perm = some_covers Allow policy s t class perm
 
 -- This is the line of the first allow rule that grants the access.
 abbrev pub written_line : Policy → Name → Name → Class → Perms → Option ℕ
-written_line policy s t class perm = option_map (λ st. st.line) (find (allows policy s t class perm) policy)
-
--- A statement's content forbids an access.
-abbrev pub forbidden_by : Policy → Name → Name → Class → Perms → What → Bool
-forbidden_by policy s t class perm (Neverallow r) = covers policy s t class perm r
-forbidden_by policy s t class perm (Allow r) = false
-forbidden_by policy s t class perm (Dontaudit r) = false
-forbidden_by policy s t class perm (Permissive n) = false
-forbidden_by policy s t class perm (Attribute n) = false
-forbidden_by policy s t class perm (Declared n names) = false
-forbidden_by policy s t class perm (Member n names) = false
-
--- A statement forbids an access.
-abbrev pub forbids : Policy → Name → Name → Class → Perms → Statement → Bool
-forbids policy s t class perm statement = forbidden_by policy s t class perm statement.what
+written_line policy s t class perm = option_map (λ st. st.line) (find (covers_as Allow policy s t class perm) policy)
 
 -- Some neverallow rule covers the access.
 abbrev pub forbidden : Policy → Name → Name → Class → Perms → Bool
-forbidden policy s t class perm = list_any (forbids policy s t class perm) policy
-
--- A statement's content silences an access.
-abbrev pub silenced_by : Policy → Name → Name → Class → Perms → What → Bool
-silenced_by policy s t class perm (Dontaudit r) = covers policy s t class perm r
-silenced_by policy s t class perm (Allow r) = false
-silenced_by policy s t class perm (Neverallow r) = false
-silenced_by policy s t class perm (Permissive n) = false
-silenced_by policy s t class perm (Attribute n) = false
-silenced_by policy s t class perm (Declared n names) = false
-silenced_by policy s t class perm (Member n names) = false
-
--- A statement silences an access.
-abbrev pub silences : Policy → Name → Name → Class → Perms → Statement → Bool
-silences policy s t class perm statement = silenced_by policy s t class perm statement.what
+forbidden policy s t class perm = some_covers Neverallow policy s t class perm
 
 -- Some dontaudit rule covers the access.
 abbrev pub silenced : Policy → Name → Name → Class → Perms → Bool
-silenced policy s t class perm = list_any (silences policy s t class perm) policy
+silenced policy s t class perm = some_covers Dontaudit policy s t class perm
 
 -- A statement's content makes type s permissive.
 abbrev pub names_permissive : Name → What → Bool
-names_permissive s (Permissive n) = bytes_eq s n
-names_permissive s (Allow r) = false
-names_permissive s (Neverallow r) = false
-names_permissive s (Dontaudit r) = false
-names_permissive s (Attribute n) = false
-names_permissive s (Declared n names) = false
-names_permissive s (Member n names) = false
+names_permissive s (what.Permissive n) = bytes_eq s n
+names_permissive s (what.Rule kind r) = false
+names_permissive s (what.Attribute n) = false
+names_permissive s (what.Declared n names) = false
+names_permissive s (what.Member n names) = false
 
 -- Some statement makes the type permissive.
 abbrev pub is_permissive : Policy → Name → Bool

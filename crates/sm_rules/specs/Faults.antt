@@ -8,8 +8,7 @@ use Rattle.sm_ruletext.specs.Sets.{selects, is_kept}
 use Rattle.sm_ruletext.specs.declared.set.Set.{Set}
 use Rattle.sm_ruletext.specs.declared.rule.Rule.{Rule}
 use Rattle.sm_ruletext.specs.declared.statement.What.{What}
-use Rattle.sm_ruletext.specs.declared.statement.What.TheVariants.{Attribute, Declared, Member, Allow, Neverallow}
-use Rattle.sm_ruletext.specs.declared.statement.What.TheVariants.{Dontaudit, Permissive}
+use Rattle.sm_ruletext.specs.declared.statement.What.TheVariants as what
 use Rattle.sm_ruletext.specs.declared.statement.Statement.{Statement}
 use Rattle.sm_types.specs.Names.{Name}
 use Rattle.sm_types.specs.Denoting.{Policy, declares, all_known}
@@ -52,13 +51,11 @@ permissive_fault policy line name = if declares policy name then None else Some 
 
 -- This is the fault of a statement's content.
 abbrev pub fault_of : Policy → ℕ → What → Option RulesFault
-fault_of policy line (Allow r) = fault_if_kept policy line r
-fault_of policy line (Neverallow r) = fault_if_kept policy line r
-fault_of policy line (Dontaudit r) = fault_if_kept policy line r
-fault_of policy line (Permissive n) = permissive_fault policy line n
-fault_of policy line (Attribute n) = None
-fault_of policy line (Declared n names) = None
-fault_of policy line (Member n names) = None
+fault_of policy line (what.Rule kind r) = fault_if_kept policy line r
+fault_of policy line (what.Permissive n) = permissive_fault policy line n
+fault_of policy line (what.Attribute n) = None
+fault_of policy line (what.Declared n names) = None
+fault_of policy line (what.Member n names) = None
 
 -- This is the first fault of these statements of the policy, in their order.
 unfoldable pub fault_among : Policy → List Statement → Option RulesFault

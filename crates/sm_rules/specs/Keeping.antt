@@ -1,7 +1,7 @@
 -- Kept rules: types as numbers, permissions as bits.
 use Rattle.std.specs.Prelude.{◌≡◌, ℕ, Bool, true, ◌&&◌, ◌||◌, ◌==◌, ◌<◌, ◌≤◌, ◌+◌, ◌/◌, ◌^◌, nat_eq, nat_lt, false}
 use Rattle.std.specs.Prelude.{if◌then◌else◌, List, [], ◌∷◌, ◌++◌, length, find, option_map, slice_get, Option, Some}
-use Rattle.std.specs.Prelude.{None, All}
+use Rattle.std.specs.Prelude.{None, All, option_and_then}
 use Rattle.std.specs.List.{list_any, filter_map}
 use Rattle.sm_bits.specs.Bits.{has, has_bit}
 use Rattle.sm_kinds.specs.Permissions.{bit}
@@ -10,13 +10,14 @@ use Rattle.sm_kinds.specs.declared.class.Class.TheVariants.{ServiceManager, Bind
 use Rattle.sm_kinds.specs.declared.perms.Perms.{Perms}
 use Rattle.sm_ruletext.specs.Sets.{is_kept}
 use Rattle.sm_ruletext.specs.declared.rule.Rule.{Rule}
+use Rattle.sm_ruletext.specs.declared.statement.RuleKind.{RuleKind}
+use Rattle.sm_ruletext.specs.declared.statement.RuleKind.TheVariants.{Allow, Neverallow, Dontaudit}
 use Rattle.sm_ruletext.specs.declared.statement.What.{What}
-use Rattle.sm_ruletext.specs.declared.statement.What.TheVariants.{Attribute, Declared, Member, Allow, Neverallow}
-use Rattle.sm_ruletext.specs.declared.statement.What.TheVariants.{Dontaudit, Permissive}
+use Rattle.sm_ruletext.specs.declared.statement.Statement.{Statement}
 use Rattle.sm_types.specs.Names.{Name, at, Distinct}
 use Rattle.sm_types.specs.Denoting.{Policy, in_set, declares, types}
 use Rattle.sm_rules.specs.Access as access
-use Rattle.sm_rules.specs.Access.{gives, is_permissive, names_permissive}
+use Rattle.sm_rules.specs.Access.{rule_of, gives, is_permissive, names_permissive}
 use Rattle.sm_rules.specs.declared.kept.Kept.{Kept}
 
 -- ---- permissions by number, from 0 to 6, in the order of their bits
@@ -79,47 +80,19 @@ pub record IsSound (count : ℕ) (allows neverallows silences : List Kept) (perm
 abbrev pub kept_only : ℕ → Rule → Option (ℕ × Rule)
 kept_only line rule = if is_kept rule then Some (line, rule) else None
 
--- This is the kept allow rule of a statement, with its line.
-abbrev pub allow_in : ℕ → What → Option (ℕ × Rule)
-allow_in line (Allow r) = kept_only line r
-allow_in line (Neverallow r) = None
-allow_in line (Dontaudit r) = None
-allow_in line (Permissive n) = None
-allow_in line (Attribute n) = None
-allow_in line (Declared n names) = None
-allow_in line (Member n names) = None
+-- This is the kept rule of a statement, with its line, if it is one of the kind.
+abbrev pub rule_in : RuleKind → Statement → Option (ℕ × Rule)
+rule_in kind statement = option_and_then (kept_only statement.line) (rule_of statement.what kind)
 
--- This is the kept neverallow rule of a statement, with its line.
-abbrev pub neverallow_in : ℕ → What → Option (ℕ × Rule)
-neverallow_in line (Neverallow r) = kept_only line r
-neverallow_in line (Allow r) = None
-neverallow_in line (Dontaudit r) = None
-neverallow_in line (Permissive n) = None
-neverallow_in line (Attribute n) = None
-neverallow_in line (Declared n names) = None
-neverallow_in line (Member n names) = None
+-- These are the kept rules of the kind in a source, each with its line.
+abbrev pub rules_in : RuleKind → Policy → List (ℕ × Rule)
+rules_in kind policy = filter_map (rule_in kind) policy
 
--- This is the kept dontaudit rule of a statement, with its line.
-abbrev pub dontaudit_in : ℕ → What → Option (ℕ × Rule)
-dontaudit_in line (Dontaudit r) = kept_only line r
-dontaudit_in line (Allow r) = None
-dontaudit_in line (Neverallow r) = None
-dontaudit_in line (Permissive n) = None
-dontaudit_in line (Attribute n) = None
-dontaudit_in line (Declared n names) = None
-dontaudit_in line (Member n names) = None
-
--- These are the kept allow rules of a source, each with its line.
-abbrev pub allow_rules : Policy → List (ℕ × Rule)
-allow_rules policy = filter_map (λ st. allow_in st.line st.what) policy
-
--- These are its kept neverallow rules.
-abbrev pub neverallow_rules : Policy → List (ℕ × Rule)
-neverallow_rules policy = filter_map (λ st. neverallow_in st.line st.what) policy
-
--- These are its kept dontaudit rules.
-abbrev pub dontaudit_rules : Policy → List (ℕ × Rule)
-dontaudit_rules policy = filter_map (λ st. dontaudit_in st.line st.what) policy
+-- This is one of three lists, those of the allow, the neverallow and the dontaudit rules.
+abbrev pub list_of : RuleKind → List Kept → List Kept → List Kept → List Kept
+list_of Allow allows neverallows silences = allows
+list_of Neverallow allows neverallows silences = neverallows
+list_of Dontaudit allows neverallows silences = silences
 
 -- A kept rule says of the types by number what a rule of the policy says of them by name.
 pub record StandsFor (policy : Policy) (names : List Name) (written : ℕ × Rule) (kept : Kept) : Type 0 where
@@ -171,14 +144,27 @@ pub record KeptRules : Type 0 where
   pub silences : List Kept
   pub permissive : List ℕ
 
+-- These are the kept rules of the kind.
+abbrev pub of_kind : RuleKind → KeptRules → List Kept
+of_kind kind rules = list_of kind rules.allows rules.neverallows rules.silences
+
 -- The rules are those of the policy, whose types have these names.
 pub record RulesOf (policy : Policy) (names : List Name) (rules : KeptRules) : Type 0 where
   pub types : names ≡ types policy
   pub distinct : Distinct names
   pub count : rules.count ≡ length names
-  pub allows : AllStandFor policy names (allow_rules policy) rules.allows
-  pub neverallows : AllStandFor policy names (neverallow_rules policy) rules.neverallows
-  pub silences : AllStandFor policy names (dontaudit_rules policy) rules.silences
+  pub kept : (kind : RuleKind) → AllStandFor policy names (rules_in kind policy) (of_kind kind rules)
   pub permissive : SaysPermissive policy names rules.permissive
   pub permissive_declared : (s : Name) → is_permissive policy s ≡ true → declares policy s ≡ true
   pub declared : (i : ℕ) → i < length names → declares policy (at names i) ≡ true
+
+-- Whatever policy the rules are of, each kept one says what its rule of the kind at the same index says.
+abbrev pub SayAs : RuleKind → KeptRules → List Kept → Type 0
+SayAs kind rules kept = (policy : Policy) (names : List Name) → RulesOf policy names rules
+    → AllSay policy names (rules_in kind policy) kept
+
+-- Whatever policy the rules are of, the kept ones cover by number what its rules of the kind cover by name.
+abbrev pub CoverAs : RuleKind → KeptRules → List Kept → Type 0
+CoverAs kind rules kept = (policy : Policy) (names : List Name) → RulesOf policy names rules → (b s t : ℕ)
+    → b < 7 → s < length names → t < length names
+    → covered kept b s t ≡ access.some_covers kind policy (at names s) (at names t) (class_at b) (perm_at b)

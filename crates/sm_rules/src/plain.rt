@@ -3,11 +3,12 @@
 ghost use Rattle.std.specs.Prelude.{◌≡◌, option_map};
 ghost use Rattle.std.specs.List.{list_any};
 ghost use Rattle.sm_kinds.specs.Permissions.{perm_of};
+ghost use Rattle.sm_ruletext.specs.declared.statement.RuleKind.TheVariants as kind;
 ghost use Rattle.sm_types.specs.Denoting as denoting;
 ghost use Rattle.sm_rules.specs.Access as spec;
 
 use sm_kinds::{Class, Names, Perms};
-use sm_ruletext::{Rule, Set, Statement, What};
+use sm_ruletext::{Rule, RuleKind, Set, Statement, What};
 
 fn is_type_named(what: &What, name: &[u8]) -> bool
     ensures { result ≡ denoting.is_type_named name.now what.now }
@@ -134,10 +135,10 @@ fn allows(
     class: Class,
     perm: Perms,
 ) -> bool
-    ensures { result ≡ spec.allows statements.now source.now target.now class perm statement.now }
+    ensures { result ≡ spec.covers_as kind.Allow statements.now source.now target.now class perm statement.now }
 {
     match &statement.what {
-        What::Allow(rule) => covers(statements, rule, source, target, class, perm),
+        What::Rule(RuleKind::Allow, rule) => covers(statements, rule, source, target, class, perm),
         _ => false,
     }
 }

@@ -1,12 +1,13 @@
 //! The rules of a policy source.
 
 ghost use Rattle.std.specs.Prelude.{◌≡◌, ◌<◌, ◌≤◌, ◌+◌, ◌/◌, ◌^◌, ℕ, List, length, All, IfOk, IfErr, Some, None, false, option_map, slice_get};
+ghost use Rattle.sm_ruletext.specs.declared.statement.RuleKind.TheVariants as kind;
 ghost use Rattle.sm_ruletext.specs.declared.statement.Statement.{Statement as TheStatement};
 ghost use Rattle.sm_types.specs.Names.{at};
 ghost use Rattle.sm_types.specs.Members.{IsOf};
-ghost use Rattle.sm_rules.specs.Access.{written, written_line, forbidden, silenced, is_permissive};
+ghost use Rattle.sm_rules.specs.Access.{written_line, silenced, is_permissive};
 ghost use Rattle.sm_rules.specs.Faults.{UnlessMemory, first_fault};
-ghost use Rattle.sm_rules.specs.Keeping.{FitsRule, allow_rules, neverallow_rules, AllSay, class_at, perm_at, covered, covered_line, RulesOf};
+ghost use Rattle.sm_rules.specs.Keeping.{FitsRule, covered, covered_line, RulesOf, SayAs, CoverAs};
 
 use crate::RulesFault;
 use crate::draft::{Draft, all_rules};
@@ -129,17 +130,12 @@ impl Rules {
     }
 
     /// Returns the kept allow rules, in the order of the source.
+    #[tactic(auto, using(crate::proofs::Consistent::all_say, crate::proofs::Consistent::covered_is))]
     pub fn allows(&self) -> &[Kept]
         ensures kept { result.now ≡ self.now.allows }
         ensures fits { All (FitsRule self.now.count) result.now }
-        ensures said { (policy : List TheStatement) (names : List (List ℕ))
-            → RulesOf policy names self.now
-            → AllSay policy names (allow_rules policy) result.now }
-        ensures written { (policy : List TheStatement) (names : List (List ℕ))
-            → RulesOf policy names self.now → (b s t : ℕ)
-            → b < 7 → s < length names → t < length names
-            → covered result.now b s t
-            ≡ written policy (at names s) (at names t) (class_at b) (perm_at b) }
+        ensures said { SayAs kind.Allow self.now result.now }
+        ensures written { CoverAs kind.Allow self.now result.now }
     {
         &self.allows
     }
@@ -152,30 +148,22 @@ impl Rules {
     }
 
     /// Returns the kept neverallow rules, in the order of the source.
+    #[tactic(auto, using(crate::proofs::Consistent::all_say, crate::proofs::Consistent::covered_is))]
     pub fn neverallows(&self) -> &[Kept]
         ensures kept { result.now ≡ self.now.neverallows }
         ensures fits { All (FitsRule self.now.count) result.now }
-        ensures said { (policy : List TheStatement) (names : List (List ℕ))
-            → RulesOf policy names self.now
-            → AllSay policy names (neverallow_rules policy) result.now }
-        ensures forbidden { (policy : List TheStatement) (names : List (List ℕ))
-            → RulesOf policy names self.now → (b s t : ℕ)
-            → b < 7 → s < length names → t < length names
-            → covered result.now b s t
-            ≡ forbidden policy (at names s) (at names t) (class_at b) (perm_at b) }
+        ensures said { SayAs kind.Neverallow self.now result.now }
+        ensures forbidden { CoverAs kind.Neverallow self.now result.now }
     {
         &self.neverallows
     }
 
     /// Returns the kept dontaudit rules, in the order of the source.
+    #[tactic(auto, using(crate::proofs::Consistent::covered_is))]
     pub fn silences(&self) -> &[Kept]
         ensures kept { result.now ≡ self.now.silences }
         ensures fits { All (FitsRule self.now.count) result.now }
-        ensures silenced { (policy : List TheStatement) (names : List (List ℕ))
-            → RulesOf policy names self.now → (b s t : ℕ)
-            → b < 7 → s < length names → t < length names
-            → covered result.now b s t
-            ≡ silenced policy (at names s) (at names t) (class_at b) (perm_at b) }
+        ensures silenced { CoverAs kind.Dontaudit self.now result.now }
     {
         &self.silences
     }

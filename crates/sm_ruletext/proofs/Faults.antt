@@ -242,9 +242,7 @@ what_only line word.Typeattribute ts h =
     (λ name. bind_only line (name_at line name.1) _ (name_only line name.1)
     (λ first. bind_only line (names_at line (first.0 ∷ []) first.1) _ (names_only line (first.0 ∷ []) first.1)
     (λ names. tt)))
-what_only line word.Allow ts h = bind_only line (rule_at line ts) _ (rule_only line ts) (λ rule. tt)
-what_only line word.Neverallow ts h = bind_only line (rule_at line ts) _ (rule_only line ts) (λ rule. tt)
-what_only line word.Dontaudit ts h = bind_only line (rule_at line ts) _ (rule_only line ts) (λ rule. tt)
+what_only line (word.Rule kind) ts h = bind_only line (rule_at line ts) _ (rule_only line ts) (λ rule. tt)
 what_only line word.Permissive ts h =
     bind_only line (name_at line ts) _ (name_only line ts)
     (λ name. bind_only line (semicolon_at line name.1) _ (semicolon_only line name.1) (λ end. tt))
@@ -262,9 +260,7 @@ unknown_or : (k : Keyword) → (k ≡ word.Unknown) ⊎ (k ≡ word.Unknown → 
 unknown_or word.Attribute = inr (λ h. cc)
 unknown_or word.Types = inr (λ h. cc)
 unknown_or word.Typeattribute = inr (λ h. cc)
-unknown_or word.Allow = inr (λ h. cc)
-unknown_or word.Neverallow = inr (λ h. cc)
-unknown_or word.Dontaudit = inr (λ h. cc)
+unknown_or (word.Rule kind) = inr (λ h. cc)
 unknown_or word.Permissive = inr (λ h. cc)
 unknown_or word.Skipped = inr (λ h. cc)
 unknown_or word.Unknown = inl refl

@@ -9,6 +9,7 @@ use Rattle.sm_ruletext.specs.declared.token.Kind.TheVariants.{Dash, Other}
 use Rattle.sm_ruletext.specs.declared.fault.RuleTextFault.TheVariants.{Syntax, TooLarge}
 use Rattle.sm_ruletext.specs.declared.set.Set.{Set}
 use Rattle.sm_ruletext.specs.declared.rule.Rule.{Rule}
+use Rattle.sm_ruletext.specs.declared.statement.RuleKind.{RuleKind}
 use Rattle.sm_ruletext.specs.declared.statement.What.{What}
 use Rattle.sm_ruletext.specs.declared.statement.What.TheVariants as what
 use Rattle.sm_ruletext.specs.declared.statement.Statement.{Statement}
@@ -68,9 +69,7 @@ what_again line l _ _ us _ (SpellsStatement.member n m w a ts names h g s) =
       name_again line m a (ts ++ (l, Semicolon) ∷ us) g,
       names_again line l (a ∷ []) names ts us s,
     ) refl
-what_again line l _ _ us _ (SpellsStatement.allow ts r s) = rw (rule_again line ts us l r s) refl
-what_again line l _ _ us _ (SpellsStatement.neverallow ts r s) = rw (rule_again line ts us l r s) refl
-what_again line l _ _ us _ (SpellsStatement.dontaudit ts r s) = rw (rule_again line ts us l r s) refl
+what_again line l _ _ us _ (SpellsStatement.rule kind ts r s) = rw (rule_again line ts us l r s) refl
 what_again line l _ _ us _ (SpellsStatement.permissive n w h) = rw (name_again line n w ((l, Semicolon) ∷ us) h) refl
 what_again line l _ _ us _ (SpellsStatement.skipped ts h) = rw (skipped_again line l ts us h) refl
 
@@ -97,8 +96,8 @@ named w ts = Ok (Some w, ts)
 abbrev nothing : Tokens → Read (Option What)
 nothing ts = Ok (None, ts)
 
-abbrev rule_made : (Rule → What) → Rule × Tokens → Read (Option What)
-rule_made make r = Ok (cond (is_kept r.0) (Some (make r.0)) None, r.1)
+abbrev rule_made : RuleKind → Rule × Tokens → Read (Option What)
+rule_made kind r = Ok (cond (is_kept r.0) (Some (what.Rule kind r.0)) None, r.1)
 
 abbrev pub placed : List Statement → Tokens → Read (List Statement)
 placed sts ts = Ok (sts, ts)
@@ -281,17 +280,6 @@ ends_as : (line : ℕ) (k : Keyword) (ts us vs : Tokens) (w x : Option What)
     → Ends (λ bs. SpellsStatement line k bs w) ts us → w ≡ x → us ≡ vs → Ends (λ bs. SpellsStatement line k bs x) ts vs
 ends_as line k ts us vs w x r e f = rw (← e, ← f) r
 
-rule_statement : (line : ℕ) (k : Keyword) (make : Rule → What) (ts us : Tokens) (w : Option What)
-    → ((bs : Tokens) (r : Rule) → SpellsRule line bs r
-    → SpellsStatement line k bs (cond (is_kept r) (Some (make r)) None))
-    → (rule_at line ts >>= rule_made make) ≡ Ok (w, us) → Ends (λ vs. SpellsStatement line k vs w) ts us
-rule_statement line k make ts us w spells e =
-    let a = went_well (rule_at line ts) (rule_made make) (w, us) e in
-    let p = ok_parts (cond (is_kept a.0.0) (Some (make a.0.0)) None) w a.0.1 us a.2 in
-    let r = rule_taken line ts a.0.1 a.0.0 a.1 in
-    ends_as line k ts a.0.1 us (cond (is_kept a.0.0) (Some (make a.0.0)) None) w
-    (record { vs = r.vs; l = r.l; parts = r.parts; spelled = spells r.vs a.0.0 r.spelled }) p.0 p.1
-
 pub what_taken : (line : ℕ) (k : Keyword) (ts us : Tokens) (w : Option What) → what_at line k ts ≡ Ok (w, us)
     → Ends (λ vs. SpellsStatement line k vs w) ts us
 unfolding what_at
@@ -341,12 +329,13 @@ what_taken line word.Typeattribute ts us w e =
           (tf.1 ∙ ap (λ (x : Tokens). (tf.0, Word f.0.0) ∷ x) tb.2.parts);
       spelled = SpellsStatement.member ta.0 tf.0 a.0.0 f.0.0 tb.2.vs tb.0 ta.2 tf.2 tb.2.spelled;
     }) (ap (λ (x : List (List ℕ)). Some (what.Member a.0.0 x)) (sym tb.1) ∙ p.0) p.1
-what_taken line word.Allow ts us w e =
-    rule_statement line word.Allow what.Allow ts us w (λ bs r s. SpellsStatement.allow bs r s) e
-what_taken line word.Neverallow ts us w e =
-    rule_statement line word.Neverallow what.Neverallow ts us w (λ bs r s. SpellsStatement.neverallow bs r s) e
-what_taken line word.Dontaudit ts us w e =
-    rule_statement line word.Dontaudit what.Dontaudit ts us w (λ bs r s. SpellsStatement.dontaudit bs r s) e
+what_taken line (word.Rule kind) ts us w e =
+    let a = went_well (rule_at line ts) (rule_made kind) (w, us) e in
+    let made : Option What = cond (is_kept a.0.0) (Some (what.Rule kind a.0.0)) None in
+    let p = ok_parts made w a.0.1 us a.2 in
+    let r = rule_taken line ts a.0.1 a.0.0 a.1 in
+    ends_as line (word.Rule kind) ts a.0.1 us made w
+    (record { vs = r.vs; l = r.l; parts = r.parts; spelled = SpellsStatement.rule kind r.vs a.0.0 r.spelled }) p.0 p.1
 what_taken line word.Permissive ts us w e =
     let a = went_well (name_at line ts)
     (λ name. semicolon_at line name.1 >>= λ end. named (what.Permissive name.0) end.1) (w, us) e in

@@ -10,6 +10,7 @@ use Rattle.sm_ruletext.specs.declared.fault.RuleTextFault.TheVariants.{Memory, T
 use Rattle.sm_ruletext.specs.declared.items.Items.{Items}
 use Rattle.sm_ruletext.specs.declared.set.Set.{Set}
 use Rattle.sm_ruletext.specs.declared.rule.Rule.{Rule}
+use Rattle.sm_ruletext.specs.declared.statement.RuleKind.{RuleKind}
 use Rattle.sm_ruletext.specs.declared.statement.What.{What}
 use Rattle.sm_ruletext.specs.declared.statement.What.TheVariants as what
 use Rattle.sm_ruletext.specs.declared.statement.Statement.{Statement}
@@ -80,12 +81,8 @@ pub data SpellsStatement (line : ℕ) : Keyword → Tokens → Option What → T
   member : (l m : ℕ) (w a : List ℕ) (ts : Tokens) (names : List (List ℕ)) → is_self w ≡ false → is_self a ≡ false
       → SpellsNames ts names
       → SpellsStatement line word.Typeattribute ((l, Word w) ∷ (m, Word a) ∷ ts) (Some (what.Member w (a ∷ names)))
-  allow : (ts : Tokens) (r : Rule) → SpellsRule line ts r
-      → SpellsStatement line word.Allow ts (if is_kept r then Some (what.Allow r) else None)
-  neverallow : (ts : Tokens) (r : Rule) → SpellsRule line ts r
-      → SpellsStatement line word.Neverallow ts (if is_kept r then Some (what.Neverallow r) else None)
-  dontaudit : (ts : Tokens) (r : Rule) → SpellsRule line ts r
-      → SpellsStatement line word.Dontaudit ts (if is_kept r then Some (what.Dontaudit r) else None)
+  rule : (kind : RuleKind) (ts : Tokens) (r : Rule) → SpellsRule line ts r
+      → SpellsStatement line (word.Rule kind) ts (if is_kept r then Some (what.Rule kind r) else None)
   permissive : (l : ℕ) (w : List ℕ) → is_self w ≡ false
       → SpellsStatement line word.Permissive ((l, Word w) ∷ []) (Some (what.Permissive w))
   skipped : (ts : Tokens) → HasNoSemicolon ts → SpellsStatement line word.Skipped ts None

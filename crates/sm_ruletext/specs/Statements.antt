@@ -38,15 +38,9 @@ what_at line word.Typeattribute ts = do
   first ← name_at line name.1
   names ← names_at line (first.0 ∷ []) first.1
   Ok (Some (what.Member name.0 names.0), names.1)
-what_at line word.Allow ts = do
+what_at line (word.Rule kind) ts = do
   rule ← rule_at line ts
-  Ok (if is_kept rule.0 then Some (what.Allow rule.0) else None, rule.1)
-what_at line word.Neverallow ts = do
-  rule ← rule_at line ts
-  Ok (if is_kept rule.0 then Some (what.Neverallow rule.0) else None, rule.1)
-what_at line word.Dontaudit ts = do
-  rule ← rule_at line ts
-  Ok (if is_kept rule.0 then Some (what.Dontaudit rule.0) else None, rule.1)
+  Ok (if is_kept rule.0 then Some (what.Rule kind rule.0) else None, rule.1)
 what_at line word.Permissive ts = do
   name ← name_at line ts
   end ← semicolon_at line name.1
@@ -61,9 +55,7 @@ abbrev pub is_rule : What → Bool
 is_rule (what.Attribute n) = false
 is_rule (what.Declared n ns) = false
 is_rule (what.Member n ns) = false
-is_rule (what.Allow r) = true
-is_rule (what.Neverallow r) = true
-is_rule (what.Dontaudit r) = true
+is_rule (what.Rule kind r) = true
 is_rule (what.Permissive n) = false
 
 -- This is the number of rules.

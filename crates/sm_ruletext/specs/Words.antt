@@ -2,8 +2,9 @@
 use Rattle.std.specs.Prelude.{ℕ, Bool, ◌||◌, if◌then◌else◌, List, codes}
 use Rattle.std.specs.Str.{bytes_eq}
 use Rattle.sm_ruletext.specs.declared.keyword.Keyword.{Keyword}
-use Rattle.sm_ruletext.specs.declared.keyword.Keyword.TheVariants.{Attribute, Types, Typeattribute, Allow, Neverallow}
-use Rattle.sm_ruletext.specs.declared.keyword.Keyword.TheVariants.{Dontaudit, Permissive, Skipped, Unknown}
+use Rattle.sm_ruletext.specs.declared.keyword.Keyword.TheVariants.{Attribute, Types, Typeattribute, Rule, Permissive}
+use Rattle.sm_ruletext.specs.declared.keyword.Keyword.TheVariants.{Skipped, Unknown}
+use Rattle.sm_ruletext.specs.declared.statement.RuleKind.TheVariants.{Allow, Neverallow, Dontaudit}
 
 -- A word is `self`.
 abbrev pub is_self : List ℕ → Bool
@@ -23,9 +24,9 @@ keyword_of w =
     if bytes_eq w (codes "attribute") then Attribute
     else if bytes_eq w (codes "type") then Types
     else if bytes_eq w (codes "typeattribute") then Typeattribute
-    else if bytes_eq w (codes "allow") then Allow
-    else if bytes_eq w (codes "neverallow") then Neverallow
-    else if bytes_eq w (codes "dontaudit") then Dontaudit
+    else if bytes_eq w (codes "allow") then Rule Allow
+    else if bytes_eq w (codes "neverallow") then Rule Neverallow
+    else if bytes_eq w (codes "dontaudit") then Rule Dontaudit
     else if bytes_eq w (codes "permissive") then Permissive
     else if is_skipped w then Skipped
     else Unknown

@@ -3,6 +3,7 @@
 ghost use Rattle.std.specs.Prelude.{◌≡◌};
 ghost use Rattle.sm_ruletext.specs.Words as spec;
 
+use crate::RuleKind;
 use sm_kinds::spells;
 
 /// The kind of a statement, by its first word.
@@ -11,9 +12,7 @@ pub enum Keyword {
     Attribute,
     Types,
     Typeattribute,
-    Allow,
-    Neverallow,
-    Dontaudit,
+    Rule(RuleKind),
     Permissive,
     Skipped,
     Unknown,
@@ -51,11 +50,11 @@ pub fn keyword_of(word: &[u8]) -> Keyword
     } else if spells(word, b"typeattribute") {
         Keyword::Typeattribute
     } else if spells(word, b"allow") {
-        Keyword::Allow
+        Keyword::Rule(RuleKind::Allow)
     } else if spells(word, b"neverallow") {
-        Keyword::Neverallow
+        Keyword::Rule(RuleKind::Neverallow)
     } else if spells(word, b"dontaudit") {
-        Keyword::Dontaudit
+        Keyword::Rule(RuleKind::Dontaudit)
     } else if spells(word, b"permissive") {
         Keyword::Permissive
     } else if is_skipped(word) {

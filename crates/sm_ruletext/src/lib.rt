@@ -22,5 +22,5 @@ pub use limits::MOST_RULES;
 pub use reading::read;
 pub use rule::Rule;
 pub use set::Set;
-pub use statement::{Statement, What};
+pub use statement::{RuleKind, Statement, What};
 pub use word::is_word;

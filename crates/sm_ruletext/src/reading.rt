@@ -13,7 +13,7 @@ use crate::keyword::{Keyword, keyword_of};
 use crate::statements::Statements;
 use crate::token::Kind;
 use crate::tokens::Tokens;
-use crate::{RuleTextFault, Statement, What, grammar};
+use crate::{RuleKind, RuleTextFault, Statement, What, grammar};
 use sm_kinds::{MOST_TEXT_BYTES, Names};
 use std::alloc::Global;
 
@@ -29,43 +29,20 @@ fn skipped(tokens: &mut Tokens, line: u32) -> Result<(), RuleTextFault>
     }
 }
 
-/// Reads what follows `allow`: nothing, if the rule isn't kept.
+/// Reads what follows the first word of a rule: nothing, if the rule isn't kept.
 #[tactic(auto, unfolding(crate::specs::Statements::what_at))]
-fn allow(alloc: Global, tokens: &mut Tokens, line: u32) -> Result<Option<What>, RuleTextFault>
-    ensures read { Reads (λ w. w) result tokens.new (spec.what_at line word.Allow tokens.old) }
+fn rule(
+    alloc: Global,
+    tokens: &mut Tokens,
+    line: u32,
+    kind: RuleKind,
+) -> Result<Option<What>, RuleTextFault>
+    ensures read { Reads (λ w. w) result tokens.new (spec.what_at line (word.Rule kind) tokens.old) }
     ensures fewer { OnOk result (length tokens.new ≤ length tokens.old) }
 {
     let rule = grammar::rule(alloc, tokens, line)?;
     if rule.is_kept() {
-        Ok(Some(What::Allow(rule)))
-    } else {
-        Ok(None)
-    }
-}
-
-/// Reads what follows `neverallow`: nothing, if the rule isn't kept.
-#[tactic(auto, unfolding(crate::specs::Statements::what_at))]
-fn neverallow(alloc: Global, tokens: &mut Tokens, line: u32) -> Result<Option<What>, RuleTextFault>
-    ensures read { Reads (λ w. w) result tokens.new (spec.what_at line word.Neverallow tokens.old) }
-    ensures fewer { OnOk result (length tokens.new ≤ length tokens.old) }
-{
-    let rule = grammar::rule(alloc, tokens, line)?;
-    if rule.is_kept() {
-        Ok(Some(What::Neverallow(rule)))
-    } else {
-        Ok(None)
-    }
-}
-
-/// Reads what follows `dontaudit`: nothing, if the rule isn't kept.
-#[tactic(auto, unfolding(crate::specs::Statements::what_at))]
-fn dontaudit(alloc: Global, tokens: &mut Tokens, line: u32) -> Result<Option<What>, RuleTextFault>
-    ensures read { Reads (λ w. w) result tokens.new (spec.what_at line word.Dontaudit tokens.old) }
-    ensures fewer { OnOk result (length tokens.new ≤ length tokens.old) }
-{
-    let rule = grammar::rule(alloc, tokens, line)?;
-    if rule.is_kept() {
-        Ok(Some(What::Dontaudit(rule)))
+        Ok(Some(What::Rule(kind, rule)))
     } else {
         Ok(None)
     }
@@ -100,9 +77,7 @@ fn what(
             let names = grammar::names(alloc, tokens, line, names)?;
             Ok(Some(What::Member(name, names)))
         }
-        Keyword::Allow => allow(alloc, tokens, line),
-        Keyword::Neverallow => neverallow(alloc, tokens, line),
-        Keyword::Dontaudit => dontaudit(alloc, tokens, line),
+        Keyword::Rule(kind) => rule(alloc, tokens, line, kind),
         Keyword::Permissive => {
             let name = grammar::name(alloc, tokens, line)?;
             grammar::semicolon(tokens, line)?;

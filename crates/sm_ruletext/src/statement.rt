@@ -3,6 +3,17 @@
 use crate::Rule;
 use sm_kinds::{Name, Names};
 
+/// The kind of a rule.
+#[derive(Clone, Copy, Debug, PartialEq, Eq)]
+pub enum RuleKind {
+    /// `allow SOURCE TARGET : CLASS PERM;`
+    Allow,
+    /// `neverallow SOURCE TARGET : CLASS PERM;`
+    Neverallow,
+    /// `dontaudit SOURCE TARGET : CLASS PERM;`
+    Dontaudit,
+}
+
 /// The content of a statement.
 #[derive(Debug, Drop)]
 pub enum What {
@@ -12,12 +23,8 @@ pub enum What {
     Declared(Name, Names),
     /// `typeattribute T A, ..;`
     Member(Name, Names),
-    /// `allow SOURCE TARGET : CLASS PERM;`
-    Allow(Rule),
-    /// `neverallow SOURCE TARGET : CLASS PERM;`
-    Neverallow(Rule),
-    /// `dontaudit SOURCE TARGET : CLASS PERM;`
-    Dontaudit(Rule),
+    /// An allow, a neverallow or a dontaudit rule.
+    Rule(RuleKind, Rule),
     /// `permissive T;`
     Permissive(Name),
 }
@@ -30,10 +37,7 @@ impl What {
     pub fn is_rule(&self) -> bool
         ensures { result ≡ is_rule self.now }
     {
-        matches!(
-            self,
-            What::Allow(_) | What::Neverallow(_) | What::Dontaudit(_)
-        )
+        matches!(self, What::Rule(_, _))
     }
 }
 

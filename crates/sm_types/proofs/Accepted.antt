@@ -11,8 +11,7 @@ use Rattle.std.proofs.lemmas.List.Quantifiers.{position-Some}
 use Rattle.sm_bits.specs.Bits.{has, row}
 use Rattle.std.proofs.lemmas.List.Folds.{list_any_at, list_any-append}
 use Rattle.sm_ruletext.specs.declared.statement.What.{What}
-use Rattle.sm_ruletext.specs.declared.statement.What.TheVariants.{Attribute, Declared, Member, Allow, Neverallow}
-use Rattle.sm_ruletext.specs.declared.statement.What.TheVariants.{Dontaudit, Permissive}
+use Rattle.sm_ruletext.specs.declared.statement.What.TheVariants.{Attribute, Declared, Member, Rule, Permissive}
 use Rattle.sm_ruletext.specs.declared.statement.Statement.{Statement}
 use Rattle.sm_types.specs.declared.TheConstants.{MOST_TYPES, MOST_ATTRIBUTES}
 use Rattle.sm_types.specs.declared.symbols.Symbols.{Symbols}
@@ -49,9 +48,7 @@ unlisted_what symbols word t none (Member n names) known =
     and_right (bytes_eq n t) (contains names word)
     (unlisted_names symbols word none names
     (and_parts (list_any (bytes_eq n) symbols.types) (all_attributes symbols names) known).1)
-unlisted_what symbols word t none (Allow r) known = refl
-unlisted_what symbols word t none (Neverallow r) known = refl
-unlisted_what symbols word t none (Dontaudit r) known = refl
+unlisted_what symbols word t none (Rule kind r) known = refl
 unlisted_what symbols word t none (Permissive n) known = refl
 
 unlisted_in : (symbols : Symbols) (word t : Name) → list_any (bytes_eq word) symbols.attributes ≡ false
@@ -110,11 +107,7 @@ step_names symbols next line (Declared n names) h =
     (rw (← e) refl, rw (← e) (sym (append-nil symbols.attributes)))
 step_names symbols next line (Member n names) h = let e : symbols ≡ next = cc h in
     (rw (← e) (sym (append-nil symbols.types)), rw (← e) (sym (append-nil symbols.attributes)))
-step_names symbols next line (Allow r) h = let e : symbols ≡ next = cc h in
-    (rw (← e) (sym (append-nil symbols.types)), rw (← e) (sym (append-nil symbols.attributes)))
-step_names symbols next line (Neverallow r) h = let e : symbols ≡ next = cc h in
-    (rw (← e) (sym (append-nil symbols.types)), rw (← e) (sym (append-nil symbols.attributes)))
-step_names symbols next line (Dontaudit r) h = let e : symbols ≡ next = cc h in
+step_names symbols next line (Rule kind r) h = let e : symbols ≡ next = cc h in
     (rw (← e) (sym (append-nil symbols.types)), rw (← e) (sym (append-nil symbols.attributes)))
 step_names symbols next line (Permissive n) h = let e : symbols ≡ next = cc h in
     (rw (← e) (sym (append-nil symbols.types)), rw (← e) (sym (append-nil symbols.attributes)))
@@ -155,9 +148,7 @@ step_apart symbols next line (Declared n names) h before =
     rw (← e) (apart_more symbols.types symbols.attributes n before
     (or_parts (list_any (bytes_eq n) symbols.types) (list_any (bytes_eq n) symbols.attributes) new).1)
 step_apart symbols next line (Member n names) h before = let e : symbols ≡ next = cc h in rw (← e) before
-step_apart symbols next line (Allow r) h before = let e : symbols ≡ next = cc h in rw (← e) before
-step_apart symbols next line (Neverallow r) h before = let e : symbols ≡ next = cc h in rw (← e) before
-step_apart symbols next line (Dontaudit r) h before = let e : symbols ≡ next = cc h in rw (← e) before
+step_apart symbols next line (Rule kind r) h before = let e : symbols ≡ next = cc h in rw (← e) before
 step_apart symbols next line (Permissive n) h before = let e : symbols ≡ next = cc h in rw (← e) before
 
 all_apart : (sts : List Statement) (symbols last : Symbols) → declared symbols sts ≡ Ok last
@@ -247,9 +238,7 @@ declares_type t (st ∷ sts) = by st.what (declares_type t sts) where
   by (Declared n names) h = rw (same_eq t n, h) refl
   by (Attribute n) h = h
   by (Member n names) h = h
-  by (Allow r) h = h
-  by (Neverallow r) h = h
-  by (Dontaudit r) h = h
+  by (Rule kind r) h = h
   by (Permissive n) h = h
 
 -- each type is in a declaration

@@ -6,8 +6,7 @@ use Rattle.std.specs.List.{list_any, list_all}
 use Rattle.std.specs.Str.{bytes_eq}
 use Rattle.sm_kinds.specs.Reading.{◌>>=◌}
 use Rattle.sm_ruletext.specs.declared.statement.What.{What}
-use Rattle.sm_ruletext.specs.declared.statement.What.TheVariants.{Attribute, Declared, Member, Allow, Neverallow}
-use Rattle.sm_ruletext.specs.declared.statement.What.TheVariants.{Dontaudit, Permissive}
+use Rattle.sm_ruletext.specs.declared.statement.What.TheVariants.{Attribute, Declared, Member, Rule, Permissive}
 use Rattle.sm_ruletext.specs.declared.statement.Statement.{Statement}
 use Rattle.sm_types.specs.declared.TheConstants.{MOST_TYPES, MOST_ATTRIBUTES}
 use Rattle.sm_types.specs.declared.symbols.Symbols.{Symbols}
@@ -55,9 +54,7 @@ unfoldable pub with_declaration : Symbols → ℕ → What → Step Symbols
 with_declaration symbols line (Attribute name) = with_attribute symbols line name
 with_declaration symbols line (Declared name names) = with_type symbols line name
 with_declaration symbols line (Member name names) = Ok symbols
-with_declaration symbols line (Allow rule) = Ok symbols
-with_declaration symbols line (Neverallow rule) = Ok symbols
-with_declaration symbols line (Dontaudit rule) = Ok symbols
+with_declaration symbols line (Rule kind rule) = Ok symbols
 with_declaration symbols line (Permissive n) = Ok symbols
 
 -- All statements are read in order.
@@ -76,9 +73,7 @@ abbrev pub members_known : Symbols → What → Bool
 members_known symbols (Declared name names) = all_attributes symbols names
 members_known symbols (Member name names) = list_any (bytes_eq name) symbols.types && all_attributes symbols names
 members_known symbols (Attribute name) = true
-members_known symbols (Allow rule) = true
-members_known symbols (Neverallow rule) = true
-members_known symbols (Dontaudit rule) = true
+members_known symbols (Rule kind rule) = true
 members_known symbols (Permissive n) = true
 
 -- This is the line of the first statement with a name that isn't.

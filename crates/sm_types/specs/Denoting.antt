@@ -6,8 +6,7 @@ use Rattle.std.specs.Str.{bytes_eq}
 use Rattle.sm_kinds.specs.Names.{contains}
 use Rattle.sm_ruletext.specs.declared.set.Set.{Set}
 use Rattle.sm_ruletext.specs.declared.statement.What.{What}
-use Rattle.sm_ruletext.specs.declared.statement.What.TheVariants.{Attribute, Declared, Member, Allow, Neverallow}
-use Rattle.sm_ruletext.specs.declared.statement.What.TheVariants.{Dontaudit, Permissive}
+use Rattle.sm_ruletext.specs.declared.statement.What.TheVariants.{Attribute, Declared, Member, Rule, Permissive}
 use Rattle.sm_ruletext.specs.declared.statement.Statement.{Statement}
 use Rattle.sm_types.specs.Names.{Name}
 
@@ -22,9 +21,7 @@ abbrev pub is_type_named : Name → What → Bool
 is_type_named t (Declared n names) = bytes_eq n t
 is_type_named t (Attribute n) = false
 is_type_named t (Member n names) = false
-is_type_named t (Allow r) = false
-is_type_named t (Neverallow r) = false
-is_type_named t (Dontaudit r) = false
+is_type_named t (Rule kind r) = false
 is_type_named t (Permissive n) = false
 
 -- A statement's content gives type t the attribute a.
@@ -32,9 +29,7 @@ abbrev pub gives_attribute : Name → Name → What → Bool
 gives_attribute t a (Declared n names) = bytes_eq n t && contains names a
 gives_attribute t a (Member n names) = bytes_eq n t && contains names a
 gives_attribute t a (Attribute n) = false
-gives_attribute t a (Allow r) = false
-gives_attribute t a (Neverallow r) = false
-gives_attribute t a (Dontaudit r) = false
+gives_attribute t a (Rule kind r) = false
 gives_attribute t a (Permissive n) = false
 
 -- Some statement declares the type.
@@ -73,9 +68,7 @@ abbrev pub type_of : What → Option Name
 type_of (Declared n names) = Some n
 type_of (Attribute n) = None
 type_of (Member n names) = None
-type_of (Allow r) = None
-type_of (Neverallow r) = None
-type_of (Dontaudit r) = None
+type_of (Rule kind r) = None
 type_of (Permissive n) = None
 
 -- These are the declared types, in the order of their declaration.
@@ -93,9 +86,7 @@ abbrev pub attribute_of : What → Option Name
 attribute_of (Attribute n) = Some n
 attribute_of (Declared n names) = None
 attribute_of (Member n names) = None
-attribute_of (Allow r) = None
-attribute_of (Neverallow r) = None
-attribute_of (Dontaudit r) = None
+attribute_of (Rule kind r) = None
 attribute_of (Permissive n) = None
 
 -- These are the declared attributes, in the order of their declaration.

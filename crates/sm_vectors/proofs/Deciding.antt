@@ -4,14 +4,14 @@ use Rattle.sm_bits.specs.Bits.{has, has_bit}
 use Rattle.sm_kinds.specs.Permissions.{perm_of}
 use Rattle.sm_kinds.specs.declared.class.Class.{Class}
 use Rattle.sm_kinds.specs.declared.perms.Perms.{Perms}
+use Rattle.sm_ruletext.specs.declared.statement.RuleKind.TheVariants.{Allow, Dontaudit}
 use Rattle.sm_types.specs.Names.{Name, at}
 use Rattle.sm_types.specs.Denoting.{Policy, declares}
 use Rattle.sm_rules.specs.Access.{is_permissive, allowed, audits}
 use Rattle.sm_rules.specs.Keeping.{class_at, perm_at}
-use Rattle.sm_rules.proofs.Consistent.{unsilenced}
+use Rattle.sm_rules.proofs.Consistent.{no_single}
 use Rattle.sm_vectors.specs.declared.decision.Decision.{Decision}
 use Rattle.sm_vectors.specs.Tables.{Tables, TablesOf, byte_at, decision}
-use Rattle.sm_vectors.proofs.Reading.{unwritten}
 
 -- permission b of the class
 abbrev pub IsNumber : ℕ → Class → Perms → Type 0
@@ -69,9 +69,9 @@ nowhere false d = refl
 pub other_allowed : (policy : Policy) (s t : Name) (class : Class) (perm : Perms) → perm_of class perm ≡ None
     → allowed policy s t class perm ≡ false
 other_allowed policy s t class perm none =
-    rw (unwritten policy s t class perm none, none) (nowhere (is_permissive policy s) (declares policy t))
+    rw (no_single Allow policy s t class perm none, none) (nowhere (is_permissive policy s) (declares policy t))
 
 pub other_audited : (policy : Policy) (s t : Name) (class : Class) (perm : Perms) → perm_of class perm ≡ None
     → audits policy s t class perm ≡ true
 other_audited policy s t class perm none =
-    rw (unwritten policy s t class perm none, unsilenced policy s t class perm none) refl
+    rw (no_single Allow policy s t class perm none, no_single Dontaudit policy s t class perm none) refl

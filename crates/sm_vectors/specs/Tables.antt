@@ -2,9 +2,11 @@
 use Rattle.std.specs.Prelude.{◌≡◌, ℕ, true, false, not, ◌<◌, if◌then◌else◌, List, length}
 use Rattle.std.proofs.Common.{get_or}
 use Rattle.sm_bits.specs.Bits.{row, has, has_bit}
+use Rattle.sm_ruletext.specs.declared.statement.RuleKind.{RuleKind}
+use Rattle.sm_ruletext.specs.declared.statement.RuleKind.TheVariants.{Allow, Dontaudit}
 use Rattle.sm_types.specs.Names.{Name, at}
 use Rattle.sm_types.specs.Denoting.{Policy, declares}
-use Rattle.sm_rules.specs.Access.{written, silenced}
+use Rattle.sm_rules.specs.Access.{some_covers}
 use Rattle.sm_rules.specs.Keeping.{class_at, perm_at, SaysPermissive}
 use Rattle.sm_vectors.specs.declared.decision.Decision.{Decision}
 
@@ -35,20 +37,15 @@ decision tables b s t =
     if has_bit (byte_at tables.written s t) b then record { allowed = true; audited = false }
     else record { allowed = has tables.permissive s; audited = not (has_bit (byte_at tables.silenced s t) b) }
 
--- The table says what the policy, whose types have these names, allows by its rules.
-pub record SaysWritten (policy : Policy) (names : List Name) (table : Table) : Type 0 where
+-- The table says what the rules of the kind cover in the policy, whose types have these names.
+pub record SaysCovered (kind : RuleKind) (policy : Policy) (names : List Name) (table : Table) : Type 0 where
   pub says : (b s t : ℕ) → b < 7 → s < length names → t < length names
-      → has_bit (byte_at table s t) b ≡ written policy (at names s) (at names t) (class_at b) (perm_at b)
-
--- The table says what the policy's dontaudit rules cover.
-pub record SaysSilenced (policy : Policy) (names : List Name) (table : Table) : Type 0 where
-  pub says : (b s t : ℕ) → b < 7 → s < length names → t < length names
-      → has_bit (byte_at table s t) b ≡ silenced policy (at names s) (at names t) (class_at b) (perm_at b)
+      → has_bit (byte_at table s t) b ≡ some_covers kind policy (at names s) (at names t) (class_at b) (perm_at b)
 
 -- The tables are those of the policy.
 pub record TablesOf (policy : Policy) (names : List Name) (tables : Tables) : Type 0 where
   pub count : tables.count ≡ length names
-  pub written : SaysWritten policy names tables.written
-  pub silenced : SaysSilenced policy names tables.silenced
+  pub written : SaysCovered Allow policy names tables.written
+  pub silenced : SaysCovered Dontaudit policy names tables.silenced
   pub permissive : SaysPermissive policy names tables.permissive
   pub declared : (i : ℕ) → i < length names → declares policy (at names i) ≡ true

@@ -2,9 +2,10 @@
 
 ghost use Rattle.std.specs.Prelude.{◌≡◌, ◌+◌, ◌/◌, ℕ, List, length, IfOk};
 ghost use Rattle.sm_bits.specs.Bits.{has};
+ghost use Rattle.sm_ruletext.specs.declared.statement.RuleKind.TheVariants as kind;
 ghost use Rattle.sm_ruletext.specs.declared.statement.Statement.{Statement as TheStatement};
 ghost use Rattle.sm_rules.specs.Keeping.{RulesOf};
-ghost use Rattle.sm_vectors.specs.Tables.{SaysSilenced};
+ghost use Rattle.sm_vectors.specs.Tables.{SaysCovered};
 
 use crate::Decision;
 use crate::byte_table::ByteTable;
@@ -19,7 +20,7 @@ use std::marker::Model;
 /// Compiles the bytes of the dontaudit rules.
 fn silenced_bytes(alloc: Global, rules: &Rules) -> Result<ByteTable, AllocError>
     ensures { IfOk result (λ table. (policy : List TheStatement) (names : List (List ℕ))
-        → RulesOf policy names rules.now → SaysSilenced policy names table) }
+        → RulesOf policy names rules.now → SaysCovered kind.Dontaudit policy names table) }
 {
     if rules.silences().is_empty() {
         return Ok(ByteTable::empty(alloc));
@@ -81,7 +82,7 @@ impl Vectors {
     ghost use Rattle.sm_types.specs.Names.{at};
     ghost use Rattle.sm_rules.specs.Access.{allowed, audits};
     ghost use Rattle.sm_rules.specs.Keeping.{RulesOf};
-    ghost use Rattle.sm_neverallow.specs.Matrices.{AllCompiled, SayWhatIsWritten};
+    ghost use Rattle.sm_neverallow.specs.Matrices.{AllCompiled, SayCovered};
     ghost use Rattle.sm_vectors.specs.Tables.{TablesOf, decision, refusal};
 
     /// Compiles the decisions of rules, `matrices` being those of the allow rules.
@@ -92,7 +93,7 @@ impl Vectors {
     pub fn compile(alloc: Global, rules: &Rules, matrices: &Matrices) -> Result<Vectors, AllocError>
         requires { AllCompiled rules.now.allows rules.now.count 7 matrices.now }
         ensures { IfOk result (λ vectors. (policy : List TheStatement) (names : List (List ℕ))
-            → RulesOf policy names rules.now → SayWhatIsWritten policy names matrices.now
+            → RulesOf policy names rules.now → SayCovered kind.Allow policy names matrices.now
             → TablesOf policy names vectors) }
     {
         let count = rules.type_count();

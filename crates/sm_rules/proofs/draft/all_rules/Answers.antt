@@ -4,8 +4,7 @@ use Rattle.std.proofs.lemmas.List.{drop_all, drop_more}
 use Rattle.sm_ruletext.specs.declared.statement.Statement.{Statement}
 use Rattle.sm_types.specs.Members.{IsOf}
 use Rattle.sm_rules.specs.Faults.{first_fault, fault_of}
-use Rattle.sm_rules.specs.Keeping.{allow_in, neverallow_in, dontaudit_in, allow_rules, neverallow_rules}
-use Rattle.sm_rules.specs.Keeping.{dontaudit_rules}
+use Rattle.sm_rules.specs.Keeping.{rule_in, rules_in, list_of}
 use Rattle.sm_rules.proofs.Standing.{picked_more, extended}
 use Rattle.sm_rules.proofs.Walks.{passed, stopped, none_left, unless_map}
 use Rattle.sm_rules.proofs.Permitting.{permitted_more}
@@ -23,17 +22,11 @@ loop-statement-preserved c =
     record {
       on = passed sts st (drop (i + 1) sts) (first_fault sts)
           (rw f at c.loop-statement.invariant.on) (c.in_ok-add_statement.ensures.accepted sts c.requires);
-      allowing = rw (picked_more (λ x. allow_in x.line x.what) sts i st (omega arith) c.statement-item.is)
-          (extended sts names (allow_rules (take i sts)) (allow_in st.line st.what) old.allows.items new.allows.items
-          c.loop-statement.invariant.allowing (c.in_ok-add_statement.ensures.allows sts c.requires));
-      forbidding = rw (picked_more (λ x. neverallow_in x.line x.what) sts i st (omega arith) c.statement-item.is)
-          (extended sts names (neverallow_rules (take i sts)) (neverallow_in st.line st.what) old.neverallows.items
-          new.neverallows.items c.loop-statement.invariant.forbidding
-          (c.in_ok-add_statement.ensures.neverallows sts c.requires));
-      silencing = rw (picked_more (λ x. dontaudit_in x.line x.what) sts i st (omega arith) c.statement-item.is)
-          (extended sts names (dontaudit_rules (take i sts)) (dontaudit_in st.line st.what) old.silences.items
-          new.silences.items c.loop-statement.invariant.silencing
-          (c.in_ok-add_statement.ensures.silences sts c.requires));
+      kept = λ kind. rw (picked_more (rule_in kind) sts i st (omega arith) c.statement-item.is)
+          (extended sts names (rules_in kind (take i sts)) (rule_in kind st)
+          (list_of kind old.allows.items old.neverallows.items old.silences.items)
+          (list_of kind new.allows.items new.neverallows.items new.silences.items)
+          (c.loop-statement.invariant.kept kind) (c.in_ok-add_statement.ensures.added sts c.requires kind));
       permissive = permitted_more names sts i st old.permissive new.permissive (omega arith) c.statement-item.is
           c.loop-statement.invariant.permissive (c.in_ok-add_statement.ensures.permissive sts c.requires);
       pool = rw c.add_statement.ensures.pool c.loop-statement.invariant.pool;

@@ -1,7 +1,8 @@
 use Rattle.std.proofs.Common.{◌∙◌, ap, sym}
+use Rattle.sm_ruletext.specs.declared.statement.RuleKind.TheVariants.{Dontaudit}
 use Rattle.sm_types.specs.Names.{at}
 use Rattle.sm_rules.specs.Keeping.{KeptRules}
-use Rattle.sm_rules.proofs.Consistent.{silenced_is, unsilenced}
+use Rattle.sm_rules.proofs.Consistent.{silenced_is, no_single}
 use Rattle.sm_rules.proofs.rules.Rules.silenced.Goals as goal
 
 pub returns-in-Some-clause-silenced : goal.returns-in-Some-clause-silenced
@@ -16,5 +17,5 @@ returns-in-Some-clause-silenced c policy names is hs ht =
 
 pub returns-in-None-clause-silenced : goal.returns-in-None-clause-silenced
 returns-in-None-clause-silenced c policy names is hs ht =
-    sym (unsilenced policy (at names c.args.source) (at names c.args.target) c.args.class c.args.perm
+    sym (no_single Dontaudit policy (at names c.args.source) (at names c.args.target) c.args.class c.args.perm
     c.in-None.ensures.none)
