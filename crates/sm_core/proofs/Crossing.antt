@@ -20,8 +20,8 @@ use Rattle.sm_core.proofs.client.ClientRow.TheSendSync as ClientRowCrosses
 use Rattle.sm_core.proofs.process.Process.TheSendSync as ProcessCrosses
 use Rattle.sm_core.specs.contracts.turns.Turns as Turns
 use Rattle.sm_core.proofs.turns.Turns.TheSendSync as TurnsCross
-use Rattle.sm_core.specs.contracts.people.People as People
-use Rattle.sm_core.specs.contracts.tally.Tally as Tally
+use Rattle.sm_core.specs.contracts.principals.Principals as Principals
+use Rattle.sm_core.specs.contracts.turn_counts.TurnCounts as TurnCounts
 use Rattle.sm_core.specs.contracts.journal.Journal as Journal
 use Rattle.sm_core.specs.contracts.view.View as View
 use Rattle.sm_core.specs.contracts.view.View.TheInside as ViewInside
@@ -62,26 +62,26 @@ turns_send = recorded_send _ _ _ Turns.the_type.to_one TurnsCross.the_field_send
 turns_sync : IsSync Turns.the_row
 turns_sync = recorded_sync _ _ _ Turns.the_type.to_one TurnsCross.the_field_sync
 
-people_send : IsSend People.the_row
-people_send =
-    recorded_send _ _ _ People.the_type.to_one
-    (struct_send (struct.shape People.the_type)
+principals_send : IsSend Principals.the_row
+principals_send =
+    recorded_send _ _ _ Principals.the_type.to_one
+    (struct_send (struct.shape Principals.the_type)
     (ProcessCrosses.the_field_send, (prepared_send, (u64_send, (Vec-send ClientRow.the_row client_send, tt)))))
 
-people_sync : IsSync People.the_row
-people_sync =
-    recorded_sync _ _ _ People.the_type.to_one
-    (struct_sync (struct.shape People.the_type)
+principals_sync : IsSync Principals.the_row
+principals_sync =
+    recorded_sync _ _ _ Principals.the_type.to_one
+    (struct_sync (struct.shape Principals.the_type)
     (ProcessCrosses.the_field_sync, (prepared_sync, (u64_sync, (Vec-sync ClientRow.the_row client_sync, tt)))))
 
-tally_send : IsSend Tally.the_field.row
-tally_send =
-    struct_send (struct.shape Tally.the_type)
+turn_counts_send : IsSend TurnCounts.the_field.row
+turn_counts_send =
+    struct_send (struct.shape TurnCounts.the_type)
     (Arc-send Turns.the_row turns_send turns_sync, (Vec-send TurnRow.the_row turn_row_send, tt))
 
-tally_sync : IsSync Tally.the_field.row
-tally_sync =
-    struct_sync (struct.shape Tally.the_type)
+turn_counts_sync : IsSync TurnCounts.the_field.row
+turn_counts_sync =
+    struct_sync (struct.shape TurnCounts.the_type)
     (Arc-sync Turns.the_row turns_send turns_sync, (Vec-sync TurnRow.the_row turn_row_sync, tt))
 
 journal_send : IsSend (Snapshot.the_row Journal.the_row)
@@ -113,8 +113,8 @@ view_send =
         (
           u64_send,
           (
-            Arc-send People.the_row people_send people_sync,
-            (services_send, (tally_send, (journal_send, (next_send, tt)))),
+            Arc-send Principals.the_row principals_send principals_sync,
+            (services_send, (turn_counts_send, (journal_send, (next_send, tt)))),
           ),
         ),
       ),
@@ -131,8 +131,8 @@ view_sync =
         (
           u64_sync,
           (
-            Arc-sync People.the_row people_send people_sync,
-            (services_sync, (tally_sync, (journal_sync, (next_sync, tt)))),
+            Arc-sync Principals.the_row principals_send principals_sync,
+            (services_sync, (turn_counts_sync, (journal_sync, (next_sync, tt)))),
           ),
         ),
       ),

@@ -26,12 +26,12 @@ use Rattle.sm_names.specs.Tracking.{TracksNames}
 use Rattle.sm_inbox.specs.declared.inboxes.Inboxes.{Inboxes}
 use Rattle.sm_inbox.specs.Tracking.{TracksInboxes}
 use Rattle.sm_core.specs.declared.client.ClientRow.{ClientRow}
-use Rattle.sm_core.specs.declared.people.People.{People}
+use Rattle.sm_core.specs.declared.principals.Principals.{Principals}
 use Rattle.sm_core.specs.declared.process.Process.{Process}
 use Rattle.sm_core.specs.declared.state.State.{State}
 use Rattle.sm_core.specs.Stands.{Stands}
 use Rattle.sm_core.specs.Tables.{process_under, process_at, client_row, client_rows}
-use Rattle.sm_core.specs.Viewing.{StandPeople}
+use Rattle.sm_core.specs.Viewing.{StandPrincipals}
 
 lt_test : (a : ℕ) → 0 < a → nat_lt 0 a ≡ true
 lt_test a h = grind (arith, nat_tests)
@@ -106,8 +106,8 @@ rows_alike d e a =
     (process_alike d e (identity_at e k) a))
     ∙ ap (map (client_row e)) a.live_list
 
-pub people_alike : (d e : Effects) (p : People) → Agree d e → StandPeople d p → StandPeople e p
-people_alike d e p a s = record {
+pub principals_alike : (d e : Effects) (p : Principals) → Agree d e → StandPrincipals d p → StandPrincipals e p
+principals_alike d e p a s = record {
   manager = s.manager ∙ process_alike d e (manager_at d) a ∙ ap (process_at e) a.manager;
   policy = s.policy ∙ a.policy;
   version = s.version ∙ a.version;

@@ -33,33 +33,33 @@ use Rattle.sm_history.proofs.Counted.{apart_sound}
 use Rattle.sm_names.specs.declared.row.NameRow.{NameRow}
 use Rattle.sm_names.specs.Rows.{TracksRows}
 use Rattle.sm_names.proofs.Others.{same_rows}
-use Rattle.sm_core.specs.declared.people.People.{People}
-use Rattle.sm_core.proofs.StandsAlike.{people_alike, services_alike}
-use Rattle.sm_core.specs.Viewing.{IsComing, StandPeople, Viewed, counted_in, moves_people, moves_services}
+use Rattle.sm_core.specs.declared.principals.Principals.{Principals}
+use Rattle.sm_core.proofs.StandsAlike.{principals_alike, services_alike}
+use Rattle.sm_core.specs.Viewing.{IsComing, StandPrincipals, Viewed, counted_in, moves_principals, moves_services}
 
 -- ---- effects that a part doesn't hear of
 
-same_people : (x : Effect) (d : Effects) (p : People) → moves_people x ≡ false → StandPeople d p → StandPeople (x ∷ d) p
-same_people (Opens who) d p h s = absurd (true≢false h)
-same_people (Sets policy) d p h s = absurd (true≢false h)
-same_people (Connects c who) d p h s = absurd (true≢false h)
-same_people (Dies c) d p h s = absurd (true≢false h)
-same_people (Resumes v n) d p h s = absurd (true≢false h)
-same_people (Adds name t) d p h s =
+same_principals : (x : Effect) (d : Effects) (p : Principals) → moves_principals x ≡ false → StandPrincipals d p → StandPrincipals (x ∷ d) p
+same_principals (Opens who) d p h s = absurd (true≢false h)
+same_principals (Sets policy) d p h s = absurd (true≢false h)
+same_principals (Connects c who) d p h s = absurd (true≢false h)
+same_principals (Dies c) d p h s = absurd (true≢false h)
+same_principals (Resumes v n) d p h s = absurd (true≢false h)
+same_principals (Adds name t) d p h s =
     record { manager = s.manager; policy = s.policy; version = s.version; clients = s.clients }
-same_people (Removes name) d p h s =
+same_principals (Removes name) d p h s =
     record { manager = s.manager; policy = s.policy; version = s.version; clients = s.clients }
-same_people (Gives c n r) d p h s =
+same_principals (Gives c n r) d p h s =
     record { manager = s.manager; policy = s.policy; version = s.version; clients = s.clients }
-same_people (Releases c n) d p h s =
+same_principals (Releases c n) d p h s =
     record { manager = s.manager; policy = s.policy; version = s.version; clients = s.clients }
-same_people (Watches w) d p h s =
+same_principals (Watches w) d p h s =
     record { manager = s.manager; policy = s.policy; version = s.version; clients = s.clients }
-same_people (Unwatches w) d p h s =
+same_principals (Unwatches w) d p h s =
     record { manager = s.manager; policy = s.policy; version = s.version; clients = s.clients }
-same_people (Delivers c x) d p h s =
+same_principals (Delivers c x) d p h s =
     record { manager = s.manager; policy = s.policy; version = s.version; clients = s.clients }
-same_people (Takes c) d p h s =
+same_principals (Takes c) d p h s =
     record { manager = s.manager; policy = s.policy; version = s.version; clients = s.clients }
 
 pub same_services : (x : Effect) (d : Effects) (rows : List NameRow) → moves_services x ≡ false → Sound d
@@ -88,12 +88,12 @@ none_rest : (a b : Bool) → a || b ≡ false → b ≡ false
 none_rest true b e = absurd (true≢false e)
 none_rest false b e = e
 
-pub people_stay : (xs : List Effect) (d : Effects) (p : People) → list_any moves_people xs ≡ false → StandPeople d p
-    → StandPeople (followed d xs) p
-people_stay [] d p h s = s
-people_stay (x ∷ xs) d p h s =
-    people_stay xs (x ∷ d) p (none_rest (moves_people x) (list_any moves_people xs) h)
-    (same_people x d p (none_first (moves_people x) (list_any moves_people xs) h) s)
+pub principals_stay : (xs : List Effect) (d : Effects) (p : Principals) → list_any moves_principals xs ≡ false → StandPrincipals d p
+    → StandPrincipals (followed d xs) p
+principals_stay [] d p h s = s
+principals_stay (x ∷ xs) d p h s =
+    principals_stay xs (x ∷ d) p (none_rest (moves_principals x) (list_any moves_principals xs) h)
+    (same_principals x d p (none_first (moves_principals x) (list_any moves_principals xs) h) s)
 
 pub services_stay : (xs : List Effect) (d : Effects) (rows : List NameRow) → list_any moves_services xs ≡ false
     → Sound d → MayAllApart d xs → TracksRows d rows → TracksRows (followed d xs) rows
@@ -122,14 +122,14 @@ gone P d xs left is g = subst P (ap (followed g.0) (sym is) ∙ g.4) g.2
 -- ---- views
 
 -- The parts of a view of what there is now.
-pub viewed_now : (places : ℕ) (h : History) (turns : Turns) (s : State) (len : ℕ) (people : People)
+pub viewed_now : (places : ℕ) (h : History) (turns : Turns) (s : State) (len : ℕ) (principals : Principals)
     (services : Services) (base : Turns) (since : List TurnRow)
     → Kept places h turns s [] → len ≡ length_of h
-    → ((d : Effects) → Stands d s → StandPeople d people)
+    → ((d : Effects) → Stands d s → StandPrincipals d principals)
     → ((d : Effects) → Stands d s → TracksRows d services.rows.items)
     → ((b : By) → counted_in base since b ≡ made turns b)
-    → Viewed places h len people services base since
-viewed_now places h turns s len people services base since k is asks named counts = record {
+    → Viewed places h len principals services base since
+viewed_now places h turns s len principals services base since k is asks named counts = record {
   lawful = k.lawful;
   fits = k.fits;
   few = k.few;
@@ -141,21 +141,21 @@ viewed_now places h turns s len people services base since k is asks named count
 
 -- The parts of a view of what there is once an event is committed.
 pub viewed_more : (places : ℕ) (h : History) (turns : Turns) (s : State) (r : Ready) (len : ℕ)
-    (people people' : People) (services services' : Services) (base base' : Turns) (since since' : List TurnRow)
-    → Kept places h turns s [] → IsComing places h s.version r → Viewed places h len people services base since
-    → ((d : Effects) → Stands d s → StandPeople d people → MayAllApart d r.effects.items
-    → StandPeople (followed d r.effects.items) people')
+    (principals principals' : Principals) (services services' : Services) (base base' : Turns) (since since' : List TurnRow)
+    → Kept places h turns s [] → IsComing places h s.version r → Viewed places h len principals services base since
+    → ((d : Effects) → Stands d s → StandPrincipals d principals → MayAllApart d r.effects.items
+    → StandPrincipals (followed d r.effects.items) principals')
     → ((d : Effects) → Sound d → TracksRows d services.rows.items → MayAllApart d r.effects.items
     → TracksRows (followed d r.effects.items) services'.rows.items)
     → ((b : By) → counted_in base' since' b ≡ (if is_same b r.entry.by then made turns b + 1 else made turns b))
-    → Viewed places (entered r.entry h) (len + 1) people' services' base' since'
-viewed_more places h turns s r len people people' services services' base base' since since' k coming v asks named
+    → Viewed places (entered r.entry h) (len + 1) principals' services' base' since'
+viewed_more places h turns s r len principals principals' services services' base base' since since' k coming v asks named
     counts = let e = r.entry in let d = effects_of h in record {
       lawful = inr (k.lawful, coming.done, coming.sound);
       fits = fits_any places h e.by e.turn e.event e.outcome k.stands.sound k.fits coming.done;
       few = k.few;
       length_is = let was = v.length_is in omega (arith, was);
-      asks = subst (λ (x : Effects). StandPeople x people') coming.effects (asks d k.stands v.asks coming.may);
+      asks = subst (λ (x : Effects). StandPrincipals x principals') coming.effects (asks d k.stands v.asks coming.may);
       named = subst (λ (x : Effects). TracksRows x services'.rows.items) coming.effects
           (named d k.stands.sound v.named coming.may);
       turns = λ by. counts by
@@ -166,12 +166,12 @@ viewed_more places h turns s r len people people' services services' base base' 
           ] refl;
     }
 
--- The parts of a view of what a seal leaves. People and services stay.
-pub viewed_sealed : (places : ℕ) (h : History) (len : ℕ) (people : People) (services : Services) (base base' : Turns)
-    (since since' : List TurnRow) → Viewed places h len people services base since
+-- The parts of a view of what a seal leaves. Principals and services stay.
+pub viewed_sealed : (places : ℕ) (h : History) (len : ℕ) (principals : Principals) (services : Services) (base base' : Turns)
+    (since since' : List TurnRow) → Viewed places h len principals services base since
     → ((by : By) → counted_in base' since' by ≡ turn_of (sealed h) by)
-    → Viewed places (sealed h) len people services base' since'
-viewed_sealed places h len people services base base' since since' v counts =
+    → Viewed places (sealed h) len principals services base' since'
+viewed_sealed places h len principals services base base' since since' v counts =
     let d = effects_of h in
     let sim = sim_rows d (sound_lawful places h v.lawful) in
     let is = v.length_is in record {
@@ -179,15 +179,15 @@ viewed_sealed places h len people services base base' since since' v counts =
       fits = sealed_fits places h v.fits;
       few = v.few;
       length_is = omega (arith, is);
-      asks = people_alike d (effects_of (sealed h)) people sim.agree v.asks;
+      asks = principals_alike d (effects_of (sealed h)) principals sim.agree v.asks;
       named = services_alike d (effects_of (sealed h)) services.rows.items sim.agree v.named;
       turns = counts;
     }
 
 -- The length of a view is below the greatest number.
-pub viewed_length : (places : ℕ) (h : History) (len : ℕ) (people : People) (services : Services) (base : Turns)
-    (since : List TurnRow) → Viewed places h len people services base since → len < GREATEST
-viewed_length places h len people services base since v =
+pub viewed_length : (places : ℕ) (h : History) (len : ℕ) (principals : Principals) (services : Services) (base : Turns)
+    (since : List TurnRow) → Viewed places h len principals services base since → len < GREATEST
+viewed_length places h len principals services base since v =
     let fits = (numbers_fit places h v.lawful).lengths in
     let is = v.length_is in
     omega (arith, fits, is)

@@ -26,7 +26,7 @@ use Rattle.sm_history.specs.Verdict.{verdict}
 use Rattle.sm_kinds.specs.declared.limits.TheConstants.{MOST_PLACES}
 use Rattle.sm_names.specs.declared.services.Services.{Services}
 use Rattle.sm_names.specs.Rows.{TracksRows}
-use Rattle.sm_core.specs.declared.people.People.{People}
+use Rattle.sm_core.specs.declared.principals.Principals.{Principals}
 use Rattle.sm_core.specs.declared.ready.Ready.{Ready}
 use Rattle.sm_core.specs.declared.turns.Turns.{Turns}
 use Rattle.sm_core.specs.Counting.{made}
@@ -40,20 +40,20 @@ with_next value None h = h
 with_next value (Some s) h = entered (value s) h
 
 -- The manager's process and those of the live clients, under the policy in force, are those of the effects.
-pub record StandPeople (d : Effects) (p : People) : Type 0 where
+pub record StandPrincipals (d : Effects) (p : Principals) : Type 0 where
   pub manager : p.manager ≡ process_at d (manager_at d)
   pub policy : p.policy ≡ policy_at d
   pub version : p.version ≡ version_at d
   pub clients : p.clients.items ≡ client_rows d
 
 -- An effect changes the processes or the policy.
-abbrev pub moves_people : Effect → Bool
-moves_people (Opens who) = true
-moves_people (Sets policy) = true
-moves_people (Connects c who) = true
-moves_people (Dies c) = true
-moves_people (Resumes version clients) = true
-moves_people _ = false
+abbrev pub moves_principals : Effect → Bool
+moves_principals (Opens who) = true
+moves_principals (Sets policy) = true
+moves_principals (Connects c who) = true
+moves_principals (Dies c) = true
+moves_principals (Resumes version clients) = true
+moves_principals _ = false
 
 -- An effect changes the services.
 abbrev pub moves_services : Effect → Bool
@@ -98,13 +98,13 @@ abbrev pub counted_in : Turns → List TurnRow → By → ℕ
 counted_in base since by = unwrap_or (listed_turns since by) (made base by)
 
 -- The parts of a view are those of its history.
-pub record Viewed (places : ℕ) (h : History) (length : ℕ) (people : People) (services : Services) (base : Turns)
+pub record Viewed (places : ℕ) (h : History) (length : ℕ) (principals : Principals) (services : Services) (base : Turns)
     (since : List TurnRow) : Type 0 where
   pub lawful : IsLawful places h
   pub fits : FitsPlaces places h
   pub few : places ≤ MOST_PLACES
   pub length_is : length ≡ length_of h
-  pub asks : StandPeople (effects_of h) people
+  pub asks : StandPrincipals (effects_of h) principals
   pub named : TracksRows (effects_of h) services.rows.items
   pub turns : (by : By) → counted_in base since by ≡ turn_of h by
 

@@ -14,17 +14,17 @@ ghost use Rattle.sm_core.specs.Counting.{made};
 ghost use Rattle.sm_core.specs.Kept.{Kept};
 ghost use Rattle.sm_core.specs.Managed.{look_leaves};
 ghost use Rattle.sm_core.specs.Stands.{Stands, sets_in};
-ghost use Rattle.sm_core.specs.Viewing.{IsComing, StandPeople};
+ghost use Rattle.sm_core.specs.Viewing.{IsComing, StandPrincipals};
 ghost use Rattle.sm_view.specs.Begins.{IsLawfulBook};
 ghost use Rattle.sm_view.specs.Promises.{Looks};
 
 use crate::journal::Journal;
 use crate::listed::{moves_any_services, services_after};
 use crate::manager::replying::is_memory;
-use crate::people::{People, moves_any_people};
+use crate::principals::{Principals, moves_any_principals};
 use crate::ready::Ready;
 use crate::state::State;
-use crate::tally::Tally;
+use crate::turn_counts::TurnCounts;
 use crate::turns::Turns;
 use sm_history::{By, Effect, Entry, Query, Record, Refusal, Reply};
 use sm_names::Services;
@@ -34,20 +34,20 @@ use std::snapshot::Snapshot;
 use std::sync::Arc;
 
 /// Returns the processes after these effects: those of the present view, if no effect changes them.
-fn next_people(
+fn next_principals(
     alloc: Global,
-    last: &Arc<People>,
+    last: &Arc<Principals>,
     state: &State,
     effects: &[Effect],
-) -> Result<Arc<People>, AllocError>
+) -> Result<Arc<Principals>, AllocError>
     requires { state.now.version + sets_in effects.now < GREATEST }
-    ensures { IfOk result (λ p. (d : Effects) → Stands d state.now → StandPeople d (arc_value last.now)
-        → MayAllApart d effects.now → StandPeople (followed d effects.now) (arc_value p)) }
+    ensures { IfOk result (λ p. (d : Effects) → Stands d state.now → StandPrincipals d (arc_value last.now)
+        → MayAllApart d effects.now → StandPrincipals (followed d effects.now) (arc_value p)) }
 {
-    if !moves_any_people(effects) {
+    if !moves_any_principals(effects) {
         return Arc::try_clone(last);
     }
-    Ok(Arc::new(alloc, People::after(alloc, state, effects)?)?)
+    Ok(Arc::new(alloc, Principals::after(alloc, state, effects)?)?)
 }
 
 /// Returns the services after these effects: those of the present view, if no effect changes them.
@@ -74,9 +74,9 @@ pub struct View {
     alloc: Global,
     places: u32,
     length: u64,
-    people: Arc<People>,
+    principals: Arc<Principals>,
     services: Arc<Services>,
-    tally: Tally,
+    turn_counts: TurnCounts,
     journal: Snapshot<Journal>,
     next: Option<Snapshot<Entry>>,
 }
@@ -90,7 +90,7 @@ impl Model for View {
 
     ghost view = { λ v. record { places = v.places; history = with_next (λ s. s.value) v.next v.journal.value.history } };
 
-    ghost invariant = { λ v. Viewed v.places (with_next (λ s. s.value) v.next v.journal.value.history) v.length (arc_value v.people) (arc_value v.services) (arc_value v.tally.base) v.tally.since.items };
+    ghost invariant = { λ v. Viewed v.places (with_next (λ s. s.value) v.next v.journal.value.history) v.length (arc_value v.principals) (arc_value v.services) (arc_value v.turn_counts.base) v.turn_counts.since.items };
 }
 
 impl View {
@@ -105,16 +105,16 @@ impl View {
         requires { Kept places journal.now.history turns.now state.now [] }
         ensures { IfOk result (λ v. v ≡ record { places = places; history = journal.now.history }) }
     {
-        let people = Arc::new(alloc, People::of(alloc, state)?)?;
+        let principals = Arc::new(alloc, Principals::of(alloc, state)?)?;
         let services = Arc::new(alloc, state.names.services().copy(alloc, 0)?)?;
-        let tally = Tally::of(alloc, turns)?;
+        let turn_counts = TurnCounts::of(alloc, turns)?;
         Ok(View {
             alloc,
             places,
             length: journal.length(),
-            people,
+            principals,
             services,
-            tally,
+            turn_counts,
             journal: Snapshot::of(journal),
             next: None,
         })
@@ -135,16 +135,16 @@ impl View {
         ensures { IfOk result (λ v. v ≡ record { places = self.now.places; history = entered ready.now.entry journal.now.history }) }
     {
         let alloc = self.alloc;
-        let people = next_people(alloc, &self.people, state, &ready.effects)?;
+        let principals = next_principals(alloc, &self.principals, state, &ready.effects)?;
         let services = next_services(alloc, &self.services, &ready.effects)?;
-        let tally = self.tally.after(alloc, turns, ready.entry.by)?;
+        let turn_counts = self.turn_counts.after(alloc, turns, ready.entry.by)?;
         Ok(View {
             alloc,
             places: self.places,
             length: self.length + 1,
-            people,
+            principals,
             services,
-            tally,
+            turn_counts,
             journal: Snapshot::of(journal),
             next: Some(Snapshot::of(&ready.entry)),
         })
@@ -158,16 +158,16 @@ impl View {
         ensures { IfOk result (λ v. v ≡ record { places = self.now.places; history = journal.now.history }) }
     {
         let alloc = self.alloc;
-        let people = Arc::try_clone(&self.people)?;
+        let principals = Arc::try_clone(&self.principals)?;
         let services = Arc::try_clone(&self.services)?;
-        let tally = Tally::of(alloc, turns)?;
+        let turn_counts = TurnCounts::of(alloc, turns)?;
         Ok(View {
             alloc,
             places: self.places,
             length: self.length,
-            people,
+            principals,
             services,
-            tally,
+            turn_counts,
             journal: Snapshot::of(journal),
             next: None,
         })
@@ -177,6 +177,7 @@ impl View {
     pub fn lawful(&self)
         ensures { IsLawfulBook self.now }
     {
+        // Reads a field, so that the invariant is known: see docs/PROOFS.md.
         let _ = &self.places;
     }
 
@@ -184,8 +185,9 @@ impl View {
     pub fn turn(&self, by: By) -> u64
         ensures { result ≡ turn_of self.now.history by }
     {
+        // Reads a field, so that the invariant is known: see docs/PROOFS.md.
         let _ = &self.places;
-        self.tally.of_actor(by)
+        self.turn_counts.of_actor(by)
     }
 
     /// The answer to a query, on the history that it is of. It adds no record to the ring.
@@ -203,10 +205,12 @@ impl View {
     {
         let alloc = self.alloc;
         let length = self.length;
-        let Ok(records) = self.people.records(alloc, length, by, &query) else {
+        let Ok(records) = self.principals.records(alloc, length, by, &query) else {
             return (Reply::Refused(Refusal::Memory), Vec::new(alloc));
         };
-        let reply = self.people.answer(alloc, &self.services, length, by, query);
+        let reply = self
+            .principals
+            .answer(alloc, &self.services, length, by, query);
         if is_memory(&reply) {
             return (reply, Vec::new(alloc));
         }

@@ -4,20 +4,20 @@ ghost use Rattle.std.specs.Prelude.{◌≡◌, ◌⊎◌, ℕ, List, [], ◌∷�
 ghost use Rattle.sm_kinds.specs.Contexts.{type_of};
 ghost use Rattle.sm_kinds.specs.declared.class.Class.TheVariants.{Binder, ServiceManager};
 ghost use Rattle.sm_policy.specs.Policy.{allowed, decision, type_index};
-ghost use Rattle.sm_history.specs.Records.{moment_of, rule_record};
+ghost use Rattle.sm_history.specs.Records.{rule_record};
 ghost use Rattle.sm_history.specs.declared.stop.Stop.TheVariants.{Unruled, Barred};
 ghost use Rattle.sm_history.specs.Clients.{manager_at, policy_at, label_at};
 ghost use Rattle.sm_history.specs.Checks.{adding, calling, finding, listing, transferring};
-ghost use Rattle.sm_history.specs.Histories.{effects_of};
 ghost use Rattle.sm_core.specs.Judging.{IsRuled, noted, clause_noted};
 ghost use Rattle.sm_core.specs.Judging as spec;
 ghost use Rattle.sm_core.specs.Tables.{process_at};
+ghost use Rattle.sm_core.specs.Managed.{effects_in, moment_in};
 
-use crate::halt::Halt;
 use crate::manager::replying::denial;
 use crate::manager::{Manager, wanted};
 use crate::notes::Notes;
 use crate::process::Process;
+use crate::small_stop::SmallStop;
 use sm_history::{Denial, Record, Stop};
 use sm_kinds::{Class, Context, Identity, Name, Perms};
 use sm_policy::Decision;
@@ -33,7 +33,7 @@ fn unruled(
     name: Option<&Name>,
     class: Class,
     perm: Perms,
-) -> Halt
+) -> SmallStop
     ensures { (result ≡ spec.wanted)
         ⊎ (result ≡ Unruled class perm who.now target.now (option_map (λ n. n.now) name.entry)) }
 {
@@ -57,7 +57,7 @@ fn unruled(
         target,
         name,
     };
-    Halt::whole(alloc, stop)
+    SmallStop::whole(alloc, stop)
 }
 
 impl Manager {
@@ -72,9 +72,9 @@ impl Manager {
         class: Class,
         perm: Perms,
         notes: &mut Notes,
-    ) -> Result<(), Halt>
-        requires { made ≡ decision (policy_at (effects_of self.now.book.history)) (type_of who.now.context) (type_of target.now) class perm }
-        ensures { MatchResult result (λ done. notes.new ≡ noted (moment_of self.now.book.history) notes.old class perm who.now target.now (option_map (λ n. n.now) name.entry))
+    ) -> Result<(), SmallStop>
+        requires { made ≡ decision (policy_at (effects_in self.now)) (type_of who.now.context) (type_of target.now) class perm }
+        ensures { MatchResult result (λ done. notes.new ≡ noted (moment_in self.now) notes.old class perm who.now target.now (option_map (λ n. n.now) name.entry))
             (λ s. s ≡ spec.wanted) }
     {
         if !made.audited {
@@ -95,9 +95,9 @@ impl Manager {
         class: Class,
         perm: Perms,
         notes: &mut Notes,
-    ) -> Result<(), Halt>
-        requires { permissive ≡ allowed (policy_at (effects_of self.now.book.history)) (type_of who.now.context) (type_of target.now) class perm }
-        ensures { MatchResult result (λ done. notes.new ≡ notes.old ++ rule_record (moment_of self.now.book.history) class perm who.now target.now (option_map (λ n. n.now) name.entry) ∷ [])
+    ) -> Result<(), SmallStop>
+        requires { permissive ≡ allowed (policy_at (effects_in self.now)) (type_of who.now.context) (type_of target.now) class perm }
+        ensures { MatchResult result (λ done. notes.new ≡ notes.old ++ rule_record (moment_in self.now) class perm who.now target.now (option_map (λ n. n.now) name.entry) ∷ [])
             (λ s. s ≡ spec.wanted) }
     {
         let Ok(denied) = self.missing(who, target, name, class, perm, permissive) else {
@@ -119,8 +119,8 @@ impl Manager {
         perm: Perms,
         permissive: bool,
     ) -> Result<Record, AllocError>
-        requires { permissive ≡ allowed (policy_at (effects_of self.now.book.history)) (type_of who.now.context) (type_of target.now) class perm }
-        ensures { IfOk result (λ r. r ≡ rule_record (moment_of self.now.book.history) class perm who.now target.now (option_map (λ n. n.now) name.entry)) }
+        requires { permissive ≡ allowed (policy_at (effects_in self.now)) (type_of who.now.context) (type_of target.now) class perm }
+        ensures { IfOk result (λ r. r ≡ rule_record (moment_in self.now) class perm who.now target.now (option_map (λ n. n.now) name.entry)) }
     {
         let denial = denial(self.alloc, class, perm, who, target)?;
         let name = match name {
@@ -141,12 +141,18 @@ impl Manager {
     /// Returns the stop for a failed clause on the user number, and appends its record.
     #[cold]
     #[inline(never)]
-    pub fn barred(&self, denial: Denial, who: &Identity, name: &Name, notes: &mut Notes) -> Halt
+    pub fn barred(
+        &self,
+        denial: Denial,
+        who: &Identity,
+        name: &Name,
+        notes: &mut Notes,
+    ) -> SmallStop
         ensures { (result ≡ spec.wanted) ⊎ ((result ≡ Barred denial who.now name.now)
-            × (notes.new ≡ clause_noted (moment_of self.now.book.history) notes.old denial who.now name.now)) }
+            × (notes.new ≡ clause_noted (moment_in self.now) notes.old denial who.now name.now)) }
     {
         match self.bars(denial, who, name, notes) {
-            Ok(stop) => Halt::whole(self.alloc, stop),
+            Ok(stop) => SmallStop::whole(self.alloc, stop),
             Err(_) => wanted(),
         }
     }
@@ -161,7 +167,7 @@ impl Manager {
         notes: &mut Notes,
     ) -> Result<Stop, AllocError>
         ensures { IfOk result (λ s. (s ≡ Barred denial who.now name.now)
-            × (notes.new ≡ clause_noted (moment_of self.now.book.history) notes.old denial who.now name.now)) }
+            × (notes.new ≡ clause_noted (moment_in self.now) notes.old denial who.now name.now)) }
     {
         let noted = denial.clone()?;
         notes.note(Record {
@@ -181,33 +187,37 @@ impl Manager {
     }
 
     /// Checks that a process may send a transaction to the manager.
-    pub fn can_call_manager(&self, who: &Process, notes: &mut Notes) -> Result<(), Halt>
-        requires { who.now ≡ process_at (effects_of self.now.book.history) who.now.who }
-        ensures { IsRuled (moment_of self.now.book.history) notes.old notes.new Binder calling who.now.who (manager_at (effects_of self.now.book.history)).context None result }
+    pub fn can_call_manager(&self, who: &Process, notes: &mut Notes) -> Result<(), SmallStop>
+        requires { who.now ≡ process_at (effects_in self.now) who.now.who }
+        ensures { IsRuled (moment_in self.now) notes.old notes.new Binder calling who.now.who (manager_at (effects_in self.now)).context None result }
     {
         self.needs_binder(who, &self.state.manager, Perms::CALL, notes)
     }
 
     /// Checks that a process may pass a reference to the manager.
-    pub fn can_transfer_to_manager(&self, who: &Process, notes: &mut Notes) -> Result<(), Halt>
-        requires { who.now ≡ process_at (effects_of self.now.book.history) who.now.who }
-        ensures { IsRuled (moment_of self.now.book.history) notes.old notes.new Binder transferring who.now.who (manager_at (effects_of self.now.book.history)).context None result }
+    pub fn can_transfer_to_manager(&self, who: &Process, notes: &mut Notes) -> Result<(), SmallStop>
+        requires { who.now ≡ process_at (effects_in self.now) who.now.who }
+        ensures { IsRuled (moment_in self.now) notes.old notes.new Binder transferring who.now.who (manager_at (effects_in self.now)).context None result }
     {
         self.needs_binder(who, &self.state.manager, Perms::TRANSFER, notes)
     }
 
     /// Checks that the manager may send a transaction to a process.
-    pub fn can_call_from_manager(&self, who: &Process, notes: &mut Notes) -> Result<(), Halt>
-        requires { who.now ≡ process_at (effects_of self.now.book.history) who.now.who }
-        ensures { IsRuled (moment_of self.now.book.history) notes.old notes.new Binder calling (manager_at (effects_of self.now.book.history)) who.now.who.context None result }
+    pub fn can_call_from_manager(&self, who: &Process, notes: &mut Notes) -> Result<(), SmallStop>
+        requires { who.now ≡ process_at (effects_in self.now) who.now.who }
+        ensures { IsRuled (moment_in self.now) notes.old notes.new Binder calling (manager_at (effects_in self.now)) who.now.who.context None result }
     {
         self.needs_binder(&self.state.manager, who, Perms::CALL, notes)
     }
 
     /// Checks that the manager may pass a reference to a process.
-    pub fn can_transfer_from_manager(&self, who: &Process, notes: &mut Notes) -> Result<(), Halt>
-        requires { who.now ≡ process_at (effects_of self.now.book.history) who.now.who }
-        ensures { IsRuled (moment_of self.now.book.history) notes.old notes.new Binder transferring (manager_at (effects_of self.now.book.history)) who.now.who.context None result }
+    pub fn can_transfer_from_manager(
+        &self,
+        who: &Process,
+        notes: &mut Notes,
+    ) -> Result<(), SmallStop>
+        requires { who.now ≡ process_at (effects_in self.now) who.now.who }
+        ensures { IsRuled (moment_in self.now) notes.old notes.new Binder transferring (manager_at (effects_in self.now)) who.now.who.context None result }
     {
         self.needs_binder(&self.state.manager, who, Perms::TRANSFER, notes)
     }
@@ -218,10 +228,10 @@ impl Manager {
         who: &Process,
         other: &Process,
         notes: &mut Notes,
-    ) -> Result<(), Halt>
-        requires who { who.now ≡ process_at (effects_of self.now.book.history) who.now.who }
-        requires other { other.now ≡ process_at (effects_of self.now.book.history) other.now.who }
-        ensures { IsRuled (moment_of self.now.book.history) notes.old notes.new Binder calling who.now.who other.now.who.context None result }
+    ) -> Result<(), SmallStop>
+        requires who { who.now ≡ process_at (effects_in self.now) who.now.who }
+        requires other { other.now ≡ process_at (effects_in self.now) other.now.who }
+        ensures { IsRuled (moment_in self.now) notes.old notes.new Binder calling who.now.who other.now.who.context None result }
     {
         self.needs_binder(who, other, Perms::CALL, notes)
     }
@@ -232,34 +242,34 @@ impl Manager {
         who: &Process,
         other: &Process,
         notes: &mut Notes,
-    ) -> Result<(), Halt>
-        requires who { who.now ≡ process_at (effects_of self.now.book.history) who.now.who }
-        requires other { other.now ≡ process_at (effects_of self.now.book.history) other.now.who }
-        ensures { IsRuled (moment_of self.now.book.history) notes.old notes.new Binder transferring who.now.who other.now.who.context None result }
+    ) -> Result<(), SmallStop>
+        requires who { who.now ≡ process_at (effects_in self.now) who.now.who }
+        requires other { other.now ≡ process_at (effects_in self.now) other.now.who }
+        ensures { IsRuled (moment_in self.now) notes.old notes.new Binder transferring who.now.who other.now.who.context None result }
     {
         self.needs_binder(who, other, Perms::TRANSFER, notes)
     }
 
     /// Checks that a process may add a service under a name, whose label is the target.
-    pub fn can_add(&self, who: &Process, name: &Name, notes: &mut Notes) -> Result<(), Halt>
-        requires { who.now ≡ process_at (effects_of self.now.book.history) who.now.who }
-        ensures { IsRuled (moment_of self.now.book.history) notes.old notes.new ServiceManager adding who.now.who (label_at (effects_of self.now.book.history) name.now) (Some name.now) result }
+    pub fn can_add(&self, who: &Process, name: &Name, notes: &mut Notes) -> Result<(), SmallStop>
+        requires { who.now ≡ process_at (effects_in self.now) who.now.who }
+        ensures { IsRuled (moment_in self.now) notes.old notes.new ServiceManager adding who.now.who (label_at (effects_in self.now) name.now) (Some name.now) result }
     {
         self.needs_label(who, name, Perms::ADD, notes)
     }
 
     /// Checks that a process may find the service of a name, whose label is the target.
-    pub fn can_find(&self, who: &Process, name: &Name, notes: &mut Notes) -> Result<(), Halt>
-        requires { who.now ≡ process_at (effects_of self.now.book.history) who.now.who }
-        ensures { IsRuled (moment_of self.now.book.history) notes.old notes.new ServiceManager finding who.now.who (label_at (effects_of self.now.book.history) name.now) (Some name.now) result }
+    pub fn can_find(&self, who: &Process, name: &Name, notes: &mut Notes) -> Result<(), SmallStop>
+        requires { who.now ≡ process_at (effects_in self.now) who.now.who }
+        ensures { IsRuled (moment_in self.now) notes.old notes.new ServiceManager finding who.now.who (label_at (effects_in self.now) name.now) (Some name.now) result }
     {
         self.needs_label(who, name, Perms::FIND, notes)
     }
 
     /// Checks that a process may list the names; the manager's own context is the target.
-    pub fn can_list(&self, who: &Process, notes: &mut Notes) -> Result<(), Halt>
-        requires { who.now ≡ process_at (effects_of self.now.book.history) who.now.who }
-        ensures { IsRuled (moment_of self.now.book.history) notes.old notes.new ServiceManager listing who.now.who (manager_at (effects_of self.now.book.history)).context None result }
+    pub fn can_list(&self, who: &Process, notes: &mut Notes) -> Result<(), SmallStop>
+        requires { who.now ≡ process_at (effects_in self.now) who.now.who }
+        ensures { IsRuled (moment_in self.now) notes.old notes.new ServiceManager listing who.now.who (manager_at (effects_in self.now)).context None result }
     {
         let manager = &self.state.manager;
         let target = &manager.who.context;
@@ -281,10 +291,10 @@ impl Manager {
         target: &Process,
         perm: Perms,
         notes: &mut Notes,
-    ) -> Result<(), Halt>
-        requires source { source.now ≡ process_at (effects_of self.now.book.history) source.now.who }
-        requires target { target.now ≡ process_at (effects_of self.now.book.history) target.now.who }
-        ensures { IsRuled (moment_of self.now.book.history) notes.old notes.new Binder perm source.now.who target.now.who.context None result }
+    ) -> Result<(), SmallStop>
+        requires source { source.now ≡ process_at (effects_in self.now) source.now.who }
+        requires target { target.now ≡ process_at (effects_in self.now) target.now.who }
+        ensures { IsRuled (moment_in self.now) notes.old notes.new Binder perm source.now.who target.now.who.context None result }
     {
         let context = &target.who.context;
         self.needs(
@@ -305,9 +315,9 @@ impl Manager {
         name: &Name,
         perm: Perms,
         notes: &mut Notes,
-    ) -> Result<(), Halt>
-        requires { source.now ≡ process_at (effects_of self.now.book.history) source.now.who }
-        ensures { IsRuled (moment_of self.now.book.history) notes.old notes.new ServiceManager perm source.now.who (label_at (effects_of self.now.book.history) name.now) (Some name.now) result }
+    ) -> Result<(), SmallStop>
+        requires { source.now ≡ process_at (effects_in self.now) source.now.who }
+        ensures { IsRuled (moment_in self.now) notes.old notes.new ServiceManager perm source.now.who (label_at (effects_in self.now) name.now) (Some name.now) result }
     {
         let label = self.state.policy.labelled(name.bytes());
         self.needs(
@@ -332,10 +342,10 @@ impl Manager {
         class: Class,
         perm: Perms,
         notes: &mut Notes,
-    ) -> Result<(), Halt>
-        requires source { source.now ≡ process_at (effects_of self.now.book.history) source.now.who }
-        requires target { index ≡ type_index (policy_at (effects_of self.now.book.history)) (type_of target.now) }
-        ensures { IsRuled (moment_of self.now.book.history) notes.old notes.new class perm source.now.who target.now (option_map (λ n. n.now) name.entry) result }
+    ) -> Result<(), SmallStop>
+        requires source { source.now ≡ process_at (effects_in self.now) source.now.who }
+        requires target { index ≡ type_index (policy_at (effects_in self.now)) (type_of target.now) }
+        ensures { IsRuled (moment_in self.now) notes.old notes.new class perm source.now.who target.now (option_map (λ n. n.now) name.entry) result }
     {
         let policy = &self.state.policy;
         let decision = policy.decide_at(source.index, index, class, perm);

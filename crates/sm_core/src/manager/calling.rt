@@ -5,23 +5,22 @@ ghost use Rattle.sm_kinds.specs.declared.limits.TheConstants.{MOST_REFS};
 ghost use Rattle.sm_history.specs.declared.delivery.Message.TheVariants.{Called};
 ghost use Rattle.sm_history.specs.declared.event.Event.TheVariants.{Call};
 ghost use Rattle.sm_history.specs.Clients.{is_live};
-ghost use Rattle.sm_history.specs.Histories.{effects_of};
 ghost use Rattle.sm_history.specs.Holdings.{resolve_at, node_at, fits_handles};
 ghost use Rattle.sm_history.specs.Inboxes.{has_inbox_room};
 ghost use Rattle.sm_history.specs.Verdict.{all_pass_to_client, passes_to_client, is_null};
 ghost use Rattle.sm_grants.specs.Several.{after_grants, numbers_for};
 ghost use Rattle.sm_grants.specs.Handing.{AreNamed, others, given_as};
 ghost use Rattle.sm_core.specs.Tables.{client_row};
-ghost use Rattle.sm_history.specs.Records.{moment_of};
 ghost use Rattle.sm_core.specs.Judging.{AllPass, Halts, Judged};
 ghost use Rattle.sm_core.specs.Judging as spec;
 ghost use Rattle.sm_core.specs.Calling.{Sends, gives_of, passing_checks, target_checks};
+ghost use Rattle.sm_core.specs.Managed.{effects_in, moment_in};
 
 use crate::client::ClientRow;
-use crate::halt::{Halt, Plain};
 use crate::manager::{Manager, wanted};
 use crate::notes::Notes;
 use crate::plan::Plan;
+use crate::small_stop::{Plain, SmallStop};
 use sm_history::{BoxedDelivery, Delivery, Effect, Failure, Given, GivenRefs, Message, Outcome};
 use sm_kinds::{Identity, Node, ObjRef, Payload, Refs};
 use std::alloc::{AllocError, Global};
@@ -113,18 +112,16 @@ impl Manager {
     /// by `selinux_binder_transaction` and, for each reference, `selinux_binder_transfer_binder`.
     pub fn judge_call(
         &self,
-        client: u32,
+        row: &ClientRow,
         handle: u32,
         payload: &Payload,
         refs: &Refs,
         notes: &mut Notes,
-    ) -> Result<Plan, Halt>
-        requires { is_live (effects_of self.now.book.history) client ≡ true }
-        ensures { Judged self.now.book.history notes.old notes.new client (Call handle payload.now refs.now) result }
+    ) -> Result<Plan, SmallStop>
+        requires live { is_live (effects_in self.now) row.now.id ≡ true }
+        requires row { row.now ≡ client_row (effects_in self.now) row.now.id }
+        ensures { Judged self.now.book.history notes.old notes.new row.now.id (Call handle payload.now refs.now) result }
     {
-        let Some(row) = self.caller(client) else {
-            unreachable!();
-        };
         let target = match self.judge_target(row, handle, notes) {
             Ok(target) => target,
             Err(stop) => return Err(stop),
@@ -137,27 +134,32 @@ impl Manager {
             return Err(wanted());
         };
         if !self.has_room(target.owner.0, nodes.as_slice()) {
-            return Err(Halt::unmet(Plain::Failed(Failure::TargetFull)));
+            return Err(SmallStop::unmet(Plain::Failed(Failure::TargetFull)));
         }
         self.plan_call(row, target, payload, named.as_slice(), nodes.as_slice())
     }
 
     /// Returns the called object, if its owner lives and the caller may call the owner.
-    fn judge_target(&self, row: &ClientRow, handle: u32, notes: &mut Notes) -> Result<Node, Halt>
-        requires { row.now ≡ client_row (effects_of self.now.book.history) row.now.id }
+    fn judge_target(
+        &self,
+        row: &ClientRow,
+        handle: u32,
+        notes: &mut Notes,
+    ) -> Result<Node, SmallStop>
+        requires { row.now ≡ client_row (effects_in self.now) row.now.id }
         ensures { MatchResult result
-            (λ n. AllPass (moment_of self.now.book.history) notes.old notes.new
-            (target_checks (effects_of self.now.book.history) row.now.id (node_at (effects_of self.now.book.history) row.now.id handle))
-            × (node_at (effects_of self.now.book.history) row.now.id handle ≡ Some n)
-            × (is_live (effects_of self.now.book.history) n.owner.0 ≡ true))
-            (Halts (moment_of self.now.book.history) notes.old notes.new
-            (target_checks (effects_of self.now.book.history) row.now.id (node_at (effects_of self.now.book.history) row.now.id handle))) }
+            (λ n. AllPass (moment_in self.now) notes.old notes.new
+            (target_checks (effects_in self.now) row.now.id (node_at (effects_in self.now) row.now.id handle))
+            × (node_at (effects_in self.now) row.now.id handle ≡ Some n)
+            × (is_live (effects_in self.now) n.owner.0 ≡ true))
+            (Halts (moment_in self.now) notes.old notes.new
+            (target_checks (effects_in self.now) row.now.id (node_at (effects_in self.now) row.now.id handle))) }
     {
         let Some(node) = self.resolved(row.id, ObjRef::Handle(handle)) else {
-            return Err(Halt::unmet(Plain::Failed(Failure::BadHandle)));
+            return Err(SmallStop::unmet(Plain::Failed(Failure::BadHandle)));
         };
-        let Some(owner) = self.caller(node.owner.0) else {
-            return Err(Halt::unmet(Plain::Dead));
+        let Some(owner) = self.client_row(node.owner.0) else {
+            return Err(SmallStop::unmet(Plain::Dead));
         };
         if let Err(stop) = self.can_call_client(&row.process, &owner.process, notes) {
             return Err(stop);
@@ -172,13 +174,13 @@ impl Manager {
         receiver: u32,
         refs: &[ObjRef],
         notes: &mut Notes,
-    ) -> Result<Vec<Option<Node>>, Halt>
-        requires row { row.now ≡ client_row (effects_of self.now.book.history) row.now.id }
-        requires live { is_live (effects_of self.now.book.history) receiver ≡ true }
+    ) -> Result<Vec<Option<Node>>, SmallStop>
+        requires row { row.now ≡ client_row (effects_in self.now) row.now.id }
+        requires live { is_live (effects_in self.now) receiver ≡ true }
         ensures { MatchResult result
-            (λ v. AllPass (moment_of self.now.book.history) notes.old notes.new (all_pass_to_client (effects_of self.now.book.history) row.now.id receiver refs.now)
-            × AreNamed (effects_of self.now.book.history) row.now.id refs.now v.items)
-            (Halts (moment_of self.now.book.history) notes.old notes.new (all_pass_to_client (effects_of self.now.book.history) row.now.id receiver refs.now)) }
+            (λ v. AllPass (moment_in self.now) notes.old notes.new (all_pass_to_client (effects_in self.now) row.now.id receiver refs.now)
+            × AreNamed (effects_in self.now) row.now.id refs.now v.items)
+            (Halts (moment_in self.now) notes.old notes.new (all_pass_to_client (effects_in self.now) row.now.id receiver refs.now)) }
     {
         let mut named = Vec::new(self.alloc);
         for obj in refs {
@@ -200,13 +202,13 @@ impl Manager {
         receiver: u32,
         obj: ObjRef,
         notes: &mut Notes,
-    ) -> Result<Option<Node>, Halt>
-        requires row { row.now ≡ client_row (effects_of self.now.book.history) row.now.id }
-        requires live { is_live (effects_of self.now.book.history) receiver ≡ true }
+    ) -> Result<Option<Node>, SmallStop>
+        requires row { row.now ≡ client_row (effects_in self.now) row.now.id }
+        requires live { is_live (effects_in self.now) receiver ≡ true }
         ensures { MatchResult result
-            (λ o. AllPass (moment_of self.now.book.history) notes.old notes.new (passes_to_client (effects_of self.now.book.history) row.now.id receiver obj)
-            × (resolve_at (effects_of self.now.book.history) row.now.id obj ≡ o) × (is_null obj ≡ false → is_some o ≡ true))
-            (Halts (moment_of self.now.book.history) notes.old notes.new (passes_to_client (effects_of self.now.book.history) row.now.id receiver obj)) }
+            (λ o. AllPass (moment_in self.now) notes.old notes.new (passes_to_client (effects_in self.now) row.now.id receiver obj)
+            × (resolve_at (effects_in self.now) row.now.id obj ≡ o) × (is_null obj ≡ false → is_some o ≡ true))
+            (Halts (moment_in self.now) notes.old notes.new (passes_to_client (effects_in self.now) row.now.id receiver obj)) }
     {
         match obj {
             ObjRef::Null => Ok(None),
@@ -222,18 +224,18 @@ impl Manager {
         receiver: u32,
         node: Option<Node>,
         notes: &mut Notes,
-    ) -> Result<Option<Node>, Halt>
-        requires row { row.now ≡ client_row (effects_of self.now.book.history) row.now.id }
-        requires live { is_live (effects_of self.now.book.history) receiver ≡ true }
+    ) -> Result<Option<Node>, SmallStop>
+        requires row { row.now ≡ client_row (effects_in self.now) row.now.id }
+        requires live { is_live (effects_in self.now) receiver ≡ true }
         ensures { MatchResult result
-            (λ o. AllPass (moment_of self.now.book.history) notes.old notes.new (passing_checks (effects_of self.now.book.history) row.now.id receiver node)
+            (λ o. AllPass (moment_in self.now) notes.old notes.new (passing_checks (effects_in self.now) row.now.id receiver node)
             × (o ≡ node) × (is_some node ≡ true))
-            (Halts (moment_of self.now.book.history) notes.old notes.new (passing_checks (effects_of self.now.book.history) row.now.id receiver node)) }
+            (Halts (moment_in self.now) notes.old notes.new (passing_checks (effects_in self.now) row.now.id receiver node)) }
     {
         if node.is_none() {
-            return Err(Halt::unmet(Plain::Failed(Failure::BadHandle)));
+            return Err(SmallStop::unmet(Plain::Failed(Failure::BadHandle)));
         }
-        let Some(other) = self.caller(receiver) else {
+        let Some(other) = self.client_row(receiver) else {
             unreachable!();
         };
         self.can_transfer_to_client(&row.process, &other.process, notes)?;
@@ -242,18 +244,18 @@ impl Manager {
 
     /// Returns whether a receiver has room for a delivery, and for handles to these objects.
     fn has_room(&self, receiver: u32, nodes: &[Node]) -> bool
-        requires { is_live (effects_of self.now.book.history) receiver ≡ true }
-        ensures { result ≡ (has_inbox_room (effects_of self.now.book.history) receiver
-            && fits_handles (after_grants (effects_of self.now.book.history) receiver nodes.now) receiver) }
+        requires { is_live (effects_in self.now) receiver ≡ true }
+        ensures { result ≡ (has_inbox_room (effects_in self.now) receiver
+            && fits_handles (after_grants (effects_in self.now) receiver nodes.now) receiver) }
     {
         self.state.inboxes.has_room(receiver) && self.state.grants.room(receiver, nodes)
     }
 
     /// Returns the numbers that a receiver has for these objects, granted in order.
     fn numbers(&self, receiver: u32, nodes: &[Node]) -> Result<Vec<u32>, AllocError>
-        requires live { is_live (effects_of self.now.book.history) receiver ≡ true }
+        requires live { is_live (effects_in self.now) receiver ≡ true }
         requires few { length nodes.now ≤ MOST_REFS }
-        ensures { IfOk result (λ v. v.items ≡ numbers_for (effects_of self.now.book.history) receiver nodes.now) }
+        ensures { IfOk result (λ v. v.items ≡ numbers_for (effects_in self.now) receiver nodes.now) }
     {
         self.state.grants.numbers(self.alloc, receiver, nodes)
     }
@@ -266,12 +268,12 @@ impl Manager {
         payload: &Payload,
         named: &[Option<Node>],
         nodes: &[Node],
-    ) -> Result<Plan, Halt>
-        requires row { row.now ≡ client_row (effects_of self.now.book.history) row.now.id }
-        requires live { is_live (effects_of self.now.book.history) target.owner.0 ≡ true }
+    ) -> Result<Plan, SmallStop>
+        requires row { row.now ≡ client_row (effects_in self.now) row.now.id }
+        requires live { is_live (effects_in self.now) target.owner.0 ≡ true }
         requires few { length nodes.now ≤ MOST_REFS }
         requires foreign { nodes.now ≡ others target.owner.0 named.now }
-        ensures { MatchResult result (λ plan. Sends (effects_of self.now.book.history) row.now.id target payload.now named.now plan)
+        ensures { MatchResult result (λ plan. Sends (effects_in self.now) row.now.id target payload.now named.now plan)
             (λ s. s ≡ spec.wanted) }
     {
         let owner = target.owner.0;

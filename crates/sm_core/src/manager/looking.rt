@@ -4,19 +4,20 @@ ghost use Rattle.std.specs.Prelude.{◌≡◌, true, false, length, IfOk, IfErr,
 ghost use Rattle.sm_history.specs.declared.query.Query.TheVariants.{List as ListNames};
 ghost use Rattle.sm_history.specs.declared.reply.Reply.TheVariants.{Looked};
 ghost use Rattle.sm_history.specs.Clients.{is_live, policy_at, version_at};
-ghost use Rattle.sm_history.specs.Histories.{effects_of, length_of, client_of};
+ghost use Rattle.sm_history.specs.Histories.{length_of, client_of};
 ghost use Rattle.sm_history.specs.Queries.{names_by_mask, is_their_query, query_checks, checks_of_query, found_out};
-ghost use Rattle.sm_history.specs.Verdict.{is_there};
-ghost use Rattle.sm_core.specs.Managed.{look_leaves};
-ghost use Rattle.sm_history.specs.Records.{moment_of};
+ghost use Rattle.sm_core.specs.Managed.{effects_in, moment_in, look_leaves};
 ghost use Rattle.sm_core.specs.Judging.{AllPass, Halts, IsAskerStop};
+ghost use Rattle.sm_core.specs.Tables.{client_row};
 ghost use Rattle.sm_view.specs.Promises.{Looks};
 ghost use Rattle.sm_view.specs.Replies.{takes_memory};
 
-use crate::halt::{Halt, Plain};
+use crate::caller::Caller;
+use crate::client::ClientRow;
 use crate::manager::replying::{answer, is_memory};
 use crate::manager::{Manager, wanted};
 use crate::notes::Notes;
+use crate::small_stop::{Plain, SmallStop};
 use sm_history::{Answer, By, Failure, NameList, Query, Record, Reply};
 use sm_kinds::Name;
 use std::alloc::AllocError;
@@ -61,7 +62,7 @@ impl Manager {
 
     /// Returns a result with the version and the length.
     fn looked(&self, found: Answer) -> Reply
-        ensures { result ≡ Looked (version_at (effects_of self.now.book.history)) (length_of self.now.book.history) found }
+        ensures { result ≡ Looked (version_at (effects_in self.now)) (length_of self.now.book.history) found }
     {
         Reply::Looked {
             version: self.state.version,
@@ -71,24 +72,24 @@ impl Manager {
     }
 
     /// Returns why a query is refused, or its result.
-    pub fn judge_query(&self, by: By, query: &Query, notes: &mut Notes) -> Result<Answer, Halt>
+    pub fn judge_query(&self, by: By, query: &Query, notes: &mut Notes) -> Result<Answer, SmallStop>
         ensures judged { MatchResult result
-            (λ found. AllPass (moment_of self.now.book.history) notes.old notes.new (checks_of_query self.now.book.history by query.now)
-            × (found ≡ found_out (effects_of self.now.book.history) query.now))
-            (Halts (moment_of self.now.book.history) notes.old notes.new (checks_of_query self.now.book.history by query.now)) }
+            (λ found. AllPass (moment_in self.now) notes.old notes.new (checks_of_query self.now.book.history by query.now)
+            × (found ≡ found_out (effects_in self.now) query.now))
+            (Halts (moment_in self.now) notes.old notes.new (checks_of_query self.now.book.history by query.now)) }
         ensures asker { takes_memory query.now ≡ false → IfErr result IsAskerStop }
     {
         if !may_ask(by, query) {
-            return Err(Halt::unmet(Plain::Failed(Failure::NotYours)));
+            return Err(SmallStop::unmet(Plain::Failed(Failure::NotYours)));
         }
-        if !self.is_there(by) {
-            return Err(Halt::unmet(Plain::Failed(Failure::NotConnected)));
-        }
+        let Some(caller) = self.caller(by) else {
+            return Err(SmallStop::unmet(Plain::Failed(Failure::NotConnected)));
+        };
         match query {
-            Query::List(mask) => match by {
-                By::Client(client) => self.list(client.0, *mask, notes),
-                By::Manager => unreachable!(),
-                By::Admin(_) => unreachable!(),
+            Query::List(mask) => match caller {
+                Caller::Client(row) => self.list(row, *mask, notes),
+                Caller::Manager => unreachable!(),
+                Caller::Admin(_) => unreachable!(),
             },
             Query::Version => Ok(Answer::Version),
             Query::Explain {
@@ -103,17 +104,15 @@ impl Manager {
         }
     }
 
-    /// `listServices`: `list` is checked against the manager's own context.
-    fn list(&self, client: u32, mask: u32, notes: &mut Notes) -> Result<Answer, Halt>
-        requires { is_live (effects_of self.now.book.history) client ≡ true }
+    /// Judges a list (`listServices`): `list` is checked against the manager's own context.
+    fn list(&self, row: &ClientRow, mask: u32, notes: &mut Notes) -> Result<Answer, SmallStop>
+        requires live { is_live (effects_in self.now) row.now.id ≡ true }
+        requires row { row.now ≡ client_row (effects_in self.now) row.now.id }
         ensures { MatchResult result
-            (λ found. AllPass (moment_of self.now.book.history) notes.old notes.new (query_checks (effects_of self.now.book.history) client (ListNames mask))
-            × (found ≡ found_out (effects_of self.now.book.history) (ListNames mask)))
-            (Halts (moment_of self.now.book.history) notes.old notes.new (query_checks (effects_of self.now.book.history) client (ListNames mask))) }
+            (λ found. AllPass (moment_in self.now) notes.old notes.new (query_checks (effects_in self.now) row.now.id (ListNames mask))
+            × (found ≡ found_out (effects_in self.now) (ListNames mask)))
+            (Halts (moment_in self.now) notes.old notes.new (query_checks (effects_in self.now) row.now.id (ListNames mask))) }
     {
-        let Some(row) = self.caller(client) else {
-            unreachable!();
-        };
         self.can_call_manager(&row.process, notes)?;
         self.can_list(&row.process, notes)?;
         match self.names_by_mask(mask) {
@@ -124,7 +123,7 @@ impl Manager {
 
     /// Returns the names whose dump flags share a bit with the mask, in rising byte order.
     fn names_by_mask(&self, mask: u32) -> Result<Vec<Name>, AllocError>
-        ensures { IfOk result (λ v. v.items ≡ names_by_mask (effects_of self.now.book.history) mask) }
+        ensures { IfOk result (λ v. v.items ≡ names_by_mask (effects_in self.now) mask) }
     {
         self.state.names.by_mask(self.alloc, mask)
     }

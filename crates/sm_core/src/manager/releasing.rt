@@ -3,27 +3,27 @@
 ghost use Rattle.std.specs.Prelude.{◌≡◌, true};
 ghost use Rattle.sm_history.specs.declared.event.Event.TheVariants.{Release};
 ghost use Rattle.sm_history.specs.Clients.{is_live};
-ghost use Rattle.sm_history.specs.Histories.{effects_of};
 ghost use Rattle.std.specs.Prelude.{List};
 ghost use Rattle.sm_history.specs.declared.records.Record.{Record};
 ghost use Rattle.sm_core.specs.Judging.{Judged};
+ghost use Rattle.sm_core.specs.Managed.{effects_in};
 
-use crate::halt::{Halt, Plain};
 use crate::manager::Manager;
 use crate::manager::judging::one;
 use crate::notes::Notes;
 use crate::plan::Plan;
+use crate::small_stop::{Plain, SmallStop};
 use sm_history::{Effect, Failure, Outcome};
 use sm_kinds::ObjRef;
 
 impl Manager {
     /// Judges a release of one grant of a handle. The last release frees the number.
-    pub fn judge_release(&self, client: u32, handle: u32) -> Result<Plan, Halt>
-        requires { is_live (effects_of self.now.book.history) client ≡ true }
+    pub fn judge_release(&self, client: u32, handle: u32) -> Result<Plan, SmallStop>
+        requires { is_live (effects_in self.now) client ≡ true }
         ensures { (old : List Record) → Judged self.now.book.history old old client (Release handle) result }
     {
         let Some(node) = self.resolved(client, ObjRef::Handle(handle)) else {
-            return Err(Halt::unmet(Plain::Failed(Failure::BadHandle)));
+            return Err(SmallStop::unmet(Plain::Failed(Failure::BadHandle)));
         };
         let effects = one(self.alloc, Effect::Releases { client, node })?;
         Ok(Plan {

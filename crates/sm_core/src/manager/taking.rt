@@ -3,36 +3,36 @@
 ghost use Rattle.std.specs.Prelude.{◌≡◌, ◌∷◌, true, [], drop, MatchOption};
 ghost use Rattle.sm_history.specs.declared.event.Event.TheVariants.{Take};
 ghost use Rattle.sm_history.specs.Clients.{is_live};
-ghost use Rattle.sm_history.specs.Histories.{effects_of};
 ghost use Rattle.sm_history.specs.Inboxes.{inbox_at};
 ghost use Rattle.std.specs.Prelude.{List};
 ghost use Rattle.sm_history.specs.declared.records.Record.{Record};
 ghost use Rattle.sm_core.specs.Judging.{Judged};
+ghost use Rattle.sm_core.specs.Managed.{effects_in};
 
-use crate::halt::{Halt, Plain};
 use crate::manager::judging::one;
 use crate::manager::{Manager, wanted};
 use crate::notes::Notes;
 use crate::plan::Plan;
+use crate::small_stop::{Plain, SmallStop};
 use sm_history::{BoxedDelivery, Effect, Outcome};
 
 impl Manager {
     /// Returns a client's oldest delivery.
     fn oldest(&self, client: u32) -> Option<&BoxedDelivery>
-        ensures { MatchOption result (inbox_at (effects_of self.now.book.history) client ≡ [])
-            (λ x. inbox_at (effects_of self.now.book.history) client
-            ≡ x.now ∷ drop 1 (inbox_at (effects_of self.now.book.history) client)) }
+        ensures { MatchOption result (inbox_at (effects_in self.now) client ≡ [])
+            (λ x. inbox_at (effects_in self.now) client
+            ≡ x.now ∷ drop 1 (inbox_at (effects_in self.now) client)) }
     {
         self.state.inboxes.first(client)
     }
 
     /// Judges a take of the oldest delivery from a client's inbox.
-    pub fn judge_take(&self, client: u32) -> Result<Plan, Halt>
-        requires { is_live (effects_of self.now.book.history) client ≡ true }
+    pub fn judge_take(&self, client: u32) -> Result<Plan, SmallStop>
+        requires { is_live (effects_in self.now) client ≡ true }
         ensures { (old : List Record) → Judged self.now.book.history old old client Take result }
     {
         let Some(oldest) = self.oldest(client) else {
-            return Err(Halt::unmet(Plain::Empty));
+            return Err(SmallStop::unmet(Plain::Empty));
         };
         let Ok(outcome) = oldest.clone() else {
             return Err(wanted());

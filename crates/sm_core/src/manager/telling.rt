@@ -3,48 +3,48 @@
 ghost use Rattle.std.specs.Prelude.{◌≡◌, ◌==◌, true, false, [], ◌∷◌, Some, MatchOption, MatchResult};
 ghost use Rattle.std.specs.List.{list_all};
 ghost use Rattle.sm_history.specs.Clients.{is_live, policy_at};
-ghost use Rattle.sm_history.specs.Histories.{effects_of};
 ghost use Rattle.sm_history.specs.Holdings.{fits_handles, given_to, handed};
 ghost use Rattle.sm_history.specs.Services.{watchers_at};
 ghost use Rattle.sm_history.specs.declared.outcome.Outcome.TheVariants.{Added, Watched};
 ghost use Rattle.sm_history.specs.Following.{followed};
 ghost use Rattle.sm_history.specs.Notices.{notice_at, told_of, first_missing, after_notice, notices_at, after_notices};
-ghost use Rattle.sm_history.specs.Records.{moment_of, left_by_notices};
+ghost use Rattle.sm_history.specs.Records.{left_by_notices};
 ghost use Rattle.sm_core.specs.Judging.{AllPass, Halts};
 ghost use Rattle.sm_core.specs.Judging as spec;
 ghost use Rattle.sm_core.specs.Telling.{told_checks, left_at, IsTelling, GoesOn, GoesFar, MayPrecede, Tells};
+ghost use Rattle.sm_core.specs.Managed.{effects_in, moment_in};
 
-use crate::halt::{Halt, Plain};
 use crate::manager::replying::reason;
 use crate::manager::{Manager, wanted};
 use crate::notes::Notes;
 use crate::plan::Plan;
+use crate::small_stop::{Plain, SmallStop};
 use crate::telling::{Telling, boxed_twice, listed_twice};
 use sm_history::{Effect, Failure, Given, Notice, Outcome, Told, Watch};
 use sm_kinds::{ClientId, Name, Node};
 
 /// Returns the stop for a watcher whose inbox or handles have no room.
-fn full() -> Halt
+fn full() -> SmallStop
     ensures { result ≡ spec.full }
 {
-    Halt::unmet(Plain::Failed(Failure::TargetFull))
+    SmallStop::unmet(Plain::Failed(Failure::TargetFull))
 }
 
 impl Manager {
     /// Returns whether a client holds no more handles than it may.
     fn fits_handles(&self, client: u32) -> bool
-        requires { is_live (effects_of self.now.book.history) client ≡ true }
-        ensures { result ≡ fits_handles (effects_of self.now.book.history) client }
+        requires { is_live (effects_in self.now) client ≡ true }
+        ensures { result ≡ fits_handles (effects_in self.now) client }
     {
         self.state.grants.room(client, &[])
     }
 
     /// Returns an object as it reaches a client, if the client's handles have room.
     fn given_to(&self, client: u32, node: Node) -> Option<Given>
-        requires { is_live (effects_of self.now.book.history) client ≡ true }
-        ensures { MatchOption result (fits_handles (handed (effects_of self.now.book.history) client node) client ≡ false)
-            (λ g. (fits_handles (handed (effects_of self.now.book.history) client node) client ≡ true)
-            × (g ≡ given_to (effects_of self.now.book.history) client node)) }
+        requires { is_live (effects_in self.now) client ≡ true }
+        ensures { MatchOption result (fits_handles (handed (effects_in self.now) client node) client ≡ false)
+            (λ g. (fits_handles (handed (effects_in self.now) client node) client ≡ true)
+            × (g ≡ given_to (effects_in self.now) client node)) }
     {
         if node.owner.0 == client {
             if !self.fits_handles(client) {
@@ -60,7 +60,7 @@ impl Manager {
 
     /// Returns the number of deliveries for which a client's inbox still has room.
     fn left(&self, telling: &Telling, client: u32) -> usize
-        ensures { result ≡ left_at (effects_of self.now.book.history) telling.now client }
+        ensures { result ≡ left_at (effects_in self.now) telling.now client }
     {
         match telling.left.get(&client) {
             Some(left) => *left,
@@ -75,14 +75,14 @@ impl Manager {
         node: Node,
         left: usize,
         notes: &mut Notes,
-    ) -> Result<Given, Halt>
-        requires { is_live (effects_of self.now.book.history) watch.now.client ≡ true }
+    ) -> Result<Given, SmallStop>
+        requires { is_live (effects_in self.now) watch.now.client ≡ true }
         ensures { MatchResult result
-            (λ g. AllPass (moment_of self.now.book.history) notes.old notes.new (told_checks (effects_of self.now.book.history) node watch.now left)
-            × (g ≡ given_to (effects_of self.now.book.history) watch.now.client node))
-            (Halts (moment_of self.now.book.history) notes.old notes.new (told_checks (effects_of self.now.book.history) node watch.now left)) }
+            (λ g. AllPass (moment_in self.now) notes.old notes.new (told_checks (effects_in self.now) node watch.now left)
+            × (g ≡ given_to (effects_in self.now) watch.now.client node))
+            (Halts (moment_in self.now) notes.old notes.new (told_checks (effects_in self.now) node watch.now left)) }
     {
-        let Some(row) = self.caller(watch.client) else {
+        let Some(row) = self.client_row(watch.client) else {
             unreachable!();
         };
         self.can_find(&row.process, &watch.name, notes)?;
@@ -98,13 +98,13 @@ impl Manager {
     }
 
     /// Notifies a watcher, or finds why it may not be notified.
-    fn tell(&self, watch: &Watch, node: Node, telling: &mut Telling) -> Result<Told, Halt>
-        requires live { is_live (effects_of self.now.book.history) watch.now.client ≡ true }
-        requires telling { IsTelling (effects_of self.now.book.history) node telling.old }
+    fn tell(&self, watch: &Watch, node: Node, telling: &mut Telling) -> Result<Told, SmallStop>
+        requires live { is_live (effects_in self.now) watch.now.client ≡ true }
+        requires telling { IsTelling (effects_in self.now) node telling.old }
         ensures { MatchResult result
-            (λ t. (t ≡ told_of (followed (effects_of self.now.book.history) telling.old.effects.items) node watch.now
-            (first_missing (followed (effects_of self.now.book.history) telling.old.effects.items) node watch.now))
-            × GoesOn (moment_of self.now.book.history) (effects_of self.now.book.history) node watch.now telling.old telling.new)
+            (λ t. (t ≡ told_of (followed (effects_in self.now) telling.old.effects.items) node watch.now
+            (first_missing (followed (effects_in self.now) telling.old.effects.items) node watch.now))
+            × GoesOn (moment_in self.now) (effects_in self.now) node watch.now telling.old telling.new)
             (λ s. s ≡ spec.wanted) }
     {
         let left = self.left(telling, watch.client);
@@ -122,12 +122,17 @@ impl Manager {
 
     /// Notifies a watcher that an object was registered under the name, and gives it the object; or returns why it may
     /// not be notified.
-    pub fn notify(&self, watch: &Watch, node: Node, telling: &mut Telling) -> Result<Notice, Halt>
-        requires live { is_live (effects_of self.now.book.history) watch.now.client ≡ true }
-        requires telling { IsTelling (effects_of self.now.book.history) node telling.old }
+    pub fn notify(
+        &self,
+        watch: &Watch,
+        node: Node,
+        telling: &mut Telling,
+    ) -> Result<Notice, SmallStop>
+        requires live { is_live (effects_in self.now) watch.now.client ≡ true }
+        requires telling { IsTelling (effects_in self.now) node telling.old }
         ensures { MatchResult result
-            (λ x. (x ≡ notice_at (followed (effects_of self.now.book.history) telling.old.effects.items) node watch.now)
-            × GoesOn (moment_of self.now.book.history) (effects_of self.now.book.history) node watch.now telling.old telling.new)
+            (λ x. (x ≡ notice_at (followed (effects_in self.now) telling.old.effects.items) node watch.now)
+            × GoesOn (moment_in self.now) (effects_in self.now) node watch.now telling.old telling.new)
             (λ s. s ≡ spec.wanted) }
     {
         let result = self.tell(watch, node, telling)?;
@@ -145,12 +150,12 @@ impl Manager {
         watches: &[Watch],
         node: Node,
         telling: &mut Telling,
-    ) -> Result<Vec<Notice>, Halt>
-        requires live { list_all (λ w. is_live (effects_of self.now.book.history) w.client) watches.now ≡ true }
-        requires telling { IsTelling (effects_of self.now.book.history) node telling.old }
+    ) -> Result<Vec<Notice>, SmallStop>
+        requires live { list_all (λ w. is_live (effects_in self.now) w.client) watches.now ≡ true }
+        requires telling { IsTelling (effects_in self.now) node telling.old }
         ensures { MatchResult result
-            (λ notices. (notices.items ≡ notices_at (followed (effects_of self.now.book.history) telling.old.effects.items) node watches.now)
-            × GoesFar (moment_of self.now.book.history) (effects_of self.now.book.history) node watches.now telling.old telling.new)
+            (λ notices. (notices.items ≡ notices_at (followed (effects_in self.now) telling.old.effects.items) node watches.now)
+            × GoesFar (moment_in self.now) (effects_in self.now) node watches.now telling.old telling.new)
             (λ s. s ≡ spec.wanted) }
     {
         let mut notices = Vec::new(self.alloc);
@@ -166,7 +171,7 @@ impl Manager {
 
     /// Returns the watches of a name, oldest first.
     fn watchers(&self, name: &[u8]) -> &[Watch]
-        ensures { result.now ≡ watchers_at (effects_of self.now.book.history) name.now }
+        ensures { result.now ≡ watchers_at (effects_in self.now) name.now }
     {
         self.state.names.watchers(name)
     }
@@ -177,14 +182,14 @@ impl Manager {
         watch: &Watch,
         node: Node,
         effects: Vec<Effect>,
-    ) -> Result<Plan, Halt>
-        requires live { is_live (effects_of self.now.book.history) watch.now.client ≡ true }
-        requires before { MayPrecede (effects_of self.now.book.history) node effects.items }
+    ) -> Result<Plan, SmallStop>
+        requires live { is_live (effects_in self.now) watch.now.client ≡ true }
+        requires before { MayPrecede (effects_in self.now) node effects.items }
         ensures { MatchResult result
-            (λ plan. (plan.outcome ≡ Watched (Some (notice_at (followed (effects_of self.now.book.history) effects.items) node watch.now)))
-            × (plan.records ≡ left_by_notices (moment_of self.now.book.history) (followed (effects_of self.now.book.history) effects.items) node (watch.now ∷ []))
-            × Tells (effects_of self.now.book.history)
-            (after_notice (followed (effects_of self.now.book.history) effects.items) node watch.now) plan)
+            (λ plan. (plan.outcome ≡ Watched (Some (notice_at (followed (effects_in self.now) effects.items) node watch.now)))
+            × (plan.records ≡ left_by_notices (moment_in self.now) (followed (effects_in self.now) effects.items) node (watch.now ∷ []))
+            × Tells (effects_in self.now)
+            (after_notice (followed (effects_in self.now) effects.items) node watch.now) plan)
             (λ s. s ≡ spec.wanted) }
     {
         let mut telling = Telling::behind(self.alloc, effects);
@@ -202,16 +207,21 @@ impl Manager {
 
     /// Returns the plan of an accepted Add after these effects: each watcher of the name is notified, or has the reason
     /// why not.
-    pub fn plan_added(&self, name: &Name, node: Node, effects: Vec<Effect>) -> Result<Plan, Halt>
-        requires { MayPrecede (effects_of self.now.book.history) node effects.items }
+    pub fn plan_added(
+        &self,
+        name: &Name,
+        node: Node,
+        effects: Vec<Effect>,
+    ) -> Result<Plan, SmallStop>
+        requires { MayPrecede (effects_in self.now) node effects.items }
         ensures { MatchResult result
-            (λ plan. (plan.outcome ≡ Added (notices_at (followed (effects_of self.now.book.history) effects.items) node
-            (watchers_at (effects_of self.now.book.history) name.now)))
-            × (plan.records ≡ left_by_notices (moment_of self.now.book.history) (followed (effects_of self.now.book.history) effects.items) node
-            (watchers_at (effects_of self.now.book.history) name.now))
-            × Tells (effects_of self.now.book.history)
-            (after_notices (followed (effects_of self.now.book.history) effects.items) node
-            (watchers_at (effects_of self.now.book.history) name.now)) plan)
+            (λ plan. (plan.outcome ≡ Added (notices_at (followed (effects_in self.now) effects.items) node
+            (watchers_at (effects_in self.now) name.now)))
+            × (plan.records ≡ left_by_notices (moment_in self.now) (followed (effects_in self.now) effects.items) node
+            (watchers_at (effects_in self.now) name.now))
+            × Tells (effects_in self.now)
+            (after_notices (followed (effects_in self.now) effects.items) node
+            (watchers_at (effects_in self.now) name.now)) plan)
             (λ s. s ≡ spec.wanted) }
     {
         let mut telling = Telling::behind(self.alloc, effects);

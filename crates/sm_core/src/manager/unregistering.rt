@@ -6,43 +6,40 @@ ghost use Rattle.sm_history.specs.declared.stop.Stop.TheVariants.{Unmet};
 ghost use Rattle.sm_history.specs.declared.stop.Instead.TheVariants.{Refused};
 ghost use Rattle.sm_history.specs.declared.refusal.Refusal.TheVariants.{Exception as Excepted};
 ghost use Rattle.sm_history.specs.Clients.{is_live, policy_at};
-ghost use Rattle.sm_history.specs.Histories.{effects_of};
 ghost use Rattle.sm_history.specs.Holdings.{is_in_use};
 ghost use Rattle.sm_core.specs.Tables.{client_row};
-ghost use Rattle.sm_history.specs.Records.{moment_of};
 ghost use Rattle.sm_core.specs.Judging.{AllPass, Halts, Judged, removal_checks};
+ghost use Rattle.sm_core.specs.Managed.{effects_in, moment_in};
 
 use crate::client::ClientRow;
-use crate::halt::{Halt, Plain};
 use crate::manager::judging::one;
 use crate::manager::{Manager, wanted};
 use crate::notes::Notes;
 use crate::plan::Plan;
+use crate::small_stop::{Plain, SmallStop};
 use sm_history::{Effect, Exception, Outcome};
 use sm_kinds::{Name, Node, ObjRef};
 
 /// Returns the stop for a call that fails with a Binder exception.
-fn failed(exception: Exception) -> Halt
+fn failed(exception: Exception) -> SmallStop
     ensures { result ≡ Unmet (Refused (Excepted exception)) }
 {
-    Halt::unmet(Plain::Exception(exception))
+    SmallStop::unmet(Plain::Exception(exception))
 }
 
 impl Manager {
     /// Judges the removal of a service by the client that added it (`tryUnregisterService`).
     pub fn judge_unregister(
         &self,
-        client: u32,
+        row: &ClientRow,
         name: &Name,
         obj: ObjRef,
         notes: &mut Notes,
-    ) -> Result<Plan, Halt>
-        requires { is_live (effects_of self.now.book.history) client ≡ true }
-        ensures { Judged self.now.book.history notes.old notes.new client (Unregister name.now obj) result }
+    ) -> Result<Plan, SmallStop>
+        requires live { is_live (effects_in self.now) row.now.id ≡ true }
+        requires row { row.now ≡ client_row (effects_in self.now) row.now.id }
+        ensures { Judged self.now.book.history notes.old notes.new row.now.id (Unregister name.now obj) result }
     {
-        let Some(row) = self.caller(client) else {
-            unreachable!();
-        };
         self.can_call_manager(&row.process, notes)?;
         let node = self.judge_reference(row, obj, notes)?;
         if let Err(stop) = self.judge_removal(row, name, node, notes) {
@@ -67,11 +64,11 @@ impl Manager {
         name: &Name,
         node: Option<Node>,
         notes: &mut Notes,
-    ) -> Result<(), Halt>
-        requires { row.now ≡ client_row (effects_of self.now.book.history) row.now.id }
+    ) -> Result<(), SmallStop>
+        requires { row.now ≡ client_row (effects_in self.now) row.now.id }
         ensures { MatchResult result
-            (λ done. AllPass (moment_of self.now.book.history) notes.old notes.new (removal_checks (effects_of self.now.book.history) row.now.id name.now node))
-            (Halts (moment_of self.now.book.history) notes.old notes.new (removal_checks (effects_of self.now.book.history) row.now.id name.now node)) }
+            (λ done. AllPass (moment_in self.now) notes.old notes.new (removal_checks (effects_in self.now) row.now.id name.now node))
+            (Halts (moment_in self.now) notes.old notes.new (removal_checks (effects_in self.now) row.now.id name.now node)) }
     {
         let Some(node) = node else {
             return Err(failed(Exception::NullBinder));
@@ -94,7 +91,7 @@ impl Manager {
 
     /// Returns whether a live client other than one holds an object.
     fn is_in_use(&self, except: u32, node: Node) -> bool
-        ensures { result ≡ is_in_use (effects_of self.now.book.history) except node }
+        ensures { result ≡ is_in_use (effects_in self.now) except node }
     {
         self.state.grants.holders(node, except) > 0
     }

@@ -33,6 +33,7 @@ impl Manager {
         requires last { last.now ≡ self.now.book }
         ensures { IfOk result (λ v. v ≡ extended self.now.book ready.now.entry) }
     {
+        // Reads a field, so that the invariant is known: see docs/PROOFS.md.
         let _ = &self.places;
         last.after(&self.journal, &self.state, &self.turns, ready)
     }

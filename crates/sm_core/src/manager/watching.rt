@@ -4,26 +4,26 @@ ghost use Rattle.std.specs.Prelude.{◌≡◌, ◌≤◌, true, length, count_by
 ghost use Rattle.std.specs.List.{list_any};
 ghost use Rattle.sm_history.specs.declared.event.Event.TheVariants.{Unwatch, Watch as WatchName};
 ghost use Rattle.sm_history.specs.Clients.{is_live, policy_at};
-ghost use Rattle.sm_history.specs.Histories.{effects_of, watch};
+ghost use Rattle.sm_history.specs.Histories.{watch};
 ghost use Rattle.sm_history.specs.Services.{same_watch, watches_at};
 ghost use Rattle.sm_history.specs.declared.limits.TheConstants.{MOST_WATCHES};
 ghost use Rattle.sm_history.specs.Verdict.{watch_checks};
 ghost use Rattle.sm_core.specs.Tables.{client_row};
-ghost use Rattle.sm_history.specs.Records.{moment_of};
 ghost use Rattle.sm_core.specs.Judging.{AllPass, Halts, Judged};
 ghost use Rattle.sm_core.specs.Judging as spec;
+ghost use Rattle.sm_core.specs.Managed.{effects_in, moment_in};
 
 use crate::client::ClientRow;
-use crate::halt::{Halt, Plain};
 use crate::manager::judging::one;
 use crate::manager::{Manager, wanted};
 use crate::notes::Notes;
 use crate::plan::Plan;
+use crate::small_stop::{Plain, SmallStop};
 use sm_history::{Denial, Effect, Exception, MOST_WATCHES, Outcome, Watch, WatchPair};
 use sm_kinds::{Name, is_isolated, valid_name};
 
 /// Makes the watch of a name by a client's object.
-fn watch_of(client: u32, name: &Name, object: u32) -> Result<Watch, Halt>
+fn watch_of(client: u32, name: &Name, object: u32) -> Result<Watch, SmallStop>
     ensures { MatchResult result (λ w. w ≡ watch client name.now object) (λ s. s ≡ spec.wanted) }
 {
     match name.clone() {
@@ -37,7 +37,7 @@ fn watch_of(client: u32, name: &Name, object: u32) -> Result<Watch, Halt>
 }
 
 /// Makes the watch and its copy.
-fn pair_of(client: u32, name: &Name, object: u32) -> Result<WatchPair, Halt>
+fn pair_of(client: u32, name: &Name, object: u32) -> Result<WatchPair, SmallStop>
     ensures { MatchResult result (λ w. w ≡ watch client name.now object) (λ s. s ≡ spec.wanted) }
 {
     match WatchPair::new(client, name, object) {
@@ -50,22 +50,20 @@ impl Manager {
     /// Judges a new watch of a name by a client's object (`registerForNotifications`).
     pub fn judge_watch(
         &self,
-        client: u32,
+        row: &ClientRow,
         name: &Name,
         object: u32,
         notes: &mut Notes,
-    ) -> Result<Plan, Halt>
-        requires { is_live (effects_of self.now.book.history) client ≡ true }
-        ensures { Judged self.now.book.history notes.old notes.new client (WatchName name.now object) result }
+    ) -> Result<Plan, SmallStop>
+        requires live { is_live (effects_in self.now) row.now.id ≡ true }
+        requires row { row.now ≡ client_row (effects_in self.now) row.now.id }
+        ensures { Judged self.now.book.history notes.old notes.new row.now.id (WatchName name.now object) result }
     {
-        let Some(row) = self.caller(client) else {
-            unreachable!();
-        };
         if let Err(stop) = self.judge_watching(row, name, notes) {
             return Err(stop);
         }
-        let watch = watch_of(client, name, object)?;
-        let made = pair_of(client, name, object)?;
+        let watch = watch_of(row.id, name, object)?;
+        let made = pair_of(row.id, name, object)?;
         let effects = one(self.alloc, Effect::Watches(made))?;
         match self.service(name.bytes()) {
             Some(service) => self.plan_watched(&watch, service.node, effects),
@@ -79,12 +77,17 @@ impl Manager {
     }
 
     /// Checks that a client may watch a name.
-    fn judge_watching(&self, row: &ClientRow, name: &Name, notes: &mut Notes) -> Result<(), Halt>
-        requires { row.now ≡ client_row (effects_of self.now.book.history) row.now.id }
+    fn judge_watching(
+        &self,
+        row: &ClientRow,
+        name: &Name,
+        notes: &mut Notes,
+    ) -> Result<(), SmallStop>
+        requires { row.now ≡ client_row (effects_in self.now) row.now.id }
         ensures { MatchResult result
-            (λ done. AllPass (moment_of self.now.book.history) notes.old notes.new (watch_checks (effects_of self.now.book.history) row.now.id name.now)
-            × (nat_lt (length (watches_at (effects_of self.now.book.history))) MOST_WATCHES ≡ true))
-            (Halts (moment_of self.now.book.history) notes.old notes.new (watch_checks (effects_of self.now.book.history) row.now.id name.now)) }
+            (λ done. AllPass (moment_in self.now) notes.old notes.new (watch_checks (effects_in self.now) row.now.id name.now)
+            × (nat_lt (length (watches_at (effects_in self.now))) MOST_WATCHES ≡ true))
+            (Halts (moment_in self.now) notes.old notes.new (watch_checks (effects_in self.now) row.now.id name.now)) }
     {
         self.can_call_manager(&row.process, notes)?;
         self.can_transfer_to_manager(&row.process, notes)?;
@@ -94,17 +97,17 @@ impl Manager {
             return Err(self.barred(denial, &row.process.who, name, notes));
         }
         if !valid_name(name.bytes()) {
-            return Err(Halt::unmet(Plain::Exception(Exception::InvalidName)));
+            return Err(SmallStop::unmet(Plain::Exception(Exception::InvalidName)));
         }
         if self.watches() >= MOST_WATCHES {
-            return Err(Halt::unmet(Plain::Exception(Exception::TableFull)));
+            return Err(SmallStop::unmet(Plain::Exception(Exception::TableFull)));
         }
         Ok(())
     }
 
     /// Returns the number of watches of live clients.
     pub fn watches(&self) -> usize
-        ensures count { result ≡ length (watches_at (effects_of self.now.book.history)) }
+        ensures count { result ≡ length (watches_at (effects_in self.now)) }
         ensures few { result ≤ MOST_WATCHES }
     {
         self.state.names.watches()
@@ -113,25 +116,23 @@ impl Manager {
     /// Judges the removal of every watch of a name by a client's object (`unregisterForNotifications`).
     pub fn judge_unwatch(
         &self,
-        client: u32,
+        row: &ClientRow,
         name: &Name,
         object: u32,
         notes: &mut Notes,
-    ) -> Result<Plan, Halt>
-        requires { is_live (effects_of self.now.book.history) client ≡ true }
-        ensures { Judged self.now.book.history notes.old notes.new client (Unwatch name.now object) result }
+    ) -> Result<Plan, SmallStop>
+        requires live { is_live (effects_in self.now) row.now.id ≡ true }
+        requires row { row.now ≡ client_row (effects_in self.now) row.now.id }
+        ensures { Judged self.now.book.history notes.old notes.new row.now.id (Unwatch name.now object) result }
     {
-        let Some(row) = self.caller(client) else {
-            unreachable!();
-        };
         self.can_call_manager(&row.process, notes)?;
         self.can_transfer_to_manager(&row.process, notes)?;
         self.can_find(&row.process, name, notes)?;
-        if !self.is_watching(client, name.bytes(), object) {
-            return Err(Halt::unmet(Plain::Exception(Exception::NothingToUnregister)));
+        if !self.is_watching(row.id, name.bytes(), object) {
+            return Err(SmallStop::unmet(Plain::Exception(Exception::NothingToUnregister)));
         }
-        let ended = self.watching(client, name.bytes(), object);
-        let watch = watch_of(client, name, object)?;
+        let ended = self.watching(row.id, name.bytes(), object);
+        let watch = watch_of(row.id, name, object)?;
         let effects = one(self.alloc, Effect::Unwatches(watch))?;
         Ok(Plan {
             outcome: Outcome::Unwatched(ended),
@@ -143,14 +144,14 @@ impl Manager {
 
     /// Returns whether a client's object watches a name.
     fn is_watching(&self, client: u32, name: &[u8], object: u32) -> bool
-        ensures { result ≡ list_any (same_watch (watch client name.now object)) (watches_at (effects_of self.now.book.history)) }
+        ensures { result ≡ list_any (same_watch (watch client name.now object)) (watches_at (effects_in self.now)) }
     {
         self.state.names.is_watching(client, name, object)
     }
 
     /// Returns the number of watches of a name by a client's object.
     fn watching(&self, client: u32, name: &[u8], object: u32) -> u32
-        ensures { result ≡ count_by (same_watch (watch client name.now object)) (watches_at (effects_of self.now.book.history)) }
+        ensures { result ≡ count_by (same_watch (watch client name.now object)) (watches_at (effects_in self.now)) }
     {
         self.state.names.watching(client, name, object)
     }

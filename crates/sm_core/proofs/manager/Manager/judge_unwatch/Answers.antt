@@ -9,12 +9,12 @@ use Rattle.sm_core.proofs.manager.Manager.judge_unwatch.Goals as goal
 pub returns : goal.returns
 returns c =
     let d = effects_of c.args.self.now.book.history in
-    let k = c.args.client in
+    let k = c.args.row.now.id in
     let name = c.args.name.now in
     let object = c.args.object in (
       search rules,
       unwatch_plan (moment_of c.args.self.now.book.history) d k name object c.in_ok-watch.watch _ (search rules)
-          c.in_ok-watch.ensures c.requires c.in_ok-effects.ensures
+          c.in_ok-watch.ensures c.requires.live c.in_ok-effects.ensures
           (ap (λ (n : ℕ). Unwatched n) (c.watching-ended.ensures
           ∙ ap (λ (v : List ℕ). count_by (same_watch (watch k v object)) (watches_at d)) c.bytes-2.ensures)) refl,
     )

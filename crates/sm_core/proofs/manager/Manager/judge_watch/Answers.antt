@@ -4,7 +4,6 @@ use Rattle.sm_history.specs.Histories.{effects_of}
 use Rattle.sm_history.specs.Services.{service_at}
 use Rattle.sm_history.specs.Sound.{Sound}
 use Rattle.sm_history.specs.declared.effect.Watch.{Watch}
-use Rattle.sm_core.specs.declared.client.ClientRow.{ClientRow}
 use Rattle.sm_history.specs.Records.{moment_of}
 use Rattle.sm_core.proofs.TellingPlans.{precede_watches, watch_judged, watch_alone}
 use Rattle.sm_core.proofs.manager.Manager.judge_watch.Goals as goal
@@ -13,28 +12,26 @@ pub plan_watched-requires-clause-before : goal.plan_watched-requires-clause-befo
 plan_watched-requires-clause-before c =
     let d = effects_of c.args.self.now.book.history in
     let sound : Sound d = rw (← c.self.view_is) c.self.invariant.stands.sound in
-    precede_watches d c.in-Some-service.service.node c.in_ok-effects.effects.items c.in_ok-made.made sound
-    (subst (λ (w : Watch). is_live d w.client ≡ true) (sym c.in_ok-made.ensures) c.requires)
-    c.in_default-judge_watching.ensures.1 c.in_ok-effects.ensures
+    precede_watches d c.in-Some.service.node c.in_ok-effects.effects.items c.in_ok-made.made sound
+    (subst (λ (w : Watch). is_live d w.client ≡ true) (sym c.in_ok-made.ensures) c.requires.live)
+    c.in_default.ensures.1 c.in_ok-effects.ensures
 
-pub returns-in-Some-service : goal.returns-in-Some-service
-returns-in-Some-service c =
+pub returns-in-Some : goal.returns-in-Some
+returns-in-Some c =
     let d = effects_of c.args.self.now.book.history in
-    let own = ap (λ (r : ClientRow). r.id) c.in-Some.ensures.1 in
-    watch_judged c.args.self.now.book.history _ _ c.args.client c.args.name.now c.args.object
-    c.in-Some-service.service c.in_ok-watch.watch
+    watch_judged c.args.self.now.book.history _ _ c.args.row.now.id c.args.name.now c.args.object
+    c.in-Some.service c.in_ok-watch.watch
     c.in_ok-made.made c.in_ok-effects.effects.items c.plan_watched.result
-    (rw own at c.in_default-judge_watching.ensures.0)
-    (c.in-Some-service.ensures ∙ ap (service_at d) c.bytes.ensures) c.in_ok-watch.ensures c.in_ok-made.ensures
+    c.in_default.ensures.0
+    (c.in-Some.ensures ∙ ap (service_at d) c.bytes.ensures) c.in_ok-watch.ensures c.in_ok-made.ensures
     c.in_ok-effects.ensures c.plan_watched.ensures
 
 pub returns : goal.returns
 returns c =
-    let d = effects_of c.args.self.now.book.history in
-    let own = ap (λ (r : ClientRow). r.id) c.in-Some.ensures.1 in (
-      rw own at c.in_default-judge_watching.ensures.0,
-      watch_alone (moment_of c.args.self.now.book.history) d c.args.client c.args.name.now c.args.object
+    let d = effects_of c.args.self.now.book.history in (
+      c.in_default.ensures.0,
+      watch_alone (moment_of c.args.self.now.book.history) d c.args.row.now.id c.args.name.now c.args.object
           c.in_ok-made.made _ (search rules)
-          (c.in-None.ensures ∙ ap (service_at d) c.bytes.ensures) c.in_ok-made.ensures c.requires
-          c.in_default-judge_watching.ensures.1 c.in_ok-effects.ensures refl refl,
+          (c.in-None.ensures ∙ ap (service_at d) c.bytes.ensures) c.in_ok-made.ensures c.requires.live
+          c.in_default.ensures.1 c.in_ok-effects.ensures refl refl,
     )

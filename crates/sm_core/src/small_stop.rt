@@ -2,7 +2,7 @@
 
 ghost use Rattle.std.specs.Prelude.{◌≡◌, ◌⊎◌};
 ghost use Rattle.sm_history.specs.declared.stop.Stop.TheVariants.{Unmet};
-ghost use Rattle.sm_core.specs.Halting.{instead_of, stop_of};
+ghost use Rattle.sm_core.specs.SmallStops.{instead_of, stop_of};
 ghost use Rattle.sm_core.specs.Judging as spec;
 
 use sm_history::{Exception, Failure, Stop};
@@ -36,7 +36,7 @@ pub enum Plain {
 
 /// How a stop is stored.
 #[derive(Drop)]
-pub enum Held {
+pub enum Stored {
     /// Inline.
     Plain(Plain),
     /// Boxed.
@@ -45,13 +45,13 @@ pub enum Held {
 
 /// Why a request makes no change. Contracts see the stop. Each judgement passes it on, so it is small: only a stop with
 /// texts is boxed.
-pub struct Halt {
-    held: Held,
+pub struct SmallStop {
+    held: Stored,
 }
 
-impl Model for Halt {
+impl Model for SmallStop {
     ghost use Rattle.sm_history.specs.declared.stop.Stop.{Stop};
-    ghost use Rattle.sm_core.specs.Halting.{stop_of};
+    ghost use Rattle.sm_core.specs.SmallStops.{stop_of};
 
     ghost Value = { Stop };
 
@@ -59,47 +59,47 @@ impl Model for Halt {
 }
 
 // Drop: see docs/PROOFS.md.
-impl Drop for Halt {
+impl Drop for SmallStop {
     fn drop(self) {
-        let Halt { held: _ } = self;
+        let SmallStop { held: _ } = self;
     }
 }
 
-impl Halt {
+impl SmallStop {
     /// Makes a stop without texts.
     #[inline]
-    pub fn unmet(plain: Plain) -> Halt
+    pub fn unmet(plain: Plain) -> SmallStop
         ensures { result ≡ Unmet (instead_of plain) }
     {
-        Halt {
-            held: Held::Plain(plain),
+        SmallStop {
+            held: Stored::Plain(plain),
         }
     }
 
     /// Boxes a stop with texts; if that fails, makes the stop for a failed allocation.
-    pub fn whole(alloc: Global, stop: Stop) -> Halt
+    pub fn whole(alloc: Global, stop: Stop) -> SmallStop
         ensures { (result ≡ spec.wanted) ⊎ (result ≡ stop) }
     {
         match Box::new(alloc, stop) {
-            Ok(stop) => Halt {
-                held: Held::Whole(stop),
+            Ok(stop) => SmallStop {
+                held: Stored::Whole(stop),
             },
-            Err(_) => Halt::unmet(Plain::Memory),
+            Err(_) => SmallStop::unmet(Plain::Memory),
         }
     }
 
     /// Returns how the stop is stored.
-    pub fn held(&self) -> &Held
+    pub fn held(&self) -> &Stored
         ensures { stop_of result.now ≡ self.now }
     {
         &self.held
     }
 
     /// Returns how the stop is stored.
-    pub fn into_held(self) -> Held
+    pub fn into_stored(self) -> Stored
         ensures { stop_of result ≡ self }
     {
-        let Halt { held } = self;
+        let SmallStop { held } = self;
         held
     }
 }

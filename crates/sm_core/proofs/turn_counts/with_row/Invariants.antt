@@ -1,7 +1,7 @@
 use Rattle.std.proofs.Common.{◌≡◌, ◌≤◌, ◌+◌, ◌∷◌, take, length}
 use Rattle.std.specs.Vec.{vec_capacity}
 use Rattle.sm_core.specs.Viewing.{rows_of_others}
-use Rattle.sm_core.proofs.tally.with_row.Given as goal
+use Rattle.sm_core.proofs.turn_counts.with_row.Given as goal
 
 abbrev pub invariant-loop-other : goal.invariant-loop-other
 invariant-loop-other l = record {

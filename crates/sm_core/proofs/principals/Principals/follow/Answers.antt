@@ -9,7 +9,7 @@ use Rattle.sm_core.specs.Tables.{process_under, process_at, client_rows}
 use Rattle.sm_core.proofs.Connecting.{clients_connects, row_added}
 use Rattle.sm_core.proofs.Renumbering.{clients_sets}
 use Rattle.sm_core.proofs.Dying.{clients_dies}
-use Rattle.sm_core.proofs.people.People.follow.Goals as goal
+use Rattle.sm_core.proofs.principals.Principals.follow.Goals as goal
 
 pub returns-in_ok-policy-in-Sets-clause-stand : goal.returns-in_ok-policy-in-Sets-clause-stand
 returns-in_ok-policy-in-Sets-clause-stand c = rw c.in-Sets.is (λ d sound m s.

@@ -1,9 +1,9 @@
 use Rattle.std.proofs.Common.{◌≡◌, ◌+◌, ◌∷◌, drop, ap, ◌∙◌, rules, suc, arith}
 use Rattle.std.proofs.Math.Seq.{drop-cons}
-use Rattle.sm_core.specs.Viewing.{StandPeople}
+use Rattle.sm_core.specs.Viewing.{StandPrincipals}
 use Rattle.sm_core.proofs.Numbers.{sets_first}
 use Rattle.sm_core.proofs.Viewing.{goes_on}
-use Rattle.sm_core.proofs.people.People.after.Goals as goal
+use Rattle.sm_core.proofs.principals.Principals.after.Goals as goal
 
 pub follow-requires : goal.follow-requires
 follow-requires c =
@@ -33,7 +33,7 @@ loop-effect-preserved c =
           let grown = c.follow.ensures.version in
           let first = sets_first x (drop (i + 1) xs) in
           omega (arith, s, grown, first);
-      stand = λ d s m. goes_on (λ e. StandPeople e c.loop-effect.people)
-          (λ e. StandPeople e c.follow.new.self) d xs (drop i xs) (drop (i + 1) xs) x left
+      stand = λ d s m. goes_on (λ e. StandPrincipals e c.loop-effect.principals)
+          (λ e. StandPrincipals e c.follow.new.self) d xs (drop i xs) (drop (i + 1) xs) x left
           c.in_ok-follow.ensures.stand (c.loop-effect.invariant.stand d s m);
     }

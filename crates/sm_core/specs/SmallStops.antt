@@ -5,10 +5,10 @@ use Rattle.sm_history.specs.declared.stop.Stop.TheVariants.{Unmet}
 use Rattle.sm_history.specs.declared.stop.Instead.{Instead}
 use Rattle.sm_history.specs.declared.stop.Instead.TheVariants as answered
 use Rattle.sm_history.specs.declared.refusal.Refusal.TheVariants as refused
-use Rattle.sm_core.specs.declared.halt.Plain.{Plain}
-use Rattle.sm_core.specs.declared.halt.Plain.TheVariants as plain
-use Rattle.sm_core.specs.declared.halt.Held.{Held}
-use Rattle.sm_core.specs.declared.halt.Held.TheVariants as held
+use Rattle.sm_core.specs.declared.small_stop.Plain.{Plain}
+use Rattle.sm_core.specs.declared.small_stop.Plain.TheVariants as plain
+use Rattle.sm_core.specs.declared.small_stop.Stored.{Stored}
+use Rattle.sm_core.specs.declared.small_stop.Stored.TheVariants as held
 
 -- This is the answer for a failed condition without texts.
 abbrev pub instead_of : Plain → Instead
@@ -24,6 +24,6 @@ instead_of plain.JournalFull = answered.Refused refused.JournalFull
 instead_of plain.Memory = answered.Refused refused.Memory
 
 -- This is the stop that is stored.
-abbrev pub stop_of : Held → Stop
+abbrev pub stop_of : Stored → Stop
 stop_of (held.Plain p) = Unmet (instead_of p)
 stop_of (held.Whole s) = box_value s

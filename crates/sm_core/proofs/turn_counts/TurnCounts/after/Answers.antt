@@ -3,8 +3,8 @@ use Rattle.std.specs.Arc.{arc_value}
 use Rattle.sm_core.specs.declared.turns.Turns.{Turns}
 use Rattle.sm_core.specs.Counting.{made}
 use Rattle.sm_core.specs.Viewing.{counted_in}
-use Rattle.sm_core.proofs.TallyRows.{counted_after}
-use Rattle.sm_core.proofs.tally.Tally.after.Goals as goal
+use Rattle.sm_core.proofs.TurnCountRows.{counted_after}
+use Rattle.sm_core.proofs.turn_counts.TurnCounts.after.Goals as goal
 
 pub returns : goal.returns
 returns c b =

@@ -23,7 +23,7 @@ ghost use Rattle.sm_history.specs.declared.limits.TheConstants.{GREATEST};
 ghost use Rattle.sm_core.specs.Stands.{Stands, sets_in};
 ghost use Rattle.sm_core.specs.Tables.{client_row, process_at};
 ghost use Rattle.sm_core.specs.Viewing as spec;
-ghost use Rattle.sm_core.specs.Viewing.{StandPeople};
+ghost use Rattle.sm_core.specs.Viewing.{StandPrincipals};
 
 use crate::client::{ClientRow, copies_of, drop_client, renumber, row_of};
 use crate::manager::looking::may_ask;
@@ -38,7 +38,7 @@ use std::alloc::{AllocError, Global};
 
 /// The manager's process and those of the live clients, under the policy in force.
 #[derive(Drop)]
-pub struct People {
+pub struct Principals {
     pub manager: Process,
     pub policy: Prepared,
     pub version: u64,
@@ -46,8 +46,8 @@ pub struct People {
 }
 
 /// Returns whether an effect changes the processes or the policy.
-fn moves_people(effect: &Effect) -> bool
-    ensures { result ≡ spec.moves_people effect.now }
+fn moves_principals(effect: &Effect) -> bool
+    ensures { result ≡ spec.moves_principals effect.now }
 {
     match effect {
         Effect::Opens(_) => true,
@@ -60,27 +60,27 @@ fn moves_people(effect: &Effect) -> bool
 }
 
 /// Returns whether one of some effects changes the processes or the policy.
-pub fn moves_any_people(effects: &[Effect]) -> bool
-    ensures { result ≡ list_any spec.moves_people effects.now }
+pub fn moves_any_principals(effects: &[Effect]) -> bool
+    ensures { result ≡ list_any spec.moves_principals effects.now }
 {
-    effects.iter().any(|effect| moves_people(effect))
+    effects.iter().any(|effect| moves_principals(effect))
 }
 
-impl People {
+impl Principals {
     /// Copies the processes and the policy from a manager's tables.
     ///
     /// # Errors
     ///
     /// An error if an allocation fails.
-    pub fn of(alloc: Global, state: &State) -> Result<People, AllocError>
-        ensures stand { IfOk result (λ p. (d : Effects) → Stands d state.now → StandPeople d p) }
+    pub fn of(alloc: Global, state: &State) -> Result<Principals, AllocError>
+        ensures stand { IfOk result (λ p. (d : Effects) → Stands d state.now → StandPrincipals d p) }
         ensures version { IfOk result (λ p. p.version ≡ state.now.version) }
     {
         let manager = state.manager.clone()?;
         let policy = state.policy.share()?;
         let clients = copies_of(alloc, &state.clients)?;
         let version = state.version;
-        Ok(People {
+        Ok(Principals {
             manager,
             policy,
             version,
@@ -93,23 +93,23 @@ impl People {
     /// # Errors
     ///
     /// An error if an allocation fails.
-    pub fn after(alloc: Global, state: &State, effects: &[Effect]) -> Result<People, AllocError>
+    pub fn after(alloc: Global, state: &State, effects: &[Effect]) -> Result<Principals, AllocError>
         requires { state.now.version + sets_in effects.now < GREATEST }
         ensures { IfOk result (λ p. (d : Effects) → Stands d state.now → MayAllApart d effects.now
-            → StandPeople (followed d effects.now) p) }
+            → StandPrincipals (followed d effects.now) p) }
     {
-        let mut people = People::of(alloc, state)?;
+        let mut principals = Principals::of(alloc, state)?;
         for effect in effects {
-            people.follow(effect)?;
+            principals.follow(effect)?;
         }
-        Ok(people)
+        Ok(principals)
     }
 
     /// Applies one effect.
     fn follow(&mut self, effect: &Effect) -> Result<(), AllocError>
         requires { self.old.version + sets_in (effect.now ∷ []) < GREATEST }
-        ensures stand { OnOk result ((d : Effects) → Sound d → MayFollowApart d effect.now → StandPeople d self.old
-            → StandPeople (effect.now ∷ d) self.new) }
+        ensures stand { OnOk result ((d : Effects) → Sound d → MayFollowApart d effect.now → StandPrincipals d self.old
+            → StandPrincipals (effect.now ∷ d) self.new) }
         ensures version { self.new.version ≤ self.old.version + sets_in (effect.now ∷ []) }
     {
         match effect {
@@ -138,7 +138,7 @@ impl People {
 
     /// Returns the row of a live client.
     pub fn client(&self, id: u32) -> Option<&ClientRow>
-        ensures { (d : Effects) → StandPeople d self.now → MatchOption result (is_live d id ≡ false)
+        ensures { (d : Effects) → StandPrincipals d self.now → MatchOption result (is_live d id ≡ false)
             (λ r. (is_live d id ≡ true) × (r.now ≡ client_row d id)) }
     {
         row_of(&self.clients, id)
@@ -146,7 +146,7 @@ impl People {
 
     /// Returns whether an actor may act: a client only while it is live.
     pub fn is_there(&self, by: By) -> bool
-        ensures { (d : Effects) → StandPeople d self.now → result ≡ is_there d by }
+        ensures { (d : Effects) → StandPrincipals d self.now → result ≡ is_there d by }
     {
         match by {
             By::Manager => true,
@@ -162,7 +162,7 @@ impl People {
     ///
     /// `Denied` by the first of the two rules that is missing, `Memory` if its denial can't be allocated.
     pub fn may_list(&self, alloc: Global, who: &Process) -> Result<(), Refusal>
-        ensures { (d : Effects) → StandPeople d self.now → who.now ≡ process_at d who.now.who
+        ensures { (d : Effects) → StandPrincipals d self.now → who.now ≡ process_at d who.now.who
             → MatchResult result (λ done. spec.MayList d who.now.who) (spec.MayNotList d who.now.who) }
     {
         self.needs(alloc, who, Class::Binder, Perms::CALL)?;
@@ -181,7 +181,7 @@ impl People {
         client: u32,
         mask: u32,
     ) -> Result<Answer, Refusal>
-        ensures { (d : Effects) → StandPeople d self.now → TracksRows d services.now.rows.items
+        ensures { (d : Effects) → StandPrincipals d self.now → TracksRows d services.now.rows.items
             → is_live d client ≡ true
             → MatchResult result
             (λ a. spec.MayList d (identity_at d client) × (a ≡ found_out d (ListNames mask)))
@@ -206,7 +206,7 @@ impl People {
         by: By,
         query: Query,
     ) -> Reply
-        ensures { (b : Book) → StandPeople (effects_of b.history) self.now
+        ensures { (b : Book) → StandPrincipals (effects_of b.history) self.now
             → TracksRows (effects_of b.history) services.now.rows.items → length ≡ length_of b.history
             → Looks b by query result }
     {
@@ -243,7 +243,7 @@ impl People {
 
     /// Checks that a rule grants a permission from a process to the manager's context.
     fn needs(&self, alloc: Global, who: &Process, class: Class, perm: Perms) -> Result<(), Refusal>
-        ensures { (d : Effects) → StandPeople d self.now → who.now ≡ process_at d who.now.who
+        ensures { (d : Effects) → StandPrincipals d self.now → who.now ≡ process_at d who.now.who
             → MatchResult result (λ done. spec.IsGiven d who.now.who class perm)
             (spec.IsMissing d who.now.who class perm) }
     {
@@ -271,7 +271,7 @@ impl People {
         by: By,
         query: &Query,
     ) -> Result<Vec<Record>, AllocError>
-        ensures records { (b : Book) → StandPeople (effects_of b.history) self.now → length ≡ length_of b.history
+        ensures records { (b : Book) → StandPrincipals (effects_of b.history) self.now → length ≡ length_of b.history
             → IfOk result (λ v. v.items ≡ query_records b.history by query.now) }
         ensures takes { IfErr result (λ e. takes_memory query.now ≡ true) }
     {
@@ -316,7 +316,7 @@ impl People {
         perm: Perms,
         records: &mut Vec<Record>,
     ) -> Result<bool, AllocError>
-        ensures { (b : Book) → StandPeople (effects_of b.history) self.now → length ≡ length_of b.history
+        ensures { (b : Book) → StandPrincipals (effects_of b.history) self.now → length ≡ length_of b.history
             → who.now ≡ process_at (effects_of b.history) who.now.who
             → IfOk result (λ given.
             (given ≡ allowed (policy_at (effects_of b.history)) (type_of who.now.who.context) (type_of (manager_at (effects_of b.history)).context) class perm)

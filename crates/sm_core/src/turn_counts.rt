@@ -19,7 +19,7 @@ const MOST_SINCE: usize = 80;
 /// The number of changes of each actor: a table that views share, and a row for each actor that made a change since the
 /// table was copied. A row has the number of all changes of its actor.
 #[derive(Drop)]
-pub struct Tally {
+pub struct TurnCounts {
     pub base: Arc<Turns>,
     pub since: Vec<TurnRow>,
 }
@@ -60,18 +60,18 @@ fn with_row(alloc: Global, since: &[TurnRow], row: TurnRow) -> Result<Vec<TurnRo
     Ok(list)
 }
 
-impl Tally {
+impl TurnCounts {
     /// Makes the counts of a table.
     ///
     /// # Errors
     ///
     /// An error if an allocation fails.
-    pub fn of(alloc: Global, turns: &Turns) -> Result<Tally, AllocError>
+    pub fn of(alloc: Global, turns: &Turns) -> Result<TurnCounts, AllocError>
         ensures { IfOk result (λ t. (b : By) → counted_in (arc_value t.base) t.since.items b ≡ made turns.now b) }
     {
         let base = Arc::new(alloc, turns.copy()?)?;
         let since = Vec::new(alloc);
-        Ok(Tally { base, since })
+        Ok(TurnCounts { base, since })
     }
 
     /// Returns the counts after one more change of this actor. `turns` is a table of the counts up to now.
@@ -79,7 +79,7 @@ impl Tally {
     /// # Errors
     ///
     /// An error where an allocation failed.
-    pub fn after(&self, alloc: Global, turns: &Turns, by: By) -> Result<Tally, AllocError>
+    pub fn after(&self, alloc: Global, turns: &Turns, by: By) -> Result<TurnCounts, AllocError>
         requires counts { (b : By) → counted_in (arc_value self.now.base) self.now.since.items b ≡ made turns.now b }
         requires few { made turns.now by < GREATEST }
         ensures { IfOk result (λ t. (b : By) → counted_in (arc_value t.base) t.since.items b
@@ -92,11 +92,11 @@ impl Tally {
         if self.since.len() >= MOST_SINCE {
             let base = Arc::new(alloc, turns.copy()?)?;
             let since = with_row(alloc, &[], row)?;
-            return Ok(Tally { base, since });
+            return Ok(TurnCounts { base, since });
         }
         let base = Arc::try_clone(&self.base)?;
         let since = with_row(alloc, &self.since, row)?;
-        Ok(Tally { base, since })
+        Ok(TurnCounts { base, since })
     }
 
     /// Returns the number of changes of an actor.
