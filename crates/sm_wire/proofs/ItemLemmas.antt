@@ -10,8 +10,8 @@ use Rattle.std.proofs.lemmas.Bool.Decides.{nat_tests}
 use Rattle.std.proofs.lemmas.List.{append-nil}
 use Rattle.sm_wire.specs.declared.item.Item.TheVariants.{Policy, LineTooLong}
 use Rattle.sm_wire.specs.declared.mode.Mode.TheVariants.{Line, Texts as TextsMode}
-use Rattle.sm_wire.specs.declared.announced.Announced.{Announced}
-use Rattle.sm_wire.specs.Grammar.{announced_of}
+use Rattle.sm_wire.specs.declared.reload_header.ReloadHeader.{ReloadHeader}
+use Rattle.sm_wire.specs.Grammar.{header_of}
 use Rattle.sm_wire.specs.Items.{Step, scan_start, scan_dead, items_of, item_of, policy_item, text_start, text_step}
 use Rattle.sm_wire.specs.Items.{line_end, line_step, Scan, mode_step, byte_step, scan_after, items_after}
 
@@ -49,20 +49,20 @@ module _ (kind : Kind) where
   dead_items (x ∷ xs) = dead_items xs
 
   -- the end of a line that announces nothing
-  ends_plain : (line : List ℕ) → announced_of kind line ≡ None
+  ends_plain : (line : List ℕ) → header_of kind line ≡ None
       → line_end kind line ≡ ((scan_start kind), item_of kind line ∷ [])
   unfolding line_end
   ends_plain line none = rw none refl
 
   pub line_law : (line rest : List ℕ) → AllByRecursion (λ b. b ≢ 10) line → length line ≤ 4096
-      → announced_of kind line ≡ None
+      → header_of kind line ≡ None
       → items_of kind (line ++ 10 ∷ rest) ≡ item_of kind line ∷ items_of kind rest
   unfolding mode_step line_step
   line_law line rest plain le none = line_so_far [] line (10 ∷ rest) plain (omega arith)
       ∙ ap (λ (s : Step). s.1 ++ items_after s.0 rest) (ends_plain line none)
 
   -- the bytes of the texts, before their end
-  texts_so_far : (a : Announced) (held bytes rest : List ℕ) → length held + length bytes < a.rules + a.contexts
+  texts_so_far : (a : ReloadHeader) (held bytes rest : List ℕ) → length held + length bytes < a.rules + a.contexts
       → items_after (record { kind = kind; mode = TextsMode a; held = held }) (bytes ++ rest) ≡ items_after
       (record { kind = kind; mode = TextsMode a; held = held ++ bytes }) rest
   unfolding mode_step text_step
@@ -78,7 +78,7 @@ module _ (kind : Kind) where
       (append_assoc held (x ∷ []) xs)
 
   -- the texts, and what follows them
-  texts_end : (a : Announced) (held bytes rest : List ℕ) → 0 < length bytes
+  texts_end : (a : ReloadHeader) (held bytes rest : List ℕ) → 0 < length bytes
       → length held + length bytes ≡ a.rules + a.contexts
       → items_after (record { kind = kind; mode = TextsMode a; held = held })
       (bytes ++ rest) ≡ policy_item a (held ++ bytes) ∷ items_of kind rest
@@ -100,7 +100,7 @@ module _ (kind : Kind) where
       (append_assoc held (x ∷ []) (y ∷ ys))
 
   -- a `reload` line's end, and the texts
-  texts_from : (a : Announced) (bytes rest : List ℕ) → length bytes ≡ a.rules + a.contexts → a.rules ≤ 4194304
+  texts_from : (a : ReloadHeader) (bytes rest : List ℕ) → length bytes ≡ a.rules + a.contexts → a.rules ≤ 4194304
       → a.contexts ≤ 4194304 → (text_start kind a).1 ++ items_after (text_start kind a).0 (bytes
       ++ rest) ≡ policy_item a bytes ∷ items_of kind rest
   unfolding text_start
@@ -115,14 +115,14 @@ module _ (kind : Kind) where
       let some : (a.rules + a.contexts == 0) ≡ false = grind (arith, nat_tests) in
       rw (r, c, some) (texts_end a [] (x ∷ xs) rest (omega arith) (omega (arith, is)))
 
-  -- the two texts of what is announced
-  texts_parted : (a : Announced) (rules contexts : List ℕ) → a.rules ≡ length rules
+  -- the two texts of what is header
+  texts_parted : (a : ReloadHeader) (rules contexts : List ℕ) → a.rules ≡ length rules
       → policy_item a (rules ++ contexts) ≡ Policy
       (record { expected = a.expected; rules = rules; contexts = contexts })
   texts_parted a rules contexts is = rw (is, take-append_seam rules contexts, drop-append_seam rules contexts) refl
 
-  pub reload_law : (line rules contexts rest : List ℕ) (a : Announced) → AllByRecursion (λ b. b ≢ 10) line
-      → length line ≤ 4096 → announced_of kind line ≡ Some a → a.rules ≡ length rules → a.contexts ≡ length contexts
+  pub reload_law : (line rules contexts rest : List ℕ) (a : ReloadHeader) → AllByRecursion (λ b. b ≢ 10) line
+      → length line ≤ 4096 → header_of kind line ≡ Some a → a.rules ≡ length rules → a.contexts ≡ length contexts
       → length rules ≤ 4194304 → length contexts ≤ 4194304
       → items_of kind (line ++ 10 ∷ (rules ++ contexts ++ rest)) ≡ Policy (record {
         expected = a.expected;

@@ -1,8 +1,8 @@
-pub mod CutLemmas
+pub mod FramingLemmas
 pub mod FieldLemmas
 pub mod ItemLemmas
 pub mod NumberLemmas
-pub mod QuickLemmas
+pub mod FastPathLemmas
 pub mod SpellingLemmasContexts
 pub mod SpellingLemmasFields
 pub mod SpellingLemmasLines

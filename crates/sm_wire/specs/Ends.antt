@@ -35,7 +35,7 @@ EndsAs Dead held bytes (At n) = ⊥
 EndsAs Dead held bytes Later = ⊥
 EndsAs Dead held bytes Never = Unit {0}
 
--- The bytes may be a whole item: a line with its newline, or the announced files.
+-- The bytes may be a whole item: a line with its newline, or the header files.
 abbrev pub IsWhole : Mode → List ℕ → Type 0
 IsWhole Line bytes = 0 < length bytes
 IsWhole (TextsMode a) bytes = length bytes ≡ a.rules + a.contexts

@@ -10,7 +10,7 @@ use Rattle.sm_history.specs.declared.query.Query.{Query}
 use Rattle.sm_history.specs.declared.query.Query.TheVariants as queries
 use Rattle.sm_wire.specs.declared.request.Request.{Request}
 use Rattle.sm_wire.specs.declared.request.Request.TheVariants.{Hello, Change, Look, Reload, Denials, Seal}
-use Rattle.sm_wire.specs.declared.announced.Announced.{Announced}
+use Rattle.sm_wire.specs.declared.reload_header.ReloadHeader.{ReloadHeader}
 use Rattle.sm_wire.specs.declared.kind.Kind.{Kind}
 use Rattle.sm_wire.specs.declared.kind.Kind.TheVariants.{Client, Admin, Script}
 use Rattle.sm_wire.specs.Number.{u32_max, u64_max, number_of}
@@ -244,15 +244,15 @@ unfoldable pub request_of : Kind → List ℕ → Option Request
 request_of kind line = fields_request_of kind (fields_of line)
 
 -- This is the header of a `reload` request, if the request is one.
-abbrev pub announced_by : Option Request → Option Announced
-announced_by (Some (Reload e r c)) = Some (record { expected = e; rules = r; contexts = c })
-announced_by (Some (Hello who)) = None
-announced_by (Some (Change client event)) = None
-announced_by (Some (Look client query)) = None
-announced_by (Some Denials) = None
-announced_by (Some Seal) = None
-announced_by None = None
+abbrev pub header_by : Option Request → Option ReloadHeader
+header_by (Some (Reload e r c)) = Some (record { expected = e; rules = r; contexts = c })
+header_by (Some (Hello who)) = None
+header_by (Some (Change client event)) = None
+header_by (Some (Look client query)) = None
+header_by (Some Denials) = None
+header_by (Some Seal) = None
+header_by None = None
 
 -- This is the header of a `reload` line, if the line is one.
-unfoldable pub announced_of : Kind → List ℕ → Option Announced
-announced_of kind line = announced_by (request_of kind line)
+unfoldable pub header_of : Kind → List ℕ → Option ReloadHeader
+header_of kind line = header_by (request_of kind line)

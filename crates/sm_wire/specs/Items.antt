@@ -7,8 +7,8 @@ use Rattle.sm_wire.specs.declared.item.Item.TheVariants.{Asked, Policy, Malforme
 use Rattle.sm_wire.specs.declared.kind.Kind.{Kind}
 use Rattle.sm_wire.specs.declared.mode.Mode.{Mode}
 use Rattle.sm_wire.specs.declared.mode.Mode.TheVariants.{Line, Texts as TextsMode, Dead}
-use Rattle.sm_wire.specs.declared.announced.Announced.{Announced}
-use Rattle.sm_wire.specs.Grammar.{request_of, announced_of}
+use Rattle.sm_wire.specs.declared.reload_header.ReloadHeader.{ReloadHeader}
+use Rattle.sm_wire.specs.Grammar.{request_of, header_of}
 
 -- A scan has the kind of its stream, what comes next, and the bytes of that so far.
 pub record Scan : Type 0 where
@@ -28,15 +28,15 @@ text_limit = 4194304
 abbrev pub scan_start : Kind → Scan
 scan_start kind = record { kind = kind; mode = Line; held = [] }
 
--- This is the scan after a line or an announced file that was too long.
+-- This is the scan after a line or an header file that was too long.
 abbrev pub scan_dead : Kind → Scan
 scan_dead kind = record { kind = kind; mode = Dead; held = [] }
 
--- No line and no announced file was too long yet.
+-- No line and no header file was too long yet.
 abbrev pub IsAlive : Scan → Type 0
 IsAlive s = s.mode ≢ Dead
 
--- A line or an announced file was too long.
+-- A line or an header file was too long.
 abbrev pub IsDead : Scan → Type 0
 IsDead s = s.mode ≡ Dead
 
@@ -53,7 +53,7 @@ item_of kind line = asked (request_of kind line)
     asked None = Malformed
 
 -- This is the item of a `reload` line and the bytes of its files.
-abbrev pub policy_item : Announced → List ℕ → Item
+abbrev pub policy_item : ReloadHeader → List ℕ → Item
 policy_item a bytes = Policy (record {
   expected = a.expected;
   rules = take a.rules bytes;
@@ -61,7 +61,7 @@ policy_item a bytes = Policy (record {
 })
 
 -- At the end of a `reload` line its files follow, if it announces any bytes.
-unfoldable pub text_start : Kind → Announced → Step
+unfoldable pub text_start : Kind → ReloadHeader → Step
 text_start kind a =
     if nat_le a.rules text_limit && nat_le a.contexts text_limit
     then (if a.rules + a.contexts == 0 then (scan_start kind, policy_item a [] ∷ [])
@@ -70,9 +70,9 @@ text_start kind a =
 
 -- This is the step at the end of a line.
 unfoldable pub line_end : Kind → List ℕ → Step
-line_end kind line = ended (announced_of kind line)
+line_end kind line = ended (header_of kind line)
   where
-    ended : Option Announced → Step
+    ended : Option ReloadHeader → Step
     ended (Some a) = text_start kind a
     ended None = (scan_start kind, item_of kind line ∷ [])
 
@@ -83,7 +83,7 @@ line_step kind held b = if b == 10 then line_end kind held
     else (record { kind = kind; mode = Line; held = held ++ b ∷ [] }, []))
 
 -- This is the step of one more byte of the files.
-unfoldable pub text_step : Kind → Announced → List ℕ → Step
+unfoldable pub text_step : Kind → ReloadHeader → List ℕ → Step
 text_step kind a bytes = if length bytes == a.rules + a.contexts then (scan_start kind, policy_item a bytes ∷ [])
     else (record { kind = kind; mode = TextsMode a; held = bytes }, [])
 

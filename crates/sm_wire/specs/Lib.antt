@@ -3,7 +3,7 @@ pub mod Fields
 pub mod Reading
 pub mod Values
 pub mod Grammar
-pub mod Quick
+pub mod FastPath
 pub mod FieldSpelling
 pub mod Spelling
 pub mod Items

@@ -25,7 +25,7 @@ pub fn item_end(mode: Mode, held: usize, bytes: &[u8]) -> End
 {
     match mode {
         Mode::Line => newline_end(held, bytes),
-        Mode::Texts(announced) => texts_end(announced.length(), held, bytes),
+        Mode::Texts(header) => texts_end(header.length(), held, bytes),
         Mode::Dead => End::Never,
     }
 }

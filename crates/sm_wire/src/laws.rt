@@ -6,23 +6,23 @@ ghost use Rattle.std.specs.List.{AllByRecursion};
 ghost use Rattle.sm_wire.specs.Number.{number_of};
 ghost use Rattle.sm_wire.specs.declared.item.Item.TheVariants as items;
 ghost use Rattle.sm_wire.specs.declared.kind.Kind.{Kind};
-ghost use Rattle.sm_wire.specs.declared.announced.Announced.{Announced};
+ghost use Rattle.sm_wire.specs.declared.reload_header.ReloadHeader.{ReloadHeader};
 ghost use Rattle.sm_wire.specs.declared.request.Request.{Request};
-ghost use Rattle.sm_wire.specs.Grammar.{announced_of, request_of};
+ghost use Rattle.sm_wire.specs.Grammar.{header_of, request_of};
 ghost use Rattle.sm_wire.specs.Spelling.{Spells, SpellsNothing};
 ghost use Rattle.sm_wire.specs.Items.{item_of, items_of, items_after, rest_of, scan_after};
 
 /// A line that is no `reload` line, with its newline, gives its item, followed by the items of the rest.
 pub fn first_line()
-    ensures { (kind : Kind) (line rest : List ℕ) → AllByRecursion (λ b. b ≢ 10) line → length line ≤ 4096 → announced_of kind line ≡ None
+    ensures { (kind : Kind) (line rest : List ℕ) → AllByRecursion (λ b. b ≢ 10) line → length line ≤ 4096 → header_of kind line ≡ None
         → items_of kind (line ++ 10 ∷ rest) ≡ item_of kind line ∷ items_of kind rest }
 {}
 
 /// A `reload` line, its newline and the two files that it announces, of any bytes, give one item, followed by the items
 /// of the rest.
 pub fn reload_line()
-    ensures { (kind : Kind) (line rules contexts rest : List ℕ) (a : Announced) → AllByRecursion (λ b. b ≢ 10) line → length line ≤ 4096
-        → announced_of kind line ≡ Some a → a.rules ≡ length rules → a.contexts ≡ length contexts → length rules ≤ 4194304 → length contexts ≤ 4194304
+    ensures { (kind : Kind) (line rules contexts rest : List ℕ) (a : ReloadHeader) → AllByRecursion (λ b. b ≢ 10) line → length line ≤ 4096
+        → header_of kind line ≡ Some a → a.rules ≡ length rules → a.contexts ≡ length contexts → length rules ≤ 4194304 → length contexts ≤ 4194304
         → items_of kind (line ++ 10 ∷ (rules ++ contexts ++ rest))
         ≡ items.Policy (record { expected = a.expected; rules = rules; contexts = contexts }) ∷ items_of kind rest }
 {}

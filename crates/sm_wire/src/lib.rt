@@ -2,14 +2,13 @@
 //! requests, in whatever pieces it comes.
 #![tactic(auto)]
 
-mod announced;
-mod announcing;
 mod client_requests;
-mod cuts;
 mod deliveries;
 mod denials;
 mod ends;
+mod fast_path;
 mod fields;
+mod framing;
 mod grammar;
 mod item;
 mod kind;
@@ -19,17 +18,16 @@ mod mode;
 mod names;
 mod numbers;
 mod policy_refusals;
-mod quick;
 mod read_error;
 mod recent_names;
 mod refusals;
+mod reload_header;
 mod replies;
 mod request;
 mod telling;
 mod texts;
 mod values;
 
-pub use announced::Announced;
 pub use denials::push_denials;
 pub use item::Item;
 pub use kind::Kind;
@@ -39,6 +37,7 @@ pub use laws::{
 pub use lines::{FeedError, Lines};
 pub use policy_refusals::push_policy_refused;
 pub use read_error::ReadError;
+pub use reload_header::ReloadHeader;
 pub use replies::{push_reply, reply_line};
 pub use request::Request;
 pub use telling::Telling;

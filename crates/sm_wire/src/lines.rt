@@ -5,8 +5,8 @@ ghost use Rattle.sm_wire.specs.Items.{has_rest, IsAlive, IsDead, scan_start, sca
 ghost use Rattle.sm_wire.specs.Ends.{EndsAs, Overfull};
 ghost use Rattle.sm_wire.specs.declared.ends.End.TheVariants.{At};
 
-use crate::cuts::{Remainder, cut, end_stream, lone_item};
 use crate::ends::{End, item_end};
+use crate::framing::{Remainder, cut, end_stream, lone_item};
 use crate::item::Item;
 use crate::kind::Kind;
 use crate::mode::Mode;

@@ -1,13 +1,13 @@
 //! What comes next in a stream.
 
-use crate::announced::Announced;
+use crate::reload_header::ReloadHeader;
 
 /// What is read next.
 #[derive(Clone, Copy)]
 pub enum Mode {
     Line,
     /// The files after a `reload` line.
-    Texts(Announced),
+    Texts(ReloadHeader),
     /// Nothing: a line or a file was too long.
     Dead,
 }

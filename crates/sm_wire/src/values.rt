@@ -5,14 +5,13 @@ ghost use Rattle.std.specs.Result.{result_ok, result_map_both};
 ghost use Rattle.hex.specs.Hex.{decode_of};
 ghost use Rattle.sm_kinds.specs.Permissions.{class_read};
 ghost use Rattle.sm_wire.specs.Reading.{Reads};
-ghost use Rattle.sm_wire.specs.Values.{plain_name_of, name_of, reference_of, own_object_of, call_references_of, fitting_payload, hex_payload_of, payload_of, flag_of, context_of, word_of, perm_of};
+ghost use Rattle.sm_wire.specs.Values.{plain_name_of, name_of, reference_of, own_object_of, call_references_of, fitting_payload, fitting_references, hex_payload_of, payload_of, flag_of, context_of, word_of, perm_of};
 
 use crate::numbers::u32_field;
 use crate::read_error::ReadError;
 use hex::FromHexError;
 use sm_kinds::{
-    Class, Context, ContextError, Name, ObjRef, Payload, PayloadError, Perms, Refs, RefsError,
-    all_graphic,
+    Class, Context, ContextError, Name, ObjRef, Payload, PayloadError, Perms, Refs, all_graphic,
 };
 use sm_ruletext::is_word;
 use std::alloc::Global;
@@ -116,6 +115,15 @@ pub fn own_object_field(field: &[u8]) -> Result<u32, ReadError>
     }
 }
 
+fn references(list: Vec<ObjRef>) -> Result<Refs, ReadError>
+    ensures { Reads result (fitting_references list.items) }
+{
+    match Refs::from_vec(list) {
+        Some(refs) => Ok(refs),
+        None => Err(ReadError::Malformed),
+    }
+}
+
 // Parses at most 16 REF.
 #[tactic(auto, unfolding(crate::specs::Values::call_references_of))]
 pub fn reference_fields(alloc: Global, fields: &[&[u8]]) -> Result<Refs, ReadError>
@@ -128,11 +136,7 @@ pub fn reference_fields(alloc: Global, fields: &[&[u8]]) -> Result<Refs, ReadErr
             return Err(ReadError::Memory);
         }
     }
-    match Refs::new(alloc, &list) {
-        Ok(refs) => Ok(refs),
-        Err(RefsError::TooLong) => Err(ReadError::Malformed),
-        Err(RefsError::Memory) => Err(ReadError::Memory),
-    }
+    references(list)
 }
 
 // Parses PAYLOAD: `-` for no bytes, or two hexadecimal digits for each of at most 1,024 bytes.
@@ -142,7 +146,7 @@ pub fn payload_field(alloc: Global, field: &[u8]) -> Result<Payload, ReadError>
 {
     match field {
         [] => Err(ReadError::Malformed),
-        b"-" => payload(alloc, b""),
+        b"-" => payload(Vec::new(alloc)),
         _ => hex_payload(alloc, field),
     }
 }
@@ -151,14 +155,13 @@ pub fn payload_field(alloc: Global, field: &[u8]) -> Result<Payload, ReadError>
 fn hex_payload(alloc: Global, digits: &[u8]) -> Result<Payload, ReadError>
     ensures { Reads result (hex_payload_of digits.now) }
 {
-    let bytes = hex_bytes(alloc, digits)?;
-    payload(alloc, &bytes)
+    payload(hex_bytes(alloc, digits)?)
 }
 
-fn payload(alloc: Global, bytes: &[u8]) -> Result<Payload, ReadError>
-    ensures { Reads result (fitting_payload bytes.now) }
+fn payload(bytes: Vec<u8>) -> Result<Payload, ReadError>
+    ensures { Reads result (fitting_payload bytes.items) }
 {
-    match Payload::new(alloc, bytes) {
+    match Payload::from_vec(bytes) {
         Ok(payload) => Ok(payload),
         Err(PayloadError::TooLong) => Err(ReadError::Malformed),
         Err(PayloadError::Memory) => Err(ReadError::Memory),

@@ -102,10 +102,10 @@ fn texts_of_a_reload(rt: HostRuntime) -> Result<(), Fail> {
 
 #[test]
 fn both_texts_of_a_reload_are_behind_its_line(rt: HostRuntime) {
-    let announced = Announced {
+    let header = ReloadHeader {
         expected: 1,
         rules: 705,
         contexts: 89,
     };
-    assert_eq!(rt; announced.length(), 794);
+    assert_eq!(rt; header.length(), 794);
 }

@@ -1,7 +1,6 @@
 use Rattle.std.proofs.Common.{◌≡◌, ◌<◌, ◌≤◌, ◌+◌, ◌++◌, ◌∷◌, [], List, Option, Some, None, append_assoc, append-nil}
-use Rattle.std.proofs.Common.{refl, sym, ap, map, drop, length, get_or, Bor, ℕ, arith, rules, Err}
+use Rattle.std.proofs.Common.{refl, sym, ap, map, drop, length, get_or, Bor, ℕ, rules, Err}
 use Rattle.std.specs.Option.{option_map, option_and_then}
-use Rattle.std.proofs.lemmas.Grind.{common_steps}
 use Rattle.std.proofs.lemmas.List.{at_drop_more, at_drop_all}
 use Rattle.sm_kinds.specs.declared.number.ObjRef.{ObjRef}
 use Rattle.sm_wire.specs.declared.read_error.ReadError.{ReadError}
@@ -80,14 +79,5 @@ pub returns-in_err-reference : goal.returns-in_err-reference
 returns-in_err-reference c =
     let no = refused _ _ _ _ _ c.loop-field-test.true c.in_err-reference.ensures c.loop-field.invariant in search rules
 
-pub returns-in-Ok : goal.returns-in-Ok
-returns-in-Ok c =
-    let all = ends _ _ _ c.loop-field-test.false c.loop-field.invariant in
-    let fits = whole _ _ all in
-    grind (arith, common_steps)
-
-pub returns-in-Err-TooLong : goal.returns-in-Err-TooLong
-returns-in-Err-TooLong c =
-    let all = ends _ _ _ c.loop-field-test.false c.loop-field.invariant in
-    let fits = whole _ _ all in
-    grind (arith, common_steps)
+pub returns : goal.returns
+returns c = rw (whole _ _ (ends _ _ _ c.loop-field-test.false c.loop-field.invariant)) c.references.ensures

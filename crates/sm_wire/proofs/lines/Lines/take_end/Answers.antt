@@ -1,5 +1,5 @@
 use Rattle.std.proofs.Common.{◌∙◌}
-use Rattle.sm_wire.proofs.CutLemmas.{piece_taken}
+use Rattle.sm_wire.proofs.FramingLemmas.{piece_taken}
 use Rattle.sm_wire.proofs.lines.Lines.take_end.Goals as goal
 
 pub returns-clause-items : goal.returns-clause-items

@@ -1,6 +1,6 @@
 use Rattle.std.proofs.Common.{◌≡◌, ◌∙◌, Result, Ok, Err, OnOk, if◌then◌else◌}
 use Rattle.std.specs.Result.{is_ok}
-use Rattle.sm_wire.proofs.CutLemmas.{piece_later, piece_never}
+use Rattle.sm_wire.proofs.FramingLemmas.{piece_later, piece_never}
 use Rattle.sm_wire.proofs.lines.Lines.take_piece.Goals as goal
 
 -- an allocation that succeeded

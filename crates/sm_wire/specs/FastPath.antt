@@ -1,4 +1,4 @@
--- The fast path for the most frequent lines, by their bytes. `quick_asked` of proofs/QuickLemmas.antt says that the
+-- The fast path for the most frequent lines, by their bytes. `fast_asked` of proofs/FastPathLemmas.antt says that the
 -- grammar reads the same requests.
 use Rattle.std.specs.Prelude.{ℕ, ◌+◌, List, [], ◌∷◌, take, drop, Option, Some, None, ◌==◌, if◌then◌else◌, codes}
 use Rattle.std.specs.Prelude.{position}
@@ -12,9 +12,9 @@ use Rattle.sm_wire.specs.declared.request.Request.{Request}
 use Rattle.sm_wire.specs.declared.request.Request.TheVariants as requests
 use Rattle.sm_wire.specs.declared.kind.Kind.{Kind}
 use Rattle.sm_wire.specs.declared.kind.Kind.TheVariants.{Client, Admin, Script}
-use Rattle.sm_wire.specs.declared.quick.Quick.{Quick}
-use Rattle.sm_wire.specs.declared.quick.Wanted.{Wanted}
-use Rattle.sm_wire.specs.declared.quick.Wanted.TheVariants.{List as Listing, Version, Get}
+use Rattle.sm_wire.specs.declared.fast_path.FastRequest.{FastRequest}
+use Rattle.sm_wire.specs.declared.fast_path.Wanted.{Wanted}
+use Rattle.sm_wire.specs.declared.fast_path.Wanted.TheVariants.{List as Listing, Version, Get}
 use Rattle.sm_wire.specs.Number.{u32_max, number_of}
 use Rattle.sm_wire.specs.Reading.{◌>>=◌}
 
@@ -25,8 +25,8 @@ asked_in client Version = requests.Look client queries.Version
 asked_in client (Get name) = requests.Change client (events.Get name)
 
 -- This is such a line as a request.
-abbrev pub asked_by : Quick → Request
-asked_by quick = asked_in quick.client quick.wanted
+abbrev pub asked_by : FastRequest → Request
+asked_by fast = asked_in fast.client fast.wanted
 
 -- This parses a name in plain bytes.
 abbrev pub plain_of : List ℕ → Option Wanted
@@ -57,20 +57,20 @@ unfoldable pub wanted_of : List ℕ → Option Wanted
 wanted_of words = if bytes_eq (take 4 words) (codes "get ") then named_of (drop 4 words) else other_of words
 
 -- This parses the words of a client.
-unfoldable pub request_by : Option ClientId → List ℕ → Option Quick
+unfoldable pub request_by : Option ClientId → List ℕ → Option FastRequest
 request_by client words = do
   wanted ← wanted_of words
   Some (record { client = client; wanted = wanted })
 
 -- This parses a client's number, a space, and one of these.
-unfoldable pub numbered_of : List ℕ → Option Quick
+unfoldable pub numbered_of : List ℕ → Option FastRequest
 numbered_of line = do
   place ← position (λ b. b == 32) line
   n ← number_of u32_max (take place line)
   request_by (Some (record { 0 = n })) (drop (place + 1) line)
 
 -- This parses a line of this kind, if it is one of these.
-unfoldable pub quick_of : Kind → List ℕ → Option Quick
-quick_of Client line = request_by None line
-quick_of Admin line = None
-quick_of Script line = numbered_of line
+unfoldable pub fast_of : Kind → List ℕ → Option FastRequest
+fast_of Client line = request_by None line
+fast_of Admin line = None
+fast_of Script line = numbered_of line

@@ -16,16 +16,16 @@ use Rattle.sm_wire.specs.declared.item.Item.TheVariants.{Asked}
 use Rattle.sm_wire.specs.declared.kind.Kind.{Kind}
 use Rattle.sm_wire.specs.declared.kind.Kind.TheVariants.{Client, Admin, Script}
 use Rattle.sm_wire.specs.declared.request.Request.{Request}
-use Rattle.sm_wire.specs.declared.quick.Quick.{Quick}
-use Rattle.sm_wire.specs.declared.quick.Wanted.{Wanted}
-use Rattle.sm_wire.specs.declared.quick.Wanted.TheVariants.{List as Listing, Version, Get}
+use Rattle.sm_wire.specs.declared.fast_path.FastRequest.{FastRequest}
+use Rattle.sm_wire.specs.declared.fast_path.Wanted.{Wanted}
+use Rattle.sm_wire.specs.declared.fast_path.Wanted.TheVariants.{List as Listing, Version, Get}
 use Rattle.sm_wire.specs.FieldSpelling.{SpellsName}
 use Rattle.sm_wire.specs.Number.{u32_max, number_of}
 use Rattle.sm_wire.specs.Values.{plain_name_of}
-use Rattle.sm_wire.specs.Grammar.{announced_of, request_of}
+use Rattle.sm_wire.specs.Grammar.{header_of, request_of}
 use Rattle.sm_wire.specs.Items.{item_of, line_end, scan_start}
-use Rattle.sm_wire.specs.Quick.{asked_in, asked_by, plain_of, named_of, listed_of, checked_of, other_of, wanted_of}
-use Rattle.sm_wire.specs.Quick.{request_by, numbered_of, quick_of}
+use Rattle.sm_wire.specs.FastPath.{asked_in, asked_by, plain_of, named_of, listed_of, checked_of, other_of, wanted_of}
+use Rattle.sm_wire.specs.FastPath.{request_by, numbered_of, fast_of}
 use Rattle.sm_wire.specs.Spelling.{SpellsRequest, SpellsFields, Spells, joined}
 use Rattle.sm_wire.proofs.SpellingLemmasFields.{bound, number_spelled, u32_small, word_chosen, if_true, other_byte}
 use Rattle.sm_wire.proofs.SpellingLemmasFields.{plain_spelled}
@@ -129,16 +129,16 @@ wanted_said who words wanted e =
     ]
 
 -- what is asked in words, and who asks it
-record Spoken (who : Option ClientId) (words : List ℕ) (quick : Quick) : Type 0 where
+record Spoken (who : Option ClientId) (words : List ℕ) (fast : FastRequest) : Type 0 where
   pub wanted : Wanted
-  pub is : record { client = who; wanted = wanted } ≡ quick
+  pub is : record { client = who; wanted = wanted } ≡ fast
   pub said : Said who words wanted
 
-words_spoken : (who : Option ClientId) (words : List ℕ) (quick : Quick) → request_by who words ≡ Some quick
-    → Spoken who words quick
+words_spoken : (who : Option ClientId) (words : List ℕ) (fast : FastRequest) → request_by who words ≡ Some fast
+    → Spoken who words fast
 unfolding request_by
-words_spoken who words quick e =
-    let w = bound _ (wanted_of words) quick e in
+words_spoken who words fast e =
+    let w = bound _ (wanted_of words) fast e in
     record { wanted = w.0; is = same_Some _ _ w.2; said = wanted_said who words w.0 w.1 }
 
 -- the line up to its first space, and behind it
@@ -152,37 +152,37 @@ parted line i e =
     ∙ ap (λ (b : ℕ). b ∷ drop (suc i) line) here ∙ ap (λ (n : ℕ). 32 ∷ drop n line) one in
     sym (take-append-drop i line) ∙ ap (λ (l : List ℕ). take i line ++ l) rest
 
-numbered_asked : (line : List ℕ) (quick : Quick) → numbered_of line ≡ Some quick
-    → request_of Script line ≡ Some (asked_by quick)
+numbered_asked : (line : List ℕ) (fast : FastRequest) → numbered_of line ≡ Some fast
+    → request_of Script line ≡ Some (asked_by fast)
 unfolding numbered_of
-numbered_asked line quick e =
-    let p = bound _ (position (λ (b : ℕ). b == 32) line) quick e in
-    let n = bound _ (number_of u32_max (take p.0 line)) quick p.2 in
-    let s = words_spoken (Some (record { 0 = n.0 })) (drop (p.0 + 1) line) quick n.2 in
+numbered_asked line fast e =
+    let p = bound _ (position (λ (b : ℕ). b == 32) line) fast e in
+    let n = bound _ (number_of u32_max (take p.0 line)) fast p.2 in
+    let s = words_spoken (Some (record { 0 = n.0 })) (drop (p.0 + 1) line) fast n.2 in
     let number = take p.0 line in
     let all : line ≡ joined (number ∷ s.said.first ∷ s.said.others) =
     parted line p.0 p.1 ∙ ap (λ (l : List ℕ). number ++ 32 ∷ l) s.said.joins in
-    subst (λ (q : Quick). request_of Script line ≡ Some (asked_by q)) s.is (line_read Script line _
+    subst (λ (q : FastRequest). request_of Script line ≡ Some (asked_by q)) s.is (line_read Script line _
     (subst (λ (l : List ℕ). Spells Script l (asked_in (Some (record { 0 = n.0 })) s.wanted)) (sym all)
     (Spells.line Script (number ∷ s.said.first ∷ s.said.others) _
     (SpellsFields.script_client number n.0 (s.said.first ∷ s.said.others) _
     (number_spelled u32_max u32_small number n.0 n.1) s.said.spells))))
 
-client_asked : (line : List ℕ) (quick : Quick) → request_by None line ≡ Some quick
-    → request_of Client line ≡ Some (asked_by quick)
-client_asked line quick e =
-    let s = words_spoken None line quick e in
-    subst (λ (q : Quick). request_of Client line ≡ Some (asked_by q)) s.is (line_read Client line _
+client_asked : (line : List ℕ) (fast : FastRequest) → request_by None line ≡ Some fast
+    → request_of Client line ≡ Some (asked_by fast)
+client_asked line fast e =
+    let s = words_spoken None line fast e in
+    subst (λ (q : FastRequest). request_of Client line ≡ Some (asked_by q)) s.is (line_read Client line _
     (subst (λ (l : List ℕ). Spells Client l (asked_in None s.wanted)) (sym s.said.joins)
     (Spells.line Client (s.said.first ∷ s.said.others) _
     (SpellsFields.client (s.said.first ∷ s.said.others) _ s.said.spells))))
 
-pub quick_asked : (kind : Kind) (line : List ℕ) (quick : Quick) → quick_of kind line ≡ Some quick
-    → request_of kind line ≡ Some (asked_by quick)
-unfolding quick_of
-quick_asked Client line quick e = client_asked line quick e
-quick_asked Admin line quick e = absurd (none-some quick e)
-quick_asked Script line quick e = numbered_asked line quick e
+pub fast_asked : (kind : Kind) (line : List ℕ) (fast : FastRequest) → fast_of kind line ≡ Some fast
+    → request_of kind line ≡ Some (asked_by fast)
+unfolding fast_of
+fast_asked Client line fast e = client_asked line fast e
+fast_asked Admin line fast e = absurd (none-some fast e)
+fast_asked Script line fast e = numbered_asked line fast e
 
 asked_item : (kind : Kind) (line : List ℕ) (request : Request) → request_of kind line ≡ Some request
     → item_of kind line ≡ Asked request
@@ -190,22 +190,22 @@ unfolding item_of
 asked_item kind line request e = rw e refl
 
 -- a line that announces no texts
-plain_end : (kind : Kind) (line : List ℕ) → announced_of kind line ≡ None
+plain_end : (kind : Kind) (line : List ℕ) → header_of kind line ≡ None
     → line_end kind line ≡ (scan_start kind, item_of kind line ∷ [])
 unfolding line_end
 plain_end kind line e = rw e refl
 
 no_texts : (kind : Kind) (line : List ℕ) (who : Option ClientId) (wanted : Wanted)
-    → request_of kind line ≡ Some (asked_in who wanted) → announced_of kind line ≡ None
-unfolding announced_of
+    → request_of kind line ≡ Some (asked_in who wanted) → header_of kind line ≡ None
+unfolding header_of
 no_texts kind line who (Listing mask) e = rw e refl
 no_texts kind line who Version e = rw e refl
 no_texts kind line who (Get name) e = rw e refl
 
 -- the end of such a line
-pub quick_ends : (kind : Kind) (line : List ℕ) (quick : Quick) → quick_of kind line ≡ Some quick
-    → line_end kind line ≡ (scan_start kind, Asked (asked_by quick) ∷ [])
-quick_ends kind line quick e =
-    let asked = quick_asked kind line quick e in
-    plain_end kind line (no_texts kind line quick.client quick.wanted asked)
-    ∙ ap (λ (i : Item). (scan_start kind, i ∷ [])) (asked_item kind line (asked_by quick) asked)
+pub fast_ends : (kind : Kind) (line : List ℕ) (fast : FastRequest) → fast_of kind line ≡ Some fast
+    → line_end kind line ≡ (scan_start kind, Asked (asked_by fast) ∷ [])
+fast_ends kind line fast e =
+    let asked = fast_asked kind line fast e in
+    plain_end kind line (no_texts kind line fast.client fast.wanted asked)
+    ∙ ap (λ (i : Item). (scan_start kind, i ∷ [])) (asked_item kind line (asked_by fast) asked)

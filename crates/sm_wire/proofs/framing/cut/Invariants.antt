@@ -1,6 +1,6 @@
 use Rattle.std.proofs.Common.{◌-◌, length}
-use Rattle.sm_wire.proofs.CutLemmas.{Far}
-use Rattle.sm_wire.proofs.cuts.cut.Given as goal
+use Rattle.sm_wire.proofs.FramingLemmas.{Far}
+use Rattle.sm_wire.proofs.framing.cut.Given as goal
 
 abbrev pub invariant-loop-start : goal.invariant-loop-start
 invariant-loop-start l = Far l.kind l.mode l.initial.mode l.bytes l.start l.initial.items.items l.items.items

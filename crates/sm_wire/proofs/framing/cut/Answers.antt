@@ -1,7 +1,7 @@
 use Rattle.std.proofs.Common.{◌≡◌, ◌+◌, ◌-◌, arith}
 use Rattle.std.proofs.Math.Seq.{drop-length}
-use Rattle.sm_wire.proofs.CutLemmas.{sliced, far_next, far_later, far_never}
-use Rattle.sm_wire.proofs.cuts.cut.Goals as goal
+use Rattle.sm_wire.proofs.FramingLemmas.{sliced, far_next, far_later, far_never}
+use Rattle.sm_wire.proofs.framing.cut.Goals as goal
 
 pub loop-start-preserved : goal.loop-start-preserved
 loop-start-preserved c =

@@ -3,7 +3,7 @@
 
 ghost use Rattle.std.specs.Prelude.{◌≡◌, ◌==◌, ◌++◌, ◌∷◌, [], OnOk, IfOk, position};
 ghost use Rattle.sm_wire.specs.declared.item.Item.TheVariants.{Asked};
-ghost use Rattle.sm_wire.specs.Quick.{asked_by, named_of, plain_of, checked_of, listed_of, other_of, wanted_of, request_by, numbered_of, quick_of};
+ghost use Rattle.sm_wire.specs.FastPath.{asked_by, named_of, plain_of, checked_of, listed_of, other_of, wanted_of, request_by, numbered_of, fast_of};
 
 use crate::item::Item;
 use crate::kind::Kind;
@@ -27,15 +27,15 @@ pub enum Wanted<'a> {
 
 /// A parsed line. A script names the client.
 #[derive(Drop)]
-pub struct Quick<'a> {
+pub struct FastRequest<'a> {
     pub client: Option<ClientId>,
     pub wanted: Wanted<'a>,
 }
 
 /// Parses a line of this kind, if it is one of these. The line has no newline.
-#[tactic(auto, unfolding(crate::specs::Quick::quick_of))]
-pub fn quick_request<'a>(kind: Kind, line: &'a [u8]) -> Option<Quick<'a>>
-    ensures { result ≡ quick_of kind line.now }
+#[tactic(auto, unfolding(crate::specs::FastPath::fast_of))]
+pub fn fast_request<'a>(kind: Kind, line: &'a [u8]) -> Option<FastRequest<'a>>
+    ensures { result ≡ fast_of kind line.now }
 {
     match kind {
         Kind::Client => request_by(None, line),
@@ -45,8 +45,8 @@ pub fn quick_request<'a>(kind: Kind, line: &'a [u8]) -> Option<Quick<'a>>
 }
 
 // Parses `N REQUEST`.
-#[tactic(auto, unfolding(crate::specs::Quick::numbered_of))]
-fn numbered<'a>(line: &'a [u8]) -> Option<Quick<'a>>
+#[tactic(auto, unfolding(crate::specs::FastPath::numbered_of))]
+fn numbered<'a>(line: &'a [u8]) -> Option<FastRequest<'a>>
     ensures { result ≡ numbered_of line.now }
 {
     let place = space_place(line)?;
@@ -61,16 +61,16 @@ fn space_place(line: &[u8]) -> Option<usize>
     line.iter().position(|b| *b == b' ')
 }
 
-#[tactic(auto, unfolding(crate::specs::Quick::request_by))]
-fn request_by<'a>(client: Option<ClientId>, words: &'a [u8]) -> Option<Quick<'a>>
+#[tactic(auto, unfolding(crate::specs::FastPath::request_by))]
+fn request_by<'a>(client: Option<ClientId>, words: &'a [u8]) -> Option<FastRequest<'a>>
     ensures { result ≡ request_by client words.now }
 {
     let wanted = wanted_by(words)?;
-    Some(Quick { client, wanted })
+    Some(FastRequest { client, wanted })
 }
 
 // Parses `get NAME`, or another of these.
-#[tactic(auto, unfolding(crate::specs::Quick::wanted_of))]
+#[tactic(auto, unfolding(crate::specs::FastPath::wanted_of))]
 fn wanted_by<'a>(words: &'a [u8]) -> Option<Wanted<'a>>
     ensures { result ≡ wanted_of words.now }
 {
@@ -81,7 +81,7 @@ fn wanted_by<'a>(words: &'a [u8]) -> Option<Wanted<'a>>
 }
 
 // Parses `version`, `list MASK` or `check NAME`.
-#[tactic(auto, unfolding(crate::specs::Quick::other_of))]
+#[tactic(auto, unfolding(crate::specs::FastPath::other_of))]
 fn other<'a>(words: &'a [u8]) -> Option<Wanted<'a>>
     ensures { result ≡ other_of words.now }
 {
@@ -95,7 +95,7 @@ fn other<'a>(words: &'a [u8]) -> Option<Wanted<'a>>
 }
 
 // Parses `check NAME`.
-#[tactic(auto, unfolding(crate::specs::Quick::checked_of))]
+#[tactic(auto, unfolding(crate::specs::FastPath::checked_of))]
 fn checked<'a>(words: &'a [u8]) -> Option<Wanted<'a>>
     ensures { result ≡ checked_of words.now }
 {
@@ -106,7 +106,7 @@ fn checked<'a>(words: &'a [u8]) -> Option<Wanted<'a>>
 }
 
 // Parses MASK.
-#[tactic(auto, unfolding(crate::specs::Quick::listed_of))]
+#[tactic(auto, unfolding(crate::specs::FastPath::listed_of))]
 fn listed<'a>(mask: &'a [u8]) -> Option<Wanted<'a>>
     ensures { result ≡ listed_of mask.now }
 {
@@ -115,7 +115,7 @@ fn listed<'a>(mask: &'a [u8]) -> Option<Wanted<'a>>
 }
 
 // Parses NAME, in plain bytes.
-#[tactic(auto, unfolding(crate::specs::Quick::named_of))]
+#[tactic(auto, unfolding(crate::specs::FastPath::named_of))]
 fn named<'a>(name: &'a [u8]) -> Option<Wanted<'a>>
     ensures { result ≡ named_of name.now }
 {
@@ -140,25 +140,25 @@ fn plain<'a>(name: &'a [u8]) -> Option<Wanted<'a>>
 /// # Errors
 ///
 /// An error if an allocation fails; the items are then unchanged.
-pub fn push_quick(
+pub fn push_fast(
     alloc: Global,
-    quick: Quick,
+    fast: FastRequest,
     recent: &mut RecentNames,
     items: &mut Vec<Item>,
 ) -> Result<(), AllocError>
-    ensures { OnOk result (items.new.items ≡ items.old.items ++ Asked (asked_by quick.entry) ∷ []) }
+    ensures { OnOk result (items.new.items ≡ items.old.items ++ Asked (asked_by fast.entry) ∷ []) }
 {
-    let request = asked(alloc, quick, recent)?;
+    let request = asked(alloc, fast, recent)?;
     items.push(Item::Asked(request))?;
     Ok(())
 }
 
 // Returns such a line as a request.
-fn asked(alloc: Global, quick: Quick, recent: &mut RecentNames) -> Result<Request, AllocError>
-    ensures { IfOk result (λ r. r ≡ asked_by quick.entry) }
+fn asked(alloc: Global, fast: FastRequest, recent: &mut RecentNames) -> Result<Request, AllocError>
+    ensures { IfOk result (λ r. r ≡ asked_by fast.entry) }
 {
-    let client = quick.client;
-    match quick.wanted {
+    let client = fast.client;
+    match fast.wanted {
         Wanted::List(mask) => Ok(Request::Look(client, Query::List(mask))),
         Wanted::Version => Ok(Request::Look(client, Query::Version)),
         Wanted::Get(word) => {

@@ -10,7 +10,7 @@ use Rattle.sm_wire.specs.declared.item.Item.TheVariants.{LineTooLong}
 use Rattle.sm_wire.specs.declared.kind.Kind.{Kind}
 use Rattle.sm_wire.specs.declared.mode.Mode.{Mode}
 use Rattle.sm_wire.specs.declared.mode.Mode.TheVariants.{Line, Texts as TextsMode, Dead}
-use Rattle.sm_wire.specs.declared.announced.Announced.{Announced}
+use Rattle.sm_wire.specs.declared.reload_header.ReloadHeader.{ReloadHeader}
 use Rattle.sm_wire.specs.declared.ends.End.TheVariants.{At, Later, Never}
 use Rattle.sm_wire.specs.Items.{Step, Scan, Makes, scan_start, scan_dead, policy_item, line_end, line_step, text_step}
 use Rattle.sm_wire.specs.Items.{mode_step, byte_step, scan_after, items_after}
@@ -145,7 +145,7 @@ module _ (kind : Kind) where
       (leads_one there b (scan_dead kind) (LineTooLong ∷ []) step) (dead_leads rest)))
 
   -- bytes of texts before their end
-  texts_lead : (a : Announced) (held bytes : List ℕ)
+  texts_lead : (a : ReloadHeader) (held bytes : List ℕ)
       → ((k : ℕ) → 0 < k → k ≤ length bytes → length held + k ≢ a.rules + a.contexts)
       → Leads (record { kind = kind; mode = TextsMode a; held = held }) bytes
       (record { kind = kind; mode = TextsMode a; held = held ++ bytes }) []
@@ -168,7 +168,7 @@ module _ (kind : Kind) where
       }
 
   -- bytes that end texts
-  texts_end : (a : Announced) (held bytes : List ℕ) (n : ℕ) → n < length bytes
+  texts_end : (a : ReloadHeader) (held bytes : List ℕ) (n : ℕ) → n < length bytes
       → length held + (n + 1) ≡ a.rules + a.contexts
       → Leads (record { kind = kind; mode = TextsMode a; held = held }) (take (n + 1) bytes)
       (scan_start kind) (policy_item a (held ++ take (n + 1) bytes) ∷ [])

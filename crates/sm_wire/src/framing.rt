@@ -4,16 +4,16 @@ ghost use Rattle.std.specs.Prelude.{◌≡◌, ◌≤◌, ◌+◌, ◌++◌, ◌
 ghost use Rattle.sm_wire.specs.Items.{Makes, policy_item, scan_start, text_start, line_end, scan_after, items_after};
 ghost use Rattle.sm_wire.specs.Ends.{IsWhole, whole_step, never_items};
 
-use crate::announced::Announced;
 use crate::ends::{End, item_end};
+use crate::fast_path::{fast_request, push_fast};
 use crate::fields::split_fields;
 use crate::grammar::fields_request;
 use crate::item::Item;
 use crate::kind::Kind;
 use crate::mode::Mode;
-use crate::quick::{push_quick, quick_request};
 use crate::read_error::ReadError;
 use crate::recent_names::RecentNames;
+use crate::reload_header::ReloadHeader;
 use crate::request::Request;
 use crate::texts::PolicyTexts;
 use std::alloc::{AllocError, Global};
@@ -124,7 +124,7 @@ fn whole_item<'a>(
             recent,
             items,
         ),
-        Mode::Texts(announced) => texts(alloc, kind, announced, bytes, items),
+        Mode::Texts(header) => texts(alloc, kind, header, bytes, items),
         Mode::Dead => Ok(Mode::Dead),
     }
 }
@@ -134,20 +134,20 @@ fn whole_item<'a>(
 fn texts(
     alloc: Global,
     kind: Kind,
-    announced: Announced,
+    header: ReloadHeader,
     bytes: &[u8],
     items: &mut Vec<Item>,
 ) -> Result<Mode, AllocError>
-    requires { length bytes.now ≡ announced.rules + announced.contexts }
-    ensures { IfOk result (λ m. Makes (scan_start kind, policy_item announced bytes.now ∷ []) kind m [] items.old.items items.new.items) }
+    requires { length bytes.now ≡ header.rules + header.contexts }
+    ensures { IfOk result (λ m. Makes (scan_start kind, policy_item header bytes.now ∷ []) kind m [] items.old.items items.new.items) }
 {
-    let item = policy(alloc, announced, bytes)?;
+    let item = policy(alloc, header, bytes)?;
     items.push(item)?;
     Ok(Mode::Line)
 }
 
 // Reads a line, without its newline. The most frequent lines are tried first.
-#[tactic(auto, using(crate::proofs::QuickLemmas::quick_ends))]
+#[tactic(auto, using(crate::proofs::FastPathLemmas::fast_ends))]
 fn line<'a>(
     alloc: Global,
     kind: Kind,
@@ -158,9 +158,9 @@ fn line<'a>(
 ) -> Result<Mode, AllocError>
     ensures { IfOk result (λ m. Makes (line_end kind line.now) kind m [] items.old.items items.new.items) }
 {
-    match quick_request(kind, line) {
-        Some(quick) => {
-            push_quick(alloc, quick, recent, items)?;
+    match fast_request(kind, line) {
+        Some(fast) => {
+            push_fast(alloc, fast, recent, items)?;
             Ok(Mode::Line)
         }
         None => wide_line(alloc, kind, line, fields, items),
@@ -169,7 +169,7 @@ fn line<'a>(
 
 // Reads a line of any kind.
 #[inline(never)]
-#[tactic(auto, unfolding(crate::specs::Items::line_end, crate::specs::Items::item_of, crate::specs::Grammar::announced_of, crate::specs::Grammar::request_of))]
+#[tactic(auto, unfolding(crate::specs::Items::line_end, crate::specs::Items::item_of, crate::specs::Grammar::header_of, crate::specs::Grammar::request_of))]
 fn wide_line<'a>(
     alloc: Global,
     kind: Kind,
@@ -188,12 +188,12 @@ fn wide_line<'a>(
                 contexts,
             },
         ) => {
-            let announced = Announced {
+            let header = ReloadHeader {
                 expected,
                 rules,
                 contexts,
             };
-            texts_begin(alloc, kind, announced, items)
+            texts_begin(alloc, kind, header, items)
         }
         Ok(request) => {
             items.push(Item::Asked(request))?;
@@ -212,31 +212,31 @@ fn wide_line<'a>(
 fn texts_begin(
     alloc: Global,
     kind: Kind,
-    announced: Announced,
+    header: ReloadHeader,
     items: &mut Vec<Item>,
 ) -> Result<Mode, AllocError>
-    ensures { IfOk result (λ m. Makes (text_start kind announced) kind m [] items.old.items items.new.items) }
+    ensures { IfOk result (λ m. Makes (text_start kind header) kind m [] items.old.items items.new.items) }
 {
-    if announced.rules > TEXT_LIMIT || announced.contexts > TEXT_LIMIT {
+    if header.rules > TEXT_LIMIT || header.contexts > TEXT_LIMIT {
         items.push(Item::LineTooLong)?;
         return Ok(Mode::Dead);
     }
-    if announced.length() > 0 {
-        return Ok(Mode::Texts(announced));
+    if header.length() > 0 {
+        return Ok(Mode::Texts(header));
     }
-    let item = policy(alloc, announced, b"")?;
+    let item = policy(alloc, header, b"")?;
     items.push(item)?;
     Ok(Mode::Line)
 }
 
 // Makes the item of a `reload` line and its files.
-fn policy(alloc: Global, announced: Announced, texts: &[u8]) -> Result<Item, AllocError>
-    requires { length texts.now ≡ announced.rules + announced.contexts }
-    ensures { IfOk result (λ i. i ≡ policy_item announced texts.now) }
+fn policy(alloc: Global, header: ReloadHeader, texts: &[u8]) -> Result<Item, AllocError>
+    requires { length texts.now ≡ header.rules + header.contexts }
+    ensures { IfOk result (λ i. i ≡ policy_item header texts.now) }
 {
-    let (rules, contexts) = texts.split_at(announced.rules as usize);
+    let (rules, contexts) = texts.split_at(header.rules as usize);
     let rules = Vec::from_slice(alloc, rules)?;
     let contexts = Vec::from_slice(alloc, contexts)?;
-    let texts = PolicyTexts::new(announced.expected, rules, contexts);
+    let texts = PolicyTexts::new(header.expected, rules, contexts);
     Ok(Item::Policy(texts))
 }

@@ -1,12 +1,30 @@
-//! `reload` lines.
+//! Headers of `reload` lines.
 
-ghost use Rattle.std.specs.Prelude.{map};
+ghost use Rattle.std.specs.Prelude.{◌≡◌, ◌+◌, map};
 ghost use Rattle.sm_wire.specs.Reading.{Reads};
 ghost use Rattle.sm_wire.specs.Grammar.{sizes_of, reload_of};
 
 use crate::numbers::{u32_field, u64_field};
 use crate::read_error::ReadError;
 use crate::request::Request;
+
+/// The header of a `reload` line: the expected version of the policy in force, and the sizes of the policy source and
+/// of the contexts file that follow the line, in bytes.
+#[derive(Clone, Copy, Debug, PartialEq, Eq)]
+pub struct ReloadHeader {
+    pub expected: u64,
+    pub rules: u32,
+    pub contexts: u32,
+}
+
+impl ReloadHeader {
+    /// Returns the number of bytes that follow the line.
+    pub fn length(&self) -> u64
+        ensures { result ≡ self.now.rules + self.now.contexts }
+    {
+        u64::from(self.rules) + u64::from(self.contexts)
+    }
+}
 
 /// Reads `reload EXPECTED R C`.
 #[tactic(auto, unfolding(crate::specs::Grammar::reload_of))]
