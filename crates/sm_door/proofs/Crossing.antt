@@ -5,8 +5,8 @@ use denote.Struct.Field as Field
 use denote.Struct.Declared as struct
 use denote.Enum.Declared as enum
 use Rattle.std.proofs.Crossing.{crosses}
-use Rattle.sm_roll.specs.declared.roll.Naming.{Ghosts}
-use Rattle.sm_roll.specs.contracts.roll.Roll as Roll
+use Rattle.sm_registry.specs.declared.registry.Naming.{Ghosts}
+use Rattle.sm_registry.specs.contracts.registry.Registry as Registry
 use Rattle.sm_history.specs.contracts.by.By as By
 use Rattle.sm_core.specs.contracts.view.View as View
 use Rattle.sm_core.specs.contracts.manager.Manager as Manager
@@ -17,11 +17,11 @@ use Rattle.std.specs.contracts.sync.Arc as Arc
 use Rattle.left_right.specs.contracts.reader.Reader as Reader
 use Rattle.left_right.specs.contracts.writer.Writer as Writer
 use Rattle.sm_door.specs.contracts.page.Page as Page
-use Rattle.sm_door.specs.contracts.published.Shown as Shown
-use Rattle.sm_door.specs.contracts.published.Known as Known
+use Rattle.sm_door.specs.contracts.published.Published as Published
+use Rattle.sm_door.specs.contracts.published.ReaderKnowledge as ReaderKnowledge
 use Rattle.sm_door.specs.contracts.published.OneHistory as OneHistory
-use Rattle.sm_door.specs.contracts.published.OneHistoryProtocolShownKnown.TheImpl as Rule
-use Rattle.sm_door.specs.contracts.published.ShownAbsorbArcPage.TheImpl as Absorb
+use Rattle.sm_door.specs.contracts.published.OneHistoryProtocolPublishedReaderKnowledge.TheImpl as Rule
+use Rattle.sm_door.specs.contracts.published.PublishedAbsorbArcPage.TheImpl as Absorb
 use Rattle.sm_door.specs.contracts.desk.Desk as Desk
 use Rattle.sm_door.specs.contracts.actor.Actor as Actor
 use Rattle.sm_door.specs.contracts.actor.Actor.TheInside as ActorInside
@@ -32,17 +32,17 @@ use Rattle.sm_door.specs.contracts.publisher.Publisher.TheInside as PublisherIns
 module _ (T : RattleType) (g : Ghosts T.Denot) where
   abbrev pub reader_row : RattleType
   reader_row =
-      let shown = Shown.the_row T g in
+      let shown = Published.the_row T g in
       let rule = Rule.ghosts T g Rule.no_dict in
-      Reader.the_row shown Known.the_row (OneHistory.the_row T) Global.the_row rule Heap.ghosts
+      Reader.the_row shown ReaderKnowledge.the_row (OneHistory.the_row T) Global.the_row rule Heap.ghosts
 
   abbrev pub writer_row : RattleType
   writer_row =
-      let shown = Shown.the_row T g in
+      let shown = Published.the_row T g in
       let page = Arc.the_row (Page.the_row T g) Global.the_row Heap.ghosts in
       let absorbs = Absorb.ghosts T g Absorb.no_dict in
       let rule = Rule.ghosts T g Rule.no_dict in
-      Writer.the_row shown page Known.the_row (OneHistory.the_row T) Global.the_row View.the_row
+      Writer.the_row shown page ReaderKnowledge.the_row (OneHistory.the_row T) Global.the_row View.the_row
       absorbs rule Heap.ghosts
 
   option_send : (R : RattleType) → IsSend R → IsSend (Option.the_field R).row
@@ -69,28 +69,28 @@ module _ (T : RattleType) (g : Ghosts T.Denot) where
   abbrev pub page_row : RattleType
   page_row = Arc.the_row (Page.the_row T g) Global.the_row Heap.ghosts
 
-  publisher_inside_send : IsSend (Roll.the_field T g).row → IsSend page_row → IsSend writer_row
+  publisher_inside_send : IsSend (Registry.the_field T g).row → IsSend page_row → IsSend writer_row
       → IsSend (PublisherInside.the_row T (Absorb.ghosts T g Absorb.no_dict) g)
-  publisher_inside_send roll page w =
+  publisher_inside_send registry page w =
       let D = PublisherInside.the_type T (Absorb.ghosts T g Absorb.no_dict) g in
       recorded_send _ _ _ D.to_one
-      (struct_send (struct.shape D) (global_send, (roll, (page, (option_send writer_row w, tt)))))
+      (struct_send (struct.shape D) (global_send, (registry, (page, (option_send writer_row w, tt)))))
 
-  publisher_send : IsSend (Roll.the_field T g).row → IsSend page_row → IsSend writer_row
+  publisher_send : IsSend (Registry.the_field T g).row → IsSend page_row → IsSend writer_row
       → IsSend (Publisher.the_row T (Absorb.ghosts T g Absorb.no_dict) g)
-  publisher_send roll page w =
-      let inside = publisher_inside_send roll page w in
+  publisher_send registry page w =
+      let inside = publisher_inside_send registry page w in
       view_send (PublisherInside.the_row T (Absorb.ghosts T g Absorb.no_dict) g) _ _ _ _ inside
 
-  desk_inside_send : IsSend (Manager.the_field).row → IsSend (Roll.the_field T g).row → IsSend page_row
+  desk_inside_send : IsSend (Manager.the_field).row → IsSend (Registry.the_field T g).row → IsSend page_row
       → IsSend writer_row → IsSend (DeskInside.the_row T g (Absorb.ghosts T g Absorb.no_dict))
-  desk_inside_send manager roll page w =
+  desk_inside_send manager registry page w =
       let D = DeskInside.the_type T g (Absorb.ghosts T g Absorb.no_dict) in
       recorded_send _ _ _ D.to_one
-      (struct_send (struct.shape D) (global_send, (manager, (publisher_send roll page w, tt))))
+      (struct_send (struct.shape D) (global_send, (manager, (publisher_send registry page w, tt))))
 
-  pub desk_send : IsSend (Manager.the_field).row → IsSend (Roll.the_field T g).row → IsSend page_row
+  pub desk_send : IsSend (Manager.the_field).row → IsSend (Registry.the_field T g).row → IsSend page_row
       → IsSend writer_row → IsSend (Desk.the_row T g (Absorb.ghosts T g Absorb.no_dict))
-  desk_send manager roll page w =
-      let inside = desk_inside_send manager roll page w in
+  desk_send manager registry page w =
+      let inside = desk_inside_send manager registry page w in
       view_send (DeskInside.the_row T g (Absorb.ghosts T g Absorb.no_dict)) _ _ _ _ inside

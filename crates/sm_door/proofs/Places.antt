@@ -23,35 +23,35 @@ use Rattle.sm_core.specs.Managed.{IsSame, IsAnswer, ring_after, step_leaves}
 use Rattle.sm_view.specs.Begins.{Begins}
 use Rattle.sm_view.specs.Steps.{Steps, Seals}
 use Rattle.sm_view.proofs.Books.{book_itself, book_through}
-use Rattle.sm_door.specs.declared.published.Known.{Known}
+use Rattle.sm_door.specs.declared.published.ReaderKnowledge.{ReaderKnowledge}
 use Rattle.sm_door.specs.Rule.{Keeps, Enters, known}
 
 module _ (o : Book) where
-  pub keeps_set : (b : Book) (views : List Known) (seat : ℕ) (w : Known) → Keeps o b views
+  pub keeps_set : (b : Book) (views : List ReaderKnowledge) (seat : ℕ) (w : ReaderKnowledge) → Keeps o b views
       → Begins b w.seen → Keeps o b (set views seat w)
   keeps_set b views seat w h fits = (
     h.0,
     λ j u e. ⊎_elim
-        (λ (t : (j ≡ seat) × (w ≡ u)). subst (λ (v : Known). Begins b v.seen) t.1 fits)
+        (λ (t : (j ≡ seat) × (w ≡ u)). subst (λ (v : ReaderKnowledge). Begins b v.seen) t.1 fits)
         (λ (t : (j ≢ seat) × (get_elem? views j ≡ some u)). h.1 j u t.1)
         (at_set views seat j w u e),
   )
 
-  pub keeps_snoc : (b : Book) (views : List Known) (w : Known) → Keeps o b views → Begins b w.seen
+  pub keeps_snoc : (b : Book) (views : List ReaderKnowledge) (w : ReaderKnowledge) → Keeps o b views → Begins b w.seen
       → Keeps o b (views ++ w ∷ [])
   keeps_snoc b views w h fits = (
     h.0,
     λ j u e. ⊎_elim
         (λ (t : get_elem? views j ≡ some u). h.1 j u t)
-        (λ (t : w ≡ u). subst (λ (v : Known). Begins b v.seen) t fits)
+        (λ (t : w ≡ u). subst (λ (v : ReaderKnowledge). Begins b v.seen) t fits)
         (at_snoc views w u j e),
   )
 
-  pub keeps_more : (b b' : Book) (views : List Known) → Begins b' b → Keeps o b views → Keeps o b' views
+  pub keeps_more : (b b' : Book) (views : List ReaderKnowledge) → Begins b' b → Keeps o b views → Keeps o b' views
   keeps_more b b' views more h = (book_through b' b o more h.0, λ j u e. book_through b' b u.seen more (h.1 j u e))
 
   module _ {X : Type 0} (value : X → Book) where
-    abbrev pub Holds : X → List Known → Type 0
+    abbrev pub Holds : X → List ReaderKnowledge → Type 0
     Holds x = Keeps o (value x)
 
     pub starts : (x : X) → Begins (value x) o → Holds x (known o 0 ∷ [])
@@ -60,12 +60,12 @@ module _ (o : Book) where
     pub admits : Admits Holds (known o 0)
     admits x views h = keeps_snoc (value x) views (known o 0) h h.0
 
-    pub enters : (seat : ℕ) (v : Known) (x : X) → TurnsAt Holds seat v x x (λ v x y w. Enters v (value y) w)
+    pub enters : (seat : ℕ) (v : ReaderKnowledge) (x : X) → TurnsAt Holds seat v x x (λ v x y w. Enters v (value y) w)
     enters seat v x views h at =
         let w = known (value x) (v.reads + 1) in
         (w, keeps_set (value x) views seat w h (book_itself (value x)), (h.1 seat v at, refl))
 
-    pub shows : (seat : ℕ) (v : Known) (x y : X) → Begins (value y) (value x)
+    pub shows : (seat : ℕ) (v : ReaderKnowledge) (x y : X) → Begins (value y) (value x)
         → TurnsAt Holds seat v x y (λ v x y w. Unit {0})
     shows seat v x y more views h at =
         let all = keeps_more (value x) (value y) views more h in

@@ -1,5 +1,5 @@
 pub mod Rule
 pub mod Opening
-pub mod Chairs
+pub mod SeatsOrSessions
 pub mod Locked
 pub mod Logged

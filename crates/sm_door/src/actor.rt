@@ -12,7 +12,7 @@ ghost use Rattle.sm_door.specs.Rule.{known};
 use crate::desk::Desk;
 use crate::published::{Sees, ViewReader};
 use sm_history::{By, Query, Record, Refusal, Reply};
-use sm_roll::Naming;
+use sm_registry::Naming;
 use std::alloc::Global;
 use std::marker::Model;
 use std::sync::Wait;

@@ -5,7 +5,7 @@ ghost use Rattle.sm_history.specs.declared.by.By.TheVariants.{Admin as TheAdmin}
 
 use crate::actor::Actor;
 use sm_kinds::AdminId;
-use sm_roll::Naming;
+use sm_registry::Naming;
 use std::marker::Model;
 
 /// An administrator's token. It can't be copied, and serves the door that made it.

@@ -13,12 +13,12 @@ ghost use Rattle.sm_view.specs.Begins.{Begins, IsLawfulBook, extended, sealed_bo
 ghost use Rattle.sm_view.specs.Steps.{Steps, Seals, StaysOpen};
 
 use crate::page::Page;
-use crate::published::{Shown, ViewReader};
+use crate::published::{Published, ViewReader};
 use crate::publisher::Publisher;
 use left_right::Absorb;
 use sm_core::{Manager, Ready, ReadySeal, View};
 use sm_history::{By, Event, Record, Refusal, Reply, Segment};
-use sm_roll::Naming;
+use sm_registry::Naming;
 use std::alloc::{AllocError, Global};
 use std::marker::Model;
 use std::sync::{Arc, Wait};
@@ -27,7 +27,7 @@ use std::sync::{Arc, Wait};
 /// with its slots, and the newest audit records.
 pub struct Desk<J: Naming>
 where
-    Shown<J>: Absorb<Arc<Page<J>>, State = View>,
+    Published<J>: Absorb<Arc<Page<J>>, State = View>,
 {
     alloc: Global,
     manager: Manager,
@@ -36,7 +36,7 @@ where
 
 impl<J: Naming> Model for Desk<J>
 where
-    Shown<J>: Absorb<Arc<Page<J>>, State = View>,
+    Published<J>: Absorb<Arc<Page<J>>, State = View>,
 {
     ghost use Rattle.std.specs.Prelude.{◌≡◌};
     ghost use Rattle.sm_door.specs.Locked.{Locked};

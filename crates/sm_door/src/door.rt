@@ -27,7 +27,7 @@ use crate::admin::Admin;
 use crate::desk::Desk;
 use crate::opening::{tokens_of, writer_of};
 use crate::page::Page;
-use crate::published::Shown;
+use crate::published::Published;
 use crate::publisher::Publisher;
 use crate::seat::Seat;
 use crate::session::Session;
@@ -37,7 +37,7 @@ use sm_core::{Manager, View};
 use sm_history::{By, Event, Failure, Query, Record, Refusal, Reply, Segment};
 use sm_kinds::{Class, Identity, Name, Perms, Places};
 use sm_policy::Prepared;
-use sm_roll::{Blank, Naming};
+use sm_registry::{Naming, UnnamedRegistry};
 use sm_view::{Gate, connected, installed, is_death, left, moves};
 use std::alloc::{AllocError, Global};
 use std::sync::{Arc, Mutex, MutexGuard, Wait};
@@ -45,7 +45,7 @@ use std::sync::{Arc, Mutex, MutexGuard, Wait};
 /// The manager behind one lock. A door isn't dropped: its owner ends it by `close`.
 pub struct Door<J: Naming, G: Gate>
 where
-    Shown<J>: Absorb<Arc<Page<J>>, State = View>,
+    Published<J>: Absorb<Arc<Page<J>>, State = View>,
 {
     desk: Mutex<Desk<J>>,
     gate: G,
@@ -63,13 +63,13 @@ impl<J: Naming, G: Gate + Drop> Door<J, G> {
     pub fn open<R: Wait>(
         rt: &R,
         alloc: Global,
-        blank: Blank,
+        unnamed: UnnamedRegistry,
         who: Identity,
         policy: Prepared,
         places: Places,
         gate: G,
     ) -> Result<(Door<J, G>, Vec<Seat<J>>, Vec<Admin<J>>), Refusal>
-        requires roll { blank.seen.book ≡ J.roll }
+        requires registry { unnamed.seen.book ≡ J.registry }
         requires opening { J.opening ≡ opened places who policy }
         ensures opened { IfOk result (λ r. MayOpen who policy
             × (r.1.items ≡ new_seats (opened places who policy) MOST_CLIENTS)
@@ -79,11 +79,11 @@ impl<J: Naming, G: Gate + Drop> Door<J, G> {
             × (r ≡ opening_denial who)))) }
     {
         let manager = Manager::open(alloc, who, policy, places)?;
-        let mut roll = blank.named::<J>();
+        let mut registry = unnamed.named::<J>();
         let Ok(view) = manager.view() else {
             return Err(Refusal::Memory);
         };
-        let Ok(page) = Page::new(rt, alloc, &mut roll, view) else {
+        let Ok(page) = Page::new(rt, alloc, &mut registry, view) else {
             return Err(Refusal::Memory);
         };
         let Ok(writer) = writer_of(alloc, &page) else {
@@ -91,7 +91,7 @@ impl<J: Naming, G: Gate + Drop> Door<J, G> {
         };
         match tokens_of(alloc, &manager, &writer) {
             Ok((seats, admins)) => {
-                let publisher = Publisher::new(alloc, roll, page, writer);
+                let publisher = Publisher::new(alloc, registry, page, writer);
                 let desk = Mutex::new(Desk::new(alloc, manager, publisher));
                 Ok((Door { desk, gate }, seats, admins))
             }

@@ -13,7 +13,6 @@
 
 mod actor;
 mod admin;
-mod chair;
 mod desk;
 mod door;
 mod opening;
@@ -21,19 +20,20 @@ mod page;
 mod published;
 mod publisher;
 mod seat;
+mod seat_or_session;
 mod session;
 mod token;
 
 pub use actor::Actor;
 pub use admin::Admin;
-pub use chair::Chair;
 pub use desk::Desk;
 pub use door::Door;
 pub use opening::ADMINS;
 pub use page::Page;
-pub use published::{Known, OneHistory, Shown, ViewReader, ViewWriter};
+pub use published::{OneHistory, Published, ReaderKnowledge, ViewReader, ViewWriter};
 pub use publisher::Publisher;
 pub use seat::Seat;
+pub use seat_or_session::SeatOrSession;
 pub use session::Session;
 pub use sm_view::Gate;
 pub use token::Token;

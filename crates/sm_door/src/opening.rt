@@ -12,12 +12,12 @@ ghost use Rattle.sm_door.specs.Opening.{new_seats, new_admins};
 use crate::actor::Actor;
 use crate::admin::Admin;
 use crate::page::Page;
-use crate::published::{Shown, ViewWriter};
+use crate::published::{Published, ViewWriter};
 use crate::seat::Seat;
 use sm_core::Manager;
 use sm_history::{By, MOST_CLIENTS, Refusal};
 use sm_kinds::AdminId;
-use sm_roll::Naming;
+use sm_registry::Naming;
 use std::alloc::{AllocError, Global};
 use std::sync::Arc;
 
@@ -37,7 +37,12 @@ pub(crate) fn writer_of<J: Naming>(
 {
     let first = Arc::try_clone(page)?;
     let second = Arc::try_clone(page)?;
-    match ViewWriter::new(alloc, Shown { page: first }, Shown { page: second }, PLACES) {
+    match ViewWriter::new(
+        alloc,
+        Published { page: first },
+        Published { page: second },
+        PLACES,
+    ) {
         Ok(writer) => Ok(writer),
         Err(_) => Err(AllocError),
     }

@@ -1,4 +1,4 @@
-//! Pages: views with the badges of their histories.
+//! Pages: views with the ids of their histories.
 
 ghost use Rattle.std.specs.Prelude.{◌≡◌, IfOk, IsTrue};
 ghost use Rattle.std.specs.Arc.{arc_value};
@@ -10,16 +10,16 @@ ghost use Rattle.sm_view.specs.Promises.{Looks};
 use crate::published::ShowsView;
 use sm_core::View;
 use sm_history::{By, Query, Record, Reply};
-use sm_roll::{Badge, Naming, Roll};
+use sm_registry::{HistoryId, Naming, Registry};
 use std::alloc::{AllocError, Global};
 use std::marker::Model;
 use std::sync::{Arc, Wait};
 
-/// A view with the badge of its history. Contracts see that history with its slots.
+/// A view with the id of its history. Contracts see that history with its slots.
 #[derive(Drop)]
 pub struct Page<J: Naming> {
     view: View,
-    badge: Badge<J>,
+    history_id: HistoryId<J>,
 }
 
 impl<J: Naming> Model for Page<J> {
@@ -30,23 +30,23 @@ impl<J: Naming> Model for Page<J> {
 
     ghost view = { λ p. p.view };
 
-    ghost invariant = { λ p. p.badge ≡ p.view };
+    ghost invariant = { λ p. p.history_id ≡ p.view };
 }
 
 impl<J: Naming> Page<J> {
-    /// Makes a page of a view, with a new badge. Returns an error if an allocation failed or no number is left.
+    /// Makes a page of a view, with a new id. Returns an error if an allocation failed or no number is left.
     pub(crate) fn new<R: Wait>(
         rt: &R,
         alloc: Global,
-        roll: &mut Roll<J>,
+        registry: &mut Registry<J>,
         view: View,
     ) -> Result<Arc<Page<J>>, AllocError>
         ensures { IfOk result (λ p. arc_value p ≡ view) }
     {
-        let Some(badge) = roll.add::<View, ShowsView, R>(rt, &view) else {
+        let Some(history_id) = registry.add::<View, ShowsView, R>(rt, &view) else {
             return Err(AllocError);
         };
-        Ok(Arc::new(alloc, Page { view, badge })?)
+        Ok(Arc::new(alloc, Page { view, history_id })?)
     }
 
     /// Returns its view.
@@ -56,11 +56,11 @@ impl<J: Naming> Page<J> {
         &self.view
     }
 
-    /// Returns whether it is the other page, by their badges. Then both are of one history.
+    /// Returns whether it is the other page, by their ids. Then both are of one history.
     pub fn is(&self, other: &Page<J>) -> bool
         ensures { IsTrue result → self.now ≡ other.now }
     {
-        self.badge.is(&other.badge)
+        self.history_id.is(&other.history_id)
     }
 
     /// Returns the number of changes of an actor. The history is lawful.

@@ -6,18 +6,18 @@ use left_right::Absorb;
 use left_right::reader::Reader;
 use left_right::writer::Writer;
 use sm_core::View;
-use sm_roll::{Naming, Shows as ShowsBook};
+use sm_registry::{Naming, Shows as ShowsBook};
 use std::alloc::AllocError;
 use std::marker::PhantomData;
 use std::sync::Arc;
 
 /// The payload of the readers. Each operation of the writer is a whole page, which replaces the one before.
 #[derive(Drop)]
-pub struct Shown<J: Naming> {
+pub struct Published<J: Naming> {
     pub page: Arc<Page<J>>,
 }
 
-impl<J: Naming> Absorb<Arc<Page<J>>> for Shown<J> {
+impl<J: Naming> Absorb<Arc<Page<J>>> for Published<J> {
     ghost use Rattle.std.specs.Arc.{arc_value};
 
     type State = View;
@@ -29,7 +29,7 @@ impl<J: Naming> Absorb<Arc<Page<J>>> for Shown<J> {
     fn absorb_first(
         &mut self,
         operation: &Arc<Page<J>>,
-        _other: &Shown<J>,
+        _other: &Published<J>,
     ) -> Result<(), AllocError> {
         self.page = Arc::try_clone(operation)?;
         Ok(())
@@ -38,7 +38,7 @@ impl<J: Naming> Absorb<Arc<Page<J>>> for Shown<J> {
     fn absorb_second(
         &mut self,
         operation: Arc<Page<J>>,
-        _other: &Shown<J>,
+        _other: &Published<J>,
     ) -> Result<(), Arc<Page<J>>> {
         self.page = operation;
         Ok(())
@@ -47,7 +47,7 @@ impl<J: Naming> Absorb<Arc<Page<J>>> for Shown<J> {
 
 /// What a reader slot knows, in proofs only: the history that it has seen, and the number of its reads. No value of it
 /// is made.
-pub struct Known {
+pub struct ReaderKnowledge {
     pub seen: View,
     pub reads: u64,
 }
@@ -58,7 +58,7 @@ pub struct OneHistory<J> {
     of: PhantomData<J>,
 }
 
-impl<J: Naming> Protocol<Shown<J>, Known> for OneHistory<J> {
+impl<J: Naming> Protocol<Published<J>, ReaderKnowledge> for OneHistory<J> {
     ghost use Rattle.std.specs.Arc.{arc_value};
     ghost use Rattle.sm_door.specs.Rule.{Keeps, known};
 
@@ -70,7 +70,7 @@ impl<J: Naming> Protocol<Shown<J>, Known> for OneHistory<J> {
 /// A reader enters, and sees the published history.
 pub struct Sees;
 
-impl<J: Naming> Outcome<Shown<J>, Known> for Sees {
+impl<J: Naming> Outcome<Published<J>, ReaderKnowledge> for Sees {
     ghost use Rattle.std.specs.Arc.{arc_value};
     ghost use Rattle.sm_door.specs.Rule.{Enters};
 
@@ -80,17 +80,17 @@ impl<J: Naming> Outcome<Shown<J>, Known> for Sees {
 /// The writer publishes. Nothing is said of its own slot.
 pub struct Publishes;
 
-impl<J: Naming> Outcome<Shown<J>, Known> for Publishes {
+impl<J: Naming> Outcome<Published<J>, ReaderKnowledge> for Publishes {
     ghost then = { λ v x y w. Unit {0} };
 }
 
 /// A reader slot.
-pub type ViewReader<J> = Reader<Shown<J>, Known, OneHistory<J>>;
+pub type ViewReader<J> = Reader<Published<J>, ReaderKnowledge, OneHistory<J>>;
 
 /// The writer.
-pub type ViewWriter<J> = Writer<Shown<J>, Arc<Page<J>>, Known, OneHistory<J>>;
+pub type ViewWriter<J> = Writer<Published<J>, Arc<Page<J>>, ReaderKnowledge, OneHistory<J>>;
 
-/// A view shows its book to a roll.
+/// A view shows its book to a registry.
 pub struct ShowsView;
 
 impl ShowsBook<View> for ShowsView {

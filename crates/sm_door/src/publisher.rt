@@ -6,10 +6,10 @@ ghost use Rattle.left_right.specs.Sides.{view as place_view};
 ghost use Rattle.sm_view.specs.Begins.{Begins};
 
 use crate::page::Page;
-use crate::published::{Publishes, Sees, Shown, ViewReader, ViewWriter};
+use crate::published::{Published, Publishes, Sees, ViewReader, ViewWriter};
 use left_right::Absorb;
 use sm_core::View;
-use sm_roll::{Naming, Roll};
+use sm_registry::{Naming, Registry};
 use std::alloc::{AllocError, Global};
 use std::marker::Model;
 use std::sync::{Arc, Wait};
@@ -17,10 +17,10 @@ use std::sync::{Arc, Wait};
 /// The published page and its writer. Contracts see the book that readers find.
 pub struct Publisher<J: Naming>
 where
-    Shown<J>: Absorb<Arc<Page<J>>, State = View>,
+    Published<J>: Absorb<Arc<Page<J>>, State = View>,
 {
     alloc: Global,
-    roll: Roll<J>,
+    registry: Registry<J>,
     /// The page that is published.
     page: Arc<Page<J>>,
     /// The writer. It is absent only within `publish`.
@@ -29,7 +29,7 @@ where
 
 impl<J: Naming> Model for Publisher<J>
 where
-    Shown<J>: Absorb<Arc<Page<J>>, State = View>,
+    Published<J>: Absorb<Arc<Page<J>>, State = View>,
 {
     ghost use Rattle.std.specs.Prelude.{◌≡◌, MatchOption};
     ghost use Rattle.std.specs.Arc.{arc_value};
@@ -74,7 +74,7 @@ impl<J: Naming> Publisher<J> {
     /// The publisher whose writer shows this page.
     pub(crate) fn new(
         alloc: Global,
-        roll: Roll<J>,
+        registry: Registry<J>,
         page: Arc<Page<J>>,
         writer: ViewWriter<J>,
     ) -> Publisher<J>
@@ -83,7 +83,7 @@ impl<J: Naming> Publisher<J> {
     {
         Publisher {
             alloc,
-            roll,
+            registry,
             page,
             writer: Some(writer),
         }
@@ -100,12 +100,12 @@ impl<J: Naming> Publisher<J> {
     ///
     /// # Errors
     ///
-    /// `AllocError` if an allocation failed, or no badge is left. Readers find the page that they found.
+    /// `AllocError` if an allocation failed, or no id is left. Readers find the page that they found.
     pub(crate) fn publish<R: Wait>(&mut self, rt: &R, view: View) -> Result<(), AllocError>
         requires { Begins view self.old }
         ensures { MatchResult result (λ done. self.new ≡ view) (λ e. self.new ≡ self.old) }
     {
-        let page = Page::new(rt, self.alloc, &mut self.roll, view)?;
+        let page = Page::new(rt, self.alloc, &mut self.registry, view)?;
         let kept = Arc::try_clone(&page)?;
         let writer = self.writer.take().unwrap();
         let (writer, shown) = show(rt, writer, page);
@@ -144,7 +144,7 @@ impl<J: Naming> Publisher<J> {
     pub(crate) fn close<R: Wait>(self, rt: &R) {
         let Publisher {
             alloc: _,
-            roll: _roll,
+            registry: _registry,
             page: _page,
             writer,
         } = self;

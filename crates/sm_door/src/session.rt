@@ -7,7 +7,7 @@ ghost use Rattle.sm_view.specs.Tokens.{token};
 use crate::actor::Actor;
 use crate::seat::Seat;
 use sm_kinds::ClientId;
-use sm_roll::Naming;
+use sm_registry::Naming;
 use std::marker::Model;
 
 /// A connected client's token. It can't be copied, and serves the door that made it. A session that is dropped without

@@ -8,7 +8,7 @@ ghost use Rattle.sm_view.specs.Tokens.{Knows};
 use crate::admin::Admin;
 use crate::session::Session;
 use sm_history::{Query, Reply};
-use sm_roll::Naming;
+use sm_registry::Naming;
 
 /// Tokens that can ask for the version of the policy.
 pub trait Token {

@@ -8,7 +8,7 @@ use sm_door::{Admin, Door, Seat, Session};
 use sm_history::{Outcome, Record, Refusal, Reply};
 use sm_kinds::{Identity, Places};
 use sm_policy::Prepared;
-use sm_roll::{Blank, Naming};
+use sm_registry::{Naming, UnnamedRegistry};
 use sm_view::NoGate;
 use std::alloc::Global;
 use std::marker::Brand;
@@ -153,15 +153,15 @@ fn calls<J: Naming, R: Wait + Abort>(
 fn opens<J: Naming, R: Wait + Abort>(
     rt: &R,
     alloc: Global,
-    blank: Blank,
+    unnamed: UnnamedRegistry,
     who: Identity,
     rules: Prepared,
     places: Places,
 ) -> Option<()>
-    requires roll { blank.seen.book ≡ J.roll }
+    requires registry { unnamed.seen.book ≡ J.registry }
     requires opening { J.opening ≡ opened places who rules }
 {
-    match Door::<J, NoGate>::open(rt, alloc, blank, who, rules, places, NoGate) {
+    match Door::<J, NoGate>::open(rt, alloc, unnamed, who, rules, places, NoGate) {
         Ok((door, mut seats, mut admins)) => {
             let seat = seats.pop().expect(rt, "a seat");
             let admin = admins.pop().expect(rt, "an administrator");
@@ -181,7 +181,7 @@ fn door<R: Wait + Abort>(rt: &R, alloc: Global) -> Option<()> {
     let who = process(alloc, b"u:r:servicemanager:s0")?;
     let rules = policy(rt, alloc)?;
     let places = Places::new(1000).expect(rt, "places");
-    opens::<Brand, R>(rt, alloc, Blank::new(), who, rules, places)
+    opens::<Brand, R>(rt, alloc, UnnamedRegistry::new(), who, rules, places)
 }
 
 #[test]

@@ -1,7 +1,7 @@
 //! An administrator's connection at the door.
 
 use crate::answered::Answered;
-use crate::asked::Asked;
+use crate::command::Command;
 use crate::notice::Supervisor;
 use crate::refusals::not_yours;
 use crate::shared_admin::SharedAdmin;
@@ -9,7 +9,7 @@ use crate::watch::Watch;
 use sm_door::Door;
 use sm_history::{Outcome, Query, Refusal, Reply};
 use sm_policy::Prepared;
-use sm_roll::Naming;
+use sm_registry::Naming;
 use sm_session::Response;
 use sm_view::Gate;
 use sm_wire::Request;
@@ -51,16 +51,16 @@ impl<'a, J: Naming, G: Gate + Drop, H: Supervisor, R: Wait> Administrator<'a, J,
     }
 
     /// Answers a request. No request of an administrator's has audit records.
-    pub fn answer(&self, asked: Asked) -> Answered {
-        Answered::plain(self.response(asked))
+    pub fn answer(&self, command: Command) -> Answered {
+        Answered::plain(self.response(command))
     }
 
-    fn response(&self, asked: Asked) -> Response {
-        match asked {
-            Asked::Line(Request::Look(_, query)) => Response::Replied(self.look(query)),
-            Asked::Line(Request::Denials) => self.denials(),
-            Asked::Line(Request::Seal) => Response::Replied(self.seal()),
-            Asked::Install { expected, prepared } => {
+    fn response(&self, command: Command) -> Response {
+        match command {
+            Command::Line(Request::Look(_, query)) => Response::Replied(self.look(query)),
+            Command::Line(Request::Denials) => self.denials(),
+            Command::Line(Request::Seal) => Response::Replied(self.seal()),
+            Command::Install { expected, prepared } => {
                 Response::Replied(self.install(expected, prepared))
             }
             _ => Response::Replied(not_yours()),

@@ -2,21 +2,21 @@
 
 use crate::administrator::Administrator;
 use crate::answered::Answered;
-use crate::asked::Asked;
 use crate::client::Client;
+use crate::command::Command;
+use crate::connection_slot::ConnectionSlot;
 use crate::door_desk::DoorDesk;
 use crate::free_seats::FreeSeats;
-use crate::held_chair::HeldChair;
 use crate::leavers::Leavers;
 use crate::notice::Supervisor;
 use crate::patience::{Patience, limit_administrator};
 use crate::sealing::seal_if_due;
+use crate::seat_keeper::{SeatKeeper, SeatNeed};
 use crate::shared_admin::SharedAdmin;
-use crate::usher::{Seating, Usher};
 use crate::watch::Watch;
 use sm_door::Door;
 use sm_engine::Counted;
-use sm_roll::Naming;
+use sm_registry::Naming;
 use sm_session::session;
 use sm_view::Gate;
 use sm_wire::Kind;
@@ -45,42 +45,42 @@ pub fn attend_client<J: Naming, G: Gate + Drop, H: Supervisor, R: Wait>(
         return;
     }
     leavers.retry(rt, door, seats, watch);
-    let chair = HeldChair::new();
-    attend_ushered(
+    let slot = ConnectionSlot::new();
+    attend_with_seats(
         rt,
         alloc,
         door,
         seats,
-        &chair,
+        &slot,
         |_| seal_if_due(rt, door, sealer, watch),
         watch,
         &stream,
     );
-    leavers.take_over(rt, seats, chair.take(rt));
+    leavers.take_over(rt, seats, slot.take(rt));
     leavers.retry(rt, door, seats, watch);
 }
 
-fn attend_ushered<J: Naming, G: Gate + Drop, L: Fn(Seating) + Drop, H: Supervisor, R: Wait>(
+fn attend_with_seats<J: Naming, G: Gate + Drop, L: Fn(SeatNeed) + Drop, H: Supervisor, R: Wait>(
     rt: &R,
     alloc: Global,
     door: &Door<J, G>,
     seats: &FreeSeats<J>,
-    chair: &HeldChair<J>,
+    slot: &ConnectionSlot<J>,
     tend: L,
     watch: &Watch<H>,
     stream: &UnixStream,
 )
     requires { L.IsAlwaysCallable tend }
 {
-    let usher = Usher::new(rt, seats, chair);
+    let seat_keeper = SeatKeeper::new(rt, seats, slot);
     attend_seated(
         rt,
         alloc,
         door,
-        chair,
-        |seating| {
-            tend(seating);
-            usher.see_to(seating);
+        slot,
+        |need| {
+            tend(need);
+            seat_keeper.meet(need);
         },
         watch,
         stream,
@@ -88,22 +88,22 @@ fn attend_ushered<J: Naming, G: Gate + Drop, L: Fn(Seating) + Drop, H: Superviso
 }
 
 // The closures are made in different functions: one call that showed what all hold would be too much for the check.
-fn attend_seated<J: Naming, G: Gate + Drop, B: FnMut(Seating) + Drop, H: Supervisor, R: Wait>(
+fn attend_seated<J: Naming, G: Gate + Drop, B: FnMut(SeatNeed) + Drop, H: Supervisor, R: Wait>(
     rt: &R,
     alloc: Global,
     door: &Door<J, G>,
-    chair: &HeldChair<J>,
+    slot: &ConnectionSlot<J>,
     seating: B,
     watch: &Watch<H>,
     stream: &UnixStream,
 )
     requires { B.IsAlwaysCallable seating }
 {
-    let client = Client::new(rt, door, chair, stream);
+    let client = Client::new(rt, door, slot, stream);
     attend(
         alloc,
         Kind::Client,
-        |asked| client.answer(asked),
+        |command| client.answer(command),
         seating,
         watch,
         door.gate(),
@@ -128,7 +128,7 @@ pub fn attend_administrator<J: Naming, G: Gate + Drop, H: Supervisor, R: Wait>(
     attend(
         alloc,
         Kind::Admin,
-        |asked| administrator.answer(asked),
+        |command| administrator.answer(command),
         |_| {},
         watch,
         door.gate(),
@@ -136,7 +136,7 @@ pub fn attend_administrator<J: Naming, G: Gate + Drop, H: Supervisor, R: Wait>(
     );
 }
 
-fn attend<F: FnMut(Asked) -> Answered + Drop, B: FnMut(Seating) + Drop, H: Supervisor, G: Gate>(
+fn attend<F: FnMut(Command) -> Answered + Drop, B: FnMut(SeatNeed) + Drop, H: Supervisor, G: Gate>(
     alloc: Global,
     kind: Kind,
     answer: F,

@@ -1,14 +1,14 @@
 //! A client's connection at the door.
 
 use crate::answered::Answered;
-use crate::asked::Asked;
-use crate::held_chair::HeldChair;
+use crate::command::Command;
+use crate::connection_slot::ConnectionSlot;
 use crate::patience::lift_read_limit;
 use crate::refusals::{not_connected, not_yours};
-use sm_door::{Chair, Door, Seat, Session};
+use sm_door::{Door, Seat, SeatOrSession, Session};
 use sm_history::{Event, Outcome, Query, Refusal, Reply};
 use sm_kinds::Identity;
-use sm_roll::Naming;
+use sm_registry::Naming;
 use sm_view::{Gate, is_death};
 use sm_wire::Request;
 use std::os::unix::net::UnixStream;
@@ -21,7 +21,7 @@ const TRIES: u32 = 16;
 pub struct Client<'a, J: Naming, G: Gate, R> {
     rt: &'a R,
     door: &'a Door<J, G>,
-    chair: &'a HeldChair<J>,
+    slot: &'a ConnectionSlot<J>,
     stream: &'a UnixStream,
 }
 
@@ -30,7 +30,7 @@ impl<'a, J: Naming, G: Gate, R> Drop for Client<'a, J, G, R> {
         let Client {
             rt: _,
             door: _,
-            chair: _,
+            slot: _,
             stream: _,
         } = self;
     }
@@ -41,32 +41,32 @@ impl<'a, J: Naming, G: Gate + Drop, R: Wait> Client<'a, J, G, R> {
     pub fn new(
         rt: &'a R,
         door: &'a Door<J, G>,
-        chair: &'a HeldChair<J>,
+        slot: &'a ConnectionSlot<J>,
         stream: &'a UnixStream,
     ) -> Client<'a, J, G, R> {
         Client {
             rt,
             door,
-            chair,
+            slot,
             stream,
         }
     }
 
     /// Answers a request. The answer to the end of a session is ignored.
-    pub fn answer(&self, asked: Asked) -> Answered {
-        match asked {
-            Asked::Hello(who) => Answered::replied(self.hello(who)),
-            Asked::Line(request) => self.line(request),
-            Asked::Install { .. } => Answered::replied(not_yours()),
-            Asked::End => Answered::replied(self.end()),
+    pub fn answer(&self, command: Command) -> Answered {
+        match command {
+            Command::Hello(who) => Answered::replied(self.hello(who)),
+            Command::Line(request) => self.line(request),
+            Command::Install { .. } => Answered::replied(not_yours()),
+            Command::End => Answered::replied(self.end()),
         }
     }
 
     fn hello(&self, who: Identity) -> Reply {
-        let Some(chair) = self.chair.take(self.rt) else {
+        let Some(slot) = self.slot.take(self.rt) else {
             return Reply::Refused(Refusal::TooManyClients);
         };
-        match chair.taken() {
+        match slot.taken() {
             Ok(session) => {
                 self.keep(session);
                 not_yours()
@@ -84,22 +84,22 @@ impl<'a, J: Naming, G: Gate + Drop, R: Wait> Client<'a, J, G, R> {
                 Reply::Done(Outcome::Connected(client))
             }
             Err((refusal, seat)) => {
-                self.chair.put(self.rt, Chair::of_seat(seat));
+                self.slot.put(self.rt, SeatOrSession::of_seat(seat));
                 Reply::Refused(refusal)
             }
         }
     }
 
     fn keep(&self, session: Session<J>) {
-        self.chair.put(self.rt, Chair::of_session(session));
+        self.slot.put(self.rt, SeatOrSession::of_session(session));
     }
 
     // Takes the session from its slot; the caller puts it back.
     fn session(&self) -> Option<Session<J>> {
-        match self.chair.take(self.rt)?.taken() {
+        match self.slot.take(self.rt)?.taken() {
             Ok(session) => Some(session),
             Err(seat) => {
-                self.chair.put(self.rt, Chair::of_seat(seat));
+                self.slot.put(self.rt, SeatOrSession::of_seat(seat));
                 None
             }
         }
@@ -147,7 +147,7 @@ impl<'a, J: Naming, G: Gate + Drop, R: Wait> Client<'a, J, G, R> {
         };
         match self.door.leave(self.rt, session) {
             Ok(seat) => {
-                self.chair.put(self.rt, Chair::of_seat(seat));
+                self.slot.put(self.rt, SeatOrSession::of_seat(seat));
                 Reply::Done(Outcome::Died)
             }
             Err((refusal, session)) => {

@@ -3,9 +3,9 @@
 ghost use Rattle.std.specs.Prelude.{◌≡◌};
 
 use crate::answered::Answered;
-use crate::asked::Asked;
+use crate::command::Command;
 use crate::notice::Supervisor;
-use crate::usher::Seating;
+use crate::seat_keeper::SeatNeed;
 use crate::watch::Watch;
 use sm_history::{Outcome, Reply};
 use sm_kinds::Identity;
@@ -44,7 +44,7 @@ impl<'a, F, B, H> DoorDesk<'a, F, B, H> {
     }
 }
 
-impl<'a, F: FnMut(Asked) -> Answered, B: FnMut(Seating), H: Supervisor> Desk
+impl<'a, F: FnMut(Command) -> Answered, B: FnMut(SeatNeed), H: Supervisor> Desk
     for DoorDesk<'a, F, B, H> {
     ghost can_answer = { λ s. F.IsAlwaysCallable s.answer × B.IsAlwaysCallable s.seating };
 
@@ -53,15 +53,15 @@ impl<'a, F: FnMut(Asked) -> Answered, B: FnMut(Seating), H: Supervisor> Desk
     ghost leaves = { λ _ _. Unit {0} };
 
     fn hello(&mut self, who: Identity) -> Response {
-        (self.seating)(Seating::Wanted);
-        let response = self.watch.see((self.answer)(Asked::Hello(who)));
-        (self.seating)(Seating::Spare);
+        (self.seating)(SeatNeed::Wanted);
+        let response = self.watch.see((self.answer)(Command::Hello(who)));
+        (self.seating)(SeatNeed::Spare);
         response
     }
 
     fn ask(&mut self, request: Request) -> Response {
-        let response = self.watch.see((self.answer)(Asked::Line(request)));
-        (self.seating)(seating_after(&response));
+        let response = self.watch.see((self.answer)(Command::Line(request)));
+        (self.seating)(need_after(&response));
         response
     }
 
@@ -71,19 +71,19 @@ impl<'a, F: FnMut(Asked) -> Answered, B: FnMut(Seating), H: Supervisor> Desk
             Err(fault) => return Response::PolicyRefused(fault),
         };
         self.watch
-            .see((self.answer)(Asked::Install { expected, prepared }))
+            .see((self.answer)(Command::Install { expected, prepared }))
     }
 
     fn bye(&mut self) {
-        let _ = self.watch.see((self.answer)(Asked::End));
-        (self.seating)(Seating::Spare);
+        let _ = self.watch.see((self.answer)(Command::End));
+        (self.seating)(SeatNeed::Spare);
     }
 }
 
 /// Returns the need of a connection after this answer.
-fn seating_after(response: &Response) -> Seating {
+fn need_after(response: &Response) -> SeatNeed {
     match response {
-        Response::Replied(Reply::Done(Outcome::Died)) => Seating::Spare,
-        _ => Seating::Kept,
+        Response::Replied(Reply::Done(Outcome::Died)) => SeatNeed::Spare,
+        _ => SeatNeed::Kept,
     }
 }

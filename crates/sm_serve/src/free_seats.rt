@@ -1,7 +1,7 @@
 //! Free seats.
 
 use sm_door::Seat;
-use sm_roll::Naming;
+use sm_registry::Naming;
 use std::sync::{Mutex, Wait};
 
 /// The free seats, shared by all connections.

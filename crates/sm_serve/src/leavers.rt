@@ -3,8 +3,8 @@
 use crate::free_seats::FreeSeats;
 use crate::notice::Supervisor;
 use crate::watch::Watch;
-use sm_door::{Chair, Door, Session};
-use sm_roll::Naming;
+use sm_door::{Door, SeatOrSession, Session};
+use sm_registry::Naming;
 use sm_view::Gate;
 use std::alloc::{AllocError, Global};
 use std::sync::{Mutex, Wait};
@@ -27,11 +27,11 @@ impl<J: Naming> Leavers<J> {
     }
 
     /// Keeps the session of a connection that has ended, if its slot still has one.
-    pub fn take_over<R: Wait>(&self, rt: &R, seats: &FreeSeats<J>, chair: Option<Chair<J>>) {
-        let Some(chair) = chair else {
+    pub fn take_over<R: Wait>(&self, rt: &R, seats: &FreeSeats<J>, slot: Option<SeatOrSession<J>>) {
+        let Some(slot) = slot else {
             return;
         };
-        match chair.taken() {
+        match slot.taken() {
             Ok(session) => self.keep(rt, session),
             Err(seat) => seats.give_back(rt, seat),
         }

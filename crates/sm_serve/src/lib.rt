@@ -4,25 +4,25 @@
 mod administrator;
 mod answered;
 mod arriving;
-mod asked;
 mod attending;
 mod audit_log;
 mod client;
+mod command;
+mod connection_slot;
 mod door_desk;
 mod entrance;
 mod faults;
 mod free_seats;
 mod gauge;
-mod held_chair;
 mod leavers;
 mod notice;
 mod patience;
 mod queue;
 mod refusals;
 mod sealing;
+mod seat_keeper;
 mod serving;
 mod shared_admin;
-mod usher;
 mod watch;
 
 pub use audit_log::{AuditLines, AuditLog};

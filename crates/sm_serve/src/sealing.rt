@@ -4,7 +4,7 @@ use crate::notice::Supervisor;
 use crate::shared_admin::SharedAdmin;
 use crate::watch::Watch;
 use sm_door::Door;
-use sm_roll::Naming;
+use sm_registry::Naming;
 use sm_view::Gate;
 use std::sync::Wait;
 

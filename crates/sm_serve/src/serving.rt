@@ -16,9 +16,9 @@ use crate::shared_admin::SharedAdmin;
 use crate::watch::Watch;
 use crossbeam_channel::bounded;
 use sm_core::View;
-use sm_door::{Actor, Admin, Desk, Door, Page, Seat, Session, Shown, ViewReader, ViewWriter};
+use sm_door::{Actor, Admin, Desk, Door, Page, Published, Seat, Session, ViewReader, ViewWriter};
 use sm_engine::ServeFault;
-use sm_roll::{Badge, Naming, Roll};
+use sm_registry::{HistoryId, Naming, Registry};
 use sm_view::Gate;
 use std::alloc::Global;
 use std::os::unix::net::UnixStream;
@@ -86,10 +86,10 @@ pub fn serve<
     let gauging = &gauge;
     thread::scope(thread::scope_env(), rt, |scope| {
         crosses::<View>();
-        crosses::<Badge<J>>();
+        crosses::<HistoryId<J>>();
         crosses::<Page<J>>();
         crosses::<Arc<Page<J>>>();
-        crosses::<Shown<J>>();
+        crosses::<Published<J>>();
         sends::<ViewReader<J>>();
         sends::<Option<ViewReader<J>>>();
         sends::<Actor<J>>();
@@ -97,7 +97,7 @@ pub fn serve<
         sends::<Seat<J>>();
         sends::<ViewWriter<J>>();
         sends::<Option<ViewWriter<J>>>();
-        sends::<Roll<J>>();
+        sends::<Registry<J>>();
         sends::<Desk<J>>();
         shares::<Door<J, G>>();
         sends::<Session<J>>();

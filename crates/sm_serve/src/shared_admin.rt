@@ -1,7 +1,7 @@
 //! The token of all administrators' connections.
 
 use sm_door::Admin;
-use sm_roll::Naming;
+use sm_registry::Naming;
 use std::sync::{Mutex, MutexGuard, Wait};
 
 /// The token that all connections of administrators share, one after another.

@@ -9,7 +9,7 @@ use Rattle.sm_engine.specs.declared.fault.Fault.TheVariants.{WriteFault, Memory}
 use Rattle.sm_engine.specs.Running.{Served}
 use Rattle.sm_session.specs.declared.response.Response.{Response}
 use Rattle.sm_session.specs.declared.response.Response.TheVariants.{Replied, PolicyRefused, Denied}
-use Rattle.sm_session.specs.declared.sitting.Sitting.{Sitting}
+use Rattle.sm_session.specs.declared.session_state.SessionState.{SessionState}
 use Rattle.sm_session.specs.Responses.{response_text}
 use Rattle.sm_session.specs.Sessions.{Asks, TakesItem, is_asked, told_to}
 
@@ -22,8 +22,8 @@ response_text-same f g same (PolicyRefused fault) = refl
 response_text-same f g same (Denied records) = refl
 
 -- an item in its place was asked
-pub asked_once : {D : Type 0} (answers : D → Item → Response → D → Type 0) (old : Sitting D) (item : Item)
-    (response : Response) (new : Sitting D) (told : Reply → Reply) → is_asked old.kind old.connected item ≡ true
+pub asked_once : {D : Type 0} (answers : D → Item → Response → D → Type 0) (old : SessionState D) (item : Item)
+    (response : Response) (new : SessionState D) (told : Reply → Reply) → is_asked old.kind old.connected item ≡ true
     → ((r : Reply) → told_to item r ≡ told r) → Asks answers old item response new
     → TakesItem answers old item (response_text told response) new
 asked_once answers old item response new told place tells asks =

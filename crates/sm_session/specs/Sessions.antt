@@ -17,7 +17,7 @@ use Rattle.sm_engine.specs.declared.fault.Fault.{Fault}
 use Rattle.sm_engine.specs.Running.{Served}
 use Rattle.sm_session.specs.declared.response.Response.{Response}
 use Rattle.sm_session.specs.declared.response.Response.TheVariants.{Replied}
-use Rattle.sm_session.specs.declared.sitting.Sitting.{Sitting}
+use Rattle.sm_session.specs.declared.session_state.SessionState.{SessionState}
 use Rattle.sm_session.specs.Responses.{response_text}
 
 -- A client says who it is first, and only once; before that it may ask nothing else.
@@ -97,42 +97,42 @@ ends (Asked (Change client event)) response = is_die event && is_died response
 ends _ response = false
 
 -- The desk was asked the item once, and this was its answer.
-pub record Asks {D : Type 0} (answers : D → Item → Response → D → Type 0) (old : Sitting D) (item : Item)
-    (response : Response) (new : Sitting D) : Type 0 where
+pub record Asks {D : Type 0} (answers : D → Item → Response → D → Type 0) (old : SessionState D) (item : Item)
+    (response : Response) (new : SessionState D) : Type 0 where
   pub asked : answers old.desk item response new.desk
   pub connected : new.connected ≡ (makes_client item response || old.connected)
   pub over : new.over ≡ (ends item response || old.over)
   pub kind : new.kind ≡ old.kind
 
 -- The desk was asked the item once, and its answer's line is written.
-abbrev pub AsksOnce : {D : Type 0} → (D → Item → Response → D → Type 0) → Sitting D → Item → List ℕ → Sitting D
+abbrev pub AsksOnce : {D : Type 0} → (D → Item → Response → D → Type 0) → SessionState D → Item → List ℕ → SessionState D
     → Type 0
 AsksOnce answers old item text new = (response : Response) × Asks answers old item response new
     × (text ≡ response_text (told_to item) response)
 
 -- Nothing was asked, and these words are written.
-abbrev pub SaysOnly : {D : Type 0} → Sitting D → List ℕ → List ℕ → Sitting D → Type 0
+abbrev pub SaysOnly : {D : Type 0} → SessionState D → List ℕ → List ℕ → SessionState D → Type 0
 SaysOnly old words text new = (text ≡ words) × (new ≡ old)
 
 -- In a session that goes on, an item is asked once if it is allowed.
-abbrev pub TakesItem : {D : Type 0} → (D → Item → Response → D → Type 0) → Sitting D → Item → List ℕ → Sitting D
+abbrev pub TakesItem : {D : Type 0} → (D → Item → Response → D → Type 0) → SessionState D → Item → List ℕ → SessionState D
     → Type 0
 TakesItem answers old item text new = MatchBool (is_asked old.kind old.connected item)
     (AsksOnce answers old item text new) (SaysOnly old (said_to item) text new)
 
 -- In any session, an item is taken so: once a `bye` was answered by `bye`, nothing is asked and nothing written.
-abbrev pub SitsThrough : {D : Type 0} → (D → Item → Response → D → Type 0) → Sitting D → Item → List ℕ → Sitting D
+abbrev pub SitsThrough : {D : Type 0} → (D → Item → Response → D → Type 0) → SessionState D → Item → List ℕ → SessionState D
     → Type 0
 SitsThrough answers old item text new = MatchBool old.over (SaysOnly old [] text new)
     (TakesItem answers old item text new)
 
 -- The same with audit lines, of which a session has none.
-abbrev pub AnswersItem : {D : Type 0} → (D → Item → Response → D → Type 0) → Sitting D → Item → List ℕ → List ℕ
-    → Sitting D → Type 0
+abbrev pub AnswersItem : {D : Type 0} → (D → Item → Response → D → Type 0) → SessionState D → Item → List ℕ → List ℕ
+    → SessionState D → Type 0
 AnswersItem answers old item text audit new = SitsThrough answers old item text new × (audit ≡ [])
 
 -- A session is over once a `bye` was answered by `bye`.
-abbrev pub is_over : {D : Type 0} → Sitting D → Bool
+abbrev pub is_over : {D : Type 0} → SessionState D → Bool
 is_over s = s.over
 
 -- Fewer bytes of replies may be held back until all lines of one read are answered.
@@ -140,11 +140,11 @@ abbrev pub held_limit : ℕ
 held_limit = 8192
 
 -- This is a session before its first line.
-abbrev pub begins : {D : Type 0} → Kind → D → Sitting D
+abbrev pub begins : {D : Type 0} → Kind → D → SessionState D
 begins kind desk = record { kind = kind; desk = desk; connected = false; over = false }
 
 -- The desk's `bye` was called once, if a client was made; otherwise the desk is as it was.
-abbrev pub Leaves : {D : Type 0} → (D → D → Type 0) → Sitting D → D → Type 0
+abbrev pub Leaves : {D : Type 0} → (D → D → Type 0) → SessionState D → D → Type 0
 Leaves leaves last desk = MatchBool last.connected (leaves last.desk desk) (desk ≡ last.desk)
 
 -- A whole session has asked the desk this for the bytes that it read in this number of reads, has written this for
@@ -152,7 +152,7 @@ Leaves leaves last desk = MatchBool last.connected (leaves last.desk desk) (desk
 pub record Attends {D : Type 0} (kind : Kind) (answers : D → Item → Response → D → Type 0) (leaves : D → D → Type 0)
     (result : Result (Unit {0}) Fault) (bound reads : ℕ) (old : D) (r r_new w w_new : Option (List ℕ)) (new : D)
     : Type 0 where
-  pub last : Sitting D
+  pub last : SessionState D
   pub unaudited : Option (List ℕ)
   pub served : Served kind (AnswersItem answers) is_over held_limit result bound reads (begins kind old) r r_new w
       w_new (Some []) unaudited last

@@ -3,13 +3,13 @@
 #![tactic(auto)]
 
 mod desk;
-mod gated;
+mod gated_session;
 mod response;
 mod responses;
+mod session_state;
 mod sessions;
-mod sitting;
 
 pub use desk::Desk;
 pub use response::Response;
+pub use session_state::SessionState;
 pub use sessions::session;
-pub use sitting::Sitting;

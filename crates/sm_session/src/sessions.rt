@@ -5,7 +5,7 @@ ghost use Rattle.sm_engine.specs.Counts.{failures_of, calls_of, inner_of, greate
 ghost use Rattle.sm_session.specs.Sessions.{Attends};
 
 use crate::desk::Desk;
-use crate::gated::Gated;
+use crate::gated_session::GatedSession;
 use sm_engine::{Counted, Fault, run};
 use sm_view::Gate;
 use sm_wire::Kind;
@@ -37,20 +37,20 @@ pub fn session<D: Desk, G: Gate, R: Read, W: Write>(
     ensures read_told { failures_of reader.old < failures_of reader.new → result.1 ≡ Err Fault.ReadFault }
     ensures write_told { failures_of writer.old < failures_of writer.new → result.1 ≡ Err Fault.WriteFault }
 {
-    let mut gated = Gated::new(alloc, kind, desk, gate);
+    let mut gated_session = GatedSession::new(alloc, kind, desk, gate);
     let mut unaudited = Counted::new(Vec::new(alloc));
     let failures = writer.failures();
     let result = run(
         alloc,
         kind,
-        &mut gated,
+        &mut gated_session,
         bound,
         reader,
         writer,
         &mut unaudited,
     );
     let result = by_writer(result, failures < writer.failures());
-    (gated.close(), result)
+    (gated_session.close(), result)
 }
 
 // A session has no audit lines, so the audit writer can only fail by a failed allocation.

@@ -11,7 +11,7 @@ use sm_door::{Admin, Door};
 use sm_engine::ServeFault;
 use sm_kinds::{Identity, Places};
 use sm_policy::Prepared;
-use sm_roll::{Blank, Naming};
+use sm_registry::{Naming, UnnamedRegistry};
 use sm_script::ScriptFault;
 use sm_serve::{AuditLines, AuditLog, FreeSeats, Numbers, Patience, serve};
 use sm_view::NoGate;
@@ -35,25 +35,33 @@ pub fn serve_policy<'a, R: Files + Net + Threads + Wait + Clock + Sync>(
     let Ok(who) = manager_identity(host.alloc()) else {
         return Err(Ending::Memory);
     };
-    open::<Brand, R>(host, rt, Blank::new(), who, policy, places, sockets)
+    open::<Brand, R>(
+        host,
+        rt,
+        UnnamedRegistry::new(),
+        who,
+        policy,
+        places,
+        sockets,
+    )
 }
 
 /// Opens the door, and closes it when the server has ended.
 fn open<'a, J: Naming + Send + Sync, R: Files + Net + Threads + Wait + Clock + Sync>(
     host: &HostRuntime,
     rt: &R,
-    blank: Blank,
+    unnamed: UnnamedRegistry,
     who: Identity,
     policy: Prepared,
     places: Places,
     sockets: Sockets<'a>,
 ) -> Result<(), Ending<'a>>
-    requires roll { blank.seen.book ≡ J.roll }
+    requires registry { unnamed.seen.book ≡ J.registry }
     requires opening { J.opening ≡ opened places who policy }
 {
     let alloc = host.alloc();
     let slots = places.entries();
-    let opened = Door::<J, NoGate>::open(rt, alloc, blank, who, policy, places, NoGate);
+    let opened = Door::<J, NoGate>::open(rt, alloc, unnamed, who, policy, places, NoGate);
     let (door, seats, mut admins) = match opened {
         Ok(parts) => parts,
         Err(refusal) => return Err(Ending::Script(ScriptFault::Opening(refusal))),

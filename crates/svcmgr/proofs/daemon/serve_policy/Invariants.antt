@@ -1,6 +1,6 @@
 use Rattle.sm_core.specs.Opening.{opened}
 use Rattle.svcmgr.proofs.daemon.serve_policy.Given as goal
 
--- The roll that was just made, and the opening.
+-- The registry that was just made, and the opening.
 abbrev pub ghosts-open : goal.ghosts-open
-ghosts-open g a = record { roll = a.blank.seen.book; opening = opened a.places a.who a.policy }
+ghosts-open g a = record { registry = a.unnamed.seen.book; opening = opened a.places a.who a.policy }

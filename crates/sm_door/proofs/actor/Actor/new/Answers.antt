@@ -1,10 +1,10 @@
 use Rattle.std.proofs.Common.{◌≡◌, subst, sym}
 use Rattle.sm_history.specs.Histories.{turn_of}
 use Rattle.sm_view.specs.Begins.{IsLawfulBook}
-use Rattle.sm_door.specs.declared.published.Known.{Known}
+use Rattle.sm_door.specs.declared.published.ReaderKnowledge.{ReaderKnowledge}
 use Rattle.sm_door.proofs.actor.Actor.new.Goals as goal
 
 pub invariant_of-result : goal.invariant_of-result
 invariant_of-result g c =
-    subst (λ (k : Known). (c.args.turn ≡ turn_of k.seen.history c.args.by) × IsLawfulBook k.seen)
+    subst (λ (k : ReaderKnowledge). (c.args.turn ≡ turn_of k.seen.history c.args.by) × IsLawfulBook k.seen)
     (sym c.requires.new) (c.requires.turn, c.requires.lawful)

@@ -8,7 +8,7 @@ use Rattle.sm_core.specs.Managed.{look_leaves}
 use Rattle.sm_view.specs.Begins.{Begins, IsLawfulBook}
 use Rattle.sm_view.specs.Promises.{Looks}
 use Rattle.sm_view.specs.Tokens.{Knows}
-use Rattle.sm_door.specs.declared.published.Known.{Known}
+use Rattle.sm_door.specs.declared.published.ReaderKnowledge.{ReaderKnowledge}
 use Rattle.sm_door.proofs.Places.{enters}
 use Rattle.sm_door.proofs.actor.Actor.read_page.Goals as goal
 
@@ -22,7 +22,7 @@ invariant_of-self g c =
     let found : c.deref-in-Ok.result.now ≡ page = search (rules, c.get.ensures, c.deref-in-Ok.ensures) in
     let now = c.leave.ensures.1 ∙ c.in-Ok.ensures.1.1 in
     subst (λ (b : Book). (c.turn-self-inside.result ≡ turn_of b.history c.self.inside.by) × IsLawfulBook b)
-    (found ∙ ap (λ (k : Known). k.seen) (sym now)) (c.turn-self-inside.ensures.turn, c.turn-self-inside.ensures.lawful)
+    (found ∙ ap (λ (k : ReaderKnowledge). k.seen) (sym now)) (c.turn-self-inside.ensures.turn, c.turn-self-inside.ensures.lawful)
 
 pub returns-in-Ok : goal.returns-in-Ok
 returns-in-Ok g c =
@@ -30,7 +30,7 @@ returns-in-Ok g c =
     let found : c.deref-in-Ok.result.now ≡ page = search (rules, c.get.ensures, c.deref-in-Ok.ensures) in
     let looked : c.deref.result.now ≡ page = search (rules, c.get.ensures, c.deref.ensures) in
     let now = c.leave.ensures.1 ∙ c.in-Ok.ensures.1.1 in
-    let seen : page ≡ (place_view c.leave.result.place).seen = ap (λ (k : Known). k.seen) (sym now) in
+    let seen : page ≡ (place_view c.leave.result.place).seen = ap (λ (k : ReaderKnowledge). k.seen) (sym now) in
     let had : c.self.inside.reader ≡ Some c.unwrap.result = search (rules, c.take.ensures, c.unwrap.ensures) in
     let view = rw had at c.self.view_is in
     let was : (place_view c.unwrap.result.place).seen ≡ c.args.self.now.seen = ap (λ (k : Knows). k.seen) view in
@@ -40,7 +40,7 @@ returns-in-Ok g c =
         lawful = subst IsLawfulBook (found ∙ seen) c.turn-self-inside.ensures.lawful;
         begins = subst (λ (z : Book × Book). Begins z.0 z.1) (λ i. (seen i, was i)) c.in-Ok.ensures.1.0;
       },
-      ap (λ (k : Known). k.reads) now ∙ ap (λ (k : Knows). k.reads + 1) view,
+      ap (λ (k : ReaderKnowledge). k.reads) now ∙ ap (λ (k : Knows). k.reads + 1) view,
       subst (λ (z : Book × By). Looks z.0 z.1 c.args.query c.look_recorded-answered.result.0)
           (λ i. ((looked ∙ seen) i, by i)) c.look_recorded-answered.ensures.looks,
       subst (λ (z : Book × By). c.look_recorded-answered.result.1.items
@@ -52,12 +52,12 @@ pub invariant_of-self-in-Err : goal.invariant_of-self-in-Err
 invariant_of-self-in-Err g c =
     let had : c.self.inside.reader ≡ Some c.unwrap.result = search (rules, c.take.ensures, c.unwrap.ensures) in
     let kept = rw had at c.self.invariant in
-    subst (λ (k : Known). (c.self.inside.turn ≡ turn_of k.seen.history c.self.inside.by) × IsLawfulBook k.seen)
+    subst (λ (k : ReaderKnowledge). (c.self.inside.turn ≡ turn_of k.seen.history c.self.inside.by) × IsLawfulBook k.seen)
     (sym c.in-Err.ensures.1) kept
 
 pub invariant_of-self-in-Err-2 : goal.invariant_of-self-in-Err-2
 invariant_of-self-in-Err-2 g c =
     let had : c.self.inside.reader ≡ Some c.unwrap.result = search (rules, c.take.ensures, c.unwrap.ensures) in
     let kept = rw had at c.self.invariant in
-    subst (λ (k : Known). (c.self.inside.turn ≡ turn_of k.seen.history c.self.inside.by) × IsLawfulBook k.seen)
+    subst (λ (k : ReaderKnowledge). (c.self.inside.turn ≡ turn_of k.seen.history c.self.inside.by) × IsLawfulBook k.seen)
     (sym c.in-Err.ensures.1) kept

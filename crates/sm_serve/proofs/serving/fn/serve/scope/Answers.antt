@@ -9,14 +9,14 @@ use mir.Syntax.{named}
 use Rattle.std.specs.Prelude.{codes, [], ◌∷◌}
 use Rattle.std.proofs.Crossing.{crosses}
 use Rattle.std.specs.contracts.alloc.Global as Global
-use Rattle.sm_roll.specs.contracts.roll.Roll as Roll
+use Rattle.sm_registry.specs.contracts.registry.Registry as Registry
 use Rattle.sm_kinds.specs.contracts.number.AdminId as AdminId
 use Rattle.sm_kinds.specs.contracts.number.ClientId as ClientId
 use Rattle.sm_door.specs.contracts.actor.Actor as Actor
 use Rattle.sm_door.specs.contracts.admin.Admin.TheInside as AdminInside
 use Rattle.sm_door.specs.contracts.door.Door as Door
 use Rattle.sm_door.specs.contracts.session.Session.TheInside as SessionInside
-use Rattle.sm_door.specs.contracts.published.ShownAbsorbArcPage.TheImpl as Absorb
+use Rattle.sm_door.specs.contracts.published.PublishedAbsorbArcPage.TheImpl as Absorb
 use Rattle.sm_serve.specs.contracts.faults.Faults as Faults
 use Rattle.sm_serve.specs.contracts.shared_admin.SharedAdmin as SharedAdmin
 use Rattle.sm_serve.specs.contracts.gauge.Gauge as Gauge
@@ -60,8 +60,8 @@ sends-requires-9-send-X g c κs within =
     let J = param 0 g.row.J in
     let page : IsSend (page_row J g.J.Naming) = search (sendable, crosses, c.crosses-4.ensures.0) depth 60 fits 20000 in
     let w : IsSend (writer_row J g.J.Naming) = search (sendable, crosses, c.sends-6.ensures) depth 60 fits 20000 in
-    let roll : IsSend (Roll.the_row J g.J.Naming) = search (sendable, crosses, c.sends-8.ensures) depth 60 fits 20000 in
-    param_send 0 _ (arg_send _ no _ (desk_send J g.J.Naming manager_send roll page w))
+    let registry : IsSend (Registry.the_row J g.J.Naming) = search (sendable, crosses, c.sends-8.ensures) depth 60 fits 20000 in
+    param_send 0 _ (arg_send _ no _ (desk_send J g.J.Naming manager_send registry page w))
 
 pub spawn-requires-2-send-F : goal.spawn-requires-2-send-F
 spawn-requires-2-send-F g c κs within =

@@ -1,4 +1,4 @@
--- A roll: a list of books in which each number denotes one book for good.
+-- A registry: a list of books in which each number denotes one book for good.
 use Rattle.std.specs.Prelude.{ℕ, ◌≡◌, ◌==◌, true, List, [], ◌∷◌, ◌++◌, length, slice_index_or, MatchBool}
 use Rattle.logbook.specs.Pages.{Cell, Step, View, Named}
 use Rattle.logbook.specs.Pages.{Book as Log}
@@ -10,12 +10,12 @@ abbrev pub blank_book : Book
 blank_book = record { places = 0; history = whole [] }
 
 -- This is the book at a number.
-abbrev pub noted : List Book → ℕ → Book
-noted roll number = slice_index_or roll number blank_book
+abbrev pub registered : List Book → ℕ → Book
+registered registry number = slice_index_or registry number blank_book
 
 -- The rule is that the first word is the number of recorded books. A log has two words; the second stays 0.
 abbrev pub IsKept : List Cell → List Book → Type 0
-IsKept cells roll = cells ≡ (length roll, true) ∷ (0, true) ∷ []
+IsKept cells registry = cells ≡ (length registry, true) ∷ (0, true) ∷ []
 
 -- This is the first word of a log.
 abbrev pub head_of : Log → Named

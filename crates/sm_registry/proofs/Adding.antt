@@ -1,4 +1,4 @@
--- The exchange that notes a book keeps the rule.
+-- The exchange that records a book keeps the rule.
 use Rattle.std.proofs.Common.{◌≡◌, ℕ, zero, suc, ◌+◌, ◌<◌, ◌≤◌, ◌==◌, Bool, true, false, List, [], ◌∷◌, ◌++◌, length}
 use Rattle.std.proofs.Common.{refl, ap, sym, subst, arith, inl, length-append, None, ◌∙◌}
 use Rattle.std.proofs.lemmas.List.{append-nil}
@@ -7,7 +7,7 @@ use mathlib.Core.List.{IsPrefix}
 use prog.Atomic.{either}
 use Rattle.logbook.specs.Pages.{Cell, View, cell, keeps, no_nib, step, Moves, Goes}
 use Rattle.sm_history.specs.Books.{Book}
-use Rattle.sm_roll.specs.Rolls.{IsKept, Adds, noted}
+use Rattle.sm_registry.specs.Registries.{IsKept, Adds, registered}
 
 -- A beginning as long as the whole is the whole.
 pub prefix_whole : {A : Type 0} (xs ys : List A) → IsPrefix xs ys → length ys ≤ length xs → xs ≡ ys
@@ -18,17 +18,17 @@ prefix_whole (x ∷ xs) (y ∷ ys) p le =
     let rest = prefix_whole xs ys (p.0, cc (p.1)) (omega arith) in cc (p.1, rest)
 
 -- What is in a prefix is in the whole, at the same number.
-pub noted_prefix : (xs ys : List Book) (k : ℕ) → IsPrefix xs ys → k < length xs → noted ys k ≡ noted xs k
-noted_prefix [] ys k p less = absurd (omega arith)
-noted_prefix (x ∷ xs) [] k p less = absurd (cc (p.1))
-noted_prefix (x ∷ xs) (y ∷ ys) zero p less = cc (p.1)
-noted_prefix (x ∷ xs) (y ∷ ys) (suc k) p less = noted_prefix xs ys k (p.0, cc (p.1)) (omega arith)
+pub registered_prefix : (xs ys : List Book) (k : ℕ) → IsPrefix xs ys → k < length xs → registered ys k ≡ registered xs k
+registered_prefix [] ys k p less = absurd (omega arith)
+registered_prefix (x ∷ xs) [] k p less = absurd (cc (p.1))
+registered_prefix (x ∷ xs) (y ∷ ys) zero p less = cc (p.1)
+registered_prefix (x ∷ xs) (y ∷ ys) (suc k) p less = registered_prefix xs ys k (p.0, cc (p.1)) (omega arith)
 
--- The last number is that of the book that was noted last.
-pub noted_last : (xs : List Book) (b : Book) (k : ℕ) → k ≡ length xs → noted (xs ++ b ∷ []) k ≡ b
-noted_last xs b k is = ap (noted (xs ++ b ∷ [])) is ∙ at xs
+-- The last number is that of the book that was registered last.
+pub registered_last : (xs : List Book) (b : Book) (k : ℕ) → k ≡ length xs → registered (xs ++ b ∷ []) k ≡ b
+registered_last xs b k is = ap (registered (xs ++ b ∷ [])) is ∙ at xs
   where
-    at : (ys : List Book) → noted (ys ++ b ∷ []) (length ys) ≡ b
+    at : (ys : List Book) → registered (ys ++ b ∷ []) (length ys) ≡ b
     at [] = refl
     at (y ∷ ys) = at ys
 
@@ -76,7 +76,7 @@ adds_goes log v e old len pre false is =
       rw is (ap length all),
     )
 
--- Whatever the roll is, the exchange notes the book behind all that was seen, or finds that the roll is longer.
+-- Whatever the registry is, the exchange records the book behind all that was seen, or finds that the registry is longer.
 pub adds_moves : (v : List Book) (e : Book) (old : ℕ) → length v ≡ old
     → Moves IsKept shown moved 0 (v, (no_nib, None)) (exchanged old) (Tells v e old)
 adds_moves v e old len cs log kept pre away =

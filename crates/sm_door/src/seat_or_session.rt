@@ -6,22 +6,22 @@ use crate::actor::Actor;
 use crate::seat::Seat;
 use crate::session::Session;
 use sm_kinds::ClientId;
-use sm_roll::Naming;
+use sm_registry::Naming;
 use std::marker::Model;
 
 /// A client's slot at the door, with or without a client: what a server keeps for a connection that may have sent
 /// nothing yet. Contracts see it as the free seat or the session of which it was made.
 #[derive(Drop)]
-pub struct Chair<J: Naming> {
+pub struct SeatOrSession<J: Naming> {
     client: Option<ClientId>,
     actor: Actor<J>,
 }
 
-impl<J: Naming> Model for Chair<J> {
+impl<J: Naming> Model for SeatOrSession<J> {
     ghost use Rattle.std.specs.Prelude.{◌≡◌, MatchOption};
     ghost use Rattle.sm_history.specs.declared.by.By.TheVariants.{Client};
     ghost use Rattle.sm_view.specs.Tokens.{Knows};
-    ghost use Rattle.sm_door.specs.Chairs.{sits};
+    ghost use Rattle.sm_door.specs.SeatsOrSessions.{sits};
 
     ghost Value = { Knows };
 
@@ -30,23 +30,23 @@ impl<J: Naming> Model for Chair<J> {
     ghost invariant = { λ c. MatchOption c.client (Unit {0}) (λ n. c.actor.by ≡ Client n) };
 }
 
-impl<J: Naming> Chair<J> {
+impl<J: Naming> SeatOrSession<J> {
     /// Makes a slot without a client.
-    pub fn of_seat(seat: Seat<J>) -> Chair<J>
+    pub fn of_seat(seat: Seat<J>) -> SeatOrSession<J>
         ensures { result ≡ seat }
     {
-        Chair {
+        SeatOrSession {
             client: None,
             actor: seat.into_actor(),
         }
     }
 
     /// Makes a slot with a client's session.
-    pub fn of_session(session: Session<J>) -> Chair<J>
+    pub fn of_session(session: Session<J>) -> SeatOrSession<J>
         ensures { result ≡ session }
     {
         let client = session.client();
-        Chair {
+        SeatOrSession {
             client: Some(client),
             actor: session.into_actor(),
         }
@@ -56,7 +56,7 @@ impl<J: Naming> Chair<J> {
     pub fn taken(self) -> Result<Session<J>, Seat<J>>
         ensures { MatchResult result (λ session. session ≡ self) (λ seat. seat ≡ self) }
     {
-        let Chair { client, actor } = self;
+        let SeatOrSession { client, actor } = self;
         match client {
             Some(client) => Ok(Session::new(client, actor)),
             None => Err(Seat { actor }),

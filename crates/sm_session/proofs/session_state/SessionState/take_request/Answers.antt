@@ -5,7 +5,7 @@ use Rattle.sm_wire.specs.Replies.{told_in}
 use Rattle.sm_engine.proofs.Results.{on_err}
 use Rattle.sm_session.specs.Responses.{response_text}
 use Rattle.sm_session.proofs.SessionLemmas.{asked_once}
-use Rattle.sm_session.proofs.sitting.Sitting.take_request.Goals as goal
+use Rattle.sm_session.proofs.session_state.SessionState.take_request.Goals as goal
 
 -- the request was asked, and its answer's line was added
 pub returns-clause-ok : goal.returns-clause-ok

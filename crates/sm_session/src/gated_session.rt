@@ -4,7 +4,7 @@ ghost use Rattle.std.specs.Prelude.{◌≡◌};
 ghost use Rattle.sm_session.specs.Sessions.{AnswersItem, Leaves, begins, held_limit, is_over};
 
 use crate::desk::Desk;
-use crate::sitting::Sitting;
+use crate::session_state::SessionState;
 use sm_engine::Machine;
 use sm_view::Gate;
 use sm_wire::{Item, Kind};
@@ -15,34 +15,34 @@ use std::marker::Model;
 const HELD_LIMIT: usize = 8192;
 
 /// A session that calls its gate at each line that it passes to the desk.
-pub struct Gated<'a, D: Desk, G> {
+pub struct GatedSession<'a, D: Desk, G> {
     alloc: Global,
-    sitting: Sitting<D>,
+    session_state: SessionState<D>,
     gate: &'a G,
     line: u64,
     // The lines that were asked and whose replies aren't written yet.
     unwritten: Vec<u64>,
 }
 
-impl<'a, D: Desk, G> Model for Gated<'a, D, G> {
-    ghost use Rattle.sm_session.specs.declared.sitting.Sitting.{Sitting};
+impl<'a, D: Desk, G> Model for GatedSession<'a, D, G> {
+    ghost use Rattle.sm_session.specs.declared.session_state.SessionState.{SessionState};
 
-    ghost Value = { Sitting D };
+    ghost Value = { SessionState D };
 
-    ghost view = { λ g. g.sitting };
+    ghost view = { λ g. g.session_state };
 
-    ghost invariant = { λ g. D.can_answer g.sitting.desk };
+    ghost invariant = { λ g. D.can_answer g.session_state.desk };
 }
 
-impl<'a, D: Desk, G: Gate> Gated<'a, D, G> {
+impl<'a, D: Desk, G: Gate> GatedSession<'a, D, G> {
     /// Makes a session before its first line.
-    pub fn new(alloc: Global, kind: Kind, desk: D, gate: &'a G) -> Gated<'a, D, G>
+    pub fn new(alloc: Global, kind: Kind, desk: D, gate: &'a G) -> GatedSession<'a, D, G>
         requires { D.can_answer desk }
         ensures { result ≡ begins kind desk }
     {
-        Gated {
+        GatedSession {
             alloc,
-            sitting: Sitting {
+            session_state: SessionState {
                 kind,
                 desk,
                 connected: false,
@@ -58,19 +58,19 @@ impl<'a, D: Desk, G: Gate> Gated<'a, D, G> {
     pub fn close(self) -> D
         ensures { Leaves D.leaves self.entry result }
     {
-        let Gated {
+        let GatedSession {
             alloc: _,
-            sitting,
+            session_state,
             gate: _,
             line: _,
             unwritten: _,
         } = self;
-        let Sitting {
+        let SessionState {
             kind: _,
             desk,
             connected,
             over: _,
-        } = sitting;
+        } = session_state;
         if !connected {
             return desk;
         }
@@ -80,7 +80,7 @@ impl<'a, D: Desk, G: Gate> Gated<'a, D, G> {
     }
 }
 
-impl<'a, D: Desk, G: Gate> Machine for Gated<'a, D, G> {
+impl<'a, D: Desk, G: Gate> Machine for GatedSession<'a, D, G> {
     ghost answers = { AnswersItem D.answers };
 
     ghost over = { is_over };
@@ -94,15 +94,15 @@ impl<'a, D: Desk, G: Gate> Machine for Gated<'a, D, G> {
         _audit: &mut Vec<u8>,
     ) -> Result<(), AllocError> {
         self.line = self.line.saturating_add(1);
-        if self.sitting.will_ask(&item) {
+        if self.session_state.will_ask(&item) {
             self.unwritten.push(self.line)?;
             self.gate.enter(self.line);
         }
-        self.sitting.take(self.alloc, item, replies)
+        self.session_state.take(self.alloc, item, replies)
     }
 
     fn is_over(&self) -> bool {
-        self.sitting.over
+        self.session_state.over
     }
 
     // Replies are held back until all lines of one read are answered.

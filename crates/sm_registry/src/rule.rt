@@ -1,17 +1,17 @@
-//! The rule that each step of a roll keeps.
+//! The rule that each step of a registry keeps.
 
 use logbook::{Gain, Plain, Play, Rule};
 use sm_history::Entry;
 use std::marker::{Model, PhantomData};
 use std::snapshot::Snapshot;
 
-/// The entry of a roll, in proofs only: a book. No value of it is made.
-pub struct Noted {
+/// The entry of a registry, in proofs only: a book. No value of it is made.
+pub struct Registered {
     places: u32,
     entries: Snapshot<Vec<Entry>>,
 }
 
-impl Model for Noted {
+impl Model for Registered {
     ghost use Rattle.sm_history.specs.Books.{Book};
     ghost use Rattle.sm_history.specs.Histories.{whole};
 
@@ -28,13 +28,13 @@ pub trait Shows<V> {
     ghost book: { V → Book };
 }
 
-/// The rule of a roll.
+/// The rule of a registry.
 pub struct Law;
 
-impl Rule<Noted, u64> for Law {
+impl Rule<Registered, u64> for Law {
     ghost use Rattle.std.specs.Prelude.{[]};
     ghost use base.Fml.{ftrue};
-    ghost use Rattle.sm_roll.specs.Rolls.{IsKept};
+    ghost use Rattle.sm_registry.specs.Registries.{IsKept};
 
     ghost holds = { λ cells log. IsKept cells log };
 
@@ -52,7 +52,7 @@ impl Rule<Noted, u64> for Law {
 /// Callers exchange nothing.
 pub struct Nothing;
 
-impl Gain<Noted, u64> for Nothing {
+impl Gain<Registered, u64> for Nothing {
     ghost use base.Fml.{ftrue};
 
     ghost after = { λ names about answer. ftrue };
@@ -61,8 +61,8 @@ impl Gain<Noted, u64> for Nothing {
 /// A step that records a book.
 pub struct Add;
 
-impl Play<Noted, u64> for Add {
-    ghost use Rattle.sm_roll.specs.Rolls.{Adds};
+impl Play<Registered, u64> for Add {
+    ghost use Rattle.sm_registry.specs.Registries.{Adds};
 
     ghost then = { Adds };
 }
@@ -72,7 +72,7 @@ pub struct Asks<M> {
     of: PhantomData<M>,
 }
 
-impl<V, M: Shows<V>> Plain<V, Noted, u64> for Asks<M> {
+impl<V, M: Shows<V>> Plain<V, Registered, u64> for Asks<M> {
     ghost use Rattle.std.specs.Prelude.{None};
 
     ghost ask = { λ value. M.book value };

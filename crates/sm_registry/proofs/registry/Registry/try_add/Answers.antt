@@ -1,6 +1,6 @@
 use Rattle.std.proofs.Common.{sym, ◌∙◌, ap}
-use Rattle.sm_roll.proofs.Adding.{adds_moves}
-use Rattle.sm_roll.proofs.roll.Roll.try_add.Goals as goal
+use Rattle.sm_registry.proofs.Adding.{adds_moves}
+use Rattle.sm_registry.proofs.registry.Registry.try_add.Goals as goal
 
 pub compare_exchange-found-requires : goal.compare_exchange-found-requires
 compare_exchange-found-requires g c =

@@ -1,58 +1,58 @@
-//! Rolls and badges.
+//! Registries and ids of histories.
 
 ghost use Rattle.std.specs.Prelude.{◌≡◌, ◌+◌, ◌<◌, ◌^◌, [], length, IfSome, IsTrue};
-ghost use Rattle.sm_roll.specs.Rolls.{head_of};
+ghost use Rattle.sm_registry.specs.Registries.{head_of};
 
-use crate::rule::{Add, Asks, Law, Noted, Nothing, Shows};
+use crate::rule::{Add, Asks, Law, Nothing, Registered, Shows};
 use logbook::{Offer, Seen, Start, Word};
 use std::marker::{Brand, Model, PhantomData};
 use std::sync::Wait;
 
-/// Names a roll, and the book that it begins with. A program picks both at the one call that makes a door, so badges of
-/// different rolls have different types.
+/// Names a registry, and the book that it begins with. A program picks both at the one call that makes a door, so ids
+/// of different registries have different types.
 pub trait Naming {
     ghost use Rattle.logbook.specs.Pages.{Book as Log};
     ghost use Rattle.sm_history.specs.Books.{Book};
 
-    ghost roll: { Log };
+    ghost registry: { Log };
 
     ghost opening: { Book };
 }
 
 impl Naming for Brand {
-    ghost use Rattle.sm_roll.specs.Rolls.{blank_book};
+    ghost use Rattle.sm_registry.specs.Registries.{blank_book};
 
-    ghost roll = { record { number = 0; log_name = 0; cells_name = 0 } };
+    ghost registry = { record { number = 0; log_name = 0; cells_name = 0 } };
 
     ghost opening = { blank_book };
 }
 
-/// An empty roll without a name. A name can be picked only for a roll that exists.
+/// An empty registry without a name. A name can be picked only for a registry that exists.
 #[derive(Drop)]
-pub struct Blank {
-    head: Word<Noted, u64, Law>,
-    pub seen: Seen<Noted, u64, Law>,
+pub struct UnnamedRegistry {
+    head: Word<Registered, u64, Law>,
+    pub seen: Seen<Registered, u64, Law>,
     pub ghost empty: { seen.log ≡ [] },
     pub ghost head_is: { head ≡ head_of seen.book },
 }
 
-impl Blank {
-    /// Makes a roll.
-    pub fn new() -> Blank {
+impl UnnamedRegistry {
+    /// Makes a registry.
+    pub fn new() -> UnnamedRegistry {
         let (seen, mut first, _second) = Seen::open(Start::alone(), 0, 0);
-        Blank {
+        UnnamedRegistry {
             head: Word::tracked(0, &mut first),
             seen,
         }
     }
 
-    /// Names the roll.
-    pub fn named<J: Naming>(self) -> Roll<J>
-        requires { self.seen.book ≡ J.roll }
+    /// Names the registry.
+    pub fn named<J: Naming>(self) -> Registry<J>
+        requires { self.seen.book ≡ J.registry }
         ensures { result ≡ [] }
     {
-        let Blank { head, seen } = self;
-        Roll {
+        let UnnamedRegistry { head, seen } = self;
+        Registry {
             head,
             count: 0,
             seen,
@@ -61,62 +61,62 @@ impl Blank {
     }
 }
 
-/// A roll. Contracts see the recorded books, as far as this thread has seen them.
+/// A registry. Contracts see the recorded books, as far as this thread has seen them.
 #[derive(Drop)]
-pub struct Roll<J: Naming> {
-    head: Word<Noted, u64, Law>,
+pub struct Registry<J: Naming> {
+    head: Word<Registered, u64, Law>,
     count: u64,
-    seen: Seen<Noted, u64, Law>,
+    seen: Seen<Registered, u64, Law>,
     of: PhantomData<J>,
 }
 
-impl<J: Naming> Model for Roll<J> {
+impl<J: Naming> Model for Registry<J> {
     ghost use Rattle.std.specs.Prelude.{◌≡◌, List, length};
     ghost use Rattle.sm_history.specs.Books.{Book};
-    ghost use Rattle.sm_roll.specs.Rolls.{head_of};
+    ghost use Rattle.sm_registry.specs.Registries.{head_of};
 
     ghost Value = { List Book };
 
     ghost view = { λ r. r.seen.log };
 
-    ghost invariant = { λ r. (r.head ≡ head_of J.roll) × (r.count ≡ length r.seen.log) × (r.seen.book ≡ J.roll) };
+    ghost invariant = { λ r. (r.head ≡ head_of J.registry) × (r.count ≡ length r.seen.log) × (r.seen.book ≡ J.registry) };
 }
 
 /// The number of a history. Contracts see that history's book.
 #[derive(Drop)]
-pub struct Badge<J: Naming> {
+pub struct HistoryId<J: Naming> {
     number: u64,
-    seen: Seen<Noted, u64, Law>,
+    seen: Seen<Registered, u64, Law>,
     of: PhantomData<J>,
 }
 
-impl<J: Naming> Model for Badge<J> {
+impl<J: Naming> Model for HistoryId<J> {
     ghost use Rattle.std.specs.Prelude.{◌≡◌, ◌<◌, length};
     ghost use Rattle.sm_history.specs.Books.{Book};
-    ghost use Rattle.sm_roll.specs.Rolls.{noted};
+    ghost use Rattle.sm_registry.specs.Registries.{registered};
 
     ghost Value = { Book };
 
-    ghost view = { λ b. noted b.seen.log b.number };
+    ghost view = { λ b. registered b.seen.log b.number };
 
-    ghost invariant = { λ b. (b.number < length b.seen.log) × (b.seen.book ≡ J.roll) };
+    ghost invariant = { λ b. (b.number < length b.seen.log) × (b.seen.book ≡ J.registry) };
 }
 
-impl<J: Naming> Badge<J> {
-    /// Copies the badge; the copy denotes the same history.
-    pub fn again(&self) -> Badge<J>
+impl<J: Naming> HistoryId<J> {
+    /// Copies the id; the copy denotes the same history.
+    pub fn again(&self) -> HistoryId<J>
         ensures { result ≡ self.now }
     {
-        Badge {
+        HistoryId {
             number: self.number,
             seen: self.seen.again(),
             of: PhantomData,
         }
     }
 
-    /// Returns whether the other badge has the same number. Then both denote the same history: of the two prefixes of
-    /// the roll that they have seen, the longer one has one book at that number.
-    pub fn is(&self, other: &Badge<J>) -> bool
+    /// Returns whether the other id has the same number. Then both denote the same history: of the two prefixes of
+    /// the registry that they have seen, the longer one has one book at that number.
+    pub fn is(&self, other: &HistoryId<J>) -> bool
         ensures { IsTrue result → self.now ≡ other.now }
     {
         let mut both = self.seen.again();
@@ -125,29 +125,29 @@ impl<J: Naming> Badge<J> {
     }
 }
 
-impl<J: Naming> Roll<J> {
-    /// Records the book that a value shows at the next number, and returns that number's badge. It tries again if
+impl<J: Naming> Registry<J> {
+    /// Records the book that a value shows at the next number, and returns that number's id. It tries again if
     /// another thread was faster. Returns `None` once all 2^64 - 1 numbers are used.
-    pub fn add<V, M: Shows<V>, R: Wait>(&mut self, rt: &R, value: &V) -> Option<Badge<J>>
+    pub fn add<V, M: Shows<V>, R: Wait>(&mut self, rt: &R, value: &V) -> Option<HistoryId<J>>
         ensures { IfSome result (λ b. b ≡ M.book value.now) }
     {
         for _ in rt.forever() {
             if self.count == u64::MAX {
                 return None;
             }
-            if let Some(badge) = self.try_add::<V, M>(value) {
-                return Some(badge);
+            if let Some(history_id) = self.try_add::<V, M>(value) {
+                return Some(history_id);
             }
         }
         unreachable!()
     }
 
     /// Tries once. At `None` other books were recorded than this thread had seen; it has seen them now.
-    fn try_add<V, M: Shows<V>>(&mut self, value: &V) -> Option<Badge<J>>
+    fn try_add<V, M: Shows<V>>(&mut self, value: &V) -> Option<HistoryId<J>>
         requires { length self.old + 1 < 2 ^ 64 }
         ensures { IfSome result (λ b. b ≡ M.book value.now) }
     {
-        let mut offer: Offer<Noted, u64, Law, Nothing> = self
+        let mut offer: Offer<Registered, u64, Law, Nothing> = self
             .seen
             .plain::<Nothing, V, Asks<M>>(value);
         let mut pen = self.seen.no_pen();
@@ -166,7 +166,7 @@ impl<J: Naming> Roll<J> {
             return None;
         }
         self.count = count + 1;
-        Some(Badge {
+        Some(HistoryId {
             number: count,
             seen: self.seen.again(),
             of: PhantomData,

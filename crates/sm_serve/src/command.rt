@@ -6,7 +6,7 @@ use sm_wire::Request;
 
 /// A request of a session to a door.
 #[derive(Drop)]
-pub enum Asked {
+pub enum Command {
     /// A process connects as a client.
     Hello(Identity),
     /// A line of a client or an administrator other than a `hello` or a `reload`.

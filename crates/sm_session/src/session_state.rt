@@ -15,7 +15,7 @@ use sm_wire::{Item, Kind, PolicyTexts, Request, Telling};
 use std::alloc::{AllocError, Global};
 
 /// A desk with the state of a session.
-pub struct Sitting<D> {
+pub struct SessionState<D> {
     /// The kind of the session's peer.
     pub kind: Kind,
     pub desk: D,
@@ -25,7 +25,7 @@ pub struct Sitting<D> {
     pub over: bool,
 }
 
-impl<D: Desk> Sitting<D> {
+impl<D: Desk> SessionState<D> {
     /// Returns whether the desk will be asked this item.
     pub fn will_ask(&self, item: &Item) -> bool
         ensures { result ≡ (if self.now.over then false else is_asked self.now.kind self.now.connected item.now) }
