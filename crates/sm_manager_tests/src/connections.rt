@@ -100,10 +100,10 @@ pub fn an_administrator(alloc: Global) -> Result<Said, AllocError> {
     let refused =
         b"refused neverallow at line 16 by allow at line 17: untrusted_app activity_service service_manager add\n";
     said.talk(&[("hello 100 1000 u:r:system_server:s0", "malformed")])?;
-    said.reload(b"reload 1 744 89\n", &broken, DEVICE_LABELS, refused)?;
+    said.reload(1, &broken, DEVICE_LABELS, refused)?;
     said.talk(&[("version", "version 1 1")])?;
     for answer in [b"reloaded 2\n".as_slice(), b"moved 2\n"] {
-        said.reload(b"reload 1 686 89\n", DEVICE_RULES, DEVICE_LABELS, answer)?;
+        said.reload(1, DEVICE_RULES, DEVICE_LABELS, answer)?;
     }
     said.talk(&[("version", "version 2 2"), ("denials", "denials 0")])?;
     Ok(said)

@@ -6,7 +6,7 @@ mod talk;
 mod texts;
 
 pub use failing::{FailAt, OneByte, Pieces};
-pub use talk::{Said, Talk};
+pub use talk::{Said, Talk, push_reload};
 pub use texts::{
     BROKEN_RULE, DEVICE_LABELS, DEVICE_RULES, ONE_LABEL, PLAIN_RULES, RULE_FOR_DEFAULTS,
     STRICTER_RULES, device_rules_with,

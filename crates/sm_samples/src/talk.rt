@@ -2,8 +2,9 @@
 
 ghost use Rattle.std.specs.Prelude.{◌≡◌, ◌++◌, [], OnOk};
 ghost use Rattle.std.specs.List.{flat_map};
-ghost use Rattle.sm_samples.specs.Talks.{line_of};
+ghost use Rattle.sm_samples.specs.Talks.{line_of, reload_text};
 
+use sm_kinds::push_numbered;
 use std::alloc::{AllocError, Global};
 
 /// Request lines, each with the line that answers it.
@@ -39,24 +40,39 @@ impl Said {
         Ok(())
     }
 
-    /// Appends a `reload` line with its files, and the line that answers it; both with their newline. On error a part
-    /// may have been appended.
+    /// Appends a `reload` line with its files, and the line that answers it, with its newline. On error a part may have
+    /// been appended.
     pub fn reload(
         &mut self,
-        line: &[u8],
+        expected: u64,
         rules: &[u8],
         contexts: &[u8],
         answer: &[u8],
     ) -> Result<(), AllocError>
-        ensures script { OnOk result (self.new.script.items
-            ≡ self.old.script.items ++ line.now ++ rules.now ++ contexts.now) }
+        ensures script { OnOk result (self.new.script.items ≡ self.old.script.items ++ reload_text expected rules.now contexts.now) }
         ensures wanted { OnOk result (self.new.wanted.items ≡ self.old.wanted.items ++ answer.now) }
     {
-        self.script.extend_from_slice(line)?;
-        self.script.extend_from_slice(rules)?;
-        self.script.extend_from_slice(contexts)?;
+        push_reload(&mut self.script, expected, rules, contexts)?;
         self.wanted.extend_from_slice(answer)
     }
+}
+
+/// Appends a `reload` line with its files. On error a part may have been appended.
+#[tactic(auto, unfolding(crate::specs::Talks::reload_text))]
+pub fn push_reload(
+    script: &mut Vec<u8>,
+    expected: u64,
+    rules: &[u8],
+    contexts: &[u8],
+) -> Result<(), AllocError>
+    ensures { OnOk result (script.new.items ≡ script.old.items ++ reload_text expected rules.now contexts.now) }
+{
+    push_numbered(script, b"reload ", expected)?;
+    push_numbered(script, b" ", rules.len() as u64)?;
+    push_numbered(script, b" ", contexts.len() as u64)?;
+    script.extend_from_slice(b"\n")?;
+    script.extend_from_slice(rules)?;
+    script.extend_from_slice(contexts)
 }
 
 #[tactic(auto, unfolding(crate::specs::Talks::line_of))]

@@ -2,7 +2,7 @@
 
 use crate::fixture::Fixture;
 use crate::texts::device_rules_but;
-use sm_samples::{DEVICE_LABELS, DEVICE_RULES, device_rules_with};
+use sm_samples::{DEVICE_LABELS, DEVICE_RULES, device_rules_with, push_reload};
 use std::alloc::{AllocError, Global};
 use std::process::Abort;
 use std::test::Fail;
@@ -40,10 +40,8 @@ impl Run {
     }
 
     /// A `reload` line with its texts, and the line that answers it.
-    fn reload(&mut self, line: &str, rules: &[u8], answer: &str) -> Result<(), AllocError> {
-        push_line(&mut self.script, line)?;
-        self.script.extend_from_slice(rules)?;
-        self.script.extend_from_slice(DEVICE_LABELS)?;
+    fn reload(&mut self, expected: u64, rules: &[u8], answer: &str) -> Result<(), AllocError> {
+        push_reload(&mut self.script, expected, rules, DEVICE_LABELS)?;
         push_line(&mut self.replies, answer)
     }
 
@@ -180,7 +178,7 @@ fn a_watcher_is_judged_by_the_policy_in_force(rt: HostRuntime) -> Result<(), Fai
     )?;
     let mut run = Run::new(rt.alloc());
     run.hear(BEFORE_A_RELOAD)?;
-    run.reload("reload 1 705 89", &rules, "reloaded 2")?;
+    run.reload(1, &rules, "reloaded 2")?;
     run.hear(A_WATCHER_WHO_MAY_NOT_FIND)?;
     run.holds(&rt, rt.alloc(), DEVICE_RULES);
     Ok(())
@@ -242,9 +240,9 @@ fn permissive_types_and_dontaudit_rules(rt: HostRuntime) -> Result<(), Fail> {
     let silenced = device_rules_with(alloc, silence)?;
     let mut run = Run::new(alloc);
     run.hear(A_PERMISSIVE_APPLICATION)?;
-    run.reload("reload 1 769 89", &both, "reloaded 2")?;
+    run.reload(1, &both, "reloaded 2")?;
     run.hear(PERMISSIVE_AND_SILENCED)?;
-    run.reload("reload 2 743 89", &silenced, "reloaded 3")?;
+    run.reload(2, &silenced, "reloaded 3")?;
     run.hear(SILENCED)?;
     run.holds(&rt, alloc, &permissive);
     Ok(())

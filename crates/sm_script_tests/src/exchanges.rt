@@ -240,7 +240,7 @@ pub fn server_dies(alloc: Global) -> Result<Said, AllocError> {
     )?;
     let mut said = Said::new(alloc);
     said.talk(A_SERVER_DIES)?;
-    said.reload(b"reload 1 626 89\n", &rules, DEVICE_LABELS, b"reloaded 2\n")?;
+    said.reload(1, &rules, DEVICE_LABELS, b"reloaded 2\n")?;
     said.talk(ANOTHER_SERVER_COMES)?;
     Ok(said)
 }

@@ -2,8 +2,12 @@
 
 use crate::fixture::Fixture;
 use sm_engine::Fault;
-use sm_samples::{BROKEN_RULE, DEVICE_LABELS, DEVICE_RULES, ONE_LABEL, PLAIN_RULES};
+use sm_samples::{
+    BROKEN_RULE, DEVICE_LABELS, DEVICE_RULES, ONE_LABEL, PLAIN_RULES, device_rules_with,
+    push_reload,
+};
 use sm_script::ScriptFault;
+use std::alloc::AllocError;
 use std::test::Fail;
 
 // Two clients: a service is added, and an application gets it twice.
@@ -22,20 +26,15 @@ handle 1
 ";
 
 // Appends a `reload` line, and a device's files after it.
-fn push_reload(script: &mut Vec<u8>, line: &[u8]) -> Result<(), Fail> {
-    script.extend_from_slice(line)?;
-    script.extend_from_slice(DEVICE_RULES)?;
-    script.extend_from_slice(DEVICE_LABELS)?;
-    Ok(())
+fn push_device(script: &mut Vec<u8>, expected: u64) -> Result<(), AllocError> {
+    push_reload(script, expected, DEVICE_RULES, DEVICE_LABELS)
 }
 
 #[test]
 fn another_policy(rt: HostRuntime) -> Result<(), Fail> {
     let alloc = rt.alloc();
     let mut script = Vec::from_slice(alloc, ONE_SERVICE)?;
-    script.extend_from_slice(b"reload 1 450 73\n")?;
-    script.extend_from_slice(PLAIN_RULES)?;
-    script.extend_from_slice(ONE_LABEL)?;
+    push_reload(&mut script, 1, PLAIN_RULES, ONE_LABEL)?;
     script.extend_from_slice(b"2 get activity\n2 version\n")?;
     let mut wanted = Vec::from_slice(alloc, ONE_SERVICE_REPLIES)?;
     wanted.extend_from_slice(
@@ -52,10 +51,8 @@ version 2 7
 fn a_refused_policy(rt: HostRuntime) -> Result<(), Fail> {
     let alloc = rt.alloc();
     let mut script = Vec::from_slice(alloc, ONE_SERVICE)?;
-    script.extend_from_slice(b"reload 1 744 89\n")?;
-    script.extend_from_slice(DEVICE_RULES)?;
-    script.extend_from_slice(BROKEN_RULE)?;
-    script.extend_from_slice(DEVICE_LABELS)?;
+    let broken = device_rules_with(alloc, BROKEN_RULE)?;
+    push_reload(&mut script, 1, &broken, DEVICE_LABELS)?;
     script.extend_from_slice(b"2 version\n2 get activity\n")?;
     let mut wanted = Vec::from_slice(alloc, ONE_SERVICE_REPLIES)?;
     wanted.extend_from_slice(
@@ -73,7 +70,7 @@ fn a_version_that_moved(rt: HostRuntime) -> Result<(), Fail> {
     let alloc = rt.alloc();
     let mut script = Vec::new(alloc);
     for _ in 0..2 {
-        push_reload(&mut script, b"reload 1 686 89\n")?;
+        push_device(&mut script, 1)?;
     }
     Fixture::device().replies(&rt, alloc, &script, b"reloaded 2\nmoved 2\n");
     Ok(())
@@ -83,9 +80,9 @@ fn a_version_that_moved(rt: HostRuntime) -> Result<(), Fail> {
 fn the_greatest_version(rt: HostRuntime) -> Result<(), Fail> {
     let alloc = rt.alloc();
     let mut script = Vec::new(alloc);
-    push_reload(&mut script, b"reload 18446744073709551615 686 89\n")?;
+    push_device(&mut script, u64::MAX)?;
     script.extend_from_slice(b"reload 18446744073709551616 0 0\n")?;
-    push_reload(&mut script, b"reload 1 686 89\n")?;
+    push_device(&mut script, 1)?;
     let wanted = b"moved 1
 malformed
 reloaded 2
@@ -135,9 +132,9 @@ malformed
 fn journals_without_a_place_for_a_policy(rt: HostRuntime) -> Result<(), Fail> {
     let alloc = rt.alloc();
     let mut script = Vec::new(alloc);
-    push_reload(&mut script, b"reload 1 686 89\n")?;
-    push_reload(&mut script, b"reload 2 686 89\n")?;
-    push_reload(&mut script, b"reload 1 686 89\n")?;
+    push_device(&mut script, 1)?;
+    push_device(&mut script, 2)?;
+    push_device(&mut script, 1)?;
     script.extend_from_slice(b"reload 2 0 0\n")?;
     script.extend_from_slice(b"explain untrusted_app system_server binder call\n")?;
     // The version is checked before the slot, and the files before either.
@@ -151,7 +148,7 @@ allowed 2 15
         .with_places(2)
         .replies(&rt, alloc, &script, wanted);
     let mut script = Vec::from_slice(alloc, b"hello 100 1000 u:r:system_server:s0\n")?;
-    push_reload(&mut script, b"reload 1 686 89\n")?;
+    push_device(&mut script, 1)?;
     script.extend_from_slice(b"1 version\n")?;
     let wanted = b"client 1
 failed journal-full
@@ -197,7 +194,7 @@ malformed
 fn texts_cut_short(rt: HostRuntime) -> Result<(), Fail> {
     let alloc = rt.alloc();
     let mut script = Vec::from_slice(alloc, b"1 list 15\n")?;
-    push_reload(&mut script, b"reload 1 686 89\n")?;
+    push_device(&mut script, 1)?;
     let before = b"1 list 15\nreload 1 686 89\n".len();
     let wanted = b"failed not-connected\nfault cut\n";
     // Before the policy source, inside it, between the texts, and inside the contexts file.

@@ -74,7 +74,7 @@ fn types_in_another_order(rt: HostRuntime) -> Result<(), Fail> {
     let alloc = rt.alloc();
     let mut said = Said::new(alloc);
     said.talk(TWO_CLIENTS)?;
-    said.reload(b"reload 1 472 33\n", TURNED_RULES, LABELS, b"reloaded 2\n")?;
+    said.reload(1, TURNED_RULES, LABELS, b"reloaded 2\n")?;
     said.talk(THE_SAME_ANSWERS)?;
     Fixture::new(RULES, LABELS).hears(&rt, alloc, &said);
     Ok(())
@@ -113,14 +113,9 @@ fn a_type_that_goes_and_comes_back(rt: HostRuntime) -> Result<(), Fail> {
     let alloc = rt.alloc();
     let mut said = Said::new(alloc);
     said.talk(TWO_CLIENTS)?;
-    said.reload(
-        b"reload 1 233 33\n",
-        RULES_WITHOUT_APPLICATIONS,
-        LABELS,
-        b"reloaded 2\n",
-    )?;
+    said.reload(1, RULES_WITHOUT_APPLICATIONS, LABELS, b"reloaded 2\n")?;
     said.talk(NOTHING_FOR_APPLICATIONS)?;
-    said.reload(b"reload 2 472 33\n", TURNED_RULES, LABELS, b"reloaded 3\n")?;
+    said.reload(2, TURNED_RULES, LABELS, b"reloaded 3\n")?;
     said.talk(APPLICATIONS_AGAIN)?;
     Fixture::new(RULES, LABELS).hears(&rt, alloc, &said);
     Ok(())

@@ -5,11 +5,13 @@ ghost use Rattle.sm_core.specs.Opening.{opened};
 ghost use denote.Param.Send.{IsSend, IsSync};
 
 use sm_core::View;
-use sm_door::{Actor, Admin, Desk, Door, Gate, Page, Seat, Session, Shown, ViewReader, ViewWriter};
+use sm_door::{
+    Actor, Admin, Desk, Door, Gate, Page, Published, Seat, Session, ViewReader, ViewWriter,
+};
 use sm_history::{Answer, Event, Outcome, Refusal, Reply, Segment};
 use sm_kinds::{Class, Context, Identity, Name, ObjRef, Perms, Places};
 use sm_policy::Prepared;
-use sm_roll::{Badge, Blank, Naming, Roll};
+use sm_registry::{HistoryId, Naming, Registry, UnnamedRegistry};
 use sm_samples::{DEVICE_LABELS, DEVICE_RULES, STRICTER_RULES};
 use sm_view::NoGate;
 use std::alloc::Global;
@@ -105,22 +107,22 @@ fn a_change_is_seen_after_a_meeting_and_without_one(rt: HostRuntime) {
     let who = manager(&rt, alloc);
     let rules = policy(&rt, alloc, DEVICE_RULES);
     let places = Places::new(1000).expect(&rt, "places");
-    meets::<Brand, _>(&rt, alloc, Blank::new(), who, rules, places);
+    meets::<Brand, _>(&rt, alloc, UnnamedRegistry::new(), who, rules, places);
 }
 
 fn meets<J: Naming, R: Wait + Abort>(
     rt: &R,
     alloc: Global,
-    blank: Blank,
+    unnamed: UnnamedRegistry,
     who: Identity,
     rules: Prepared,
     places: Places,
 )
-    requires roll { blank.seen.book ≡ J.roll }
+    requires registry { unnamed.seen.book ≡ J.registry }
     requires opening { J.opening ≡ opened places who rules }
 {
     let (door, mut seats, mut admins) = Door::<J, NoGate>::open(
-        rt, alloc, blank, who, rules, places, NoGate,
+        rt, alloc, unnamed, who, rules, places, NoGate,
     ).ok()
         .expect(rt, "a door");
     let mut admin = admins.pop().expect(rt, "an administrator");
@@ -149,22 +151,22 @@ fn versions_never_go_back(rt: HostRuntime) {
     let who = manager(&rt, alloc);
     let rules = policy(&rt, alloc, DEVICE_RULES);
     let places = Places::new(1000).expect(&rt, "places");
-    grows::<Brand, _>(&rt, alloc, Blank::new(), who, rules, places);
+    grows::<Brand, _>(&rt, alloc, UnnamedRegistry::new(), who, rules, places);
 }
 
 fn grows<J: Naming + Send + Sync, R: Threads + Wait + Abort + Sync>(
     rt: &R,
     alloc: Global,
-    blank: Blank,
+    unnamed: UnnamedRegistry,
     who: Identity,
     policy: Prepared,
     places: Places,
 )
-    requires roll { blank.seen.book ≡ J.roll }
+    requires registry { unnamed.seen.book ≡ J.registry }
     requires opening { J.opening ≡ opened places who policy }
 {
     let (door, _seats, mut admins) = Door::<J, NoGate>::open(
-        rt, alloc, blank, who, policy, places, NoGate,
+        rt, alloc, unnamed, who, policy, places, NoGate,
     ).ok()
         .expect(rt, "a door");
     let first = admins.pop().expect(rt, "an administrator");
@@ -236,17 +238,17 @@ fn all_at_once<J: Naming + Send + Sync, R: Threads + Wait + Abort + Sync>(
     let mut done = false;
     thread::scope(thread::scope_env(), rt, |scope| {
         crosses::<View>();
-        crosses::<Badge<J>>();
+        crosses::<HistoryId<J>>();
         crosses::<Page<J>>();
         crosses::<Arc<Page<J>>>();
-        crosses::<Shown<J>>();
+        crosses::<Published<J>>();
         sends::<ViewReader<J>>();
         sends::<Option<ViewReader<J>>>();
         sends::<Actor<J>>();
         sends::<Admin<J>>();
         sends::<ViewWriter<J>>();
         sends::<Option<ViewWriter<J>>>();
-        sends::<Roll<J>>();
+        sends::<Registry<J>>();
         sends::<Desk<J>>();
         shares::<Door<J, NoGate>>();
         shares::<Mutex<Vec<Admin<J>>>>();
@@ -357,22 +359,22 @@ fn one_of_two_installs_is_done(rt: HostRuntime) {
     let who = manager(&rt, alloc);
     let rules = policy(&rt, alloc, DEVICE_RULES);
     let places = Places::new(1000).expect(&rt, "places");
-    rivals::<Brand, _>(&rt, alloc, Blank::new(), who, rules, places);
+    rivals::<Brand, _>(&rt, alloc, UnnamedRegistry::new(), who, rules, places);
 }
 
 fn rivals<J: Naming + Send + Sync, R: Threads + Wait + Abort + Sync>(
     rt: &R,
     alloc: Global,
-    blank: Blank,
+    unnamed: UnnamedRegistry,
     who: Identity,
     rules: Prepared,
     places: Places,
 )
-    requires roll { blank.seen.book ≡ J.roll }
+    requires registry { unnamed.seen.book ≡ J.registry }
     requires opening { J.opening ≡ opened places who rules }
 {
     let (door, _seats, mut admins) = Door::<J, NoGate>::open(
-        rt, alloc, blank, who, rules, places, NoGate,
+        rt, alloc, unnamed, who, rules, places, NoGate,
     ).ok()
         .expect(rt, "a door");
     let first = admins.pop().expect(rt, "an administrator");
@@ -398,17 +400,17 @@ fn both_install<J: Naming + Send + Sync, R: Threads + Wait + Abort + Sync>(
     let mut started = false;
     thread::scope(thread::scope_env(), rt, |scope| {
         crosses::<View>();
-        crosses::<Badge<J>>();
+        crosses::<HistoryId<J>>();
         crosses::<Page<J>>();
         crosses::<Arc<Page<J>>>();
-        crosses::<Shown<J>>();
+        crosses::<Published<J>>();
         sends::<ViewReader<J>>();
         sends::<Option<ViewReader<J>>>();
         sends::<Actor<J>>();
         sends::<Admin<J>>();
         sends::<ViewWriter<J>>();
         sends::<Option<ViewWriter<J>>>();
-        sends::<Roll<J>>();
+        sends::<Registry<J>>();
         sends::<Desk<J>>();
         shares::<Door<J, NoGate>>();
         shares::<Race>();

@@ -10,7 +10,7 @@ use sm_door::{Admin, Door, Seat, Session};
 use sm_history::{Event, Failure, Outcome, Query, Record, Refusal, Reply};
 use sm_kinds::{Identity, Places};
 use sm_policy::Prepared;
-use sm_roll::{Blank, Naming};
+use sm_registry::{Naming, UnnamedRegistry};
 use sm_samples::DEVICE_RULES;
 use sm_view::{NoGate, is_death};
 use sm_wire::{Kind, Request, Telling, push_denials, reply_line};
@@ -245,23 +245,31 @@ fn holds<R: Wait + Abort>(rt: &R, alloc: Global, rules: &[u8], places: u32, exch
     let who = manager(rt, alloc);
     let rules = policy(rt, alloc, rules);
     let places = Places::new(places).expect(rt, "places");
-    exchanges::<Brand, R>(rt, alloc, Blank::new(), who, rules, places, exchange);
+    exchanges::<Brand, R>(
+        rt,
+        alloc,
+        UnnamedRegistry::new(),
+        who,
+        rules,
+        places,
+        exchange,
+    );
 }
 
 fn exchanges<J: Naming, R: Wait + Abort>(
     rt: &R,
     alloc: Global,
-    blank: Blank,
+    unnamed: UnnamedRegistry,
     who: Identity,
     policy: Prepared,
     places: Places,
     exchange: Exchange,
 )
-    requires roll { blank.seen.book ≡ J.roll }
+    requires registry { unnamed.seen.book ≡ J.registry }
     requires opening { J.opening ≡ opened places who policy }
 {
     let (door, seats, mut admins) = Door::<J, NoGate>::open(
-        rt, alloc, blank, who, policy, places, NoGate,
+        rt, alloc, unnamed, who, policy, places, NoGate,
     ).ok()
         .expect(rt, "a door");
     let mut parties = Parties {

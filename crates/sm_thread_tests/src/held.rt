@@ -1,15 +1,11 @@
 //! Calls that are held while others are answered and while connections fail.
 
 use crate::hold::{ARMED, HOLDING, Hold, RELEASED};
-use crate::server::{
-    ALL_IS_WELL, HELLO, Talk, Visits, Waiting, Watched, answers, at_a_door, connection, is_over,
-    numbers,
-};
+use crate::server::{ALL_IS_WELL, HELLO, Talk, Watched, at_a_door, numbers};
+use crate::steps::Step::{self, Close, Over, Say, Vanish};
+use crate::steps::{Exchange, connected};
 use crossbeam_utils::Backoff;
 use sm_view::Gate;
-use std::io::Write;
-use std::net::Shutdown;
-use std::os::unix::net::UnixStream;
 use std::sync::Arc;
 use std::sync::atomic::{AtomicU64, Ordering};
 use std::test::Fail;
@@ -71,101 +67,30 @@ impl Gate for Second {
     }
 }
 
-/// A connection that stops inside a line, and one that is closed there.
-struct Failing {
-    cut: UnixStream,
-    vanishing: Option<UnixStream>,
-}
-
-impl Drop for Failing {
-    fn drop(self) {
-        let Failing {
-            cut: _,
-            vanishing: _,
-        } = self;
-    }
-}
-
-impl Failing {
-    /// Whether both have clients now, the third and the fourth.
-    fn greets(&self) -> bool {
-        let Some(vanishing) = &self.vanishing else {
-            return false;
-        };
-        answers(&self.cut, HELLO, b"client 3\n") && answers(vanishing, HELLO, b"client 4\n")
-    }
-
-    /// Makes both fail. Returns whether the one that only stops is answered so.
-    fn fails(&mut self) -> bool {
-        let Some(vanishing) = self.vanishing.take() else {
-            return false;
-        };
-        let mut gone = &vanishing;
-        let mut cut = &self.cut;
-        gone.write_all(b"add activ").is_ok()
-            && cut.write_all(b"add activ").is_ok()
-            && self.cut.shutdown(Shutdown::Write).is_ok()
-            && answers(&self.cut, b"", b"fault cut\n")
-    }
-}
-
-/// Two clients that ask at once, beside connections that fail.
-struct Both {
-    first: UnixStream,
-    second: UnixStream,
-    failing: Failing,
-}
-
-impl Drop for Both {
-    fn drop(self) {
-        let Both {
-            first: _,
-            second: _,
-            failing: _,
-        } = self;
-    }
-}
-
-impl Talk for Both {
-    fn is_answered(&mut self) -> bool {
-        let mut first = &self.first;
-        answers(&self.first, HELLO, b"client 1\n")
-            && answers(&self.second, HELLO, b"client 2\n")
-            && self.failing.greets()
-            && first.write_all(b"take\n").is_ok()
-            && self.failing.fails()
-            && answers(&self.second, b"take\n", b"empty\n")
-            && answers(&self.first, b"", b"empty\n")
-            && is_over(&self.failing.cut)
-            && self.first.shutdown(Shutdown::Write).is_ok()
-            && self.second.shutdown(Shutdown::Write).is_ok()
-    }
-}
+/// Two clients that ask at once, beside a connection that is cut inside a line, and one that vanishes there.
+const A_CALL_IS_HELD: &[Step] = &[
+    Say(0, HELLO, b"client 1\n"),
+    Say(1, HELLO, b"client 2\n"),
+    Say(2, HELLO, b"client 3\n"),
+    Say(3, HELLO, b"client 4\n"),
+    Say(0, b"take\n", b""),
+    Say(3, b"add activ", b""),
+    Say(2, b"add activ", b""),
+    Close(2),
+    Say(2, b"", b"fault cut\n"),
+    Vanish(3),
+    Say(1, b"take\n", b"empty\n"),
+    Say(0, b"", b"empty\n"),
+    Over(2),
+    Close(0),
+    Close(1),
+];
 
 #[test]
 fn a_call_is_held_until_another_is_answered(rt: HostRuntime) -> Result<(), Fail> {
-    let alloc = rt.alloc();
-    let (first, one) = connection(&rt);
-    let (second, two) = connection(&rt);
-    let (cut, three) = connection(&rt);
-    let (vanishing, four) = connection(&rt);
-    let visits = Visits {
-        clients: Waiting::of(vec![in alloc; four, three, two, one]?),
-        admins: Waiting::of(Vec::new(alloc)),
-        numbers: numbers(4, 4, 0),
-    };
-    let talk = Both {
-        first,
-        second,
-        failing: Failing {
-            cut,
-            vanishing: Some(vanishing),
-        },
-    };
-    assert_eq!(rt;
-        at_a_door(&rt, alloc, 1000, Second::new(), visits, talk),
-        ALL_IS_WELL
-    );
+    let (visits, exchange) = connected(&rt, rt.alloc(), numbers(4, 4, 0), A_CALL_IS_HELD)?;
+    let left = at_a_door(&rt, rt.alloc(), 1000, Second::new(), visits, exchange);
+    assert_eq!(rt; left, ALL_IS_WELL);
     Ok(())
 }
 
@@ -191,82 +116,67 @@ impl Gate for Held {
     fn leave(&self, _line: u64) {}
 }
 
-/// A client whose change is held, one that lists meanwhile, and connections that fail.
+/// An exchange in which a client's change is held while another client lists and two connections fail.
+#[derive(Drop)]
 struct Listing {
-    adder: UnixStream,
-    lister: UnixStream,
-    failing: Failing,
+    exchange: Exchange,
     hold: Arc<Hold>,
 }
 
-impl Drop for Listing {
-    fn drop(self) {
-        let Listing {
-            adder: _,
-            lister: _,
-            failing: _,
-            hold: _,
-        } = self;
-    }
-}
+/// Four clients, of which the first adds, the second lists, and the others fail.
+const GREETINGS: &[Step] = &[
+    Say(0, HELLO, b"client 1\n"),
+    Say(1, HELLO, b"client 2\n"),
+    Say(2, HELLO, b"client 3\n"),
+    Say(3, HELLO, b"client 4\n"),
+];
 
-impl Listing {
-    /// Whether a list is answered while the change is held and after the connections have failed.
-    fn lists_while_held(&mut self) -> bool {
-        let mut adder = &self.adder;
-        self.hold.set(ARMED);
-        adder.write_all(b"add activity o1 0 8\n").is_ok()
-            && self.hold.comes(HOLDING)
-            && self.failing.fails()
-            && answers(&self.lister, b"list 15\n", b"names 1 5 0\n")
-    }
-}
+/// The change that is held.
+const THE_CHANGE: &[Step] = &[Say(0, b"add activity o1 0 8\n", b"")];
+
+/// The connections that fail, and a list, while the change is held.
+const A_LIST_WHILE_IT_IS_HELD: &[Step] = &[
+    Say(3, b"add activ", b""),
+    Say(2, b"add activ", b""),
+    Close(2),
+    Say(2, b"", b"fault cut\n"),
+    Vanish(3),
+    Say(1, b"list 15\n", b"names 1 5 0\n"),
+];
+
+/// The answer to the change.
+const AFTER_ITS_RELEASE: &[Step] = &[
+    Say(0, b"", b"ok\n"),
+    Over(2),
+    Say(1, b"get activity\n", b"handle 1\n"),
+    Close(0),
+    Close(1),
+];
 
 impl Talk for Listing {
-    fn is_answered(&mut self) -> bool {
-        if !answers(&self.adder, HELLO, b"client 1\n")
-            || !answers(&self.lister, HELLO, b"client 2\n")
-            || !self.failing.greets()
-            || !self.lists_while_held()
-        {
-            return false;
+    fn run(&mut self) -> Result<(), usize> {
+        self.exchange.run_steps(GREETINGS)?;
+        self.hold.set(ARMED);
+        self.exchange.run_steps(THE_CHANGE)?;
+        if !self.hold.comes(HOLDING) {
+            return Err(self.exchange.done);
         }
+        self.exchange.run_steps(A_LIST_WHILE_IT_IS_HELD)?;
         self.hold.set(RELEASED);
-        answers(&self.adder, b"", b"ok\n")
-            && is_over(&self.failing.cut)
-            && answers(&self.lister, b"get activity\n", b"handle 1\n")
-            && self.adder.shutdown(Shutdown::Write).is_ok()
-            && self.lister.shutdown(Shutdown::Write).is_ok()
+        self.exchange.run_steps(AFTER_ITS_RELEASE)
     }
 }
 
 #[test]
 fn a_change_is_held_until_a_list_is_answered(rt: HostRuntime) -> Result<(), Fail> {
-    let alloc = rt.alloc();
-    let hold = Arc::new(alloc, Hold::new())?;
+    let hold = Arc::new(rt.alloc(), Hold::new())?;
     let gate = Held {
         hold: Arc::try_clone(&hold)?,
     };
-    let (adder, one) = connection(&rt);
-    let (lister, two) = connection(&rt);
-    let (cut, three) = connection(&rt);
-    let (vanishing, four) = connection(&rt);
-    let visits = Visits {
-        clients: Waiting::of(vec![in alloc; four, three, two, one]?),
-        admins: Waiting::of(Vec::new(alloc)),
-        numbers: numbers(4, 4, 0),
-    };
-    let talk = Listing {
-        adder,
-        lister,
-        failing: Failing {
-            cut,
-            vanishing: Some(vanishing),
-        },
-        hold,
-    };
+    let (visits, exchange) = connected(&rt, rt.alloc(), numbers(4, 4, 0), &[])?;
+    let talk = Listing { exchange, hold };
     assert_eq!(rt;
-        at_a_door(&rt, alloc, 1000, gate, visits, talk),
+        at_a_door(&rt, rt.alloc(), 1000, gate, visits, talk),
         ALL_IS_WELL
     );
     Ok(())

@@ -12,6 +12,8 @@ mod hold;
 #[cfg(test)]
 mod operations;
 #[cfg(test)]
-mod rolls;
+mod registries;
 #[cfg(test)]
 mod server;
+#[cfg(test)]
+mod steps;

@@ -3,19 +3,21 @@
 ghost use Rattle.std.specs.Prelude.{◌≡◌};
 ghost use Rattle.sm_core.specs.Opening.{opened};
 
+use crate::steps::Step::{self, Close, Over, Reload, Say, SayAll, Vanish};
+use crate::steps::connected;
 use sm_door::Door;
 use sm_engine::ServeFault;
 use sm_history::Record;
 use sm_kinds::{Context, Identity, Places};
 use sm_policy::Prepared;
-use sm_roll::{Blank, Naming};
+use sm_registry::{Naming, UnnamedRegistry};
 use sm_samples::{DEVICE_LABELS, DEVICE_RULES, STRICTER_RULES};
 use sm_serve::{Entrance, FreeSeats, Notice, Numbers, Patience, Supervisor, serve};
 use sm_view::{Gate, NoGate};
 use std::alloc::Global;
-use std::io::{ErrorKind, Read, Write};
+use std::io::ErrorKind;
 use std::marker::Brand;
-use std::net::{Net, Shutdown};
+use std::net::Net;
 use std::os::unix::net::UnixStream;
 use std::process::Abort;
 use std::rt::Clock;
@@ -23,11 +25,10 @@ use std::sync::Wait;
 use std::sync::atomic::{AtomicU64, Ordering};
 use std::test::Fail;
 use std::thread::Threads;
-use std::time::Duration;
 use std::{io, thread};
 
-/// Connections that were made before the server began. A listener fails by these errors of the system before it gives
-/// the first, and behind the last one for good.
+/// Connections that were made before the server started, the last one first. The listener fails with these errors of
+/// the system before the first connection, and for good after the last.
 #[derive(Drop)]
 pub struct Waiting {
     pub failures: &'static [i32],
@@ -35,12 +36,9 @@ pub struct Waiting {
 }
 
 impl Waiting {
-    /// Connections at a listener that doesn't fail before them, the last one first.
-    pub fn of(streams: Vec<UnixStream>) -> Waiting {
-        Waiting {
-            failures: &[],
-            streams,
-        }
+    /// Has the listener fail with these errors first.
+    pub fn fail_first(&mut self, failures: &'static [i32]) {
+        self.failures = failures;
     }
 }
 
@@ -138,35 +136,10 @@ impl Supervisor for Ear {
     }
 }
 
-/// The exchange over connections while the server runs, from the clients' ends.
+/// An exchange at the connections of a server while it runs.
 pub trait Talk {
-    /// Whether all was answered as it should be.
-    fn is_answered(&mut self) -> bool;
-}
-
-/// Whether these bytes are answered by those.
-pub fn answers(stream: &UnixStream, sent: &[u8], wanted: &[u8]) -> bool {
-    let mut stream = stream;
-    let mut got = [0; 512];
-    if wanted.len() > 512 || stream.write_all(sent).is_err() {
-        return false;
-    }
-    let got = &mut got[..wanted.len()];
-    stream.read_exact(got).is_ok() && *got == *wanted
-}
-
-/// Whether the server has ended the connection.
-pub fn is_over(stream: &UnixStream) -> bool {
-    let mut stream = stream;
-    matches!(stream.read(&mut [0]), Ok(0))
-}
-
-/// Two ends of a connection, the client's and the server's. A client waits 20 seconds for an answer.
-pub fn connection<R: Net + Abort>(rt: &R) -> (UnixStream, UnixStream) {
-    let (near, far) = UnixStream::pair(rt).ok().expect(rt, "a connection");
-    let patience = Some(Duration::from_secs(20));
-    assert!(rt; near.set_read_timeout(patience).is_ok());
-    (near, far)
+    /// Runs the steps. On error returns the index of the failed step.
+    fn run(&mut self) -> Result<(), usize>;
 }
 
 /// A gate that says in the end whether all came through it.
@@ -181,7 +154,7 @@ impl Watched for NoGate {
     }
 }
 
-/// The connections of a test, of which the last one comes first.
+/// The connections of a test.
 pub struct Visits {
     pub clients: Waiting,
     pub admins: Waiting,
@@ -210,7 +183,8 @@ pub fn numbers(workers: u32, clients: u64, admins: u64) -> Numbers {
 /// What is left when a server has ended.
 #[derive(Clone, Copy, Debug, PartialEq, Eq)]
 pub struct Left {
-    pub answered: bool,
+    /// The index of the failed step, if one failed.
+    pub failed: Option<usize>,
     pub came_through: bool,
     pub heard: Heard,
     pub ending: Result<(), ServeFault>,
@@ -219,12 +193,44 @@ pub struct Left {
 
 /// What is left of a server that met all that was said.
 pub const ALL_IS_WELL: Left = Left {
-    answered: true,
+    failed: None,
     came_through: true,
     heard: LISTENING,
     ending: Ok(()),
     free: 64,
 };
+
+/// What is left if all steps succeeded before the listener failed for good.
+pub const ENDED_BY_ITS_LISTENER: Left = Left {
+    heard: Heard {
+        failed: 1,
+        closed: 1,
+        ..LISTENING
+    },
+    ending: Err(ServeFault::AcceptFault),
+    ..ALL_IS_WELL
+};
+
+/// Serves an exchange at a door with a journal of `places` slots. Asserts that all steps succeed and that the
+/// supervisor hears exactly this.
+pub fn holds<R: Net + Threads + Wait + Clock + Abort + Sync>(
+    rt: &R,
+    alloc: Global,
+    places: u32,
+    numbers: Numbers,
+    steps: &'static [Step],
+    heard: Heard,
+) {
+    let (visits, exchange) = connected(rt, alloc, numbers, steps)
+        .ok()
+        .expect(rt, "connections");
+    let left = at_a_door(rt, alloc, places, NoGate, visits, exchange);
+    let wanted = Left {
+        heard,
+        ..ALL_IS_WELL
+    };
+    assert_eq!(rt; left, wanted);
+}
 
 /// Serves these connections, at a door with a journal of `places` slots, during the exchange.
 pub fn at_a_door<
@@ -239,7 +245,7 @@ pub fn at_a_door<
     serves::<Brand, T, G, R>(
         rt,
         alloc,
-        Blank::new(),
+        UnnamedRegistry::new(),
         who,
         rules,
         places,
@@ -257,7 +263,7 @@ fn serves<
 >(
     rt: &R,
     alloc: Global,
-    blank: Blank,
+    unnamed: UnnamedRegistry,
     who: Identity,
     policy: Prepared,
     places: Places,
@@ -265,11 +271,12 @@ fn serves<
     visits: Visits,
     mut talk: T,
 ) -> Left
-    requires roll { blank.seen.book ≡ J.roll }
+    requires registry { unnamed.seen.book ≡ J.registry }
     requires opening { J.opening ≡ opened places who policy }
 {
-    let (door, seats, mut tokens) = Door::<J, G>::open(rt, alloc, blank, who, policy, places, gate)
-        .ok()
+    let (door, seats, mut tokens) = Door::<J, G>::open(
+        rt, alloc, unnamed, who, policy, places, gate,
+    ).ok()
         .expect(rt, "a door");
     let seats = FreeSeats::new(seats);
     let admin = tokens.pop().expect(rt, "an administrator");
@@ -280,9 +287,9 @@ fn serves<
         numbers,
     } = visits;
     let ear = Ear::new();
-    let (answered, ending) = thread::join(
+    let (said, ending) = thread::join(
         rt,
-        move || talk.is_answered(),
+        move || talk.run(),
         || serve(
             rt,
             alloc,
@@ -300,7 +307,7 @@ fn serves<
     let came_through = door.gate().is_well();
     door.close(rt);
     Left {
-        answered,
+        failed: said.err(),
         came_through,
         heard: ear.heard(),
         ending,
@@ -323,366 +330,132 @@ fn manager(rt: &impl Abort, alloc: Global) -> Identity {
     }
 }
 
-/// A system service and an application beside each other, and an administrator after them.
-struct Visit {
-    service: UnixStream,
-    application: UnixStream,
-    admin: UnixStream,
-}
-
-impl Drop for Visit {
-    fn drop(self) {
-        let Visit {
-            service: _,
-            application: _,
-            admin: _,
-        } = self;
-    }
-}
-
-impl Talk for Visit {
-    fn is_answered(&mut self) -> bool {
-        answers(
-            &self.service,
-            b"hello 100 1000 u:r:system_server:s0\n",
-            b"client 1\n",
-        ) && answers(&self.service, b"add activity o1 0 8\n", b"ok\n")
-            && answers(
-                &self.application,
-                b"hello 200 10007 u:r:untrusted_app:s0\n",
-                b"client 2\n",
-            )
-            && answers(&self.application, b"get activity\n", b"handle 1\n")
-            && answers(&self.application, b"get activity\n", b"handle 1\n")
-            && answers(&self.admin, b"version\n", b"version 1 6\n")
-            && answers(&self.admin, b"seal\n", b"sealed 1 6\n")
-            && answers(&self.admin, b"seal\n", b"empty\n")
-            && answers(&self.service, b"bye\n", b"bye\n")
-            && answers(&self.application, b"get activity\n", b"null\n")
-            && answers(&self.application, b"bye\n", b"bye\n")
-            && is_over(&self.service)
-            && is_over(&self.application)
-            && self.admin.shutdown(Shutdown::Write).is_ok()
-            && is_over(&self.admin)
-    }
-}
-
-#[test]
-fn two_clients_and_an_administrator(rt: HostRuntime) -> Result<(), Fail> {
-    let alloc = rt.alloc();
-    let (service, one) = connection(&rt);
-    let (application, two) = connection(&rt);
-    let (admin, three) = connection(&rt);
-    let visits = Visits {
-        clients: Waiting::of(vec![in alloc; two, one]?),
-        admins: Waiting::of(vec![in alloc; three]?),
-        numbers: numbers(2, 2, 1),
-    };
-    let talk = Visit {
-        service,
-        application,
-        admin,
-    };
-    assert_eq!(rt;
-        at_a_door(&rt, alloc, 1000, NoGate, visits, talk),
-        ALL_IS_WELL
-    );
-    Ok(())
-}
-
+/// The `hello` of a system service.
 pub const HELLO: &[u8] = b"hello 100 1000 u:r:system_server:s0\n";
 
-/// A connection that is cut inside a line, and one after it, with a journal of four slots.
-struct Cut {
-    first: UnixStream,
-    second: UnixStream,
-    admin: UnixStream,
-}
+const HELLO_OF_AN_APPLICATION: &[u8] = b"hello 200 10007 u:r:untrusted_app:s0\n";
 
-impl Drop for Cut {
-    fn drop(self) {
-        let Cut {
-            first: _,
-            second: _,
-            admin: _,
-        } = self;
-    }
-}
-
-impl Talk for Cut {
-    fn is_answered(&mut self) -> bool {
-        answers(&self.first, HELLO, b"client 1\n")
-            && answers(&self.first, b"add activity o1 0 8\nadd activ", b"ok\n")
-            && self.first.shutdown(Shutdown::Write).is_ok()
-            && answers(&self.first, b"", b"fault cut\n")
-            && is_over(&self.first)
-            && answers(
-                &self.second,
-                b"hello 200 10007 u:r:untrusted_app:s0\n",
-                b"failed journal-full\n",
-            )
-            && answers(&self.admin, b"version\n", b"version 1 4\n")
-            && self.second.shutdown(Shutdown::Write).is_ok()
-            && self.admin.shutdown(Shutdown::Write).is_ok()
-    }
-}
+/// A system service and an application beside each other, and an administrator after them.
+const TWO_CLIENTS_AND_AN_ADMINISTRATOR: &[Step] = &[
+    Say(0, HELLO, b"client 1\n"),
+    Say(0, b"add activity o1 0 8\n", b"ok\n"),
+    Say(1, HELLO_OF_AN_APPLICATION, b"client 2\n"),
+    Say(1, b"get activity\n", b"handle 1\n"),
+    Say(1, b"get activity\n", b"handle 1\n"),
+    Say(2, b"version\n", b"version 1 6\n"),
+    Say(2, b"seal\n", b"sealed 1 6\n"),
+    Say(2, b"seal\n", b"empty\n"),
+    Say(0, b"bye\n", b"bye\n"),
+    Say(1, b"get activity\n", b"null\n"),
+    Say(1, b"bye\n", b"bye\n"),
+    Over(0),
+    Over(1),
+    Close(2),
+    Over(2),
+];
 
 #[test]
-fn a_connection_that_is_cut_ends_its_client(rt: HostRuntime) -> Result<(), Fail> {
-    let alloc = rt.alloc();
-    let (first, one) = connection(&rt);
-    let (second, two) = connection(&rt);
-    let (admin, three) = connection(&rt);
-    let visits = Visits {
-        clients: Waiting::of(vec![in alloc; two, one]?),
-        admins: Waiting::of(vec![in alloc; three]?),
-        numbers: numbers(1, 2, 1),
+fn two_clients_and_an_administrator(rt: HostRuntime) {
+    let steps = TWO_CLIENTS_AND_AN_ADMINISTRATOR;
+    holds(&rt, rt.alloc(), 1000, numbers(2, 2, 1), steps, LISTENING);
+}
+
+/// A connection that is cut inside a line, and one after it, with a journal of four slots.
+const A_CONNECTION_THAT_IS_CUT: &[Step] = &[
+    Say(0, HELLO, b"client 1\n"),
+    Say(0, b"add activity o1 0 8\nadd activ", b"ok\n"),
+    Close(0),
+    Say(0, b"", b"fault cut\n"),
+    Over(0),
+    Say(1, HELLO_OF_AN_APPLICATION, b"failed journal-full\n"),
+    Say(2, b"version\n", b"version 1 4\n"),
+    Close(1),
+    Close(2),
+];
+
+#[test]
+fn a_connection_that_is_cut_ends_its_client(rt: HostRuntime) {
+    let steps = A_CONNECTION_THAT_IS_CUT;
+    let heard = Heard {
+        almost_full: 1,
+        full: 1,
+        ..LISTENING
     };
-    let talk = Cut {
-        first,
-        second,
-        admin,
-    };
-    let wanted = Left {
-        heard: Heard {
-            almost_full: 1,
-            full: 1,
-            ..LISTENING
-        },
-        ..ALL_IS_WELL
-    };
-    assert_eq!(rt; at_a_door(&rt, alloc, 4, NoGate, visits, talk), wanted);
-    Ok(())
+    holds(&rt, rt.alloc(), 4, numbers(1, 2, 1), steps, heard);
 }
 
 /// A connection that vanishes inside a line, and one after it.
-struct Vanished {
-    first: Option<UnixStream>,
-    second: UnixStream,
-}
-
-impl Drop for Vanished {
-    fn drop(self) {
-        let Vanished {
-            first: _,
-            second: _,
-        } = self;
-    }
-}
-
-impl Talk for Vanished {
-    fn is_answered(&mut self) -> bool {
-        let Some(first) = self.first.take() else {
-            return false;
-        };
-        if !answers(&first, HELLO, b"client 1\n")
-            || !answers(&first, b"add activity o1 0 8\nget activ", b"ok\n")
-        {
-            return false;
-        }
-        drop(first);
-        answers(&self.second, HELLO, b"client 2\n")
-            && answers(&self.second, b"get activity\n", b"null\n")
-            && answers(&self.second, b"bye\n", b"bye\n")
-    }
-}
+const A_CLIENT_THAT_VANISHED: &[Step] = &[
+    Say(0, HELLO, b"client 1\n"),
+    Say(0, b"add activity o1 0 8\nget activ", b"ok\n"),
+    Vanish(0),
+    Say(1, HELLO, b"client 2\n"),
+    Say(1, b"get activity\n", b"null\n"),
+    Say(1, b"bye\n", b"bye\n"),
+];
 
 #[test]
-fn the_service_of_a_client_that_vanished_is_gone(rt: HostRuntime) -> Result<(), Fail> {
-    let alloc = rt.alloc();
-    let (first, one) = connection(&rt);
-    let (second, two) = connection(&rt);
-    let visits = Visits {
-        clients: Waiting::of(vec![in alloc; two, one]?),
-        admins: Waiting::of(Vec::new(alloc)),
-        numbers: numbers(1, 2, 0),
-    };
-    let talk = Vanished {
-        first: Some(first),
-        second,
-    };
-    assert_eq!(rt;
-        at_a_door(&rt, alloc, 1000, NoGate, visits, talk),
-        ALL_IS_WELL
-    );
-    Ok(())
+fn the_service_of_a_client_that_vanished_is_gone(rt: HostRuntime) {
+    let steps = A_CLIENT_THAT_VANISHED;
+    holds(&rt, rt.alloc(), 1000, numbers(1, 2, 0), steps, LISTENING);
 }
 
 /// One client more than there are seats.
-struct Crowd {
-    clients: Vec<UnixStream>,
-    late: UnixStream,
-}
-
-impl Drop for Crowd {
-    fn drop(self) {
-        let Crowd {
-            clients: _,
-            late: _,
-        } = self;
-    }
-}
-
-impl Talk for Crowd {
-    fn is_answered(&mut self) -> bool {
-        for client in &self.clients {
-            let mut line = [0; 7];
-            let mut stream = client;
-            if stream.write_all(HELLO).is_err()
-                || stream.read_exact(&mut line).is_err()
-                || line != *b"client "
-            {
-                return false;
-            }
-        }
-        let Some(first) = self.clients.first() else {
-            return false;
-        };
-        answers(&self.late, HELLO, b"failed too-many-clients\n")
-            && answers(first, b"", b"1\n")
-            && answers(first, b"bye\n", b"bye\n")
-            && answers(&self.late, HELLO, b"client 65\n")
-    }
-}
+const ONE_CLIENT_TOO_MANY: &[Step] = &[
+    SayAll(64, HELLO, b"client "),
+    Say(64, HELLO, b"failed too-many-clients\n"),
+    Say(0, b"", b"1\n"),
+    Say(0, b"bye\n", b"bye\n"),
+    Say(64, HELLO, b"client 65\n"),
+];
 
 #[test]
-fn one_client_too_many(rt: HostRuntime) -> Result<(), Fail> {
-    let alloc = rt.alloc();
-    let mut clients = Vec::new(alloc);
-    let mut streams = Vec::new(alloc);
-    for _ in 0..64 {
-        let (near, far) = connection(&rt);
-        clients.push(near)?;
-        streams.push(far)?;
-    }
-    let (late, far) = connection(&rt);
-    streams.push(far)?;
-    let visits = Visits {
-        clients: Waiting::of(streams),
-        admins: Waiting::of(Vec::new(alloc)),
-        numbers: numbers(65, 65, 0),
-    };
-    let talk = Crowd { clients, late };
-    assert_eq!(rt;
-        at_a_door(&rt, alloc, 1000, NoGate, visits, talk),
-        ALL_IS_WELL
-    );
-    Ok(())
-}
-
-/// A service, an application that is denied, and an administrator who asks for that and takes the rule away by which
-/// the application found the service.
-struct Change {
-    service: UnixStream,
-    application: UnixStream,
-    admin: UnixStream,
-}
-
-impl Drop for Change {
-    fn drop(self) {
-        let Change {
-            service: _,
-            application: _,
-            admin: _,
-        } = self;
-    }
+fn one_client_too_many(rt: HostRuntime) {
+    let steps = ONE_CLIENT_TOO_MANY;
+    holds(&rt, rt.alloc(), 1000, numbers(65, 65, 0), steps, LISTENING);
 }
 
 const DENIALS: &[u8] =
     b"denials 1\njournal=5 version=1 clause: denied app for pid=200 uid=10007 name=activity scontext=u:r:untrusted_app:s0\n";
 
-impl Talk for Change {
-    fn is_answered(&mut self) -> bool {
-        answers(&self.service, HELLO, b"client 1\n")
-            && answers(&self.service, b"add activity o1 0 8\n", b"ok\n")
-            && answers(
-                &self.application,
-                b"hello 200 10007 u:r:untrusted_app:s0\n",
-                b"client 2\n",
-            )
-            && answers(&self.application, b"get activity\n", b"handle 1\n")
-            && answers(
-                &self.application,
-                b"add activity o1 0 8\n",
-                b"exception -1 app 10007\n",
-            )
-            && answers(&self.admin, b"denials\n", DENIALS)
-            && answers(
-                &self.admin,
-                b"explain untrusted_app activity_service service_manager find\n",
-                b"allowed 1 13\n",
-            )
-            && reloads(&self.admin)
-            && answers(&self.application, b"get activity\n", b"null\n")
-            && answers(&self.admin, b"version\n", b"version 2 6\n")
-            && self.admin.shutdown(Shutdown::Write).is_ok()
-            && self.service.shutdown(Shutdown::Write).is_ok()
-            && self.application.shutdown(Shutdown::Write).is_ok()
-    }
-}
-
-/// Whether the stricter policy is taken, which comes in pieces.
-fn reloads(admin: &UnixStream) -> bool {
-    let mut stream = admin;
-    stream.write_all(b"reload 1 705 89\n").is_ok()
-        && stream.write_all(STRICTER_RULES).is_ok()
-        && answers(admin, DEVICE_LABELS, b"reloaded 2\n")
-}
+/// A service, an application that is denied, and an administrator who asks for that and takes the rule away by which
+/// the application found the service.
+const A_POLICY_IS_REPLACED: &[Step] = &[
+    Say(0, HELLO, b"client 1\n"),
+    Say(0, b"add activity o1 0 8\n", b"ok\n"),
+    Say(1, HELLO_OF_AN_APPLICATION, b"client 2\n"),
+    Say(1, b"get activity\n", b"handle 1\n"),
+    Say(1, b"add activity o1 0 8\n", b"exception -1 app 10007\n"),
+    Say(2, b"denials\n", DENIALS),
+    Say(
+        2,
+        b"explain untrusted_app activity_service service_manager find\n",
+        b"allowed 1 13\n",
+    ),
+    Reload(2, 1, STRICTER_RULES, DEVICE_LABELS, b"reloaded 2\n"),
+    Say(1, b"get activity\n", b"null\n"),
+    Say(2, b"version\n", b"version 2 6\n"),
+    Close(2),
+    Close(0),
+    Close(1),
+];
 
 #[test]
-fn a_policy_is_replaced_while_clients_are_connected(rt: HostRuntime) -> Result<(), Fail> {
-    let alloc = rt.alloc();
-    let (service, one) = connection(&rt);
-    let (application, two) = connection(&rt);
-    let (admin, three) = connection(&rt);
-    let visits = Visits {
-        clients: Waiting::of(vec![in alloc; two, one]?),
-        admins: Waiting::of(vec![in alloc; three]?),
-        numbers: numbers(2, 2, 1),
-    };
-    let talk = Change {
-        service,
-        application,
-        admin,
-    };
+fn a_policy_is_replaced_while_clients_are_connected(rt: HostRuntime) {
+    let steps = A_POLICY_IS_REPLACED;
     // Of the add that a clause bars, and of the get under the stricter policy.
-    let wanted = Left {
-        heard: Heard {
-            records: 2,
-            ..LISTENING
-        },
-        ..ALL_IS_WELL
+    let heard = Heard {
+        records: 2,
+        ..LISTENING
     };
-    assert_eq!(rt; at_a_door(&rt, alloc, 1000, NoGate, visits, talk), wanted);
-    Ok(())
-}
-
-/// Nothing is said.
-#[derive(Drop)]
-pub struct Silence;
-
-impl Talk for Silence {
-    fn is_answered(&mut self) -> bool {
-        true
-    }
+    holds(&rt, rt.alloc(), 1000, numbers(2, 2, 1), steps, heard);
 }
 
 #[test]
-fn a_listener_that_fails_ends_the_server(rt: HostRuntime) {
-    let alloc = rt.alloc();
-    let visits = Visits {
-        clients: Waiting::of(Vec::new(alloc)),
-        admins: Waiting::of(Vec::new(alloc)),
-        numbers: numbers(2, 1, 0),
-    };
-    let left = at_a_door(&rt, alloc, 1000, NoGate, visits, Silence);
-    assert!(rt; left.ending == Err(ServeFault::AcceptFault));
-    assert_eq!(rt;
-        left.heard,
-        Heard {
-            failed: 1,
-            closed: 1,
-            ..LISTENING
-        }
-    );
+fn a_listener_that_fails_ends_the_server(rt: HostRuntime) -> Result<(), Fail> {
+    let (mut visits, silence) = connected(&rt, rt.alloc(), numbers(2, 0, 0), &[])?;
+    visits.numbers.clients = 1;
+    let left = at_a_door(&rt, rt.alloc(), 1000, NoGate, visits, silence);
+    assert_eq!(rt; left, ENDED_BY_ITS_LISTENER);
+    Ok(())
 }

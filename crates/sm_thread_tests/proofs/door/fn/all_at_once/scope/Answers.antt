@@ -2,7 +2,7 @@ use denote.Exit.{no}
 use denote.Param.{param}
 use denote.Param.Send.{IsSend, sendable, param_send, param_sync, arg_send, arg_sync}
 use Rattle.std.proofs.Crossing.{crosses}
-use Rattle.sm_roll.specs.contracts.roll.Roll as Roll
+use Rattle.sm_registry.specs.contracts.registry.Registry as Registry
 use Rattle.sm_core.proofs.Crossing.{view_send, view_sync}
 use Rattle.sm_core.proofs.CrossingManager.{manager_send}
 use Rattle.sm_door.proofs.Crossing.{actor_send, desk_send, page_row, reader_row, writer_row}
@@ -25,5 +25,5 @@ sends-requires-8-send-X g c κs within =
     let J = param 0 g.row.J in
     let page : IsSend (page_row J g.J.Naming) = search (sendable, crosses, c.crosses-4.ensures.0) depth 60 fits 20000 in
     let w : IsSend (writer_row J g.J.Naming) = search (sendable, crosses, c.sends-5.ensures) depth 60 fits 20000 in
-    let roll : IsSend (Roll.the_row J g.J.Naming) = search (sendable, crosses, c.sends-7.ensures) depth 60 fits 20000 in
-    param_send 0 _ (arg_send _ no _ (desk_send J g.J.Naming manager_send roll page w))
+    let registry : IsSend (Registry.the_row J g.J.Naming) = search (sendable, crosses, c.sends-7.ensures) depth 60 fits 20000 in
+    param_send 0 _ (arg_send _ no _ (desk_send J g.J.Naming manager_send registry page w))

@@ -1,9 +1,9 @@
-//! A roll gives out numbers that tell badges apart, and each badge shows the book of its value.
+//! A registry gives out numbers that tell ids apart, and each id shows the book of its value.
 
 ghost use Rattle.std.specs.Prelude.{◌≡◌};
 ghost use denote.Param.Send.{IsSend, IsSync};
 
-use sm_roll::{Badge, Blank, Naming, Roll, Shows};
+use sm_registry::{HistoryId, Naming, Registry, Shows, UnnamedRegistry};
 use std::marker::Brand;
 use std::process::Abort;
 use std::sync::Wait;
@@ -19,17 +19,17 @@ impl Shows<u32> for Places {
 }
 
 #[test]
-fn numbers_tell_badges_apart(rt: HostRuntime) {
-    three_badges::<Brand, _>(&rt, Blank::new());
+fn numbers_tell_history_ids_apart(rt: HostRuntime) {
+    three_history_ids::<Brand, _>(&rt, UnnamedRegistry::new());
 }
 
-fn three_badges<J: Naming, R: Wait + Abort>(rt: &R, blank: Blank)
-    requires { blank.seen.book ≡ J.roll }
+fn three_history_ids<J: Naming, R: Wait + Abort>(rt: &R, unnamed: UnnamedRegistry)
+    requires { unnamed.seen.book ≡ J.registry }
 {
-    let mut roll = blank.named::<J>();
-    let one = roll.add::<u32, Places, R>(rt, &1).expect(rt, "a badge");
-    let two = roll.add::<u32, Places, R>(rt, &2).expect(rt, "a badge");
-    let again = roll.add::<u32, Places, R>(rt, &1).expect(rt, "a badge");
+    let mut registry = unnamed.named::<J>();
+    let one = registry.add::<u32, Places, R>(rt, &1).expect(rt, "an id");
+    let two = registry.add::<u32, Places, R>(rt, &2).expect(rt, "an id");
+    let again = registry.add::<u32, Places, R>(rt, &1).expect(rt, "an id");
     assert!(rt; one.is(&one.again()));
     assert!(rt; !one.is(&two));
     assert!(rt; !two.is(&one));
@@ -38,13 +38,13 @@ fn three_badges<J: Naming, R: Wait + Abort>(rt: &R, blank: Blank)
 }
 
 #[test]
-fn badges_cross_threads(_rt: HostRuntime) {
+fn history_ids_cross_threads(_rt: HostRuntime) {
     both_cross::<Brand>();
 }
 
 fn both_cross<J: Naming + Send + Sync>() {
-    crosses::<Badge<J>>();
-    crosses::<Roll<J>>();
+    crosses::<HistoryId<J>>();
+    crosses::<Registry<J>>();
 }
 
 fn crosses<X: Send + Sync>()
