@@ -9,6 +9,10 @@ Lines = Iterator[str]
 SERVER = "u:r:system_server:s0"
 APPLICATION = "u:r:untrusted_app:s0"
 
+# The services of a server, and the types that their names have. bench/load.rs calls them service.n0 and so on.
+SERVER_NAMES = 500
+SERVER_TYPES = 50
+
 
 @dataclass(frozen=True)
 class Input:
@@ -120,6 +124,29 @@ def manager_policy() -> Lines:
 
 def manager_contexts() -> Lines:
     yield "* u:object_r:some_service:s0"
+
+
+def server_policy() -> Lines:
+    """Applications may find every service and list them, and the system server may add them."""
+    yield "attribute client;"
+    yield "attribute service;"
+    yield "type servicemanager;"
+    yield "type system_server, client;"
+    yield "type untrusted_app, client;"
+    for n in range(SERVER_TYPES):
+        yield f"type service_type{n}, service;"
+    yield "allow servicemanager self:binder set_context_mgr;"
+    yield "allow client servicemanager:binder { call transfer };"
+    yield "allow servicemanager client:binder { call transfer };"
+    yield "allow client servicemanager:service_manager list;"
+    yield "allow client service:service_manager find;"
+    yield "allow system_server service:service_manager add;"
+
+
+def server_contexts() -> Lines:
+    for n in range(SERVER_NAMES):
+        yield f"service.n{n} u:object_r:service_type{n % SERVER_TYPES}:s0"
+    yield "* u:object_r:service_type0:s0"
 
 
 def late_policy(rules: int) -> Lines:
