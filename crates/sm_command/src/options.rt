@@ -77,7 +77,7 @@ fn journal<'a>(alloc: Global) -> Arg<'a> {
     Arg::new(alloc, "journal")
         .long("journal")
         .value_name("N")
-        .help("The places of the journal, 2 to 1048576")
+        .help("The number of slots in the journal, 2 to 1048576")
         .value_parser(value_parser!(u32).range(2..=1_048_576))
         .default_value("1048576")
 }
@@ -95,7 +95,7 @@ fn seal_at<'a>(alloc: Global) -> Arg<'a> {
     Arg::new(alloc, "seal-at")
         .long("seal-at")
         .value_name("N")
-        .help("Seals the journal whenever N of its places are used, 2 to those of the journal")
+        .help("Seals the journal whenever N of its slots are used, 2 to the number of slots")
         .value_parser(value_parser!(u32).range(2..=1_048_576))
 }
 
@@ -207,7 +207,7 @@ fn misused(matches: &ArgMatches) -> Option<&'static str> {
         return Some("--socket and --admin have the same path");
     }
     if matches.get_one::<u32>("seal-at") > matches.get_one::<u32>("journal") {
-        return Some("--seal-at is greater than the places of the journal");
+        return Some("--seal-at is greater than the number of slots in the journal");
     }
     let mode = matches.get_str("mode")?;
     match permissions_of(mode) {
