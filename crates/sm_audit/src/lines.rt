@@ -3,7 +3,8 @@
 ghost use Rattle.std.specs.Prelude.{◌≡◌, ◌++◌, OnOk, IfOk, MatchResult, codes, option_map, unwrap_or, []};
 ghost use Rattle.std.specs.List.{flat_map};
 ghost use Rattle.sm_kinds.specs.Permissions.{perm_word};
-ghost use Rattle.sm_audit.specs.AuditLines.{audit_line, place_text, cause_text, missing_text, permissive_text, name_field, process_text, target_text, scope_text};
+ghost use Rattle.sm_audit.specs.AuditLines.{audit_line, place_text, cause_text, missing_text, permissive_text};
+ghost use Rattle.sm_audit.specs.AuditLines.{name_field, process_text, target_text, scope_text};
 
 use sm_history::{Denial, Record};
 use sm_kinds::{Context, Identity, Name, Perms, push_name, push_numbered};
@@ -20,7 +21,8 @@ pub fn line(alloc: Global, denied: &Record) -> Result<Vec<u8>, AllocError>
 
 /// Appends the lines of records, in their order. On error the text is unchanged.
 pub fn push_lines(alloc: Global, out: &mut Vec<u8>, records: &[Record]) -> Result<(), AllocError>
-    ensures { MatchResult result (λ _. out.new.items ≡ out.old.items ++ flat_map audit_line records.now) (λ _. out.new.items ≡ out.old.items) }
+    ensures { MatchResult result (λ _. out.new.items ≡ out.old.items ++ flat_map audit_line records.now)
+        (λ _. out.new.items ≡ out.old.items) }
 {
     let mut lines = Vec::new(alloc);
     for denied in records {
@@ -31,7 +33,8 @@ pub fn push_lines(alloc: Global, out: &mut Vec<u8>, records: &[Record]) -> Resul
 
 /// Appends the line of a record. On error the text is unchanged.
 pub fn push_line(alloc: Global, out: &mut Vec<u8>, denied: &Record) -> Result<(), AllocError>
-    ensures { MatchResult result (λ _. out.new.items ≡ out.old.items ++ audit_line denied.now) (λ _. out.new.items ≡ out.old.items) }
+    ensures { MatchResult result (λ _. out.new.items ≡ out.old.items ++ audit_line denied.now)
+        (λ _. out.new.items ≡ out.old.items) }
 {
     let added = line(alloc, denied)?;
     out.extend_from_slice(&added)
@@ -130,7 +133,8 @@ fn push_scope(
     target: Option<&Context>,
     permissive: bool,
 ) -> Result<(), AllocError>
-    ensures { OnOk result (out.new.items ≡ out.old.items ++ scope_text denial.now (option_map (λ x. x.now) target.entry) permissive) }
+    ensures { OnOk result
+        (out.new.items ≡ out.old.items ++ scope_text denial.now (option_map (λ x. x.now) target.entry) permissive) }
 {
     match denial {
         Denial::Rule {

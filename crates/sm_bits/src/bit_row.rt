@@ -26,7 +26,8 @@ impl Drop for BitRow {
     }
 }
 
-ghost use Rattle.std.specs.Prelude.{◌≡◌, ℕ, ◌+◌, ◌*◌, ◌/◌, ◌^◌, ◌<◌, ◌≤◌, ◌&&◌, ◌||◌, nat_eq, not, false, true, IsTrue, IfSome, IfNone, length, slice_index, count_ones};
+ghost use Rattle.std.specs.Prelude.{◌≡◌, ℕ, ◌+◌, ◌*◌, ◌/◌, ◌^◌, ◌<◌, ◌≤◌, ◌&&◌, ◌||◌, nat_eq, not, false, true, IsTrue};
+ghost use Rattle.std.specs.Prelude.{IfSome, IfNone, length, slice_index, count_ones};
 ghost use Rattle.std.specs.List.{sum_by};
 ghost use Rattle.sm_bits.specs.Bits.{has, has_bit};
 
@@ -155,7 +156,8 @@ fn mark_words(bytes: &mut [u8], words: &[u64], bit: u32)
 }
 
 impl BitRow {
-    ghost use Rattle.std.specs.Prelude.{◌≡◌, ℕ, ◌*◌, ◌^◌, ◌<◌, ◌≤◌, ◌&&◌, ◌||◌, not, false, true, nat_eq, length, slice_index, IfOk, IfSome, IfNone, IsTrue, count_ones};
+    ghost use Rattle.std.specs.Prelude.{◌≡◌, ℕ, ◌*◌, ◌^◌, ◌<◌, ◌≤◌, ◌&&◌, ◌||◌, not, false, true, nat_eq, length};
+    ghost use Rattle.std.specs.Prelude.{slice_index, IfOk, IfSome, IfNone, IsTrue, count_ones};
     ghost use Rattle.std.specs.List.{sum_by};
     ghost use Rattle.sm_bits.specs.Bits.{has, has_bit};
 

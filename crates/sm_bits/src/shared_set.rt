@@ -58,7 +58,8 @@ impl Clone for SharedSet {
 }
 
 impl SharedSet {
-    ghost use Rattle.std.specs.Prelude.{◌≡◌, ℕ, ◌+◌, ◌*◌, ◌^◌, ◌<◌, ◌≤◌, ◌&&◌, ◌||◌, false, true, nat_eq, length, IsTrue, IfSome, IfNone};
+    ghost use Rattle.std.specs.Prelude.{◌≡◌, ℕ, ◌+◌, ◌*◌, ◌^◌, ◌<◌, ◌≤◌, ◌&&◌, ◌||◌, false, true, nat_eq, length};
+    ghost use Rattle.std.specs.Prelude.{IsTrue, IfSome, IfNone};
     ghost use Rattle.std.specs.Arc.{arc_value};
     ghost use Rattle.sm_bits.specs.Bits.{has};
     ghost use Rattle.sm_bits.specs.Sharing.{one_row};

@@ -29,7 +29,8 @@ pub fn check<W: Write>(
     ensures accepted { IfOk result (λ accepted. accepted ≡ spec.is_accepted (prepared rules.now contexts.now)) }
     ensures written { OnOk result (Appends (W.contents (inner_of writer.old)) (W.contents (inner_of writer.new))
         (spec.checked_line (prepared rules.now contexts.now))) }
-    ensures front { result ≡ Err Fault.WriteFault → (n : ℕ) × Appends (W.contents (inner_of writer.old)) (W.contents (inner_of writer.new))
+    ensures front { result ≡ Err Fault.WriteFault → (n : ℕ)
+        × Appends (W.contents (inner_of writer.old)) (W.contents (inner_of writer.new))
         (take n (spec.checked_line (prepared rules.now contexts.now))) }
     ensures unwritten { result ≡ Err Fault.Memory → writer.new ≡ writer.old }
     ensures fault { OnErr result ((result ≡ Err Fault.WriteFault) ⊎ (result ≡ Err Fault.Memory)) }

@@ -31,7 +31,8 @@ impl Model for Contexts {
 impl Contexts {
     ghost use Rattle.std.specs.Prelude.{◌≡◌, ◌<◌, Some, IfOk, length, option_map, slice_get};
     ghost use Rattle.sm_kinds.specs.Reading.{Gives};
-    ghost use Rattle.sm_contexts.specs.Reading.{AreFirstLines, is_memory, label, label_place, line_and_context, read, seen};
+    ghost use Rattle.sm_contexts.specs.Reading.{AreFirstLines, is_memory, label, label_place, line_and_context, read};
+    ghost use Rattle.sm_contexts.specs.Reading.{seen};
 
     /// Reads a file in the format of `service_contexts` of AOSP's system/sepolicy: each line has a key and a context,
     /// separated by spaces, tabs and carriage returns. A line without words, or whose first word begins with `#`, is

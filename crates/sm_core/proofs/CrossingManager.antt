@@ -149,8 +149,13 @@ journal_send : IsSend Journal.the_row
 journal_send =
     cross.view_send JournalInside.the_row _ _ _ _
     (recorded_send _ _ _ JournalInside.the_type.to_one
-    (struct_send (struct.shape JournalInside.the_type)
-    (global_send, (u64_send, (rows_send, (Vec-send Chunk.the_row chunk_send, (Vec-send Entry.the_row entry_send, (usize_send, tt))))))))
+    (struct_send (struct.shape JournalInside.the_type) (
+      global_send,
+      (
+        u64_send,
+        (rows_send, (Vec-send Chunk.the_row chunk_send, (Vec-send Entry.the_row entry_send, (usize_send, tt)))),
+      ),
+    )))
 
 state_send : IsSend State.the_field.row
 state_send =

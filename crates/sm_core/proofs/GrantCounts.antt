@@ -430,11 +430,13 @@ pub place_is : (places : ℕ) (h : History) (c : ℕ) (event : Event) (needed : 
     → is_die event ≡ false → counts_fit d ≡ true
     → room ≡ (nat_le (length h.entries + length (live_clients d) + needed) places
     && nat_lt (length_of h + length (live_clients d) + needed) GREATEST)
-    → needed ≡ places_needed event → counts ≡ list_all (fits_among d xs) xs → (room && counts) ≡ has_place places h c event
+    → needed ≡ places_needed event → counts ≡ list_all (fits_among d xs) xs
+    → (room && counts) ≡ has_place places h c event
 place_is places h c event needed room counts xs s may is alive fit er en ec =
     let d = effects_of h in
     let live = length (live_clients d) in
-    let test : ℕ → Bool = λ n. nat_le (length h.entries + live + n) places && nat_lt (length_of h + live + n) GREATEST in
+    let test : ℕ → Bool = λ n.
+    nat_le (length h.entries + live + n) places && nat_lt (length_of h + live + n) GREATEST in
     ap (λ (t : Bool). t && counts) (er ∙ ap test en)
     ∙ ap (λ (t : Bool). test (places_needed event) && t) (ec ∙ counts_are d c event xs s may is alive fit)
     ∙ sym (ap (λ (t : Bool). t || (test (places_needed event) && counts_fit (after_event d c event))) alive)

@@ -139,7 +139,8 @@ pub turns_sealed : (h : History) (t t' : Turns) (rows : List ClientRow) (next : 
     → ((by : By) → made t by ≡ turn_of h by) → rows ≡ client_rows (effects_of h) → next ≡ next_client (effects_of h)
     → ((by : By) → made t' by ≡ made_sealed (ids rows) next t by) → (by : By) → made t' by ≡ turn_of (sealed h) by
 turns_sealed h t t' rows next s are er en is Manager = is Manager ∙ are Manager ∙ sym (sealed_turn h Manager refl)
-turns_sealed h t t' rows next s are er en is (Admin a) = is (Admin a) ∙ are (Admin a) ∙ sym (sealed_turn h (Admin a) refl)
+turns_sealed h t t' rows next s are er en is (Admin a) = is (Admin a) ∙ are (Admin a)
+    ∙ sym (sealed_turn h (Admin a) refl)
 turns_sealed h t t' rows next s are er en is (Client c) =
     let d = effects_of h in
     let live : list_any (λ k. k == c.0) (ids rows) ≡ is_live d c.0 =

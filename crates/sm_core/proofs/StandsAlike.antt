@@ -1,5 +1,6 @@
 -- Tables of effects are also those of all effects that leave the same.
-use Rattle.std.proofs.Common.{Some, ◌-◌, ◌≡◌, ℕ, ◌+◌, ◌<◌, Bool, true, false, List, [], ◌∷◌, refl, ap, sym, subst, ◌∙◌, map}
+use Rattle.std.proofs.Common.{Some, ◌-◌, ◌≡◌, ℕ, ◌+◌, ◌<◌, Bool, true, false, List, [], ◌∷◌, refl, ap, sym, subst, ◌∙◌}
+use Rattle.std.proofs.Common.{map}
 use Rattle.std.proofs.Common.{if◌then◌else◌, arith}
 use Rattle.std.specs.Prelude.{nat_lt, filter, bytes_eq, reverse, filter_map, count_by}
 use Rattle.std.proofs.lemmas.Bool.Decides.{nat_tests}
@@ -50,7 +51,8 @@ slots_alike d e c s a t = record {
   found = λ n some.
       let same = a.refs c n in
       let had : 0 < refs_at d c n = omega (arith, some, same) in
-      subst (λ (k : ℕ). node_of (slot s (k - 1)) ≡ Some n) (a.numbers c n (lt_test (refs_at d c n) had)) (t.found n had);
+      subst (λ (k : ℕ). node_of (slot s (k - 1)) ≡ Some n) (a.numbers c n (lt_test (refs_at d c n) had))
+      (t.found n had);
 }
 
 grants_alike : (d e : Effects) (rows : List ClientHandles) → Agree d e → Sound e → TracksRows d rows → TracksRows e rows

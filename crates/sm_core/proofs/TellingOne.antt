@@ -52,7 +52,8 @@ pub followed_more : (d : Effects) (xs ys : List Effect) → followed d (xs ++ ys
 followed_more d [] ys = refl
 followed_more d (x ∷ xs) ys = followed_more (x ∷ d) xs ys
 
-pub may_more : (d : Effects) (xs ys : List Effect) → MayAllApart d xs → MayAllApart (followed d xs) ys → MayAllApart d (xs ++ ys)
+pub may_more : (d : Effects) (xs ys : List Effect) → MayAllApart d xs → MayAllApart (followed d xs) ys
+    → MayAllApart d (xs ++ ys)
 may_more d [] ys a b = b
 may_more d (x ∷ xs) ys a b = (a.0, may_more (x ∷ d) xs ys a.1 b)
 

@@ -39,7 +39,8 @@ use Rattle.sm_core.specs.Viewing.{IsComing, StandPrincipals, Viewed, counted_in,
 
 -- ---- effects that a part doesn't hear of
 
-same_principals : (x : Effect) (d : Effects) (p : Principals) → moves_principals x ≡ false → StandPrincipals d p → StandPrincipals (x ∷ d) p
+same_principals : (x : Effect) (d : Effects) (p : Principals) → moves_principals x ≡ false → StandPrincipals d p
+    → StandPrincipals (x ∷ d) p
 same_principals (Opens who) d p h s = absurd (true≢false h)
 same_principals (Sets policy) d p h s = absurd (true≢false h)
 same_principals (Connects c who) d p h s = absurd (true≢false h)
@@ -88,7 +89,8 @@ none_rest : (a b : Bool) → a || b ≡ false → b ≡ false
 none_rest true b e = absurd (true≢false e)
 none_rest false b e = e
 
-pub principals_stay : (xs : List Effect) (d : Effects) (p : Principals) → list_any moves_principals xs ≡ false → StandPrincipals d p
+pub principals_stay : (xs : List Effect) (d : Effects) (p : Principals) → list_any moves_principals xs ≡ false
+    → StandPrincipals d p
     → StandPrincipals (followed d xs) p
 principals_stay [] d p h s = s
 principals_stay (x ∷ xs) d p h s =
@@ -141,7 +143,8 @@ viewed_now places h turns s len principals services base since k is asks named c
 
 -- The parts of a view of what there is once an event is committed.
 pub viewed_more : (places : ℕ) (h : History) (turns : Turns) (s : State) (r : Ready) (len : ℕ)
-    (principals principals' : Principals) (services services' : Services) (base base' : Turns) (since since' : List TurnRow)
+    (principals principals' : Principals) (services services' : Services) (base base' : Turns)
+    (since since' : List TurnRow)
     → Kept places h turns s [] → IsComing places h s.version r → Viewed places h len principals services base since
     → ((d : Effects) → Stands d s → StandPrincipals d principals → MayAllApart d r.effects.items
     → StandPrincipals (followed d r.effects.items) principals')
@@ -149,7 +152,8 @@ pub viewed_more : (places : ℕ) (h : History) (turns : Turns) (s : State) (r : 
     → TracksRows (followed d r.effects.items) services'.rows.items)
     → ((b : By) → counted_in base' since' b ≡ (if is_same b r.entry.by then made turns b + 1 else made turns b))
     → Viewed places (entered r.entry h) (len + 1) principals' services' base' since'
-viewed_more places h turns s r len principals principals' services services' base base' since since' k coming v asks named
+viewed_more places h turns s r len principals principals' services services' base base' since
+    since' k coming v asks named
     counts = let e = r.entry in let d = effects_of h in record {
       lawful = inr (k.lawful, coming.done, coming.sound);
       fits = fits_any places h e.by e.turn e.event e.outcome k.stands.sound k.fits coming.done;
@@ -167,7 +171,8 @@ viewed_more places h turns s r len principals principals' services services' bas
     }
 
 -- The parts of a view of what a seal leaves. Principals and services stay.
-pub viewed_sealed : (places : ℕ) (h : History) (len : ℕ) (principals : Principals) (services : Services) (base base' : Turns)
+pub viewed_sealed : (places : ℕ) (h : History) (len : ℕ) (principals : Principals) (services : Services)
+    (base base' : Turns)
     (since since' : List TurnRow) → Viewed places h len principals services base since
     → ((by : By) → counted_in base' since' by ≡ turn_of (sealed h) by)
     → Viewed places (sealed h) len principals services base' since'

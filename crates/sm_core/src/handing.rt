@@ -24,7 +24,8 @@ use std::alloc::AllocError;
 
 /// Grants an object once more.
 pub fn give(grants: &mut Grants, client: u32, node: Node)
-    ensures tracks { (d : Effects) (r : ℕ) → Tracks d grants.old → is_live d client ≡ true → r ≡ number_for d client node
+    ensures tracks { (d : Effects) (r : ℕ) → Tracks d grants.old → is_live d client ≡ true
+        → r ≡ number_for d client node
         → fits_handles (Gives client node r ∷ d) client ≡ true → 0 < spare_for grants.old client
         → nat_lt (refs_at d client node + 1) GREATEST ≡ true
         → Tracks (Gives client node r ∷ d) grants.new }
@@ -46,7 +47,8 @@ pub fn give_back(grants: &mut Grants, client: u32, node: Node)
 
 /// Appends a delivery.
 pub fn deliver(inboxes: &mut Inboxes, client: u32, delivery: BoxedDelivery)
-    ensures tracks { (d : Effects) → TracksInboxes d inboxes.old → is_live d client ≡ true → has_inbox_room d client ≡ true
+    ensures tracks { (d : Effects) → TracksInboxes d inboxes.old → is_live d client ≡ true
+        → has_inbox_room d client ≡ true
         → is_open inboxes.old client ≡ true → TracksInboxes (Delivers client delivery ∷ d) inboxes.new }
     ensures still { (k : ℕ) → is_open inboxes.new k ≡ is_open inboxes.old k }
 {

@@ -55,7 +55,8 @@ pub fn services_after(
 /// Applies one effect.
 fn follow(services: &mut Services, effect: &Effect) -> Result<(), AllocError>
     requires { length services.old.rows.items + 1 ≤ vec_capacity services.old.rows }
-    ensures tracks { OnOk result ((d : Effects) → Sound d → MayFollowApart d effect.now → TracksRows d services.old.rows.items
+    ensures tracks { OnOk result
+        ((d : Effects) → Sound d → MayFollowApart d effect.now → TracksRows d services.old.rows.items
         → TracksRows (effect.now ∷ d) services.new.rows.items) }
     ensures left { (n : ℕ) → length services.old.rows.items + (n + 1) ≤ vec_capacity services.old.rows
         → length services.new.rows.items + n ≤ vec_capacity services.new.rows }

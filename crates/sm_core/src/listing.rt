@@ -22,7 +22,8 @@ fn listed_client(
     inboxes: &Inboxes,
     row: &ClientRow,
 ) -> Result<Listed, AllocError>
-    ensures { IfOk result (λ l. (d : Effects) → Tracks d grants.now → TracksInboxes d inboxes.now → IsListed d row.now l) }
+    ensures { IfOk result
+        (λ l. (d : Effects) → Tracks d grants.now → TracksInboxes d inboxes.now → IsListed d row.now l) }
 {
     let who = row.process.who.clone()?;
     let held = grants.listed(alloc, row.id)?;

@@ -1,6 +1,7 @@
 //! The processes of a view, and the policy in force.
 
-ghost use Rattle.std.specs.Prelude.{◌≡◌, ◌≤◌, ◌<◌, ◌+◌, [], ◌∷◌, ◌++◌, true, false, None, IfOk, IfErr, OnOk, MatchOption, MatchResult, ◌⊎◌};
+ghost use Rattle.std.specs.Prelude.{◌≡◌, ◌≤◌, ◌<◌, ◌+◌, [], ◌∷◌, ◌++◌, true, false, None, IfOk, IfErr, OnOk};
+ghost use Rattle.std.specs.Prelude.{MatchOption, MatchResult, ◌⊎◌};
 ghost use Rattle.std.specs.List.{list_any};
 ghost use Rattle.sm_history.specs.Effects.{Effects};
 ghost use Rattle.sm_history.specs.Books.{Book};
@@ -319,9 +320,11 @@ impl Principals {
         ensures { (b : Book) → StandPrincipals (effects_of b.history) self.now → length ≡ length_of b.history
             → who.now ≡ process_at (effects_of b.history) who.now.who
             → IfOk result (λ given.
-            (given ≡ allowed (policy_at (effects_of b.history)) (type_of who.now.who.context) (type_of (manager_at (effects_of b.history)).context) class perm)
+            (given ≡ allowed (policy_at (effects_of b.history)) (type_of who.now.who.context)
+            (type_of (manager_at (effects_of b.history)).context) class perm)
             × (records.new.items ≡ records.old.items
-            ++ left_by (moment_of b.history) (Needs class perm who.now.who (manager_at (effects_of b.history)).context None))) }
+            ++ left_by (moment_of b.history)
+            (Needs class perm who.now.who (manager_at (effects_of b.history)).context None))) }
     {
         let manager = &self.manager;
         let decision = self.policy.decide_at(who.index, manager.index, class, perm);

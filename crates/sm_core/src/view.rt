@@ -88,9 +88,13 @@ impl Model for View {
 
     ghost Value = { Book };
 
-    ghost view = { λ v. record { places = v.places; history = with_next (λ s. s.value) v.next v.journal.value.history } };
+    ghost view = { λ v. record {
+      places = v.places;
+      history = with_next (λ s. s.value) v.next v.journal.value.history;
+    } };
 
-    ghost invariant = { λ v. Viewed v.places (with_next (λ s. s.value) v.next v.journal.value.history) v.length (arc_value v.principals) (arc_value v.services) (arc_value v.turn_counts.base) v.turn_counts.since.items };
+    ghost invariant = { λ v. Viewed v.places (with_next (λ s. s.value) v.next v.journal.value.history) v.length
+        (arc_value v.principals) (arc_value v.services) (arc_value v.turn_counts.base) v.turn_counts.since.items };
 }
 
 impl View {
@@ -132,7 +136,8 @@ impl View {
         requires kept { Kept self.now.places journal.now.history turns.now state.now [] }
         requires now { self.now.history ≡ journal.now.history }
         requires coming { IsComing self.now.places journal.now.history state.now.version ready.now }
-        ensures { IfOk result (λ v. v ≡ record { places = self.now.places; history = entered ready.now.entry journal.now.history }) }
+        ensures { IfOk result
+            (λ v. v ≡ record { places = self.now.places; history = entered ready.now.entry journal.now.history }) }
     {
         let alloc = self.alloc;
         let principals = next_principals(alloc, &self.principals, state, &ready.effects)?;

@@ -12,7 +12,8 @@ known b reads = record { seen = b; reads = reads }
 
 -- The history begins with the one of the opening, and with what each slot has seen.
 abbrev pub Keeps : Book → Book → List ReaderKnowledge → Type 0
-Keeps opening b views = Begins b opening × ((seat : ℕ) (v : ReaderKnowledge) → get_elem? views seat ≡ some v → Begins b v.seen)
+Keeps opening b views = Begins b opening
+    × ((seat : ℕ) (v : ReaderKnowledge) → get_elem? views seat ≡ some v → Begins b v.seen)
 
 -- A reader takes the published history x, which begins with what it had seen, and has read once more.
 abbrev pub Enters : ReaderKnowledge → Book → ReaderKnowledge → Type 0

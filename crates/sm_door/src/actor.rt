@@ -38,9 +38,11 @@ impl<J: Naming> Model for Actor<J> {
 
     ghost Value = { Knows };
 
-    ghost view = { λ s. token s.by (at_or (known J.opening 0) (λ r. place_view r.place) s.reader).seen (at_or (known J.opening 0) (λ r. place_view r.place) s.reader).reads };
+    ghost view = { λ s. token s.by (at_or (known J.opening 0) (λ r. place_view r.place) s.reader).seen
+        (at_or (known J.opening 0) (λ r. place_view r.place) s.reader).reads };
 
-    ghost invariant = { λ s. MatchOption s.reader ⊥ (λ r. (s.turn ≡ turn_of (place_view r.place).seen.history s.by) × IsLawfulBook (place_view r.place).seen) };
+    ghost invariant = { λ s. MatchOption s.reader ⊥
+        (λ r. (s.turn ≡ turn_of (place_view r.place).seen.history s.by) × IsLawfulBook (place_view r.place).seen) };
 }
 
 impl<J: Naming> Actor<J> {

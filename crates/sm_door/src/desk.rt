@@ -117,7 +117,8 @@ impl<J: Naming> Desk<J> {
     ///
     /// `Empty` if the segment has no changes, `Memory` if an allocation failed.
     pub fn seal<R: Wait>(&mut self, rt: &R) -> Result<Segment, Refusal>
-        ensures seals { MatchResult result (λ s. Seals self.old.book s self.new.book) (λ r. StaysOpen self.old.book r self.new.book) }
+        ensures seals { MatchResult result (λ s. Seals self.old.book s self.new.book)
+            (λ r. StaysOpen self.old.book r self.new.book) }
         ensures ring { self.new.ring ≡ self.old.ring }
     {
         let ready = match self.manager.ready_seal() {

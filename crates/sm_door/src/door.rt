@@ -185,7 +185,8 @@ impl<J: Naming, G: Gate + Drop> Door<J, G> {
         me: &mut Session<J>,
         event: Event,
     ) -> (Reply, Vec<Record>)
-        ensures death { is_die event ≡ true → (result.0 ≡ Refused (Failed NotYours)) × (result.1.items ≡ []) × (me.new ≡ me.old) }
+        ensures death { is_die event ≡ true → (result.0 ≡ Refused (Failed NotYours)) × (result.1.items ≡ [])
+            × (me.new ≡ me.old) }
         ensures other { is_die event ≡ false → Submitted me.old me.new event result.0 }
         ensures logged { is_die event ≡ false → Logged me.old me.new event result.0 result.1.items }
     {

@@ -67,14 +67,15 @@ going_spill g s t = record {
   audited = Pending-spill g.audited t;
 }
 
--- the items so far were answered, then these last ones, of which there is one at most, and of all their texts fronts are
--- written
+-- the items so far were answered, then these last ones, of which there is one at most, and of all their texts fronts
+-- are written
 going_stop : {S : Type 0} {answers : S → Item → List ℕ → List ℕ → S → Type 0} {old m t : S} {items : List Item}
     {w w' w'' a a' a'' : Option (List ℕ)} {held held' rest held_lines held_lines' rest_lines : List ℕ} (limit : ℕ)
     → Going answers old items w w' a a' held held_lines m → length held ≤ limit - 1 → length held_lines ≤ limit - 1
     → (last others all : List Item) (reply lines : List ℕ) → length last ≤ 1 → Runs answers m last reply lines t
     → held' ≡ held ++ reply → Spilled w' w'' held' rest → held_lines' ≡ held_lines ++ lines
-    → Spilled a' a'' held_lines' rest_lines → all ≡ items ++ (last ++ others) → Stopped limit answers old all w w'' a a'' t
+    → Spilled a' a'' held_lines' rest_lines → all ≡ items ++ (last ++ others)
+    → Stopped limit answers old all w w'' a a'' t
 going_stop {m = m} {items = items} limit g short short_lines last others all reply lines one runs e s f t is = record {
   earlier = items;
   last = last;

@@ -1,5 +1,6 @@
 -- How an engine's promise follows from read to read.
-use Rattle.std.proofs.Common.{◌≡◌, Bool, true, false, ℕ, ◌+◌, ◌-◌, ◌<◌, ◌≤◌, length, length-append, arith, List, [], ◌++◌}
+use Rattle.std.proofs.Common.{◌≡◌, Bool, true, false, ℕ, ◌+◌, ◌-◌, ◌<◌, ◌≤◌, length, length-append, arith, List, []}
+use Rattle.std.proofs.Common.{◌++◌}
 use Rattle.std.proofs.Common.{take, Option, Result, Ok, Err, OnOk, OnErr, refl, subst, inl, inr}
 use Rattle.std.proofs.Common.{◌⊎◌}
 use Rattle.std.proofs.lemmas.List.{append-nil}

@@ -123,7 +123,8 @@ AnswersAll kind answers over reads old bytes w w_new a a_new new =
     Wrote answers middle items w_middle w_new a_middle a_new new)
 
 -- The engine stopped among the items of the last read.
-abbrev pub StopsEarly : {S : Type 0} → Kind → (S → Item → List ℕ → List ℕ → S → Type 0) → (S → Bool) → ℕ → ℕ → S → List ℕ
+abbrev pub StopsEarly : {S : Type 0} → Kind → (S → Item → List ℕ → List ℕ → S → Type 0) → (S → Bool) → ℕ
+    → ℕ → S → List ℕ
     → Option (List ℕ) → Option (List ℕ) → Option (List ℕ) → Option (List ℕ) → S → Type 0
 StopsEarly kind answers over limit reads old bytes w w_new a a_new new =
     LastRead kind answers over reads old bytes w a (λ middle items w_middle a_middle.

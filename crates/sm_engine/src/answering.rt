@@ -63,10 +63,13 @@ fn tell_written<M: Machine>(machine: &mut M, held: &[u8])
 /// Writes what is held back, if it has at least `limit` bytes.
 fn spill<W: Write>(writer: &mut Counted<W>, limit: usize, held: &mut Vec<u8>) -> Result<(), Fault>
     requires { failures_of writer.old < greatest }
-    ensures ok { OnOk result (Spilled (W.contents (inner_of writer.old)) (W.contents (inner_of writer.new)) held.old.items held.new.items) }
+    ensures ok { OnOk result
+        (Spilled (W.contents (inner_of writer.old)) (W.contents (inner_of writer.new)) held.old.items held.new.items) }
     ensures short { OnOk result (length held.new.items ≤ limit - 1) }
     ensures count { OnOk result (failures_of writer.new ≡ failures_of writer.old) }
-    ensures front { OnErr result ((n : ℕ) × Appends (W.contents (inner_of writer.old)) (W.contents (inner_of writer.new)) (take n held.old.items)) }
+    ensures front { OnErr result
+        ((n : ℕ) × Appends (W.contents (inner_of writer.old)) (W.contents (inner_of writer.new))
+        (take n held.old.items)) }
     ensures fault { OnErr result (result ≡ Err Fault.WriteFault) }
     ensures failed { OnErr result (failures_of writer.old < failures_of writer.new) }
 {
@@ -79,10 +82,13 @@ fn spill<W: Write>(writer: &mut Counted<W>, limit: usize, held: &mut Vec<u8>) ->
 /// Writes what is held back.
 fn write_held<W: Write>(writer: &mut Counted<W>, held: &mut Vec<u8>) -> Result<(), Fault>
     requires { failures_of writer.old < greatest }
-    ensures ok { OnOk result (Appends (W.contents (inner_of writer.old)) (W.contents (inner_of writer.new)) held.old.items) }
+    ensures ok { OnOk result
+        (Appends (W.contents (inner_of writer.old)) (W.contents (inner_of writer.new)) held.old.items) }
     ensures held { OnOk result (held.new.items ≡ []) }
     ensures count { OnOk result (failures_of writer.new ≡ failures_of writer.old) }
-    ensures front { OnErr result ((n : ℕ) × Appends (W.contents (inner_of writer.old)) (W.contents (inner_of writer.new)) (take n held.old.items)) }
+    ensures front { OnErr result
+        ((n : ℕ) × Appends (W.contents (inner_of writer.old)) (W.contents (inner_of writer.new))
+        (take n held.old.items)) }
     ensures fault { OnErr result (result ≡ Err Fault.WriteFault) }
     ensures failed { OnErr result (failures_of writer.old < failures_of writer.new) }
 {

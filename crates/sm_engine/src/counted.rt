@@ -54,7 +54,8 @@ impl<R: Read> Read for Counted<R> {
 
     fn read(&mut self, buf: &mut [u8]) -> io::Result<usize>
         ensures bound { ReadsAtMost result buf.new }
-        ensures bytes { ReadConsumes (R.remaining (inner_of self.old)) (R.remaining (inner_of self.new)) result buf.new }
+        ensures bytes { ReadConsumes (R.remaining (inner_of self.old)) (R.remaining (inner_of self.new))
+            result buf.new }
         ensures count { MatchResult result (λ _. failures_of self.new ≡ failures_of self.old)
             (λ _. failures_of self.new ≡ one_more (failures_of self.old)) }
         ensures calls { calls_of self.new ≡ one_more (calls_of self.old) }

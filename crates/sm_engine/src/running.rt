@@ -1,6 +1,7 @@
 //! Reads lines, answers them, and writes the answers, until the input ends or the machine is over.
 
-ghost use Rattle.std.specs.Prelude.{◌≡◌, false, MatchBool, ◌<◌, ◌≤◌, ◌+◌, ◌-◌, IfOk, OnOk, OnErr, take, length, min, ℕ, codes, [], ◌⊎◌, if◌then◌else◌};
+ghost use Rattle.std.specs.Prelude.{◌≡◌, false, MatchBool, ◌<◌, ◌≤◌, ◌+◌, ◌-◌, IfOk, OnOk, OnErr, take, length, min, ℕ};
+ghost use Rattle.std.specs.Prelude.{codes, [], ◌⊎◌, if◌then◌else◌};
 ghost use Rattle.std.specs.Io.KnownBytes.{Appends, Consumes, Keeps, IsAtEnd};
 ghost use Rattle.sm_wire.specs.Items.{IsAlive, scan_after, items_after};
 ghost use Rattle.sm_engine.specs.Counts.{failures_of, calls_of, inner_of, greatest, one_more};
@@ -32,13 +33,16 @@ pub fn run<M: Machine, R: Read, W: Write, A: Write>(
     requires reader { failures_of reader.old < greatest }
     requires writer { failures_of writer.old < greatest }
     requires audit { failures_of audit.old < greatest }
-    ensures served { Served kind M.answers M.over M.hold_limit result bound (calls_of reader.new - calls_of reader.old) machine.old
+    ensures served { Served kind M.answers M.over M.hold_limit result bound
+        (calls_of reader.new - calls_of reader.old) machine.old
         (R.remaining (inner_of reader.old)) (R.remaining (inner_of reader.new))
         (W.contents (inner_of writer.old)) (W.contents (inner_of writer.new))
         (A.contents (inner_of audit.old)) (A.contents (inner_of audit.new)) machine.new }
-    ensures end { OnOk result (MatchBool (M.over machine.new) (Unit {0}) (IsAtEnd (R.remaining (inner_of reader.new)))) }
+    ensures end { OnOk result
+        (MatchBool (M.over machine.new) (Unit {0}) (IsAtEnd (R.remaining (inner_of reader.new)))) }
     ensures reads { calls_of reader.new ≤ calls_of reader.old + bound }
-    ensures too_many { result ≡ Err Fault.TooManyReads → calls_of reader.new ≡ min (calls_of reader.old + bound) greatest }
+    ensures too_many { result ≡ Err Fault.TooManyReads
+        → calls_of reader.new ≡ min (calls_of reader.old + bound) greatest }
     ensures read_fault { result ≡ Err Fault.ReadFault → failures_of reader.old < failures_of reader.new }
     ensures write_fault { result ≡ Err Fault.WriteFault → failures_of writer.old + failures_of audit.old
         < failures_of writer.new + failures_of audit.new }
@@ -68,7 +72,8 @@ fn read_piece<R: Read>(reader: &mut Counted<R>, buffer: &mut [u8]) -> Result<usi
     requires room { 0 < length buffer.old }
     requires count { failures_of reader.old < greatest }
     ensures within { IfOk result (λ n. n ≤ length buffer.new) }
-    ensures bytes { IfOk result (λ n. Consumes (R.remaining (inner_of reader.old)) (R.remaining (inner_of reader.new)) (take n buffer.new)) }
+    ensures bytes { IfOk result
+        (λ n. Consumes (R.remaining (inner_of reader.old)) (R.remaining (inner_of reader.new)) (take n buffer.new)) }
     ensures end { IfOk result (λ n. n ≡ 0 → IsAtEnd (R.remaining (inner_of reader.new))) }
     ensures count { OnOk result (failures_of reader.new ≡ failures_of reader.old) }
     ensures calls { calls_of reader.new ≡ one_more (calls_of reader.old) }
@@ -118,8 +123,11 @@ fn take_piece<M: Machine, W: Write, A: Write>(
 // Reports the end of the input inside a line or a file.
 fn write_ending<W: Write>(lines: &Lines, writer: &mut Counted<W>) -> Result<(), Fault>
     requires { failures_of writer.old < greatest }
-    ensures ok { OnOk result (Appends (W.contents (inner_of writer.old)) (W.contents (inner_of writer.new)) (ending_of lines.now)) }
-    ensures front { OnErr result ((n : ℕ) × Appends (W.contents (inner_of writer.old)) (W.contents (inner_of writer.new)) (take n (ending_of lines.now))) }
+    ensures ok { OnOk result
+        (Appends (W.contents (inner_of writer.old)) (W.contents (inner_of writer.new)) (ending_of lines.now)) }
+    ensures front { OnErr result
+        ((n : ℕ) × Appends (W.contents (inner_of writer.old)) (W.contents (inner_of writer.new))
+        (take n (ending_of lines.now))) }
     ensures fault { OnErr result (result ≡ Err Fault.WriteFault) }
     ensures failed { OnErr result (failures_of writer.old < failures_of writer.new) }
     ensures told { failures_of writer.old < failures_of writer.new → result ≡ Err Fault.WriteFault }

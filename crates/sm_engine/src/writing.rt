@@ -13,7 +13,8 @@ pub fn write_whole<W: Write>(writer: &mut Counted<W>, text: &[u8]) -> Result<(),
     requires { failures_of writer.old < greatest }
     ensures ok { OnOk result (Appends (W.contents (inner_of writer.old)) (W.contents (inner_of writer.new)) text.now) }
     ensures count { OnOk result (failures_of writer.new ≡ failures_of writer.old) }
-    ensures front { OnErr result ((n : ℕ) × Appends (W.contents (inner_of writer.old)) (W.contents (inner_of writer.new)) (take n text.now)) }
+    ensures front { OnErr result
+        ((n : ℕ) × Appends (W.contents (inner_of writer.old)) (W.contents (inner_of writer.new)) (take n text.now)) }
     ensures fault { OnErr result (result ≡ Err Fault.WriteFault) }
     ensures failed { OnErr result (failures_of writer.old < failures_of writer.new) }
 {

@@ -1,5 +1,6 @@
 -- The highest count of grants: which counts it bounds, and what changes of rows make of it.
-use Rattle.std.proofs.Common.{inl, inr, ◌∙◌, ◌≡◌, ℕ, zero, suc, ◌+◌, ◌-◌, ◌≤◌, ◌<◌, true, false, ◌==◌, List, [], ◌∷◌, ◌++◌, set}
+use Rattle.std.proofs.Common.{inl, inr, ◌∙◌, ◌≡◌, ℕ, zero, suc, ◌+◌, ◌-◌, ◌≤◌, ◌<◌, true, false, ◌==◌, List, [], ◌∷◌}
+use Rattle.std.proofs.Common.{◌++◌, set}
 use Rattle.std.proofs.Common.{Option, Some, None, if◌then◌else◌, refl, ap, sym, subst, arith}
 use Rattle.std.specs.Prelude.{max, min, nat_le}
 use Rattle.std.specs.List.{remove}
@@ -60,7 +61,8 @@ granted_bounded s t n r m most g few all le some =
     elim (slot s i) as (λ o. slot s i ≡ o → count_of o < most) [
       | None ↦ λ e. omega (arith, some)
       | Some h ↦ λ e. subst (λ (o : Option Held). count_of o < most) e
-          (few i (ap (λ (o : Option Held). node_of o) e ∙ ap (λ (m : Node). Some m) (g.0.2 h.node (ap (λ (o : Option Held). node_of o) e))))
+          (few i (ap (λ (o : Option Held). node_of o) e
+          ∙ ap (λ (m : Node). Some m) (g.0.2 h.node (ap (λ (o : Option Held). node_of o) e))))
     ] refl in
     put_bounded s t i (min (m + 1) most) (granted_slot n (slot s i)) put (omega (arith, count, here, own, all))
     (omega (arith, all, le))

@@ -1,6 +1,8 @@
 //! The handles of all clients.
 
-ghost use Rattle.std.specs.Prelude.{◌≡◌, ◌≤◌, ◌<◌, ◌+◌, ◌++◌, [], ◌∷◌, true, false, ◌==◌, ◌↔◌, ◌||◌, not, ℕ, min, max, nat_lt, length, is_some, Some, OnOk, IsOk, IsSome, IfOk, IfNone, IfSome, MatchOption};
+ghost use Rattle.std.specs.Prelude.{◌≡◌, ◌≤◌, ◌<◌, ◌+◌, ◌++◌, [], ◌∷◌, true, false, ◌==◌, ◌↔◌, ◌||◌, not, ℕ, min, max};
+ghost use Rattle.std.specs.Prelude.{nat_lt, length, is_some, Some, OnOk, IsOk, IsSome, IfOk, IfNone, IfSome};
+ghost use Rattle.std.specs.Prelude.{MatchOption};
 ghost use Rattle.std.specs.List.{list_any};
 ghost use Rattle.sm_kinds.specs.declared.number.Node.{Node};
 ghost use Rattle.sm_kinds.specs.declared.limits.TheConstants.{MOST_REFS};
@@ -80,7 +82,8 @@ impl Grants {
         ensures ready { IsSome result ↔ CanGrant self.old client node }
         ensures unchanged { IfNone result (self.new.rows.items ≡ self.old.rows.items) }
         ensures tracks { (d : Effects) → Tracks d self.old → is_live d client ≡ true
-            → IfSome result (λ number. (number ≡ number_for d client node) × Tracks (Gives client node number ∷ d) self.new) }
+            → IfSome result (λ number. (number ≡ number_for d client node)
+            × Tracks (Gives client node number ∷ d) self.new) }
         ensures spare { spare_for self.old client ≤ spare_for self.new client + 1 }
         ensures others { (k : ℕ) → (client == k) ≡ false → spare_for self.new k ≡ spare_for self.old k }
     {
@@ -172,7 +175,8 @@ impl Grants {
     ///
     /// An error if an allocation fails.
     pub fn listed(&self, alloc: Global, client: u32) -> Result<Vec<Option<Listed>>, AllocError>
-        ensures { IfOk result (λ v. (d : Effects) → Tracks d self.now → (k : ℕ) → row_slot v.items k ≡ slot_at d client k) }
+        ensures { IfOk result
+            (λ v. (d : Effects) → Tracks d self.now → (k : ℕ) → row_slot v.items k ≡ slot_at d client k) }
     {
         match handles_of(&self.rows, client) {
             Some(handles) => handles.listed(alloc),
@@ -198,12 +202,13 @@ impl Grants {
         self.bound
     }
 
-    /// Returns the number of a client's handle for an object that it doesn't own, or the one that a grant would give it,
-    /// `None` if its handles have no room for a grant.
+    /// Returns the number of a client's handle for an object that it doesn't own, or the one that a grant would give
+    /// it, `None` if its handles have no room for a grant.
     pub fn number_if_room(&self, client: u32, node: Node) -> Option<u32>
         ensures room { (d : Effects) (r : ℕ) → Tracks d self.now → is_live d client ≡ true
             → is_some result ≡ fits_handles (Gives client node r ∷ d) client }
-        ensures number { (d : Effects) → Tracks d self.now → IfSome result (λ number. number ≡ number_for d client node) }
+        ensures number { (d : Effects) → Tracks d self.now
+            → IfSome result (λ number. number ≡ number_for d client node) }
     {
         match handles_of(&self.rows, client) {
             Some(handles) => handles.number_if_room(node),
@@ -303,7 +308,8 @@ impl Grants {
 
     /// Returns whether a client doesn't hold an object that isn't among earlier ones, either.
     fn is_new(&self, client: u32, earlier: &[Node], node: Node) -> bool
-        ensures { result ≡ not (is_in (slots_of self.now.rows.items client) node || list_any (λ n. same_node n node) earlier.now) }
+        ensures { result
+            ≡ not (is_in (slots_of self.now.rows.items client) node || list_any (λ n. same_node n node) earlier.now) }
     {
         !self.holds(client, node) && place_of(earlier, node).is_none()
     }
@@ -334,7 +340,8 @@ impl Grants {
     fn free_from(&self, client: u32, from: usize) -> usize
         ensures behind { from ≤ result }
         ensures free { is_some (slot (slots_of self.now.rows.items client) result) ≡ false }
-        ensures least { (j : ℕ) → from ≤ j → j < result → is_some (slot (slots_of self.now.rows.items client) j) ≡ true }
+        ensures least { (j : ℕ) → from ≤ j → j < result
+            → is_some (slot (slots_of self.now.rows.items client) j) ≡ true }
         ensures small { result ≤ max from MOST_HANDLES }
     {
         match handles_of(&self.rows, client) {

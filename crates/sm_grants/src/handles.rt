@@ -22,14 +22,21 @@ impl Model for Handles {
 
     ghost Value = { HandleTable };
 
-    ghost view = { λ h. record { slots = h.slots.items; spare = min (vec_capacity h.slots - vec_len h.slots) (spare h.numbers) } };
+    ghost view = { λ h. record {
+      slots = h.slots.items;
+      spare = min (vec_capacity h.slots - vec_len h.slots) (spare h.numbers);
+    } };
 
-    ghost invariant = { λ h. AreHandles h.slots.items (λ k. hash.get same_key h.numbers k) h.taken (hash.hash_map_len h.numbers) };
+    ghost invariant = { λ h. AreHandles h.slots.items
+        (λ k. hash.get same_key h.numbers k) h.taken (hash.hash_map_len h.numbers) };
 }
 
-ghost use Rattle.std.specs.Prelude.{◌≡◌, ℕ, ◌+◌, ◌-◌, ◌≤◌, ◌<◌, ◌^◌, ◌++◌, map, option_map, true, false, is_some, Some, None, [], ◌↔◌, IfOk, IsOk, IsSome, max, IfNone, IfSome, IsTrue, nat_lt, OnOk, MatchOption};
+ghost use Rattle.std.specs.Prelude.{◌≡◌, ℕ, ◌+◌, ◌-◌, ◌≤◌, ◌<◌, ◌^◌, ◌++◌, map, option_map, true, false, is_some, Some};
+ghost use Rattle.std.specs.Prelude.{None, [], ◌↔◌, IfOk, IsOk, IsSome, max, IfNone, IfSome, IsTrue, nat_lt, OnOk};
+ghost use Rattle.std.specs.Prelude.{MatchOption};
 ghost use Rattle.sm_grants.specs.Listed.{listed, listed_slots};
-ghost use Rattle.sm_grants.specs.Slots.{slot, node_of, count_of, held_in, is_in, IsPut, IsAbsent, IsFirstFree, granted_slot, released_slot, IsGranted, IsNumberFor};
+ghost use Rattle.sm_grants.specs.Slots.{slot, node_of, count_of, held_in, is_in, IsPut, IsAbsent, IsFirstFree};
+ghost use Rattle.sm_grants.specs.Slots.{granted_slot, released_slot, IsGranted, IsNumberFor};
 
 use crate::held::Held;
 use crate::slots::{add_one, empty, fill, take_one};
@@ -103,9 +110,11 @@ impl Handles {
 
     /// Returns the slot of an object.
     pub fn index_of(&self, node: Node) -> Option<u32>
-        ensures found { MatchOption result (IsAbsent self.now.slots node) (λ i. node_of (slot self.now.slots i) ≡ Some node) }
+        ensures found { MatchOption result (IsAbsent self.now.slots node)
+            (λ i. node_of (slot self.now.slots i) ≡ Some node) }
         ensures small { IfSome result (λ i. i < MOST_HANDLES) }
-        ensures alone { (i j : ℕ) → node_of (slot self.now.slots i) ≡ Some node → node_of (slot self.now.slots j) ≡ Some node → i ≡ j }
+        ensures alone { (i j : ℕ) → node_of (slot self.now.slots i) ≡ Some node
+            → node_of (slot self.now.slots j) ≡ Some node → i ≡ j }
     {
         self.numbers.get(&(node.owner.0, node.object)).copied()
     }
@@ -233,8 +242,10 @@ impl Handles {
     /// Grants an object once, and returns its number, or else the least free one. Returns `None` and changes nothing if
     /// there is no number or memory for it, or its count is at its greatest value.
     pub fn grant(&mut self, node: Node) -> Option<u32>
-        ensures placed { IsSome result → IsAbsent self.old.slots node → (held_in self.old.slots < MOST_HANDLES) × (0 < self.old.spare) }
-        ensures few { IsSome result → (i : ℕ) → node_of (slot self.old.slots i) ≡ Some node → count_of (slot self.old.slots i) < 2 ^ 64 - 1 }
+        ensures placed { IsSome result → IsAbsent self.old.slots node → (held_in self.old.slots < MOST_HANDLES)
+            × (0 < self.old.spare) }
+        ensures few { IsSome result → (i : ℕ) → node_of (slot self.old.slots i) ≡ Some node
+            → count_of (slot self.old.slots i) < 2 ^ 64 - 1 }
         ensures all { (IsAbsent self.old.slots node → (held_in self.old.slots < MOST_HANDLES) × (0 < self.old.spare))
             → ((i : ℕ) → node_of (slot self.old.slots i) ≡ Some node → count_of (slot self.old.slots i) < 2 ^ 64 - 1)
             → IsSome result }
@@ -262,7 +273,8 @@ impl Handles {
     /// Returns the number of grants of an object that weren't released, 0 if it isn't held.
     pub fn count(&self, node: Node) -> u64
         ensures absent { IsAbsent self.now.slots node → result ≡ 0 }
-        ensures held { (i : ℕ) → node_of (slot self.now.slots i) ≡ Some node → result ≡ count_of (slot self.now.slots i) }
+        ensures held { (i : ℕ) → node_of (slot self.now.slots i) ≡ Some node
+            → result ≡ count_of (slot self.now.slots i) }
     {
         match self.index_of(node) {
             Some(i) => match self.at(i as usize) {
@@ -286,7 +298,8 @@ impl Handles {
     /// Returns the number of an object, or the least free one, `None` if it isn't held and no more objects can be.
     pub fn number_if_room(&self, node: Node) -> Option<u32>
         ensures absent { IsAbsent self.now.slots node → is_some result ≡ nat_lt (held_in self.now.slots) MOST_HANDLES }
-        ensures held { (i : ℕ) → node_of (slot self.now.slots i) ≡ Some node → IsSome result × (held_in self.now.slots ≤ MOST_HANDLES) }
+        ensures held { (i : ℕ) → node_of (slot self.now.slots i) ≡ Some node → IsSome result
+            × (held_in self.now.slots ≤ MOST_HANDLES) }
         ensures number { IfSome result (IsNumberFor self.now.slots node) }
     {
         match self.index_of(node) {

@@ -1,6 +1,7 @@
 //! Numbers in use.
 
-ghost use Rattle.std.specs.Prelude.{◌≡◌, ℕ, ◌*◌, ◌/◌, ◌^◌, ◌<◌, ◌≤◌, ◌&&◌, ◌||◌, nat_eq, not, true, false, length, IfOk};
+ghost use Rattle.std.specs.Prelude.{◌≡◌, ℕ, ◌*◌, ◌/◌, ◌^◌, ◌<◌, ◌≤◌, ◌&&◌, ◌||◌, nat_eq, not, true, false, length};
+ghost use Rattle.std.specs.Prelude.{IfOk};
 ghost use Rattle.sm_bits.specs.Bits.{has};
 
 use sm_bits::BitRow;

@@ -2,7 +2,11 @@
 
 ghost use Rattle.sm_history.specs.SegmentLaw.{SegmentsRead};
 ghost use Rattle.sm_history.specs.Listing.{OutcomesListEffects};
-ghost use Rattle.sm_history.specs.LawStatements.{LawfulAreSound, NumbersAreSmall, UnconnectedHaveNoTurns, FreeNumbersAreFree, DoneIsLawful, DoneFits, NumbersFit, SealedIsLawful, SealedFits, BeginsWithItself, BeginsWithTheOneBefore, BeginsWithTheOneSealed, BeginsWithItsBeginnings, SegmentsGrow, LaterIsMore, RecordsAreTrue, QueryRecordsAreTrue, RecordsStayTrue};
+ghost use Rattle.sm_history.specs.LawStatements.{LawfulAreSound, NumbersAreSmall, UnconnectedHaveNoTurns};
+ghost use Rattle.sm_history.specs.LawStatements.{FreeNumbersAreFree, DoneIsLawful, DoneFits, NumbersFit};
+ghost use Rattle.sm_history.specs.LawStatements.{SealedIsLawful, SealedFits, BeginsWithItself, BeginsWithTheOneBefore};
+ghost use Rattle.sm_history.specs.LawStatements.{BeginsWithTheOneSealed, BeginsWithItsBeginnings, SegmentsGrow};
+ghost use Rattle.sm_history.specs.LawStatements.{LaterIsMore, RecordsAreTrue, QueryRecordsAreTrue, RecordsStayTrue};
 
 /// A lawful history gives the same verdicts as a segment that begins with the rows of its older part and goes on with
 /// its newer part, except where a journal is full.

@@ -3,7 +3,9 @@
 ghost use Rattle.std.specs.Prelude.{◌≡◌, ◌∷◌, ◌<◌, true, ℕ, Some, [], map, filter, not, ◌==◌, ◌++◌, OnOk};
 ghost use Rattle.sm_kinds.specs.declared.number.Node.{Node};
 ghost use Rattle.sm_history.specs.declared.limits.TheConstants.{GREATEST};
-ghost use Rattle.sm_history.specs.declared.effect.Effect.TheVariants.{Adds, Connects, Delivers, Dies, Gives, Opens, Releases, Removes, Sets, Takes, Unwatches, Watches};
+ghost use Rattle.sm_history.specs.declared.effect.Effect.TheVariants.{Adds, Connects, Delivers, Dies, Gives, Opens};
+ghost use Rattle.sm_history.specs.declared.effect.Effect.TheVariants.{Releases, Removes, Sets, Takes, Unwatches};
+ghost use Rattle.sm_history.specs.declared.effect.Effect.TheVariants.{Watches};
 ghost use Rattle.sm_history.specs.Effects.{Effects};
 ghost use Rattle.sm_history.specs.Clients.{is_live, version_at};
 ghost use Rattle.sm_history.specs.Holdings.{node_at};

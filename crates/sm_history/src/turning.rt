@@ -7,7 +7,8 @@ ghost use Rattle.sm_history.specs.declared.by.By.TheVariants.{Manager};
 ghost use Rattle.sm_history.specs.Openings.{is_same, turns_in};
 ghost use Rattle.sm_history.specs.Histories.{client_of};
 ghost use Rattle.sm_history.specs.Segments.{client};
-ghost use Rattle.sm_history.specs.Turning.{CountsTurns, admin, admins_in, has_made, is_known, made, more_by, turn_rows, with_order};
+ghost use Rattle.sm_history.specs.Turning.{CountsTurns, admin, admins_in, has_made, is_known, made, more_by, turn_rows};
+ghost use Rattle.sm_history.specs.Turning.{with_order};
 
 use crate::by::By;
 use crate::client_row::ClientRow;

@@ -27,7 +27,8 @@ impl Flags for Perms {
 
     ghost exact = { ⊤ };
 
-    ghost table = { (codes "ADD", 1) ∷ (codes "FIND", 2) ∷ (codes "LIST", 4) ∷ (codes "IMPERSONATE", 8) ∷ (codes "CALL", 16) ∷ (codes "SET_CONTEXT_MGR", 32) ∷ (codes "TRANSFER", 64) ∷ [] };
+    ghost table = { (codes "ADD", 1) ∷ (codes "FIND", 2) ∷ (codes "LIST", 4) ∷ (codes "IMPERSONATE", 8)
+        ∷ (codes "CALL", 16) ∷ (codes "SET_CONTEXT_MGR", 32) ∷ (codes "TRANSFER", 64) ∷ [] };
 
     ghost set_of = { λ p. p.0 };
 

@@ -1,6 +1,7 @@
 //! Up to eight rules whose targets go into the rows of their sources together.
 
-ghost use Rattle.std.specs.Prelude.{◌≡◌, ◌<◌, ◌≤◌, ◌+◌, ◌*◌, ◌/◌, ℕ, length, ◌&&◌, ◌||◌, if◌then◌else◌, IfOk, false, nat_lt, slice_index};
+ghost use Rattle.std.specs.Prelude.{◌≡◌, ◌<◌, ◌≤◌, ◌+◌, ◌*◌, ◌/◌, ℕ, length, ◌&&◌, ◌||◌, if◌then◌else◌, IfOk, false};
+ghost use Rattle.std.specs.Prelude.{nat_lt, slice_index};
 ghost use Rattle.sm_bits.specs.Bits.{has, row};
 ghost use Rattle.sm_rules.specs.Keeping.{FitsRule};
 ghost use Rattle.sm_neverallow.specs.Matrices.{Square};

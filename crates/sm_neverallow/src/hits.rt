@@ -5,12 +5,14 @@
 //! tested with a few groups in turn, since the rules together are larger than a processor's
 //! cache, and the unions of a few groups are not.
 
-ghost use Rattle.std.specs.Prelude.{◌≡◌, ◌<◌, ◌≤◌, ◌+◌, ◌*◌, ◌/◌, ◌++◌, ◌∷◌, [], ℕ, length, ◌&&◌, All, IsTrue, IfOk, Some, slice_get, nat_eq, ◌||◌, false, true, if◌then◌else◌};
+ghost use Rattle.std.specs.Prelude.{◌≡◌, ◌<◌, ◌≤◌, ◌+◌, ◌*◌, ◌/◌, ◌++◌, ◌∷◌, [], ℕ, length, ◌&&◌, All, IsTrue, IfOk};
+ghost use Rattle.std.specs.Prelude.{Some, slice_get, nat_eq, ◌||◌, false, true, if◌then◌else◌};
 ghost use Rattle.sm_bits.specs.Bits.{has, row, has_bit};
 ghost use Rattle.sm_rules.specs.Keeping.{FitsRule};
 ghost use Rattle.sm_neverallow.specs.Matrices.{perm_set, is_of_set, Square, Misses, Hits};
 ghost use Rattle.sm_neverallow.specs.Uniting.{AreWide};
-ghost use Rattle.sm_neverallow.specs.Hitting.{IsPlaceOf, UnionMisses, UnionHits, AreReady, AllUnite, AllMiss, SomeHit, MissesGroups, OwnMisses, OwnHits, ArePlaces, Escapes, Chosen, FindsFirst};
+ghost use Rattle.sm_neverallow.specs.Hitting.{IsPlaceOf, UnionMisses, UnionHits, AreReady, AllUnite, AllMiss, SomeHit};
+ghost use Rattle.sm_neverallow.specs.Hitting.{MissesGroups, OwnMisses, OwnHits, ArePlaces, Escapes, Chosen, FindsFirst};
 ghost use Rattle.sm_rules.specs.declared.kept.Kept.{Kept as TheKept};
 
 use crate::matrix::{GROUP, Matrix};

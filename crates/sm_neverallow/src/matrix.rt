@@ -4,10 +4,12 @@
 //! permissions, and that matrix once to the matrix of each of these permissions. So the time of
 //! a rule, which has rows for thousands of sources, does not grow with its permissions.
 
-ghost use Rattle.std.specs.Prelude.{◌≡◌, ◌<◌, ◌≤◌, ◌+◌, ◌*◌, ◌/◌, ℕ, length, nat_eq, ◌&&◌, ◌||◌, All, IfOk, IsTrue, false, []};
+ghost use Rattle.std.specs.Prelude.{◌≡◌, ◌<◌, ◌≤◌, ◌+◌, ◌*◌, ◌/◌, ℕ, length, nat_eq, ◌&&◌, ◌||◌, All, IfOk, IsTrue};
+ghost use Rattle.std.specs.Prelude.{false, []};
 ghost use Rattle.sm_bits.specs.Bits.{has, row, has_bit};
 ghost use Rattle.sm_rules.specs.Keeping.{joins, FitsRule};
-ghost use Rattle.sm_neverallow.specs.Matrices.{Square, AllSquare, AllCompiled, AreSetsOf, Grouped, Joined, IsUnion, joined_by};
+ghost use Rattle.sm_neverallow.specs.Matrices.{Square, AllSquare, AllCompiled, AreSetsOf, Grouped, Joined, IsUnion};
+ghost use Rattle.sm_neverallow.specs.Matrices.{joined_by};
 ghost use Rattle.sm_neverallow.specs.Hitting.{Unites, IsDiagonal, HaveTargets};
 ghost use Rattle.sm_neverallow.specs.Uniting.{AreWide, Doubled};
 

@@ -1,13 +1,15 @@
 //! An allow rule that breaks a neverallow rule.
 
-ghost use Rattle.std.specs.Prelude.{◌≡◌, ◌<◌, ◌≤◌, ◌*◌, ℕ, List, length, ◌&&◌, All, false, true, IfSome, IfNone, IfOk, Some, slice_get};
+ghost use Rattle.std.specs.Prelude.{◌≡◌, ◌<◌, ◌≤◌, ◌*◌, ℕ, List, length, ◌&&◌, All, false, true, IfSome, IfNone, IfOk};
+ghost use Rattle.std.specs.Prelude.{Some, slice_get};
 ghost use Rattle.sm_bits.specs.Bits.{has_bit};
 ghost use Rattle.sm_ruletext.specs.declared.statement.Statement.{Statement as TheStatement};
 ghost use Rattle.sm_types.specs.Names.{at};
 ghost use Rattle.sm_rules.specs.Access.{written, forbidden, IsConsistent};
 ghost use Rattle.sm_rules.specs.Keeping.{FitsRule, RulesOf};
 ghost use Rattle.sm_neverallow.specs.Matrices.{perm_set, AllSquare, AllCompiled, AreSetsOf, IsClear, IsBroken};
-ghost use Rattle.sm_neverallow.specs.Violating.{both_join, AreApart, IsBetween, IsFirstOf, IsFirstAmong, AllApart, IsFirstViolation};
+ghost use Rattle.sm_neverallow.specs.Violating.{both_join, AreApart, IsBetween, IsFirstOf, IsFirstAmong, AllApart};
+ghost use Rattle.sm_neverallow.specs.Violating.{IsFirstViolation};
 ghost use Rattle.sm_rules.specs.declared.kept.Kept.{Kept as TheKept};
 
 use crate::hits::first_hit;

@@ -46,7 +46,8 @@ impl Drop for Labels {
 /// Returns the number of the type in an entry's context, or the entry's line if its type isn't declared.
 fn number_of(types: &Types, contexts: &Contexts, i: u32) -> Result<u16, u32>
     requires { i < length contexts.now }
-    ensures number { IfOk result (λ n. option_map (number_of types.now.symbols.types) (slice_get contexts.now i) ≡ Some (Some n)) }
+    ensures number { IfOk result
+        (λ n. option_map (number_of types.now.symbols.types) (slice_get contexts.now i) ≡ Some (Some n)) }
     ensures declared { OnOk result ((policy : List TheStatement) → IsOf policy types.now
         → undeclared_line policy (slice_get contexts.now i) ≡ None) }
     ensures undeclared { IfErr result (λ line. (policy : List TheStatement) → IsOf policy types.now

@@ -71,7 +71,8 @@ pub fn refuse_violation(
     matrices: &Matrices,
 ) -> Result<(), PolicyFault>
     requires { AllCompiled rules.now.allows rules.now.count 7 matrices.now }
-    ensures exact { (policy : List TheStatement) → IsOf policy types.now → RulesOf policy types.now.symbols.types rules.now
+    ensures exact { (policy : List TheStatement) → IsOf policy types.now
+        → RulesOf policy types.now.symbols.types rules.now
         → Gives is_memory (λ _. policy) result (spec.unbroken policy) }
     ensures consistent { OnOk result ((policy : List TheStatement) → IsOf policy types.now
         → RulesOf policy types.now.symbols.types rules.now → IsConsistent policy) }

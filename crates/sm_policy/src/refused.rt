@@ -2,7 +2,8 @@
 
 ghost use Rattle.std.specs.Prelude.{◌≡◌, IfOk};
 ghost use Rattle.sm_kinds.specs.Messages.{numbered};
-ghost use Rattle.sm_policy.specs.Refused.{rules_words, broken_words, contexts_words, refused_words, text_words, types_words, violation_words};
+ghost use Rattle.sm_policy.specs.Refused.{rules_words, broken_words, contexts_words, refused_words, text_words};
+ghost use Rattle.sm_policy.specs.Refused.{types_words, violation_words};
 ghost use Rattle.sm_contexts.specs.declared.fault.ContextsFault.TheVariants.{Conflict};
 
 use crate::{PolicyFault, Violation};

@@ -76,7 +76,8 @@ adds_goes log v e old len pre false is =
       rw is (ap length all),
     )
 
--- Whatever the registry is, the exchange records the book behind all that was seen, or finds that the registry is longer.
+-- Whatever the registry is, the exchange records the book behind all that was seen, or finds that the registry is
+-- longer.
 pub adds_moves : (v : List Book) (e : Book) (old : ℕ) → length v ≡ old
     → Moves IsKept shown moved 0 (v, (no_nib, None)) (exchanged old) (Tells v e old)
 adds_moves v e old len cs log kept pre away =

@@ -79,7 +79,8 @@ impl<J: Naming> Model for Registry<J> {
 
     ghost view = { λ r. r.seen.log };
 
-    ghost invariant = { λ r. (r.head ≡ head_of J.registry) × (r.count ≡ length r.seen.log) × (r.seen.book ≡ J.registry) };
+    ghost invariant = { λ r. (r.head ≡ head_of J.registry) × (r.count ≡ length r.seen.log)
+        × (r.seen.book ≡ J.registry) };
 }
 
 /// The number of a history. Contracts see that history's book.

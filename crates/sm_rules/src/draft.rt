@@ -8,7 +8,8 @@ ghost use Rattle.sm_ruletext.specs.declared.statement.Statement.{Statement as Th
 ghost use Rattle.sm_types.specs.Names.{at};
 ghost use Rattle.sm_types.specs.Members.{IsOf};
 ghost use Rattle.sm_rules.specs.Faults.{UnlessMemory, first_fault, permissive_fault, fault_of};
-ghost use Rattle.sm_rules.specs.Keeping.{FitsRules, Extends, Permits, SaysPermissive, rule_in, rules_in, list_of, AllStandFor};
+ghost use Rattle.sm_rules.specs.Keeping.{FitsRules, Extends, Permits, SaysPermissive, rule_in, rules_in, list_of};
+ghost use Rattle.sm_rules.specs.Keeping.{AllStandFor};
 ghost use Rattle.sm_rules.specs.Pooling.{HasMembers};
 
 use crate::RulesFault;

@@ -1,6 +1,7 @@
 //! The rules of a policy source.
 
-ghost use Rattle.std.specs.Prelude.{◌≡◌, ◌<◌, ◌≤◌, ◌+◌, ◌/◌, ◌^◌, ℕ, List, length, All, IfOk, IfErr, Some, None, false, option_map, slice_get};
+ghost use Rattle.std.specs.Prelude.{◌≡◌, ◌<◌, ◌≤◌, ◌+◌, ◌/◌, ◌^◌, ℕ, List, length, All, IfOk, IfErr, Some, None, false};
+ghost use Rattle.std.specs.Prelude.{option_map, slice_get};
 ghost use Rattle.sm_ruletext.specs.declared.statement.RuleKind.TheVariants as kind;
 ghost use Rattle.sm_ruletext.specs.declared.statement.Statement.{Statement as TheStatement};
 ghost use Rattle.sm_types.specs.Names.{at};

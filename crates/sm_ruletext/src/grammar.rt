@@ -1,6 +1,7 @@
 //! Reads parts of statements. A fault has the statement's line.
 
-ghost use Rattle.std.specs.Prelude.{◌≡◌, ◌<◌, ◌≤◌, ◌+◌, ◌^◌, ◌++◌, ◌∷◌, [], zero, true, false, length, option_to_list, OnOk, IfOk};
+ghost use Rattle.std.specs.Prelude.{◌≡◌, ◌<◌, ◌≤◌, ◌+◌, ◌^◌, ◌++◌, ◌∷◌, [], zero, true, false, length, option_to_list};
+ghost use Rattle.std.specs.Prelude.{OnOk, IfOk};
 ghost use Rattle.sm_ruletext.specs.Grammar as spec;
 ghost use Rattle.sm_kinds.specs.Reading.{Gives};
 ghost use Rattle.sm_ruletext.specs.Grammar.{Reads, is_memory};

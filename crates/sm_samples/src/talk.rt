@@ -30,8 +30,10 @@ impl Said {
 
     /// Appends these lines. On error a part may have been appended.
     pub fn talk(&mut self, talk: Talk) -> Result<(), AllocError>
-        ensures script { OnOk result (self.new.script.items ≡ self.old.script.items ++ flat_map (λ l. line_of l.0.now) talk.now) }
-        ensures wanted { OnOk result (self.new.wanted.items ≡ self.old.wanted.items ++ flat_map (λ l. line_of l.1.now) talk.now) }
+        ensures script { OnOk result
+            (self.new.script.items ≡ self.old.script.items ++ flat_map (λ l. line_of l.0.now) talk.now) }
+        ensures wanted { OnOk result
+            (self.new.wanted.items ≡ self.old.wanted.items ++ flat_map (λ l. line_of l.1.now) talk.now) }
     {
         for (line, answer) in talk {
             push_line(&mut self.script, line)?;
@@ -49,7 +51,8 @@ impl Said {
         contexts: &[u8],
         answer: &[u8],
     ) -> Result<(), AllocError>
-        ensures script { OnOk result (self.new.script.items ≡ self.old.script.items ++ reload_text expected rules.now contexts.now) }
+        ensures script { OnOk result
+            (self.new.script.items ≡ self.old.script.items ++ reload_text expected rules.now contexts.now) }
         ensures wanted { OnOk result (self.new.wanted.items ≡ self.old.wanted.items ++ answer.now) }
     {
         push_reload(&mut self.script, expected, rules, contexts)?;

@@ -10,7 +10,8 @@ ghost use Rattle.sm_history.specs.declared.reply.Reply.{Reply};
 ghost use Rattle.sm_history.specs.declared.reply.Reply.TheVariants.{Refused};
 ghost use Rattle.sm_wire.specs.declared.telling.Telling.TheVariants.{Whole};
 ghost use Rattle.sm_wire.specs.Replies.{denials_text, told_text};
-ghost use Rattle.sm_script.specs.Answering.{AnswersNow, AnswersQuery, SealsNow, Told, asker_of, recorded, the_administrator};
+ghost use Rattle.sm_script.specs.Answering.{AnswersNow, AnswersQuery, SealsNow, Told, asker_of, recorded};
+ghost use Rattle.sm_script.specs.Answering.{the_administrator};
 
 use sm_audit::push_lines;
 use sm_core::Manager;
@@ -89,10 +90,12 @@ pub fn answer_prepared(
     audit: &mut Vec<u8>,
 ) -> Result<(), AllocError>
     ensures ok { OnOk result ((reply : Reply) × (noted : List Record)
-        × AnswersNow (recorded manager.old) (Admin the_administrator) (Reload expected policy) reply noted (recorded manager.new)
+        × AnswersNow (recorded manager.old) (Admin the_administrator) (Reload expected policy) reply noted
+        (recorded manager.new)
         × Told Whole reply noted replies.old.items replies.new.items audit.old.items audit.new.items) }
     ensures err { OnErr result ((reply : Reply) × (noted : List Record)
-        × AnswersNow (recorded manager.old) (Admin the_administrator) (Reload expected policy) reply noted (recorded manager.new)) }
+        × AnswersNow (recorded manager.old) (Admin the_administrator) (Reload expected policy) reply noted
+        (recorded manager.new)) }
 {
     let by = By::Admin(ADMINISTRATOR);
     let prepared = policy;
@@ -244,7 +247,8 @@ fn tell(
     replies: &mut Vec<u8>,
     audit: &mut Vec<u8>,
 ) -> Result<(), AllocError>
-    ensures { OnOk result (Told telling reply.now records.now replies.old.items replies.new.items audit.old.items audit.new.items) }
+    ensures { OnOk result
+        (Told telling reply.now records.now replies.old.items replies.new.items audit.old.items audit.new.items) }
 {
     push_reply(alloc, replies, telling, reply)?;
     if records.is_empty() {

@@ -46,10 +46,12 @@ pub fn run_script<R: Read, W: Write, A: Write>(
     ensures reads { calls_of reader.new ≤ calls_of reader.old + bound }
     ensures too_many { result ≡ Err (ScriptFault.Engine Fault.TooManyReads)
         → calls_of reader.new ≡ min (calls_of reader.old + bound) greatest }
-    ensures read_fault { result ≡ Err (ScriptFault.Engine Fault.ReadFault) → failures_of reader.old < failures_of reader.new }
+    ensures read_fault { result ≡ Err (ScriptFault.Engine Fault.ReadFault)
+        → failures_of reader.old < failures_of reader.new }
     ensures write_fault { result ≡ Err (ScriptFault.Engine Fault.WriteFault)
         → failures_of writer.old + failures_of audit.old < failures_of writer.new + failures_of audit.new }
-    ensures read_told { failures_of reader.old < failures_of reader.new → result ≡ Err (ScriptFault.Engine Fault.ReadFault) }
+    ensures read_told { failures_of reader.old < failures_of reader.new
+        → result ≡ Err (ScriptFault.Engine Fault.ReadFault) }
     ensures write_told { failures_of writer.old + failures_of audit.old < failures_of writer.new + failures_of audit.new
         → result ≡ Err (ScriptFault.Engine Fault.WriteFault) }
 {

@@ -1,4 +1,4 @@
-//! A server of connections at a door: sessions of clients in worker threads, and sessions of administrators in one more.
+//! A server of connections at a door: sessions of clients in worker threads, and those of administrators in one more.
 #![tactic(auto)]
 
 mod administrator;

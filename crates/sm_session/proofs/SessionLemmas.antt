@@ -31,7 +31,8 @@ asked_once answers old item response new told place tells asks =
 
 -- a fault that had another cause
 pub Served-memory : {S : Type 0} {kind : Kind} {answers : S → Item → List ℕ → List ℕ → S → Type 0} {over : S → Bool}
-    {limit bound reads : ℕ} {old : S} {r r' w w' a a' : Option (List ℕ)} {new : S} (ending result : Result (Unit {0}) Fault)
+    {limit bound reads : ℕ} {old : S} {r r' w w' a a' : Option (List ℕ)} {new : S}
+    (ending result : Result (Unit {0}) Fault)
     → Served kind answers over limit ending bound reads old r r' w w' a a' new
     → (result ≡ ending) ⊎ ((ending ≡ Err WriteFault) × (result ≡ Err Memory))
     → Served kind answers over limit result bound reads old r r' w w' a a' new

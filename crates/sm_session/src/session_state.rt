@@ -4,7 +4,8 @@ ghost use Rattle.std.specs.Prelude.{◌≡◌, OnOk, OnErr, false, if◌then◌e
 ghost use Rattle.sm_history.specs.Verdict.{is_die};
 ghost use Rattle.sm_wire.specs.declared.request.Request.TheVariants.{Hello, Change};
 ghost use Rattle.sm_wire.specs.declared.item.Item.TheVariants.{Asked, Policy};
-ghost use Rattle.sm_session.specs.Sessions.{client_may, admin_may, may_ask, may_reload, is_asked, is_connected, is_died, Asks, TakesItem, SitsThrough, Adds, Loses};
+ghost use Rattle.sm_session.specs.Sessions.{client_may, admin_may, may_ask, may_reload, is_asked, is_connected};
+ghost use Rattle.sm_session.specs.Sessions.{is_died, Asks, TakesItem, SitsThrough, Adds, Loses};
 
 use crate::desk::Desk;
 use crate::response::Response;

@@ -31,7 +31,8 @@ pub fn session<D: Desk, G: Gate, R: Read, W: Write>(
         (R.remaining (inner_of reader.old)) (R.remaining (inner_of reader.new))
         (W.contents (inner_of writer.old)) (W.contents (inner_of writer.new)) result.0 }
     ensures reads { calls_of reader.new ≤ calls_of reader.old + bound }
-    ensures too_many { result.1 ≡ Err Fault.TooManyReads → calls_of reader.new ≡ min (calls_of reader.old + bound) greatest }
+    ensures too_many { result.1 ≡ Err Fault.TooManyReads
+        → calls_of reader.new ≡ min (calls_of reader.old + bound) greatest }
     ensures read_fault { result.1 ≡ Err Fault.ReadFault → failures_of reader.old < failures_of reader.new }
     ensures write_fault { result.1 ≡ Err Fault.WriteFault → failures_of writer.old < failures_of writer.new }
     ensures read_told { failures_of reader.old < failures_of reader.new → result.1 ≡ Err Fault.ReadFault }

@@ -1,6 +1,7 @@
 //! The members of attributes.
 
-ghost use Rattle.std.specs.Prelude.{◌≡◌, ◌||◌, ◌&&◌, ◌*◌, ◌<◌, ◌≤◌, ℕ, [], nat_eq, take, length, slice_index, false, IfOk};
+ghost use Rattle.std.specs.Prelude.{◌≡◌, ◌||◌, ◌&&◌, ◌*◌, ◌<◌, ◌≤◌, ℕ, [], nat_eq, take, length, slice_index, false};
+ghost use Rattle.std.specs.Prelude.{IfOk};
 ghost use Rattle.std.specs.List.{list_any};
 ghost use Rattle.sm_types.specs.Names.{at};
 ghost use Rattle.sm_types.specs.Denoting.{gives_attribute};

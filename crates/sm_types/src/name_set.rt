@@ -22,7 +22,8 @@ impl Model for NameSet {
 }
 
 impl NameSet {
-    ghost use Rattle.std.specs.Prelude.{◌≡◌, ◌++◌, ◌∷◌, [], ◌<◌, ℕ, position, slice_get, option_map, OnOk, length, false, is_some};
+    ghost use Rattle.std.specs.Prelude.{◌≡◌, ◌++◌, ◌∷◌, [], ◌<◌, ℕ, position, slice_get, option_map, OnOk, length};
+    ghost use Rattle.std.specs.Prelude.{false, is_some};
     ghost use Rattle.std.specs.List.{list_any};
     ghost use Rattle.std.specs.Str.{bytes_eq};
     ghost use Rattle.sm_types.specs.Names.{Distinct, is_at, at};

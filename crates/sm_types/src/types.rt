@@ -1,6 +1,7 @@
 //! The types of a policy source.
 
-ghost use Rattle.std.specs.Prelude.{◌≡◌, ◌<◌, ◌≤◌, ◌+◌, ◌/◌, ℕ, List, length, position, slice_get, option_map, IfOk, IfErr, IfSome, Some, is_some, nat_eq, false, true};
+ghost use Rattle.std.specs.Prelude.{◌≡◌, ◌<◌, ◌≤◌, ◌+◌, ◌/◌, ℕ, List, length, position, slice_get, option_map, IfOk};
+ghost use Rattle.std.specs.Prelude.{IfErr, IfSome, Some, is_some, nat_eq, false, true};
 ghost use Rattle.std.specs.Str.{bytes_eq};
 ghost use Rattle.sm_bits.specs.Bits.{has, row};
 ghost use Rattle.sm_kinds.specs.Reading.{Fails};

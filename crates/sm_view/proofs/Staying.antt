@@ -1,5 +1,6 @@
 -- A client that lives keeps its number and its identity, however a history goes on.
-use Rattle.std.proofs.Common.{◌≡◌, ℕ, ◌≤◌, ◌<◌, ◌==◌, true, false, true≢false, inl, inr, List, [], ◌∷◌, refl, sym, subst}
+use Rattle.std.proofs.Common.{◌≡◌, ℕ, ◌≤◌, ◌<◌, ◌==◌, true, false, true≢false, inl, inr, List, [], ◌∷◌, refl, sym}
+use Rattle.std.proofs.Common.{subst}
 use Rattle.std.proofs.Common.{◌∙◌, arith}
 use Rattle.std.proofs.lemmas.Bool.Decides.{nat_tests}
 use Rattle.sm_kinds.specs.declared.identity.Identity.{Identity}

@@ -1,6 +1,12 @@
 //! Laws of books, verdicts and tokens. Each is the contract of a function that does nothing.
 
-ghost use Rattle.sm_view.specs.LawStatements.{BookBeginsWithItself, BookBeginsWithTheOneBefore, BookBeginsWithTheOneSealed, BookBeginsWithItsBeginnings, ChangeCounts, BeginningIsBefore, NothingGoesBack, SegmentGoesOn, ClientStays, SealIsNoChange, DoneIsInTurn, OutOfTurnTellsTurn, OthersAreInTurn, NotYoursIsAlike, TokenGoesOn, StepIsSubmitted, UnseenIsSubmitted, LeaveIsAnswered, InstallIsAnswered, ConnectIsAnswered, PlaceSeesAlike, ConnectJoins, ConnectTurns, SealCloses, OpenIsNotClosed};
+ghost use Rattle.sm_view.specs.LawStatements.{BookBeginsWithItself, BookBeginsWithTheOneBefore};
+ghost use Rattle.sm_view.specs.LawStatements.{BookBeginsWithTheOneSealed, BookBeginsWithItsBeginnings, ChangeCounts};
+ghost use Rattle.sm_view.specs.LawStatements.{BeginningIsBefore, NothingGoesBack, SegmentGoesOn, ClientStays};
+ghost use Rattle.sm_view.specs.LawStatements.{SealIsNoChange, DoneIsInTurn, OutOfTurnTellsTurn, OthersAreInTurn};
+ghost use Rattle.sm_view.specs.LawStatements.{NotYoursIsAlike, TokenGoesOn, StepIsSubmitted, UnseenIsSubmitted};
+ghost use Rattle.sm_view.specs.LawStatements.{LeaveIsAnswered, InstallIsAnswered, ConnectIsAnswered, PlaceSeesAlike};
+ghost use Rattle.sm_view.specs.LawStatements.{ConnectJoins, ConnectTurns, SealCloses, OpenIsNotClosed};
 
 /// "Begins with" is an order of books. A book comes after the one without its last change, and after the one that was
 /// sealed. A beginning of a book with as many changes of the last change's actor as there are before that change is a

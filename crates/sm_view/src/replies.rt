@@ -4,7 +4,8 @@ ghost use Rattle.std.specs.Prelude.{◌≡◌, MatchResult, MatchOption};
 ghost use Rattle.sm_history.specs.Verdict.{is_die};
 ghost use Rattle.sm_history.specs.declared.outcome.Outcome.TheVariants.{Connected, Died, Reloaded};
 ghost use Rattle.sm_history.specs.declared.reply.Reply.TheVariants.{Done, Refused};
-ghost use Rattle.sm_view.specs.Replies.{moves, refusal_moves, ConnectReply, LeaveReply, InstallReply, OfConnect, OfLeave, OfInstall};
+ghost use Rattle.sm_view.specs.Replies.{moves, refusal_moves, ConnectReply, LeaveReply, InstallReply, OfConnect};
+ghost use Rattle.sm_view.specs.Replies.{OfLeave, OfInstall};
 
 use sm_history::{Event, Failure, Outcome, Refusal, Reply};
 use sm_kinds::ClientId;

@@ -2,7 +2,9 @@
 
 ghost use Rattle.std.specs.Prelude.{map};
 ghost use Rattle.sm_wire.specs.Reading.{Reads};
-ghost use Rattle.sm_wire.specs.Grammar.{add_of, get_of, watch_of, unwatch_of, unregister_of, call_of, release_of, take_of, bye_of, service_event_of, binder_event_of, event_of, list_of, version_of, query_of, look_of, change_of, client_request_of};
+ghost use Rattle.sm_wire.specs.Grammar.{add_of, get_of, watch_of, unwatch_of, unregister_of, call_of, release_of};
+ghost use Rattle.sm_wire.specs.Grammar.{take_of, bye_of, service_event_of, binder_event_of, event_of, list_of};
+ghost use Rattle.sm_wire.specs.Grammar.{version_of, query_of, look_of, change_of, client_request_of};
 
 use crate::numbers::u32_field;
 use crate::read_error::ReadError;

@@ -2,7 +2,8 @@
 
 ghost use Rattle.std.specs.Prelude.{◌≡◌, ◌++◌, OnOk, codes};
 ghost use Rattle.std.specs.List.{flat_map};
-ghost use Rattle.sm_wire.specs.Replies.{given_text, spaced_given, payload_text, caller_text, registered_text, message_text};
+ghost use Rattle.sm_wire.specs.Replies.{given_text, spaced_given, payload_text, caller_text, registered_text};
+ghost use Rattle.sm_wire.specs.Replies.{message_text};
 
 use crate::names::push_spaced_name;
 use sm_history::{Delivery, Given, Message};

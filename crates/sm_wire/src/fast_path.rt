@@ -3,7 +3,8 @@
 
 ghost use Rattle.std.specs.Prelude.{◌≡◌, ◌==◌, ◌++◌, ◌∷◌, [], OnOk, IfOk, position};
 ghost use Rattle.sm_wire.specs.declared.item.Item.TheVariants.{Asked};
-ghost use Rattle.sm_wire.specs.FastPath.{asked_by, named_of, plain_of, checked_of, listed_of, other_of, wanted_of, request_by, numbered_of, fast_of};
+ghost use Rattle.sm_wire.specs.FastPath.{asked_by, named_of, plain_of, checked_of, listed_of, other_of, wanted_of};
+ghost use Rattle.sm_wire.specs.FastPath.{request_by, numbered_of, fast_of};
 
 use crate::item::Item;
 use crate::kind::Kind;

@@ -139,7 +139,8 @@ fn texts(
     items: &mut Vec<Item>,
 ) -> Result<Mode, AllocError>
     requires { length bytes.now ≡ header.rules + header.contexts }
-    ensures { IfOk result (λ m. Makes (scan_start kind, policy_item header bytes.now ∷ []) kind m [] items.old.items items.new.items) }
+    ensures { IfOk result
+        (λ m. Makes (scan_start kind, policy_item header bytes.now ∷ []) kind m [] items.old.items items.new.items) }
 {
     let item = policy(alloc, header, bytes)?;
     items.push(item)?;

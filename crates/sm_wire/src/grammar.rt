@@ -2,7 +2,10 @@
 
 ghost use Rattle.std.specs.Prelude.{map};
 ghost use Rattle.sm_wire.specs.Reading.{Reads};
-ghost use Rattle.sm_wire.specs.Grammar.{client_line_of, hello_of, greeting_of, explain_of, explaining_of, denials_of, seal_of, journal_request_of, asking_of, standing_of, policy_request_of, unnumbered_of, client_fields_of, admin_fields_of, script_fields_of, fields_request_of, request_of};
+ghost use Rattle.sm_wire.specs.Grammar.{client_line_of, hello_of, greeting_of, explain_of, explaining_of, denials_of};
+ghost use Rattle.sm_wire.specs.Grammar.{seal_of, journal_request_of, asking_of, standing_of, policy_request_of};
+ghost use Rattle.sm_wire.specs.Grammar.{unnumbered_of, client_fields_of, admin_fields_of, script_fields_of};
+ghost use Rattle.sm_wire.specs.Grammar.{fields_request_of, request_of};
 
 use crate::client_requests::client_request;
 use crate::fields::split_fields;

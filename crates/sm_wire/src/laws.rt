@@ -14,15 +14,18 @@ ghost use Rattle.sm_wire.specs.Items.{item_of, items_of, items_after, rest_of, s
 
 /// A line that is no `reload` line, with its newline, gives its item, followed by the items of the rest.
 pub fn first_line()
-    ensures { (kind : Kind) (line rest : List ℕ) → AllByRecursion (λ b. b ≢ 10) line → length line ≤ 4096 → header_of kind line ≡ None
+    ensures { (kind : Kind) (line rest : List ℕ) → AllByRecursion (λ b. b ≢ 10) line → length line ≤ 4096
+        → header_of kind line ≡ None
         → items_of kind (line ++ 10 ∷ rest) ≡ item_of kind line ∷ items_of kind rest }
 {}
 
 /// A `reload` line, its newline and the two files that it announces, of any bytes, give one item, followed by the items
 /// of the rest.
 pub fn reload_line()
-    ensures { (kind : Kind) (line rules contexts rest : List ℕ) (a : ReloadHeader) → AllByRecursion (λ b. b ≢ 10) line → length line ≤ 4096
-        → header_of kind line ≡ Some a → a.rules ≡ length rules → a.contexts ≡ length contexts → length rules ≤ 4194304 → length contexts ≤ 4194304
+    ensures { (kind : Kind) (line rules contexts rest : List ℕ) (a : ReloadHeader) → AllByRecursion (λ b. b ≢ 10) line
+        → length line ≤ 4096
+        → header_of kind line ≡ Some a → a.rules ≡ length rules → a.contexts ≡ length contexts → length rules ≤ 4194304
+        → length contexts ≤ 4194304
         → items_of kind (line ++ 10 ∷ (rules ++ contexts ++ rest))
         ≡ items.Policy (record { expected = a.expected; rules = rules; contexts = contexts }) ∷ items_of kind rest }
 {}
@@ -35,7 +38,8 @@ pub fn long_line()
 
 /// A stream gives the same items, however it is split into pieces.
 pub fn any_cut()
-    ensures items { (kind : Kind) (xs ys : List ℕ) → items_of kind (xs ++ ys) ≡ items_of kind xs ++ items_after (rest_of kind xs) ys }
+    ensures items { (kind : Kind) (xs ys : List ℕ)
+        → items_of kind (xs ++ ys) ≡ items_of kind xs ++ items_after (rest_of kind xs) ys }
     ensures rest { (kind : Kind) (xs ys : List ℕ) → rest_of kind (xs ++ ys) ≡ scan_after (rest_of kind xs) ys }
 {}
 
@@ -48,8 +52,10 @@ pub fn one_spelling()
 /// Exactly the lines of the written grammar are read, each as the request that it spells. In a stream every other line
 /// is malformed.
 pub fn written_lines()
-    ensures requests { (kind : Kind) (line : List ℕ) (request : Request) → (request_of kind line ≡ Some request) ↔ Spells kind line request }
-    ensures items { (kind : Kind) (line : List ℕ) (request : Request) → (item_of kind line ≡ items.Asked request) ↔ Spells kind line request }
+    ensures requests { (kind : Kind) (line : List ℕ) (request : Request)
+        → (request_of kind line ≡ Some request) ↔ Spells kind line request }
+    ensures items { (kind : Kind) (line : List ℕ) (request : Request)
+        → (item_of kind line ≡ items.Asked request) ↔ Spells kind line request }
     ensures others { (kind : Kind) (line : List ℕ) → (item_of kind line ≡ items.Malformed) ↔ SpellsNothing kind line }
 {}
 

@@ -3,7 +3,8 @@
 ghost use Rattle.std.specs.Prelude.{◌≡◌, ◌++◌, OnOk, IfOk, codes};
 ghost use Rattle.std.specs.Fmt.{decimal};
 ghost use Rattle.sm_kinds.specs.Messages.{numbered};
-ghost use Rattle.sm_wire.specs.Replies.{names_text, why_text, answer_text, outcome_text, sealed_text, answered_text, told_text, told_in};
+ghost use Rattle.sm_wire.specs.Replies.{names_text, why_text, answer_text, outcome_text, sealed_text, answered_text};
+ghost use Rattle.sm_wire.specs.Replies.{told_text, told_in};
 ghost use Rattle.sm_history.specs.Told.{told_to_get};
 
 use crate::deliveries::push_delivery;
@@ -123,7 +124,8 @@ fn push_answer(
 
 // Appends `version VERSION LENGTH`.
 fn push_version(out: &mut Vec<u8>, version: u64, count: u64) -> Result<(), AllocError>
-    ensures { OnOk result (out.new.items ≡ out.old.items ++ numbered (codes "version ") version ++ numbered (codes " ") count) }
+    ensures { OnOk result (out.new.items
+        ≡ out.old.items ++ numbered (codes "version ") version ++ numbered (codes " ") count) }
 {
     out.extend_from_slice(b"version ")?;
     push_decimal(out, version)?;

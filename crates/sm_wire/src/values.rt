@@ -5,7 +5,9 @@ ghost use Rattle.std.specs.Result.{result_ok, result_map_both};
 ghost use Rattle.hex.specs.Hex.{decode_of};
 ghost use Rattle.sm_kinds.specs.Permissions.{class_read};
 ghost use Rattle.sm_wire.specs.Reading.{Reads};
-ghost use Rattle.sm_wire.specs.Values.{plain_name_of, name_of, reference_of, own_object_of, call_references_of, fitting_payload, fitting_references, hex_payload_of, payload_of, flag_of, context_of, word_of, perm_of};
+ghost use Rattle.sm_wire.specs.Values.{plain_name_of, name_of, reference_of, own_object_of, call_references_of};
+ghost use Rattle.sm_wire.specs.Values.{fitting_payload, fitting_references, hex_payload_of, payload_of, flag_of};
+ghost use Rattle.sm_wire.specs.Values.{context_of, word_of, perm_of};
 
 use crate::numbers::u32_field;
 use crate::read_error::ReadError;

@@ -73,8 +73,11 @@ impl Manager {
         perm: Perms,
         notes: &mut Notes,
     ) -> Result<(), SmallStop>
-        requires { made ≡ decision (policy_at (effects_in self.now)) (type_of who.now.context) (type_of target.now) class perm }
-        ensures { MatchResult result (λ done. notes.new ≡ noted (moment_in self.now) notes.old class perm who.now target.now (option_map (λ n. n.now) name.entry))
+        requires { made ≡ decision (policy_at (effects_in self.now)) (type_of who.now.context)
+            (type_of target.now) class perm }
+        ensures { MatchResult result
+            (λ done. notes.new ≡ noted (moment_in self.now) notes.old class perm who.now target.now
+            (option_map (λ n. n.now) name.entry))
             (λ s. s ≡ spec.wanted) }
     {
         if !made.audited {
@@ -96,8 +99,11 @@ impl Manager {
         perm: Perms,
         notes: &mut Notes,
     ) -> Result<(), SmallStop>
-        requires { permissive ≡ allowed (policy_at (effects_in self.now)) (type_of who.now.context) (type_of target.now) class perm }
-        ensures { MatchResult result (λ done. notes.new ≡ notes.old ++ rule_record (moment_in self.now) class perm who.now target.now (option_map (λ n. n.now) name.entry) ∷ [])
+        requires { permissive
+            ≡ allowed (policy_at (effects_in self.now)) (type_of who.now.context) (type_of target.now) class perm }
+        ensures { MatchResult result
+            (λ done. notes.new ≡ notes.old
+            ++ rule_record (moment_in self.now) class perm who.now target.now (option_map (λ n. n.now) name.entry) ∷ [])
             (λ s. s ≡ spec.wanted) }
     {
         let Ok(denied) = self.missing(who, target, name, class, perm, permissive) else {
@@ -119,8 +125,11 @@ impl Manager {
         perm: Perms,
         permissive: bool,
     ) -> Result<Record, AllocError>
-        requires { permissive ≡ allowed (policy_at (effects_in self.now)) (type_of who.now.context) (type_of target.now) class perm }
-        ensures { IfOk result (λ r. r ≡ rule_record (moment_in self.now) class perm who.now target.now (option_map (λ n. n.now) name.entry)) }
+        requires { permissive
+            ≡ allowed (policy_at (effects_in self.now)) (type_of who.now.context) (type_of target.now) class perm }
+        ensures { IfOk result
+            (λ r. r ≡ rule_record (moment_in self.now) class perm who.now target.now
+            (option_map (λ n. n.now) name.entry)) }
     {
         let denial = denial(self.alloc, class, perm, who, target)?;
         let name = match name {
@@ -189,7 +198,8 @@ impl Manager {
     /// Checks that a process may send a transaction to the manager.
     pub fn can_call_manager(&self, who: &Process, notes: &mut Notes) -> Result<(), SmallStop>
         requires { who.now ≡ process_at (effects_in self.now) who.now.who }
-        ensures { IsRuled (moment_in self.now) notes.old notes.new Binder calling who.now.who (manager_at (effects_in self.now)).context None result }
+        ensures { IsRuled (moment_in self.now) notes.old notes.new Binder calling who.now.who
+            (manager_at (effects_in self.now)).context None result }
     {
         self.needs_binder(who, &self.state.manager, Perms::CALL, notes)
     }
@@ -197,7 +207,8 @@ impl Manager {
     /// Checks that a process may pass a reference to the manager.
     pub fn can_transfer_to_manager(&self, who: &Process, notes: &mut Notes) -> Result<(), SmallStop>
         requires { who.now ≡ process_at (effects_in self.now) who.now.who }
-        ensures { IsRuled (moment_in self.now) notes.old notes.new Binder transferring who.now.who (manager_at (effects_in self.now)).context None result }
+        ensures { IsRuled (moment_in self.now) notes.old notes.new Binder transferring who.now.who
+            (manager_at (effects_in self.now)).context None result }
     {
         self.needs_binder(who, &self.state.manager, Perms::TRANSFER, notes)
     }
@@ -205,7 +216,8 @@ impl Manager {
     /// Checks that the manager may send a transaction to a process.
     pub fn can_call_from_manager(&self, who: &Process, notes: &mut Notes) -> Result<(), SmallStop>
         requires { who.now ≡ process_at (effects_in self.now) who.now.who }
-        ensures { IsRuled (moment_in self.now) notes.old notes.new Binder calling (manager_at (effects_in self.now)) who.now.who.context None result }
+        ensures { IsRuled (moment_in self.now) notes.old notes.new Binder calling
+            (manager_at (effects_in self.now)) who.now.who.context None result }
     {
         self.needs_binder(&self.state.manager, who, Perms::CALL, notes)
     }
@@ -217,7 +229,8 @@ impl Manager {
         notes: &mut Notes,
     ) -> Result<(), SmallStop>
         requires { who.now ≡ process_at (effects_in self.now) who.now.who }
-        ensures { IsRuled (moment_in self.now) notes.old notes.new Binder transferring (manager_at (effects_in self.now)) who.now.who.context None result }
+        ensures { IsRuled (moment_in self.now) notes.old notes.new Binder transferring
+            (manager_at (effects_in self.now)) who.now.who.context None result }
     {
         self.needs_binder(&self.state.manager, who, Perms::TRANSFER, notes)
     }
@@ -231,7 +244,8 @@ impl Manager {
     ) -> Result<(), SmallStop>
         requires who { who.now ≡ process_at (effects_in self.now) who.now.who }
         requires other { other.now ≡ process_at (effects_in self.now) other.now.who }
-        ensures { IsRuled (moment_in self.now) notes.old notes.new Binder calling who.now.who other.now.who.context None result }
+        ensures { IsRuled (moment_in self.now) notes.old notes.new Binder calling who.now.who
+            other.now.who.context None result }
     {
         self.needs_binder(who, other, Perms::CALL, notes)
     }
@@ -245,7 +259,8 @@ impl Manager {
     ) -> Result<(), SmallStop>
         requires who { who.now ≡ process_at (effects_in self.now) who.now.who }
         requires other { other.now ≡ process_at (effects_in self.now) other.now.who }
-        ensures { IsRuled (moment_in self.now) notes.old notes.new Binder transferring who.now.who other.now.who.context None result }
+        ensures { IsRuled (moment_in self.now) notes.old notes.new Binder transferring who.now.who
+            other.now.who.context None result }
     {
         self.needs_binder(who, other, Perms::TRANSFER, notes)
     }
@@ -253,7 +268,8 @@ impl Manager {
     /// Checks that a process may add a service under a name, whose label is the target.
     pub fn can_add(&self, who: &Process, name: &Name, notes: &mut Notes) -> Result<(), SmallStop>
         requires { who.now ≡ process_at (effects_in self.now) who.now.who }
-        ensures { IsRuled (moment_in self.now) notes.old notes.new ServiceManager adding who.now.who (label_at (effects_in self.now) name.now) (Some name.now) result }
+        ensures { IsRuled (moment_in self.now) notes.old notes.new ServiceManager adding who.now.who
+            (label_at (effects_in self.now) name.now) (Some name.now) result }
     {
         self.needs_label(who, name, Perms::ADD, notes)
     }
@@ -261,7 +277,8 @@ impl Manager {
     /// Checks that a process may find the service of a name, whose label is the target.
     pub fn can_find(&self, who: &Process, name: &Name, notes: &mut Notes) -> Result<(), SmallStop>
         requires { who.now ≡ process_at (effects_in self.now) who.now.who }
-        ensures { IsRuled (moment_in self.now) notes.old notes.new ServiceManager finding who.now.who (label_at (effects_in self.now) name.now) (Some name.now) result }
+        ensures { IsRuled (moment_in self.now) notes.old notes.new ServiceManager finding who.now.who
+            (label_at (effects_in self.now) name.now) (Some name.now) result }
     {
         self.needs_label(who, name, Perms::FIND, notes)
     }
@@ -269,7 +286,8 @@ impl Manager {
     /// Checks that a process may list the names; the manager's own context is the target.
     pub fn can_list(&self, who: &Process, notes: &mut Notes) -> Result<(), SmallStop>
         requires { who.now ≡ process_at (effects_in self.now) who.now.who }
-        ensures { IsRuled (moment_in self.now) notes.old notes.new ServiceManager listing who.now.who (manager_at (effects_in self.now)).context None result }
+        ensures { IsRuled (moment_in self.now) notes.old notes.new ServiceManager listing who.now.who
+            (manager_at (effects_in self.now)).context None result }
     {
         let manager = &self.state.manager;
         let target = &manager.who.context;
@@ -294,7 +312,8 @@ impl Manager {
     ) -> Result<(), SmallStop>
         requires source { source.now ≡ process_at (effects_in self.now) source.now.who }
         requires target { target.now ≡ process_at (effects_in self.now) target.now.who }
-        ensures { IsRuled (moment_in self.now) notes.old notes.new Binder perm source.now.who target.now.who.context None result }
+        ensures { IsRuled (moment_in self.now) notes.old notes.new Binder perm source.now.who
+            target.now.who.context None result }
     {
         let context = &target.who.context;
         self.needs(
@@ -317,7 +336,8 @@ impl Manager {
         notes: &mut Notes,
     ) -> Result<(), SmallStop>
         requires { source.now ≡ process_at (effects_in self.now) source.now.who }
-        ensures { IsRuled (moment_in self.now) notes.old notes.new ServiceManager perm source.now.who (label_at (effects_in self.now) name.now) (Some name.now) result }
+        ensures { IsRuled (moment_in self.now) notes.old notes.new ServiceManager perm source.now.who
+            (label_at (effects_in self.now) name.now) (Some name.now) result }
     {
         let label = self.state.policy.labelled(name.bytes());
         self.needs(
@@ -345,7 +365,8 @@ impl Manager {
     ) -> Result<(), SmallStop>
         requires source { source.now ≡ process_at (effects_in self.now) source.now.who }
         requires target { index ≡ type_index (policy_at (effects_in self.now)) (type_of target.now) }
-        ensures { IsRuled (moment_in self.now) notes.old notes.new class perm source.now.who target.now (option_map (λ n. n.now) name.entry) result }
+        ensures { IsRuled (moment_in self.now) notes.old notes.new class perm source.now.who target.now
+            (option_map (λ n. n.now) name.entry) result }
     {
         let policy = &self.state.policy;
         let decision = policy.decide_at(source.index, index, class, perm);

@@ -96,7 +96,8 @@ fn delivery(
     payload: &Payload,
     refs: Vec<Given>,
 ) -> Result<BoxedDelivery, AllocError>
-    ensures { IfOk result (λ b. b ≡ record { object = object; what = Called who.now.pid who.now.uid payload.now refs.items }) }
+    ensures { IfOk result
+        (λ b. b ≡ record { object = object; what = Called who.now.pid who.now.uid payload.now refs.items }) }
 {
     let what = Message::Called {
         pid: who.pid,
@@ -120,7 +121,8 @@ impl Manager {
     ) -> Result<Plan, SmallStop>
         requires live { is_live (effects_in self.now) row.now.id ≡ true }
         requires row { row.now ≡ client_row (effects_in self.now) row.now.id }
-        ensures { Judged self.now.book.history notes.old notes.new row.now.id (Call handle payload.now refs.now) result }
+        ensures { Judged self.now.book.history notes.old notes.new row.now.id
+            (Call handle payload.now refs.now) result }
     {
         let target = match self.judge_target(row, handle, notes) {
             Ok(target) => target,
@@ -178,9 +180,11 @@ impl Manager {
         requires row { row.now ≡ client_row (effects_in self.now) row.now.id }
         requires live { is_live (effects_in self.now) receiver ≡ true }
         ensures { MatchResult result
-            (λ v. AllPass (moment_in self.now) notes.old notes.new (all_pass_to_client (effects_in self.now) row.now.id receiver refs.now)
+            (λ v. AllPass (moment_in self.now) notes.old notes.new
+            (all_pass_to_client (effects_in self.now) row.now.id receiver refs.now)
             × AreNamed (effects_in self.now) row.now.id refs.now v.items)
-            (Halts (moment_in self.now) notes.old notes.new (all_pass_to_client (effects_in self.now) row.now.id receiver refs.now)) }
+            (Halts (moment_in self.now) notes.old notes.new
+            (all_pass_to_client (effects_in self.now) row.now.id receiver refs.now)) }
     {
         let mut named = Vec::new(self.alloc);
         for obj in refs {
@@ -206,9 +210,11 @@ impl Manager {
         requires row { row.now ≡ client_row (effects_in self.now) row.now.id }
         requires live { is_live (effects_in self.now) receiver ≡ true }
         ensures { MatchResult result
-            (λ o. AllPass (moment_in self.now) notes.old notes.new (passes_to_client (effects_in self.now) row.now.id receiver obj)
+            (λ o. AllPass (moment_in self.now) notes.old notes.new
+            (passes_to_client (effects_in self.now) row.now.id receiver obj)
             × (resolve_at (effects_in self.now) row.now.id obj ≡ o) × (is_null obj ≡ false → is_some o ≡ true))
-            (Halts (moment_in self.now) notes.old notes.new (passes_to_client (effects_in self.now) row.now.id receiver obj)) }
+            (Halts (moment_in self.now) notes.old notes.new
+            (passes_to_client (effects_in self.now) row.now.id receiver obj)) }
     {
         match obj {
             ObjRef::Null => Ok(None),
@@ -228,9 +234,11 @@ impl Manager {
         requires row { row.now ≡ client_row (effects_in self.now) row.now.id }
         requires live { is_live (effects_in self.now) receiver ≡ true }
         ensures { MatchResult result
-            (λ o. AllPass (moment_in self.now) notes.old notes.new (passing_checks (effects_in self.now) row.now.id receiver node)
+            (λ o. AllPass (moment_in self.now) notes.old notes.new
+            (passing_checks (effects_in self.now) row.now.id receiver node)
             × (o ≡ node) × (is_some node ≡ true))
-            (Halts (moment_in self.now) notes.old notes.new (passing_checks (effects_in self.now) row.now.id receiver node)) }
+            (Halts (moment_in self.now) notes.old notes.new
+            (passing_checks (effects_in self.now) row.now.id receiver node)) }
     {
         if node.is_none() {
             return Err(SmallStop::unmet(Plain::Failed(Failure::BadHandle)));

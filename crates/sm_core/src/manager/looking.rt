@@ -74,7 +74,8 @@ impl Manager {
     /// Returns why a query is refused, or its result.
     pub fn judge_query(&self, by: By, query: &Query, notes: &mut Notes) -> Result<Answer, SmallStop>
         ensures judged { MatchResult result
-            (λ found. AllPass (moment_in self.now) notes.old notes.new (checks_of_query self.now.book.history by query.now)
+            (λ found. AllPass (moment_in self.now) notes.old notes.new
+            (checks_of_query self.now.book.history by query.now)
             × (found ≡ found_out (effects_in self.now) query.now))
             (Halts (moment_in self.now) notes.old notes.new (checks_of_query self.now.book.history by query.now)) }
         ensures asker { takes_memory query.now ≡ false → IfErr result IsAskerStop }
@@ -109,9 +110,11 @@ impl Manager {
         requires live { is_live (effects_in self.now) row.now.id ≡ true }
         requires row { row.now ≡ client_row (effects_in self.now) row.now.id }
         ensures { MatchResult result
-            (λ found. AllPass (moment_in self.now) notes.old notes.new (query_checks (effects_in self.now) row.now.id (ListNames mask))
+            (λ found. AllPass (moment_in self.now) notes.old notes.new
+            (query_checks (effects_in self.now) row.now.id (ListNames mask))
             × (found ≡ found_out (effects_in self.now) (ListNames mask)))
-            (Halts (moment_in self.now) notes.old notes.new (query_checks (effects_in self.now) row.now.id (ListNames mask))) }
+            (Halts (moment_in self.now) notes.old notes.new
+            (query_checks (effects_in self.now) row.now.id (ListNames mask))) }
     {
         self.can_call_manager(&row.process, notes)?;
         self.can_list(&row.process, notes)?;

@@ -25,7 +25,8 @@ impl Manager {
     ///
     /// `Empty` if the segment has no changes, `Memory` if an allocation fails.
     pub fn seal(&mut self) -> Result<Segment, Refusal>
-        ensures seals { MatchResult result (λ s. Seals self.old.book s self.new.book) (λ r. StaysOpen self.old.book r self.new.book) }
+        ensures seals { MatchResult result (λ s. Seals self.old.book s self.new.book)
+            (λ r. StaysOpen self.old.book r self.new.book) }
         ensures ring { self.new.ring ≡ self.old.ring }
     {
         match self.ready_seal() {

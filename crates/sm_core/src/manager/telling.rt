@@ -78,7 +78,8 @@ impl Manager {
     ) -> Result<Given, SmallStop>
         requires { is_live (effects_in self.now) watch.now.client ≡ true }
         ensures { MatchResult result
-            (λ g. AllPass (moment_in self.now) notes.old notes.new (told_checks (effects_in self.now) node watch.now left)
+            (λ g. AllPass (moment_in self.now) notes.old notes.new
+            (told_checks (effects_in self.now) node watch.now left)
             × (g ≡ given_to (effects_in self.now) watch.now.client node))
             (Halts (moment_in self.now) notes.old notes.new (told_checks (effects_in self.now) node watch.now left)) }
     {
@@ -154,7 +155,8 @@ impl Manager {
         requires live { list_all (λ w. is_live (effects_in self.now) w.client) watches.now ≡ true }
         requires telling { IsTelling (effects_in self.now) node telling.old }
         ensures { MatchResult result
-            (λ notices. (notices.items ≡ notices_at (followed (effects_in self.now) telling.old.effects.items) node watches.now)
+            (λ notices. (notices.items
+            ≡ notices_at (followed (effects_in self.now) telling.old.effects.items) node watches.now)
             × GoesFar (moment_in self.now) (effects_in self.now) node watches.now telling.old telling.new)
             (λ s. s ≡ spec.wanted) }
     {
@@ -186,8 +188,10 @@ impl Manager {
         requires live { is_live (effects_in self.now) watch.now.client ≡ true }
         requires before { MayPrecede (effects_in self.now) node effects.items }
         ensures { MatchResult result
-            (λ plan. (plan.outcome ≡ Watched (Some (notice_at (followed (effects_in self.now) effects.items) node watch.now)))
-            × (plan.records ≡ left_by_notices (moment_in self.now) (followed (effects_in self.now) effects.items) node (watch.now ∷ []))
+            (λ plan. (plan.outcome
+            ≡ Watched (Some (notice_at (followed (effects_in self.now) effects.items) node watch.now)))
+            × (plan.records ≡ left_by_notices (moment_in self.now) (followed (effects_in self.now) effects.items) node
+            (watch.now ∷ []))
             × Tells (effects_in self.now)
             (after_notice (followed (effects_in self.now) effects.items) node watch.now) plan)
             (λ s. s ≡ spec.wanted) }

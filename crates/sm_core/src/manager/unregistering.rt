@@ -67,8 +67,10 @@ impl Manager {
     ) -> Result<(), SmallStop>
         requires { row.now ≡ client_row (effects_in self.now) row.now.id }
         ensures { MatchResult result
-            (λ done. AllPass (moment_in self.now) notes.old notes.new (removal_checks (effects_in self.now) row.now.id name.now node))
-            (Halts (moment_in self.now) notes.old notes.new (removal_checks (effects_in self.now) row.now.id name.now node)) }
+            (λ done. AllPass (moment_in self.now) notes.old notes.new
+            (removal_checks (effects_in self.now) row.now.id name.now node))
+            (Halts (moment_in self.now) notes.old notes.new
+            (removal_checks (effects_in self.now) row.now.id name.now node)) }
     {
         let Some(node) = node else {
             return Err(failed(Exception::NullBinder));

@@ -85,7 +85,8 @@ impl Manager {
     ) -> Result<(), SmallStop>
         requires { row.now ≡ client_row (effects_in self.now) row.now.id }
         ensures { MatchResult result
-            (λ done. AllPass (moment_in self.now) notes.old notes.new (watch_checks (effects_in self.now) row.now.id name.now)
+            (λ done. AllPass (moment_in self.now) notes.old notes.new
+            (watch_checks (effects_in self.now) row.now.id name.now)
             × (nat_lt (length (watches_at (effects_in self.now))) MOST_WATCHES ≡ true))
             (Halts (moment_in self.now) notes.old notes.new (watch_checks (effects_in self.now) row.now.id name.now)) }
     {

@@ -4,4 +4,5 @@ use Rattle.sm_audit.specs.AuditLines.{audit_line}
 use Rattle.sm_audit.proofs.lines.push_lines.Given as goal
 
 abbrev pub invariant-loop-denied : goal.invariant-loop-denied
-invariant-loop-denied l = l.lines.items ++ flat_map audit_line (drop l.denied-index l.records) ≡ flat_map audit_line l.records
+invariant-loop-denied l = l.lines.items
+    ++ flat_map audit_line (drop l.denied-index l.records) ≡ flat_map audit_line l.records

@@ -5,7 +5,8 @@ use Rattle.sm_engine.proofs.running.run.Given as goal
 
 abbrev pub invariant-loop-reads : goal.invariant-loop-reads
 invariant-loop-reads g l = record {
-  sofar : Sofar l.fn.kind g.M.Machine.answers g.M.Machine.over l.reads l.fn.machine l.lines (g.R.Read.remaining (inner_of l.fn.reader))
+  sofar : Sofar l.fn.kind g.M.Machine.answers g.M.Machine.over l.reads l.fn.machine l.lines
+      (g.R.Read.remaining (inner_of l.fn.reader))
       (g.R.Read.remaining (inner_of l.reader)) (g.W.Write.contents (inner_of l.fn.writer))
       (g.W.Write.contents (inner_of l.writer)) (g.A.Write.contents (inner_of l.fn.audit))
       (g.A.Write.contents (inner_of l.audit)) l.machine;

@@ -26,7 +26,8 @@ returns-else-places c =
     let may = rw (← c.self.view_is) at c.requires.may in
     let room = rw (← c.self.view_is) at c.has_places-places.ensures in
     let alive = sym c.is_die.ensures ∙ c.if-is_die.false in
-    rw (← c.self.view_is) (c.if-places.false ∙ sym (ap (λ (t : Bool). t && c.counts_fit-counts.result) c.if-places.false)
+    rw (← c.self.view_is)
+    (c.if-places.false ∙ sym (ap (λ (t : Bool). t && c.counts_fit-counts.result) c.if-places.false)
     ∙ place_is c.self.inside.places h (client_of c.args.by) c.args.event.now
     c.places_needed.result c.has_places-places.result c.counts_fit-counts.result c.args.effects.now k.stands.sound may
     effects alive (numbers_fit _ h k.lawful).counts room c.places_needed.ensures.is

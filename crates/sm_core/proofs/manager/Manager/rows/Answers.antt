@@ -31,7 +31,8 @@ returns c =
     let length : c.length-length.result ≡ length_of h =
     c.length-length.ensures ∙ sym (ap (λ (m : Managed). length_of m.book.history) c.self.view_is) in
     c.new.ensures
-    ∙ ap (λ (t : Rows). record { tables = t; length = c.length-length.result; turns = c.in_ok-turns.turns.items }) tables
+    ∙ ap (λ (t : Rows). record { tables = t; length = c.length-length.result; turns = c.in_ok-turns.turns.items })
+    tables
     ∙ ap (λ (ts : List TurnRow). record { tables = rows_at d; length = c.length-length.result; turns = ts }) turns
     ∙ ap (λ (n : ℕ). record { tables = rows_at d; length = n; turns = map (turn_row h) (actors_of h) }) length
     ∙ ap (λ (m : Managed). rows_of m.book.history) c.self.view_is

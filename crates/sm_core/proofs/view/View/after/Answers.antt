@@ -25,14 +25,18 @@ invariant_of-result c =
     let services = arc_value c.in_ok-services.services in
     let base = arc_value c.in_ok-turn_counts.turn_counts.base in
     let since = c.in_ok-turn_counts.turn_counts.since.items in
-    let before : Viewed i.places h i.length (arc_value i.principals) (arc_value i.services) (arc_value i.turn_counts.base)
+    let before : Viewed i.places h i.length (arc_value i.principals) (arc_value i.services)
+    (arc_value i.turn_counts.base)
     i.turn_counts.since.items =
     subst (λ (g : History). Viewed i.places g i.length (arc_value i.principals) (arc_value i.services)
     (arc_value i.turn_counts.base) i.turn_counts.since.items) was c.self.invariant in
-    subst (λ (j : Written). Viewed i.places (entered c.of-2.result.value j.history) (i.length + 1) principals services base
+    subst (λ (j : Written). Viewed i.places (entered c.of-2.result.value j.history)
+    (i.length + 1) principals services base
     since) (sym c.of.ensures)
-    (subst (λ (e : Entry). Viewed i.places (entered e h) (i.length + 1) principals services base since) (sym c.of-2.ensures)
-    (viewed_more i.places h c.args.turns.now c.args.state.now c.args.ready.now i.length (arc_value i.principals) principals
+    (subst (λ (e : Entry). Viewed i.places (entered e h) (i.length + 1) principals services base since)
+    (sym c.of-2.ensures)
+    (viewed_more i.places h c.args.turns.now c.args.state.now c.args.ready.now i.length
+    (arc_value i.principals) principals
     (arc_value i.services) services (arc_value i.turn_counts.base) base i.turn_counts.since.items since
     (rw (← places) at c.requires.kept) (rw (← places) at c.requires.coming) before
     (rw c.deref.ensures.value at c.in_ok-principals.ensures) (rw c.deref-2.ensures.value at c.in_ok-services.ensures)

@@ -23,7 +23,9 @@ invariant_of-result c =
     subst (λ (j : Written). Viewed c.args.places j.history c.length.result principals services
     (arc_value c.in_ok-turn_counts.turn_counts.base) c.in_ok-turn_counts.turn_counts.since.items) (sym c.of-3.ensures)
     (viewed_now c.args.places now.history c.args.turns.now c.args.state.now c.length.result principals services
-    (arc_value c.in_ok-turn_counts.turn_counts.base) c.in_ok-turn_counts.turn_counts.since.items c.requires c.length.ensures
-    (λ d s. subst (λ (p : Principals). StandPrincipals d p) (sym c.in_ok-principals.ensures.ok) (c.in_ok-of.ensures.stand d s))
+    (arc_value c.in_ok-turn_counts.turn_counts.base) c.in_ok-turn_counts.turn_counts.since.items c.requires
+    c.length.ensures
+    (λ d s. subst (λ (p : Principals). StandPrincipals d p) (sym c.in_ok-principals.ensures.ok)
+    (c.in_ok-of.ensures.stand d s))
     (λ d s. subst (λ (rs : List NameRow). TracksRows d rs) (sym rows) (c.services.ensures d s.names))
     c.in_ok-turn_counts.ensures)

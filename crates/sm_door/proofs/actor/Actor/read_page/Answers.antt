@@ -22,7 +22,8 @@ invariant_of-self g c =
     let found : c.deref-in-Ok.result.now ≡ page = search (rules, c.get.ensures, c.deref-in-Ok.ensures) in
     let now = c.leave.ensures.1 ∙ c.in-Ok.ensures.1.1 in
     subst (λ (b : Book). (c.turn-self-inside.result ≡ turn_of b.history c.self.inside.by) × IsLawfulBook b)
-    (found ∙ ap (λ (k : ReaderKnowledge). k.seen) (sym now)) (c.turn-self-inside.ensures.turn, c.turn-self-inside.ensures.lawful)
+    (found ∙ ap (λ (k : ReaderKnowledge). k.seen) (sym now))
+    (c.turn-self-inside.ensures.turn, c.turn-self-inside.ensures.lawful)
 
 pub returns-in-Ok : goal.returns-in-Ok
 returns-in-Ok g c =
@@ -52,12 +53,14 @@ pub invariant_of-self-in-Err : goal.invariant_of-self-in-Err
 invariant_of-self-in-Err g c =
     let had : c.self.inside.reader ≡ Some c.unwrap.result = search (rules, c.take.ensures, c.unwrap.ensures) in
     let kept = rw had at c.self.invariant in
-    subst (λ (k : ReaderKnowledge). (c.self.inside.turn ≡ turn_of k.seen.history c.self.inside.by) × IsLawfulBook k.seen)
+    subst (λ (k : ReaderKnowledge). (c.self.inside.turn ≡ turn_of k.seen.history c.self.inside.by)
+    × IsLawfulBook k.seen)
     (sym c.in-Err.ensures.1) kept
 
 pub invariant_of-self-in-Err-2 : goal.invariant_of-self-in-Err-2
 invariant_of-self-in-Err-2 g c =
     let had : c.self.inside.reader ≡ Some c.unwrap.result = search (rules, c.take.ensures, c.unwrap.ensures) in
     let kept = rw had at c.self.invariant in
-    subst (λ (k : ReaderKnowledge). (c.self.inside.turn ≡ turn_of k.seen.history c.self.inside.by) × IsLawfulBook k.seen)
+    subst (λ (k : ReaderKnowledge). (c.self.inside.turn ≡ turn_of k.seen.history c.self.inside.by)
+    × IsLawfulBook k.seen)
     (sym c.in-Err.ensures.1) kept

@@ -14,10 +14,12 @@ invariant_of-self g c =
 pub returns : goal.returns
 returns g c =
     let seen = c.inform-reader.ensures.seen in
-    let had : c.self.inside.reader ≡ Some c.unwrap-reader.result = search (rules, c.take.ensures, c.unwrap-reader.ensures)
+    let had : c.self.inside.reader ≡ Some c.unwrap-reader.result =
+    search (rules, c.take.ensures, c.unwrap-reader.ensures)
     in
     let view = rw had at c.self.view_is in
-    let was : (place_view c.unwrap-reader.result.place).seen ≡ c.args.self.now.seen = ap (λ (k : Knows). k.seen) view in (
+    let was : (place_view c.unwrap-reader.result.place).seen ≡ c.args.self.now.seen =
+    ap (λ (k : Knows). k.seen) view in (
       record {
         by = ap (λ (k : Knows). k.by) c.self.view_is;
         lawful = subst IsLawfulBook (sym seen) c.turn-self-inside.ensures.lawful;

@@ -9,6 +9,8 @@ use Rattle.sm_door.proofs.desk.Desk.records.Goals as goal
 pub returns-clause-true_records : goal.returns-clause-true_records
 returns-clause-true_records g c =
     let all : All (IsTrueSince c.args.self.now.book.history) c.self.inside.manager.ring =
-    subst (λ (k : Locked). All (IsTrueSince k.book.history) c.self.inside.manager.ring) c.self.view_is c.lawful.ensures.records in
+    subst (λ (k : Locked). All (IsTrueSince k.book.history) c.self.inside.manager.ring)
+    c.self.view_is c.lawful.ensures.records in
     IfOk-weaker c.records.result _ _
-    (λ v is. subst (λ (l : List Record). All (IsTrueSince c.args.self.now.book.history) l) (sym is) all) c.records.ensures.all
+    (λ v is. subst (λ (l : List Record). All (IsTrueSince c.args.self.now.book.history) l) (sym is) all)
+    c.records.ensures.all

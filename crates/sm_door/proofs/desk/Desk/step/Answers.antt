@@ -9,19 +9,22 @@ use Rattle.sm_door.proofs.desk.Desk.step.Goals as goal
 
 pub returns-in-Err-clause-answers : goal.returns-in-Err-clause-answers
 returns-in-Err-clause-answers g c =
-    subst (λ (l : Locked). Steps l.book c.args.by c.args.turn c.args.event c.in-Err.refused.0 c.ready_recorded.new.self.book)
+    subst (λ (l : Locked).
+    Steps l.book c.args.by c.args.turn c.args.event c.in-Err.refused.0 c.ready_recorded.new.self.book)
     c.self.view_is (steps_refused _ _ _ _ _ _ c.ready_recorded.ensures.same c.in-Err.ensures.refused)
 
 pub returns-in-Err-clause-ring : goal.returns-in-Err-clause-ring
 returns-in-Err-clause-ring g c =
     subst
-    (λ (l : Locked). c.ready_recorded.new.self.ring ≡ ring_after l.ring l.book c.args.by c.args.turn c.args.event c.in-Err.refused.0)
+    (λ (l : Locked). c.ready_recorded.new.self.ring
+    ≡ ring_after l.ring l.book c.args.by c.args.turn c.args.event c.in-Err.refused.0)
     c.self.view_is c.in-Err.ensures.recorded
 
 pub returns-in-Err-clause-records : goal.returns-in-Err-clause-records
 returns-in-Err-clause-records g c =
     subst
-    (λ (l : Locked). c.in-Err.refused.1.items ≡ step_leaves l.book c.args.by c.args.turn c.args.event c.in-Err.refused.0)
+    (λ (l : Locked). c.in-Err.refused.1.items
+    ≡ step_leaves l.book c.args.by c.args.turn c.args.event c.in-Err.refused.0)
     c.self.view_is c.in-Err.ensures.leaves
 
 pub show_ready-requires-clause-shown : goal.show_ready-requires-clause-shown
@@ -41,7 +44,8 @@ returns-in-Ok-show_ready-clause-answers g c =
 pub returns-in-Ok-show_ready-clause-ring : goal.returns-in-Ok-show_ready-clause-ring
 returns-in-Ok-show_ready-clause-ring g c =
     subst
-    (λ (l : Locked). c.commit.new.self.ring ≡ ring_after l.ring l.book c.args.by c.args.turn c.args.event c.commit.result)
+    (λ (l : Locked). c.commit.new.self.ring
+    ≡ ring_after l.ring l.book c.args.by c.args.turn c.args.event c.commit.result)
     c.self.view_is
     (ring_done _ _ _ c.self.inside.manager.book c.args.by c.args.turn c.args.event _ _ _ c.commit.ensures.reply
     c.in-Ok.ensures.kept c.in-Ok.ensures.noted c.commit.ensures.ring)

@@ -11,7 +11,8 @@ use Rattle.sm_door.proofs.door.Door.connect.Goals as goal
 
 pub connected-requires : goal.connected-requires
 connected-requires g c =
-    connect_answered c.deref_mut-desk.result.now.book c.step-reply.new.self.book c.args.who c.turn-due.result c.step-reply.result.0
+    connect_answered c.deref_mut-desk.result.now.book c.step-reply.new.self.book c.args.who c.turn-due.result
+    c.step-reply.result.0
     c.turn-due.ensures.turn c.step-reply.ensures.answers
 
 pub returns-in-Ok : goal.returns-in-Ok
@@ -20,7 +21,8 @@ returns-in-Ok g c =
     let after = c.step-reply.new.self.book in
     let new = c.see.new.self in
     let is : c.step-reply.result.0 ≡ Done (Connected c.in-Ok.client) = search rules in
-    let s = subst (λ r. Steps b Manager c.turn-due.result (Connect c.args.who) r after) is c.step-reply.ensures.answers in
+    let s = subst (λ r. Steps b Manager c.turn-due.result (Connect c.args.who) r after) is
+    c.step-reply.ensures.answers in
     let sees = subst (λ (k : Knows). Sees k after (token Manager new.seen new.reads)) c.seat.view_is
     (sees_alike c.seat.inside.actor new after Manager c.see.ensures) in
     subst (λ (k : Knows). Joined c.args.seat k c.args.who) (sym c.into_session.ensures)

@@ -14,4 +14,5 @@ returns-in-Ok-tokens_of-clause-opened g c =
     )
 
 pub returns-in-Err-clause-refused : goal.returns-in-Err-clause-refused
-returns-in-Err-clause-refused g c = ⊎_elim (λ m. inl m) (λ s. inr (inl (c.in_ok-manager.ensures.opened.0, s))) c.in-Err.ensures.refused
+returns-in-Err-clause-refused g c = ⊎_elim (λ m. inl m)
+    (λ s. inr (inl (c.in_ok-manager.ensures.opened.0, s))) c.in-Err.ensures.refused

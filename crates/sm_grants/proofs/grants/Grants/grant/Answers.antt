@@ -73,7 +73,8 @@ returns-clause-tracks c d tr live =
     tracks_gives d rows _ c.args.client c.grant.new.self c.args.node c.in-Some-grant.number
     (row_changed rows c.args.client c.in-Some.i c.index_mut-row.result.now c.grant.new.self at
     c.index_mut-row.ensures.value)
-    (subst (λ (o : Option HandleTable). IsGranted (slots_in o) c.grant.new.self.slots c.args.node c.in-Some-grant.number)
+    (subst (λ (o : Option HandleTable).
+    IsGranted (slots_in o) c.grant.new.self.slots c.args.node c.in-Some-grant.number)
     (sym here.0) c.in-Some-grant.ensures.granted) tr live
 
 pub returns-clause-spare : goal.returns-clause-spare

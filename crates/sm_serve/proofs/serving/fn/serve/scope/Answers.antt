@@ -42,7 +42,8 @@ sends-requires-4-send-X g c κs within =
     let J = param 0 g.row.J in
     let D = AdminInside.the_type J g.J.Naming in
     let number : IsSend AdminId.the_field.row = search sendable depth 20 in
-    let actor : IsSend (Actor.the_row J g.J.Naming) = search (sendable, crosses, c.sends-3.ensures) depth 60 fits 20000 in
+    let actor : IsSend (Actor.the_row J g.J.Naming) =
+    search (sendable, crosses, c.sends-3.ensures) depth 60 fits 20000 in
     let inside = recorded_send _ _ _ D.to_one (struct_send (struct.shape D) (number, (actor, tt))) in
     param_send 0 _ (arg_send _ no _ (model_send (AdminInside.the_row J g.J.Naming) _ _ _ _ inside))
 
@@ -51,7 +52,8 @@ sends-requires-10-send-X g c κs within =
     let J = param 0 g.row.J in
     let D = SessionInside.the_type J g.J.Naming in
     let client : IsSend ClientId.the_field.row = search sendable depth 20 in
-    let actor : IsSend (Actor.the_row J g.J.Naming) = search (sendable, crosses, c.sends-3.ensures) depth 60 fits 20000 in
+    let actor : IsSend (Actor.the_row J g.J.Naming) =
+    search (sendable, crosses, c.sends-3.ensures) depth 60 fits 20000 in
     let inside = recorded_send _ _ _ D.to_one (struct_send (struct.shape D) (client, (actor, tt))) in
     param_send 0 _ (arg_send _ no _ (model_send (SessionInside.the_row J g.J.Naming) _ _ _ _ inside))
 
@@ -60,7 +62,8 @@ sends-requires-9-send-X g c κs within =
     let J = param 0 g.row.J in
     let page : IsSend (page_row J g.J.Naming) = search (sendable, crosses, c.crosses-4.ensures.0) depth 60 fits 20000 in
     let w : IsSend (writer_row J g.J.Naming) = search (sendable, crosses, c.sends-6.ensures) depth 60 fits 20000 in
-    let registry : IsSend (Registry.the_row J g.J.Naming) = search (sendable, crosses, c.sends-8.ensures) depth 60 fits 20000 in
+    let registry : IsSend (Registry.the_row J g.J.Naming) =
+    search (sendable, crosses, c.sends-8.ensures) depth 60 fits 20000 in
     param_send 0 _ (arg_send _ no _ (desk_send J g.J.Naming manager_send registry page w))
 
 pub spawn-requires-2-send-F : goal.spawn-requires-2-send-F
