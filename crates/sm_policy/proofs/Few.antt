@@ -10,9 +10,10 @@ use Rattle.sm_ruletext.specs.declared.limits.TheConstants.{MOST_RULES}
 use Rattle.sm_ruletext.specs.declared.fault.RuleTextFault.TheVariants.{TooLarge, TooMany}
 use Rattle.sm_ruletext.specs.declared.statement.What.{What}
 use Rattle.sm_ruletext.specs.declared.statement.Statement.{Statement}
-use Rattle.sm_ruletext.specs.declared.token.Kind.{Kind}
-use Rattle.sm_ruletext.specs.declared.token.Kind.TheVariants.{Word, Semicolon, Comma, Colon, Open, Close, Star, Tilde}
-use Rattle.sm_ruletext.specs.declared.token.Kind.TheVariants.{Dash, Other}
+use Rattle.sm_ruletext.specs.declared.token.TokenKind.{TokenKind}
+use Rattle.sm_ruletext.specs.declared.token.TokenKind.TheVariants.{Word, Semicolon, Comma, Colon, Open, Close, Star}
+use Rattle.sm_ruletext.specs.declared.token.TokenKind.TheVariants.{Tilde}
+use Rattle.sm_ruletext.specs.declared.token.TokenKind.TheVariants.{Dash, Other}
 use Rattle.sm_ruletext.specs.Lexing.{Tokens, tokens}
 use Rattle.sm_ruletext.specs.Words.{keyword_of}
 use Rattle.sm_ruletext.specs.Statements.{what_at, with_statement, statement_from, statements_within, statements_of}
@@ -30,7 +31,7 @@ one_more line sts more (Some w) h = by (is_rule w && nat_le MOST_RULES (rule_cou
   by false g = let is : sts ++ record { line = line; what = w } ∷ [] ≡ more = cc in
       omega (arith, ap (length {A = Statement}) is, length-append sts (record { line = line; what = w } ∷ []))
 
-one_statement : (line : ℕ) (k : Kind) (sts : List Statement) (ts : Tokens) (next : List Statement × Tokens)
+one_statement : (line : ℕ) (k : TokenKind) (sts : List Statement) (ts : Tokens) (next : List Statement × Tokens)
     → statement_from line k sts ts ≡ Ok next → length next.0 ≤ length sts + 1
 unfolding statement_from
 one_statement line Semicolon sts ts next h = let is : sts ≡ next.0 = cc in omega (arith, ap (length {A = Statement}) is)

@@ -4,7 +4,7 @@ use Rattle.std.proofs.Common.{get_or, drop, ◌<◌, refl, ap, sym, arith}
 use Rattle.std.specs.List.{prefix_len}
 use Rattle.sm_ruletext.specs.Lexing.{Tokens, tokens, is_blank, is_in_line, kind_at, len_after, IsAtToken}
 use Rattle.std.proofs.lemmas.Bool.{not-true, or_parts, ne_eqb}
-use Rattle.sm_ruletext.specs.declared.token.Kind.{Kind}
+use Rattle.sm_ruletext.specs.declared.token.TokenKind.{TokenKind}
 
 pub tokens-drop : (skip line : ℕ) (bytes : List ℕ) → tokens skip line bytes ≡ tokens 0 line (drop skip bytes)
 unfolding tokens
@@ -58,7 +58,7 @@ length-tokens zero line (b ∷ bytes) =
           ]
     ]
 
-pub takes : (line len : ℕ) (kind : Kind) (bytes : List ℕ) → IsAtToken bytes → 0 < length bytes
+pub takes : (line len : ℕ) (kind : TokenKind) (bytes : List ℕ) → IsAtToken bytes → 0 < length bytes
     → kind ≡ kind_at (get_or bytes 0 0) (drop 1 bytes) → len ≡ 1 + len_after (get_or bytes 0 0) (drop 1 bytes)
     → tokens 0 line bytes ≡ (line, kind) ∷ tokens 0 line (drop len bytes)
 takes line len kind [] at some kind-is len-is = absurd (omega arith)

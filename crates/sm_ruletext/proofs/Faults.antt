@@ -4,9 +4,9 @@ use Rattle.std.proofs.Common.{List, [], ◌∷◌, ◌++◌, length, Option, Som
 use Rattle.std.proofs.lemmas.List.{length-append}
 use Rattle.std.proofs.lemmas.Bool.{ltb-true}
 use Rattle.std.specs.Prelude.{IfErr}
-use Rattle.sm_ruletext.specs.declared.token.Kind.{Kind}
-use Rattle.sm_ruletext.specs.declared.token.Kind.TheVariants.{Word, Semicolon, Comma, Colon, Open, Close, Star, Tilde}
-use Rattle.sm_ruletext.specs.declared.token.Kind.TheVariants.{Dash, Other}
+use Rattle.sm_ruletext.specs.declared.token.TokenKind.{TokenKind}
+use Rattle.sm_ruletext.specs.declared.token.TokenKind.TheVariants.{Word, Semicolon, Comma, Colon, Open, Close, Star, Tilde}
+use Rattle.sm_ruletext.specs.declared.token.TokenKind.TheVariants.{Dash, Other}
 use Rattle.sm_ruletext.specs.declared.fault.RuleTextFault.{RuleTextFault}
 use Rattle.sm_ruletext.specs.declared.fault.RuleTextFault.TheVariants.{Syntax, TooLarge, Unsupported, TooMany, Memory}
 use Rattle.sm_ruletext.specs.declared.items.Items.{Items}
@@ -177,7 +177,7 @@ items_made i ts = Ok (i, ts)
 abbrev set_made : ℕ → Bool → Items × Tokens → Read (Set × Bool)
 set_made line complement r = Ok (set_of line complement r.0, r.1)
 
-items_only : (line : ℕ) (m : Bool) (k : Kind) (ts : Tokens) → OnlySyntax line (items_from line m k ts)
+items_only : (line : ℕ) (m : Bool) (k : TokenKind) (ts : Tokens) → OnlySyntax line (items_from line m k ts)
 unfolding items_from
 items_only line m (Word w) ts =
     bind_only line (with_word line m no_items w) (λ i. items_made i ts) (word_only line m no_items w) (λ i. tt)
@@ -191,7 +191,7 @@ items_only line m Tilde ts = refl
 items_only line m Dash ts = refl
 items_only line m Other ts = refl
 
-set_only : (line : ℕ) (m : Bool) (k : Kind) (ts : Tokens) → OnlySyntax line (set_from line m k ts)
+set_only : (line : ℕ) (m : Bool) (k : TokenKind) (ts : Tokens) → OnlySyntax line (set_from line m k ts)
 unfolding set_from
 set_only line m (Word w) ts =
     bind_only line (items_from line m (Word w) ts) (set_made line false) (items_only line m (Word w) ts) (λ r. tt)
@@ -307,7 +307,7 @@ stated_fault line l w vs behind us what sts made more e ts parts behind-is made-
     rw (parts, behind-is) (HasFault.stated line l w vs us what sts more e spelled
     (step ∙ ap (λ (x : List Statement). Ok x) made-is) h)
 
-begins_is : (line : ℕ) (k : Kind) (sts : List Statement) (ts : Tokens) (e : RuleTextFault) → BeginsNoStatement k
+begins_is : (line : ℕ) (k : TokenKind) (sts : List Statement) (ts : Tokens) (e : RuleTextFault) → BeginsNoStatement k
     → Syntax line ≡ e → HasFault sts ((line, k) ∷ ts) e
 begins_is line k sts ts e b h = rw (← h) (HasFault.begins line k ts sts b)
 

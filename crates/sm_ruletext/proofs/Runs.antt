@@ -1,6 +1,6 @@
 -- The loop over statements.
 use Rattle.std.proofs.Common.{◌≡◌, ℕ, zero, suc, ◌≤◌, List, [], ◌∷◌, length, Ok, Err, refl, sym, ◌∙◌, arith}
-use Rattle.sm_ruletext.specs.declared.token.Kind.{Kind}
+use Rattle.sm_ruletext.specs.declared.token.TokenKind.{TokenKind}
 use Rattle.sm_ruletext.specs.declared.fault.RuleTextFault.{RuleTextFault}
 use Rattle.sm_ruletext.specs.declared.statement.Statement.{Statement}
 use Rattle.sm_ruletext.specs.Lexing.{Tokens}
@@ -19,13 +19,13 @@ pub leads_first : (ts : Tokens) → LeadsTo (statements_of ts) [] ts
 unfolding statements_of
 leads_first ts = record { most = length ts; enough = omega arith; same = refl }
 
-one_more : (most line : ℕ) (k : Kind) (sts : List Statement) (ts : Tokens)
+one_more : (most line : ℕ) (k : TokenKind) (sts : List Statement) (ts : Tokens)
     → statements_within (suc most) sts ((line, k) ∷ ts)
     ≡ (statement_from line k sts ts >>= λ next. statements_within most next.0 next.1)
 unfolding statements_within
 one_more most line k sts ts = refl
 
-pub leads_on : (total : Step (List Statement)) (sts more : List Statement) (line : ℕ) (k : Kind) (before ts us : Tokens)
+pub leads_on : (total : Step (List Statement)) (sts more : List Statement) (line : ℕ) (k : TokenKind) (before ts us : Tokens)
     → before ≡ (line, k) ∷ ts → LeadsTo total sts before
     → statement_from line k sts ts ≡ Ok (more, us) → length us ≤ length ts → LeadsTo total more us
 leads_on total sts more line k before ts us front so_far step fewer =
@@ -43,7 +43,7 @@ leads_on total sts more line k before ts us front so_far step fewer =
                 ∙ (sym (one_more most line k sts ts) ∙ same);
           }
 
-pub leads_to_fault : (e : RuleTextFault) (total : Step (List Statement)) (sts : List Statement) (line : ℕ) (k : Kind)
+pub leads_to_fault : (e : RuleTextFault) (total : Step (List Statement)) (sts : List Statement) (line : ℕ) (k : TokenKind)
     (before ts : Tokens) → before ≡ (line, k) ∷ ts → LeadsTo total sts before
     → Fails is_memory e (statement_from line k sts ts) → Fails is_memory e total
 leads_to_fault e total sts line k before ts front so_far step =

@@ -2,9 +2,9 @@
 use Rattle.std.proofs.Common.{inl, inr, ◌⊎◌, ◌≡◌, ℕ, zero, suc, Bool, true, false, cond, List, [], ◌∷◌, ◌++◌, Ok, Err}
 use Rattle.std.proofs.Common.{refl, sym, ap, subst, ◌∙◌, append_assoc}
 use Rattle.std.proofs.lemmas.List.{append-nil}
-use Rattle.sm_ruletext.specs.declared.token.Kind.{Kind}
-use Rattle.sm_ruletext.specs.declared.token.Kind.TheVariants.{Word, Semicolon, Comma, Colon, Open, Close, Star, Tilde}
-use Rattle.sm_ruletext.specs.declared.token.Kind.TheVariants.{Dash, Other}
+use Rattle.sm_ruletext.specs.declared.token.TokenKind.{TokenKind}
+use Rattle.sm_ruletext.specs.declared.token.TokenKind.TheVariants.{Word, Semicolon, Comma, Colon, Open, Close, Star, Tilde}
+use Rattle.sm_ruletext.specs.declared.token.TokenKind.TheVariants.{Dash, Other}
 use Rattle.sm_ruletext.specs.declared.fault.RuleTextFault.{RuleTextFault}
 use Rattle.sm_ruletext.specs.declared.fault.RuleTextFault.TheVariants.{Syntax}
 use Rattle.sm_ruletext.specs.declared.items.Items.{Items}
@@ -47,7 +47,7 @@ items_again line m _ _ _ (SpellsItems.more vs ws i n j s t) depth fresh us =
     ap (λ (x : Tokens). group_at line m depth fresh i x) (append_assoc vs ws us)
     ∙ (items_again line m vs i n s depth fresh (ws ++ us) ∙ items_again line m ws n j t depth false us)
 
-abbrev head_kind : Tokens → Kind
+abbrev head_kind : Tokens → TokenKind
 head_kind [] = Other
 head_kind ((l, k) ∷ ts) = k
 
@@ -56,7 +56,7 @@ closes : (line : ℕ) (m : Bool) (i : Items) (l : ℕ) (us : Tokens)
 unfolding group_at
 closes line m i l us = refl
 
-simple_again : (line l : ℕ) (m : Bool) (k : Kind) (ts vs us : Tokens) (i : Items) → SpellsSimple m vs i
+simple_again : (line l : ℕ) (m : Bool) (k : TokenKind) (ts vs us : Tokens) (i : Items) → SpellsSimple m vs i
     → vs ++ us ≡ (l, k) ∷ ts → items_from line m k ts ≡ Ok (i, us)
 unfolding items_from
 simple_again line l m k ts _ us _ (SpellsSimple.name n w h) e =
@@ -199,7 +199,7 @@ group_taken line m depth fresh i ((l, Other) ∷ ts) j us e = absurd cc
 abbrev Taken : (Tokens → Type 0) → Tokens → Tokens → Type 0
 Taken Spelled ts us = (vs : Tokens) × (ts ≡ vs ++ us) × Spelled vs
 
-simple_taken : (line l : ℕ) (m : Bool) (k : Kind) (ts us : Tokens) (i : Items) → items_from line m k ts ≡ Ok (i, us)
+simple_taken : (line l : ℕ) (m : Bool) (k : TokenKind) (ts us : Tokens) (i : Items) → items_from line m k ts ≡ Ok (i, us)
     → Taken (λ vs. SpellsSimple m vs i) ((l, k) ∷ ts) us
 unfolding items_from
 simple_taken line l m (Word w) ts us i e =
@@ -232,7 +232,7 @@ abbrev as_set : ℕ → Items × Tokens → Read (Set × Bool)
 as_set line r = Ok (set_of line false r.0, r.1)
 
 -- a set that is neither `*` nor a complement
-simple_set : (line l : ℕ) (m : Bool) (k : Kind) (ts us : Tokens) (s : Set × Bool)
+simple_set : (line l : ℕ) (m : Bool) (k : TokenKind) (ts us : Tokens) (s : Set × Bool)
     → (items_from line m k ts >>= as_set line) ≡ Ok (s, us) → Taken (λ vs. SpellsSet line m vs s) ((l, k) ∷ ts) us
 simple_set line l m k ts us s e =
     let b = went_well (items_from line m k ts) (λ r. Ok (set_of line false r.0, r.1)) (s, us) e in
@@ -275,7 +275,7 @@ simple_some : (m : Bool) (i : Items) → SpellsSimple m [] i → ⊥
 simple_some m i s = elim s [ ]
 
 -- a set that begins with neither `*` nor `~`
-plain : (line l : ℕ) (m : Bool) (k : Kind) (vs us : Tokens) (i : Items) → SpellsSimple m ((l, k) ∷ vs) i
+plain : (line l : ℕ) (m : Bool) (k : TokenKind) (vs us : Tokens) (i : Items) → SpellsSimple m ((l, k) ∷ vs) i
     → set_at line m (((l, k) ∷ vs) ++ us) ≡ Ok (set_of line false i, us)
 unfolding set_at set_from kind_at
 plain line l m (Word w) vs us i s = rw (simple_again line l m (Word w) (vs ++ us) ((l, Word w) ∷ vs) us i s refl) refl

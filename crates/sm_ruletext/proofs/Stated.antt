@@ -3,9 +3,9 @@ use Rattle.std.proofs.Common.{◌≡◌, ℕ, zero, suc, ◌≤◌, IfOk, ltb, B
 use Rattle.std.proofs.Common.{Option, Some, None, Ok, Err, refl, sym, ap, subst, ◌∙◌, append_assoc, arith}
 use Rattle.std.proofs.lemmas.List.{append-nil, length-append}
 use Rattle.std.proofs.lemmas.Bool.{le-ltb}
-use Rattle.sm_ruletext.specs.declared.token.Kind.{Kind}
-use Rattle.sm_ruletext.specs.declared.token.Kind.TheVariants.{Word, Semicolon, Comma, Colon, Open, Close, Star, Tilde}
-use Rattle.sm_ruletext.specs.declared.token.Kind.TheVariants.{Dash, Other}
+use Rattle.sm_ruletext.specs.declared.token.TokenKind.{TokenKind}
+use Rattle.sm_ruletext.specs.declared.token.TokenKind.TheVariants.{Word, Semicolon, Comma, Colon, Open, Close, Star, Tilde}
+use Rattle.sm_ruletext.specs.declared.token.TokenKind.TheVariants.{Dash, Other}
 use Rattle.sm_ruletext.specs.declared.fault.RuleTextFault.TheVariants.{Syntax, TooLarge}
 use Rattle.sm_ruletext.specs.declared.set.Set.{Set}
 use Rattle.sm_ruletext.specs.declared.rule.Rule.{Rule}
@@ -143,10 +143,10 @@ semicolon_taken line ((l, Tilde) ∷ ts) us e = absurd cc
 semicolon_taken line ((l, Dash) ∷ ts) us e = absurd cc
 semicolon_taken line ((l, Other) ∷ ts) us e = absurd cc
 
-regroup : (a b c d u : Tokens) (n : ℕ × Kind) → (a ++ (b ++ (n ∷ (c ++ d)))) ++ u ≡ a ++ (b ++ (n ∷ (c ++ (d ++ u))))
+regroup : (a b c d u : Tokens) (n : ℕ × TokenKind) → (a ++ (b ++ (n ∷ (c ++ d)))) ++ u ≡ a ++ (b ++ (n ∷ (c ++ (d ++ u))))
 regroup a b c d u n = simp append_assoc
 
-joined : (ts a b n c d us va vb vc vd : Tokens) (colon semi : ℕ × Kind) → ts ≡ va ++ a → a ≡ vb ++ b → b ≡ colon ∷ n
+joined : (ts a b n c d us va vb vc vd : Tokens) (colon semi : ℕ × TokenKind) → ts ≡ va ++ a → a ≡ vb ++ b → b ≡ colon ∷ n
     → n ≡ vc ++ c → c ≡ vd ++ d → d ≡ semi ∷ us
     → ts ≡ (va ++ (vb ++ (colon ∷ (vc ++ vd)))) ++ semi ∷ us
 joined ts a b n c d us va vb vc vd colon semi ea eb en ec ed es =

@@ -1,8 +1,8 @@
 -- The turns of the loops that read names and items.
 use Rattle.std.proofs.Common.{◌≡◌, ℕ, Bool, true, false, cond, List, [], ◌∷◌, ◌++◌, Ok, Err, refl, sym, ap, ◌∙◌}
-use Rattle.sm_ruletext.specs.declared.token.Kind.{Kind}
-use Rattle.sm_ruletext.specs.declared.token.Kind.TheVariants.{Word, Semicolon, Comma, Colon, Open, Close, Star, Tilde}
-use Rattle.sm_ruletext.specs.declared.token.Kind.TheVariants.{Dash, Other}
+use Rattle.sm_ruletext.specs.declared.token.TokenKind.{TokenKind}
+use Rattle.sm_ruletext.specs.declared.token.TokenKind.TheVariants.{Word, Semicolon, Comma, Colon, Open, Close, Star, Tilde}
+use Rattle.sm_ruletext.specs.declared.token.TokenKind.TheVariants.{Dash, Other}
 use Rattle.sm_ruletext.specs.declared.fault.RuleTextFault.TheVariants.{Syntax}
 use Rattle.sm_ruletext.specs.declared.items.Items.{Items}
 use Rattle.sm_ruletext.specs.Lexing.{Tokens}
@@ -41,7 +41,7 @@ name_taken line ((l, Tilde) ∷ ts) us name e = absurd cc
 name_taken line ((l, Dash) ∷ ts) us name e = absurd cc
 name_taken line ((l, Other) ∷ ts) us name e = absurd cc
 
-pub kind_taken : (line : ℕ) (ts us : Tokens) (k : Kind) → kind_at line ts ≡ Ok (k, us) → (l : ℕ) × (ts ≡ (l, k) ∷ us)
+pub kind_taken : (line : ℕ) (ts us : Tokens) (k : TokenKind) → kind_at line ts ≡ Ok (k, us) → (l : ℕ) × (ts ≡ (l, k) ∷ us)
 unfolding kind_at
 kind_taken line [] us k e = absurd cc
 kind_taken line ((l, m) ∷ ts) us k e = let p = ok_parts m k ts us e in (l, cc)
@@ -53,14 +53,14 @@ names_comma line l names ts us name e =
     let t = name_taken line ts us name e in
     rw (t.1, t.2) refl
 
-pub names_turn : (line : ℕ) (names more : List (List ℕ)) (ts us vs : Tokens) (k : Kind) (name : List ℕ)
+pub names_turn : (line : ℕ) (names more : List (List ℕ)) (ts us vs : Tokens) (k : TokenKind) (name : List ℕ)
     (total : Read (List (List ℕ)))
     → kind_at line ts ≡ Ok (k, us) → k ≡ Comma → name_at line us ≡ Ok (name, vs) → more ≡ names ++ name ∷ []
     → names_at line names ts ≡ total → names_at line more vs ≡ total
 names_turn line names more ts us vs k name total kind-is comma-is name-is more-is so_far =
     let t = kind_taken line ts us k kind-is in
     rw more-is (sym (names_comma line t.0 names us vs name name-is)
-    ∙ (ap (λ (x : Kind). names_at line names ((t.0, x) ∷ us)) (sym comma-is)
+    ∙ (ap (λ (x : TokenKind). names_at line names ((t.0, x) ∷ us)) (sym comma-is)
     ∙ (ap (λ (x : Tokens). names_at line names x) (sym t.1) ∙ so_far)))
 
 group_dash : (line l depth : ℕ) (may_self fresh : Bool) (items : Items) (ts us : Tokens) (name : List ℕ)
@@ -73,12 +73,12 @@ group_dash line l depth may_self fresh items ts us name e =
     rw (t.1, t.2) refl
 
 pub group_turn : (line depth : ℕ) (may_self fresh : Bool) (items : Items) (more : List (List ℕ)) (ts us vs : Tokens)
-    (k : Kind) (name : List ℕ) (total : Read Items)
+    (k : TokenKind) (name : List ℕ) (total : Read Items)
     → kind_at line ts ≡ Ok (k, us) → k ≡ Dash → name_at line us ≡ Ok (name, vs) → more ≡ items.minus ++ name ∷ []
     → group_at line may_self depth fresh items ts ≡ total
     → group_at line may_self depth false (record items { minus = more }) vs ≡ total
 group_turn line depth may_self fresh items more ts us vs k name total kind-is dash-is name-is more-is so_far =
     let t = kind_taken line ts us k kind-is in
     rw more-is (sym (group_dash line t.0 depth may_self fresh items us vs name name-is)
-    ∙ (ap (λ (x : Kind). group_at line may_self depth fresh items ((t.0, x) ∷ us)) (sym dash-is)
+    ∙ (ap (λ (x : TokenKind). group_at line may_self depth fresh items ((t.0, x) ∷ us)) (sym dash-is)
     ∙ (ap (λ (x : Tokens). group_at line may_self depth fresh items x) (sym t.1) ∙ so_far)))

@@ -1,9 +1,9 @@
 -- The grammar, read from left to right over tokens. `line` is that of the statement.
 use Rattle.std.specs.Prelude.{ℕ, zero, suc, Bool, true, false, if◌then◌else◌, List, [], ◌∷◌, ◌++◌, Result, Ok, Err}
 use Rattle.sm_kinds.specs.Reading.{◌>>=◌, Gives}
-use Rattle.sm_ruletext.specs.declared.token.Kind.{Kind}
-use Rattle.sm_ruletext.specs.declared.token.Kind.TheVariants.{Word, Semicolon, Comma, Colon, Open, Close, Star, Tilde}
-use Rattle.sm_ruletext.specs.declared.token.Kind.TheVariants.{Dash}
+use Rattle.sm_ruletext.specs.declared.token.TokenKind.{TokenKind}
+use Rattle.sm_ruletext.specs.declared.token.TokenKind.TheVariants.{Word, Semicolon, Comma, Colon, Open, Close, Star, Tilde}
+use Rattle.sm_ruletext.specs.declared.token.TokenKind.TheVariants.{Dash}
 use Rattle.sm_ruletext.specs.declared.fault.RuleTextFault.{RuleTextFault}
 use Rattle.sm_ruletext.specs.declared.fault.RuleTextFault.TheVariants.{TooLarge, Syntax, Unsupported, TooMany, Memory}
 use Rattle.sm_ruletext.specs.declared.items.Items.{Items}
@@ -35,7 +35,7 @@ Reads view result left expected = Gives is_memory (λ x. (view x, left)) result 
 -- ---- tokens and names
 
 -- This reads the next token.
-unfoldable pub kind_at : ℕ → Tokens → Read Kind
+unfoldable pub kind_at : ℕ → Tokens → Read TokenKind
 kind_at line [] = Err (Syntax line)
 kind_at line ((l, k) ∷ ts) = Ok (k, ts)
 
@@ -89,7 +89,7 @@ group_at line may_self (suc depth) false items ((l, Close) ∷ ts) = group_at li
 group_at line may_self depth fresh items ts = Err (Syntax line)
 
 -- This reads a word or a group, whose first token is k.
-unfoldable pub items_from : ℕ → Bool → Kind → Tokens → Read Items
+unfoldable pub items_from : ℕ → Bool → TokenKind → Tokens → Read Items
 items_from line may_self (Word w) ts = with_word line may_self no_items w >>= λ i. Ok (i, ts)
 items_from line may_self Open ts = group_at line may_self zero true no_items ts
 items_from line may_self k ts = Err (Syntax line)
@@ -102,7 +102,7 @@ set_of line complement items = (
 )
 
 -- This reads a set whose first token is k.
-unfoldable pub set_from : ℕ → Bool → Kind → Tokens → Read (Set × Bool)
+unfoldable pub set_from : ℕ → Bool → TokenKind → Tokens → Read (Set × Bool)
 set_from line may_self Star ts = Ok (set_of line false (record no_items { all = true }), ts)
 set_from line may_self Tilde ts = do
   k ← kind_at line ts

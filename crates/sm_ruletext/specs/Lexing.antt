@@ -3,13 +3,13 @@ use Rattle.std.specs.Prelude.{ℕ, zero, suc, ◌+◌, Bool, false, not, ◌&&�
 use Rattle.std.specs.Prelude.{take, slice_index, IsTrue}
 use Rattle.std.specs.List.{prefix_len, list_all}
 use Rattle.std.specs.Char.{is_ascii_alphabetic, is_ascii_alphanumeric}
-use Rattle.sm_ruletext.specs.declared.token.Kind.{Kind}
-use Rattle.sm_ruletext.specs.declared.token.Kind.TheVariants.{Word, Semicolon, Comma, Colon, Open, Close, Star, Tilde}
-use Rattle.sm_ruletext.specs.declared.token.Kind.TheVariants.{Dash, Other}
+use Rattle.sm_ruletext.specs.declared.token.TokenKind.{TokenKind}
+use Rattle.sm_ruletext.specs.declared.token.TokenKind.TheVariants.{Word, Semicolon, Comma, Colon, Open, Close, Star, Tilde}
+use Rattle.sm_ruletext.specs.declared.token.TokenKind.TheVariants.{Dash, Other}
 
 -- Tokens have the line that they begin in.
 abbrev pub Tokens : Type 0
-Tokens = List (ℕ × Kind)
+Tokens = List (ℕ × TokenKind)
 
 -- A byte is a space, a tab or a carriage return.
 abbrev pub is_blank : ℕ → Bool
@@ -33,7 +33,7 @@ abbrev pub is_quoted : ℕ → Bool
 is_quoted b = not (b == 34 || b == 10)
 
 -- This is the token of one byte.
-abbrev pub mark : ℕ → Kind
+abbrev pub mark : ℕ → TokenKind
 mark b =
     if b == 59 then Semicolon
     else if b == 44 then Comma
@@ -51,7 +51,7 @@ quoted_len bytes =
     if slice_index bytes (prefix_len is_quoted bytes) == 34 then prefix_len is_quoted bytes + 1 else 0
 
 -- This is the token that begins with byte b.
-unfoldable pub kind_at : ℕ → List ℕ → Kind
+unfoldable pub kind_at : ℕ → List ℕ → TokenKind
 kind_at b bytes = if is_ascii_alphabetic b then Word (b ∷ take (prefix_len is_word_byte bytes) bytes) else mark b
 
 -- This is the number of bytes after b that belong to that token.

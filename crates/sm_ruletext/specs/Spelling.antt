@@ -2,9 +2,9 @@
 use Rattle.std.specs.Prelude.{◌≡◌, ◌<◌, length, ℕ, Bool, true, false, List, [], ◌∷◌, ◌++◌, Option, Some, None, Ok}
 use Rattle.std.specs.Prelude.{Err, if◌then◌else◌}
 use Rattle.sm_kinds.specs.declared.limits.TheConstants.{MOST_TEXT_BYTES}
-use Rattle.sm_ruletext.specs.declared.token.Kind.{Kind}
-use Rattle.sm_ruletext.specs.declared.token.Kind.TheVariants.{Word, Semicolon, Comma, Colon, Open, Close, Star, Tilde}
-use Rattle.sm_ruletext.specs.declared.token.Kind.TheVariants.{Dash}
+use Rattle.sm_ruletext.specs.declared.token.TokenKind.{TokenKind}
+use Rattle.sm_ruletext.specs.declared.token.TokenKind.TheVariants.{Word, Semicolon, Comma, Colon, Open, Close, Star, Tilde}
+use Rattle.sm_ruletext.specs.declared.token.TokenKind.TheVariants.{Dash}
 use Rattle.sm_ruletext.specs.declared.fault.RuleTextFault.{RuleTextFault}
 use Rattle.sm_ruletext.specs.declared.fault.RuleTextFault.TheVariants.{Memory, TooLarge, Syntax, Unsupported, TooMany}
 use Rattle.sm_ruletext.specs.declared.items.Items.{Items}
@@ -98,7 +98,7 @@ pub data SpellsText : List Statement → Tokens → List Statement → Type 0 wh
       → SpellsText sts ((line, Word w) ∷ (vs ++ (l, Semicolon) ∷ ts)) all
 
 -- A token is neither a word nor a semicolon.
-abbrev pub BeginsNoStatement : Kind → Type 0
+abbrev pub BeginsNoStatement : TokenKind → Type 0
 BeginsNoStatement (Word w) = ⊥
 BeginsNoStatement Semicolon = ⊥
 BeginsNoStatement k = Unit {0}
@@ -121,7 +121,7 @@ pub data HasFault : List Statement → Tokens → RuleTextFault → Type 0 where
       → with_statement line sts what ≡ Err TooMany → HasFault sts ((line, Word w) ∷ (vs ++ (l, Semicolon) ∷ ts)) TooMany
   unsupported : (line : ℕ) (w : List ℕ) (ts : Tokens) (sts : List Statement) → keyword_of w ≡ word.Unknown
       → HasFault sts ((line, Word w) ∷ ts) (Unsupported line)
-  begins : (line : ℕ) (k : Kind) (ts : Tokens) (sts : List Statement) → BeginsNoStatement k
+  begins : (line : ℕ) (k : TokenKind) (ts : Tokens) (sts : List Statement) → BeginsNoStatement k
       → HasFault sts ((line, k) ∷ ts) (Syntax line)
   syntax : (line : ℕ) (w : List ℕ) (ts : Tokens) (sts : List Statement) → (keyword_of w ≡ word.Unknown → ⊥)
       → SpellsNone line (keyword_of w) ts → HasFault sts ((line, Word w) ∷ ts) (Syntax line)

@@ -4,8 +4,8 @@ use Rattle.std.specs.Prelude.{[], ◌∷◌, ◌++◌, length, Option, Some, Non
 use Rattle.sm_kinds.specs.Reading.{◌>>=◌}
 use Rattle.sm_kinds.specs.declared.limits.TheConstants.{MOST_TEXT_BYTES}
 use Rattle.sm_ruletext.specs.declared.limits.TheConstants.{MOST_RULES}
-use Rattle.sm_ruletext.specs.declared.token.Kind.{Kind}
-use Rattle.sm_ruletext.specs.declared.token.Kind.TheVariants.{Word, Semicolon}
+use Rattle.sm_ruletext.specs.declared.token.TokenKind.{TokenKind}
+use Rattle.sm_ruletext.specs.declared.token.TokenKind.TheVariants.{Word, Semicolon}
 use Rattle.sm_ruletext.specs.declared.fault.RuleTextFault.TheVariants.{TooLarge, Syntax, Unsupported, TooMany}
 use Rattle.sm_ruletext.specs.declared.statement.What.{What}
 use Rattle.sm_ruletext.specs.declared.statement.What.TheVariants as what
@@ -70,7 +70,7 @@ with_statement line sts (Some w) =
     else Ok (sts ++ record { line = line; what = w } ∷ [])
 
 -- This reads one statement, whose first token is k.
-unfoldable pub statement_from : ℕ → Kind → List Statement → Tokens → Read (List Statement)
+unfoldable pub statement_from : ℕ → TokenKind → List Statement → Tokens → Read (List Statement)
 statement_from line Semicolon sts ts = Ok (sts, ts)
 statement_from line (Word w) sts ts = do
   what ← what_at line (keyword_of w) ts

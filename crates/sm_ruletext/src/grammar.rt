@@ -8,7 +8,7 @@ ghost use Rattle.sm_ruletext.specs.Grammar.{Reads, is_memory};
 
 use crate::items::Items;
 use crate::keyword::is_self;
-use crate::token::Kind;
+use crate::token::TokenKind;
 use crate::tokens::Tokens;
 use crate::{Rule, RuleTextFault, Set};
 use sm_kinds::{Name, Names};
@@ -16,7 +16,7 @@ use std::alloc::Global;
 
 /// Returns the next token.
 #[tactic(auto, unfolding(crate::specs::Grammar::kind_at))]
-pub fn kind<'a>(tokens: &mut Tokens<'a>, line: u32) -> Result<Kind<'a>, RuleTextFault>
+pub fn kind<'a>(tokens: &mut Tokens<'a>, line: u32) -> Result<TokenKind<'a>, RuleTextFault>
     ensures read { Reads (λ k. k) result tokens.new (spec.kind_at line tokens.old) }
     ensures fewer { OnOk result (length tokens.new + 1 ≡ length tokens.old) }
     ensures few { length tokens.old < 2 ^ 32 }
@@ -33,7 +33,7 @@ fn colon(tokens: &mut Tokens, line: u32) -> Result<(), RuleTextFault>
     ensures fewer { OnOk result (length tokens.new ≤ length tokens.old) }
 {
     match kind(tokens, line)? {
-        Kind::Colon => Ok(()),
+        TokenKind::Colon => Ok(()),
         _ => Err(RuleTextFault::Syntax(line)),
     }
 }
@@ -45,7 +45,7 @@ pub fn semicolon(tokens: &mut Tokens, line: u32) -> Result<(), RuleTextFault>
     ensures fewer { OnOk result (length tokens.new ≤ length tokens.old) }
 {
     match kind(tokens, line)? {
-        Kind::Semicolon => Ok(()),
+        TokenKind::Semicolon => Ok(()),
         _ => Err(RuleTextFault::Syntax(line)),
     }
 }
@@ -57,7 +57,7 @@ pub fn name(alloc: Global, tokens: &mut Tokens, line: u32) -> Result<Name, RuleT
     ensures fewer { OnOk result (length tokens.new + 1 ≡ length tokens.old) }
 {
     match kind(tokens, line)? {
-        Kind::Word(word) => {
+        TokenKind::Word(word) => {
             let bytes = word.bytes();
             if is_self(bytes) {
                 return Err(RuleTextFault::Syntax(line));
@@ -81,8 +81,8 @@ pub fn names(
 {
     'names: loop {
         match kind(tokens, line)? {
-            Kind::Semicolon => return Ok(names),
-            Kind::Comma => {
+            TokenKind::Semicolon => return Ok(names),
+            TokenKind::Comma => {
                 let name = name(alloc, tokens, line)?;
                 names.push(name)?;
             }
@@ -134,24 +134,24 @@ fn group(
     let mut fresh = true;
     'items: loop {
         match kind(tokens, line)? {
-            Kind::Word(word) => {
+            TokenKind::Word(word) => {
                 items = add_word(alloc, tokens, items, line, may_self, word.bytes())?;
                 fresh = false;
             }
-            Kind::Dash => {
+            TokenKind::Dash => {
                 let name = name(alloc, tokens, line)?;
                 items.minus.push(name)?;
                 fresh = false;
             }
-            Kind::Star => {
+            TokenKind::Star => {
                 items.all = true;
                 fresh = false;
             }
-            Kind::Open => {
+            TokenKind::Open => {
                 depth += 1;
                 fresh = true;
             }
-            Kind::Close => {
+            TokenKind::Close => {
                 if fresh {
                     return Err(RuleTextFault::Syntax(line));
                 }
@@ -172,7 +172,7 @@ fn items_from(
     tokens: &mut Tokens,
     line: u32,
     may_self: bool,
-    first: Kind,
+    first: TokenKind,
 ) -> Result<Items, RuleTextFault>
     requires { length tokens.old < 2 ^ 32 }
     ensures read { Reads
@@ -180,11 +180,11 @@ fn items_from(
     ensures fewer { OnOk result (length tokens.new ≤ length tokens.old) }
 {
     match first {
-        Kind::Word(word) => {
+        TokenKind::Word(word) => {
             let items = Items::none(alloc);
             add_word(alloc, tokens, items, line, may_self, word.bytes())
         }
-        Kind::Open => group(alloc, tokens, line, may_self, Items::none(alloc)),
+        TokenKind::Open => group(alloc, tokens, line, may_self, Items::none(alloc)),
         _ => Err(RuleTextFault::Syntax(line)),
     }
 }
@@ -200,12 +200,12 @@ fn set(
     ensures fewer { OnOk result (length tokens.new ≤ length tokens.old) }
 {
     match kind(tokens, line)? {
-        Kind::Star => {
+        TokenKind::Star => {
             let mut items = Items::none(alloc);
             items.all = true;
             Ok(items.into_set(line, false))
         }
-        Kind::Tilde => {
+        TokenKind::Tilde => {
             let first = kind(tokens, line)?;
             let items = items_from(alloc, tokens, line, false, first)?;
             Ok(items.into_set(line, true))

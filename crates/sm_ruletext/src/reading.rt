@@ -11,7 +11,7 @@ ghost use Rattle.sm_ruletext.specs.declared.statement.Statement.{Statement};
 
 use crate::keyword::{Keyword, keyword_of};
 use crate::statements::Statements;
-use crate::token::Kind;
+use crate::token::TokenKind;
 use crate::tokens::Tokens;
 use crate::{RuleKind, RuleTextFault, Statement, What, grammar};
 use sm_kinds::{MOST_TEXT_BYTES, Names};
@@ -23,7 +23,7 @@ fn skipped(tokens: &mut Tokens, line: u32) -> Result<(), RuleTextFault>
     ensures fewer { OnOk result (length tokens.new ≤ length tokens.old) }
 {
     'skipped: loop {
-        if let Kind::Semicolon = grammar::kind(tokens, line)? {
+        if let TokenKind::Semicolon = grammar::kind(tokens, line)? {
             return Ok(());
         }
     }
@@ -124,15 +124,15 @@ fn statement(
     tokens: &mut Tokens,
     mut statements: Statements,
     line: u32,
-    first: Kind,
+    first: TokenKind,
 ) -> Result<Statements, RuleTextFault>
     ensures read { Reads
         (λ s. s) result tokens.new (spec.statement_from line first.entry statements tokens.old) }
     ensures fewer { OnOk result (length tokens.new ≤ length tokens.old) }
 {
     match first {
-        Kind::Semicolon => Ok(statements),
-        Kind::Word(word) => {
+        TokenKind::Semicolon => Ok(statements),
+        TokenKind::Word(word) => {
             let what = what(alloc, tokens, line, keyword_of(word.bytes()))?;
             statements.add(line, what)?;
             Ok(statements)

@@ -4,7 +4,7 @@ use sm_kinds::Word;
 
 /// The kinds of tokens.
 #[derive(Drop)]
-pub enum Kind<'a> {
+pub enum TokenKind<'a> {
     Word(Word<'a>),
     Semicolon,
     Comma,
@@ -19,4 +19,4 @@ pub enum Kind<'a> {
 }
 
 /// A token, after the line that it begins in.
-pub type Token<'a> = (u32, Kind<'a>);
+pub type Token<'a> = (u32, TokenKind<'a>);

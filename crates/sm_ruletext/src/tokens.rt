@@ -5,7 +5,7 @@ ghost use Rattle.std.specs.Prelude.{IfSome, IfNone, IfOk};
 ghost use Rattle.std.specs.List.{prefix_len};
 ghost use Rattle.sm_ruletext.specs.Lexing as spec;
 
-use crate::token::{Kind, Token};
+use crate::token::{Token, TokenKind};
 use crate::word::is_word_byte;
 use crate::words::Words;
 use sm_kinds::{MOST_TEXT_BYTES, Name, Word};
@@ -63,25 +63,25 @@ fn quoted_len(bytes: &[u8]) -> usize
     }
 }
 
-fn mark<'a>(b: u8) -> Kind<'a>
+fn mark<'a>(b: u8) -> TokenKind<'a>
     ensures { result ≡ spec.mark b }
 {
     match b {
-        b';' => Kind::Semicolon,
-        b',' => Kind::Comma,
-        b':' => Kind::Colon,
-        b'{' => Kind::Open,
-        b'}' => Kind::Close,
-        b'*' => Kind::Star,
-        b'~' => Kind::Tilde,
-        b'-' => Kind::Dash,
-        _ => Kind::Other,
+        b';' => TokenKind::Semicolon,
+        b',' => TokenKind::Comma,
+        b':' => TokenKind::Colon,
+        b'{' => TokenKind::Open,
+        b'}' => TokenKind::Close,
+        b'*' => TokenKind::Star,
+        b'~' => TokenKind::Tilde,
+        b'-' => TokenKind::Dash,
+        _ => TokenKind::Other,
     }
 }
 
 /// Returns the first token, and the number of its bytes.
 #[tactic(auto, unfolding(crate::specs::Lexing::kind_at, crate::specs::Lexing::len_after))]
-fn first(bytes: &[u8]) -> (Kind<'_>, usize)
+fn first(bytes: &[u8]) -> (TokenKind<'_>, usize)
     requires { 0 < length bytes.now }
     ensures kind { result.0 ≡ spec.kind_at (slice_index bytes.now 0) (drop 1 bytes.now) }
     ensures len { result.1 ≡ 1 + spec.len_after (slice_index bytes.now 0) (drop 1 bytes.now) }
@@ -91,7 +91,7 @@ fn first(bytes: &[u8]) -> (Kind<'_>, usize)
     let after = behind(bytes, 1);
     if b.is_ascii_alphabetic() {
         let len = word_len(after) + 1;
-        (Kind::Word(Word::new(&bytes[..len])), len)
+        (TokenKind::Word(Word::new(&bytes[..len])), len)
     } else if b == b'"' {
         (mark(b), quoted_len(after) + 1)
     } else {

@@ -69,7 +69,8 @@ fn push_caller(out: &mut Vec<u8>, object: u32, pid: u32, uid: u32) -> Result<(),
     push_numbered(out, b"call o", u64::from(object))?;
     push_numbered(out, b" ", u64::from(pid))?;
     push_numbered(out, b" ", u64::from(uid))?;
-    out.extend_from_slice(b" ")
+    out.push(b' ')?;
+    Ok(())
 }
 
 #[tactic(auto, unfolding(crate::specs::Replies::payload_text))]
@@ -98,7 +99,7 @@ fn push_refs(out: &mut Vec<u8>, refs: &[Given]) -> Result<(), AllocError>
 fn push_spaced_given(out: &mut Vec<u8>, given: Given) -> Result<(), AllocError>
     ensures { OnOk result (out.new.items ≡ out.old.items ++ spaced_given given) }
 {
-    out.extend_from_slice(b" ")?;
+    out.push(b' ')?;
     push_given(out, given)
 }
 

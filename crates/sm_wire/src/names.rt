@@ -21,6 +21,6 @@ pub fn push_names(alloc: Global, out: &mut Vec<u8>, names: &[Name]) -> Result<()
 pub fn push_spaced_name(alloc: Global, out: &mut Vec<u8>, name: &[u8]) -> Result<(), AllocError>
     ensures { OnOk result (out.new.items ≡ out.old.items ++ spaced_name name.now) }
 {
-    out.extend_from_slice(b" ")?;
+    out.push(b' ')?;
     push_name(alloc, out, name)
 }

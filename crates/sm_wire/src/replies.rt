@@ -55,7 +55,8 @@ fn push_told(alloc: Global, out: &mut Vec<u8>, reply: &Reply) -> Result<(), Allo
     ensures { OnOk result (out.new.items ≡ out.old.items ++ told_text reply.now) }
 {
     push_answered(alloc, out, reply)?;
-    out.extend_from_slice(b"\n")
+    out.push(b'\n')?;
+    Ok(())
 }
 
 #[tactic(auto, unfolding(crate::specs::Replies::answered_text))]
