@@ -18,7 +18,7 @@ use Rattle.sm_history.proofs.AfterHoldings.{number_gives}
 use Rattle.sm_history.proofs.HeldAlike.{HoldAlike, NumbersAlike, counts_alike, free_alike}
 use Rattle.sm_history.proofs.Sound.{sound_adds, sound_gives, sound_watches, sound_delivers}
 use Rattle.sm_history.proofs.AgreeNotices.{number_for_is}
-use Rattle.sm_core.specs.Telling.{AsBefore}
+use Rattle.sm_core.specs.Notifications.{AsBefore}
 
 -- ---- a grant to another client
 

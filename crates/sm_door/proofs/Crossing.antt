@@ -22,10 +22,10 @@ use Rattle.sm_door.specs.contracts.published.ReaderKnowledge as ReaderKnowledge
 use Rattle.sm_door.specs.contracts.published.OneHistory as OneHistory
 use Rattle.sm_door.specs.contracts.published.OneHistoryProtocolPublishedReaderKnowledge.TheImpl as Rule
 use Rattle.sm_door.specs.contracts.published.PublishedAbsorbArcPage.TheImpl as Absorb
-use Rattle.sm_door.specs.contracts.desk.Desk as Desk
+use Rattle.sm_door.specs.contracts.locked_manager.LockedManager as LockedManager
 use Rattle.sm_door.specs.contracts.actor.Actor as Actor
 use Rattle.sm_door.specs.contracts.actor.Actor.TheInside as ActorInside
-use Rattle.sm_door.specs.contracts.desk.Desk.TheInside as DeskInside
+use Rattle.sm_door.specs.contracts.locked_manager.LockedManager.TheInside as LockedInside
 use Rattle.sm_door.specs.contracts.publisher.Publisher as Publisher
 use Rattle.sm_door.specs.contracts.publisher.Publisher.TheInside as PublisherInside
 
@@ -82,15 +82,15 @@ module _ (T : RattleType) (g : Ghosts T.Denot) where
       let inside = publisher_inside_send registry page w in
       view_send (PublisherInside.the_row T (Absorb.ghosts T g Absorb.no_dict) g) _ _ _ _ inside
 
-  desk_inside_send : IsSend (Manager.the_field).row → IsSend (Registry.the_field T g).row → IsSend page_row
-      → IsSend writer_row → IsSend (DeskInside.the_row T g (Absorb.ghosts T g Absorb.no_dict))
-  desk_inside_send manager registry page w =
-      let D = DeskInside.the_type T g (Absorb.ghosts T g Absorb.no_dict) in
+  locked_inside_send : IsSend (Manager.the_field).row → IsSend (Registry.the_field T g).row → IsSend page_row
+      → IsSend writer_row → IsSend (LockedInside.the_row T g (Absorb.ghosts T g Absorb.no_dict))
+  locked_inside_send manager registry page w =
+      let D = LockedInside.the_type T g (Absorb.ghosts T g Absorb.no_dict) in
       recorded_send _ _ _ D.to_one
       (struct_send (struct.shape D) (global_send, (manager, (publisher_send registry page w, tt))))
 
-  pub desk_send : IsSend (Manager.the_field).row → IsSend (Registry.the_field T g).row → IsSend page_row
-      → IsSend writer_row → IsSend (Desk.the_row T g (Absorb.ghosts T g Absorb.no_dict))
-  desk_send manager registry page w =
-      let inside = desk_inside_send manager registry page w in
-      view_send (DeskInside.the_row T g (Absorb.ghosts T g Absorb.no_dict)) _ _ _ _ inside
+  pub locked_send : IsSend (Manager.the_field).row → IsSend (Registry.the_field T g).row → IsSend page_row
+      → IsSend writer_row → IsSend (LockedManager.the_row T g (Absorb.ghosts T g Absorb.no_dict))
+  locked_send manager registry page w =
+      let inside = locked_inside_send manager registry page w in
+      view_send (LockedInside.the_row T g (Absorb.ghosts T g Absorb.no_dict)) _ _ _ _ inside

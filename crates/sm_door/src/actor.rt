@@ -9,7 +9,7 @@ ghost use Rattle.sm_view.specs.Tokens.{Sees as SeesNow, token, turn};
 ghost use Rattle.sm_door.specs.Logged.{ReadFrom, ReadLogged};
 ghost use Rattle.sm_door.specs.Rule.{known};
 
-use crate::desk::Desk;
+use crate::locked_manager::LockedManager;
 use crate::published::{Sees, ViewReader};
 use sm_history::{By, Query, Record, Refusal, Reply};
 use sm_registry::Naming;
@@ -128,12 +128,12 @@ impl<J: Naming> Actor<J> {
     }
 
     /// Sees the whole history, under the lock.
-    pub(crate) fn see<R: Wait>(&mut self, rt: &R, desk: &Desk<J>)
-        ensures { SeesNow self.old desk.now.book self.new }
+    pub(crate) fn see<R: Wait>(&mut self, rt: &R, locked: &LockedManager<J>)
+        ensures { SeesNow self.old locked.now.book self.new }
     {
         let reader = self.reader.take().unwrap();
-        let reader = desk.inform(rt, reader);
-        self.turn = desk.turn(self.by);
+        let reader = locked.inform(rt, reader);
+        self.turn = locked.turn(self.by);
         self.reader = Some(reader);
     }
 

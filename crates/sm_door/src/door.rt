@@ -1,4 +1,4 @@
-//! The door: the desk behind its lock.
+//! The door: a manager behind a lock.
 
 ghost use Rattle.std.specs.Prelude.{◌≡◌, ◌⊎◌, true, false, [], IfOk, IfErr, MatchResult};
 ghost use Rattle.sm_kinds.specs.Contexts.{type_of};
@@ -24,7 +24,7 @@ ghost use Rattle.sm_door.specs.Opening.{new_seats, new_admins};
 
 use crate::actor::Actor;
 use crate::admin::Admin;
-use crate::desk::Desk;
+use crate::locked_manager::LockedManager;
 use crate::opening::{tokens_of, writer_of};
 use crate::page::Page;
 use crate::published::Published;
@@ -47,7 +47,7 @@ pub struct Door<J: Naming, G: Gate>
 where
     Published<J>: Absorb<Arc<Page<J>>, State = View>,
 {
-    desk: Mutex<Desk<J>>,
+    locked: Mutex<LockedManager<J>>,
     gate: G,
 }
 
@@ -92,8 +92,8 @@ impl<J: Naming, G: Gate + Drop> Door<J, G> {
         match tokens_of(alloc, &manager, &writer) {
             Ok((seats, admins)) => {
                 let publisher = Publisher::new(alloc, registry, page, writer);
-                let desk = Mutex::new(Desk::new(alloc, manager, publisher));
-                Ok((Door { desk, gate }, seats, admins))
+                let locked = Mutex::new(LockedManager::new(alloc, manager, publisher));
+                Ok((Door { locked, gate }, seats, admins))
             }
             Err(refusal) => {
                 writer.take(rt);
@@ -120,15 +120,15 @@ impl<J: Naming, G: Gate + Drop> Door<J, G> {
         ensures { MatchResult result (λ s. Joined seat s who) (λ r. OfConnect r.0 × Turned seat r.1 who r.0) }
     {
         let mut seat = seat;
-        let mut guard = self.desk.lock(rt);
+        let mut guard = self.locked.lock(rt);
         self.gate.inside();
-        let desk = &mut *guard;
-        let due = desk.turn(By::Manager);
-        let (reply, _records) = desk.step(rt, By::Manager, due, Event::Connect(who));
+        let locked = &mut *guard;
+        let due = locked.turn(By::Manager);
+        let (reply, _records) = locked.step(rt, By::Manager, due, Event::Connect(who));
         match connected(reply) {
             Ok(client) => {
-                seat.actor.see(rt, desk);
-                let turn = desk.turn(By::Client(client));
+                seat.actor.see(rt, locked);
+                let turn = locked.turn(By::Client(client));
                 MutexGuard::unlock(guard);
                 Ok(seat.into_session(client, turn))
             }
@@ -137,7 +137,7 @@ impl<J: Naming, G: Gate + Drop> Door<J, G> {
                 Err((Refusal::Memory, seat))
             }
             Err(refusal) => {
-                seat.actor.see(rt, desk);
+                seat.actor.see(rt, locked);
                 MutexGuard::unlock(guard);
                 Err((refusal, seat))
             }
@@ -151,15 +151,15 @@ impl<J: Naming, G: Gate + Drop> Door<J, G> {
         ensures logged { Logged me.old me.new event result.0 result.1.items }
         ensures by { me.new.by ≡ me.old.by }
     {
-        let mut guard = self.desk.lock(rt);
+        let mut guard = self.locked.lock(rt);
         self.gate.inside();
-        let desk = &mut *guard;
-        let (reply, records) = desk.step(rt, me.by(), me.due(), event);
+        let locked = &mut *guard;
+        let (reply, records) = locked.step(rt, me.by(), me.due(), event);
         if !moves(&reply) {
             MutexGuard::unlock(guard);
             return (reply, records);
         }
-        me.see(rt, desk);
+        me.see(rt, locked);
         MutexGuard::unlock(guard);
         (reply, records)
     }
@@ -242,11 +242,11 @@ impl<J: Naming, G: Gate + Drop> Door<J, G> {
     pub fn denials<R: Wait>(&self, rt: &R, me: &mut Admin<J>) -> Result<Vec<Record>, AllocError>
         ensures { MatchResult result (λ v. TellsRecords me.old me.new v.items) (λ _. me.new ≡ me.old) }
     {
-        let guard = self.desk.lock(rt);
-        let desk = &*guard;
-        match desk.records() {
+        let guard = self.locked.lock(rt);
+        let locked = &*guard;
+        match locked.records() {
             Ok(records) => {
-                me.actor.see(rt, desk);
+                me.actor.see(rt, locked);
                 MutexGuard::unlock(guard);
                 Ok(records)
             }
@@ -268,13 +268,13 @@ impl<J: Naming, G: Gate + Drop> Door<J, G> {
     fn seal_for<R: Wait>(&self, rt: &R, me: &mut Actor<J>) -> Result<Segment, Refusal>
         ensures { MatchResult result (λ s. Closed me.old me.new s) (λ r. NotClosed me.old me.new r) }
     {
-        let mut guard = self.desk.lock(rt);
+        let mut guard = self.locked.lock(rt);
         self.gate.inside();
-        let desk = &mut *guard;
-        me.see(rt, desk);
-        match desk.seal(rt) {
+        let locked = &mut *guard;
+        me.see(rt, locked);
+        match locked.seal(rt) {
             Ok(segment) => {
-                me.see(rt, desk);
+                me.see(rt, locked);
                 MutexGuard::unlock(guard);
                 Ok(segment)
             }
@@ -308,10 +308,10 @@ impl<J: Naming, G: Gate + Drop> Door<J, G> {
         ensures other { Grows other.old other.new }
         ensures same { one.new.seen ≡ other.new.seen }
     {
-        let guard = self.desk.lock(rt);
-        let desk = &*guard;
-        one.see(rt, desk);
-        other.see(rt, desk);
+        let guard = self.locked.lock(rt);
+        let locked = &*guard;
+        one.see(rt, locked);
+        other.see(rt, locked);
         MutexGuard::unlock(guard);
     }
 
@@ -358,7 +358,10 @@ impl<J: Naming, G: Gate + Drop> Door<J, G> {
 
     /// Ends the door. It waits for the readers that are inside.
     pub fn close<R: Wait>(self, rt: &R) {
-        let Door { desk, gate: _gate } = self;
-        desk.into_inner().close(rt);
+        let Door {
+            locked,
+            gate: _gate,
+        } = self;
+        locked.into_inner().close(rt);
     }
 }

@@ -13,8 +13,8 @@
 
 mod actor;
 mod admin;
-mod desk;
 mod door;
+mod locked_manager;
 mod opening;
 mod page;
 mod published;
@@ -26,8 +26,8 @@ mod token;
 
 pub use actor::Actor;
 pub use admin::Admin;
-pub use desk::Desk;
 pub use door::Door;
+pub use locked_manager::LockedManager;
 pub use opening::ADMINS;
 pub use page::Page;
 pub use published::{OneHistory, Published, ReaderKnowledge, ViewReader, ViewWriter};

@@ -2,10 +2,10 @@
 
 use crate::answered::Answered;
 use crate::command::Command;
-use crate::notice::Supervisor;
+use crate::monitor::Monitor;
 use crate::refusals::not_yours;
 use crate::shared_admin::SharedAdmin;
-use crate::watch::Watch;
+use crate::supervisor::Supervisor;
 use sm_door::Door;
 use sm_history::{Outcome, Query, Refusal, Reply};
 use sm_policy::Prepared;
@@ -20,7 +20,7 @@ pub struct Administrator<'a, J: Naming, G: Gate, H, R> {
     rt: &'a R,
     door: &'a Door<J, G>,
     admin: &'a SharedAdmin<J>,
-    watch: &'a Watch<'a, H>,
+    monitor: &'a Monitor<'a, H>,
 }
 
 impl<'a, J: Naming, G: Gate, H, R> Drop for Administrator<'a, J, G, H, R> {
@@ -29,7 +29,7 @@ impl<'a, J: Naming, G: Gate, H, R> Drop for Administrator<'a, J, G, H, R> {
             rt: _,
             door: _,
             admin: _,
-            watch: _,
+            monitor: _,
         } = self;
     }
 }
@@ -40,13 +40,13 @@ impl<'a, J: Naming, G: Gate + Drop, H: Supervisor, R: Wait> Administrator<'a, J,
         rt: &'a R,
         door: &'a Door<J, G>,
         admin: &'a SharedAdmin<J>,
-        watch: &'a Watch<'a, H>,
+        monitor: &'a Monitor<'a, H>,
     ) -> Administrator<'a, J, G, H, R> {
         Administrator {
             rt,
             door,
             admin,
-            watch,
+            monitor,
         }
     }
 
@@ -98,7 +98,7 @@ impl<'a, J: Naming, G: Gate + Drop, H: Supervisor, R: Wait> Administrator<'a, J,
         match self.door.seal(self.rt, admin) {
             Ok(segment) => {
                 let length = segment.length();
-                self.watch.sealed(length);
+                self.monitor.sealed(length);
                 Reply::Sealed {
                     number: segment.number(),
                     length,

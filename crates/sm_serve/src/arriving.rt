@@ -2,7 +2,7 @@
 
 use crate::entrance::Entrance;
 use crate::faults::Faults;
-use crate::notice::{Notice, Supervisor};
+use crate::supervisor::{ServerEvent, Supervisor};
 use sm_engine::ServeFault;
 use std::io::{self, ErrorKind};
 use std::os::unix::net::UnixStream;
@@ -85,7 +85,7 @@ fn unless_noted<R: Wait>(rt: &R, faults: &Faults, stream: UnixStream) -> Option<
 
 fn wait_out<H: Supervisor, R: Clock>(rt: &R, host: &H, error: io::Error, told: bool) {
     if !told {
-        host.tell(Notice::AcceptDelayed(error));
+        host.tell(ServerEvent::AcceptDelayed(error));
     }
     thread::sleep(rt, Duration::from_millis(SHORTAGE_PAUSE));
 }
@@ -95,6 +95,6 @@ fn give_up<H: Supervisor, R: Wait>(rt: &R, host: &H, faults: &Faults, error: io:
     if faults.is_noted(rt) {
         return;
     }
-    host.tell(Notice::AcceptFailed(error));
+    host.tell(ServerEvent::AcceptFailed(error));
     faults.note(rt, host, ServeFault::AcceptFault);
 }

@@ -8,12 +8,12 @@ use crate::connection_slot::ConnectionSlot;
 use crate::door_desk::DoorDesk;
 use crate::free_seats::FreeSeats;
 use crate::leavers::Leavers;
-use crate::notice::Supervisor;
+use crate::monitor::Monitor;
 use crate::patience::{Patience, limit_administrator};
 use crate::sealing::seal_if_due;
 use crate::seat_keeper::{SeatKeeper, SeatNeed};
 use crate::shared_admin::SharedAdmin;
-use crate::watch::Watch;
+use crate::supervisor::Supervisor;
 use sm_door::Door;
 use sm_engine::Counted;
 use sm_registry::Naming;
@@ -37,14 +37,14 @@ pub fn attend_client<J: Naming, G: Gate + Drop, H: Supervisor, R: Wait>(
     seats: &FreeSeats<J>,
     leavers: &Leavers<J>,
     sealer: &SharedAdmin<J>,
-    watch: &Watch<H>,
+    monitor: &Monitor<H>,
     patience: Patience,
     stream: UnixStream,
 ) {
     if patience.limit_client(&stream).is_err() {
         return;
     }
-    leavers.retry(rt, door, seats, watch);
+    leavers.retry(rt, door, seats, monitor);
     let slot = ConnectionSlot::new();
     attend_with_seats(
         rt,
@@ -52,12 +52,12 @@ pub fn attend_client<J: Naming, G: Gate + Drop, H: Supervisor, R: Wait>(
         door,
         seats,
         &slot,
-        |_| seal_if_due(rt, door, sealer, watch),
-        watch,
+        |_| seal_if_due(rt, door, sealer, monitor),
+        monitor,
         &stream,
     );
     leavers.take_over(rt, seats, slot.take(rt));
-    leavers.retry(rt, door, seats, watch);
+    leavers.retry(rt, door, seats, monitor);
 }
 
 fn attend_with_seats<J: Naming, G: Gate + Drop, L: Fn(SeatNeed) + Drop, H: Supervisor, R: Wait>(
@@ -67,7 +67,7 @@ fn attend_with_seats<J: Naming, G: Gate + Drop, L: Fn(SeatNeed) + Drop, H: Super
     seats: &FreeSeats<J>,
     slot: &ConnectionSlot<J>,
     tend: L,
-    watch: &Watch<H>,
+    monitor: &Monitor<H>,
     stream: &UnixStream,
 )
     requires { L.IsAlwaysCallable tend }
@@ -82,7 +82,7 @@ fn attend_with_seats<J: Naming, G: Gate + Drop, L: Fn(SeatNeed) + Drop, H: Super
             tend(need);
             seat_keeper.meet(need);
         },
-        watch,
+        monitor,
         stream,
     );
 }
@@ -94,7 +94,7 @@ fn attend_seated<J: Naming, G: Gate + Drop, B: FnMut(SeatNeed) + Drop, H: Superv
     door: &Door<J, G>,
     slot: &ConnectionSlot<J>,
     seating: B,
-    watch: &Watch<H>,
+    monitor: &Monitor<H>,
     stream: &UnixStream,
 )
     requires { B.IsAlwaysCallable seating }
@@ -105,7 +105,7 @@ fn attend_seated<J: Naming, G: Gate + Drop, B: FnMut(SeatNeed) + Drop, H: Superv
         Kind::Client,
         |command| client.answer(command),
         seating,
-        watch,
+        monitor,
         door.gate(),
         stream,
     );
@@ -117,20 +117,20 @@ pub fn attend_administrator<J: Naming, G: Gate + Drop, H: Supervisor, R: Wait>(
     alloc: Global,
     door: &Door<J, G>,
     admin: &SharedAdmin<J>,
-    watch: &Watch<H>,
+    monitor: &Monitor<H>,
     seconds: u64,
     stream: UnixStream,
 ) {
     if limit_administrator(seconds, &stream).is_err() {
         return;
     }
-    let administrator = Administrator::new(rt, door, admin, watch);
+    let administrator = Administrator::new(rt, door, admin, monitor);
     attend(
         alloc,
         Kind::Admin,
         |command| administrator.answer(command),
         |_| {},
-        watch,
+        monitor,
         door.gate(),
         &stream,
     );
@@ -141,7 +141,7 @@ fn attend<F: FnMut(Command) -> Answered + Drop, B: FnMut(SeatNeed) + Drop, H: Su
     kind: Kind,
     answer: F,
     seating: B,
-    watch: &Watch<H>,
+    monitor: &Monitor<H>,
     gate: &G,
     stream: &UnixStream,
 )
@@ -150,6 +150,6 @@ fn attend<F: FnMut(Command) -> Answered + Drop, B: FnMut(SeatNeed) + Drop, H: Su
 {
     let mut reader = Counted::new(stream);
     let mut writer = Counted::new(stream);
-    let desk = DoorDesk::new(alloc, answer, seating, watch);
+    let desk = DoorDesk::new(alloc, answer, seating, monitor);
     let _ = session(alloc, kind, &mut reader, &mut writer, desk, gate, READS);
 }

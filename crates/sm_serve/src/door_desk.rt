@@ -4,9 +4,9 @@ ghost use Rattle.std.specs.Prelude.{◌≡◌};
 
 use crate::answered::Answered;
 use crate::command::Command;
-use crate::notice::Supervisor;
+use crate::monitor::Monitor;
 use crate::seat_keeper::SeatNeed;
-use crate::watch::Watch;
+use crate::supervisor::Supervisor;
 use sm_history::{Outcome, Reply};
 use sm_kinds::Identity;
 use sm_policy::Prepared;
@@ -14,14 +14,14 @@ use sm_session::{Desk, Response};
 use sm_wire::Request;
 use std::alloc::Global;
 
-/// A session's desk at a door: it prepares policies itself, lets one function answer all else, shows the watch each
+/// A session's desk at a door: it prepares policies itself, lets one function answer all else, shows the monitor each
 /// answer, and then tells another function whether a seat is needed or spare.
 #[derive(Drop)]
 pub struct DoorDesk<'a, F, B, H> {
     alloc: Global,
     answer: F,
     seating: B,
-    watch: &'a Watch<'a, H>,
+    monitor: &'a Monitor<'a, H>,
 }
 
 impl<'a, F, B, H> DoorDesk<'a, F, B, H> {
@@ -30,7 +30,7 @@ impl<'a, F, B, H> DoorDesk<'a, F, B, H> {
         alloc: Global,
         answer: F,
         seating: B,
-        watch: &'a Watch<'a, H>,
+        monitor: &'a Monitor<'a, H>,
     ) -> DoorDesk<'a, F, B, H>
         ensures answer { result.answer ≡ answer }
         ensures seating { result.seating ≡ seating }
@@ -39,7 +39,7 @@ impl<'a, F, B, H> DoorDesk<'a, F, B, H> {
             alloc,
             answer,
             seating,
-            watch,
+            monitor,
         }
     }
 }
@@ -54,13 +54,13 @@ impl<'a, F: FnMut(Command) -> Answered, B: FnMut(SeatNeed), H: Supervisor> Desk
 
     fn hello(&mut self, who: Identity) -> Response {
         (self.seating)(SeatNeed::Wanted);
-        let response = self.watch.see((self.answer)(Command::Hello(who)));
+        let response = self.monitor.see((self.answer)(Command::Hello(who)));
         (self.seating)(SeatNeed::Spare);
         response
     }
 
     fn ask(&mut self, request: Request) -> Response {
-        let response = self.watch.see((self.answer)(Command::Line(request)));
+        let response = self.monitor.see((self.answer)(Command::Line(request)));
         (self.seating)(need_after(&response));
         response
     }
@@ -70,12 +70,12 @@ impl<'a, F: FnMut(Command) -> Answered, B: FnMut(SeatNeed), H: Supervisor> Desk
             Ok(prepared) => prepared,
             Err(fault) => return Response::PolicyRefused(fault),
         };
-        self.watch
+        self.monitor
             .see((self.answer)(Command::Install { expected, prepared }))
     }
 
     fn bye(&mut self) {
-        let _ = self.watch.see((self.answer)(Command::End));
+        let _ = self.monitor.see((self.answer)(Command::End));
         (self.seating)(SeatNeed::Spare);
     }
 }

@@ -1,6 +1,6 @@
 //! The first fault of a server.
 
-use crate::notice::Supervisor;
+use crate::supervisor::Supervisor;
 use sm_engine::ServeFault;
 use std::sync::{Mutex, Wait};
 

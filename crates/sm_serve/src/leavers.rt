@@ -1,8 +1,8 @@
 //! Clients that are gone and couldn't leave.
 
 use crate::free_seats::FreeSeats;
-use crate::notice::Supervisor;
-use crate::watch::Watch;
+use crate::monitor::Monitor;
+use crate::supervisor::Supervisor;
 use sm_door::{Door, SeatOrSession, Session};
 use sm_registry::Naming;
 use sm_view::Gate;
@@ -52,7 +52,7 @@ impl<J: Naming> Leavers<J> {
         rt: &R,
         door: &Door<J, G>,
         seats: &FreeSeats<J>,
-        watch: &Watch<H>,
+        monitor: &Monitor<H>,
     ) {
         for _ in 0..SESSIONS {
             let Some(session) = self.next(rt) else {
@@ -60,7 +60,7 @@ impl<J: Naming> Leavers<J> {
             };
             match door.leave(rt, session) {
                 Ok(seat) => {
-                    watch.count();
+                    monitor.count();
                     seats.give_back(rt, seat);
                 }
                 Err((_, session)) => {

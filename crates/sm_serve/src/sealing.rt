@@ -1,8 +1,8 @@
 //! Seals that a server makes by itself.
 
-use crate::notice::Supervisor;
+use crate::monitor::Monitor;
 use crate::shared_admin::SharedAdmin;
-use crate::watch::Watch;
+use crate::supervisor::Supervisor;
 use sm_door::Door;
 use sm_registry::Naming;
 use sm_view::Gate;
@@ -14,18 +14,18 @@ pub fn seal_if_due<J: Naming, G: Gate + Drop, H: Supervisor, R: Wait>(
     rt: &R,
     door: &Door<J, G>,
     sealer: &SharedAdmin<J>,
-    watch: &Watch<H>,
+    monitor: &Monitor<H>,
 ) {
-    if !watch.is_due() {
+    if !monitor.is_due() {
         return;
     }
     let mut guard = sealer.lock(rt);
     // Another thread may have sealed it meanwhile.
-    if !watch.is_due() {
+    if !monitor.is_due() {
         return;
     }
     let token = &mut *guard;
     if let Ok(segment) = door.seal(rt, token) {
-        watch.sealed(segment.length());
+        monitor.sealed(segment.length());
     }
 }

@@ -9,14 +9,16 @@ use crate::faults::Faults;
 use crate::free_seats::FreeSeats;
 use crate::gauge::Gauge;
 use crate::leavers::Leavers;
-use crate::notice::{Notice, Supervisor};
+use crate::monitor::Monitor;
 use crate::patience::Patience;
 use crate::queue::{Arrivals, Queue, next};
 use crate::shared_admin::SharedAdmin;
-use crate::watch::Watch;
+use crate::supervisor::{ServerEvent, Supervisor};
 use crossbeam_channel::bounded;
 use sm_core::View;
-use sm_door::{Actor, Admin, Desk, Door, Page, Published, Seat, Session, ViewReader, ViewWriter};
+use sm_door::{
+    Actor, Admin, Door, LockedManager, Page, Published, Seat, Session, ViewReader, ViewWriter,
+};
 use sm_engine::ServeFault;
 use sm_registry::{HistoryId, Naming, Registry};
 use sm_view::Gate;
@@ -98,7 +100,7 @@ pub fn serve<
         sends::<ViewWriter<J>>();
         sends::<Option<ViewWriter<J>>>();
         sends::<Registry<J>>();
-        sends::<Desk<J>>();
+        sends::<LockedManager<J>>();
         shares::<Door<J, G>>();
         sends::<Session<J>>();
         shares::<FreeSeats<J>>();
@@ -110,7 +112,7 @@ pub fn serve<
         for _ in 0..numbers.workers {
             if scope
                 .spawn(move || {
-                    let watch = Watch::new(host, gauging);
+                    let monitor = Monitor::new(host, gauging);
                     work(
                         rt,
                         alloc,
@@ -118,7 +120,7 @@ pub fn serve<
                         seats,
                         leaving,
                         sealer,
-                        &watch,
+                        &monitor,
                         numbers.patience,
                         waiting,
                     );
@@ -131,13 +133,13 @@ pub fn serve<
         if scope
             .spawn(move || {
                 let mut admins = admins;
-                let watch = Watch::new(host, gauging);
+                let monitor = Monitor::new(host, gauging);
                 administer(
                     rt,
                     alloc,
                     door,
                     shared,
-                    &watch,
+                    &monitor,
                     &mut admins,
                     host,
                     faulty,
@@ -152,7 +154,7 @@ pub fn serve<
         admit(rt, clients, &to, host, faulty, numbers.clients);
         drop(to);
     });
-    leavers.retry(rt, door, seats, &Watch::new(host, &gauge));
+    leavers.retry(rt, door, seats, &Monitor::new(host, &gauge));
     faults.into_result()
 }
 
@@ -164,14 +166,14 @@ fn work<J: Naming, G: Gate + Drop, H: Supervisor, R: Wait>(
     seats: &FreeSeats<J>,
     leavers: &Leavers<J>,
     sealer: &SharedAdmin<J>,
-    watch: &Watch<H>,
+    monitor: &Monitor<H>,
     patience: Patience,
     queue: &Queue,
 ) {
     for _ in rt.forever() {
         match next(rt, queue) {
             Some(stream) => attend_client(
-                rt, alloc, door, seats, leavers, sealer, watch, patience, stream,
+                rt, alloc, door, seats, leavers, sealer, monitor, patience, stream,
             ),
             None => return,
         }
@@ -184,7 +186,7 @@ fn administer<J: Naming, G: Gate + Drop, A: Entrance, H: Supervisor, R: Wait + C
     alloc: Global,
     door: &Door<J, G>,
     admin: &SharedAdmin<J>,
-    watch: &Watch<H>,
+    monitor: &Monitor<H>,
     entrance: &mut A,
     host: &H,
     faults: &Faults,
@@ -194,7 +196,7 @@ fn administer<J: Naming, G: Gate + Drop, A: Entrance, H: Supervisor, R: Wait + C
     for _ in 0..number {
         match arrival(rt, entrance, host, faults) {
             Some(stream) => {
-                attend_administrator(rt, alloc, door, admin, watch, seconds, stream);
+                attend_administrator(rt, alloc, door, admin, monitor, seconds, stream);
             }
             None => return,
         }
@@ -211,7 +213,7 @@ fn admit<C: Entrance, H: Supervisor, R: Wait + Clock>(
     number: u64,
 ) {
     if !faults.is_noted(rt) {
-        host.tell(Notice::Listening);
+        host.tell(ServerEvent::Listening);
     }
     for _ in 0..number {
         let Some(stream) = arrival(rt, entrance, host, faults) else {

@@ -6,7 +6,7 @@ ghost use denote.Param.Send.{IsSend, IsSync};
 
 use sm_core::View;
 use sm_door::{
-    Actor, Admin, Desk, Door, Gate, Page, Published, Seat, Session, ViewReader, ViewWriter,
+    Actor, Admin, Door, Gate, LockedManager, Page, Published, Seat, Session, ViewReader, ViewWriter,
 };
 use sm_history::{Answer, Event, Outcome, Refusal, Reply, Segment};
 use sm_kinds::{Class, Context, Identity, Name, ObjRef, Perms, Places};
@@ -249,7 +249,7 @@ fn all_at_once<J: Naming + Send + Sync, R: Threads + Wait + Abort + Sync>(
         sends::<ViewWriter<J>>();
         sends::<Option<ViewWriter<J>>>();
         sends::<Registry<J>>();
-        sends::<Desk<J>>();
+        sends::<LockedManager<J>>();
         shares::<Door<J, NoGate>>();
         shares::<Mutex<Vec<Admin<J>>>>();
         for _ in 0..3 {
@@ -411,7 +411,7 @@ fn both_install<J: Naming + Send + Sync, R: Threads + Wait + Abort + Sync>(
         sends::<ViewWriter<J>>();
         sends::<Option<ViewWriter<J>>>();
         sends::<Registry<J>>();
-        sends::<Desk<J>>();
+        sends::<LockedManager<J>>();
         shares::<Door<J, NoGate>>();
         shares::<Race>();
         started = scope

@@ -12,7 +12,7 @@ use sm_kinds::{Context, Identity, Places};
 use sm_policy::Prepared;
 use sm_registry::{Naming, UnnamedRegistry};
 use sm_samples::{DEVICE_LABELS, DEVICE_RULES, STRICTER_RULES};
-use sm_serve::{Entrance, FreeSeats, Notice, Numbers, Patience, Supervisor, serve};
+use sm_serve::{Entrance, FreeSeats, Numbers, Patience, ServerEvent, Supervisor, serve};
 use sm_view::{Gate, NoGate};
 use std::alloc::Global;
 use std::io::ErrorKind;
@@ -115,13 +115,13 @@ impl Ear {
 }
 
 impl Supervisor for Ear {
-    fn tell(&self, notice: Notice) {
+    fn tell(&self, notice: ServerEvent) {
         let count = match notice {
-            Notice::Listening => &self.listening,
-            Notice::AcceptDelayed(_) => &self.delayed,
-            Notice::AcceptFailed(_) => &self.failed,
-            Notice::AlmostFull { .. } => &self.almost_full,
-            Notice::Full => &self.full,
+            ServerEvent::Listening => &self.listening,
+            ServerEvent::AcceptDelayed(_) => &self.delayed,
+            ServerEvent::AcceptFailed(_) => &self.failed,
+            ServerEvent::AlmostFull { .. } => &self.almost_full,
+            ServerEvent::Full => &self.full,
         };
         count.fetch_add(1, Ordering::SeqCst);
     }

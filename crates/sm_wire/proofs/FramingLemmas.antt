@@ -8,8 +8,8 @@ use Rattle.std.proofs.lemmas.List.{append-nil, length-take-le, get_or-take, drop
 use Rattle.sm_wire.specs.declared.item.Item.{Item}
 use Rattle.sm_wire.specs.declared.item.Item.TheVariants.{LineTooLong}
 use Rattle.sm_wire.specs.declared.kind.Kind.{Kind}
-use Rattle.sm_wire.specs.declared.mode.Mode.{Mode}
-use Rattle.sm_wire.specs.declared.mode.Mode.TheVariants.{Line, Texts as TextsMode, Dead}
+use Rattle.sm_wire.specs.declared.frame_state.FrameState.{FrameState}
+use Rattle.sm_wire.specs.declared.frame_state.FrameState.TheVariants.{Line, Texts as TextsMode, Dead}
 use Rattle.sm_wire.specs.declared.reload_header.ReloadHeader.{ReloadHeader}
 use Rattle.sm_wire.specs.declared.ends.End.TheVariants.{At, Later, Never}
 use Rattle.sm_wire.specs.Items.{Step, Scan, Makes, scan_start, scan_dead, policy_item, line_end, line_step, text_step}
@@ -23,7 +23,7 @@ pub record Leads (s : Scan) (bytes : List ℕ) (t : Scan) (ended : List Item) : 
   pub items : items_after s bytes ≡ ended
 
 -- how far the loop has come
-pub record Far (kind : Kind) (m first : Mode) (bytes : List ℕ) (start : ℕ) (old new : List Item) : Type 0 where
+pub record Far (kind : Kind) (m first : FrameState) (bytes : List ℕ) (start : ℕ) (old new : List Item) : Type 0 where
   pub within : start ≤ length bytes
   pub rest : scan_after (record { kind = kind; mode = m; held = [] }) (drop start bytes)
       ≡ scan_after (record { kind = kind; mode = first; held = [] }) bytes
@@ -193,7 +193,7 @@ module _ (kind : Kind) where
   pred n some = omega arith
 
   -- bytes that end an item
-  pub ends_lead : (m : Mode) (held bytes : List ℕ) (n : ℕ) → EndsAs m (length held) bytes (At n)
+  pub ends_lead : (m : FrameState) (held bytes : List ℕ) (n : ℕ) → EndsAs m (length held) bytes (At n)
       → Leads (record { kind = kind; mode = m; held = held }) (take n bytes) (whole_step kind m
       (held ++ take n bytes)).0
       (whole_step kind m (held ++ take n bytes)).1
@@ -205,7 +205,7 @@ module _ (kind : Kind) where
   ends_lead Dead held bytes n e = absurd e
 
   -- bytes of an item before its end
-  pub later_leads : (m : Mode) (held bytes : List ℕ) → EndsAs m (length held) bytes Later
+  pub later_leads : (m : FrameState) (held bytes : List ℕ) → EndsAs m (length held) bytes Later
       → Leads (record { kind = kind; mode = m; held = held }) bytes
       (record { kind = kind; mode = m; held = held ++ bytes }) []
   later_leads Line held bytes e = line_leads held bytes e.1 e.0
@@ -213,14 +213,14 @@ module _ (kind : Kind) where
   later_leads Dead held bytes e = absurd e
 
   -- bytes where no item ends any more
-  pub never_leads : (m : Mode) (held bytes : List ℕ) → (m ≡ Dead → held ≡ []) → EndsAs m (length held) bytes Never
+  pub never_leads : (m : FrameState) (held bytes : List ℕ) → (m ≡ Dead → held ≡ []) → EndsAs m (length held) bytes Never
       → Leads (record { kind = kind; mode = m; held = held }) bytes (scan_dead kind) (never_items m)
   never_leads Line held bytes empty e = line_long held bytes (4096 - length held) refl e.0 e.1
   never_leads (TextsMode a) held bytes empty e = absurd e
   never_leads Dead held bytes empty e = rw (empty refl) (dead_leads bytes)
 
   -- what ends so are the bytes of a whole item
-  pub ends_whole : (m : Mode) (held bytes : List ℕ) (n : ℕ) → EndsAs m (length held) bytes (At n)
+  pub ends_whole : (m : FrameState) (held bytes : List ℕ) (n : ℕ) → EndsAs m (length held) bytes (At n)
       → IsWhole m (held ++ take n bytes)
   ends_whole Line held bytes n e =
       omega (arith, length-append held (take n bytes), length-take-le n bytes e.1, e.0)
@@ -229,14 +229,14 @@ module _ (kind : Kind) where
   ends_whole Dead held bytes n e = absurd e
 
   -- an item ends among the bytes, and not behind them
-  pub ends_within : (m : Mode) (held : ℕ) (bytes : List ℕ) (n : ℕ) → EndsAs m held bytes (At n)
+  pub ends_within : (m : FrameState) (held : ℕ) (bytes : List ℕ) (n : ℕ) → EndsAs m held bytes (At n)
       → (0 < n) × (n ≤ length bytes)
   ends_within Line held bytes n e = (e.0, e.1)
   ends_within (TextsMode a) held bytes n e = (e.0, e.1)
   ends_within Dead held bytes n e = absurd e
 
   -- one more item
-  pub far_next : (m n first : Mode) (bytes : List ℕ) (start k : ℕ) (old mid new : List Item)
+  pub far_next : (m n first : FrameState) (bytes : List ℕ) (start k : ℕ) (old mid new : List Item)
       → EndsAs m 0 (drop start bytes) (At k) → Makes (whole_step kind m (take k (drop start bytes))) kind n [] mid new
       → Far kind m first bytes start old mid → Far kind n first bytes (start + k) old new
   far_next m n first bytes start k old mid new ends made far =
@@ -264,7 +264,7 @@ module _ (kind : Kind) where
       }
 
   -- the loop ends where the bytes end, or in the middle of an item
-  pub far_later : (m first : Mode) (bytes : List ℕ) (start : ℕ) (old new : List Item)
+  pub far_later : (m first : FrameState) (bytes : List ℕ) (start : ℕ) (old new : List Item)
       → EndsAs m 0 (drop start bytes) Later
       → Far kind m first bytes start old new
       → (scan_after (record { kind = kind; mode = first; held = [] }) bytes ≡ record {
@@ -279,7 +279,7 @@ module _ (kind : Kind) where
       )
 
   -- the loop ends with the stream
-  pub far_never : (m first : Mode) (bytes : List ℕ) (start : ℕ) (old mid new : List Item)
+  pub far_never : (m first : FrameState) (bytes : List ℕ) (start : ℕ) (old mid new : List Item)
       → EndsAs m 0 (drop start bytes) Never → new ≡ mid ++ never_items m → Far kind m first bytes start old mid →
       (scan_after (record { kind = kind; mode = first; held = [] }) bytes ≡ (scan_dead kind))
       × (new ≡ old ++ items_after (record { kind = kind; mode = first; held = [] }) bytes)
@@ -290,7 +290,7 @@ module _ (kind : Kind) where
       )
 
   -- the loop ends with the bytes
-  pub far_all : (m first : Mode) (bytes : List ℕ) (start : ℕ) (old new : List Item) → drop start bytes ≡ []
+  pub far_all : (m first : FrameState) (bytes : List ℕ) (start : ℕ) (old new : List Item) → drop start bytes ≡ []
       → Far kind m first bytes start old new
       → (scan_after (record { kind = kind; mode = first; held = [] }) bytes ≡ record {
         kind = kind;
@@ -304,7 +304,7 @@ module _ (kind : Kind) where
   )
 
   -- a piece that ends what is held, and what the rest of it leads to
-  pub piece_ends : (m n last : Mode) (held piece : List ℕ) (k start : ℕ) (old mid new : List Item)
+  pub piece_ends : (m n last : FrameState) (held piece : List ℕ) (k start : ℕ) (old mid new : List Item)
       → EndsAs m (length held) piece (At k) → Makes (whole_step kind m (held ++ take k piece)) kind n [] old mid
       → scan_after (record { kind = kind; mode = n; held = [] })
       (drop k piece) ≡ record { kind = kind; mode = last; held = drop start (drop k piece) }
@@ -330,7 +330,7 @@ module _ (kind : Kind) where
       )
 
   -- a piece that ends what is held, as the code takes it: the bytes that are held then
-  pub piece_taken : (m n last : Mode) (held piece first whole all left : List ℕ) (k start from : ℕ)
+  pub piece_taken : (m n last : FrameState) (held piece first whole all left : List ℕ) (k start from : ℕ)
       (old mid new : List Item) → EndsAs m (length held) piece (At k) → first ≡ held ++ take k piece → whole ≡ first
       → Makes (whole_step kind m whole) kind n [] old mid
       → scan_after (record { kind = kind; mode = n; held = [] }) (take (length piece - k) (drop k piece)) ≡ record {
@@ -356,7 +356,7 @@ module _ (kind : Kind) where
       (ap (λ (h : List ℕ). record { kind = kind; mode = last; held = h }) kept ∙ sym both.0, both.1)
 
   -- a piece that ends nothing
-  pub piece_later : (m : Mode) (held piece all : List ℕ) (old : List Item) → EndsAs m (length held) piece Later
+  pub piece_later : (m : FrameState) (held piece all : List ℕ) (old : List Item) → EndsAs m (length held) piece Later
       → all ≡ held ++ piece → (record { kind = kind; mode = m; held = all } ≡ scan_after
       (record { kind = kind; mode = m; held = held }) piece)
       × (old ≡ old ++ items_after (record { kind = kind; mode = m; held = held }) piece)
@@ -367,7 +367,7 @@ module _ (kind : Kind) where
       )
 
   -- a piece of a line that is too long
-  pub piece_never : (m : Mode) (held piece none : List ℕ) (old new : List Item) → m ≢ Dead
+  pub piece_never : (m : FrameState) (held piece none : List ℕ) (old new : List Item) → m ≢ Dead
       → EndsAs m (length held) piece Never → none ≡ [] → new ≡ old ++ never_items m
       → (record { kind = kind; mode = Dead; held = none } ≡ scan_after
       (record { kind = kind; mode = m; held = held }) piece)

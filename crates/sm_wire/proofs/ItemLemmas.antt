@@ -9,7 +9,7 @@ use Rattle.std.specs.List.{AllByRecursion}
 use Rattle.std.proofs.lemmas.Bool.Decides.{nat_tests}
 use Rattle.std.proofs.lemmas.List.{append-nil}
 use Rattle.sm_wire.specs.declared.item.Item.TheVariants.{Policy, LineTooLong}
-use Rattle.sm_wire.specs.declared.mode.Mode.TheVariants.{Line, Texts as TextsMode}
+use Rattle.sm_wire.specs.declared.frame_state.FrameState.TheVariants.{Line, Texts as TextsMode}
 use Rattle.sm_wire.specs.declared.reload_header.ReloadHeader.{ReloadHeader}
 use Rattle.sm_wire.specs.Grammar.{header_of}
 use Rattle.sm_wire.specs.Items.{Step, scan_start, scan_dead, items_of, item_of, policy_item, text_start, text_step}

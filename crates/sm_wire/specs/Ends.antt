@@ -4,8 +4,8 @@ use Rattle.std.specs.List.{slice_index}
 use Rattle.sm_wire.specs.declared.item.Item.{Item}
 use Rattle.sm_wire.specs.declared.item.Item.TheVariants.{LineTooLong}
 use Rattle.sm_wire.specs.declared.kind.Kind.{Kind}
-use Rattle.sm_wire.specs.declared.mode.Mode.{Mode}
-use Rattle.sm_wire.specs.declared.mode.Mode.TheVariants.{Line, Texts as TextsMode, Dead}
+use Rattle.sm_wire.specs.declared.frame_state.FrameState.{FrameState}
+use Rattle.sm_wire.specs.declared.frame_state.FrameState.TheVariants.{Line, Texts as TextsMode, Dead}
 use Rattle.sm_wire.specs.declared.ends.End.{End}
 use Rattle.sm_wire.specs.declared.ends.End.TheVariants.{At, Later, Never}
 use Rattle.sm_wire.specs.Items.{Step, Scan, line_limit, scan_start, scan_dead, line_end, policy_item}
@@ -28,7 +28,7 @@ TextsEndAs whole held bytes Later = (k : ℕ) → 0 < k → k ≤ length bytes �
 TextsEndAs whole held bytes Never = ⊥
 
 -- An item of which `held` bytes came before these ends so.
-abbrev pub EndsAs : Mode → ℕ → List ℕ → End → Type 0
+abbrev pub EndsAs : FrameState → ℕ → List ℕ → End → Type 0
 EndsAs Line held bytes end = LineEndsAs held bytes end
 EndsAs (TextsMode a) held bytes end = TextsEndAs (a.rules + a.contexts) held bytes end
 EndsAs Dead held bytes (At n) = ⊥
@@ -36,19 +36,19 @@ EndsAs Dead held bytes Later = ⊥
 EndsAs Dead held bytes Never = Unit {0}
 
 -- The bytes may be a whole item: a line with its newline, or the header files.
-abbrev pub IsWhole : Mode → List ℕ → Type 0
+abbrev pub IsWhole : FrameState → List ℕ → Type 0
 IsWhole Line bytes = 0 < length bytes
 IsWhole (TextsMode a) bytes = length bytes ≡ a.rules + a.contexts
 IsWhole Dead bytes = Unit {0}
 
 -- A whole item leads to this step.
-unfoldable pub whole_step : Kind → Mode → List ℕ → Step
+unfoldable pub whole_step : Kind → FrameState → List ℕ → Step
 whole_step kind Line bytes = line_end kind (take (length bytes - 1) bytes)
 whole_step kind (TextsMode a) bytes = (scan_start kind, policy_item a bytes ∷ [])
 whole_step kind Dead bytes = (scan_dead kind, [])
 
 -- These items are reported when no item ends any more.
-abbrev pub never_items : Mode → List Item
+abbrev pub never_items : FrameState → List Item
 never_items Line = LineTooLong ∷ []
 never_items (TextsMode a) = LineTooLong ∷ []
 never_items Dead = []

@@ -5,15 +5,15 @@ use Rattle.sm_wire.specs.declared.request.Request.{Request}
 use Rattle.sm_wire.specs.declared.item.Item.{Item}
 use Rattle.sm_wire.specs.declared.item.Item.TheVariants.{Asked, Policy, Malformed, LineTooLong}
 use Rattle.sm_wire.specs.declared.kind.Kind.{Kind}
-use Rattle.sm_wire.specs.declared.mode.Mode.{Mode}
-use Rattle.sm_wire.specs.declared.mode.Mode.TheVariants.{Line, Texts as TextsMode, Dead}
+use Rattle.sm_wire.specs.declared.frame_state.FrameState.{FrameState}
+use Rattle.sm_wire.specs.declared.frame_state.FrameState.TheVariants.{Line, Texts as TextsMode, Dead}
 use Rattle.sm_wire.specs.declared.reload_header.ReloadHeader.{ReloadHeader}
 use Rattle.sm_wire.specs.Grammar.{request_of, header_of}
 
 -- A scan has the kind of its stream, what comes next, and the bytes of that so far.
 pub record Scan : Type 0 where
   pub kind : Kind
-  pub mode : Mode
+  pub mode : FrameState
   pub held : List ℕ
 
 -- This is the most bytes of a line, without its newline.
@@ -88,7 +88,7 @@ text_step kind a bytes = if length bytes == a.rules + a.contexts then (scan_star
     else (record { kind = kind; mode = TextsMode a; held = bytes }, [])
 
 -- This is the step of one more byte.
-unfoldable pub mode_step : Kind → Mode → List ℕ → ℕ → Step
+unfoldable pub mode_step : Kind → FrameState → List ℕ → ℕ → Step
 mode_step kind Line held b = line_step kind held b
 mode_step kind (TextsMode a) held b = text_step kind a (held ++ b ∷ [])
 mode_step kind Dead held b = (scan_dead kind, [])
@@ -116,12 +116,12 @@ abbrev pub rest_of : Kind → List ℕ → Scan
 rest_of kind bytes = scan_after (scan_start kind) bytes
 
 -- The code represents a step so: what is read next, the bytes of it so far, and one more item, if any.
-pub record Makes (s : Step) (kind : Kind) (mode : Mode) (held : List ℕ) (old new : List Item) : Type 0 where
+pub record Makes (s : Step) (kind : Kind) (mode : FrameState) (held : List ℕ) (old new : List Item) : Type 0 where
   pub scan : s.0 ≡ record { kind = kind; mode = mode; held = held }
   pub items : new ≡ old ++ s.1
 
 -- The files of a `reload` line are being read.
-abbrev pub in_texts : Mode → Bool
+abbrev pub in_texts : FrameState → Bool
 in_texts Line = false
 in_texts (TextsMode a) = true
 in_texts Dead = false

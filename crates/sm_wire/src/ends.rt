@@ -2,7 +2,7 @@
 
 ghost use Rattle.sm_wire.specs.Ends.{EndsAs, LineEndsAs, TextsEndAs};
 
-use crate::mode::Mode;
+use crate::frame_state::FrameState;
 use memchr::memchr;
 
 /// The most bytes of a line, without its newline.
@@ -20,13 +20,13 @@ pub enum End {
 }
 
 /// Returns where an item ends, of which `held` bytes have come before these.
-pub fn item_end(mode: Mode, held: usize, bytes: &[u8]) -> End
+pub fn item_end(mode: FrameState, held: usize, bytes: &[u8]) -> End
     ensures { EndsAs mode held bytes.now result }
 {
     match mode {
-        Mode::Line => newline_end(held, bytes),
-        Mode::Texts(header) => texts_end(header.length(), held, bytes),
-        Mode::Dead => End::Never,
+        FrameState::Line => newline_end(held, bytes),
+        FrameState::Texts(header) => texts_end(header.length(), held, bytes),
+        FrameState::Dead => End::Never,
     }
 }
 

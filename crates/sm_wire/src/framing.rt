@@ -7,10 +7,10 @@ ghost use Rattle.sm_wire.specs.Ends.{IsWhole, whole_step, never_items};
 use crate::ends::{End, item_end};
 use crate::fast_path::{fast_request, push_fast};
 use crate::fields::split_fields;
+use crate::frame_state::FrameState;
 use crate::grammar::fields_request;
 use crate::item::Item;
 use crate::kind::Kind;
-use crate::mode::Mode;
 use crate::read_error::ReadError;
 use crate::recent_names::RecentNames;
 use crate::reload_header::ReloadHeader;
@@ -24,7 +24,7 @@ const TEXT_LIMIT: u32 = 4_194_304;
 /// What is read next after some bytes, and the index at which its own bytes begin.
 #[derive(Clone, Copy)]
 pub struct Remainder {
-    pub mode: Mode,
+    pub mode: FrameState,
     pub start: usize,
 }
 
@@ -32,7 +32,7 @@ pub struct Remainder {
 pub fn cut(
     alloc: Global,
     kind: Kind,
-    mode: Mode,
+    mode: FrameState,
     bytes: &[u8],
     recent: &mut RecentNames,
     items: &mut Vec<Item>,
@@ -63,7 +63,7 @@ pub fn cut(
             End::Later => return Ok(Remainder { mode, start }),
             End::Never => {
                 end_stream(mode, items)?;
-                let mode = Mode::Dead;
+                let mode = FrameState::Dead;
                 let start = bytes.len();
                 return Ok(Remainder { mode, start });
             }
@@ -76,11 +76,11 @@ pub fn cut(
 pub fn lone_item(
     alloc: Global,
     kind: Kind,
-    mode: Mode,
+    mode: FrameState,
     bytes: &[u8],
     recent: &mut RecentNames,
     items: &mut Vec<Item>,
-) -> Result<Mode, AllocError>
+) -> Result<FrameState, AllocError>
     requires { IsWhole mode bytes.now }
     ensures { IfOk result (λ m. Makes (whole_step kind mode bytes.now) kind m [] items.old.items items.new.items) }
 {
@@ -89,11 +89,11 @@ pub fn lone_item(
 }
 
 /// Reports a line that is too long, once.
-pub fn end_stream(mode: Mode, items: &mut Vec<Item>) -> Result<(), AllocError>
+pub fn end_stream(mode: FrameState, items: &mut Vec<Item>) -> Result<(), AllocError>
     ensures { OnOk result (items.new.items ≡ items.old.items ++ never_items mode) }
 {
     match mode {
-        Mode::Dead => Ok(()),
+        FrameState::Dead => Ok(()),
         _ => {
             items.push(Item::LineTooLong)?;
             Ok(())
@@ -106,17 +106,17 @@ pub fn end_stream(mode: Mode, items: &mut Vec<Item>) -> Result<(), AllocError>
 fn whole_item<'a>(
     alloc: Global,
     kind: Kind,
-    mode: Mode,
+    mode: FrameState,
     bytes: &'a [u8],
     fields: &mut Vec<&'a [u8]>,
     recent: &mut RecentNames,
     items: &mut Vec<Item>,
-) -> Result<Mode, AllocError>
+) -> Result<FrameState, AllocError>
     requires { IsWhole mode bytes.now }
     ensures { IfOk result (λ m. Makes (whole_step kind mode bytes.now) kind m [] items.old.items items.new.items) }
 {
     match mode {
-        Mode::Line => line(
+        FrameState::Line => line(
             alloc,
             kind,
             &bytes[..bytes.len() - 1],
@@ -124,8 +124,8 @@ fn whole_item<'a>(
             recent,
             items,
         ),
-        Mode::Texts(header) => texts(alloc, kind, header, bytes, items),
-        Mode::Dead => Ok(Mode::Dead),
+        FrameState::Texts(header) => texts(alloc, kind, header, bytes, items),
+        FrameState::Dead => Ok(FrameState::Dead),
     }
 }
 
@@ -137,14 +137,14 @@ fn texts(
     header: ReloadHeader,
     bytes: &[u8],
     items: &mut Vec<Item>,
-) -> Result<Mode, AllocError>
+) -> Result<FrameState, AllocError>
     requires { length bytes.now ≡ header.rules + header.contexts }
     ensures { IfOk result
         (λ m. Makes (scan_start kind, policy_item header bytes.now ∷ []) kind m [] items.old.items items.new.items) }
 {
     let item = policy(alloc, header, bytes)?;
     items.push(item)?;
-    Ok(Mode::Line)
+    Ok(FrameState::Line)
 }
 
 // Reads a line, without its newline. The most frequent lines are tried first.
@@ -156,13 +156,13 @@ fn line<'a>(
     fields: &mut Vec<&'a [u8]>,
     recent: &mut RecentNames,
     items: &mut Vec<Item>,
-) -> Result<Mode, AllocError>
+) -> Result<FrameState, AllocError>
     ensures { IfOk result (λ m. Makes (line_end kind line.now) kind m [] items.old.items items.new.items) }
 {
     match fast_request(kind, line) {
         Some(fast) => {
             push_fast(alloc, fast, recent, items)?;
-            Ok(Mode::Line)
+            Ok(FrameState::Line)
         }
         None => wide_line(alloc, kind, line, fields, items),
     }
@@ -177,7 +177,7 @@ fn wide_line<'a>(
     line: &'a [u8],
     fields: &mut Vec<&'a [u8]>,
     items: &mut Vec<Item>,
-) -> Result<Mode, AllocError>
+) -> Result<FrameState, AllocError>
     ensures { IfOk result (λ m. Makes (line_end kind line.now) kind m [] items.old.items items.new.items) }
 {
     split_fields(line, fields)?;
@@ -198,11 +198,11 @@ fn wide_line<'a>(
         }
         Ok(request) => {
             items.push(Item::Asked(request))?;
-            Ok(Mode::Line)
+            Ok(FrameState::Line)
         }
         Err(ReadError::Malformed) => {
             items.push(Item::Malformed)?;
-            Ok(Mode::Line)
+            Ok(FrameState::Line)
         }
         Err(ReadError::Memory) => Err(AllocError),
     }
@@ -215,19 +215,19 @@ fn texts_begin(
     kind: Kind,
     header: ReloadHeader,
     items: &mut Vec<Item>,
-) -> Result<Mode, AllocError>
+) -> Result<FrameState, AllocError>
     ensures { IfOk result (λ m. Makes (text_start kind header) kind m [] items.old.items items.new.items) }
 {
     if header.rules > TEXT_LIMIT || header.contexts > TEXT_LIMIT {
         items.push(Item::LineTooLong)?;
-        return Ok(Mode::Dead);
+        return Ok(FrameState::Dead);
     }
     if header.length() > 0 {
-        return Ok(Mode::Texts(header));
+        return Ok(FrameState::Texts(header));
     }
     let item = policy(alloc, header, b"")?;
     items.push(item)?;
-    Ok(Mode::Line)
+    Ok(FrameState::Line)
 }
 
 // Makes the item of a `reload` line and its files.

@@ -6,10 +6,10 @@ ghost use Rattle.sm_wire.specs.Ends.{EndsAs, Overfull};
 ghost use Rattle.sm_wire.specs.declared.ends.End.TheVariants.{At};
 
 use crate::ends::{End, item_end};
+use crate::frame_state::FrameState;
 use crate::framing::{Remainder, cut, end_stream, lone_item};
 use crate::item::Item;
 use crate::kind::Kind;
-use crate::mode::Mode;
 use crate::recent_names::RecentNames;
 use std::alloc::{AllocError, Global};
 use std::marker::Model;
@@ -39,7 +39,7 @@ impl From<AllocError> for FeedError {
 pub struct Lines {
     alloc: Global,
     kind: Kind,
-    mode: Mode,
+    mode: FrameState,
     held: Vec<u8>,
     recent: RecentNames,
 }
@@ -60,7 +60,7 @@ impl Lines {
         Lines {
             alloc,
             kind,
-            mode: Mode::Line,
+            mode: FrameState::Line,
             held: Vec::new(alloc),
             recent: RecentNames::new(alloc),
         }
@@ -102,7 +102,7 @@ impl Lines {
             End::Never => {
                 end_stream(self.mode, items)?;
                 self.held.clear();
-                self.mode = Mode::Dead;
+                self.mode = FrameState::Dead;
                 Ok(())
             }
         }
@@ -144,14 +144,14 @@ impl Lines {
     pub fn rest(&self) -> bool
         ensures { result ≡ has_rest self.now }
     {
-        matches!(self.mode, Mode::Texts(_)) || !self.held.is_empty()
+        matches!(self.mode, FrameState::Texts(_)) || !self.held.is_empty()
     }
 
     /// Returns whether `Item::LineTooLong` was given.
     pub fn is_dead(&self) -> bool
         ensures { IsTrue result ↔ IsDead self.now }
     {
-        matches!(self.mode, Mode::Dead)
+        matches!(self.mode, FrameState::Dead)
     }
 }
 

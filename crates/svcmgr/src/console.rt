@@ -2,7 +2,7 @@
 
 use sm_command::Sockets;
 use sm_history::Record;
-use sm_serve::{AuditLines, AuditLog, Notice, Supervisor};
+use sm_serve::{AuditLines, AuditLog, ServerEvent, Supervisor};
 use std::alloc::AllocError;
 use std::io;
 use std::net::Shutdown;
@@ -87,22 +87,22 @@ impl<'a, R: Wait> Console<'a, R> {
         }
     }
 
-    fn line_of(&self, notice: Notice) -> Result<String, AllocError> {
+    fn line_of(&self, notice: ServerEvent) -> Result<String, AllocError> {
         let alloc = self.host.alloc();
         match notice {
-            Notice::Listening => self.listening.clone(),
-            Notice::AcceptDelayed(error) => {
+            ServerEvent::Listening => self.listening.clone(),
+            ServerEvent::AcceptDelayed(error) => {
                 format!(in alloc; "warning: a connection waits to be accepted: {error}\n")
             }
-            Notice::AcceptFailed(error) => {
+            ServerEvent::AcceptFailed(error) => {
                 format!(in alloc; "warning: no more connections are accepted: {error}\n")
             }
-            Notice::AlmostFull { used, slots } => {
+            ServerEvent::AlmostFull { used, slots } => {
                 format!(in alloc;
                     "warning: the journal is almost full: {used} of {slots} slots are used\n"
                 )
             }
-            Notice::Full => {
+            ServerEvent::Full => {
                 format!(in alloc;
                     "warning: the journal is full: changes are refused until it is sealed\n"
                 )
@@ -113,7 +113,7 @@ impl<'a, R: Wait> Console<'a, R> {
 
 impl<'a, R: Wait> Supervisor for Console<'a, R> {
     // A line that can't be written is lost.
-    fn tell(&self, notice: Notice) {
+    fn tell(&self, notice: ServerEvent) {
         let _ = match self.line_of(notice) {
             Ok(line) => self.host.stderr().write_all(line.as_bytes()),
             Err(_) => self

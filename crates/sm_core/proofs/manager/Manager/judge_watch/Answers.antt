@@ -5,7 +5,7 @@ use Rattle.sm_history.specs.Services.{service_at}
 use Rattle.sm_history.specs.Sound.{Sound}
 use Rattle.sm_history.specs.declared.effect.Watch.{Watch}
 use Rattle.sm_history.specs.Records.{moment_of}
-use Rattle.sm_core.proofs.TellingPlans.{precede_watches, watch_judged, watch_alone}
+use Rattle.sm_core.proofs.NotifyingPlans.{precede_watches, watch_judged, watch_alone}
 use Rattle.sm_core.proofs.manager.Manager.judge_watch.Goals as goal
 
 pub plan_watched-requires-clause-before : goal.plan_watched-requires-clause-before

@@ -1,7 +1,7 @@
 use Rattle.std.proofs.Common.{ℕ, ap, ◌∙◌, Option}
 use Rattle.std.specs.Prelude.{unwrap_or}
 use Rattle.sm_history.specs.Histories.{effects_of}
-use Rattle.sm_core.specs.Telling.{free_at}
+use Rattle.sm_core.specs.Notifications.{free_at}
 use Rattle.sm_core.proofs.manager.Manager.left.Goals as goal
 
 pub returns-in-None : goal.returns-in-None

@@ -5,8 +5,8 @@ use Rattle.sm_history.specs.Clients.{is_live}
 use Rattle.sm_history.specs.Histories.{effects_of}
 use Rattle.sm_history.specs.Following.{followed}
 use Rattle.sm_history.specs.Records.{moment_of}
-use Rattle.sm_core.proofs.TellingAll.{records_further, one_further, live_further, notices_further}
-use Rattle.sm_core.proofs.TellingAll.{after_further}
+use Rattle.sm_core.proofs.NotifyingAll.{records_further, one_further, live_further, notices_further}
+use Rattle.sm_core.proofs.NotifyingAll.{after_further}
 use Rattle.sm_core.proofs.manager.Manager.notify_all.Goals as goal
 
 pub notify-requires-clause-live : goal.notify-requires-clause-live
@@ -28,19 +28,19 @@ loop-watch-preserved c =
     record {
       live = (live_further (λ (w : Watch). is_live d w.client) (drop i ws) (drop (i + 1) ws) w is
           c.loop-watch.invariant.live).1;
-      telling = on.telling;
-      notices = notices_further (followed d c.loop-watch.telling.effects.items)
-          (followed d c.notify.new.telling.effects.items) c.args.node (drop i ws) (drop (i + 1) ws) w
+      notifications = on.notifications;
+      notices = notices_further (followed d c.loop-watch.notifications.effects.items)
+          (followed d c.notify.new.notifications.effects.items) c.args.node (drop i ws) (drop (i + 1) ws) w
           c.loop-watch.notices.items c.push_reserved.new.self.items _ c.in_ok-notice.notice is c.in_ok-notice.ensures.0
           on.after
           (c.push_reserved.ensures.items
           ∙ ap (λ (xs : List Notice). xs ++ c.in_ok-notice.notice ∷ []) c.reserve.ensures.items)
           c.loop-watch.invariant.notices;
-      records = records_further (moment_of c.args.self.now.book.history) (followed d c.loop-watch.telling.effects.items)
-          (followed d c.notify.new.telling.effects.items) c.args.node (drop i ws) (drop (i + 1) ws) w
-          c.loop-watch.telling.records c.notify.new.telling.records _ is on.records on.after
+      records = records_further (moment_of c.args.self.now.book.history) (followed d c.loop-watch.notifications.effects.items)
+          (followed d c.notify.new.notifications.effects.items) c.args.node (drop i ws) (drop (i + 1) ws) w
+          c.loop-watch.notifications.records c.notify.new.notifications.records _ is on.records on.after
           c.loop-watch.invariant.records;
-      after = after_further (followed d c.loop-watch.telling.effects.items)
-          (followed d c.notify.new.telling.effects.items) c.args.node (drop i ws) (drop (i + 1) ws) w _ is on.after
+      after = after_further (followed d c.loop-watch.notifications.effects.items)
+          (followed d c.notify.new.notifications.effects.items) c.args.node (drop i ws) (drop (i + 1) ws) w _ is on.after
           c.loop-watch.invariant.after;
     }

@@ -6,9 +6,9 @@ use Rattle.sm_history.proofs.AgreeNotices.{watchers_live}
 use Rattle.sm_history.specs.Histories.{effects_of}
 use Rattle.sm_core.proofs.manager.Manager.plan_added.Goals as goal
 
-pub notify_all-requires-clause-telling : goal.notify_all-requires-clause-telling
-notify_all-requires-clause-telling c =
-    c.behind-telling.ensures.telling (effects_of c.args.self.now.book.history) c.args.node c.requires
+pub notify_all-requires-clause-notifications : goal.notify_all-requires-clause-notifications
+notify_all-requires-clause-notifications c =
+    c.behind-notifications.ensures.notifications (effects_of c.args.self.now.book.history) c.args.node c.requires
 
 pub notify_all-requires-clause-live : goal.notify_all-requires-clause-live
 notify_all-requires-clause-live c =

@@ -1,28 +1,28 @@
 use Rattle.std.proofs.Common.{refl, ap, sym, ◌∙◌, [], ◌∷◌, ◌++◌}
 use Rattle.sm_history.specs.declared.delivery.Delivery.{Delivery}
 use Rattle.sm_history.specs.declared.effect.Effect.TheVariants.{Delivers}
-use Rattle.sm_core.specs.Telling.{gives_of}
-use Rattle.sm_core.specs.declared.telling.Telling.{Telling}
-use Rattle.sm_core.proofs.TellingOne.{tells, tells_not}
+use Rattle.sm_core.specs.Notifications.{gives_of}
+use Rattle.sm_core.specs.declared.notifications.Notifications.{Notifications}
+use Rattle.sm_core.proofs.NotifyingOne.{tells, tells_not}
 use Rattle.sm_core.proofs.manager.Manager.tell.Goals as goal
 
 pub returns-in-Ok-tell : goal.returns-in-Ok-tell
 returns-in-Ok-tell c =
-    tells c.args.self.now.book.history c.args.node c.args.watch.now c.args.telling.now c.tell.new.self _
-    c.left-left.result c.in-Ok.given c.in-Ok-tell.told c.requires.telling c.requires.live c.left-left.ensures
+    tells c.args.self.now.book.history c.args.node c.args.watch.now c.args.notifications.now c.tell.new.self _
+    c.left-left.result c.in-Ok.given c.in-Ok-tell.told c.requires.notifications c.requires.live c.left-left.ensures
     c.in-Ok.ensures.0 c.in-Ok-tell.ensures.records c.in-Ok.ensures.1 c.in-Ok-tell.ensures.told
     (c.in-Ok-tell.ensures.effects
     ∙ ap (λ (x : Delivery).
-    (c.args.telling.now.effects.items ++ gives_of c.args.watch.now.client c.args.node c.in-Ok.given)
+    (c.args.notifications.now.effects.items ++ gives_of c.args.watch.now.client c.args.node c.in-Ok.given)
     ++ Delivers c.args.watch.now.client x ∷ []) (sym c.in-Ok-tell.ensures.told)) c.in-Ok-tell.ensures.left
 
 pub returns-in-Ok-reason : goal.returns-in-Ok-reason
 returns-in-Ok-reason c =
-    let after : Telling = record {
-      effects = c.args.telling.now.effects;
-      left = c.args.telling.now.left;
+    let after : Notifications = record {
+      effects = c.args.notifications.now.effects;
+      left = c.args.notifications.now.left;
       records = c.judge_told.new.notes;
     } in
-    tells_not c.args.self.now.book.history c.args.node c.args.watch.now c.args.telling.now after
-    c.left-left.result c.in-Err.stop c.in-Ok-reason.reason refl refl c.requires.telling c.requires.live
+    tells_not c.args.self.now.book.history c.args.node c.args.watch.now c.args.notifications.now after
+    c.left-left.result c.in-Err.stop c.in-Ok-reason.reason refl refl c.requires.notifications c.requires.live
     c.left-left.ensures c.in-Err.ensures c.in-Ok-reason.ensures.1 c.in-Ok-reason.ensures.0

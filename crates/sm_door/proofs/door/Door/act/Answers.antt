@@ -8,7 +8,7 @@ use Rattle.sm_door.proofs.door.Door.act.Goals as goal
 
 pub returns-clause-submitted : goal.returns-clause-submitted
 returns-clause-submitted g c =
-    let b = c.deref_mut-desk.result.now.book in
+    let b = c.deref_mut-locked.result.now.book in
     let step = c.step-reply in
     let s = subst (λ x. Steps b x c.due.result c.args.event step.result.0 step.new.self.book)
     c.by.ensures step.ensures.answers in
@@ -19,7 +19,7 @@ returns-clause-submitted g c =
 
 pub returns-clause-logged : goal.returns-clause-logged
 returns-clause-logged g c =
-    let b = c.deref_mut-desk.result.now.book in
+    let b = c.deref_mut-locked.result.now.book in
     let step = c.step-reply in
     let s = subst (λ x. Steps b x c.due.result c.args.event step.result.0 step.new.self.book)
     c.by.ensures step.ensures.answers in
@@ -35,7 +35,7 @@ returns-clause-logged g c =
 
 pub returns-then-not-moves-clause-submitted : goal.returns-then-not-moves-clause-submitted
 returns-then-not-moves-clause-submitted g c =
-    let b = c.deref_mut-desk.result.now.book in
+    let b = c.deref_mut-locked.result.now.book in
     let step = c.step-reply in
     let s = subst (λ x. Steps b x c.due.result c.args.event step.result.0 step.new.self.book)
     c.by.ensures step.ensures.answers in
@@ -46,7 +46,7 @@ returns-then-not-moves-clause-submitted g c =
 
 pub returns-then-not-moves-clause-logged : goal.returns-then-not-moves-clause-logged
 returns-then-not-moves-clause-logged g c =
-    let b = c.deref_mut-desk.result.now.book in
+    let b = c.deref_mut-locked.result.now.book in
     let step = c.step-reply in
     let s = subst (λ x. Steps b x c.due.result c.args.event step.result.0 step.new.self.book)
     c.by.ensures step.ensures.answers in

@@ -11,13 +11,13 @@ use Rattle.sm_door.proofs.door.Door.connect.Goals as goal
 
 pub connected-requires : goal.connected-requires
 connected-requires g c =
-    connect_answered c.deref_mut-desk.result.now.book c.step-reply.new.self.book c.args.who c.turn-due.result
+    connect_answered c.deref_mut-locked.result.now.book c.step-reply.new.self.book c.args.who c.turn-due.result
     c.step-reply.result.0
     c.turn-due.ensures.turn c.step-reply.ensures.answers
 
 pub returns-in-Ok : goal.returns-in-Ok
 returns-in-Ok g c =
-    let b = c.deref_mut-desk.result.now.book in
+    let b = c.deref_mut-locked.result.now.book in
     let after = c.step-reply.new.self.book in
     let new = c.see.new.self in
     let is : c.step-reply.result.0 ≡ Done (Connected c.in-Ok.client) = search rules in

@@ -25,7 +25,7 @@ use std::sync::{Arc, Wait};
 
 /// The manager, and the publisher of its views. Readers find exactly the manager's history. Contracts see that history
 /// with its slots, and the newest audit records.
-pub struct Desk<J: Naming>
+pub struct LockedManager<J: Naming>
 where
     Published<J>: Absorb<Arc<Page<J>>, State = View>,
 {
@@ -34,7 +34,7 @@ where
     publisher: Publisher<J>,
 }
 
-impl<J: Naming> Model for Desk<J>
+impl<J: Naming> Model for LockedManager<J>
 where
     Published<J>: Absorb<Arc<Page<J>>, State = View>,
 {
@@ -80,14 +80,14 @@ fn show_sealed<J: Naming, R: Wait>(
     publisher.publish(rt, view)
 }
 
-impl<J: Naming> Desk<J> {
-    /// The desk of a manager whose book the publisher shows.
-    pub(crate) fn new(alloc: Global, manager: Manager, publisher: Publisher<J>) -> Desk<J>
+impl<J: Naming> LockedManager<J> {
+    /// Makes the pair of a manager and a publisher, whose book the publisher shows.
+    pub(crate) fn new(alloc: Global, manager: Manager, publisher: Publisher<J>) -> LockedManager<J>
         requires { publisher ≡ manager.book }
         ensures book { result.book ≡ manager.book }
         ensures ring { result.ring ≡ manager.ring }
     {
-        Desk {
+        LockedManager {
             alloc,
             manager,
             publisher,
@@ -162,9 +162,9 @@ impl<J: Naming> Desk<J> {
         self.publisher.inform(rt, reader)
     }
 
-    /// Ends the desk. It waits for the readers that are inside.
+    /// Ends the publication. It waits for the readers that are inside.
     pub fn close<R: Wait>(self, rt: &R) {
-        let Desk {
+        let LockedManager {
             alloc: _,
             manager: _manager,
             publisher,

@@ -2,7 +2,7 @@ use Rattle.std.proofs.Common.{◌∙◌, subst, sym}
 use Rattle.sm_history.specs.Books.{Book}
 use Rattle.sm_view.specs.Begins.{Begins}
 use Rattle.sm_view.proofs.Books.{book_before}
-use Rattle.sm_door.proofs.desk.show_ready.Goals as goal
+use Rattle.sm_door.proofs.locked_manager.show_ready.Goals as goal
 
 pub publish-requires : goal.publish-requires
 publish-requires g c =

@@ -29,7 +29,7 @@ use Rattle.sm_history.specs.Lawful.{HasSoundPolicy}
 use Rattle.sm_core.specs.declared.plan.Plan.{Plan}
 use Rattle.sm_core.specs.Stands.{is_death, DeathIsLast}
 use Rattle.sm_core.specs.Judging.{AllPass, Halts, IsPlan, Judged, wanted}
-use Rattle.sm_core.specs.Telling.{MayPrecede, Tells}
+use Rattle.sm_core.specs.Notifications.{MayPrecede, Tells}
 use Rattle.sm_history.specs.declared.records.Record.{Record}
 use Rattle.sm_history.specs.Records.{Moment, moment_of, left_by_notices, left_by_telling}
 use Rattle.sm_history.specs.Histories.{History, effects_of}

@@ -26,7 +26,7 @@ use Rattle.sm_history.specs.Notices.{notice_checks, after_notice, after_notices}
 use Rattle.sm_history.specs.Sound.{Sound}
 use Rattle.sm_core.specs.Stands.{is_death}
 use Rattle.sm_core.specs.declared.plan.Plan.{Plan}
-use Rattle.sm_core.specs.declared.telling.Telling.{Telling}
+use Rattle.sm_core.specs.declared.notifications.Notifications.{Notifications}
 
 -- These are the checks of a notice, if this many deliveries still fit into the watcher's inbox.
 abbrev pub told_checks : Effects → Node → Watch → ℕ → List Check
@@ -67,28 +67,28 @@ pub record MayTell (d : Effects) (n : Node) (xs : List Effect) : Type 0 where
   pub none_dies : list_any is_death xs ≡ false
 
 -- This many deliveries still fit into an inbox of a notified client.
-abbrev pub left_in : Telling → ℕ → Option ℕ
+abbrev pub left_in : Notifications → ℕ → Option ℕ
 left_in t c = get nat_eq t.left c
 
 -- This many deliveries still fit into a client's inbox.
-abbrev pub left_at : Effects → Telling → ℕ → ℕ
+abbrev pub left_at : Effects → Notifications → ℕ → ℕ
 left_at d t c = unwrap_or (left_in t c) (free_at d c)
 
 -- This holds while watchers of n are being notified.
-pub record IsTelling (d : Effects) (n : Node) (t : Telling) : Type 0 where
+pub record AreNotifications (d : Effects) (n : Node) (t : Notifications) : Type 0 where
   pub may : MayTell d n t.effects.items
   pub left : (c : ℕ) → is_live d c ≡ true → left_at d t c ≡ free_at (followed d t.effects.items) c
 
 -- One more watcher was notified, or wasn't.
-pub record GoesOn (m : Moment) (d : Effects) (n : Node) (w : Watch) (old new : Telling) : Type 0 where
+pub record GoesOn (m : Moment) (d : Effects) (n : Node) (w : Watch) (old new : Notifications) : Type 0 where
   pub records : new.records ≡ old.records ++ left_by_all m (notice_checks (followed d old.effects.items) n w)
-  pub telling : IsTelling d n new
+  pub notifications : AreNotifications d n new
   pub after : followed d new.effects.items ≡ after_notice (followed d old.effects.items) n w
 
 -- Watchers were notified, or weren't, in order.
-pub record GoesFar (m : Moment) (d : Effects) (n : Node) (ws : List Watch) (old new : Telling) : Type 0 where
+pub record GoesFar (m : Moment) (d : Effects) (n : Node) (ws : List Watch) (old new : Notifications) : Type 0 where
   pub records : new.records ≡ old.records ++ left_by_notices m (followed d old.effects.items) n ws
-  pub telling : IsTelling d n new
+  pub notifications : AreNotifications d n new
   pub after : followed d new.effects.items ≡ after_notices (followed d old.effects.items) n ws
 
 -- These effects may be put onto d before watchers of n are notified, and put nothing into an inbox.

@@ -35,15 +35,15 @@ use Rattle.sm_history.specs.Notices.{notice_checks, first_missing, told_of, reas
 use Rattle.sm_history.specs.Sound.{IsTakenFrom}
 use Rattle.sm_history.proofs.AfterInboxes.{inbox_delivers}
 use Rattle.sm_history.proofs.AgreeNotices.{both, cons_alike, wants_alike}
-use Rattle.sm_core.specs.declared.telling.Telling.{Telling}
+use Rattle.sm_core.specs.declared.notifications.Notifications.{Notifications}
 use Rattle.sm_core.specs.Stands.{is_death}
 use Rattle.sm_core.specs.Judging.{Halts, AllPass, wanted}
 use Rattle.sm_history.specs.declared.records.Record.{Record}
 use Rattle.sm_history.specs.Records.{moment_of, left_by_all}
 use Rattle.sm_history.specs.Histories.{History, effects_of}
 use Rattle.sm_core.proofs.Stopping.{asked_is}
-use Rattle.sm_core.specs.Telling.{told_checks, gives_of, told_to, free_at, AsBefore}
-use Rattle.sm_core.specs.Telling.{MayTell, left_in, left_at, IsTelling, GoesOn}
+use Rattle.sm_core.specs.Notifications.{told_checks, gives_of, told_to, free_at, AsBefore}
+use Rattle.sm_core.specs.Notifications.{MayTell, left_in, left_at, AreNotifications, GoesOn}
 use Rattle.sm_core.proofs.AsBefore.{before_gives, before_delivers}
 
 -- ---- effects in order
@@ -199,8 +199,8 @@ free_other f c x k taken other =
 -- ---- one watcher
 
 -- A watcher is notified if the checks hold.
-pub tells : (h : History) (n : Node) (w : Watch) (old new : Telling) (mid : List Record) (left : ℕ) (g : Given)
-    (x : Delivery) → let d = effects_of h in IsTelling d n old → is_live d w.client ≡ true
+pub tells : (h : History) (n : Node) (w : Watch) (old new : Notifications) (mid : List Record) (left : ℕ) (g : Given)
+    (x : Delivery) → let d = effects_of h in AreNotifications d n old → is_live d w.client ≡ true
     → left ≡ left_at d old w.client
     → AllPass (moment_of h) old.records mid (told_checks d n w left) → new.records ≡ mid
     → g ≡ given_to d w.client n → x ≡ told_to w g
@@ -249,7 +249,7 @@ tells h n w old new mid left g x t live is asks noted given told items counts =
       record {
         records = noted ∙ sym (ap (λ (q : List Record × Option Stop). q.0) found)
             ∙ ap (λ (xs : List Check). old.records ++ left_by_all m xs) (checks_same d e n w left before live free);
-        telling = record {
+        notifications = record {
           may = subst (λ (v : List Effect). MayTell d n v) (sym items) (delivered_may d n ys c x handing.may live room);
           left = λ k l.
               ap (λ (o : Option ℕ). unwrap_or o (free_at d k)) (counts k)
@@ -269,8 +269,8 @@ tells h n w old new mid left g x t live is asks noted given told items counts =
     )
 
 -- A watcher isn't notified if a check fails.
-pub tells_not : (h : History) (n : Node) (w : Watch) (old new : Telling) (left : ℕ) (s : Stop) (r : Reason)
-    → let d = effects_of h in new.effects ≡ old.effects → new.left ≡ old.left → IsTelling d n old
+pub tells_not : (h : History) (n : Node) (w : Watch) (old new : Notifications) (left : ℕ) (s : Stop) (r : Reason)
+    → let d = effects_of h in new.effects ≡ old.effects → new.left ≡ old.left → AreNotifications d n old
     → is_live d w.client ≡ true → left ≡ left_at d old w.client
     → Halts (moment_of h) old.records new.records (told_checks d n w left) s → (s ≡ wanted → ⊥) → r ≡ reason_of s
     → (NotTold r ≡ told_of (followed d old.effects.items) n w (first_missing (followed d old.effects.items) n w))
@@ -290,7 +290,7 @@ tells_not h n w old new left s r same_effects same_left t live is (inr asks) oth
         records = sym (ap (λ (q : List Record × Option Stop). q.0) found)
             ∙ ap (λ (xs : List Check). old.records ++ left_by_all m xs)
             (checks_same d e n w left t.may.before live free);
-        telling = record {
+        notifications = record {
           may = subst (λ (v : _). MayTell d n v.items) (sym same_effects) t.may;
           left = λ k l. ap (λ (v : _). left_at d (record { effects = v; left = new.left; records = new.records }) k)
               same_effects

@@ -4,7 +4,7 @@ use crate::reload_header::ReloadHeader;
 
 /// What is read next.
 #[derive(Clone, Copy)]
-pub enum Mode {
+pub enum FrameState {
     Line,
     /// The files after a `reload` line.
     Texts(ReloadHeader),

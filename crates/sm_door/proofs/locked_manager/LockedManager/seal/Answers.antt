@@ -3,7 +3,7 @@ use Rattle.sm_history.specs.Books.{Book}
 use Rattle.sm_view.specs.Steps.{Seals}
 use Rattle.sm_door.specs.Locked.{Locked}
 use Rattle.sm_door.proofs.Places.{same_book, seals_done}
-use Rattle.sm_door.proofs.desk.Desk.seal.Goals as goal
+use Rattle.sm_door.proofs.locked_manager.LockedManager.seal.Goals as goal
 
 pub show_sealed-requires-clause-shown : goal.show_sealed-requires-clause-shown
 show_sealed-requires-clause-shown g c = c.self.invariant ∙ sym (same_book _ _ c.ready_seal.ensures.same)

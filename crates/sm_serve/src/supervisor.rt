@@ -5,7 +5,7 @@ use std::io;
 
 /// A notice of a server to the program that runs it.
 #[derive(Clone, Copy)]
-pub enum Notice {
+pub enum ServerEvent {
     /// All threads run, and connections are accepted from now on.
     Listening,
     /// Files or memory were short when a connection was to be accepted. It is tried again, and reported once until
@@ -22,7 +22,7 @@ pub enum Notice {
 /// The program that runs a server.
 pub trait Supervisor {
     /// Takes a notice, from any thread.
-    fn tell(&self, notice: Notice);
+    fn tell(&self, notice: ServerEvent);
 
     /// Hears the audit records of a client's request, one or more, from any thread. The client's reply waits for it, so
     /// it must not block.

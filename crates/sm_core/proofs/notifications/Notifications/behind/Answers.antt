@@ -3,11 +3,11 @@ use Rattle.std.specs.Prelude.{nat_eq, unwrap_or}
 use Rattle.std.specs.HashMap.{get}
 use Rattle.sm_history.specs.declared.limits.TheConstants.{MOST_DELIVERIES}
 use Rattle.sm_history.specs.declared.delivery.Delivery.{Delivery}
-use Rattle.sm_core.specs.Telling.{free_at}
-use Rattle.sm_core.proofs.telling.Telling.behind.Goals as goal
+use Rattle.sm_core.specs.Notifications.{free_at}
+use Rattle.sm_core.proofs.notifications.Notifications.behind.Goals as goal
 
-pub returns-clause-telling : goal.returns-clause-telling
-returns-clause-telling c = λ d n b. record {
+pub returns-clause-notifications : goal.returns-clause-notifications
+returns-clause-notifications c = λ d n b. record {
   may = b.may;
   left = λ k l.
       let none : get nat_eq c.new.result k ≡ None = search rules in

@@ -2,26 +2,26 @@
 
 use crate::answered::Answered;
 use crate::gauge::Gauge;
-use crate::notice::{Notice, Supervisor};
+use crate::supervisor::{ServerEvent, Supervisor};
 use sm_history::{Refusal, Reply};
 use sm_session::Response;
 
 /// Counts the changes that are answered, and tells the supervisor when the journal fills up and what was denied.
-pub struct Watch<'a, H> {
+pub struct Monitor<'a, H> {
     host: &'a H,
     gauge: &'a Gauge,
 }
 
-impl<'a, H> Drop for Watch<'a, H> {
+impl<'a, H> Drop for Monitor<'a, H> {
     fn drop(self) {
-        let Watch { host: _, gauge: _ } = self;
+        let Monitor { host: _, gauge: _ } = self;
     }
 }
 
-impl<'a, H: Supervisor> Watch<'a, H> {
-    /// A watch over this gauge's journal.
-    pub fn new(host: &'a H, gauge: &'a Gauge) -> Watch<'a, H> {
-        Watch { host, gauge }
+impl<'a, H: Supervisor> Monitor<'a, H> {
+    /// A monitor over this gauge's journal.
+    pub fn new(host: &'a H, gauge: &'a Gauge) -> Monitor<'a, H> {
+        Monitor { host, gauge }
     }
 
     /// Sees what was answered, and passes the response on.
@@ -43,7 +43,7 @@ impl<'a, H: Supervisor> Watch<'a, H> {
     /// Counts a change.
     pub fn count(&self) {
         if self.gauge.fills_up() {
-            self.host.tell(Notice::AlmostFull {
+            self.host.tell(ServerEvent::AlmostFull {
                 used: self.gauge.used(),
                 slots: self.gauge.slots(),
             });
@@ -52,7 +52,7 @@ impl<'a, H: Supervisor> Watch<'a, H> {
 
     fn refuse(&self) {
         if self.gauge.is_full() {
-            self.host.tell(Notice::Full);
+            self.host.tell(ServerEvent::Full);
         }
     }
 

@@ -4,7 +4,7 @@ use Rattle.std.specs.List.{All}
 use Rattle.sm_history.specs.Records.{IsTrueSince}
 use Rattle.sm_history.specs.declared.records.Record.{Record}
 use Rattle.sm_door.specs.Locked.{Locked}
-use Rattle.sm_door.proofs.desk.Desk.records.Goals as goal
+use Rattle.sm_door.proofs.locked_manager.LockedManager.records.Goals as goal
 
 pub returns-clause-true_records : goal.returns-clause-true_records
 returns-clause-true_records g c =

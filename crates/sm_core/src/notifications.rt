@@ -4,7 +4,7 @@ ghost use Rattle.std.specs.Prelude.{◌≡◌, ◌∷◌, ◌++◌, ◌<◌, ◌
 ghost use Rattle.sm_kinds.specs.declared.number.Node.{Node};
 ghost use Rattle.sm_history.specs.Effects.{Effects};
 ghost use Rattle.sm_history.specs.declared.effect.Effect.TheVariants.{Delivers};
-ghost use Rattle.sm_core.specs.Telling.{gives_of, told_to, left_in, MayPrecede, IsTelling};
+ghost use Rattle.sm_core.specs.Notifications.{gives_of, told_to, left_in, MayPrecede, AreNotifications};
 
 use crate::notes::Notes;
 use sm_history::{
@@ -17,7 +17,7 @@ use std::collections::HashMap;
 /// The notices to watchers so far: their effects in order, the number of deliveries for which the inbox of each
 /// notified client still has room, and the records of the checks.
 #[derive(Drop)]
-pub struct Telling {
+pub struct Notifications {
     pub effects: Vec<Effect>,
     pub left: HashMap<u32, usize>,
     pub records: Notes,
@@ -70,14 +70,14 @@ fn give(effects: &mut Vec<Effect>, client: u32, node: Node, given: Given) -> Res
     }
 }
 
-impl Telling {
+impl Notifications {
     /// Begins with these effects, before any notice.
-    pub fn behind(alloc: Global, effects: Vec<Effect>) -> Telling
+    pub fn behind(alloc: Global, effects: Vec<Effect>) -> Notifications
         ensures effects { result.effects ≡ effects }
         ensures records { result.records ≡ [] }
-        ensures telling { (d : Effects) (n : Node) → MayPrecede d n effects.items → IsTelling d n result }
+        ensures notifications { (d : Effects) (n : Node) → MayPrecede d n effects.items → AreNotifications d n result }
     {
-        Telling {
+        Notifications {
             effects,
             left: HashMap::new(alloc),
             records: Notes::none(alloc),

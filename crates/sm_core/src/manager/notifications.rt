@@ -11,15 +11,15 @@ ghost use Rattle.sm_history.specs.Notices.{notice_at, told_of, first_missing, af
 ghost use Rattle.sm_history.specs.Records.{left_by_notices};
 ghost use Rattle.sm_core.specs.Judging.{AllPass, Halts};
 ghost use Rattle.sm_core.specs.Judging as spec;
-ghost use Rattle.sm_core.specs.Telling.{told_checks, left_at, IsTelling, GoesOn, GoesFar, MayPrecede, Tells};
+ghost use Rattle.sm_core.specs.Notifications.{told_checks, left_at, AreNotifications, GoesOn, GoesFar, MayPrecede, Tells};
 ghost use Rattle.sm_core.specs.Managed.{effects_in, moment_in};
 
 use crate::manager::replying::reason;
 use crate::manager::{Manager, wanted};
 use crate::notes::Notes;
+use crate::notifications::{Notifications, boxed_twice, listed_twice};
 use crate::plan::Plan;
 use crate::small_stop::{Plain, SmallStop};
-use crate::telling::{Telling, boxed_twice, listed_twice};
 use sm_history::{Effect, Failure, Given, Notice, Outcome, Told, Watch};
 use sm_kinds::{ClientId, Name, Node};
 
@@ -59,10 +59,10 @@ impl Manager {
     }
 
     /// Returns the number of deliveries for which a client's inbox still has room.
-    fn left(&self, telling: &Telling, client: u32) -> usize
-        ensures { result ≡ left_at (effects_in self.now) telling.now client }
+    fn left(&self, notifications: &Notifications, client: u32) -> usize
+        ensures { result ≡ left_at (effects_in self.now) notifications.now client }
     {
-        match telling.left.get(&client) {
+        match notifications.left.get(&client) {
             Some(left) => *left,
             None => self.state.inboxes.free(client),
         }
@@ -99,18 +99,23 @@ impl Manager {
     }
 
     /// Notifies a watcher, or finds why it may not be notified.
-    fn tell(&self, watch: &Watch, node: Node, telling: &mut Telling) -> Result<Told, SmallStop>
+    fn tell(
+        &self,
+        watch: &Watch,
+        node: Node,
+        notifications: &mut Notifications,
+    ) -> Result<Told, SmallStop>
         requires live { is_live (effects_in self.now) watch.now.client ≡ true }
-        requires telling { IsTelling (effects_in self.now) node telling.old }
+        requires notifications { AreNotifications (effects_in self.now) node notifications.old }
         ensures { MatchResult result
-            (λ t. (t ≡ told_of (followed (effects_in self.now) telling.old.effects.items) node watch.now
-            (first_missing (followed (effects_in self.now) telling.old.effects.items) node watch.now))
-            × GoesOn (moment_in self.now) (effects_in self.now) node watch.now telling.old telling.new)
+            (λ t. (t ≡ told_of (followed (effects_in self.now) notifications.old.effects.items) node watch.now
+            (first_missing (followed (effects_in self.now) notifications.old.effects.items) node watch.now))
+            × GoesOn (moment_in self.now) (effects_in self.now) node watch.now notifications.old notifications.new)
             (λ s. s ≡ spec.wanted) }
     {
-        let left = self.left(telling, watch.client);
-        match self.judge_told(watch, node, left, &mut telling.records) {
-            Ok(given) => match telling.tell(self.alloc, watch, node, given, left) {
+        let left = self.left(notifications, watch.client);
+        match self.judge_told(watch, node, left, &mut notifications.records) {
+            Ok(given) => match notifications.tell(self.alloc, watch, node, given, left) {
                 Ok(told) => Ok(Told::Told(told)),
                 Err(_) => Err(wanted()),
             },
@@ -127,16 +132,16 @@ impl Manager {
         &self,
         watch: &Watch,
         node: Node,
-        telling: &mut Telling,
+        notifications: &mut Notifications,
     ) -> Result<Notice, SmallStop>
         requires live { is_live (effects_in self.now) watch.now.client ≡ true }
-        requires telling { IsTelling (effects_in self.now) node telling.old }
+        requires notifications { AreNotifications (effects_in self.now) node notifications.old }
         ensures { MatchResult result
-            (λ x. (x ≡ notice_at (followed (effects_in self.now) telling.old.effects.items) node watch.now)
-            × GoesOn (moment_in self.now) (effects_in self.now) node watch.now telling.old telling.new)
+            (λ x. (x ≡ notice_at (followed (effects_in self.now) notifications.old.effects.items) node watch.now)
+            × GoesOn (moment_in self.now) (effects_in self.now) node watch.now notifications.old notifications.new)
             (λ s. s ≡ spec.wanted) }
     {
-        let result = self.tell(watch, node, telling)?;
+        let result = self.tell(watch, node, notifications)?;
         Ok(Notice {
             client: ClientId(watch.client),
             object: watch.object,
@@ -150,14 +155,14 @@ impl Manager {
         &self,
         watches: &[Watch],
         node: Node,
-        telling: &mut Telling,
+        notifications: &mut Notifications,
     ) -> Result<Vec<Notice>, SmallStop>
         requires live { list_all (λ w. is_live (effects_in self.now) w.client) watches.now ≡ true }
-        requires telling { IsTelling (effects_in self.now) node telling.old }
+        requires notifications { AreNotifications (effects_in self.now) node notifications.old }
         ensures { MatchResult result
             (λ notices. (notices.items
-            ≡ notices_at (followed (effects_in self.now) telling.old.effects.items) node watches.now)
-            × GoesFar (moment_in self.now) (effects_in self.now) node watches.now telling.old telling.new)
+            ≡ notices_at (followed (effects_in self.now) notifications.old.effects.items) node watches.now)
+            × GoesFar (moment_in self.now) (effects_in self.now) node watches.now notifications.old notifications.new)
             (λ s. s ≡ spec.wanted) }
     {
         let mut notices = Vec::new(self.alloc);
@@ -165,7 +170,7 @@ impl Manager {
             if notices.reserve(1).is_err() {
                 return Err(wanted());
             }
-            let notice = self.notify(watch, node, telling)?;
+            let notice = self.notify(watch, node, notifications)?;
             notices.push_reserved(notice);
         }
         Ok(notices)
@@ -196,16 +201,16 @@ impl Manager {
             (after_notice (followed (effects_in self.now) effects.items) node watch.now) plan)
             (λ s. s ≡ spec.wanted) }
     {
-        let mut telling = Telling::behind(self.alloc, effects);
-        let notice = self.notify(watch, node, &mut telling)?;
+        let mut notifications = Notifications::behind(self.alloc, effects);
+        let notice = self.notify(watch, node, &mut notifications)?;
         let Ok((outcome, told)) = boxed_twice(self.alloc, notice) else {
             return Err(wanted());
         };
         Ok(Plan {
             outcome: Outcome::Watched(Some(outcome)),
             told: Outcome::Watched(Some(told)),
-            effects: telling.effects,
-            records: telling.records,
+            effects: notifications.effects,
+            records: notifications.records,
         })
     }
 
@@ -228,17 +233,17 @@ impl Manager {
             (watchers_at (effects_in self.now) name.now)) plan)
             (λ s. s ≡ spec.wanted) }
     {
-        let mut telling = Telling::behind(self.alloc, effects);
+        let mut notifications = Notifications::behind(self.alloc, effects);
         let watchers = self.watchers(name.bytes());
-        let notices = self.notify_all(watchers, node, &mut telling)?;
+        let notices = self.notify_all(watchers, node, &mut notifications)?;
         let Ok((outcome, told)) = listed_twice(notices) else {
             return Err(wanted());
         };
         Ok(Plan {
             outcome: Outcome::Added(outcome),
             told: Outcome::Added(told),
-            effects: telling.effects,
-            records: telling.records,
+            effects: notifications.effects,
+            records: notifications.records,
         })
     }
 }
