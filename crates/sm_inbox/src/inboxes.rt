@@ -29,7 +29,7 @@ fn copies_of(
 ) -> Result<Vec<BoxedDelivery>, AllocError>
     ensures { IfOk result (λ v. v.items ≡ waiting.now.items) }
 {
-    let mut copies = Vec::new(alloc);
+    let mut copies = Vec::with_capacity(alloc, waiting.len())?;
     for i in 0..waiting.len() {
         copies.push(waiting[i].clone()?)?;
     }

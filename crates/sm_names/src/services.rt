@@ -37,7 +37,7 @@ fn place_of(rows: &[NameRow], name: &[u8]) -> Result<usize, usize>
 fn copies_of(alloc: Global, rows: &[NameRow]) -> Result<Vec<NameRow>, AllocError>
     ensures { IfOk result (λ v. v.items ≡ rows.now) }
 {
-    let mut copies = Vec::new(alloc);
+    let mut copies = Vec::with_capacity(alloc, rows.len())?;
     for row in rows {
         let name = row.name.clone()?;
         let service = row.service;
@@ -50,7 +50,7 @@ fn copies_of(alloc: Global, rows: &[NameRow]) -> Result<Vec<NameRow>, AllocError
 fn listed_of(alloc: Global, rows: &[NameRow]) -> Result<Vec<NamedRow>, AllocError>
     ensures { IfOk result (λ v. v.items ≡ named_rows rows.now) }
 {
-    let mut list = Vec::new(alloc);
+    let mut list = Vec::with_capacity(alloc, rows.len())?;
     for row in rows {
         list.push(listed(row)?)?;
     }
@@ -70,7 +70,7 @@ fn listed(row: &NameRow) -> Result<NamedRow, AllocError>
 fn matching(alloc: Global, rows: &[NameRow], mask: u32) -> Result<Vec<Name>, AllocError>
     ensures { IfOk result (λ v. v.items ≡ matching_names mask rows.now) }
 {
-    let mut names = Vec::new(alloc);
+    let mut names = Vec::with_capacity(alloc, rows.len())?;
     for row in rows {
         if row.service.dump & mask != 0 {
             names.push(row.name.clone()?)?;
