@@ -18,7 +18,7 @@ pub no_bits : (b : ℕ) → has_bit 0 b ≡ false
 unfolding has_bit
 no_bits b = rw (bit_at-zero b) refl
 
--- the bits below i say whether g, and those from i on are 0
+-- The bits below i say whether g, and those from i on are 0.
 pub record Told (byte : ℕ) (g : ℕ → Bool) (i : ℕ) : Type 0 where
   pub below : (b : ℕ) → b < i → has_bit byte b ≡ g b
   pub above : (b : ℕ) → i ≤ b → has_bit byte b ≡ false

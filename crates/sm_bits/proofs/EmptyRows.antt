@@ -6,7 +6,7 @@ use Rattle.std.proofs.lemmas.List.{get_or_append_left, get_or-append_right, get_
 use Rattle.sm_bits.specs.Bits.{has, row}
 use Rattle.sm_bits.proofs.Words.{has_past}
 
--- n empty rows of w words
+-- n empty rows of w words.
 pub record Empty (rows : List (List ℕ)) (n w : ℕ) : Type 0 where
   pub count : length rows ≡ n
   pub room : (s : ℕ) → s < n → length (row rows s) ≡ w

@@ -8,7 +8,7 @@ use Rattle.std.proofs.lemmas.List.{get_or-set_other, get_or-set_same}
 use Rattle.sm_bits.specs.Bits.{has, has_bit}
 use Rattle.sm_bits.proofs.NextNumbers.{Least, least_found, none_left}
 
--- where no bit of the word is left, it has no number from there on
+-- Where no bit of the word is left, it has no number from there on.
 pub none_behind : (words : List ℕ) (place from j : ℕ) → from < 64 → get_or words place 0 / 2 ^ from ≡ 0
     → 64 * place + from ≤ j → j / 64 ≡ place → has words j ≡ false
 none_behind words place from j small zero behind here =
@@ -17,7 +17,7 @@ none_behind words place from j small zero behind here =
     none_left words (64 * place + from) j (get_or words place 0 / 2 ^ from) (rw (at, bit) refl) zero behind
     (omega (arith, at, here))
 
--- the lowest bit that is left is its least number from there on
+-- The lowest bit that is left is its least number from there on.
 pub least_behind : (words : List ℕ) (place from : ℕ) → from < 64 → get_or words place 0 < 2 ^ 64
     → 0 < get_or words place 0 / 2 ^ from
     → Least words (64 * place + from) (64 * place + (from + trailing_zeros w64 (get_or words place 0 / 2 ^ from)))
@@ -36,7 +36,7 @@ pub record Marked (words bytes old : List ℕ) (place from bit : ℕ) : Type 0 w
   pub below : (j : ℕ) → j < length bytes → j < 64 * place → get_or bytes j 0 ≡ get_or old j 0
   pub above : (j : ℕ) → j < length bytes → 64 * place + from ≤ j → get_or bytes j 0 ≡ get_or old j 0
 
--- one more is marked, the least of those that are left
+-- One more is marked, the least of those that are left.
 pub marked_more : (words bytes old : List ℕ) (place from k v bit : ℕ) → Marked words bytes old place from bit
     → 64 * place + (from + k) < length bytes → has words (64 * place + (from + k)) ≡ true
     → ((j : ℕ) → 64 * place + from ≤ j → j < 64 * place + (from + k) → has words j ≡ false)

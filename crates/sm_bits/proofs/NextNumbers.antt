@@ -9,7 +9,7 @@ use Rattle.std.proofs.lemmas.Nat.Bits.{bit_at-zero, bit_at_above, bit_at-trailin
 use Rattle.sm_bits.specs.Bits.{has}
 use Rattle.sm_bits.proofs.Words.{bit_is, has_is}
 
--- the bits of a word from the kth on
+-- The bits of a word from the kth on.
 pub bit_behind : (n k b : ℕ) → bit_at (n / 2 ^ k) b ≡ bit_at n (k + b)
 bit_behind n k b =
     ap (λ (m : ℕ). m % 2) (div-div-eq-div-mul n (2 ^ k) (2 ^ b) ∙ ap (λ (m : ℕ). n / m) (sym (pow-add 2 k b)))
@@ -22,7 +22,7 @@ bit_of_rest words i b rest is small =
     let place : (i + b) % 64 ≡ i % 64 + b = omega (arith, small) in
     has_is words (i + b) ∙ (rw (word, place, is, bit_behind (get_or words (i / 64) 0) (i % 64) b) refl)
 
--- the number of the lowest bit of the rest is the least from i on
+-- The number of the lowest bit of the rest is the least from i on.
 pub record Least (words : List ℕ) (i found : ℕ) : Type 0 where
   pub within : found < 64 * (i / 64) + 64
   pub has_it : has words found ≡ true
@@ -50,7 +50,7 @@ least_found words i rest is fits some =
           ap (has words) (sym here) ∙ (bit_of_rest words i b rest is inside ∙ (rw (found.2 b low) refl)));
     }
 
--- where the rest is 0, no number from i on is in its word
+-- Where the rest is 0, no number from i on is in its word.
 pub none_left : (words : List ℕ) (i j rest : ℕ) → rest ≡ get_or words (i / 64) 0 / 2 ^ (i % 64) → rest ≡ 0
     → i ≤ j → j < 64 * (i / 64) + 64 → has words j ≡ false
 none_left words i j rest is zero from within =

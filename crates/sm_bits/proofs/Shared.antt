@@ -9,7 +9,7 @@ use Rattle.sm_bits.specs.declared.shared_set.Shape.{Shape}
 use Rattle.sm_bits.specs.declared.shared_set.Shape.TheVariants.{One}
 use Rattle.sm_bits.proofs.Words.{one_has, one_none, one_room}
 
--- the row has n alone, or nothing where n is past its end
+-- The row has n alone, or nothing where n is past its end.
 pub record IsOne (row : List ℕ) (words n : ℕ) : Type 0 where
   pub room : length row ≡ words
   pub inside : (j : ℕ) → n / 64 < words → has row j ≡ eqb j n

@@ -19,11 +19,11 @@ use Rattle.sm_bits.specs.Sharing.{one_row}
 abbrev pub bit_is : ℕ → ℕ → Bool
 bit_is w b = eqb (bit_at w b) 1
 
--- what a read says, with the default that `has` takes
+-- What a read says, with the default that `has` takes.
 pub read_is : (xs : List ℕ) (i x : ℕ) → i < length xs → x ≡ get_or xs i x → x ≡ get_or xs i 0
 read_is xs i x h e = e ∙ get_or_default_zero xs i x h
 
--- has, opened
+-- `has`, unfolded.
 pub has_is : (words : List ℕ) (j : ℕ) → has words j ≡ bit_is (get_or words (j / 64) 0) (j % 64)
 unfolding has
 has_is words j = refl
@@ -93,7 +93,7 @@ turned f old new other i v inside by t = record {
       ∙ (rw (get_or-set_other new i (j / 64) v 0 diff, ← has_is new j) (t.above j (omega arith)));
 }
 
--- past the end, nothing was to be done
+-- Past the end, nothing was to be done.
 pub turned_all : (f : Bool → Bool → Bool) (old new other : List ℕ) → f false false ≡ false → length new ≡ length old
     → length old ≡ length other
     → (i : ℕ) → length new ≤ i → Turned f old new other i → (j : ℕ) → has new j ≡ f (has old j) (has other j)
@@ -159,7 +159,7 @@ together xs ys i some fits =
           (sym (and_bits (get_or xs i 0) (get_or ys i 0) b) ∙ (rw found.1 refl)),
     )
 
--- what two rows have in common below word i, gathered in one word
+-- What two rows have in common below word i, gathered in one word.
 pub record Gathered (xs ys : List ℕ) (common i : ℕ) : Type 0 where
   pub none : common ≡ 0 → (j : ℕ) → j / 64 < i → (has xs j && has ys j) ≡ false
   pub some : 0 < common → (j : ℕ) × ((has xs j && has ys j) ≡ true)
@@ -188,7 +188,7 @@ gathered_all xs ys common i end nothing g = elim (cases_eq common 0) [
   | inr some ↦ absurd (true≢false (rw (ne_eqb common 0 some) at nothing))
 ]
 
--- a word that is 0 has no number in it
+-- A word that is 0 has no number in it.
 pub has_zero : (words : List ℕ) (j i : ℕ) → j / 64 ≡ i → get_or words i 0 ≡ 0 → has words j ≡ false
 has_zero words j i at zero = has_is words j ∙ (rw (at, zero, bit_at-zero (j % 64)) refl)
 

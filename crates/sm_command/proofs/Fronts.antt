@@ -2,7 +2,7 @@
 use Rattle.std.proofs.Common.{◌≡◌, ℕ, arith, List, take, Option, Some, None, IfSome, option_map, ◌∙◌}
 use Rattle.std.proofs.lemmas.List.{take-take}
 
--- what was read up to a limit, and cut off there, is the front of all
+-- What was read up to a limit, and cut off there, is the front of all.
 pub front : (left : Option (List ℕ)) (limit : ℕ) (held cut : List ℕ) → IfSome (option_map (take limit) left)
     (λ xs. held ≡ xs)
     → cut ≡ take limit held → IfSome left (λ xs. cut ≡ take limit xs)

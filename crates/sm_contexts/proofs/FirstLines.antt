@@ -16,11 +16,11 @@ use Rattle.sm_contexts.specs.declared.limits.TheConstants.{MOST_ENTRY_LINES}
 use Rattle.sm_contexts.specs.Reading.{Entry, Read, has_key, default_key, is_entry, placed, with_entry, with_line}
 use Rattle.sm_contexts.specs.Reading.{entries_from, read, line_and_context, line_of, is_line_of, AreFirstLines}
 
--- what the entries say of a name
+-- What the entries say of a name.
 found : List ℕ → List Entry → Option (ℕ × List ℕ)
 found name es = option_map line_and_context (find (has_key name) es)
 
--- what line n says of a name, by its words
+-- What line n says of a name, by its words.
 said : List ℕ → ℕ → List ℕ → List ℕ → Option (ℕ × List ℕ)
 said name n key context = if bytes_eq name key then Some (n, context) else None
 
@@ -28,7 +28,7 @@ or_none : {A : Type 0} (x : Option A) → option_or x None ≡ x
 or_none None = refl
 or_none (Some x) = refl
 
--- a new entry is found last
+-- A new entry is found last.
 found_last : (name : List ℕ) (e : Entry) (es : List Entry)
     → found name (es ++ e ∷ []) ≡ option_or (found name es) (said name e.line e.key e.context)
 unfolding found said
@@ -46,7 +46,7 @@ found_last name e (x ∷ xs) = by (bytes_eq name x.key) (found_last name e xs) w
   by true rest = refl
   by false rest = rest
 
--- a repeated key says nothing new
+-- A repeated key says nothing new.
 said_before : (name : List ℕ) (n : ℕ) (key context : List ℕ) (es : List Entry) (e : Entry)
     → find (has_key key) es ≡ Some e
     → found name es ≡ option_or (found name es) (said name n key context)
@@ -82,7 +82,7 @@ placed_found name n entries more key context done = by (find (has_key key) entri
       rw (← is) (found_last name (record { line = n; key = key; context = context }) entries)
   by (Some e) there h = again e (bytes_eq key default_key) (bytes_eq e.context context) there h
 
--- what line n says of a name
+-- What line n says of a name.
 line_said : List ℕ → ℕ → List ℕ → Option (ℕ × List ℕ)
 line_said name n line = if is_line_of name line then Some (n, first_word (after_word line)) else None
 

@@ -23,7 +23,7 @@ seen_entry : (key : List ℕ) (r : Option (Bor FirstLine))
 seen_entry key None = refl
 seen_entry key (Some f) = refl
 
--- the table's look-up gives the first entry with the key
+-- The table's look-up gives the first entry with the key.
 find_lookup : (key : List ℕ) (es : List (Vec ℕ × FirstLine))
     → option_map (entry key) (lookup (holds key) es) ≡ find (has_key key) (map entry_of es)
 find_lookup key [] = refl
@@ -40,7 +40,7 @@ pub found_entry : (key : List ℕ) (es : List (Vec ℕ × FirstLine)) (r : Optio
     → option_map (λ f. entry key f.now) r ≡ find (has_key key) (map entry_of es)
 found_entry key es r e = seen_entry key r ∙ (ap (option_map (entry key)) e ∙ find_lookup key es)
 
--- and finds one exactly where there is one
+-- It finds one exactly where there is one.
 pub any_lookup : (key : List ℕ) (es : List (Vec ℕ × FirstLine))
     → is_some (lookup (holds key) es) ≡ list_any (has_key key) (map entry_of es)
 any_lookup key [] = refl
@@ -50,7 +50,7 @@ any_lookup key (e ∷ es) = by (bytes_eq key e.0.items) (any_lookup key es) wher
   by true rest = refl
   by false rest = rest
 
--- at the same place
+-- The entry is at the same index.
 place_same : (key : List ℕ) (es : List (Vec ℕ × FirstLine))
     → position_or_len (holds key) (keys_of es) ≡ position_or_len (has_key key) (map entry_of es)
 place_same key [] = refl
@@ -63,7 +63,7 @@ placed key es = rw (place_same key es, length-map es entry_of, length-map es (λ
 abbrev same : Vec ℕ → Vec ℕ → Bool
 same x y = bytes_eq x.items y.items
 
--- a new key goes last
+-- A new key goes last.
 inserted_last : (key : Vec ℕ) (first : FirstLine) (es : List (Vec ℕ × FirstLine))
     → find (has_key key.items) (map entry_of es) ≡ None
     → map entry_of (insert_entry same es key first) ≡ map entry_of es ++ entry key.items first ∷ []

@@ -11,7 +11,7 @@ use Rattle.std.proofs.lemmas.Option.{slice_get_cases, slice_get_past}
 use Rattle.sm_contexts.specs.Reading.{Entry, has_key, default_key, label, label_place, or_default}
 use borrow.Author.Tests.{ltb-true}
 
--- the first that passes is at the first index
+-- The first that passes is at the first index.
 first_place : {A : Type 0} (p : A → Bool) (xs : List A) (i : ℕ) → position p xs ≡ Some i
     → (find p xs ≡ slice_get xs i) × (i < length xs)
 first_place p xs i found = by (nat_lt (position_or_len p xs) (length xs)) refl found where
@@ -22,14 +22,14 @@ first_place p xs i found = by (nat_lt (position_or_len p xs) (length xs)) refl f
       (find_at p xs ∙ ap (slice_get xs) is, rw is at (ltb-true _ _ lt))
   by false lt h = absurd cc
 
--- what has no place isn't found
+-- What has no place isn't found.
 no_place : {A : Type 0} (p : A → Bool) (xs : List A) → position p xs ≡ None → find p xs ≡ None
 no_place p xs none = by (cases_lt (position_or_len p xs) (length xs)) where
   by : ((position_or_len p xs < length xs) ⊎ (length xs ≤ position_or_len p xs)) → find p xs ≡ None
   by (inl lt) = absurd (cc (rw (lt-ltb _ _ lt) at none))
   by (inr past) = find_at p xs ∙ slice_get_past xs (position_or_len p xs) past
 
--- the first that passes, at its place
+-- The first that passes, at its place.
 there : {A : Type 0} (p : A → Bool) (xs : List A) (i : ℕ) → position p xs ≡ Some i
     → (x : A) × (slice_get xs i ≡ Some x) × (find p xs ≡ Some x)
 there {A = A} p xs i found = by (slice_get_cases xs i).1 where
@@ -42,7 +42,7 @@ there {A = A} p xs i found = by (slice_get_cases xs i).1 where
   by (inl at) = (at.0, at.2, first.0 ∙ at.2)
   by (inr past) = absurd (omega (arith, past.0, first.1))
 
--- where one passes, one has a place
+-- Where one passes, one has a place.
 found_cases : {A : Type 0} (b rest : Bool) (x : A) (o : Option A) → (rest ≡ true → o ≡ None → ⊥) → (b || rest) ≡ true
     → cond b (Some x) o ≡ None → ⊥
 found_cases true rest x o hence h e = absurd cc
@@ -57,7 +57,7 @@ pub default_placed : (entries : List Entry) → list_any (has_key default_key) e
 default_placed entries has none =
     found (has_key default_key) entries has (no_place (has_key default_key) entries none)
 
--- the label of a name is the context at its place
+-- The label of a name is the context at its place.
 pub label_at : (entries : List Entry) (name : List ℕ) (i : ℕ) → label_place entries name ≡ Some i
     → (e : Entry) × (slice_get entries i ≡ Some e) × (label entries name ≡ Some e.context)
 label_at entries name i placed = by (position (has_key name) entries) refl placed where

@@ -71,13 +71,13 @@ module _ (o : Book) where
         let all = keeps_more (value x) (value y) views more h in
         (v, keeps_set (value y) views seat v all (all.1 seat v at), tt)
 
--- after any operations, the last one counts
+-- After any operations, the last one counts.
 pub fold_last : {S O : Type 0} (f : S → O → S) (s : S) (xs : List O) (o : O)
     → fold f s (xs ++ o ∷ []) ≡ f (fold f s xs) o
 fold_last f s [] o = refl
 fold_last f s (x ∷ xs) o = fold_last f (f s x) xs o
 
--- after any whole pages, the last one is shown
+-- After any whole pages, the last one is shown.
 pub last_shown : {O : Type 0} (value : O → Book) (s : Book) (xs ys : List O) (o : O) (b : Book)
     → xs ≡ ys ++ o ∷ [] → b ≡ fold (λ (_ : Book) (x : O). value x) s xs → b ≡ value o
 last_shown {O = O} value s xs ys o b is all =

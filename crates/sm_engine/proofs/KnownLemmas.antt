@@ -26,7 +26,7 @@ pub Consumes-nothing : (a : Option (List ℕ)) → Consumes a a []
 Consumes-nothing None = tt
 Consumes-nothing (Some xs) = refl
 
--- one more write of a text, of which `at` bytes are written
+-- One more write of a text, of which `at` bytes are written.
 pub Appends-more : (a b c : Option (List ℕ)) (text : List ℕ) (at n : ℕ) → n ≤ length text - at
     → Appends a b (take at text) → Appends b c (take n (take (length text - at) (drop at text)))
     → Appends a c (take (at + n) text)
@@ -43,7 +43,7 @@ pub Spilled-front : (a b : Option (List ℕ)) (held : List ℕ) (n : ℕ) → Ap
     → Spilled a b held (drop n held)
 Spilled-front a b held n p = record { written = take n held; appended = p; joined = sym (take-append-drop n held) }
 
--- the first state of a text that is written in parts
+-- The first state of a text that is written in parts.
 pub Pending-start : (a : Option (List ℕ)) (held : List ℕ) → held ≡ [] → Pending a a held []
 Pending-start a held e = record { written = []; appended = Appends-nothing a; joined = sym e }
 
@@ -73,7 +73,7 @@ Consumes-keeps (Some xs) None c x p q = absurd p
 Consumes-keeps (Some xs) (Some ys) None x p q = absurd q
 Consumes-keeps (Some xs) (Some ys) (Some zs) x p q = rw q p
 
--- what was held, and the text of the last item, is spilled
+-- What was held, and the text of the last item, is spilled.
 pub Partly-spilled : {a b c : Option (List ℕ)} {held whole : List ℕ} (limit : ℕ) (more : List ℕ) {held' rest : List ℕ}
     → Pending a b held whole → length held ≤ limit - 1 → held' ≡ held ++ more → Spilled b c held' rest
     → Partly limit a c whole more

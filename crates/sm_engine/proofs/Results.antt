@@ -1,7 +1,7 @@
 -- Facts of results.
 use Rattle.std.proofs.Common.{Result, Ok, Err, OnErr}
 
--- what holds anyway holds at an error
+-- What holds anyway holds at an error.
 pub on_err : {T E P : Type 0} (r : Result T E) → P → OnErr r P
 on_err (Ok x) p = tt
 on_err (Err e) p = p

@@ -28,7 +28,7 @@ pub Runs-one : {S : Type 0} (answers : S → Item → List ℕ → List ℕ → 
     → answers s i r a t → Runs answers s (i ∷ []) r a t
 Runs-one answers s t i r a p = (t, r, a, [], [], p, (refl, refl, refl), sym (append-nil r), sym (append-nil a))
 
--- nothing is answered yet
+-- Nothing is answered yet.
 pub going_start : {S : Type 0} (answers : S → Item → List ℕ → List ℕ → S → Type 0) (s : S) (w a : Option (List ℕ))
     (held held_lines : List ℕ) → held ≡ [] → held_lines ≡ [] → Going answers s [] w w a a held held_lines s
 going_start answers s w a held held_lines e f = record {
@@ -39,7 +39,7 @@ going_start answers s w a held held_lines e f = record {
   audited = Pending-start a held_lines f;
 }
 
--- one more item is answered
+-- One more item is answered.
 pub going_answer : {S : Type 0} {answers : S → Item → List ℕ → List ℕ → S → Type 0} {old m t : S} {items : List Item}
     {w w' a a' : Option (List ℕ)} {held held' held_lines held_lines' : List ℕ} {item : Item}
     → Going answers old items w w' a a' held held_lines m → Answered answers m item held held' held_lines held_lines' t
@@ -54,7 +54,7 @@ going_answer {S} {answers} {old} {m} {t} {items} {w} {w'} {a} {a'} {held} {held'
       audited = Pending-more n.lines g.audited n.audited;
     }
 
--- what is held is written once it is much
+-- What is held is written once it is much.
 pub going_spill : {S : Type 0} {answers : S → Item → List ℕ → List ℕ → S → Type 0} {old m : S} {items : List Item}
     {w w' w'' a a' a'' : Option (List ℕ)} {held held' held_lines held_lines' : List ℕ}
     → Going answers old items w w' a a' held held_lines m → Spilled w' w'' held held'
@@ -67,8 +67,8 @@ going_spill g s t = record {
   audited = Pending-spill g.audited t;
 }
 
--- the items so far were answered, then these last ones, of which there is one at most, and of all their texts fronts
--- are written
+-- The items so far were answered, then these last ones, of which there is one at most, and of all their texts fronts
+-- are written.
 going_stop : {S : Type 0} {answers : S → Item → List ℕ → List ℕ → S → Type 0} {old m t : S} {items : List Item}
     {w w' w'' a a' a'' : Option (List ℕ)} {held held' rest held_lines held_lines' rest_lines : List ℕ} (limit : ℕ)
     → Going answers old items w w' a a' held held_lines m → length held ≤ limit - 1 → length held_lines ≤ limit - 1
@@ -93,7 +93,7 @@ going_stop {m = m} {items = items} limit g short short_lines last others all rep
   audited = Partly-spilled limit lines g.audited short_lines f t;
 }
 
--- one more item was answered, and then a write failed
+-- One more item was answered, and then a write failed.
 pub going_fail : {S : Type 0} {answers : S → Item → List ℕ → List ℕ → S → Type 0} {old m t : S} {items : List Item}
     {w w' w'' a a' a'' : Option (List ℕ)} {held held' rest held_lines held_lines' rest_lines : List ℕ} (limit : ℕ)
     → Going answers old items w w' a a' held held_lines m → length held ≤ limit - 1 → length held_lines ≤ limit - 1
@@ -104,7 +104,7 @@ going_fail {answers = answers} {m = m} {t = t} limit g short short_lines item n 
     going_stop limit g short short_lines (item ∷ []) others all n.reply n.lines (omega arith)
     (Runs-one answers m t item n.reply n.lines n.step) n.replied s n.audited u is
 
--- no item was left when a write failed
+-- No item was left when a write failed.
 pub going_fail_end : {S : Type 0} {answers : S → Item → List ℕ → List ℕ → S → Type 0} {old m : S} {items : List Item}
     {w w' w'' a a' a'' : Option (List ℕ)} {held rest held_lines rest_lines : List ℕ} (limit : ℕ)
     → Going answers old items w w' a a' held held_lines m → length held ≤ limit - 1 → length held_lines ≤ limit - 1
@@ -114,7 +114,7 @@ going_fail_end {held = held} {held_lines = held_lines} limit g short short_lines
     going_stop limit g short short_lines [] others all [] [] (omega arith) (refl, refl, refl)
     (sym (append-nil held)) s (sym (append-nil held_lines)) u is
 
--- memory runs out when the next item is answered, or before
+-- Memory runs out when the next item is answered, or before.
 pub going_lost : {S : Type 0} {answers : S → Item → List ℕ → List ℕ → S → Type 0} {old m : S} {items : List Item}
     {w w' a a' : Option (List ℕ)} {held held_lines : List ℕ} (limit : ℕ)
     → Going answers old items w w' a a' held held_lines m → length held ≤ limit - 1 → length held_lines ≤ limit - 1
@@ -130,7 +130,7 @@ going_lost {answers = answers} {m = m} {w' = w'} {a' = a'} {held = held} {held_l
     (Runs-one answers m t item n.0 n.1 n.2) refl (Spilled-none w' (held ++ n.0)) refl
     (Spilled-none a' (held_lines ++ n.1)) is
 
--- all is written
+-- All is written.
 pub going_end : {S : Type 0} {answers : S → Item → List ℕ → List ℕ → S → Type 0} {old m : S} {items : List Item}
     {w w' a a' : Option (List ℕ)} {held held_lines : List ℕ} → Going answers old items w w' a a' held held_lines m
     → (w'' a'' : Option (List ℕ)) → Appends w' w'' held → Appends a' a'' held_lines → (all : List Item) → items ≡ all
@@ -143,7 +143,7 @@ going_end g w'' a'' p q all e = record {
   audited = Appends-pending a'' g.audited q;
 }
 
--- nothing was answered
+-- Nothing was answered.
 pub stopped_none : {S : Type 0} {answers : S → Item → List ℕ → List ℕ → S → Type 0} {s : S} {w a : Option (List ℕ)}
     (limit : ℕ) (items : List Item) → Stopped limit answers s items w w a a s
 stopped_none {answers = answers} {s = s} {w = w} {a = a} limit items =

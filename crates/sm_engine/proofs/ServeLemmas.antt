@@ -16,7 +16,7 @@ use Rattle.sm_engine.specs.Running.{CaughtUp, Ended, LastRead, Wrote, Stopped, S
 use Rattle.sm_engine.proofs.KnownLemmas.{Appends-then, Appends-nothing, Consumes-then, Consumes-nothing, Consumes-keeps}
 use Rattle.sm_engine.proofs.RunLemmas.{Runs-append}
 
--- items that were answered one list after another
+-- Items that were answered one list after another.
 pub Wrote-then : {S : Type 0} {answers : S → Item → List ℕ → List ℕ → S → Type 0} {old m t : S} {is js : List Item}
     {w w' w'' a a' a'' : Option (List ℕ)} → Wrote answers old is w w' a a' m → Wrote answers m js w' w'' a' a'' t
     → Wrote answers old (is ++ js) w w'' a a'' t
@@ -28,7 +28,7 @@ Wrote-then {S} {answers} {old} {m} {t} {is} {js} {w} {w'} {w''} {a} {a'} {a''} p
   audited = Appends-then a a' a'' _ _ p.audited q.audited;
 }
 
--- before the first read
+-- Before the first read.
 pub sofar_start : {S : Type 0} (kind : Kind) (answers : S → Item → List ℕ → List ℕ → S → Type 0) (over : S → Bool)
     (s : S) (scan : Scan) (r w a : Option (List ℕ)) → scan ≡ scan_start kind → over s ≡ false
     → Sofar kind answers over 0 s scan r r w w a a s
@@ -50,7 +50,7 @@ sofar_start kind answers over s scan r w a e on = record {
   };
 }
 
--- one more piece
+-- One more piece.
 pub sofar_wrote : {S : Type 0} {kind : Kind} {n : ℕ} {answers : S → Item → List ℕ → List ℕ → S
     → Type 0} {over : S → Bool} {old m t : S} {scan : Scan}
     {r r' w w' w'' a a' a'' : Option (List ℕ)} (piece : List ℕ)
@@ -92,7 +92,7 @@ sofar_next {r = r} {r' = r'} r'' piece p c q next e alive on some =
       };
     }
 
--- fewer reads than these
+-- Fewer reads than these.
 caught_up_by : {S : Type 0} {kind : Kind} {n : ℕ} {answers : S → Item → List ℕ → List ℕ → S → Type 0}
     {over : S → Bool} {old m : S} {bytes : List ℕ} {w w' a a' : Option (List ℕ)} (reads : ℕ)
     → CaughtUp kind answers over n old bytes w w' a a' m → reads ≤ n
@@ -104,7 +104,7 @@ caught_up_by reads p le = record {
   enough = omega (arith, p.enough);
 }
 
--- one more read gave this piece
+-- One more read gave this piece.
 last_read : {S : Type 0} {kind : Kind} {n : ℕ} {answers : S → Item → List ℕ → List ℕ → S → Type 0}
     {over : S → Bool} {old m : S} {scan : Scan} {r r' w w' a a' : Option (List ℕ)} (reads : ℕ) (piece : List ℕ)
     → (p : Sofar kind answers over n old scan r r' w w' a a' m) → reads ≤ n + 1
@@ -121,7 +121,7 @@ last_read {m = m} {w' = w'} {a' = a'} reads piece p le Takes q = record {
   takes = subst (λ (l : Scan). Takes m (items_after l piece) w' a') p.scanned q;
 }
 
--- the machine is over after this piece
+-- The machine is over after this piece.
 pub served_over : {S : Type 0} {kind : Kind} {n bound limit : ℕ} {answers : S → Item → List ℕ → List ℕ → S
     → Type 0} {over : S → Bool} {old m t : S}
     {scan : Scan} {r r' w w' w'' a a' a'' : Option (List ℕ)} (reads : ℕ) (r'' : Option (List ℕ)) (piece : List ℕ)
@@ -135,7 +135,7 @@ served_over {answers = answers} {t = t} {r = r} {r' = r'} {w'' = w''} {a'' = a''
       Wrote answers middle items w_middle w'' a_middle a'' t) q);
 }
 
--- a line is too long in this piece
+-- A line is too long in this piece.
 pub served_long : {S : Type 0} {kind : Kind} {n bound limit : ℕ} {answers : S → Item → List ℕ → List ℕ → S
     → Type 0} {over : S → Bool} {old m t : S}
     {scan : Scan} {r r' w w' w'' a a' a'' : Option (List ℕ)} (reads : ℕ) (r'' : Option (List ℕ)) (piece : List ℕ)
@@ -155,7 +155,7 @@ served_long {answers = answers} {t = t} {r = r} {r' = r'} {w'' = w''} {a'' = a''
       );
     }
 
--- memory or a writer fails in this piece
+-- Memory or a writer fails in this piece.
 pub served_stop : {S : Type 0} {kind : Kind} {n bound limit : ℕ} {answers : S → Item → List ℕ → List ℕ → S
     → Type 0} {over : S → Bool} {old m t : S}
     {scan : Scan} {r r' w w' w'' a a' a'' : Option (List ℕ)} (reads : ℕ) (r'' : Option (List ℕ)) (piece : List ℕ)
@@ -180,7 +180,7 @@ served_stop {limit = limit} {answers = answers} {t = t} {r = r} {r' = r'} {w'' =
       })
     ]
 
--- a read fails, or there were enough of them
+-- A read fails, or there were enough of them.
 pub served_read_fault : {S : Type 0} {kind : Kind} {n bound limit : ℕ} {answers : S → Item → List ℕ → List ℕ → S
     → Type 0} {over : S → Bool} {old m : S}
     {scan : Scan} {r r' w w' a a' : Option (List ℕ)} (reads : ℕ)
@@ -204,7 +204,7 @@ served_enough reads p few le = record {
   written = (caught_up_by reads p.caught_up few, omega (arith, p.caught_up.enough));
 }
 
--- the input ends, and this is written
+-- The input ends, and this is written.
 ended : {S : Type 0} {kind : Kind} {n : ℕ} {answers : S → Item → List ℕ → List ℕ → S → Type 0} {over : S → Bool}
     {old m : S} {scan : Scan} {r r' w w' a a' : Option (List ℕ)} (reads : ℕ)
     → (p : Sofar kind answers over n old scan r r' w w' a a' m) → reads ≤ n + 1 → (w'' : Option (List ℕ))
@@ -216,7 +216,7 @@ ended {w' = w'} reads p le w'' said q = record {
   ended = subst (λ (l : Scan). Appends w' w'' (said l)) p.scanned q;
 }
 
--- the input ends, whether or not the ending is written
+-- The input ends, whether or not the ending is written.
 pub served_at_end : {S : Type 0} {kind : Kind} {n bound limit : ℕ} {answers : S → Item → List ℕ → List ℕ → S
     → Type 0} {over : S → Bool} {old m : S}
     {scan : Scan} {r r' w w' a a' : Option (List ℕ)} (reads : ℕ)

@@ -4,7 +4,7 @@ use Rattle.std.proofs.Common.{inl, inr}
 use Rattle.std.specs.Bool.{beq}
 use Rattle.std.proofs.lemmas.Bool.{cases_eq}
 
--- the two tests agree below n
+-- The two tests agree below n.
 unfoldable pub agree_below : (ℕ → Bool) → (ℕ → Bool) → ℕ → Bool
 agree_below f g zero = true
 agree_below f g (suc n) = beq (f n) (g n) && agree_below f g n
@@ -22,7 +22,7 @@ agree_at f g (suc n) h b lt =
     let both = both_of (f n) (g n) (agree_below f g n) h in
     elim (cases_eq b n) [ inl same ↦ rw same both.0 | inr other ↦ agree_at f g n both.1 b (omega arith) ]
 
--- of a table with a comma (44) at each byte that fails
+-- Of a table with a comma (44) at each byte that fails.
 pub from_table : (table : List ℕ) (test : ℕ → Bool) (b : ℕ) → b < 256
     → agree_below (λ k. not (nat_eq (get_or table k 0) 44)) test 256 ≡ true
     → not (nat_eq (get_or table b 0) 44) ≡ test b

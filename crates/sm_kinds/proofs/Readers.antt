@@ -4,7 +4,7 @@ use Rattle.std.specs.Prelude.{Result}
 use Rattle.std.specs.Bool.{OnFalse}
 use Rattle.sm_kinds.specs.Reading.{◌>>=◌, Fails}
 
--- a fault of a part is one of the whole, if the whole has each fault of the part
+-- A fault of a part is one of the whole, if the whole has each fault of the part.
 pub fails_along : {A B E : Type 0} (is_memory : E → Bool) (e : E) (part : Result A E) (whole : Result B E)
     → (part ≡ Err e → whole ≡ Err e) → Fails is_memory e part → Fails is_memory e whole
 fails_along is_memory e part whole along = by (is_memory e) where
@@ -12,7 +12,7 @@ fails_along is_memory e part whole along = by (is_memory e) where
   by true h = h
   by false h = along h
 
--- what went well went well in both parts
+-- What went well went well in both parts.
 pub went_well : {A B E : Type 0} (r : Result A E) (f : A → Result B E) (y : B) → (r >>= f) ≡ Ok y
     → (x : A) × (r ≡ Ok x) × (f x ≡ Ok y)
 went_well (Ok x) f y e = (x, refl, e)

@@ -9,7 +9,7 @@ use Rattle.sm_rules.specs.Keeping.{joins, covers, covered, FitsRule}
 use Rattle.sm_neverallow.specs.Violating.{clashes, IsApart, Meets, AreApart}
 use Rattle.sm_neverallow.proofs.Searches.{some_at, any_at}
 
--- a rule joins types alone
+-- A rule joins types alone.
 target_inside : (rule : Kept) (count s t : ℕ) → FitsRule count rule → s < count → joins s t rule ≡ true → t < count
 target_inside rule count s t fits inside h = elim (cases_lt t count) [
   | inl l ↦ l
@@ -24,7 +24,7 @@ target_inside rule count s t fits inside h = elim (cases_lt t count) [
     nothing true false = refl
     nothing false y = refl
 
--- a neverallow rule that meets the allow rules is not apart from each of them
+-- A neverallow rule that meets the allow rules is not apart from each of them.
 pub not_all_apart : (allows : List Kept) (never : Kept) (count : ℕ) → FitsRule count never → Meets allows count never
     → ((i : ℕ) (allow : Kept) → slice_get allows i ≡ Some allow → AreApart allow never count) → ⊥
 not_all_apart allows never count fits m apart =
@@ -38,7 +38,7 @@ not_all_apart allows never count fits m apart =
     let no : clashes m.b m.s m.t r.1 never ≡ false = (apart r.0 r.1 r.2).apart m.b m.s m.t m.low m.inside inside in
     true≢false (sym (and_from (covers m.b m.s m.t r.1) (covers m.b m.s m.t never) r.3 forbidden) ∙ no)
 
--- what is apart from all allow rules is apart from each
+-- What is apart from all allow rules is apart from each.
 pub apart_from_each : (allows : List Kept) (never allow : Kept) (count i b s t : ℕ) → IsApart allows count never
     → slice_get allows i ≡ Some allow → b < 7 → s < count
     → clashes b s t allow never ≡ false

@@ -13,7 +13,7 @@ use Rattle.sm_bits.proofs.ByteBits.{no_bits}
 use Rattle.sm_neverallow.proofs.Searches.{any_at}
 use Rattle.sm_neverallow.proofs.Groups.{low_bits}
 
--- the permissions of a rule of a set are those of the set
+-- The permissions of a rule of a set are those of the set.
 of_set : (rule : Kept) (set b : ℕ) → perm_set rule ≡ set → b < 7 → has_bit rule.perms.0 b ≡ has_bit set b
 of_set rule set b same low = sym (low_bits rule.perms.0 b low) ∙ ap (λ (x : ℕ). has_bit x b) same
 
@@ -48,7 +48,7 @@ misses_union matrices count set rows never union same miss = record {
       true≢false (sym (and_from (has (row rows s) t) (joins s t never) here both.0) ∙ miss.misses s t inside));
 }
 
--- no rule is of the set
+-- No rule is of the set.
 pub none_of_set : (nevers : List Kept) (set n : ℕ) (never : Kept) → list_any (is_of_set set) nevers ≡ false
     → slice_get nevers n ≡ Some never → perm_set never ≡ set → ⊥
 none_of_set nevers set n never none found same =
@@ -62,7 +62,7 @@ pub record Sought (matrices : List (List (List ℕ))) (nevers : List Kept) (coun
   pub first : (m : ℕ) (never : Kept) → m < place → slice_get nevers m ≡ Some never → perm_set never < n
       → IsClear matrices count never
 
--- a rule of no permission covers nothing
+-- A rule of no permission covers nothing.
 clear_of_none : (matrices : List (List (List ℕ))) (count : ℕ) (never : Kept) → perm_set never ≡ 0
     → IsClear matrices count never
 clear_of_none matrices count never none = record {

@@ -51,7 +51,7 @@ place_new : (places : List ℕ) (place k : ℕ) → k ≡ length places → get_
 place_new places place k h = get_or-append_right places (place ∷ []) (length places) k 0 refl (omega arith)
     ∙ (let z : k - length places ≡ 0 = omega arith in rw z refl)
 
--- the rule at a place is the one that was read there
+-- The rule at a place is the one that was read there.
 is_read : (rules : List Kept) (n m : ℕ) (x rule : Kept) → n < length rules → x ≡ get_or rules n x → m ≡ n
     → slice_get rules m ≡ Some rule → x ≡ rule
 is_read rules n m x rule h is same found =

@@ -28,7 +28,7 @@ use Rattle.sm_neverallow.proofs.Searches.{some_at}
 
 -- ---- what a rule covers is of declared types, and of a single permission
 
--- a declared type has a number
+-- A declared type has a number.
 numbered : (t : Name) (policy : Policy) → declares policy t ≡ true
     → (i : ℕ) × (i < length (types policy)) × (at (types policy) i ≡ t)
 numbered t policy h =
@@ -74,7 +74,7 @@ target_declared policy s t r h =
     by false e g = (let same : s ≡ t = (bytes_eq-Decides s t).0 (and_parts r.to_self (bytes_eq s t) g).1 in
         rw (← same) own)
 
--- a single permission has a number
+-- A single permission has a number.
 pub record Number (class : Class) (perm : Perms) : Type 0 where
   pub b : ℕ
   pub low : b < 7
@@ -117,7 +117,7 @@ given_number rule class perm h = by (perm_of class perm) refl
       by None e g = absurd (true≢false (sym g))
       by (Some w) e g = perm_number class perm w e
 
--- what is written has numbers
+-- What is written has numbers.
 pub record Numbered (policy : Policy) (s t : Name) (class : Class) (perm : Perms) : Type 0 where
   pub number : Number class perm
   pub source : (i : ℕ) × (i < length (types policy)) × (at (types policy) i ≡ s)
@@ -138,7 +138,7 @@ written_numbered policy s t class perm h =
 
 -- ---- what is compiled
 
--- matrices of kept rules of a kind say what the policy's rules of that kind cover
+-- Matrices of kept rules of a kind say what the policy's rules of that kind cover.
 pub say_covered : (kind : RuleKind) (policy : Policy) (names : List Name) (rules : KeptRules) (kept : List Kept)
     (count : ℕ) (matrices : List (List (List ℕ))) → RulesOf policy names rules → AllCompiled kept count 7 matrices
     → count ≡ rules.count → CoverAs kind rules kept → SayCovered kind policy names matrices
@@ -149,7 +149,7 @@ say_covered kind policy names rules kept count matrices is compiled same cover =
 
 -- ---- consistency
 
--- the kept rules cover by number what the policy says of the types by name
+-- The kept rules cover by number what the policy says of the types by name.
 pub record AreSaid (policy : Policy) (names : List Name) (rules : KeptRules) : Type 0 where
   pub allowing : AllSay policy names (rules_in Allow policy) rules.allows
   pub refusing : AllSay policy names (rules_in Neverallow policy) rules.neverallows
@@ -158,7 +158,7 @@ pub record AreSaid (policy : Policy) (names : List Name) (rules : KeptRules) : T
   pub forbidding : (b s t : ℕ) → b < 7 → s < length names → t < length names
       → covered rules.neverallows b s t ≡ forbidden policy (at names s) (at names t) (class_at b) (perm_at b)
 
--- what is both written and forbidden is covered by an allow rule and by a neverallow rule
+-- What is both written and forbidden is covered by an allow rule and by a neverallow rule.
 none_both : (policy : Policy) (names : List Name) (rules : KeptRules) (b i j : ℕ) → RulesOf policy names rules
     → AreSaid policy names rules
     → AllApart rules.allows rules.neverallows rules.count → b < 7 → i < length names → j < length names

@@ -11,14 +11,14 @@ use Rattle.sm_neverallow.specs.Uniting.{Doubled}
 use Rattle.sm_neverallow.specs.Hitting.{any_row, Unites}
 use Rattle.sm_bits.proofs.ByteBits.{no_bits}
 
--- the first i rows are doubled
+-- The first i rows are doubled.
 pub record DoubledTo (old new : List (List ℕ)) (more : List ℕ) (words i : ℕ) : Type 0 where
   pub number : length new ≡ length old + i
   pub room : (p : ℕ) → p < length old + i → length (row new p) ≡ words
   pub kept : (p : ℕ) → p < length old → row new p ≡ row old p
   pub joined : (p t : ℕ) → p < i → has (row new (length old + p)) t ≡ (has (row old p) t || has more t)
 
--- what is said of a row holds of one that has the same
+-- What is said of a row holds of one that has the same.
 pub doubled_same : (old new : List (List ℕ)) (more other : List ℕ) → ((t : ℕ) → has more t ≡ has other t)
     → Doubled old new more → Doubled old new other
 doubled_same old new more other same d = record {
@@ -117,7 +117,7 @@ pub unites_first : (rows : List (List ℕ)) (first k : ℕ) (unions : List (List
     → Unites rows first k unions → has (row unions 0) t ≡ false
 unites_first rows first k unions t some united = united.says 0 t some ∙ any_of_none rows first k t
 
--- some row whose bit is in the place has the number
+-- Some row whose bit is in the place has the number.
 pub record SomeRow (rows : List (List ℕ)) (first p k t : ℕ) : Type 0 where
   pub j : ℕ
   pub inside : j < k

@@ -71,7 +71,7 @@ first_is_first policy names rules v is said h =
           ∙ inside.no_lesser_perm b less;
     }
 
--- what is violated is both written and forbidden
+-- What is violated is both written and forbidden.
 pub violation_is_both : (policy : Policy) (names : List Name) (rules : KeptRules) (v : Violation)
     → RulesOf policy names rules
     → AreSaid policy names rules → IsFirstAmong rules.allows rules.neverallows rules.count v

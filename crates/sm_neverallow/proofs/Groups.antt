@@ -14,7 +14,7 @@ use Rattle.sm_neverallow.specs.Matrices.{matrix, AllSquare, AllCompiled, perm_se
 use Rattle.sm_bits.proofs.ByteBits.{no_bits}
 use Rattle.sm_neverallow.proofs.Searches.{any_same}
 
--- a number below 128 says of the first seven bits what the byte says
+-- A number below 128 says of the first seven bits what the byte says.
 pub low_bits : (x b : ℕ) → b < 7 → has_bit (x % 128) b ≡ has_bit x b
 unfolding has_bit
 low_bits x b h =
@@ -53,7 +53,7 @@ pub record Through (rules : List Kept) (count n : ℕ) (matrices : List (List (L
   pub square : AllSquare matrices count
   pub says : (b s t : ℕ) → b < 7 → s < count → has (row (matrix matrices b) s) t ≡ list_any (covers_below n b s t) rules
 
--- a rule of no permission covers nothing
+-- A rule of no permission covers nothing.
 no_perms : (b s t : ℕ) (rule : Kept) → b < 7 → covers_below 1 b s t rule ≡ false
 no_perms b s t rule low = elim (cases_eq (perm_set rule) 0) [
   | inl none ↦ and_left (covers b s t rule) (ltb (perm_set rule) 1)
@@ -71,7 +71,7 @@ through_none rules count matrices c = record {
       ∙ sym (any_none (covers_below 1 b s t) rules (λ r. no_perms b s t r low));
 }
 
--- one more set: a rule is of it, or its index comes from the sets before
+-- One more set: a rule is of it, or its index comes from the sets before.
 one_set : (n b s t : ℕ) (rule : Kept) → b < 7
     → covers_below (n + 1) b s t rule ≡
     (covers_below n b s t rule || (has_bit n b && (joins s t rule && is_of_set n rule)))
@@ -136,7 +136,7 @@ through_all rules count matrices all = record {
 
 -- ---- one set
 
--- no rule is of the set: nothing is added for it
+-- No rule is of the set: nothing is added for it.
 pub none_of_set : (rules : List Kept) (count set : ℕ) (matrices : List (List (List ℕ)))
     → list_any (is_of_set set) rules ≡ false → length matrices ≡ 7 → AllSquare matrices count
     → Joined matrices matrices count set (joined_by rules set)
@@ -160,7 +160,7 @@ none_of_set rules count set matrices none number square = record {
       by true e g rest = absurd (true≢false g)
       by false e g rest = rw (and_right (joins s t r) (is_of_set set r) e, rest g) refl
 
--- the matrices of the bits below n have the group, if their bit is in the set, and the others not yet
+-- The matrices of the bits below n have the group, if their bit is in the set, and the others not yet.
 pub record JoinedBelow (old new : List (List (List ℕ))) (group : List (List ℕ)) (count set n : ℕ) : Type 0 where
   pub number : length new ≡ 7
   pub square : AllSquare new count

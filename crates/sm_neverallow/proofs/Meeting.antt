@@ -48,7 +48,7 @@ both_given b s t allow never h g = all_true (joins s t allow) (joins s t never) 
 pub some_same : {X : Type 0} (x y : X) → Some x ≡ Some y → x ≡ y
 some_same x y h = cc h
 
--- what holds of each item before one, and of that one
+-- What holds of each item before one, and of that one.
 pub one_more : {X : Type 0} (xs : List X) (P : X → Type 0) (i : ℕ) (x : X) → i < length xs → x ≡ get_or xs i x → P x
     → ((k : ℕ) (y : X) → k < i → slice_get xs k ≡ Some y → P y) → (k : ℕ) (y : X) → k < i + 1 → slice_get xs k ≡ Some y
     → P y

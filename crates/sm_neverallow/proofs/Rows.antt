@@ -10,13 +10,13 @@ use Rattle.sm_neverallow.specs.Uniting.{AreWide}
 use Rattle.sm_neverallow.specs.Hitting.{Unites, AreReady, AllUnite}
 use Rattle.sm_neverallow.proofs.Doubling.{unites_first}
 
--- the rows below i have these pairs too, the others not yet
+-- The rows below i have these pairs too, the others not yet.
 pub record AddedPairs (old new : List (List ℕ)) (pairs : ℕ → ℕ → Bool) (i : ℕ) : Type 0 where
   pub square : Square new (length old)
   pub below : (s t : ℕ) → s < i → has (row new s) t ≡ (has (row old s) t || pairs s t)
   pub above : (s : ℕ) → i ≤ s → row new s ≡ row old s
 
--- matrices, one more
+-- Matrices, one more.
 one_more_matrix : (P : ℕ → List (List ℕ) → Type 0) (ms new : List (List (List ℕ))) (m : List (List ℕ)) (n : ℕ)
     → new ≡ ms ++ m ∷ [] → length ms ≡ n → P n m
     → ((j : ℕ) → j < n → P j (matrix ms j)) → (j : ℕ) → j < n + 1 → P j (matrix new j)
@@ -43,7 +43,7 @@ compiled_more rules count n ms new m is here before = record {
   each = one_more_matrix (λ b rows. Compiled rules count b rows) ms new m n is before.number here before.each;
 }
 
--- the unions of n groups
+-- The unions of n groups.
 pub record Ready (rows : List (List ℕ)) (count first n : ℕ) (all : List (List (List ℕ))) : Type 0 where
   pub number : length all ≡ n
   pub ready : AreReady count all
@@ -86,12 +86,12 @@ ready_more rows count first n ms new m is wide united before =
       };
     }
 
--- a matrix of no pair says what no rule covers
+-- A matrix of no pair says what no rule covers.
 pub compiled_empty : (count b : ℕ) (m : List (List ℕ)) → Square m count → ((s t : ℕ) → has (row m s) t ≡ false)
     → Compiled [] count b m
 compiled_empty count b m square none = record { square = square; says = λ s t h. none s t }
 
--- the row has those of the sources below i that are targets of their own
+-- The row has those of the sources below i that are targets of their own.
 pub record OwnTo (rows : List (List ℕ)) (own : List ℕ) (words i : ℕ) : Type 0 where
   pub room : length own ≡ words
   pub below : (s : ℕ) → s < i → has own s ≡ has (row rows s) s

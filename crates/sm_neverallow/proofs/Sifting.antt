@@ -17,7 +17,7 @@ use Rattle.sm_neverallow.proofs.Meeting.{some_same}
 
 -- ---- places, one by one
 
--- what holds of the rule at a place
+-- What holds of the rule at a place.
 at_place : (rules : List Kept) (places : List ℕ) (P : Kept → Type 0) (k : ℕ) (x : Kept)
     → get_or places k 0 < length rules → x ≡ get_or rules (get_or places k 0) x → P x
     → (rule : Kept) → rule_at rules places k ≡ Some rule → P rule
@@ -36,7 +36,7 @@ one_more_place rules places P i x inside is here before k rule h found = elim (c
   | inr other ↦ before k rule (omega arith) found
 ]
 
--- the places rise: what holds before one of them holds of all rules of the set before its rule
+-- The places rise: what holds before one of them holds of all rules of the set before its rule.
 pub all_before : (rules : List Kept) (set end : ℕ) (places : List ℕ) (found place : ℕ) (Skip Hit Miss : Kept → Type 0)
     → ((rule : Kept) → Skip rule → Miss rule)
     → Chosen rules set end Skip places → found < length places
@@ -58,7 +58,7 @@ all_before rules set end places found place Skip Hit Miss skipped chosen inside 
           ])
     ]
 
--- what holds of each of the places holds of all rules of the set
+-- What holds of each of the places holds of all rules of the set.
 pub all_through : (rules : List Kept) (set end : ℕ) (places : List ℕ) (found : ℕ) (Skip Hit Miss : Kept → Type 0)
     → ((rule : Kept) → Skip rule → Miss rule)
     → Chosen rules set end Skip places → length places ≤ found
@@ -178,7 +178,7 @@ found_in_groups rows count first all rules places end found number united fits f
   };
 }
 
--- what is found once the groups below n are gone through
+-- What is found once the groups below n are gone through.
 pub record Sifted (rows : List (List ℕ)) (rules : List Kept) (places own : List ℕ) (count n found : ℕ) : Type 0 where
   pub within : found ≤ length places
   pub hit : (rule : Kept) → found < length places → rule_at rules places found ≡ Some rule → Hits rows count rule

@@ -19,7 +19,7 @@ found_is_some p f (x ∷ xs) = by (p x) (found_is_some p f xs) where
   by true rest = refl
   by false rest = rest
 
--- the entry at i, and those behind it
+-- The entry at i, and those behind it.
 pub undeclared_step : (sts : List Statement) (es : List Entry) (i : ℕ)
     → first_undeclared sts (drop i es)
     ≡ option_or (undeclared_line sts (slice_get es i)) (first_undeclared sts (drop (i + 1) es))

@@ -52,7 +52,7 @@ number_low j z h = slice_get_within perm_numbers j z h
 number_is : (j z : ℕ) → slice_get perm_numbers j ≡ Some z → z ≡ j
 number_is j z h = let e = number_there j (number_low j z h) in cc
 
--- what is at a place is there
+-- What is at a place is there.
 any_at : {A : Type 0} (p : A → Bool) (xs : List A) (i : ℕ) (x : A) → slice_get xs i ≡ Some x → p x ≡ true
     → list_any p xs ≡ true
 any_at p [] i x found h = absurd cc
@@ -159,7 +159,7 @@ module _ (policy : List Statement) (v : Numbered) (is : IsFirstViolation policy 
   unfolding found
   violation_is = rw (is.never_line, is.allow_line, is.class, is.perm) found_first
 
--- where nothing is broken there is none
+-- Where nothing is broken there is none.
 pub no_violation : (policy : List Statement) → IsConsistent policy → first_violation policy ≡ None
 unfolding first_violation clash_of_never
 no_violation policy consistent =

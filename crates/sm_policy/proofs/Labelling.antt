@@ -27,7 +27,7 @@ one_more names es numbers i n before next = by (slice_get es i) refl next where
       let own : number_of names e ≡ Some n = cc in
       rw (more, map-append (number_of names) (take i es) (e ∷ []), map-append Some numbers (n ∷ []), before, own) refl
 
--- the number at the place of an entry is that of its type
+-- The number at the place of an entry is that of its type.
 numbered_at : (names : List Name) (es : List Entry) (numbers : List ℕ) (i n : ℕ) → AreNumbered names es numbers
     → i < length es → n ≡ get_or numbers i n → option_map (number_of names) (slice_get es i) ≡ Some (Some n)
 numbered_at names es numbers i n are lt read =
@@ -37,7 +37,7 @@ numbered_at names es numbers i n are lt read =
     ∙ (ap (λ (xs : List (Option ℕ)). slice_get xs i) are.each
     ∙ (slice_get-map Some numbers i ∙ ap (option_map Some) (slice_get_read numbers (length es) i n long lt read)))
 
--- the type of a name's label has the number at the label's place
+-- The type of a name's label has the number at the label's place.
 pub label_number : (policy : Policy) (names : List Name) (numbers : List ℕ) (name : Name) (i n : ℕ)
     → names ≡ types policy.statements → AreNumbered names policy.entries numbers → i < length policy.entries
     → option_map (λ e. e.context) (slice_get policy.entries i) ≡ label policy.entries name

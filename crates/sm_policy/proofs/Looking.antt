@@ -41,7 +41,7 @@ no_target policy s t r h = by (bytes_eq s t) refl where
       let none : declares policy s ≡ false = rw same h in rw none refl)
   by false e = rw (h, e) (nothing (in_set policy r.source s) r.to_self)
 
--- what has no number isn't declared
+-- What has no number isn't declared.
 undeclared : (policy : Policy) (names : List Name) (s : Name) → names ≡ types policy → Distinct names
     → position (bytes_eq s) (types policy) ≡ None → declares policy s ≡ false
 undeclared policy names s of distinct none = false_from_ne_true (declares policy s) (λ h.
@@ -52,7 +52,7 @@ undeclared policy names s of distinct none = false_from_ne_true (declares policy
     place_of (types policy) s r.0 (subst Distinct of distinct) found in
     absurd (cc (sym none ∙ e)))
 
--- a check of what isn't declared passes nowhere, and is audited
+-- A check of what isn't declared passes nowhere, and is audited.
 refusal_is : (policy : Policy) (s t : Name) (class : Class) (perm : Perms) → ((r : Rule) → joins policy s t r ≡ false)
     → (is_permissive policy s && (declares policy t && is_some (perm_of class perm))) ≡ false
     → refusal ≡ record { allowed = allowed policy s t class perm; audited = audits policy s t class perm }
@@ -81,7 +81,7 @@ refused_target policy names s t class perm of distinct none =
 
 -- ---- numbers
 
--- a number that a name has
+-- A number that a name has.
 named : (policy : Policy) (names : List Name) (s : Name) (i : ℕ) → names ≡ types policy
     → position (bytes_eq s) (types policy) ≡ Some i → (i < length names) × (at names i ≡ s)
 named policy names s i of found =

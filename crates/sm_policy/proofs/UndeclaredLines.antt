@@ -24,11 +24,11 @@ or_none : (x : Option ℕ) → option_or x None ≡ x
 or_none None = refl
 or_none (Some x) = refl
 
--- what line n says, by its context
+-- What line n says, by its context.
 said : List Statement → ℕ → List ℕ → Option ℕ
 said sts n context = if declares sts (type_of context) then None else Some n
 
--- a new entry is the last
+-- A new entry is the last.
 said_last : (sts : List Statement) (e : Entry) (es : List Entry)
     → first_undeclared sts (es ++ e ∷ []) ≡ option_or (first_undeclared sts es) (said sts e.line e.context)
 unfolding said
@@ -45,7 +45,7 @@ said_last sts e (x ∷ xs) = by (not (declares sts (type_of x.context))) (said_l
   by true rest = refl
   by false rest = rest
 
--- an undeclared entry that is there is found, or one before it
+-- An undeclared entry that is there is found, or one before it.
 there_first : (sts : List Statement) (key context : List ℕ) (es : List Entry) (e : Entry) (m : Option ℕ)
     → find (has_key key) es ≡ Some e → e.context ≡ context → declares sts (type_of context) ≡ false
     → option_or (first_undeclared sts es) m ≡ first_undeclared sts es
@@ -64,7 +64,7 @@ there_first sts key context (x ∷ xs) e m there same bad =
           absurd cc
       by false false is h rest = rest h
 
--- so a repeated line says nothing new
+-- So a repeated line says nothing new.
 said_before : (sts : List Statement) (n : ℕ) (key context : List ℕ) (es : List Entry) (e : Entry)
     → find (has_key key) es ≡ Some e → e.context ≡ context
     → first_undeclared sts es ≡ option_or (first_undeclared sts es) (said sts n context)
@@ -101,7 +101,7 @@ placed_said sts n entries more key context done = by (find (has_key key) entries
       rw (← is) (said_last sts (record { line = n; key = key; context = context }) entries)
   by (Some e) there h = again e (bytes_eq key default_key) there h
 
--- what line n says
+-- What line n says.
 line_said : List Statement → ℕ → List ℕ → Option ℕ
 line_said sts n line = if is_undeclared_line sts line then Some n else None
 

@@ -22,7 +22,7 @@ use Rattle.sm_rules.proofs.Lines.{unkept, unnamed, stands_covers}
 
 -- ---- rules of the text as statements and as lists
 
--- a rule that isn't kept covers nothing
+-- A rule that isn't kept covers nothing.
 one_rule : (policy : Policy) (s t : Name) (class : Class) (perm : Perms) (line : ℕ) (o : Option Rule)
     (rs : List (ℕ × Rule))
     → (access.covered_by policy s t class perm o
@@ -39,7 +39,7 @@ one_rule policy s t class perm line (Some r) rs = by (is_kept r) refl where
   by true e = refl
   by false e = rw (and_right (access.joins policy s t r) (gives class perm r) (unkept r class perm e)) refl
 
--- some rule of the kind covers a tuple where some rule of the list does
+-- Some rule of the kind covers a tuple where some rule of the list does.
 pub some_any : (kind : RuleKind) (policy : Policy) (s t : Name) (class : Class) (perm : Perms)
     → some_covers kind policy s t class perm
     ≡ list_any (λ (r : ℕ × Rule). access.covers policy s t class perm r.1) (rules_in kind policy)
@@ -114,7 +114,7 @@ none_any : {X : Type 0} (p : X → Bool) (xs : List X) → ((x : X) → p x ≡ 
 none_any p [] fails = refl
 none_any p (x ∷ xs) fails = rw (fails x) (none_any p xs fails)
 
--- what the kept dontaudit rules say by number is what the text says by name
+-- What the kept dontaudit rules say by number is what the text says by name.
 pub silenced_is : (policy : Policy) (names : List Name) (rules : KeptRules) (b s t : ℕ) (class : Class) (perm : Perms)
     → RulesOf policy names rules
     → s < length names → t < length names → (b < 7) × (class_at b ≡ class) × (perm_at b ≡ perm)
@@ -122,14 +122,14 @@ pub silenced_is : (policy : Policy) (names : List Name) (rules : KeptRules) (b s
 silenced_is policy names rules b s t class perm is hs ht hb =
     rw (← hb.1, ← hb.2) (covered_is Dontaudit policy names rules rules.silences b s t is refl hb.0 hs ht)
 
--- some rule of the kind covers only what some rule covers
+-- Some rule of the kind covers only what some rule covers.
 pub uncovered : (kind : RuleKind) (policy : Policy) (s t : Name) (class : Class) (perm : Perms)
     → ((r : Rule) → access.covers policy s t class perm r ≡ false) → some_covers kind policy s t class perm ≡ false
 uncovered kind policy s t class perm none =
     some_any kind policy s t class perm
     ∙ none_any (λ (r : ℕ × Rule). access.covers policy s t class perm r.1) (rules_in kind policy) (λ r. none r.1)
 
--- nothing is covered of what is no single permission of the class
+-- Nothing is covered of what is no single permission of the class.
 pub no_single : (kind : RuleKind) (policy : Policy) (s t : Name) (class : Class) (perm : Perms)
     → perm_of class perm ≡ None → some_covers kind policy s t class perm ≡ false
 no_single kind policy s t class perm h = uncovered kind policy s t class perm

@@ -21,7 +21,7 @@ use Rattle.sm_rules.specs.Keeping.{covers, covered_line, class_at, perm_at, Stan
 use Rattle.sm_rules.specs.Keeping.{RulesOf, kept_only, rules_in}
 use Rattle.sm_rules.specs.declared.kept.Kept.{Kept}
 
--- a rule that isn't kept gives nothing
+-- A rule that isn't kept gives nothing.
 pub unkept : (rule : Rule) (class : Class) (perm : Perms) → is_kept rule ≡ false → gives class perm rule ≡ false
 unfolding is_kept gives
 unkept rule ServiceManager perm h = rw
@@ -29,7 +29,7 @@ unkept rule ServiceManager perm h = rw
 unkept rule Binder perm h = rw (or_parts (selects rule.class (class_word ServiceManager))
     (selects rule.class (class_word Binder)) h).1 refl
 
--- nor does a rule give what is no single permission of the class
+-- Nor does a rule give what is no single permission of the class.
 pub unnamed : (rule : Rule) (class : Class) (perm : Perms) → perm_of class perm ≡ None → gives class perm rule ≡ false
 unfolding gives
 unnamed rule class perm h = rw h (and_right (selects rule.class (class_word class)) false refl)
@@ -42,7 +42,7 @@ same_place names s t distinct hs ht = elim (cases_eq s t) [
       (false_from_ne_true (bytes_eq (at names s) (at names t)) (λ e. other (distinct s t hs ht e)))
 ]
 
--- a kept rule covers by number what its rule covers by name
+-- A kept rule covers by number what its rule covers by name.
 pub stands_covers : (policy : Policy) (names : List Name) (r : ℕ × Rule) (k : Kept) (b s t : ℕ) → Distinct names
     → s < length names → t < length names → b < 7
     → StandsFor policy names r k → covers b s t k
@@ -90,7 +90,7 @@ allow_step false true st r p rs o here none rest = rw here rest
 allow_step true false st r p rs o here none rest = absurd (true≢false (none refl))
 allow_step false false st r p rs o here none rest = rest
 
--- the walk over the statements finds the line that the walk over the allow rules finds
+-- The walk over the statements finds the line that the walk over the allow rules finds.
 pub lines_of : (policy : Policy) (s t : Name) (class : Class) (perm : Perms) (sts : List Statement)
     → option_map (λ (st : Statement). st.line) (find (covers_as Allow policy s t class perm) sts)
     ≡ option_map (λ (r : ℕ × Rule). r.0) (find (λ r. access.covers policy s t class perm r.1) (rules_in Allow sts))
@@ -110,7 +110,7 @@ lines_of policy s t class perm (st ∷ sts) = by (rule_of st.what Allow) (lines_
       (find (covers_as Allow policy s t class perm) sts) refl
       (λ h. and_right (access.joins policy s t r) (gives class perm r) (unkept r class perm h)) rest
 
--- what the kept allow rules say by number is what the text says by name
+-- What the kept allow rules say by number is what the text says by name.
 pub written_is : (policy : Policy) (names : List Name) (rules : KeptRules) (b s t : ℕ) (class : Class) (perm : Perms)
     → RulesOf policy names rules
     → s < length names → t < length names → (b < 7) × (class_at b ≡ class) × (perm_at b ≡ perm)
@@ -124,7 +124,7 @@ pub none_found : {X : Type 0} (p : X → Bool) (xs : List X) → ((x : X) → p 
 none_found p [] fails = refl
 none_found p (x ∷ xs) fails = rw (fails x) (none_found p xs fails)
 
--- nothing is written of what is no single permission of the class
+-- Nothing is written of what is no single permission of the class.
 pub unwritten : (policy : Policy) (s t : Name) (class : Class) (perm : Perms) → perm_of class perm ≡ None
     → None ≡ written_line policy s t class perm
 unwritten policy s t class perm h =

@@ -56,7 +56,7 @@ permissive_declared policy s none h = declared_among policy s policy none h
 
 -- ---- the row of permissive types
 
--- the row with the type of a name
+-- The row with the type of a name.
 pub inserted : (names : List Name) (name : Name) (old new : List ℕ) (place i : ℕ) → Distinct names
     → slice_get names place ≡ Some name → i < length names → has new i ≡ (eqb i place || has old i)
     → has new i ≡ (bytes_eq (at names i) name || has old i)
@@ -73,7 +73,7 @@ other_way true false = refl
 other_way false true = refl
 other_way false false = refl
 
--- the row of one more statement
+-- The row of one more statement.
 pub permitted_more : (names : List Name) (sts : Policy) (i : ℕ) (st : Statement) (old new : List ℕ) → i < length sts
     → st ≡ get_or sts i st → SaysPermissive (take i sts) names old → Permits names st.what old new
     → SaysPermissive (take (i + 1) sts) names new

@@ -11,7 +11,7 @@ use Rattle.sm_types.specs.Denoting.{Policy}
 use Rattle.sm_rules.specs.declared.kept.Kept.{Kept}
 use Rattle.sm_rules.specs.Keeping.{StandsFor, AllStandFor, Extends}
 
--- what is picked of one more item
+-- What is picked of one more item.
 pub picked_more : {X Y : Type 0} (f : X → Option Y) (xs : List X) (i : ℕ) (x : X) → i < length xs → x ≡ get_or xs i x
     → filter_map f (take (i + 1) xs) ≡ filter_map f (take i xs) ++ cons_option (f x) []
 picked_more f xs i x h is =

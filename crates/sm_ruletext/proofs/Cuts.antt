@@ -26,7 +26,7 @@ pub tokens-comment : (line : ℕ) (bytes : List ℕ)
 unfolding tokens
 tokens-comment line bytes = tokens-drop (prefix_len is_in_line bytes) line bytes
 
--- a token and what is left
+-- A token and what is left.
 pub tokens-token : (line b : ℕ) (bytes : List ℕ) → eqb b 10 ≡ false → is_blank b ≡ false → eqb b 35 ≡ false
     → tokens 0 line (b ∷ bytes) ≡ (line, kind_at b bytes) ∷ tokens 0 line (drop (len_after b bytes) bytes)
 unfolding tokens
@@ -69,7 +69,7 @@ takes line len kind (b ∷ bytes) at some kind-is len-is =
     let e : len ≡ suc (len_after b bytes) = omega (arith, len-is) in
     rw (e, kind-is) (tokens-token line b bytes p.0 q.0 q.1)
 
--- the turns of the loop over blanks
+-- The turns of the loop over blanks.
 pub turn_newline : (line : ℕ) (bytes : List ℕ) → 0 < length bytes → get_or bytes 0 0 ≡ 10
     → tokens 0 (line + 1) (drop 1 bytes) ≡ tokens 0 line bytes
 turn_newline line [] some e = absurd (omega arith)

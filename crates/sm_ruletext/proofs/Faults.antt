@@ -5,7 +5,8 @@ use Rattle.std.proofs.lemmas.List.{length-append}
 use Rattle.std.proofs.lemmas.Bool.{ltb-true}
 use Rattle.std.specs.Prelude.{IfErr}
 use Rattle.sm_ruletext.specs.declared.token.TokenKind.{TokenKind}
-use Rattle.sm_ruletext.specs.declared.token.TokenKind.TheVariants.{Word, Semicolon, Comma, Colon, Open, Close, Star, Tilde}
+use Rattle.sm_ruletext.specs.declared.token.TokenKind.TheVariants.{Word, Semicolon, Comma, Colon, Open, Close, Star}
+use Rattle.sm_ruletext.specs.declared.token.TokenKind.TheVariants.{Tilde}
 use Rattle.sm_ruletext.specs.declared.token.TokenKind.TheVariants.{Dash, Other}
 use Rattle.sm_ruletext.specs.declared.fault.RuleTextFault.{RuleTextFault}
 use Rattle.sm_ruletext.specs.declared.fault.RuleTextFault.TheVariants.{Syntax, TooLarge, Unsupported, TooMany, Memory}
@@ -29,7 +30,7 @@ use Rattle.sm_ruletext.specs.Spelling.{SpellsStatement, SpellsNone, BeginsNoStat
 use Rattle.sm_ruletext.proofs.Turns.{ok_parts}
 use Rattle.sm_ruletext.proofs.Stated.{what_again, what_taken, placed, added}
 
--- the only fault is Syntax, at this line
+-- The only fault is Syntax, at this line.
 abbrev pub OnlySyntax : {A : Type 0} → ℕ → Step A → Type 0
 OnlySyntax line (Ok x) = Unit {0}
 OnlySyntax line (Err e) = e ≡ Syntax line
@@ -275,7 +276,7 @@ too_many_only line sts (Some w) e h = by (is_rule w && leb MOST_RULES (rule_coun
   by true h = cc
   by false h = absurd cc
 
--- a statement with an Err of Syntax is spelled by no front
+-- A statement with an Err of Syntax is spelled by no front.
 spells_none : (line : ℕ) (k : Keyword) (ts : Tokens) (e : RuleTextFault) → what_at line k ts ≡ Err e
     → SpellsNone line k ts
 spells_none line k ts e h vs us l w parts s =

@@ -16,7 +16,7 @@ holds bytes k = bytes_eq bytes k.items
 abbrev same : Vec ℕ → Vec ℕ → Bool
 same x y = bytes_eq x.items y.items
 
--- what a look-up finds are the bytes that were asked for
+-- What a look-up finds are the bytes that were asked for.
 pub found : (bytes known : List ℕ) (es : List (Vec ℕ × List ℕ)) → AreKeyed es
     → lookup (holds bytes) es ≡ Some known → known ≡ bytes
 found bytes known [] keyed e = absurd cc
@@ -26,7 +26,7 @@ found bytes known (x ∷ xs) keyed e = by (bytes_eq bytes x.0.items) refl e (fou
   by true h f rest = sym (ap (λ r. unwrap_or r known) f) ∙ (keyed.0 ∙ sym ((bytes_eq-Decides bytes x.0.items).0 h))
   by false h f rest = rest f
 
--- a name put at its bytes is one more
+-- A name put at its bytes is one more.
 pub kept : (key : Vec ℕ) (name : List ℕ) (es : List (Vec ℕ × List ℕ)) → name ≡ key.items → AreKeyed es
     → AreKeyed (insert_entry same es key name)
 kept key name [] is keyed = (is, tt)

@@ -9,7 +9,7 @@ use Rattle.sm_kinds.proofs.Readers.{fails_along}
 use Rattle.sm_ruletext.specs.Grammar.{Step, is_memory}
 use Rattle.sm_ruletext.specs.Statements.{statement_from, statements_within, statements_of}
 
--- the statements so far lead to the whole
+-- The statements so far lead to the whole.
 pub record LeadsTo (total : Step (List Statement)) (sts : List Statement) (ts : Tokens) : Type 0 where
   pub most : ℕ
   pub enough : length ts ≤ most
@@ -25,7 +25,8 @@ one_more : (most line : ℕ) (k : TokenKind) (sts : List Statement) (ts : Tokens
 unfolding statements_within
 one_more most line k sts ts = refl
 
-pub leads_on : (total : Step (List Statement)) (sts more : List Statement) (line : ℕ) (k : TokenKind) (before ts us : Tokens)
+pub leads_on : (total : Step (List Statement)) (sts more : List Statement) (line : ℕ) (k : TokenKind)
+    (before ts us : Tokens)
     → before ≡ (line, k) ∷ ts → LeadsTo total sts before
     → statement_from line k sts ts ≡ Ok (more, us) → length us ≤ length ts → LeadsTo total more us
 leads_on total sts more line k before ts us front so_far step fewer =
@@ -43,7 +44,8 @@ leads_on total sts more line k before ts us front so_far step fewer =
                 ∙ (sym (one_more most line k sts ts) ∙ same);
           }
 
-pub leads_to_fault : (e : RuleTextFault) (total : Step (List Statement)) (sts : List Statement) (line : ℕ) (k : TokenKind)
+pub leads_to_fault : (e : RuleTextFault) (total : Step (List Statement)) (sts : List Statement) (line : ℕ)
+    (k : TokenKind)
     (before ts : Tokens) → before ≡ (line, k) ∷ ts → LeadsTo total sts before
     → Fails is_memory e (statement_from line k sts ts) → Fails is_memory e total
 leads_to_fault e total sts line k before ts front so_far step =

@@ -3,7 +3,8 @@ use Rattle.std.proofs.Common.{inl, inr, ◌⊎◌, ◌≡◌, ℕ, zero, suc, Bo
 use Rattle.std.proofs.Common.{refl, sym, ap, subst, ◌∙◌, append_assoc}
 use Rattle.std.proofs.lemmas.List.{append-nil}
 use Rattle.sm_ruletext.specs.declared.token.TokenKind.{TokenKind}
-use Rattle.sm_ruletext.specs.declared.token.TokenKind.TheVariants.{Word, Semicolon, Comma, Colon, Open, Close, Star, Tilde}
+use Rattle.sm_ruletext.specs.declared.token.TokenKind.TheVariants.{Word, Semicolon, Comma, Colon, Open, Close, Star}
+use Rattle.sm_ruletext.specs.declared.token.TokenKind.TheVariants.{Tilde}
 use Rattle.sm_ruletext.specs.declared.token.TokenKind.TheVariants.{Dash, Other}
 use Rattle.sm_ruletext.specs.declared.fault.RuleTextFault.{RuleTextFault}
 use Rattle.sm_ruletext.specs.declared.fault.RuleTextFault.TheVariants.{Syntax}
@@ -100,12 +101,12 @@ word_spelled line l m i j w e = elim (word_cases line m i j w e) [
   | inr h ↦ rw h.1 (SpellsItems.name l w i h.0)
 ]
 
--- no item, if there was one before, or items
+-- No item, if there was one before, or items.
 abbrev Added : Bool → Bool → Tokens → Items → Items → Type 0
 Added m true vs i j = SpellsItems m vs i j
 Added m false vs i j = SpellsItems m vs i j ⊎ ((vs ≡ []) × (i ≡ j))
 
--- the rest of a group, and of the `depth` open groups inside it, up to its `}`
+-- The rest of a group, and of the `depth` open groups inside it, up to its `}`.
 record Rest (m fresh : Bool) (ts ws : Tokens) (i n : Items) : Type 0 where
   vs : Tokens
   l : ℕ
@@ -195,11 +196,12 @@ group_taken line m depth fresh i ((l, Colon) ∷ ts) j us e = absurd cc
 group_taken line m depth fresh i ((l, Tilde) ∷ ts) j us e = absurd cc
 group_taken line m depth fresh i ((l, Other) ∷ ts) j us e = absurd cc
 
--- what was taken from the front, and how it is spelled
+-- What was taken from the front, and how it is spelled.
 abbrev Taken : (Tokens → Type 0) → Tokens → Tokens → Type 0
 Taken Spelled ts us = (vs : Tokens) × (ts ≡ vs ++ us) × Spelled vs
 
-simple_taken : (line l : ℕ) (m : Bool) (k : TokenKind) (ts us : Tokens) (i : Items) → items_from line m k ts ≡ Ok (i, us)
+simple_taken : (line l : ℕ) (m : Bool) (k : TokenKind) (ts us : Tokens) (i : Items)
+    → items_from line m k ts ≡ Ok (i, us)
     → Taken (λ vs. SpellsSimple m vs i) ((l, k) ∷ ts) us
 unfolding items_from
 simple_taken line l m (Word w) ts us i e =
@@ -231,7 +233,7 @@ simple_taken line l m Other ts us i e = absurd cc
 abbrev as_set : ℕ → Items × Tokens → Read (Set × Bool)
 as_set line r = Ok (set_of line false r.0, r.1)
 
--- a set that is neither `*` nor a complement
+-- A set that is neither `*` nor a complement.
 simple_set : (line l : ℕ) (m : Bool) (k : TokenKind) (ts us : Tokens) (s : Set × Bool)
     → (items_from line m k ts >>= as_set line) ≡ Ok (s, us) → Taken (λ vs. SpellsSet line m vs s) ((l, k) ∷ ts) us
 simple_set line l m k ts us s e =
@@ -274,7 +276,7 @@ set_taken line m ((l, Other) ∷ ts) us s e = simple_set line l m Other ts us s 
 simple_some : (m : Bool) (i : Items) → SpellsSimple m [] i → ⊥
 simple_some m i s = elim s [ ]
 
--- a set that begins with neither `*` nor `~`
+-- A set that begins with neither `*` nor `~`.
 plain : (line l : ℕ) (m : Bool) (k : TokenKind) (vs us : Tokens) (i : Items) → SpellsSimple m ((l, k) ∷ vs) i
     → set_at line m (((l, k) ∷ vs) ++ us) ≡ Ok (set_of line false i, us)
 unfolding set_at set_from kind_at

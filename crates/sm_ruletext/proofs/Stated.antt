@@ -4,7 +4,8 @@ use Rattle.std.proofs.Common.{Option, Some, None, Ok, Err, refl, sym, ap, subst,
 use Rattle.std.proofs.lemmas.List.{append-nil, length-append}
 use Rattle.std.proofs.lemmas.Bool.{le-ltb}
 use Rattle.sm_ruletext.specs.declared.token.TokenKind.{TokenKind}
-use Rattle.sm_ruletext.specs.declared.token.TokenKind.TheVariants.{Word, Semicolon, Comma, Colon, Open, Close, Star, Tilde}
+use Rattle.sm_ruletext.specs.declared.token.TokenKind.TheVariants.{Word, Semicolon, Comma, Colon, Open, Close, Star}
+use Rattle.sm_ruletext.specs.declared.token.TokenKind.TheVariants.{Tilde}
 use Rattle.sm_ruletext.specs.declared.token.TokenKind.TheVariants.{Dash, Other}
 use Rattle.sm_ruletext.specs.declared.fault.RuleTextFault.TheVariants.{Syntax, TooLarge}
 use Rattle.sm_ruletext.specs.declared.set.Set.{Set}
@@ -105,7 +106,7 @@ placed sts ts = Ok (sts, ts)
 abbrev pub added : ℕ → List Statement → Option What × Tokens → Read (List Statement)
 added line sts what = with_statement line sts what.0 >>= λ more. placed more what.1
 
--- the tokens before the semicolon, and their spelling
+-- The tokens before the semicolon, and their spelling.
 pub record Ends (Spelled : Tokens → Type 0) (ts us : Tokens) : Type 0 where
   pub vs : Tokens
   pub l : ℕ
@@ -143,10 +144,12 @@ semicolon_taken line ((l, Tilde) ∷ ts) us e = absurd cc
 semicolon_taken line ((l, Dash) ∷ ts) us e = absurd cc
 semicolon_taken line ((l, Other) ∷ ts) us e = absurd cc
 
-regroup : (a b c d u : Tokens) (n : ℕ × TokenKind) → (a ++ (b ++ (n ∷ (c ++ d)))) ++ u ≡ a ++ (b ++ (n ∷ (c ++ (d ++ u))))
+regroup : (a b c d u : Tokens) (n : ℕ × TokenKind)
+    → (a ++ (b ++ (n ∷ (c ++ d)))) ++ u ≡ a ++ (b ++ (n ∷ (c ++ (d ++ u))))
 regroup a b c d u n = simp append_assoc
 
-joined : (ts a b n c d us va vb vc vd : Tokens) (colon semi : ℕ × TokenKind) → ts ≡ va ++ a → a ≡ vb ++ b → b ≡ colon ∷ n
+joined : (ts a b n c d us va vb vc vd : Tokens) (colon semi : ℕ × TokenKind) → ts ≡ va ++ a → a ≡ vb ++ b
+    → b ≡ colon ∷ n
     → n ≡ vc ++ c → c ≡ vd ++ d → d ≡ semi ∷ us
     → ts ≡ (va ++ (vb ++ (colon ∷ (vc ++ vd)))) ++ semi ∷ us
 joined ts a b n c d us va vb vc vd colon semi ea eb en ec ed es =

@@ -1,7 +1,8 @@
 -- The turns of the loops that read names and items.
 use Rattle.std.proofs.Common.{◌≡◌, ℕ, Bool, true, false, cond, List, [], ◌∷◌, ◌++◌, Ok, Err, refl, sym, ap, ◌∙◌}
 use Rattle.sm_ruletext.specs.declared.token.TokenKind.{TokenKind}
-use Rattle.sm_ruletext.specs.declared.token.TokenKind.TheVariants.{Word, Semicolon, Comma, Colon, Open, Close, Star, Tilde}
+use Rattle.sm_ruletext.specs.declared.token.TokenKind.TheVariants.{Word, Semicolon, Comma, Colon, Open, Close, Star}
+use Rattle.sm_ruletext.specs.declared.token.TokenKind.TheVariants.{Tilde}
 use Rattle.sm_ruletext.specs.declared.token.TokenKind.TheVariants.{Dash, Other}
 use Rattle.sm_ruletext.specs.declared.fault.RuleTextFault.TheVariants.{Syntax}
 use Rattle.sm_ruletext.specs.declared.items.Items.{Items}
@@ -15,13 +16,13 @@ done x = Ok x
 abbrev pair : {A B : Type 0} → A → B → A × B
 pair a b = (a, b)
 
--- `cc` takes no pair apart
+-- `cc` takes no pair apart.
 pub ok_parts : {A B : Type 0} (a c : A) (b d : B) → done (pair a b) ≡ done (pair c d) → (a ≡ c) × (b ≡ d)
 ok_parts {A} {B} a c b d e =
     let h : pair a b ≡ pair c d = cc in
     (ap (λ (p : A × B). p.0) h, ap (λ (p : A × B). p.1) h)
 
--- a name that was read is the word in front, and is not `self`
+-- A name that was read is the word in front, and is not `self`.
 pub name_taken : (line : ℕ) (ts us : Tokens) (name : List ℕ) → name_at line ts ≡ Ok (name, us)
     → (l : ℕ) × (ts ≡ (l, Word name) ∷ us) × (is_self name ≡ false)
 unfolding name_at
@@ -41,7 +42,8 @@ name_taken line ((l, Tilde) ∷ ts) us name e = absurd cc
 name_taken line ((l, Dash) ∷ ts) us name e = absurd cc
 name_taken line ((l, Other) ∷ ts) us name e = absurd cc
 
-pub kind_taken : (line : ℕ) (ts us : Tokens) (k : TokenKind) → kind_at line ts ≡ Ok (k, us) → (l : ℕ) × (ts ≡ (l, k) ∷ us)
+pub kind_taken : (line : ℕ) (ts us : Tokens) (k : TokenKind) → kind_at line ts ≡ Ok (k, us) → (l : ℕ)
+    × (ts ≡ (l, k) ∷ us)
 unfolding kind_at
 kind_taken line [] us k e = absurd cc
 kind_taken line ((l, m) ∷ ts) us k e = let p = ok_parts m k ts us e in (l, cc)

@@ -4,7 +4,8 @@ use Rattle.std.specs.Prelude.{take, slice_index, IsTrue}
 use Rattle.std.specs.List.{prefix_len, list_all}
 use Rattle.std.specs.Char.{is_ascii_alphabetic, is_ascii_alphanumeric}
 use Rattle.sm_ruletext.specs.declared.token.TokenKind.{TokenKind}
-use Rattle.sm_ruletext.specs.declared.token.TokenKind.TheVariants.{Word, Semicolon, Comma, Colon, Open, Close, Star, Tilde}
+use Rattle.sm_ruletext.specs.declared.token.TokenKind.TheVariants.{Word, Semicolon, Comma, Colon, Open, Close, Star}
+use Rattle.sm_ruletext.specs.declared.token.TokenKind.TheVariants.{Tilde}
 use Rattle.sm_ruletext.specs.declared.token.TokenKind.TheVariants.{Dash, Other}
 
 -- Tokens have the line that they begin in.

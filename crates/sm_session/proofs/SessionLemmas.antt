@@ -13,7 +13,7 @@ use Rattle.sm_session.specs.declared.session_state.SessionState.{SessionState}
 use Rattle.sm_session.specs.Responses.{response_text}
 use Rattle.sm_session.specs.Sessions.{Asks, TakesItem, is_asked, told_to}
 
--- the line of an answer depends only on the visible part of a reply
+-- The line of an answer depends only on the visible part of a reply.
 pub response_text-same : (f g : Reply → Reply) → ((r : Reply) → f r ≡ g r) → (response : Response)
     → response_text f response ≡ response_text g response
 unfolding response_text
@@ -21,7 +21,7 @@ response_text-same f g same (Replied reply) = ap told_text (same reply)
 response_text-same f g same (PolicyRefused fault) = refl
 response_text-same f g same (Denied records) = refl
 
--- an item in its place was asked
+-- An item in its place was asked.
 pub asked_once : {D : Type 0} (answers : D → Item → Response → D → Type 0) (old : SessionState D) (item : Item)
     (response : Response) (new : SessionState D) (told : Reply → Reply) → is_asked old.kind old.connected item ≡ true
     → ((r : Reply) → told_to item r ≡ told r) → Asks answers old item response new
@@ -29,7 +29,7 @@ pub asked_once : {D : Type 0} (answers : D → Item → Response → D → Type 
 asked_once answers old item response new told place tells asks =
     rw place (response, asks, response_text-same told (told_to item) (λ r. sym (tells r)) response)
 
--- a fault that had another cause
+-- A fault that had another cause.
 pub Served-memory : {S : Type 0} {kind : Kind} {answers : S → Item → List ℕ → List ℕ → S → Type 0} {over : S → Bool}
     {limit bound reads : ℕ} {old : S} {r r' w w' a a' : Option (List ℕ)} {new : S}
     (ending result : Result (Unit {0}) Fault)
@@ -41,7 +41,7 @@ Served-memory ending result p (inr e) =
     let q = rw e.0 at p in
     rw e.1 (record { bytes = q.bytes; consumed = q.consumed; written = q.written })
 
--- what holds after a good end
+-- What holds after a good end.
 pub OnOk-memory : (P : Type 0) (ending result : Result (Unit {0}) Fault) → OnOk ending P
     → (result ≡ ending) ⊎ ((ending ≡ Err WriteFault) × (result ≡ Err Memory)) → OnOk result P
 OnOk-memory P ending result p (inl e) = rw e p

@@ -159,7 +159,7 @@ pub record Attends {D : Type 0} (kind : Kind) (answers : D → Item → Response
   pub unaudited : Option (List ℕ)
   pub served : Served kind (AnswersItem answers) is_over held_limit result bound reads (begins kind old) r r_new w
       w_new (Some []) unaudited last
-  -- an input that is answered whole is at its end, unless a `bye` was answered before
+  -- An input that is answered whole is at its end, unless a `bye` was answered before.
   pub end : OnOk result (MatchBool last.over (Unit {0}) (IsAtEnd r_new))
   pub left : Leaves leaves last new
 

@@ -79,7 +79,7 @@ accepted policy s h = by (declared nothing policy) refl h where
   by (Ok x) e h = let p = last x (first_unknown x policy) refl h in (e ∙ ap (λ (y : Symbols). Ok y) p.0, rw p.0 at p.1)
   by (Err f) e h = absurd (cc h)
 
--- a word that is no attribute is none of any type
+-- A word that is no attribute is none of any type.
 pub unlisted : (policy : List Statement) (table : Table) (word t : Name) → IsOf policy table
     → list_any (bytes_eq word) table.symbols.attributes ≡ false → has_attribute policy t word ≡ false
 unlisted policy table word t is none = unlisted_in table.symbols word t none policy
@@ -112,7 +112,7 @@ step_names symbols next line (Rule kind r) h = let e : symbols ≡ next = cc h i
 step_names symbols next line (Permissive n) h = let e : symbols ≡ next = cc h in
     (rw (← e) (sym (append-nil symbols.types)), rw (← e) (sym (append-nil symbols.attributes)))
 
--- no word is in both lists
+-- No word is in both lists.
 abbrev Apart : List Name → List Name → Type 0
 Apart xs ys = (word : Name) → list_any (bytes_eq word) xs ≡ true → list_any (bytes_eq word) ys ≡ true → ⊥
 
@@ -165,20 +165,20 @@ all_apart (st ∷ sts) symbols last h before = by (with_declaration symbols st.l
       by (Ok next) e h rest = rest next h (step_apart symbols next st.line st.what e before)
       by (Err f) e h rest = absurd (cc h)
 
--- no word names both a type and an attribute of an accepted policy
+-- No word names both a type and an attribute of an accepted policy.
 pub apart : (policy : List Statement) (table : Table) (word : Name) → IsOf policy table
     → list_any (bytes_eq word) table.symbols.types ≡ true → list_any (bytes_eq word) table.symbols.attributes ≡ false
 apart policy table word is h = false_from_ne_true (list_any (bytes_eq word) table.symbols.attributes)
     (λ g. all_apart policy nothing table.symbols (accepted policy table.symbols is.accepted).0
     (λ w t a. true≢false (sym t)) word h g)
 
--- a word that names a type gives no attribute
+-- A word that names a type gives no attribute.
 pub named_type : (policy : List Statement) (table : Table) (word t : Name) → IsOf policy table
     → list_any (bytes_eq word) table.symbols.types ≡ true → is_named policy t word ≡ bytes_eq word t
 named_type policy table word t is h =
     rw (unlisted policy table word t is (apart policy table word is h)) (or-false (bytes_eq word t))
 
--- a word that names an attribute names the types of that attribute's row
+-- A word that names an attribute names the types of that attribute's row.
 pub named_attribute : (policy : List Statement) (table : Table) (word : Name) (a i : ℕ) → IsOf policy table
     → position (bytes_eq word) table.symbols.attributes ≡ Some a → i < length table.symbols.types
     → is_named policy (at table.symbols.types i) word ≡ has (row table.members.items a) i
@@ -217,7 +217,7 @@ in_order (st ∷ sts) symbols last h = by (with_declaration symbols st.line st.w
           )
       by (Err f) e h rest = absurd (cc h)
 
--- the symbols of an accepted policy are its types and its attributes
+-- The symbols of an accepted policy are its types and its attributes.
 pub names_in_order : (policy : List Statement) (s : Symbols) → symbols_of policy ≡ Ok s
     → (s.types ≡ types policy) × (s.attributes ≡ attributes policy)
 names_in_order policy s h = in_order policy nothing s (accepted policy s h).0
@@ -229,7 +229,7 @@ same_eq a b = by (bytes_eq a b) refl where
   by false h = h ∙ sym (false_from_ne_true (bytes_eq b a)
       (λ t. true≢false (sym (name_same a b (sym (same_name b a t))) ∙ h)))
 
--- a type is declared where it is among the types
+-- A type is declared where it is among the types.
 pub declares_type : (t : Name) (policy : List Statement) → list_any (bytes_eq t) (types policy) ≡ declares policy t
 declares_type t [] = refl
 declares_type t (st ∷ sts) = by st.what (declares_type t sts) where
@@ -241,7 +241,7 @@ declares_type t (st ∷ sts) = by st.what (declares_type t sts) where
   by (Rule kind r) h = h
   by (Permissive n) h = h
 
--- each type is in a declaration
+-- Each type is in a declaration.
 pub declared_type : (policy : List Statement) (table : Table) (i : ℕ) → IsOf policy table
     → i < length table.symbols.types → declares policy (at table.symbols.types i) ≡ true
 declared_type policy table i is h =

@@ -67,14 +67,14 @@ only_at names name (Some k) distinct found any j h =
     ]
 only_at names name None distinct found any j h = absent_at (bytes_eq name) names j [] (sym any) h
 
--- the name at the place of a name
+-- The name at the place of a name.
 pub named_at : (names : List Name) (name : Name) (k : ℕ) → position (bytes_eq name) names ≡ Some k
     → slice_get names k ≡ Some name
 named_at names name k found =
     let p = position-Some (bytes_eq name) names k [] found in
     rw (slice_get-get_or names k [] p.0) (ap (λ (n : Name). Some n) (sym (same_name name (at names k) p.1)))
 
--- the place of the name at a place
+-- The place of the name at a place.
 pub place_of : (names : List Name) (name : Name) (i : ℕ) → Distinct names → slice_get names i ≡ Some name
     → position (bytes_eq name) names ≡ Some i
 place_of names name i distinct found =

@@ -13,7 +13,7 @@ use Rattle.sm_rules.proofs.Consistent.{no_single}
 use Rattle.sm_vectors.specs.declared.decision.Decision.{Decision}
 use Rattle.sm_vectors.specs.Tables.{Tables, TablesOf, byte_at, decision}
 
--- permission b of the class
+-- Permission b of the class.
 abbrev pub IsNumber : ℕ → Class → Perms → Type 0
 IsNumber b class perm = (b < 7) × (class_at b ≡ class) × (perm_at b ≡ perm)
 
@@ -59,7 +59,7 @@ decided_audited policy names tables b s t class perm of hs ht number =
     ) (records (has_bit (byte_at tables.written s t) b) (has tables.permissive s)
     (has_bit (byte_at tables.silenced s t) b))
 
--- what is no single permission of the class passes nowhere, and is audited
+-- What is no single permission of the class passes nowhere, and is audited.
 
 nowhere : (p d : Bool) → (false || (p && (d && false))) ≡ false
 nowhere true true = refl

@@ -31,18 +31,18 @@ use Rattle.sm_wire.proofs.SpellingLemmasFields.{bound, number_spelled, u32_small
 use Rattle.sm_wire.proofs.SpellingLemmasFields.{plain_spelled}
 use Rattle.sm_wire.proofs.SpellingLemmasLines.{line_read}
 
--- a first field, and more fields, that spell a request
+-- A first field, and more fields, that spell a request.
 record Said (who : Option ClientId) (words : List ℕ) (wanted : Wanted) : Type 0 where
   pub first : List ℕ
   pub others : List (List ℕ)
   pub joins : words ≡ joined (first ∷ others)
   pub spells : SpellsRequest who (first ∷ others) (asked_in who wanted)
 
--- words in two parts
+-- Words in two parts.
 parts : (n : ℕ) (words front : List ℕ) → take n words ≡ front → words ≡ front ++ drop n words
 parts n words front e = sym (take-append-drop n words) ∙ ap (λ (l : List ℕ). l ++ drop n words) e
 
--- a requested name, and its spelling
+-- A requested name, and its spelling.
 record Named (name : List ℕ) (wanted : Wanted) : Type 0 where
   pub is : Get name ≡ wanted
   pub spells : SpellsName name name
@@ -128,7 +128,7 @@ wanted_said who words wanted e =
       | inr h ↦ other_said who words wanted h
     ]
 
--- what is asked in words, and who asks it
+-- What is asked in words, and who asks it.
 record Spoken (who : Option ClientId) (words : List ℕ) (fast : FastRequest) : Type 0 where
   pub wanted : Wanted
   pub is : record { client = who; wanted = wanted } ≡ fast
@@ -141,7 +141,7 @@ words_spoken who words fast e =
     let w = bound _ (wanted_of words) fast e in
     record { wanted = w.0; is = same_Some _ _ w.2; said = wanted_said who words w.0 w.1 }
 
--- the line up to its first space, and behind it
+-- The line up to its first space, and behind it.
 parted : (line : List ℕ) (i : ℕ) → position (λ b. b == 32) line ≡ Some i
     → line ≡ take i line ++ 32 ∷ drop (i + 1) line
 parted line i e =
@@ -189,7 +189,7 @@ asked_item : (kind : Kind) (line : List ℕ) (request : Request) → request_of 
 unfolding item_of
 asked_item kind line request e = rw e refl
 
--- a line that announces no texts
+-- A line that announces no texts.
 plain_end : (kind : Kind) (line : List ℕ) → header_of kind line ≡ None
     → line_end kind line ≡ (scan_start kind, item_of kind line ∷ [])
 unfolding line_end
@@ -202,7 +202,7 @@ no_texts kind line who (Listing mask) e = rw e refl
 no_texts kind line who Version e = rw e refl
 no_texts kind line who (Get name) e = rw e refl
 
--- the end of such a line
+-- The end of such a line.
 pub fast_ends : (kind : Kind) (line : List ℕ) (fast : FastRequest) → fast_of kind line ≡ Some fast
     → line_end kind line ≡ (scan_start kind, Asked (asked_by fast) ∷ [])
 fast_ends kind line fast e =

@@ -10,7 +10,7 @@ fields_of-space x xs e = rw e refl
 pub fields_of-plain : (x : ℕ) (xs : List ℕ) → x ≢ 32 → fields_of (x ∷ xs) ≡ onto_first x (fields_of xs)
 fields_of-plain x xs n = grind (arith, nat_tests)
 
--- the first field ends at the first space
+-- The first field ends at the first space.
 pub first_field : (rest : List ℕ) (n : ℕ) → n < length rest → ((k : ℕ) → k < n → get_or rest k 0 ≢ 32)
     → get_or rest n 0 ≡ 32 → fields_of rest ≡ take n rest ∷ fields_of (drop (suc n) rest)
 first_field [] n l plain e = absurd (omega arith)
@@ -20,7 +20,7 @@ first_field (x ∷ xs) (suc n) l plain e =
     let head : x ≢ 32 = plain 0 (omega arith) in
     rw (fields_of-plain x xs head, rest) refl
 
--- with no space there is one field
+-- With no space there is one field.
 pub last_field : (rest : List ℕ) → ((k : ℕ) → k < length rest → get_or rest k 0 ≢ 32) → fields_of rest ≡ rest ∷ []
 last_field [] plain = refl
 last_field (x ∷ xs) plain =

@@ -17,12 +17,12 @@ use Rattle.sm_wire.specs.Items.{mode_step, byte_step, scan_after, items_after}
 use Rattle.sm_wire.specs.Ends.{EndsAs, IsWhole, whole_step, never_items}
 use Rattle.sm_wire.proofs.ItemLemmas.{items_after-append, scan_after-append}
 
--- the bytes lead from one scan to another, and end these items
+-- The bytes lead from one scan to another, and end these items.
 pub record Leads (s : Scan) (bytes : List ℕ) (t : Scan) (ended : List Item) : Type 0 where
   pub scan : scan_after s bytes ≡ t
   pub items : items_after s bytes ≡ ended
 
--- how far the loop has come
+-- How far the loop has come.
 pub record Far (kind : Kind) (m first : FrameState) (bytes : List ℕ) (start : ℕ) (old new : List Item) : Type 0 where
   pub within : start ≤ length bytes
   pub rest : scan_after (record { kind = kind; mode = m; held = [] }) (drop start bytes)
@@ -30,13 +30,13 @@ pub record Far (kind : Kind) (m first : FrameState) (bytes : List ℕ) (start : 
   pub whole : new ++ items_after (record { kind = kind; mode = m; held = [] }) (drop start bytes) ≡ old
       ++ items_after (record { kind = kind; mode = first; held = [] }) bytes
 
--- the rest of some bytes, as the code takes it
+-- The rest of some bytes, as the code takes it.
 pub sliced : (bytes : List ℕ) (start : ℕ) → take (length bytes - start) (drop start bytes) ≡ drop start bytes
 sliced bytes start =
     let n : length bytes - start ≡ length (drop start bytes) = omega (arith, length-drop start bytes) in
     rw n (take-length (drop start bytes))
 
--- at a stream of any kind
+-- At a stream of any kind.
 module _ (kind : Kind) where
   pub leads_then : (s t u : Scan) (xs ys : List ℕ) (is js : List Item) → Leads s xs t is → Leads t ys u js
       → Leads s (xs ++ ys) u (is ++ js)
@@ -52,13 +52,13 @@ module _ (kind : Kind) where
     items = ap (λ (p : Step). p.1 ++ []) e ∙ append-nil is;
   }
 
-  -- the first n bytes and the next one
+  -- The first n bytes and the next one.
   front_and_last : (n : ℕ) (bytes : List ℕ) → n < length bytes
       → take (n + 1) bytes ≡ take n bytes ++ get_or bytes n 0 ∷ []
   front_and_last n bytes lt = take-add n 1 bytes
       ∙ ap (λ (l : List ℕ). take n bytes ++ take 1 l) (drop-cons bytes n 0 lt)
 
-  -- bytes of a line before its end
+  -- Bytes of a line before its end.
   line_leads : (held line : List ℕ) → ((k : ℕ) → k < length line → get_or line k 0 ≢ 10)
       → length line ≤ 4096 - length held → Leads (record { kind = kind; mode = Line; held = held }) line
       (record { kind = kind; mode = Line; held = held ++ line }) []
@@ -77,7 +77,7 @@ module _ (kind : Kind) where
         items = ap (λ (s : Step). s.1 ++ items_after s.0 xs) one ∙ rest.items;
       }
 
-  -- the same, of the first bytes of some
+  -- The same, of the first bytes of some.
   front_leads : (held bytes : List ℕ) (n : ℕ) → n ≤ length bytes → n ≤ 4096 - length held
       → ((k : ℕ) → k < n → get_or bytes k 0 ≢ 10)
       → Leads (record { kind = kind; mode = Line; held = held }) (take n bytes)
@@ -88,7 +88,7 @@ module _ (kind : Kind) where
       (arith, len))))
       (omega (arith, len))
 
-  -- all but the last of bytes
+  -- All but the last of bytes.
   but_last : (held front : List ℕ) (b : ℕ) → take (length (held ++ (front ++ b ∷ [])) - 1) (held ++ (front ++ b ∷ []))
       ≡ held ++ front
   but_last held front b =
@@ -97,7 +97,7 @@ module _ (kind : Kind) where
       omega (arith, length-append held (front ++ b ∷ []), one, length-append held front) in
       rw (len, ← append_assoc held front (b ∷ [])) (take-append_seam (held ++ front) (b ∷ []))
 
-  -- bytes that end a line
+  -- Bytes that end a line.
   line_ends : (held bytes : List ℕ) (n : ℕ) → n < length bytes → n ≤ 4096 - length held
       → ((k : ℕ) → k < n → get_or bytes k 0 ≢ 10) → get_or bytes n 0 ≡ 10
       → Leads (record { kind = kind; mode = Line; held = held }) (take (n + 1) bytes) (whole_step kind Line
@@ -121,7 +121,7 @@ module _ (kind : Kind) where
   dead_leads [] = record { scan = refl; items = refl }
   dead_leads (x ∷ xs) = let rest = dead_leads xs in record { scan = rest.scan; items = rest.items }
 
-  -- bytes of a line that is too long
+  -- Bytes of a line that is too long.
   line_long : (held bytes : List ℕ) (n : ℕ) → n ≡ 4096 - length held → n < length bytes
       → ((k : ℕ) → k < n + 1 → get_or bytes k 0 ≢ 10)
       → Leads (record { kind = kind; mode = Line; held = held }) bytes (scan_dead kind)
@@ -144,7 +144,7 @@ module _ (kind : Kind) where
       (leads_then there (scan_dead kind) (scan_dead kind) (b ∷ []) rest (LineTooLong ∷ []) []
       (leads_one there b (scan_dead kind) (LineTooLong ∷ []) step) (dead_leads rest)))
 
-  -- bytes of texts before their end
+  -- Bytes of texts before their end.
   texts_lead : (a : ReloadHeader) (held bytes : List ℕ)
       → ((k : ℕ) → 0 < k → k ≤ length bytes → length held + k ≢ a.rules + a.contexts)
       → Leads (record { kind = kind; mode = TextsMode a; held = held }) bytes
@@ -167,7 +167,7 @@ module _ (kind : Kind) where
         items = ap (λ (s : Step). s.1 ++ items_after s.0 xs) one ∙ rest.items;
       }
 
-  -- bytes that end texts
+  -- Bytes that end texts.
   texts_end : (a : ReloadHeader) (held bytes : List ℕ) (n : ℕ) → n < length bytes
       → length held + (n + 1) ≡ a.rules + a.contexts
       → Leads (record { kind = kind; mode = TextsMode a; held = held }) (take (n + 1) bytes)
@@ -192,7 +192,7 @@ module _ (kind : Kind) where
   pred : (n : ℕ) → 0 < n → n - 1 + 1 ≡ n
   pred n some = omega arith
 
-  -- bytes that end an item
+  -- Bytes that end an item.
   pub ends_lead : (m : FrameState) (held bytes : List ℕ) (n : ℕ) → EndsAs m (length held) bytes (At n)
       → Leads (record { kind = kind; mode = m; held = held }) (take n bytes) (whole_step kind m
       (held ++ take n bytes)).0
@@ -204,7 +204,7 @@ module _ (kind : Kind) where
       (texts_end a held bytes (n - 1) (omega (arith, e.0, e.1)) (omega (arith, e.0, e.2)))
   ends_lead Dead held bytes n e = absurd e
 
-  -- bytes of an item before its end
+  -- Bytes of an item before its end.
   pub later_leads : (m : FrameState) (held bytes : List ℕ) → EndsAs m (length held) bytes Later
       → Leads (record { kind = kind; mode = m; held = held }) bytes
       (record { kind = kind; mode = m; held = held ++ bytes }) []
@@ -212,14 +212,14 @@ module _ (kind : Kind) where
   later_leads (TextsMode a) held bytes e = texts_lead a held bytes e
   later_leads Dead held bytes e = absurd e
 
-  -- bytes where no item ends any more
+  -- Bytes where no item ends any more.
   pub never_leads : (m : FrameState) (held bytes : List ℕ) → (m ≡ Dead → held ≡ []) → EndsAs m (length held) bytes Never
       → Leads (record { kind = kind; mode = m; held = held }) bytes (scan_dead kind) (never_items m)
   never_leads Line held bytes empty e = line_long held bytes (4096 - length held) refl e.0 e.1
   never_leads (TextsMode a) held bytes empty e = absurd e
   never_leads Dead held bytes empty e = rw (empty refl) (dead_leads bytes)
 
-  -- what ends so are the bytes of a whole item
+  -- What ends so are the bytes of a whole item.
   pub ends_whole : (m : FrameState) (held bytes : List ℕ) (n : ℕ) → EndsAs m (length held) bytes (At n)
       → IsWhole m (held ++ take n bytes)
   ends_whole Line held bytes n e =
@@ -228,14 +228,14 @@ module _ (kind : Kind) where
       omega (arith, length-append held (take n bytes), length-take-le n bytes e.1, e.2)
   ends_whole Dead held bytes n e = absurd e
 
-  -- an item ends among the bytes, and not behind them
+  -- An item ends among the bytes, and not behind them.
   pub ends_within : (m : FrameState) (held : ℕ) (bytes : List ℕ) (n : ℕ) → EndsAs m held bytes (At n)
       → (0 < n) × (n ≤ length bytes)
   ends_within Line held bytes n e = (e.0, e.1)
   ends_within (TextsMode a) held bytes n e = (e.0, e.1)
   ends_within Dead held bytes n e = absurd e
 
-  -- one more item
+  -- One more item.
   pub far_next : (m n first : FrameState) (bytes : List ℕ) (start k : ℕ) (old mid new : List Item)
       → EndsAs m 0 (drop start bytes) (At k) → Makes (whole_step kind m (take k (drop start bytes))) kind n [] mid new
       → Far kind m first bytes start old mid → Far kind n first bytes (start + k) old new
@@ -263,7 +263,7 @@ module _ (kind : Kind) where
         whole = rw (made.items, append_assoc) (sym (ap (λ (is : List Item). mid ++ is) items) ∙ far.whole);
       }
 
-  -- the loop ends where the bytes end, or in the middle of an item
+  -- The loop ends where the bytes end, or in the middle of an item.
   pub far_later : (m first : FrameState) (bytes : List ℕ) (start : ℕ) (old new : List Item)
       → EndsAs m 0 (drop start bytes) Later
       → Far kind m first bytes start old new
@@ -278,7 +278,7 @@ module _ (kind : Kind) where
         sym (ap (λ (is : List Item). new ++ is) l.items ∙ append-nil new) ∙ far.whole,
       )
 
-  -- the loop ends with the stream
+  -- The loop ends with the stream.
   pub far_never : (m first : FrameState) (bytes : List ℕ) (start : ℕ) (old mid new : List Item)
       → EndsAs m 0 (drop start bytes) Never → new ≡ mid ++ never_items m → Far kind m first bytes start old mid →
       (scan_after (record { kind = kind; mode = first; held = [] }) bytes ≡ (scan_dead kind))
@@ -289,7 +289,7 @@ module _ (kind : Kind) where
         is ∙ sym (ap (λ (is : List Item). mid ++ is) l.items) ∙ far.whole,
       )
 
-  -- the loop ends with the bytes
+  -- The loop ends with the bytes.
   pub far_all : (m first : FrameState) (bytes : List ℕ) (start : ℕ) (old new : List Item) → drop start bytes ≡ []
       → Far kind m first bytes start old new
       → (scan_after (record { kind = kind; mode = first; held = [] }) bytes ≡ record {
@@ -303,7 +303,7 @@ module _ (kind : Kind) where
         ∙ append-nil new) ∙ far.whole,
   )
 
-  -- a piece that ends what is held, and what the rest of it leads to
+  -- A piece that ends what is held, and what the rest of it leads to.
   pub piece_ends : (m n last : FrameState) (held piece : List ℕ) (k start : ℕ) (old mid new : List Item)
       → EndsAs m (length held) piece (At k) → Makes (whole_step kind m (held ++ take k piece)) kind n [] old mid
       → scan_after (record { kind = kind; mode = n; held = [] })
@@ -329,7 +329,7 @@ module _ (kind : Kind) where
             ∙ ap (λ (l : List ℕ). old ++ items_after there l) parts),
       )
 
-  -- a piece that ends what is held, as the code takes it: the bytes that are held then
+  -- A piece that ends what is held, as the code takes it: the bytes that are held then.
   pub piece_taken : (m n last : FrameState) (held piece first whole all left : List ℕ) (k start from : ℕ)
       (old mid new : List Item) → EndsAs m (length held) piece (At k) → first ≡ held ++ take k piece → whole ≡ first
       → Makes (whole_step kind m whole) kind n [] old mid
@@ -355,7 +355,7 @@ module _ (kind : Kind) where
       ∙ sliced piece (k + start) ∙ sym (drop-drop start k piece) in
       (ap (λ (h : List ℕ). record { kind = kind; mode = last; held = h }) kept ∙ sym both.0, both.1)
 
-  -- a piece that ends nothing
+  -- A piece that ends nothing.
   pub piece_later : (m : FrameState) (held piece all : List ℕ) (old : List Item) → EndsAs m (length held) piece Later
       → all ≡ held ++ piece → (record { kind = kind; mode = m; held = all } ≡ scan_after
       (record { kind = kind; mode = m; held = held }) piece)
@@ -366,7 +366,7 @@ module _ (kind : Kind) where
         sym (ap (λ (is : List Item). old ++ is) l.items ∙ append-nil old),
       )
 
-  -- a piece of a line that is too long
+  -- A piece of a line that is too long.
   pub piece_never : (m : FrameState) (held piece none : List ℕ) (old new : List Item) → m ≢ Dead
       → EndsAs m (length held) piece Never → none ≡ [] → new ≡ old ++ never_items m
       → (record { kind = kind; mode = Dead; held = none } ≡ scan_after

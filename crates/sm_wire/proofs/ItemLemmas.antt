@@ -15,7 +15,7 @@ use Rattle.sm_wire.specs.Grammar.{header_of}
 use Rattle.sm_wire.specs.Items.{Step, scan_start, scan_dead, items_of, item_of, policy_item, text_start, text_step}
 use Rattle.sm_wire.specs.Items.{line_end, line_step, Scan, mode_step, byte_step, scan_after, items_after}
 
--- the items of two pieces, one after another
+-- The items of two pieces, one after another.
 pub items_after-append : (s : Scan) (xs ys : List ℕ) → items_after s (xs ++ ys) ≡ items_after s xs
     ++ items_after (scan_after s xs) ys
 items_after-append s [] ys = refl
@@ -25,9 +25,9 @@ pub scan_after-append : (s : Scan) (xs ys : List ℕ) → scan_after s (xs ++ ys
 scan_after-append s [] ys = refl
 scan_after-append s (x ∷ xs) ys = scan_after-append (byte_step s x).0 xs ys
 
--- at a stream of any kind
+-- At a stream of any kind.
 module _ (kind : Kind) where
-  -- the bytes of a line, before its end
+  -- The bytes of a line, before its end.
   pub line_so_far : (held line rest : List ℕ) → AllByRecursion (λ b. b ≢ 10) line → length held + length line ≤ 4096
       → items_after (record { kind = kind; mode = Line; held = held }) (line ++ rest) ≡ items_after
       (record { kind = kind; mode = Line; held = held ++ line }) rest
@@ -48,7 +48,7 @@ module _ (kind : Kind) where
   dead_items [] = refl
   dead_items (x ∷ xs) = dead_items xs
 
-  -- the end of a line that announces nothing
+  -- The end of a line that announces nothing.
   ends_plain : (line : List ℕ) → header_of kind line ≡ None
       → line_end kind line ≡ ((scan_start kind), item_of kind line ∷ [])
   unfolding line_end
@@ -61,7 +61,7 @@ module _ (kind : Kind) where
   line_law line rest plain le none = line_so_far [] line (10 ∷ rest) plain (omega arith)
       ∙ ap (λ (s : Step). s.1 ++ items_after s.0 rest) (ends_plain line none)
 
-  -- the bytes of the texts, before their end
+  -- The bytes of the texts, before their end.
   texts_so_far : (a : ReloadHeader) (held bytes rest : List ℕ) → length held + length bytes < a.rules + a.contexts
       → items_after (record { kind = kind; mode = TextsMode a; held = held }) (bytes ++ rest) ≡ items_after
       (record { kind = kind; mode = TextsMode a; held = held ++ bytes }) rest
@@ -77,7 +77,7 @@ module _ (kind : Kind) where
       ∙ ap (λ (h : List ℕ). items_after (record { kind = kind; mode = TextsMode a; held = h }) rest)
       (append_assoc held (x ∷ []) xs)
 
-  -- the texts, and what follows them
+  -- The texts, and what follows them.
   texts_end : (a : ReloadHeader) (held bytes rest : List ℕ) → 0 < length bytes
       → length held + length bytes ≡ a.rules + a.contexts
       → items_after (record { kind = kind; mode = TextsMode a; held = held })
@@ -99,7 +99,7 @@ module _ (kind : Kind) where
       (y ∷ ys) rest (omega arith) more ∙ ap (λ (h : List ℕ). policy_item a h ∷ items_of kind rest)
       (append_assoc held (x ∷ []) (y ∷ ys))
 
-  -- a `reload` line's end, and the texts
+  -- A `reload` line's end, and the texts.
   texts_from : (a : ReloadHeader) (bytes rest : List ℕ) → length bytes ≡ a.rules + a.contexts → a.rules ≤ 4194304
       → a.contexts ≤ 4194304 → (text_start kind a).1 ++ items_after (text_start kind a).0 (bytes
       ++ rest) ≡ policy_item a bytes ∷ items_of kind rest
@@ -115,7 +115,7 @@ module _ (kind : Kind) where
       let some : (a.rules + a.contexts == 0) ≡ false = grind (arith, nat_tests) in
       rw (r, c, some) (texts_end a [] (x ∷ xs) rest (omega arith) (omega (arith, is)))
 
-  -- the two texts of what is header
+  -- The two texts of what is header.
   texts_parted : (a : ReloadHeader) (rules contexts : List ℕ) → a.rules ≡ length rules
       → policy_item a (rules ++ contexts) ≡ Policy
       (record { expected = a.expected; rules = rules; contexts = contexts })

@@ -23,7 +23,7 @@ tested b v max e = grind (arith, nat_tests)
 tests : (b v max : ℕ) → IsInRange 48 57 b → v ≤ max → (is_ascii_digit b && nat_le v max) ≡ true
 tests b v max r le = grind (arith, nat_tests)
 
--- what is read are digits, and the number that they write
+-- What is read are digits, and the number that they write.
 said : (max n m : ℕ) (bs : List ℕ) → n ≤ max → digits_after max n bs ≡ Some m → AllDigits 10 bs
     × (digits_value_after 10 n bs ≡ m) × (m ≤ max)
 said max n m [] le e = let same : n ≡ m = cc in (tt, same, omega arith)
@@ -35,12 +35,12 @@ said max n m (b ∷ bs) le e =
     let next : 10 * n + (b - 48) ≡ n * 10 + digit_value b = omega (arith, digit_value_digit b d.0) in
     ((omega (arith, digit_value_digit b d.0), rest.0), rw (← next) rest.1, rest.2)
 
--- more digits write no smaller number
+-- More digits write no smaller number.
 grows : (n : ℕ) (bs : List ℕ) → n ≤ digits_value_after 10 n bs
 grows n [] = omega arith
 grows n (b ∷ bs) = omega (arith, grows (n * 10 + digit_value b) bs)
 
--- digits whose number is at most max are read
+-- Digits whose number is at most max are read.
 heard : (max n : ℕ) (bs : List ℕ) → AllDigits 10 bs → digits_value_after 10 n bs ≤ max
     → digits_after max n bs ≡ Some (digits_value_after 10 n bs)
 heard max n [] d le = refl
@@ -51,7 +51,7 @@ heard max n (b ∷ bs) d le =
     let t = tests b (10 * n + (b - 48)) max k (omega (arith, grows (n * 10 + digit_value b) bs)) in
     rw (t, ← next) rest
 
--- digits without a leading zero that write n, at most max
+-- Digits without a leading zero that write n, at most max.
 whole : (max n b : ℕ) (bs : List ℕ) → max < 2 ^ 64 → b ≢ 48 → digits_after max 0 (b ∷ bs) ≡ Some n
     → (b ∷ bs ≡ decimal n) × (n ≤ max)
 whole max n b bs small ne e =
@@ -84,7 +84,7 @@ one_number max n (b ∷ c ∷ bs) small e = elim (cases_eq b 48) [
   | inr ne ↦ whole max n b (c ∷ bs) small ne (sym (is_no_zero b None (digits_after max 0 (b ∷ c ∷ bs)) ne) ∙ e)
 ]
 
--- digits without a leading zero that write at most max are read
+-- Digits without a leading zero that write at most max are read.
 unread : (max : ℕ) (ds : List ℕ) → AllDigits 10 ds → 0 < length ds → (get_or ds 0 0 ≡ 48 → length ds ≡ 1)
     → digits_value 10 ds ≤ max → number_of max ds ≡ Some (digits_value 10 ds)
 unread max [] d some lead le = absurd (omega arith)

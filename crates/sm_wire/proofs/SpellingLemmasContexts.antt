@@ -45,14 +45,14 @@ whole_length : (part : List ℕ) → NoColon part → prefix_len is_in_part part
 whole_length [] h = refl
 whole_length (b ∷ bs) h = rw (in_part b h.0, whole_length bs h.1) (omega arith)
 
--- a first part and its colon, with the bytes after them
+-- A first part and its colon, with the bytes after them.
 record Front (bytes : List ℕ) : Type 0 where
   part : List ℕ
   rest : List ℕ
   parts : bytes ≡ part ++ 58 ∷ rest
   plain : NoColon part
 
--- there is a colon, or none
+-- There is a colon, or none.
 cut : (bytes : List ℕ) → NoColon bytes ⊎ Front bytes
 cut [] = inl tt
 cut (b ∷ bs) = elim (cases_eq b 58) [
@@ -68,7 +68,7 @@ cut (b ∷ bs) = elim (cases_eq b 58) [
   ]
 ]
 
--- the bytes after a part
+-- The bytes after a part.
 behind : (part rest : List ℕ) → drop (length part + 1) (part ++ 58 ∷ rest) ≡ rest
 behind part rest =
     let whole : (part ++ 58 ∷ []) ++ rest ≡ part ++ 58 ∷ rest = append_assoc part (58 ∷ []) rest in
@@ -76,7 +76,7 @@ behind part rest =
     subst (λ n. drop n (part ++ 58 ∷ rest) ≡ rest) len
     (subst (λ l. drop (length (part ++ 58 ∷ [])) l ≡ rest) whole (drop-append_seam (part ++ 58 ∷ []) rest))
 
--- an `if` at its test
+-- An `if` at its test.
 at_test : {A : Type 0} (n k : ℕ) (rest : List ℕ) (bytes part : List ℕ) (x : Option A) → n ≡ length part
     → k ≡ length part + (1 + length rest) → 0 < length part → (if (n == 0 || n == k) then None else x) ≡ x
 at_test n k rest bytes part x is all some =
@@ -101,7 +101,7 @@ neither : (a b : Bool) → (a || b) ≡ false → (a ≡ false) × (b ≡ false)
 neither true b e = absurd cc
 neither false b e = (refl, e)
 
--- a part that isn't empty, its colon, and the rest
+-- A part that isn't empty, its colon, and the rest.
 record Behind (bytes rest : List ℕ) : Type 0 where
   part : List ℕ
   parts : bytes ≡ part ++ 58 ∷ rest
@@ -160,7 +160,7 @@ type_then type range h some =
     both_unequal (prefix_len is_in_part bytes) (length bytes) (omega (arith, n, h.0))
     (λ e. omega (arith, n, k, e, some))
 
--- a type, and a range or none
+-- A type, and a range or none.
 abbrev EndsSo : List ℕ → Type 0
 EndsSo bytes = ((0 < length bytes) × NoColon bytes)
     ⊎ ((type range : List ℕ) × (bytes ≡ type ++ 58 ∷ range) × (0 < length type) × NoColon type × (0 < length range))
@@ -196,7 +196,7 @@ ends_so bytes e =
 colon_graphic : IsInRange 33 126 58
 colon_graphic = (omega arith, omega arith)
 
--- graphic parts with a colon between them
+-- Graphic parts with a colon between them.
 graphic_parts : (part rest : List ℕ) → AllByRecursion (IsInRange 33 126) part → AllByRecursion (IsInRange 33 126) rest
     → AllByRecursion (IsInRange 33 126) (part ++ 58 ∷ rest)
 graphic_parts part rest h k = all_joined (IsInRange 33 126) part (58 ∷ rest) h (colon_graphic, k)
@@ -225,7 +225,7 @@ role_some : (o : Option (List ℕ)) → ends_behind_role o ≡ true → (rest : 
 role_some None e = absurd cc
 role_some (Some rest) e = (rest, refl, e)
 
--- a user and a role, and then a type with or without a range
+-- A user and a role, and then a type with or without a range.
 last_parts : (user role last : List ℕ) → IsPart user → IsPart role → EndsSo last
     → AllByRecursion (IsInRange 33 126) last → IsContext (user ++ 58 ∷ (role ++ 58 ∷ last))
 last_parts user role last u r (inl h) g = IsContext.three user role last u r (h.0, g, h.1)

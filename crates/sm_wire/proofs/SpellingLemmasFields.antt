@@ -47,7 +47,7 @@ pub bound : {A B : Type 0} (f : A → Option B) (o : Option A) (y : B) → optio
 bound f None y e = absurd (none-some y e)
 bound f (Some x) y e = (x, refl, e)
 
--- what a choice gave came from one of its two sides
+-- What a choice gave came from one of its two sides.
 chosen : {A : Type 0} (t : Bool) (x y : Option A) (z : A) → (if t then x else y) ≡ Some z
     → ((t ≡ true) × (x ≡ Some z)) ⊎ (y ≡ Some z)
 chosen true x y z e = inl (refl, e)
@@ -79,7 +79,7 @@ if_true false x y e = absurd (none-some y e)
 abbrev pub Solid : List ℕ → Type 0
 Solid field = AllByRecursion (λ b. b ≢ 32) field
 
--- what passes a test that a space fails holds no space
+-- What passes a test that a space fails holds no space.
 solid_pass : (f : ℕ → Bool) → f 32 ≡ false → (bs : List ℕ) → list_all f bs ≡ true → Solid bs
 solid_pass f fails [] e = tt
 solid_pass f fails (b ∷ bs) e =
@@ -92,11 +92,11 @@ no_space b = not (b == 32)
 fails_no_space : no_space 32 ≡ false
 fails_no_space = refl
 
--- a word that is written out
+-- A word that is written out.
 pub solid_word : (w : List ℕ) → list_all no_space w ≡ true → Solid w
 solid_word w e = solid_pass no_space fails_no_space w e
 
--- a word that is written out, and the bytes after it
+-- A word that is written out, and the bytes after it.
 solid_more : (w bs : List ℕ) → list_all no_space w ≡ true → Solid bs → Solid (w ++ bs)
 solid_more [] bs e h = h
 solid_more (b ∷ w) bs e h =
@@ -140,7 +140,7 @@ u32_small = omega arith
 pub u64_small : u64_max < 2 ^ 64
 u64_small = omega arith
 
--- of numbers of at most max
+-- Of numbers of at most max.
 module _ (max : ℕ) (small : max < 2 ^ 64) where
   pub number_read : (t : List ℕ) (n : ℕ) → SpellsNumber max t n → number_of max t ≡ Some n
   number_read _ _ (SpellsNumber.digits n le) = its_spelling max n small le

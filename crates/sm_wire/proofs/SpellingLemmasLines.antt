@@ -60,7 +60,7 @@ lone_field : (f : List ℕ) → Solid f → fields_of f ≡ f ∷ []
 lone_field [] s = refl
 lone_field (b ∷ bs) s = rw (fields_of-plain b bs s.0, lone_field bs s.1) refl
 
--- one field or more, none with a space
+-- One field or more, none with a space.
 abbrev Filled : List (List ℕ) → Type 0
 Filled [] = ⊥
 Filled (f ∷ fs) = AllByRecursion Solid (f ∷ fs)
@@ -76,7 +76,7 @@ filled_joined (f ∷ fs) s = fields_joined f fs s
 
 -- ---- what a client asks for: what is spelled so is read
 
--- at any client
+-- At any client.
 module _ (who : Option ClientId) where
   request_read : (fs : List (List ℕ)) (r : Request) → SpellsRequest who fs r → client_request_of who fs ≡ Some r
   unfolding client_request_of look_of query_of change_of event_of service_event_of binder_event_of list_of version_of
@@ -154,7 +154,7 @@ module _ (who : Option ClientId) where
       rw (← same_Some (Add n.0 r.0 y.0 m.0) e m.2) (SpellsRequest.add a b c d n.0 r.0 y.0 m.0 (name_spelled a n.0 n.1)
       (reference_spelled b r.0 r.1) (flag_spelled c y.0 y.1) (number_spelled u32_max u32_small d m.0 m.1))
 
-  -- the name that is asked for
+  -- The name that is asked for.
   asked_name : (fs : List (List ℕ)) (e : Event) → get_of fs ≡ Some e
       → (a n : List ℕ) × (fs ≡ a ∷ []) × (name_of a ≡ Some n) × (Get n ≡ e)
   unfolding get_of
@@ -513,13 +513,13 @@ admin_spelled fs r is = elim (first_chosen (reload_of fs) (asking_of fs) r is) [
 
 -- ---- lines of each kind
 
--- a line by which a process connects is no other line
+-- A line by which a process connects is no other line.
 greeting_alone : (fs : List (List ℕ)) (r : Request) → SpellsGreeting fs r
     → (client_request_of None fs ≡ None) × (client_line_of fs ≡ None)
 unfolding client_request_of look_of query_of change_of event_of service_event_of binder_event_of client_line_of
 greeting_alone _ _ (SpellsGreeting.hello pid uid context p u s t c) = (refl, refl)
 
--- a line that an administrator and a script have is no other line
+-- A line that an administrator and a script have is no other line.
 admin_alone : (fs : List (List ℕ)) (r : Request) → SpellsAdmin fs r
     → (standing_of fs ≡ None) × (greeting_of fs ≡ None) × (client_line_of fs ≡ None)
 unfolding standing_of greeting_of client_line_of

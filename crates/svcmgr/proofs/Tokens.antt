@@ -9,6 +9,6 @@ has_admin b = unfold new_admins in search rules
 has_two : (b : Book) → 1 < length (new_admins b 4)
 has_two b = unfold new_admins in search rules
 
--- where one is taken out, one is left
+-- Where one is taken out, one is left.
 pub leaves_one : (b : Book) (before after : ℕ) → after + 1 ≡ before → before ≡ length (new_admins b 4) → 0 < after
 leaves_one b before after taken all = omega (arith, has_two b, taken, all)

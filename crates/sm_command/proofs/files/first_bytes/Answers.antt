@@ -1,7 +1,7 @@
 use Rattle.sm_command.proofs.files.first_bytes.Goals as goal
 use Rattle.sm_command.proofs.Fronts.{front}
 
--- what was read is the front of what there was, and it is cut off at the same limit
+-- What was read is the front of what there was, and it is cut off at the same limit.
 pub returns-clause-known : goal.returns-clause-known
 returns-clause-known g c =
     front (g.R.Read.remaining c.args.reader) 4194305 c.read_to_end.new.buf.items c.truncate.new.self.items

@@ -8,17 +8,17 @@ use Rattle.sm_engine.proofs.KnownLemmas.{Spilled-all, Spilled-front, Spilled-non
 use Rattle.sm_engine.proofs.RunLemmas.{going_answer, going_lost, going_spill, going_fail, going_fail_end, going_end}
 use Rattle.sm_engine.proofs.answering.answer_items.Goals as goal
 
--- the items so far, the next one, and those that are left
+-- The items so far, the next one, and those that are left.
 next : {X : Type 0} (before after done all : List X) (x : X) → done ++ before ≡ all → before ≡ x ∷ after
     → all ≡ done ++ x ∷ after
 next before after done all x e s = sym e ∙ rw s refl
 
--- the items so far, with the next one, and those that are left
+-- The items so far, with the next one, and those that are left.
 joined : {X : Type 0} (before after done all : List X) (x : X) → done ++ before ≡ all → before ≡ x ∷ after
     → all ≡ (done ++ x ∷ []) ++ after
 joined before after done all x e s = rw append_assoc (next before after done all x e s)
 
--- none is left
+-- None is left.
 none : {X : Type 0} (before done all : List X) → done ++ before ≡ all → length before ≡ 0 → done ≡ all
 none [] done all e n = sym (append-nil done) ∙ e
 none (x ∷ xs) done all e n = absurd (omega arith)

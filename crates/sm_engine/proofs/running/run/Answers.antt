@@ -11,14 +11,14 @@ use Rattle.sm_engine.proofs.ServeLemmas.{sofar_start, sofar_next, served_long, s
 use Rattle.sm_engine.proofs.ServeLemmas.{served_enough, served_at_end, served_over}
 use Rattle.sm_engine.proofs.running.run.Goals as goal
 
--- the number of reads
+-- The number of reads.
 few : (old before now n : ℕ) → before ≡ min (old + n) greatest → now ≡ min (before + 1) greatest → now - old ≤ n + 1
 few old before now n e f = omega arith
 
 enough : (old now n : ℕ) → now ≡ min (old + n) greatest → now - old ≤ n
 enough old now n e = omega arith
 
--- a read that gave something
+-- A read that gave something.
 some : (n : ℕ) (buffer : List ℕ) → n ≤ length buffer → n ≢ 0 → 0 < length (take n buffer)
 some n buffer within ne = omega (arith, length-take-le n buffer within)
 

@@ -14,7 +14,7 @@ opens : {T E : Type 0} (A B P : T → Type 0) (Q : E → Type 0) (r : Result T E
 opens A B P Q (Ok x) p b q = (p.0, p.1, b)
 opens A B P Q (Err e) p b q = q
 
--- the identity is the manager's
+-- The identity is the manager's.
 pub returns-in-Ok : goal.returns-in-Ok
 returns-in-Ok c =
     subst (λ (who : Identity). MatchResult c.open.result

@@ -4,7 +4,7 @@ use Rattle.sm_kinds.specs.Messages.{numbered}
 use Rattle.sm_wire.specs.Replies.{registered_text, spaced_name, spaced_given}
 use Rattle.sm_wire.proofs.deliveries.push_registered.Goals as goal
 
--- the three parts, one after another
+-- The three parts, one after another.
 pub returns : goal.returns
 unfolding registered_text
 returns c =

@@ -9,7 +9,7 @@ use Rattle.sm_wire.proofs.FieldLemmas.{first_field, last_field}
 use Rattle.sm_wire.proofs.fields.split_fields.Goals as goal
 use Rattle.sm_wire.proofs.fields.split_fields.Goals.{then-b-eq32+in_ok-push_field, else-b-eq32}
 
--- one more field, at a space
+-- One more field, at a space.
 next : (line : List ℕ) (start i : ℕ) → start ≤ i → i < length line → ((k : ℕ) → start + k < i
     → get_or (drop start line) k 0 ≢ 32) → get_or line i 0 ≡ 32 → fields_of (drop start line) ≡ take (i - start)
     (drop start line) ∷ fields_of (drop (i + 1) line)
@@ -32,7 +32,7 @@ more line fields part start i le lt plain e now inv all is after at =
     let p = map-append (λ (s : Bor (List ℕ)). s.now) fields (part ∷ []) in
     rw (is, at, p, append_assoc, now, ← n) inv
 
--- one more byte that is no space
+-- One more byte that is no space.
 still : (line : List ℕ) (start i : ℕ) → start ≤ i → ((k : ℕ) → start + k < i → get_or (drop start line) k 0 ≢ 32)
     → get_or line i 0 ≢ 32 → (k : ℕ) → start + k < i + 1 → get_or (drop start line) k 0 ≢ 32
 still line start i le plain here k h = elim (cases_lt (start + k) i) [

@@ -12,7 +12,7 @@ use Rattle.sm_wire.proofs.values.reference_fields.Goals as goal
 abbrev read : List (Bor (List ℕ)) → Option (List ObjRef)
 read fields = references_of (map (λ f. f.now) fields)
 
--- behind those that were read
+-- Behind those that were read.
 abbrev behind : List ObjRef → Option (List ObjRef) → Option (List ObjRef)
 behind list o = option_map (λ others. list ++ others) o
 
@@ -31,7 +31,7 @@ read_none : (x : Bor (List ℕ)) (xs : List (Bor (List ℕ))) → reference_of x
 unfolding references_of
 read_none x xs e = rw e refl
 
--- one more reference is read
+-- One more reference is read.
 more : (fields : List (Bor (List ℕ))) (i : ℕ) (d : Bor (List ℕ)) (list all : List ObjRef) (r : ObjRef) →
     i < length fields
     → reference_of (get_or fields i d).now ≡ Some r → all ≡ list ++ r ∷ [] →
@@ -43,7 +43,7 @@ more fields i d list all r l e is inv =
     let next = read_first list r (get_or fields i d) (drop (i + 1) fields) e in
     rw (inv, here, next, is) refl
 
--- what is no reference
+-- What is no reference.
 refused : (e : ReadError) (fields : List (Bor (List ℕ))) (i : ℕ) (d : Bor (List ℕ)) (list : List ObjRef)
     → i < length fields → Reads {A = ObjRef} (Err e) (reference_of (get_or fields i d).now)
     → read fields ≡ behind list (read (drop i fields))
@@ -56,7 +56,7 @@ refused Malformed fields i d list l none inv =
     rw whole refl
 refused Memory fields i d list l none inv = tt
 
--- all are read
+-- All are read.
 ends : (fields : List (Bor (List ℕ))) (i : ℕ) (list : List ObjRef) → length fields ≤ i
     → read fields ≡ behind list (read (drop i fields)) → read fields ≡ Some list
 unfolding references_of

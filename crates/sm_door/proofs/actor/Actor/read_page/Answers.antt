@@ -15,7 +15,7 @@ use Rattle.sm_door.proofs.actor.Actor.read_page.Goals as goal
 pub enter_as-requires : goal.enter_as-requires
 enter_as-requires g c x = enters g.J.Naming.opening (λ s. arc_value s.page) _ _ x
 
--- what it sees now is the page that it found
+-- What it sees now is the page that it found.
 pub invariant_of-self : goal.invariant_of-self
 invariant_of-self g c =
     let page = arc_value c.in-Ok.reading.part.value.page in

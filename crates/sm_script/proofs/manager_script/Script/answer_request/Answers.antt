@@ -12,7 +12,7 @@ use Rattle.sm_script.proofs.manager_script.Script.answer_request.Goals.{in-Hello
 use Rattle.sm_script.proofs.manager_script.Script.answer_request.Goals.{in-Change-None-default, in-Look, in-Reload}
 use Rattle.sm_script.proofs.manager_script.Script.answer_request.Goals.{in-Denials, in-Seal}
 
--- each request was judged, and its texts were added
+-- Each request was judged, and its texts were added.
 pub returns-clause-ok : goal.returns-clause-ok
 returns-clause-ok c = elim c.match-request.branch [
   | in-Hello w ↦ rw (w.result-is, w.replies-is, w.audit-is, w.self-inside-is, w.in-Hello.is, ← c.self.view_is)
@@ -46,12 +46,12 @@ returns-clause-ok c = elim c.match-request.branch [
       (seal_request w.answer_seal.result _ _ _ _ _ w.answer_seal.ensures.ok)
 ]
 
--- the same of equal parts
+-- The same of equal parts.
 carried : {T E : Type 0} (r r' : Result T E) (s s' m m' : Recorded) (q q' : Request) → r ≡ r' → s ≡ s' → m ≡ m'
     → q ≡ q' → OnErr r' (GaveUp AnswersItem s' (Asked q') m') → OnErr r (GaveUp AnswersItem s (Asked q) m)
 carried r r' s s' m m' q q' e f g h p = rw (e, f, g, h) p
 
--- each request was judged, and its texts were lost
+-- Each request was judged, and its texts were lost.
 pub returns-clause-err : goal.returns-clause-err
 returns-clause-err c =
     let old = recorded c.self.inside.manager in

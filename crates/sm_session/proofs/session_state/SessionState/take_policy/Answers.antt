@@ -8,7 +8,7 @@ use Rattle.sm_session.specs.Responses.{response_text}
 use Rattle.sm_session.proofs.SessionLemmas.{asked_once}
 use Rattle.sm_session.proofs.session_state.SessionState.take_policy.Goals as goal
 
--- the policy was put to the desk, and its answer's line was added
+-- The policy was put to the desk, and its answer's line was added.
 pub returns-clause-ok : goal.returns-clause-ok
 returns-clause-ok g c =
     on_ok_weaker c.push_response.result (λ added. (
@@ -19,7 +19,7 @@ returns-clause-ok g c =
     ))
     c.push_response.ensures
 
--- the policy was put to the desk, and its answer's line was lost
+-- The policy was put to the desk, and its answer's line was lost.
 pub returns-clause-err : goal.returns-clause-err
 returns-clause-err g c =
     on_err c.push_response.result (inr (

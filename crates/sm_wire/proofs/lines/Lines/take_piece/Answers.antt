@@ -3,7 +3,7 @@ use Rattle.std.specs.Result.{is_ok}
 use Rattle.sm_wire.proofs.FramingLemmas.{piece_later, piece_never}
 use Rattle.sm_wire.proofs.lines.Lines.take_piece.Goals as goal
 
--- an allocation that succeeded
+-- An allocation that succeeded.
 grown : {T E X P : Type 0} (r : Result T E) (new more old : X) → new ≡ (if is_ok r then more else old)
     → (new ≡ more → P) → OnOk r P
 grown (Ok t) new more old e f = f e
