@@ -81,7 +81,7 @@ fn show_sealed<J: Naming, R: Wait>(
 }
 
 impl<J: Naming> LockedManager<J> {
-    /// Makes the pair of a manager and a publisher, whose book the publisher shows.
+    /// Makes it of a manager and the publisher that shows the manager's book.
     pub(crate) fn new(alloc: Global, manager: Manager, publisher: Publisher<J>) -> LockedManager<J>
         requires { publisher ≡ manager.book }
         ensures book { result.book ≡ manager.book }
@@ -162,7 +162,7 @@ impl<J: Naming> LockedManager<J> {
         self.publisher.inform(rt, reader)
     }
 
-    /// Ends the publication. It waits for the readers that are inside.
+    /// Ends the publication. Waits for the readers that are inside.
     pub fn close<R: Wait>(self, rt: &R) {
         let LockedManager {
             alloc: _,
