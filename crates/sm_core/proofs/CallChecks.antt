@@ -10,9 +10,9 @@ use Rattle.sm_history.specs.Records.{Moment}
 use Rattle.sm_history.specs.declared.records.Record.{Record}
 use Rattle.sm_history.specs.declared.refusal.Refusal.TheVariants.{Failed}
 use Rattle.sm_history.specs.declared.refusal.Failure.TheVariants.{BadHandle, TargetFull}
-use Rattle.sm_history.specs.declared.stop.Stop.{Stop}
-use Rattle.sm_history.specs.declared.stop.Stop.TheVariants.{Unmet}
-use Rattle.sm_history.specs.declared.stop.Instead.TheVariants.{Refused}
+use Rattle.sm_history.specs.declared.failed_check.FailedCheck.{FailedCheck}
+use Rattle.sm_history.specs.declared.failed_check.FailedCheck.TheVariants.{Unmet}
+use Rattle.sm_history.specs.declared.failed_check.EarlyAnswer.TheVariants.{Refused}
 use Rattle.sm_history.specs.Effects.{Effects}
 use Rattle.sm_history.specs.Clients.{identity_at, is_live}
 use Rattle.sm_history.specs.Checks.{Check, Wants, calling}
@@ -29,13 +29,13 @@ use Rattle.sm_core.specs.Calling.{target_checks, room_check}
 use Rattle.sm_core.proofs.Stopping.{halts_first, halts_then, pass_both, pass_first}
 
 -- Checks are stopped at where what is left of them is.
-halts_alike : (m : Moment) (old mid new : List Record) (all xs : List Check) (s : Stop)
+halts_alike : (m : Moment) (old mid new : List Record) (all xs : List Check) (s : FailedCheck)
     → asked m old all ≡ asked m mid xs → Halts m mid new xs s → Halts m old new all s
 halts_alike m old mid new all xs s e (inl w) = inl w
 halts_alike m old mid new all xs s e (inr h) = inr (e ∙ h)
 
 -- A call is stopped where no rule lets the caller call the owner of the object, which lives.
-pub target_stops : (m : Moment) (old new : List Record) (d : Effects) (c : ℕ) (n : Node) (s : Stop)
+pub target_stops : (m : Moment) (old new : List Record) (d : Effects) (c : ℕ) (n : Node) (s : FailedCheck)
     → is_live d n.owner.0 ≡ true
     → Lacks m old new Binder calling (identity_at d c) (identity_at d n.owner.0).context None s
     → Halts m old new (target_checks d c (Some n)) s
@@ -44,7 +44,7 @@ target_stops m old new d c n s live (inr lacks) = inr (rw (live, lacks.0, lacks.
 
 -- The references from one on are stopped at that one.
 pub halts_left : (m : Moment) (old mid new : List Record) (d : Effects) (c k : ℕ) (refs left rest : List ObjRef)
-    (r : ObjRef) (s : Stop)
+    (r : ObjRef) (s : FailedCheck)
     → asked m old (all_pass_to_client d c k refs) ≡ asked m mid (all_pass_to_client d c k left) → left ≡ r ∷ rest
     → Halts m mid new (passes_to_client d c k r) s → Halts m old new (all_pass_to_client d c k refs) s
 halts_left m old mid new d c k refs left rest r s e is h =
@@ -107,7 +107,7 @@ checks_are d c handle n refs at =
     at)
 
 -- A call is stopped at its target, at one of its references, or at its receiver's room, or at no check.
-pub target_halts : (m : Moment) (old new : List Record) (d : Effects) (c handle : ℕ) (refs : List ObjRef) (s : Stop)
+pub target_halts : (m : Moment) (old new : List Record) (d : Effects) (c handle : ℕ) (refs : List ObjRef) (s : FailedCheck)
     → Halts m old new (target_checks d c (node_at d c handle)) s
     → Halts m old new (call_checks d c handle refs) s
 target_halts m old new d c handle refs s h =
@@ -116,7 +116,7 @@ target_halts m old new d c handle refs s h =
     (all_pass_to_client d c n.owner.0 refs ++ room_behind d c n refs) s h
 
 pub references_halt : (m : Moment) (old one new : List Record) (d : Effects) (c handle : ℕ) (n : Node)
-    (refs : List ObjRef) (s : Stop)
+    (refs : List ObjRef) (s : FailedCheck)
     → AllPass m old one (target_checks d c (node_at d c handle)) → node_at d c handle ≡ Some n
     → Halts m one new (all_pass_to_client d c n.owner.0 refs) s
     → Halts m old new (call_checks d c handle refs) s

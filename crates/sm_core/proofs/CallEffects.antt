@@ -13,7 +13,7 @@ use Rattle.sm_history.specs.declared.effect.Effect.{Effect}
 use Rattle.sm_history.specs.declared.effect.Effect.TheVariants.{Gives, Delivers}
 use Rattle.sm_history.specs.declared.event.Event.TheVariants.{Call}
 use Rattle.sm_history.specs.declared.outcome.Outcome.TheVariants.{Sent}
-use Rattle.sm_history.specs.declared.stop.Stop.{Stop}
+use Rattle.sm_history.specs.declared.failed_check.FailedCheck.{FailedCheck}
 use Rattle.sm_history.specs.declared.records.Record.{Record}
 use Rattle.sm_history.specs.Records.{Moment, moment_of}
 use Rattle.sm_history.specs.Effects.{Effects}
@@ -167,7 +167,7 @@ call_plan m d c handle n payload refs named plan at s live are room fits sends =
 
 -- After all checks, a call is as it was planned, or an allocation failed.
 pub call_judged : (h : History) (old one new : List Record) (c handle : ℕ) (n : Node) (payload : List ℕ)
-    (refs : List ObjRef) (named : List (Option Node)) (result : Result Plan Stop)
+    (refs : List ObjRef) (named : List (Option Node)) (result : Result Plan FailedCheck)
     → let d = effects_of h in let m = moment_of h in AllPass m old one (target_checks d c (node_at d c handle))
     → node_at d c handle ≡ Some n → Sound d → is_live d n.owner.0 ≡ true → AreNamed d c refs named
     → AllPass m one new (all_pass_to_client d c n.owner.0 refs)

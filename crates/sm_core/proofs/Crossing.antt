@@ -15,8 +15,8 @@ use Rattle.sm_history.specs.contracts.entry.Entry as Entry
 use Rattle.sm_history.specs.contracts.turn.TurnRow as TurnRow
 use Rattle.sm_names.specs.contracts.services.Services as Services
 use Rattle.sm_names.proofs.services.Services.TheSendSync as ServicesCross
-use Rattle.sm_core.specs.contracts.client.ClientRow as ClientRow
-use Rattle.sm_core.proofs.client.ClientRow.TheSendSync as ClientRowCrosses
+use Rattle.sm_core.specs.contracts.client.LiveClient as LiveClient
+use Rattle.sm_core.proofs.client.LiveClient.TheSendSync as ClientRowCrosses
 use Rattle.sm_core.proofs.process.Process.TheSendSync as ProcessCrosses
 use Rattle.sm_core.specs.contracts.turns.Turns as Turns
 use Rattle.sm_core.proofs.turns.Turns.TheSendSync as TurnsCross
@@ -50,11 +50,11 @@ turn_row_send = search sendable depth 20
 turn_row_sync : IsSync TurnRow.the_row
 turn_row_sync = search sendable depth 20
 
-pub client_send : IsSend ClientRow.the_row
-client_send = recorded_send _ _ _ ClientRow.the_type.to_one ClientRowCrosses.the_field_send
+pub client_send : IsSend LiveClient.the_row
+client_send = recorded_send _ _ _ LiveClient.the_type.to_one ClientRowCrosses.the_field_send
 
-client_sync : IsSync ClientRow.the_row
-client_sync = recorded_sync _ _ _ ClientRow.the_type.to_one ClientRowCrosses.the_field_sync
+client_sync : IsSync LiveClient.the_row
+client_sync = recorded_sync _ _ _ LiveClient.the_type.to_one ClientRowCrosses.the_field_sync
 
 turns_send : IsSend Turns.the_row
 turns_send = recorded_send _ _ _ Turns.the_type.to_one TurnsCross.the_field_send
@@ -66,13 +66,13 @@ principals_send : IsSend Principals.the_row
 principals_send =
     recorded_send _ _ _ Principals.the_type.to_one
     (struct_send (struct.shape Principals.the_type)
-    (ProcessCrosses.the_field_send, (prepared_send, (u64_send, (Vec-send ClientRow.the_row client_send, tt)))))
+    (ProcessCrosses.the_field_send, (prepared_send, (u64_send, (Vec-send LiveClient.the_row client_send, tt)))))
 
 principals_sync : IsSync Principals.the_row
 principals_sync =
     recorded_sync _ _ _ Principals.the_type.to_one
     (struct_sync (struct.shape Principals.the_type)
-    (ProcessCrosses.the_field_sync, (prepared_sync, (u64_sync, (Vec-sync ClientRow.the_row client_sync, tt)))))
+    (ProcessCrosses.the_field_sync, (prepared_sync, (u64_sync, (Vec-sync LiveClient.the_row client_sync, tt)))))
 
 turn_counts_send : IsSend TurnCounts.the_field.row
 turn_counts_send =

@@ -19,7 +19,7 @@ use Rattle.sm_names.proofs.names.Names.TheSendSync as Names
 use Rattle.sm_grants.proofs.grants.Grants.TheSendSync as Grants
 use Rattle.sm_inbox.proofs.inboxes.Inboxes.TheSendSync as Inboxes
 use Rattle.sm_audit.proofs.ring.Ring.TheSendSync as Ring
-use Rattle.sm_core.specs.contracts.client.ClientRow as ClientRow
+use Rattle.sm_core.specs.contracts.client.LiveClient as LiveClient
 use Rattle.sm_core.proofs.process.Process.TheSendSync as Process
 use Rattle.sm_core.proofs.turns.Turns.TheSendSync as Turns
 use Rattle.sm_history.specs.contracts.chunk.Chunk as Chunk
@@ -168,7 +168,7 @@ state_send =
           (
             u64_send,
             (
-              Vec-send ClientRow.the_row client_send,
+              Vec-send LiveClient.the_row client_send,
               (Names.the_field_send, (Grants.the_field_send, (Inboxes.the_field_send, tt))),
             ),
           ),

@@ -7,11 +7,11 @@ use Rattle.sm_history.specs.Effects.{Effects}
 use Rattle.sm_history.specs.Clients.{live_clients}
 use Rattle.sm_history.specs.Tables.{IsClient, IsRowFor, TracksClients, clients_of, row_of}
 use Rattle.sm_history.proofs.Balanced.{number_same}
-use Rattle.sm_core.specs.declared.client.ClientRow.{ClientRow}
+use Rattle.sm_core.specs.declared.client.LiveClient.{LiveClient}
 use Rattle.sm_core.specs.Tables.{client_row, client_rows}
 use Rattle.sm_core.specs.Listed.{AreListed, IsListed}
 
-listed_end : (d : Effects) (rs : List ClientRow) (ls : List Listed) (r : ClientRow) (l : Listed) → AreListed d rs ls
+listed_end : (d : Effects) (rs : List LiveClient) (ls : List Listed) (r : LiveClient) (l : Listed) → AreListed d rs ls
     → IsListed d r l → AreListed d (rs ++ r ∷ []) (ls ++ l ∷ [])
 listed_end d [] [] r l are is = (is, tt)
 listed_end d [] (x ∷ ls) r l are is = absurd are
@@ -19,12 +19,12 @@ listed_end d (x ∷ rs) [] r l are is = absurd are
 listed_end d (x ∷ rs) (y ∷ ls) r l are is = (are.0, listed_end d rs ls r l are.1 is)
 
 -- One more row was listed.
-pub listed_more : (d : Effects) (rows : List ClientRow) (i : ℕ) (row : ClientRow) (list list' : List Listed)
+pub listed_more : (d : Effects) (rows : List LiveClient) (i : ℕ) (row : LiveClient) (list list' : List Listed)
     (l : Listed) → row ≡ get_or rows i row → i < length rows → list' ≡ list ++ l ∷ []
     → AreListed d (take i rows) list → IsListed d row l → AreListed d (take (i + 1) rows) list'
 listed_more d rows i row list list' l at lt more are is =
     let taken : take (i + 1) rows ≡ take i rows ++ row ∷ [] =
-    take_more rows i row lt ∙ ap (λ (v : ClientRow). take i rows ++ v ∷ []) (sym at) in
+    take_more rows i row lt ∙ ap (λ (v : LiveClient). take i rows ++ v ∷ []) (sym at) in
     rw (taken, more) (listed_end d (take i rows) list row l are is)
 
 ids_listed : (d : Effects) (ks : List ℕ) (ls : List Listed) → AreListed d (map (client_row d) ks) ls
@@ -51,10 +51,10 @@ row_listed d (k ∷ ks) (l ∷ ls) are c =
       | false ↦ λ e. row_listed d ks ls are.1 c
     ] refl
 
-pub tracks_clients : (d : Effects) (rows : List ClientRow) (ls : List Listed) → rows ≡ client_rows d
+pub tracks_clients : (d : Effects) (rows : List LiveClient) (ls : List Listed) → rows ≡ client_rows d
     → AreListed d rows ls → TracksClients d ls
 tracks_clients d rows ls is are =
-    let listed : AreListed d (client_rows d) ls = subst (λ (rs : List ClientRow). AreListed d rs ls) is are in
+    let listed : AreListed d (client_rows d) ls = subst (λ (rs : List LiveClient). AreListed d rs ls) is are in
     record {
       ids = ids_listed d (live_clients d) ls listed;
       each = row_listed d (live_clients d) ls listed;

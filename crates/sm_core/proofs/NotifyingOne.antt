@@ -14,8 +14,8 @@ use Rattle.sm_policy.specs.Policy.{Policy, label_of}
 use Rattle.sm_history.specs.declared.delivery.Delivery.{Delivery}
 use Rattle.sm_history.specs.declared.delivery.Given.{Given}
 use Rattle.sm_history.specs.declared.delivery.Given.TheVariants.{Handle, Own}
-use Rattle.sm_history.specs.declared.stop.Stop.{Stop}
-use Rattle.sm_history.specs.declared.stop.Instead.TheVariants.{Refused}
+use Rattle.sm_history.specs.declared.failed_check.FailedCheck.{FailedCheck}
+use Rattle.sm_history.specs.declared.failed_check.EarlyAnswer.TheVariants.{Refused}
 use Rattle.sm_history.specs.declared.refusal.Refusal.TheVariants.{Failed}
 use Rattle.sm_history.specs.declared.refusal.Failure.TheVariants.{TargetFull}
 use Rattle.sm_history.specs.declared.notice.Reason.{Reason}
@@ -28,7 +28,7 @@ use Rattle.sm_history.specs.declared.effect.Watch.{Watch}
 use Rattle.sm_history.specs.Clients.{policy_at, is_live}
 use Rattle.sm_history.specs.Holdings.{number_for, handed, fits_handles, given_to}
 use Rattle.sm_history.specs.Inboxes.{inbox_at, has_inbox_room}
-use Rattle.sm_history.specs.Checks.{Check, Needs, Wants, holds, stop_of, first_failing, from_manager}
+use Rattle.sm_history.specs.Checks.{Check, Needs, Wants, holds, failed_check_of, first_failing, from_manager}
 use Rattle.sm_history.specs.Checks.{to_label, finding, calling, transferring}
 use Rattle.sm_history.specs.Following.{followed, MayAllApart}
 use Rattle.sm_history.specs.Notices.{notice_checks, first_missing, told_of, reason_of, registration, after_told}
@@ -142,7 +142,7 @@ is_handed d n xs c m live fits =
 passed : (p : Policy) (x : Check) (xs : List Check) → first_failing p (x ∷ xs) ≡ None
     → (holds p x ≡ true) × (first_failing p xs ≡ None)
 passed p x xs e =
-    elim (holds p x) as (λ b. (let o : Option Stop = if b then first_failing p xs else Some (stop_of x) in o) ≡ None →
+    elim (holds p x) as (λ b. (let o : Option FailedCheck = if b then first_failing p xs else Some (failed_check_of x) in o) ≡ None →
     (b ≡ true) × (first_failing p xs ≡ None)) [
       | true ↦ λ h. (refl, h)
       | false ↦ λ h. cc
@@ -218,7 +218,7 @@ tells h n w old new mid left g x t live is asks noted given told items counts =
     let before = t.may.before in
     let free : left ≡ free_at e c = is ∙ t.left c live in
     let found = sym (asked_is m old.records (told_checks d n w left)) ∙ asks in
-    let pass : first_failing p (told_checks d n w left) ≡ None = ap (λ (q : List Record × Option Stop). q.1) found in
+    let pass : first_failing p (told_checks d n w left) ≡ None = ap (λ (q : List Record × Option FailedCheck). q.1) found in
     let missing : first_missing e n w ≡ None = sym (missing_same d e n w left before live free) ∙ pass in
     let last = (passed p (Wants (nat_lt 0 left && fits_handles (handed d c n) c) (Refused (Failed TargetFull))) []
     (passed p (from_manager d c transferring)
@@ -247,7 +247,7 @@ tells h n w old new mid left g x t live is asks noted given told items counts =
     let taken = handing.may.before.sound.taken in (
       ap (λ (v : Delivery). IsTold v) said ∙ ap (told_of e n w) (sym missing),
       record {
-        records = noted ∙ sym (ap (λ (q : List Record × Option Stop). q.0) found)
+        records = noted ∙ sym (ap (λ (q : List Record × Option FailedCheck). q.0) found)
             ∙ ap (λ (xs : List Check). old.records ++ left_by_all m xs) (checks_same d e n w left before live free);
         notifications = record {
           may = subst (λ (v : List Effect). MayTell d n v) (sym items) (delivered_may d n ys c x handing.may live room);
@@ -269,7 +269,7 @@ tells h n w old new mid left g x t live is asks noted given told items counts =
     )
 
 -- A watcher isn't notified if a check fails.
-pub tells_not : (h : History) (n : Node) (w : Watch) (old new : Notifications) (left : ℕ) (s : Stop) (r : Reason)
+pub tells_not : (h : History) (n : Node) (w : Watch) (old new : Notifications) (left : ℕ) (s : FailedCheck) (r : Reason)
     → let d = effects_of h in new.effects ≡ old.effects → new.left ≡ old.left → AreNotifications d n old
     → is_live d w.client ≡ true → left ≡ left_at d old w.client
     → Halts (moment_of h) old.records new.records (told_checks d n w left) s → (s ≡ wanted → ⊥) → r ≡ reason_of s
@@ -282,12 +282,12 @@ tells_not h n w old new left s r same_effects same_left t live is (inr asks) oth
     let e = followed d old.effects.items in
     let free = is ∙ t.left w.client live in
     let found = sym (asked_is m old.records (told_checks d n w left)) ∙ asks in
-    let stops = ap (λ (q : List Record × Option Stop). q.1) found in
+    let stops = ap (λ (q : List Record × Option FailedCheck). q.1) found in
     let missing : first_missing e n w ≡ Some s =
     sym (missing_same d e n w left t.may.before live (is ∙ t.left w.client live)) ∙ stops in (
       ap (λ (v : Reason). NotTold v) why ∙ ap (told_of e n w) (sym missing),
       record {
-        records = sym (ap (λ (q : List Record × Option Stop). q.0) found)
+        records = sym (ap (λ (q : List Record × Option FailedCheck). q.0) found)
             ∙ ap (λ (xs : List Check). old.records ++ left_by_all m xs)
             (checks_same d e n w left t.may.before live free);
         notifications = record {

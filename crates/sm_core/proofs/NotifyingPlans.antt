@@ -13,7 +13,7 @@ use Rattle.sm_history.specs.declared.effect.Effect.{Effect}
 use Rattle.sm_history.specs.declared.effect.Effect.TheVariants.{Adds, Watches}
 use Rattle.sm_history.specs.declared.effect.Watch.{Watch}
 use Rattle.sm_history.specs.declared.service.Service.{Service}
-use Rattle.sm_history.specs.declared.stop.Stop.{Stop}
+use Rattle.sm_history.specs.declared.failed_check.FailedCheck.{FailedCheck}
 use Rattle.sm_history.specs.declared.limits.TheConstants.{MOST_WATCHES}
 use Rattle.sm_history.specs.Effects.{Effects}
 use Rattle.sm_history.specs.Clients.{is_live}
@@ -73,7 +73,7 @@ precede_watches d n xs w s live few is = subst (MayPrecede d n) (sym is) (record
 })
 
 -- A plan that is made, or a failed allocation, is a judgement if the checks hold.
-judged : (m : Moment) (old new : List Record) (d : Effects) (c : ℕ) (event : Event) (r : Result Plan Stop)
+judged : (m : Moment) (old new : List Record) (d : Effects) (c : ℕ) (event : Event) (r : Result Plan FailedCheck)
     (P : Plan → Type 0) (checks : List Check)
     → AllPass m old new checks → ((plan : Plan) → P plan → IsPlan m d c event plan)
     → MatchResult r P (λ s. s ≡ wanted)
@@ -82,7 +82,7 @@ judged m old new d c event (Ok plan) P checks pass is h = (pass, is plan h)
 judged m old new d c event (Err s) P checks pass is h = inl h
 
 pub add_judged : (h : History) (old new : List Record) (c : ℕ) (name copy : List ℕ) (obj : ObjRef) (allow : Bool)
-    (dump : ℕ) (object : Option Node) (n : Node) (xs : List Effect) (r : Result Plan Stop)
+    (dump : ℕ) (object : Option Node) (n : Node) (xs : List Effect) (r : Result Plan FailedCheck)
     → let d = effects_of h in AllPass (moment_of h) old new (add_checks d c name obj) → object ≡ resolve_at d c obj
     → object ≡ Some n
     → copy ≡ name → xs ≡ Adds copy (service c n allow dump) ∷ []
@@ -108,7 +108,7 @@ add_judged h old new c name copy obj allow dump object n xs r pass is some same 
     made
 
 pub watch_judged : (h : History) (old new : List Record) (c : ℕ) (name : List ℕ) (object : ℕ) (s : Service)
-    (w v : Watch) (xs : List Effect) (r : Result Plan Stop)
+    (w v : Watch) (xs : List Effect) (r : Result Plan FailedCheck)
     → let d = effects_of h in AllPass (moment_of h) old new (watch_checks d c name) → Some s ≡ service_at d name
     → w ≡ watch c name object → v ≡ watch c name object → xs ≡ Watches v ∷ []
     → MatchResult r (λ plan. (plan.outcome ≡ Watched (Some (notice_at (followed d xs) s.node w)))

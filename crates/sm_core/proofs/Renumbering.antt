@@ -6,7 +6,7 @@ use Rattle.sm_history.specs.Effects.{Effects}
 use Rattle.sm_history.specs.declared.effect.Effect.TheVariants.{Sets}
 use Rattle.sm_history.specs.Clients.{live_clients}
 use Rattle.sm_core.specs.Tables.{process_under, row_under, client_row, client_rows}
-use Rattle.sm_core.specs.declared.client.ClientRow.{ClientRow}
+use Rattle.sm_core.specs.declared.client.LiveClient.{LiveClient}
 use Rattle.sm_core.specs.declared.process.Process.{Process}
 
 abbrev pub mapped_to : {X : Type 0} → (X → X) → List X → ℕ → List X
@@ -34,13 +34,13 @@ pub all_mapped : {X : Type 0} (f : X → X) (xs : List X) → mapped_to f xs (le
 all_mapped f [] = refl
 all_mapped f (x ∷ xs) = ap (λ ys. f x ∷ ys) (all_mapped f xs)
 
-pub one_row : (p : Policy) (rows now : List ClientRow) (i : ℕ) (d : ClientRow) (process : Process)
+pub one_row : (p : Policy) (rows now : List LiveClient) (i : ℕ) (d : LiveClient) (process : Process)
     → now ≡ mapped_to (row_under p) rows i → process ≡ process_under p (get_or now i d).process.who
     → set now i (record { id = (get_or now i d).id; process = process }) ≡ mapped_to (row_under p) rows (i + 1)
 one_row p rows now i d process so is =
     one_mapped (row_under p) rows now i d (record { id = (get_or now i d).id; process = process }) so (rw is refl)
 
 -- What another policy does to the rows of clients.
-pub clients_sets : (d : Effects) (p : Policy) {rows : List ClientRow} → rows ≡ client_rows d
+pub clients_sets : (d : Effects) (p : Policy) {rows : List LiveClient} → rows ≡ client_rows d
     → map (row_under p) rows ≡ client_rows (Sets p ∷ d)
 clients_sets d p e = ap (map (row_under p)) e ∙ map-map (row_under p) (client_row d) (live_clients d)

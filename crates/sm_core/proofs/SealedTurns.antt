@@ -30,25 +30,25 @@ use Rattle.sm_history.proofs.Later.{sealed_turn}
 use Rattle.sm_history.proofs.Living.{any_live}
 use Rattle.sm_history.proofs.SegmentReads.{any_client}
 use Rattle.sm_history.proofs.TurnRows.{turn_rows}
-use Rattle.sm_core.specs.declared.client.ClientRow.{ClientRow}
+use Rattle.sm_core.specs.declared.client.LiveClient.{LiveClient}
 use Rattle.sm_core.specs.declared.turns.Turns.{Turns}
 use Rattle.sm_core.specs.Counting.{admin_of, admins_in, client_of, made, made_sealed, row_for}
 use Rattle.sm_core.specs.Tables.{client_row, client_rows}
 
-abbrev pub ids : List ClientRow → List ℕ
-ids rows = map (λ (r : ClientRow). r.id) rows
+abbrev pub ids : List LiveClient → List ℕ
+ids rows = map (λ (r : LiveClient). r.id) rows
 
 more_any : (b : Bool) → (b || false) ≡ b
 more_any true = refl
 more_any false = refl
 
 -- One more row was gone through.
-pub any_more : (rows : List ClientRow) (i c : ℕ) (row : ClientRow) → row ≡ get_or rows i row → i < length rows
+pub any_more : (rows : List LiveClient) (i c : ℕ) (row : LiveClient) → row ≡ get_or rows i row → i < length rows
     → list_any (λ k. k == c) (ids (take (i + 1) rows)) ≡ list_any (λ k. k == c) (ids (take i rows)) || (row.id == c)
 any_more rows i c row is lt =
-    ap (λ (v : List ClientRow). list_any (λ k. k == c) (ids v)) (take_more rows i row lt)
-    ∙ ap (λ (v : ClientRow). list_any (λ k. k == c) (ids (take i rows ++ v ∷ []))) (sym is)
-    ∙ ap (list_any (λ k. k == c)) (map-append (λ (r : ClientRow). r.id) (take i rows) (row ∷ []))
+    ap (λ (v : List LiveClient). list_any (λ k. k == c) (ids v)) (take_more rows i row lt)
+    ∙ ap (λ (v : LiveClient). list_any (λ k. k == c) (ids (take i rows ++ v ∷ []))) (sym is)
+    ∙ ap (list_any (λ k. k == c)) (map-append (λ (r : LiveClient). r.id) (take i rows) (row ∷ []))
     ∙ list_any-append (λ k. k == c) (ids (take i rows)) (row.id ∷ [])
     ∙ ap (λ (b : Bool). list_any (λ k. k == c) (ids (take i rows)) || b) (more_any (row.id == c))
 
@@ -135,7 +135,7 @@ dead_turn h c dead =
     ∙ ap (λ (b : Bool). let n : ℕ = if b then turn_of h (Client c) else 0 in n) none in
     omega (arith, rows)
 
-pub turns_sealed : (h : History) (t t' : Turns) (rows : List ClientRow) (next : ℕ) → Sound (effects_of h)
+pub turns_sealed : (h : History) (t t' : Turns) (rows : List LiveClient) (next : ℕ) → Sound (effects_of h)
     → ((by : By) → made t by ≡ turn_of h by) → rows ≡ client_rows (effects_of h) → next ≡ next_client (effects_of h)
     → ((by : By) → made t' by ≡ made_sealed (ids rows) next t by) → (by : By) → made t' by ≡ turn_of (sealed h) by
 turns_sealed h t t' rows next s are er en is Manager = is Manager ∙ are Manager ∙ sym (sealed_turn h Manager refl)
@@ -144,7 +144,7 @@ turns_sealed h t t' rows next s are er en is (Admin a) = is (Admin a) ∙ are (A
 turns_sealed h t t' rows next s are er en is (Client c) =
     let d = effects_of h in
     let live : list_any (λ k. k == c.0) (ids rows) ≡ is_live d c.0 =
-    ap (λ (rs : List ClientRow). list_any (λ k. k == c.0) (ids rs)) er
+    ap (λ (rs : List LiveClient). list_any (λ k. k == c.0) (ids rs)) er
     ∙ ap (list_any (λ k. k == c.0)) (ids_are d (live_clients d)) ∙ any_live d c.0 in
     is (Client c)
     ∙ elim (is_live d c.0) as (λ b. is_live d c.0 ≡ b → made_sealed (ids rows) next t (Client c)
@@ -252,12 +252,12 @@ same_rows h t (b ∷ bys) are =
     ap (λ (n : ℕ). (let r : TurnRow = record { by = b; turns = n } in r) ∷ map (row_for t) bys) (are b)
     ∙ ap (λ (rs : List TurnRow). turn_row h b ∷ rs) (same_rows h t bys are)
 
-pub actor_rows : (h : History) (t : Turns) (rows : List ClientRow) → ((by : By) → made t by ≡ turn_of h by)
+pub actor_rows : (h : History) (t : Turns) (rows : List LiveClient) → ((by : By) → made t by ≡ turn_of h by)
     → admins_in t ≡ admins_of h → rows ≡ client_rows (effects_of h)
     → map (row_for t) (Manager ∷ map client_of (ids rows) ++ admins_in t) ≡ map (turn_row h) (actors_of h)
 actor_rows h t rows are admins is =
     ap (λ (bys : List By). map (row_for t) (Manager ∷ map client_of (ids rows) ++ bys)) admins
-    ∙ ap (λ (rs : List ClientRow). map (row_for t) (Manager ∷ map client_of (ids rs) ++ admins_of h)) is
+    ∙ ap (λ (rs : List LiveClient). map (row_for t) (Manager ∷ map client_of (ids rs) ++ admins_of h)) is
     ∙ ap (λ (ks : List ℕ). map (row_for t) (Manager ∷ map client_of ks ++ admins_of h))
     (ids_are (effects_of h) (live_clients (effects_of h)))
     ∙ same_rows h t (actors_of h) are

@@ -26,7 +26,7 @@ use Rattle.sm_names.specs.Rows.{TracksRows as TracksServices}
 use Rattle.sm_names.specs.Tracking.{TracksNames}
 use Rattle.sm_inbox.specs.declared.inboxes.Inboxes.{Inboxes}
 use Rattle.sm_inbox.specs.Tracking.{TracksInboxes}
-use Rattle.sm_core.specs.declared.client.ClientRow.{ClientRow}
+use Rattle.sm_core.specs.declared.client.LiveClient.{LiveClient}
 use Rattle.sm_core.specs.declared.principals.Principals.{Principals}
 use Rattle.sm_core.specs.declared.process.Process.{Process}
 use Rattle.sm_core.specs.declared.state.State.{State}
@@ -88,23 +88,23 @@ inboxes_alike d e t a s tr = record { taken = s.taken; queues = λ c. tr.queues 
 process_alike : (d e : Effects) (who : Identity) → Agree d e → process_at d who ≡ process_at e who
 process_alike d e who a = ap (λ (p : Policy). process_under p who) a.policy
 
-map_filtered : (p : ℕ → Bool) (f g : ℕ → ClientRow) (ks : List ℕ) → ((k : ℕ) → p k ≡ true → f k ≡ g k)
+map_filtered : (p : ℕ → Bool) (f g : ℕ → LiveClient) (ks : List ℕ) → ((k : ℕ) → p k ≡ true → f k ≡ g k)
     → map f (filter p ks) ≡ map g (filter p ks)
 map_filtered p f g [] same = refl
 map_filtered p f g (k ∷ ks) same =
     let rest = map_filtered p f g ks same in
     elim (p k) as (λ b. p k ≡ b → map f (if b then k ∷ filter p ks else filter p ks)
     ≡ map g (if b then k ∷ filter p ks else filter p ks)) [
-      | true ↦ λ e. ap (λ (r : ClientRow). r ∷ map f (filter p ks)) (same k e)
-          ∙ ap (λ (rs : List ClientRow). g k ∷ rs) rest
+      | true ↦ λ e. ap (λ (r : LiveClient). r ∷ map f (filter p ks)) (same k e)
+          ∙ ap (λ (rs : List LiveClient). g k ∷ rs) rest
       | false ↦ λ e. rest
     ] refl
 
 rows_alike : (d e : Effects) → Agree d e → client_rows d ≡ client_rows e
 rows_alike d e a =
     map_filtered (is_live d) (client_row d) (client_row e) (reverse (filter_map connected d)) (λ k live.
-    ap (λ (who : Identity). let r : ClientRow = record { id = k; process = process_at d who } in r) (a.who k live)
-    ∙ ap (λ (p : Process). let r : ClientRow = record { id = k; process = p } in r)
+    ap (λ (who : Identity). let r : LiveClient = record { id = k; process = process_at d who } in r) (a.who k live)
+    ∙ ap (λ (p : Process). let r : LiveClient = record { id = k; process = p } in r)
     (process_alike d e (identity_at e k) a))
     ∙ ap (map (client_row e)) a.live_list
 

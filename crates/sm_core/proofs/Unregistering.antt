@@ -8,8 +8,8 @@ use Rattle.sm_history.specs.Records.{Moment}
 use Rattle.sm_history.specs.declared.records.Record.{Record}
 use Rattle.sm_history.specs.declared.event.Event.TheVariants.{Unregister}
 use Rattle.sm_history.specs.declared.effect.Effect.TheVariants.{Removes}
-use Rattle.sm_history.specs.declared.stop.Stop.{Stop}
-use Rattle.sm_history.specs.declared.stop.Instead.TheVariants.{Refused}
+use Rattle.sm_history.specs.declared.failed_check.FailedCheck.{FailedCheck}
+use Rattle.sm_history.specs.declared.failed_check.EarlyAnswer.TheVariants.{Refused}
 use Rattle.sm_history.specs.declared.refusal.Refusal.TheVariants.{Failed, Exception}
 use Rattle.sm_history.specs.declared.refusal.Failure.TheVariants.{BadHandle}
 use Rattle.sm_history.specs.declared.refusal.Exception.TheVariants.{NullBinder, NotRegistered, NotAdder}
@@ -47,7 +47,7 @@ removing_is m old new d c name (HandleRef r) pass =
     rw (passed_some m old new (node_at d c r) (Refused (Failed BadHandle)) (to_manager d c transferring ∷ []) pass) refl
 
 pub removal_halts : (m : Moment) (old one two new : List Record) (d : Effects) (c : ℕ) (name : List ℕ) (obj : ObjRef)
-    (object : Option Node) (s : Stop)
+    (object : Option Node) (s : FailedCheck)
     → AllPass m old one (to_manager d c calling ∷ [])
     → AllPass m one two (passes_to_manager d c obj) → object ≡ resolve_at d c obj
     → Halts m two new (removal_checks d c name object) s → Halts m old new (unregister_checks d c name obj) s

@@ -8,7 +8,7 @@ use Rattle.sm_history.specs.declared.effect.Effect.TheVariants.{Gives, Delivers}
 use Rattle.sm_history.specs.declared.outcome.Outcome.TheVariants.{Sent}
 use Rattle.sm_history.specs.declared.refusal.Refusal.TheVariants.{Failed, Dead}
 use Rattle.sm_history.specs.declared.refusal.Failure.TheVariants.{BadHandle, TargetFull}
-use Rattle.sm_history.specs.declared.stop.Instead.TheVariants.{Refused}
+use Rattle.sm_history.specs.declared.failed_check.EarlyAnswer.TheVariants.{Refused}
 use Rattle.sm_history.specs.Effects.{Effects}
 use Rattle.sm_history.specs.Clients.{identity_at}
 use Rattle.sm_history.specs.Checks.{Check, Wants, to_client, calling, transferring}

@@ -1,12 +1,12 @@
 //! Actors that may act.
 
-use crate::client::ClientRow;
+use crate::client::LiveClient;
 use sm_kinds::AdminId;
 
 /// An actor that may act. A client comes with its row.
 #[derive(Clone, Copy)]
 pub enum Caller<'a> {
     Manager,
-    Client(&'a ClientRow),
+    Client(&'a LiveClient),
     Admin(AdminId),
 }

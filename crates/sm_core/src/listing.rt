@@ -8,7 +8,7 @@ ghost use Rattle.sm_inbox.specs.Tracking.{TracksInboxes};
 ghost use Rattle.sm_core.specs.Listed.{AreListed, IsListed};
 ghost use Rattle.sm_core.specs.Stands.{Stands};
 
-use crate::client::ClientRow;
+use crate::client::LiveClient;
 use crate::state::State;
 use sm_grants::Grants;
 use sm_history::{ClientRow as Listed, Tables};
@@ -20,7 +20,7 @@ fn listed_client(
     alloc: Global,
     grants: &Grants,
     inboxes: &Inboxes,
-    row: &ClientRow,
+    row: &LiveClient,
 ) -> Result<Listed, AllocError>
     ensures { IfOk result
         (λ l. (d : Effects) → Tracks d grants.now → TracksInboxes d inboxes.now → IsListed d row.now l) }
@@ -41,7 +41,7 @@ fn listed_clients(
     alloc: Global,
     grants: &Grants,
     inboxes: &Inboxes,
-    rows: &[ClientRow],
+    rows: &[LiveClient],
 ) -> Result<Vec<Listed>, AllocError>
     ensures { IfOk result (λ v. (d : Effects) → Tracks d grants.now → TracksInboxes d inboxes.now
         → AreListed d rows.now v.items) }

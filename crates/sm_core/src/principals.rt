@@ -26,7 +26,7 @@ ghost use Rattle.sm_core.specs.Tables.{client_row, process_at};
 ghost use Rattle.sm_core.specs.Viewing as spec;
 ghost use Rattle.sm_core.specs.Viewing.{StandPrincipals};
 
-use crate::client::{ClientRow, copies_of, drop_client, renumber, row_of};
+use crate::client::{LiveClient, copies_of, drop_client, renumber, row_of};
 use crate::manager::looking::may_ask;
 use crate::manager::replying::denial;
 use crate::process::Process;
@@ -43,7 +43,7 @@ pub struct Principals {
     pub manager: Process,
     pub policy: Prepared,
     pub version: u64,
-    pub clients: Vec<ClientRow>,
+    pub clients: Vec<LiveClient>,
 }
 
 /// Returns whether an effect changes the processes or the policy.
@@ -127,7 +127,7 @@ impl Principals {
             Effect::Connects { client, who } => {
                 let process = Process::new(who.clone()?, &self.policy);
                 let id = *client;
-                self.clients.push(ClientRow { id, process })?;
+                self.clients.push(LiveClient { id, process })?;
             }
             Effect::Dies { client } => {
                 drop_client(&mut self.clients, *client);
@@ -138,7 +138,7 @@ impl Principals {
     }
 
     /// Returns the row of a live client.
-    pub fn client(&self, id: u32) -> Option<&ClientRow>
+    pub fn client(&self, id: u32) -> Option<&LiveClient>
         ensures { (d : Effects) → StandPrincipals d self.now → MatchOption result (is_live d id ≡ false)
             (λ r. (is_live d id ≡ true) × (r.now ≡ client_row d id)) }
     {

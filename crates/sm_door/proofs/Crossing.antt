@@ -16,7 +16,7 @@ use Rattle.std.specs.contracts.option.Option as Option
 use Rattle.std.specs.contracts.sync.Arc as Arc
 use Rattle.left_right.specs.contracts.reader.Reader as Reader
 use Rattle.left_right.specs.contracts.writer.Writer as Writer
-use Rattle.sm_door.specs.contracts.page.Page as Page
+use Rattle.sm_door.specs.contracts.shared_view.SharedView as SharedView
 use Rattle.sm_door.specs.contracts.published.Published as Published
 use Rattle.sm_door.specs.contracts.published.ReaderKnowledge as ReaderKnowledge
 use Rattle.sm_door.specs.contracts.published.OneHistory as OneHistory
@@ -39,10 +39,10 @@ module _ (T : RattleType) (g : Ghosts T.Denot) where
   abbrev pub writer_row : RattleType
   writer_row =
       let shown = Published.the_row T g in
-      let page = Arc.the_row (Page.the_row T g) Global.the_row Heap.ghosts in
+      let shared_view = Arc.the_row (SharedView.the_row T g) Global.the_row Heap.ghosts in
       let absorbs = Absorb.ghosts T g Absorb.no_dict in
       let rule = Rule.ghosts T g Rule.no_dict in
-      Writer.the_row shown page ReaderKnowledge.the_row (OneHistory.the_row T) Global.the_row View.the_row
+      Writer.the_row shown shared_view ReaderKnowledge.the_row (OneHistory.the_row T) Global.the_row View.the_row
       absorbs rule Heap.ghosts
 
   option_send : (R : RattleType) → IsSend R → IsSend (Option.the_field R).row
@@ -66,31 +66,31 @@ module _ (T : RattleType) (g : Ghosts T.Denot) where
   pub actor_send : IsSend reader_row → IsSend (Actor.the_row T g)
   actor_send r = view_send (ActorInside.the_row T g) _ _ _ _ (inside_send r)
 
-  abbrev pub page_row : RattleType
-  page_row = Arc.the_row (Page.the_row T g) Global.the_row Heap.ghosts
+  abbrev pub shared_view_row : RattleType
+  shared_view_row = Arc.the_row (SharedView.the_row T g) Global.the_row Heap.ghosts
 
-  publisher_inside_send : IsSend (Registry.the_field T g).row → IsSend page_row → IsSend writer_row
+  publisher_inside_send : IsSend (Registry.the_field T g).row → IsSend shared_view_row → IsSend writer_row
       → IsSend (PublisherInside.the_row T (Absorb.ghosts T g Absorb.no_dict) g)
-  publisher_inside_send registry page w =
+  publisher_inside_send registry shared_view w =
       let D = PublisherInside.the_type T (Absorb.ghosts T g Absorb.no_dict) g in
       recorded_send _ _ _ D.to_one
-      (struct_send (struct.shape D) (global_send, (registry, (page, (option_send writer_row w, tt)))))
+      (struct_send (struct.shape D) (global_send, (registry, (shared_view, (option_send writer_row w, tt)))))
 
-  publisher_send : IsSend (Registry.the_field T g).row → IsSend page_row → IsSend writer_row
+  publisher_send : IsSend (Registry.the_field T g).row → IsSend shared_view_row → IsSend writer_row
       → IsSend (Publisher.the_row T (Absorb.ghosts T g Absorb.no_dict) g)
-  publisher_send registry page w =
-      let inside = publisher_inside_send registry page w in
+  publisher_send registry shared_view w =
+      let inside = publisher_inside_send registry shared_view w in
       view_send (PublisherInside.the_row T (Absorb.ghosts T g Absorb.no_dict) g) _ _ _ _ inside
 
-  locked_inside_send : IsSend (Manager.the_field).row → IsSend (Registry.the_field T g).row → IsSend page_row
+  locked_inside_send : IsSend (Manager.the_field).row → IsSend (Registry.the_field T g).row → IsSend shared_view_row
       → IsSend writer_row → IsSend (LockedInside.the_row T g (Absorb.ghosts T g Absorb.no_dict))
-  locked_inside_send manager registry page w =
+  locked_inside_send manager registry shared_view w =
       let D = LockedInside.the_type T g (Absorb.ghosts T g Absorb.no_dict) in
       recorded_send _ _ _ D.to_one
-      (struct_send (struct.shape D) (global_send, (manager, (publisher_send registry page w, tt))))
+      (struct_send (struct.shape D) (global_send, (manager, (publisher_send registry shared_view w, tt))))
 
-  pub locked_send : IsSend (Manager.the_field).row → IsSend (Registry.the_field T g).row → IsSend page_row
+  pub locked_send : IsSend (Manager.the_field).row → IsSend (Registry.the_field T g).row → IsSend shared_view_row
       → IsSend writer_row → IsSend (LockedManager.the_row T g (Absorb.ghosts T g Absorb.no_dict))
-  locked_send manager registry page w =
-      let inside = locked_inside_send manager registry page w in
+  locked_send manager registry shared_view w =
+      let inside = locked_inside_send manager registry shared_view w in
       view_send (LockedInside.the_row T g (Absorb.ghosts T g Absorb.no_dict)) _ _ _ _ inside

@@ -77,7 +77,7 @@ pub fold_last : {S O : Type 0} (f : S → O → S) (s : S) (xs : List O) (o : O)
 fold_last f s [] o = refl
 fold_last f s (x ∷ xs) o = fold_last f (f s x) xs o
 
--- After any whole pages, the last one is shown.
+-- After any whole shared views, the last one is shown.
 pub last_shown : {O : Type 0} (value : O → Book) (s : Book) (xs ys : List O) (o : O) (b : Book)
     → xs ≡ ys ++ o ∷ [] → b ≡ fold (λ (_ : Book) (x : O). value x) s xs → b ≡ value o
 last_shown {O = O} value s xs ys o b is all =

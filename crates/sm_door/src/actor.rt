@@ -87,12 +87,12 @@ impl<J: Naming> Actor<J> {
         }
     }
 
-    /// Answers a query from the published page. Never blocks. `NoSeat` if no entry was free; the token is then
+    /// Answers a query from the published shared view. Never blocks. `NoSeat` if no entry was free; the token is then
     /// unchanged.
     pub fn read(&mut self, query: Query) -> Reply
         ensures { Read self.old self.new query result }
     {
-        match self.read_page(query) {
+        match self.read_view(query) {
             Some((reply, _records)) => reply,
             None => Reply::Refused(Refusal::NoSeat),
         }
@@ -102,21 +102,21 @@ impl<J: Naming> Actor<J> {
     pub fn read_recorded(&mut self, query: Query) -> (Reply, Vec<Record>)
         ensures { ReadLogged self.old self.new query result.0 result.1.items }
     {
-        match self.read_page(query) {
+        match self.read_view(query) {
             Some(answered) => answered,
             None => (Reply::Refused(Refusal::NoSeat), Vec::new(self.alloc)),
         }
     }
 
-    /// Returns the answer of the published page, with the query's records, or `None` if no entry was free.
-    fn read_page(&mut self, query: Query) -> Option<(Reply, Vec<Record>)>
+    /// Returns the answer of the published shared view, with the query's records, or `None` if no entry was free.
+    fn read_view(&mut self, query: Query) -> Option<(Reply, Vec<Record>)>
         ensures { MatchOption result (self.new ≡ self.old) (λ r. ReadFrom self.old self.new query r.0 r.1.items) }
     {
         match self.reader.take().unwrap().enter_as::<Sees>() {
             Ok(reading) => {
-                let page = &reading.get().page;
-                let answered = page.look_recorded(self.by, query);
-                self.turn = page.turn(self.by);
+                let shared_view = &reading.get().shared_view;
+                let answered = shared_view.look_recorded(self.by, query);
+                self.turn = shared_view.turn(self.by);
                 self.reader = Some(reading.leave());
                 Some(answered)
             }

@@ -26,11 +26,11 @@ use crate::actor::Actor;
 use crate::admin::Admin;
 use crate::locked_manager::LockedManager;
 use crate::opening::{tokens_of, writer_of};
-use crate::page::Page;
 use crate::published::Published;
 use crate::publisher::Publisher;
 use crate::seat::Seat;
 use crate::session::Session;
+use crate::shared_view::SharedView;
 use crate::token::Token;
 use left_right::Absorb;
 use sm_core::{Manager, View};
@@ -45,7 +45,7 @@ use std::sync::{Arc, Mutex, MutexGuard, Wait};
 /// The manager behind one lock. A door isn't dropped: its owner ends it by `close`.
 pub struct Door<J: Naming, G: Gate>
 where
-    Published<J>: Absorb<Arc<Page<J>>, State = View>,
+    Published<J>: Absorb<Arc<SharedView<J>>, State = View>,
 {
     locked: Mutex<LockedManager<J>>,
     gate: G,
@@ -83,15 +83,15 @@ impl<J: Naming, G: Gate + Drop> Door<J, G> {
         let Ok(view) = manager.view() else {
             return Err(Refusal::Memory);
         };
-        let Ok(page) = Page::new(rt, alloc, &mut registry, view) else {
+        let Ok(shared_view) = SharedView::new(rt, alloc, &mut registry, view) else {
             return Err(Refusal::Memory);
         };
-        let Ok(writer) = writer_of(alloc, &page) else {
+        let Ok(writer) = writer_of(alloc, &shared_view) else {
             return Err(Refusal::Memory);
         };
         match tokens_of(alloc, &manager, &writer) {
             Ok((seats, admins)) => {
-                let publisher = Publisher::new(alloc, registry, page, writer);
+                let publisher = Publisher::new(alloc, registry, shared_view, writer);
                 let locked = Mutex::new(LockedManager::new(alloc, manager, publisher));
                 Ok((Door { locked, gate }, seats, admins))
             }

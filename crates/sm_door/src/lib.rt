@@ -1,8 +1,8 @@
 //! The door: one manager for many threads, behind one lock, with a published view that is read without it.
 //!
 //! Changes go through the lock, one at a time (`Door::submit`, `connect`, `leave`, `install`). Each change that is
-//! accepted is published as a whole **page**, a view of the manager, before it is kept, and what can't be published
-//! isn't kept. Reads take the page that is published at that moment, and wait for nobody (`Door::list`, `version`,
+//! accepted is published as a whole **shared view**, a view of the manager, before it is kept, and what can't be published
+//! isn't kept. Reads take the shared view that is published at that moment, and wait for nobody (`Door::list`, `version`,
 //! `explain`).
 //!
 //! Callers hold tokens (`Seat`, `Session`, `Admin`), none of which can be copied. Contracts see a token as what it
@@ -16,12 +16,12 @@ mod admin;
 mod door;
 mod locked_manager;
 mod opening;
-mod page;
 mod published;
 mod publisher;
 mod seat;
 mod seat_or_session;
 mod session;
+mod shared_view;
 mod token;
 
 pub use actor::Actor;
@@ -29,11 +29,11 @@ pub use admin::Admin;
 pub use door::Door;
 pub use locked_manager::LockedManager;
 pub use opening::ADMINS;
-pub use page::Page;
 pub use published::{OneHistory, Published, ReaderKnowledge, ViewReader, ViewWriter};
 pub use publisher::Publisher;
 pub use seat::Seat;
 pub use seat_or_session::SeatOrSession;
 pub use session::Session;
+pub use shared_view::SharedView;
 pub use sm_view::Gate;
 pub use token::Token;

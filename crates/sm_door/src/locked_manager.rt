@@ -12,9 +12,9 @@ ghost use Rattle.sm_history.specs.Records.{IsTrueSince};
 ghost use Rattle.sm_view.specs.Begins.{Begins, IsLawfulBook, extended, sealed_book};
 ghost use Rattle.sm_view.specs.Steps.{Steps, Seals, StaysOpen};
 
-use crate::page::Page;
 use crate::published::{Published, ViewReader};
 use crate::publisher::Publisher;
+use crate::shared_view::SharedView;
 use left_right::Absorb;
 use sm_core::{Manager, Ready, ReadySeal, View};
 use sm_history::{By, Event, Record, Refusal, Reply, Segment};
@@ -27,7 +27,7 @@ use std::sync::{Arc, Wait};
 /// with its slots, and the newest audit records.
 pub struct LockedManager<J: Naming>
 where
-    Published<J>: Absorb<Arc<Page<J>>, State = View>,
+    Published<J>: Absorb<Arc<SharedView<J>>, State = View>,
 {
     alloc: Global,
     manager: Manager,
@@ -36,7 +36,7 @@ where
 
 impl<J: Naming> Model for LockedManager<J>
 where
-    Published<J>: Absorb<Arc<Page<J>>, State = View>,
+    Published<J>: Absorb<Arc<SharedView<J>>, State = View>,
 {
     ghost use Rattle.std.specs.Prelude.{◌≡◌};
     ghost use Rattle.sm_door.specs.Locked.{Locked};

@@ -11,9 +11,9 @@ ghost use Rattle.sm_door.specs.Opening.{new_seats, new_admins};
 
 use crate::actor::Actor;
 use crate::admin::Admin;
-use crate::page::Page;
 use crate::published::{Published, ViewWriter};
 use crate::seat::Seat;
+use crate::shared_view::SharedView;
 use sm_core::Manager;
 use sm_history::{By, MOST_CLIENTS, Refusal};
 use sm_kinds::AdminId;
@@ -27,20 +27,22 @@ pub const ADMINS: u32 = 4;
 /// The number of reader slots: one for each client and administrator.
 const PLACES: usize = 68;
 
-/// Makes the writer of a door whose first page this is. Returns an error if an allocation fails.
+/// Makes the writer of a door whose first shared view this is. Returns an error if an allocation fails.
 pub(crate) fn writer_of<J: Naming>(
     alloc: Global,
-    page: &Arc<Page<J>>,
+    shared_view: &Arc<SharedView<J>>,
 ) -> Result<ViewWriter<J>, AllocError>
-    requires { arc_value page.now ≡ J.opening }
-    ensures { IfOk result (λ w. arc_value w.desk.shown.value.page ≡ J.opening) }
+    requires { arc_value shared_view.now ≡ J.opening }
+    ensures { IfOk result (λ w. arc_value w.desk.shown.value.shared_view ≡ J.opening) }
 {
-    let first = Arc::try_clone(page)?;
-    let second = Arc::try_clone(page)?;
+    let first = Arc::try_clone(shared_view)?;
+    let second = Arc::try_clone(shared_view)?;
     match ViewWriter::new(
         alloc,
-        Published { page: first },
-        Published { page: second },
+        Published { shared_view: first },
+        Published {
+            shared_view: second,
+        },
         PLACES,
     ) {
         Ok(writer) => Ok(writer),

@@ -1,6 +1,6 @@
-//! The published page, and the rule over what reader slots have seen.
+//! The published shared view, and the rule over what reader slots have seen.
 
-use crate::page::Page;
+use crate::shared_view::SharedView;
 use crossbeam_utils::rule::{Outcome, Protocol};
 use left_right::Absorb;
 use left_right::reader::Reader;
@@ -11,36 +11,36 @@ use std::alloc::AllocError;
 use std::marker::PhantomData;
 use std::sync::Arc;
 
-/// The payload of the readers. Each operation of the writer is a whole page, which replaces the one before.
+/// The payload of the readers. Each operation of the writer is a whole shared view, which replaces the one before.
 #[derive(Drop)]
 pub struct Published<J: Naming> {
-    pub page: Arc<Page<J>>,
+    pub shared_view: Arc<SharedView<J>>,
 }
 
-impl<J: Naming> Absorb<Arc<Page<J>>> for Published<J> {
+impl<J: Naming> Absorb<Arc<SharedView<J>>> for Published<J> {
     ghost use Rattle.std.specs.Arc.{arc_value};
 
     type State = View;
 
-    ghost state = { λ s. arc_value s.page };
+    ghost state = { λ s. arc_value s.shared_view };
 
     ghost applied = { λ _ o. arc_value o };
 
     fn absorb_first(
         &mut self,
-        operation: &Arc<Page<J>>,
+        operation: &Arc<SharedView<J>>,
         _other: &Published<J>,
     ) -> Result<(), AllocError> {
-        self.page = Arc::try_clone(operation)?;
+        self.shared_view = Arc::try_clone(operation)?;
         Ok(())
     }
 
     fn absorb_second(
         &mut self,
-        operation: Arc<Page<J>>,
+        operation: Arc<SharedView<J>>,
         _other: &Published<J>,
-    ) -> Result<(), Arc<Page<J>>> {
-        self.page = operation;
+    ) -> Result<(), Arc<SharedView<J>>> {
+        self.shared_view = operation;
         Ok(())
     }
 }
@@ -62,7 +62,7 @@ impl<J: Naming> Protocol<Published<J>, ReaderKnowledge> for OneHistory<J> {
     ghost use Rattle.std.specs.Arc.{arc_value};
     ghost use Rattle.sm_door.specs.Rule.{Keeps, known};
 
-    ghost holds = { λ x. Keeps J.opening (arc_value x.page) };
+    ghost holds = { λ x. Keeps J.opening (arc_value x.shared_view) };
 
     ghost first = { known J.opening 0 };
 }
@@ -74,7 +74,7 @@ impl<J: Naming> Outcome<Published<J>, ReaderKnowledge> for Sees {
     ghost use Rattle.std.specs.Arc.{arc_value};
     ghost use Rattle.sm_door.specs.Rule.{Enters};
 
-    ghost then = { λ v x y w. Enters v (arc_value y.page) w };
+    ghost then = { λ v x y w. Enters v (arc_value y.shared_view) w };
 }
 
 /// The writer publishes. Nothing is said of its own slot.
@@ -88,7 +88,7 @@ impl<J: Naming> Outcome<Published<J>, ReaderKnowledge> for Publishes {
 pub type ViewReader<J> = Reader<Published<J>, ReaderKnowledge, OneHistory<J>>;
 
 /// The writer.
-pub type ViewWriter<J> = Writer<Published<J>, Arc<Page<J>>, ReaderKnowledge, OneHistory<J>>;
+pub type ViewWriter<J> = Writer<Published<J>, Arc<SharedView<J>>, ReaderKnowledge, OneHistory<J>>;
 
 /// A view shows its book to a registry.
 pub struct ShowsView;

@@ -1,12 +1,12 @@
-//! Publication: the page that readers find, and the writer that replaces it.
+//! Publication: the shared view that readers find, and the writer that replaces it.
 
 ghost use Rattle.std.specs.Prelude.{◌≡◌, None, Some, MatchResult};
 ghost use Rattle.std.specs.Arc.{arc_value};
 ghost use Rattle.left_right.specs.Sides.{view as place_view};
 ghost use Rattle.sm_view.specs.Begins.{Begins};
 
-use crate::page::Page;
 use crate::published::{Published, Publishes, Sees, ViewReader, ViewWriter};
+use crate::shared_view::SharedView;
 use left_right::Absorb;
 use sm_core::View;
 use sm_registry::{Naming, Registry};
@@ -14,22 +14,22 @@ use std::alloc::{AllocError, Global};
 use std::marker::Model;
 use std::sync::{Arc, Wait};
 
-/// The published page and its writer. Contracts see the book that readers find.
+/// The published shared view and its writer. Contracts see the book that readers find.
 pub struct Publisher<J: Naming>
 where
-    Published<J>: Absorb<Arc<Page<J>>, State = View>,
+    Published<J>: Absorb<Arc<SharedView<J>>, State = View>,
 {
     alloc: Global,
     registry: Registry<J>,
-    /// The page that is published.
-    page: Arc<Page<J>>,
+    /// The shared view that is published.
+    shared_view: Arc<SharedView<J>>,
     /// The writer. It is absent only within `publish`.
     writer: Option<ViewWriter<J>>,
 }
 
 impl<J: Naming> Model for Publisher<J>
 where
-    Published<J>: Absorb<Arc<Page<J>>, State = View>,
+    Published<J>: Absorb<Arc<SharedView<J>>, State = View>,
 {
     ghost use Rattle.std.specs.Prelude.{◌≡◌, MatchOption};
     ghost use Rattle.std.specs.Arc.{arc_value};
@@ -37,20 +37,20 @@ where
 
     ghost Value = { Book };
 
-    ghost view = { λ p. arc_value p.page };
+    ghost view = { λ p. arc_value p.shared_view };
 
-    ghost invariant = { λ p. MatchOption p.writer ⊥ (λ w. arc_value w.desk.shown.value.page ≡ arc_value p.page) };
+    ghost invariant = { λ p. MatchOption p.writer ⊥ (λ w. arc_value w.desk.shown.value.shared_view ≡ arc_value p.shared_view) };
 }
 
-/// Publishes a page. On an error readers find what they found, and the page that stays pending is overtaken by the
+/// Publishes a shared view. On an error readers find what they found, and the shared view that stays pending is overtaken by the
 /// next.
 fn show<J: Naming, R: Wait>(
     rt: &R,
     mut writer: ViewWriter<J>,
-    next: Arc<Page<J>>,
+    next: Arc<SharedView<J>>,
 ) -> (ViewWriter<J>, Result<(), AllocError>)
-    requires { Begins (arc_value next) (arc_value writer.desk.shown.value.page) }
-    ensures { MatchResult result.1 (λ _. arc_value result.0.desk.shown.value.page ≡ arc_value next)
+    requires { Begins (arc_value next) (arc_value writer.desk.shown.value.shared_view) }
+    ensures { MatchResult result.1 (λ _. arc_value result.0.desk.shown.value.shared_view ≡ arc_value next)
         (λ _. result.0.desk.shown.value ≡ writer.desk.shown.value) }
 {
     match writer.append(next) {
@@ -71,20 +71,20 @@ fn put<J: Naming>(place: &mut Option<ViewWriter<J>>, writer: ViewWriter<J>)
 }
 
 impl<J: Naming> Publisher<J> {
-    /// The publisher whose writer shows this page.
+    /// The publisher whose writer shows this shared view.
     pub(crate) fn new(
         alloc: Global,
         registry: Registry<J>,
-        page: Arc<Page<J>>,
+        shared_view: Arc<SharedView<J>>,
         writer: ViewWriter<J>,
     ) -> Publisher<J>
-        requires { arc_value writer.desk.shown.value.page ≡ arc_value page }
-        ensures { result ≡ arc_value page }
+        requires { arc_value writer.desk.shown.value.shared_view ≡ arc_value shared_view }
+        ensures { result ≡ arc_value shared_view }
     {
         Publisher {
             alloc,
             registry,
-            page,
+            shared_view,
             writer: Some(writer),
         }
     }
@@ -93,33 +93,33 @@ impl<J: Naming> Publisher<J> {
     pub(crate) fn view(&self) -> &View
         ensures { result.now ≡ self.now }
     {
-        self.page.view()
+        self.shared_view.view()
     }
 
-    /// Replaces the published page with that of a view.
+    /// Replaces the published shared view with that of a view.
     ///
     /// # Errors
     ///
-    /// `AllocError` if an allocation failed, or no id is left. Readers find the page that they found.
+    /// `AllocError` if an allocation failed, or no id is left. Readers find the shared view that they found.
     pub(crate) fn publish<R: Wait>(&mut self, rt: &R, view: View) -> Result<(), AllocError>
         requires { Begins view self.old }
         ensures { MatchResult result (λ done. self.new ≡ view) (λ e. self.new ≡ self.old) }
     {
-        let page = Page::new(rt, self.alloc, &mut self.registry, view)?;
-        let kept = Arc::try_clone(&page)?;
+        let shared_view = SharedView::new(rt, self.alloc, &mut self.registry, view)?;
+        let kept = Arc::try_clone(&shared_view)?;
         let writer = self.writer.take().unwrap();
-        let (writer, shown) = show(rt, writer, page);
+        let (writer, shown) = show(rt, writer, shared_view);
         put(&mut self.writer, writer);
         match shown {
             Ok(()) => {
-                self.page = kept;
+                self.shared_view = kept;
                 Ok(())
             }
             Err(error) => Err(error),
         }
     }
 
-    /// A reader enters until it finds the publisher's own page, whose book begins with all that the reader had seen.
+    /// A reader enters until it finds the publisher's own shared view, whose book begins with all that the reader had seen.
     /// The first entry does, since nobody else can publish.
     pub(crate) fn inform<R: Wait>(&self, rt: &R, mut reader: ViewReader<J>) -> ViewReader<J>
         ensures seen { (place_view result.place).seen ≡ self.now }
@@ -128,7 +128,7 @@ impl<J: Naming> Publisher<J> {
         for _ in rt.forever() {
             match reader.enter_as::<Sees>() {
                 Ok(reading) => {
-                    let found = reading.get().page.is(&self.page);
+                    let found = reading.get().shared_view.is(&self.shared_view);
                     reader = reading.leave();
                     if found {
                         return reader;
@@ -145,7 +145,7 @@ impl<J: Naming> Publisher<J> {
         let Publisher {
             alloc: _,
             registry: _registry,
-            page: _page,
+            shared_view: _shared_view,
             writer,
         } = self;
         writer.unwrap().take(rt);

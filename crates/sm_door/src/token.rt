@@ -14,7 +14,7 @@ use sm_registry::Naming;
 pub trait Token {
     ghost knows: { Self → Knows };
 
-    /// Returns the version, from the published page. Never blocks.
+    /// Returns the version, from the published shared view. Never blocks.
     fn read_version(&mut self) -> Reply
         ensures { Read (knows self.old) (knows self.new) Version result };
 }

@@ -8,10 +8,11 @@ use Rattle.std.proofs.lemmas.Bool.{cases_lt}
 use Rattle.sm_kinds.specs.declared.number.Node.{Node}
 use Rattle.sm_history.specs.Effects.{Effects}
 use Rattle.sm_history.specs.Holdings.{refs_at, number_at}
-use Rattle.sm_grants.specs.declared.held.Held.{Held}
+use Rattle.sm_history.specs.declared.client_row.Held.{Held}
 use Rattle.sm_grants.specs.declared.rows.ClientHandles.{ClientHandles}
-use Rattle.sm_grants.specs.Slots.{Slots, slot, node_of, count_of, HandleTable, IsPut, IsGranted}
-use Rattle.sm_grants.specs.Slots.{granted_slot, released_slot}
+use Rattle.sm_history.specs.Tables.{Slots, slot, IsPut, released_slot}
+use Rattle.sm_grants.specs.Slots.{node_of, count_of, HandleTable, IsGranted}
+use Rattle.sm_grants.specs.Slots.{granted_slot}
 use Rattle.sm_grants.specs.Rows.{table_of, slots_in, slots_of, TracksRows}
 use Rattle.sm_grants.specs.Highest.{highest_in, highest}
 use Rattle.sm_grants.proofs.Fits.{held_count_is}

@@ -16,9 +16,10 @@ use Rattle.sm_history.proofs.Balanced.{balanced_lasts, step, release, number_sam
 use Rattle.sm_history.proofs.AfterHoldings.{refs_gives, refs_releases, refs_dies, number_gives}
 use Rattle.sm_history.proofs.AfterClients.{list_dies}
 use Rattle.sm_history.proofs.Sound.{once_more, once_filter}
-use Rattle.sm_grants.specs.declared.held.Held.{Held}
+use Rattle.sm_history.specs.declared.client_row.Held.{Held}
 use Rattle.sm_grants.specs.declared.rows.ClientHandles.{ClientHandles}
-use Rattle.sm_grants.specs.Slots.{Slots, slot, node_of, held_in, IsPut, IsAbsent, granted_slot, released_slot}
+use Rattle.sm_history.specs.Tables.{Slots, slot, IsPut, released_slot}
+use Rattle.sm_grants.specs.Slots.{node_of, held_in, IsAbsent, granted_slot}
 use Rattle.sm_grants.specs.Slots.{IsGranted, IsNumberFor, HandleTable}
 use Rattle.sm_grants.specs.Tracking.{TracksSlots}
 use Rattle.sm_grants.specs.Rows.{table_of, index_from, slots_in, slots_of, spare_in, spare_of, TracksRows, CanGrantRow}

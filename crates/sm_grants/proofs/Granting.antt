@@ -10,10 +10,11 @@ use Rattle.sm_history.specs.Clients.{is_live}
 use Rattle.sm_history.specs.Holdings.{refs_at, number_at, is_held, held_nodes, fits_handles}
 use Rattle.sm_history.proofs.Grants.{count_gives}
 use Rattle.sm_grants.specs.declared.grants.Grants.{Grants}
-use Rattle.sm_grants.specs.declared.held.Held.{Held}
+use Rattle.sm_history.specs.declared.client_row.Held.{Held}
 use Rattle.sm_history.specs.declared.limits.TheConstants.{MOST_HANDLES}
 use Rattle.sm_grants.specs.declared.rows.ClientHandles.{ClientHandles}
-use Rattle.sm_grants.specs.Slots.{HandleTable, slot, node_of, count_of, held_in, IsAbsent}
+use Rattle.sm_history.specs.Tables.{slot}
+use Rattle.sm_grants.specs.Slots.{HandleTable, node_of, count_of, held_in, IsAbsent}
 use Rattle.sm_grants.specs.Rows.{table_of, slots_in, spare_in, slots_of, spare_for, Tracks, CanGrant, CanGrantRow}
 use Rattle.sm_grants.proofs.Tracked.{not_held, held_count}
 use Rattle.sm_grants.proofs.Small.{zero_test}

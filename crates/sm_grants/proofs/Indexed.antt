@@ -12,9 +12,10 @@ use Rattle.sm_bits.specs.Bits.{has}
 use Rattle.sm_history.specs.Effects.{same_node}
 use Rattle.sm_history.proofs.Balanced.{node_same, number_same}
 use Rattle.sm_history.proofs.Grants.{same_self}
-use Rattle.sm_grants.specs.declared.held.Held.{Held}
-use Rattle.sm_grants.specs.Slots.{Slots, slot, node_of, held_in, key_of, same_key, AreIndexed, AreHandles, IsPut}
-use Rattle.sm_grants.specs.Slots.{IsAbsent, granted_slot, released_slot, count_of}
+use Rattle.sm_history.specs.declared.client_row.Held.{Held}
+use Rattle.sm_history.specs.Tables.{Slots, slot, IsPut, released_slot}
+use Rattle.sm_grants.specs.Slots.{node_of, held_in, key_of, same_key, AreIndexed, AreHandles}
+use Rattle.sm_grants.specs.Slots.{IsAbsent, granted_slot, count_of}
 use Rattle.sm_grants.proofs.Small.{some_node, none_some, no_node, left_over}
 
 abbrev Nodes : Type 0

@@ -1,7 +1,8 @@
 -- The highest count of grants in rows of handles.
 use Rattle.std.specs.Prelude.{ℕ, max, List, [], ◌∷◌}
 use Rattle.sm_grants.specs.declared.rows.ClientHandles.{ClientHandles}
-use Rattle.sm_grants.specs.Slots.{Slots, count_of}
+use Rattle.sm_history.specs.Tables.{Slots}
+use Rattle.sm_grants.specs.Slots.{count_of}
 
 -- This is the highest count of one client.
 abbrev pub highest_in : Slots → ℕ

@@ -8,7 +8,8 @@ use Rattle.sm_history.specs.Clients.{live_clients}
 use Rattle.sm_history.specs.declared.limits.TheConstants.{MOST_HANDLES}
 use Rattle.sm_grants.specs.declared.rows.ClientHandles.{ClientHandles}
 use Rattle.sm_grants.specs.declared.grants.Grants.{Grants}
-use Rattle.sm_grants.specs.Slots.{Slots, slot, node_of, count_of, held_in, IsAbsent, HandleTable}
+use Rattle.sm_history.specs.Tables.{Slots, slot}
+use Rattle.sm_grants.specs.Slots.{node_of, count_of, held_in, IsAbsent, HandleTable}
 use Rattle.sm_grants.specs.Tracking.{TracksSlots}
 
 -- These are the handles in the first row of a client.

@@ -7,15 +7,8 @@ use Rattle.sm_kinds.specs.declared.number.Node.{Node}
 use Rattle.sm_bits.specs.Bits.{has}
 use Rattle.sm_history.specs.Effects.{same_node}
 use Rattle.sm_history.specs.declared.limits.TheConstants.{MOST_HANDLES}
-use Rattle.sm_grants.specs.declared.held.Held.{Held}
-
--- Slots have what is held, if anything.
-abbrev pub Slots : Type 0
-Slots = List (Option Held)
-
--- This is what slot i has.
-abbrev pub slot : Slots → ℕ → Option Held
-slot s i = get_or s i None
+use Rattle.sm_history.specs.declared.client_row.Held.{Held}
+use Rattle.sm_history.specs.Tables.{Slots, slot, IsPut}
 
 -- This is the object of a slot.
 abbrev pub node_of : Option Held → Option Node
@@ -41,10 +34,6 @@ nodes_in (Some h ∷ s) = h.node ∷ nodes_in s
 abbrev pub is_in : Slots → Node → Bool
 is_in s n = list_any (same_node n) (nodes_in s)
 
--- Only slot i changed, to x.
-abbrev pub IsPut : Slots → Slots → ℕ → Option Held → Type 0
-IsPut old new i x = (j : ℕ) → slot new j ≡ (if j == i then x else slot old j)
-
 -- No slot has the object.
 abbrev pub IsAbsent : Slots → Node → Type 0
 IsAbsent s n = (i : ℕ) → node_of (slot s i) ≡ Some n → ⊥
@@ -57,11 +46,6 @@ IsFirstFree s i = (slot s i ≡ None) × ((j : ℕ) → j < i → is_some (slot 
 abbrev pub granted_slot : Node → Option Held → Option Held
 granted_slot n None = Some (record { node = n; count = 1 })
 granted_slot n (Some h) = Some (record { node = h.node; count = h.count + 1 })
-
--- This is a slot after one release.
-abbrev pub released_slot : Option Held → Option Held
-released_slot None = None
-released_slot (Some h) = if nat_le h.count 1 then None else Some (record { node = h.node; count = h.count - 1 })
 
 -- This is the number under which an object is held, or the least free one.
 abbrev pub IsNumberFor : Slots → Node → ℕ → Type 0

@@ -10,7 +10,8 @@ ghost use Rattle.sm_history.specs.Effects.{Effects, same_node};
 ghost use Rattle.sm_history.specs.declared.effect.Effect.TheVariants.{Gives, Releases, Dies};
 ghost use Rattle.sm_history.specs.Clients.{is_live};
 ghost use Rattle.sm_history.specs.Holdings.{refs_at, resolve_at, node_at, number_for, fits_handles, is_in_use};
-ghost use Rattle.sm_grants.specs.Slots.{Slots, slot, node_of, held_in, is_in, IsAbsent, IsNumberFor};
+ghost use Rattle.sm_history.specs.Tables.{Slots, slot};
+ghost use Rattle.sm_grants.specs.Slots.{node_of, held_in, is_in, IsAbsent, IsNumberFor};
 ghost use Rattle.sm_grants.specs.Highest.{highest};
 ghost use Rattle.sm_grants.specs.Several.{after_grants, numbers_for, new_among, with_grant, Along};
 ghost use Rattle.sm_grants.specs.Holders.{holders_at};
@@ -19,7 +20,7 @@ ghost use Rattle.sm_history.specs.Tables.{slot as row_slot, slot_at};
 use crate::handles::Handles;
 use crate::place::place_of;
 use crate::rows::{ClientHandles, handles_of, holders_in, row_of};
-use sm_history::{Held as Listed, MOST_HANDLES};
+use sm_history::{Held, MOST_HANDLES};
 use sm_kinds::{ClientId, Node, ObjRef};
 use std::alloc::{AllocError, Global};
 
@@ -174,7 +175,7 @@ impl Grants {
     /// # Errors
     ///
     /// An error if an allocation fails.
-    pub fn listed(&self, alloc: Global, client: u32) -> Result<Vec<Option<Listed>>, AllocError>
+    pub fn listed(&self, alloc: Global, client: u32) -> Result<Vec<Option<Held>>, AllocError>
         ensures { IfOk result
             (λ v. (d : Effects) → Tracks d self.now → (k : ℕ) → row_slot v.items k ≡ slot_at d client k) }
     {

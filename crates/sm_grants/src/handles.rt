@@ -34,40 +34,18 @@ impl Model for Handles {
 ghost use Rattle.std.specs.Prelude.{◌≡◌, ℕ, ◌+◌, ◌-◌, ◌≤◌, ◌<◌, ◌^◌, ◌++◌, map, option_map, true, false, is_some, Some};
 ghost use Rattle.std.specs.Prelude.{None, [], ◌↔◌, IfOk, IsOk, IsSome, max, IfNone, IfSome, IsTrue, nat_lt, OnOk};
 ghost use Rattle.std.specs.Prelude.{MatchOption};
-ghost use Rattle.sm_grants.specs.Listed.{listed, listed_slots};
-ghost use Rattle.sm_grants.specs.Slots.{slot, node_of, count_of, held_in, is_in, IsPut, IsAbsent, IsFirstFree};
-ghost use Rattle.sm_grants.specs.Slots.{granted_slot, released_slot, IsGranted, IsNumberFor};
+ghost use Rattle.sm_grants.specs.Listed.{listed_slots};
+ghost use Rattle.sm_history.specs.Tables.{slot, IsPut};
+ghost use Rattle.sm_grants.specs.Slots.{node_of, count_of, held_in, is_in, IsAbsent, IsFirstFree};
+ghost use Rattle.sm_history.specs.Tables.{released_slot};
+ghost use Rattle.sm_grants.specs.Slots.{granted_slot, IsGranted, IsNumberFor};
 
-use crate::held::Held;
 use crate::slots::{add_one, empty, fill, take_one};
 use crate::used_numbers::UsedNumbers;
-use sm_history::{Held as Listed, MOST_HANDLES};
+use sm_history::{Held, MOST_HANDLES};
 use sm_kinds::Node;
 use std::alloc::{AllocError, Global};
 use std::collections::HashMap;
-
-/// Appends what slots have to a list.
-fn append_slots(list: &mut Vec<Option<Listed>>, slots: &[Option<Held>]) -> Result<(), AllocError>
-    ensures { OnOk result (list.new.items ≡ list.old.items ++ map (option_map listed) slots.now) }
-{
-    for slot in slots {
-        list.push(listed_slot(*slot))?;
-    }
-    Ok(())
-}
-
-/// Returns what a slot has, as a segment's row has it.
-fn listed_slot(slot: Option<Held>) -> Option<Listed>
-    ensures { result ≡ option_map listed slot }
-{
-    match slot {
-        Some(held) => Some(Listed {
-            node: held.node,
-            count: held.count,
-        }),
-        None => None,
-    }
-}
 
 impl Handles {
     /// Makes an empty table.
@@ -141,12 +119,12 @@ impl Handles {
     /// # Errors
     ///
     /// An error if an allocation fails.
-    pub fn listed(&self, alloc: Global) -> Result<Vec<Option<Listed>>, AllocError>
+    pub fn listed(&self, alloc: Global) -> Result<Vec<Option<Held>>, AllocError>
         ensures { IfOk result (λ v. v.items ≡ listed_slots self.now.slots) }
     {
         let mut list = Vec::with_capacity(alloc, 1)?;
         list.push_reserved(None);
-        append_slots(&mut list, &self.slots)?;
+        list.extend_from_slice(&self.slots)?;
         Ok(list)
     }
 

@@ -5,11 +5,9 @@
 
 mod grants;
 mod handles;
-mod held;
 mod place;
 mod rows;
 mod slots;
 mod used_numbers;
 
 pub use grants::Grants;
-pub use held::Held;

@@ -10,7 +10,7 @@ use Rattle.sm_kinds.specs.declared.number.ObjRef.TheVariants.{Own as OwnRef, Han
 use Rattle.sm_kinds.specs.declared.identity.Identity.{Identity}
 use Rattle.sm_kinds.specs.Users.{is_barred, is_isolated_user}
 use Rattle.sm_policy.specs.Policy.{Policy}
-use Rattle.sm_history.specs.declared.stop.Instead.{Instead}
+use Rattle.sm_history.specs.declared.failed_check.EarlyAnswer.{EarlyAnswer}
 use Rattle.sm_history.specs.declared.event.Event.{Event}
 use Rattle.sm_history.specs.declared.event.Event.TheVariants.{Open, Connect, Add, Get, Watch as WatchName, Unwatch}
 use Rattle.sm_history.specs.declared.event.Event.TheVariants.{Unregister, Call, Release, Take, Die, Reload}
@@ -21,7 +21,7 @@ use Rattle.sm_history.specs.declared.refusal.Failure.TheVariants.{BadHandle, Tar
 use Rattle.sm_history.specs.declared.refusal.Exception.TheVariants.{NotAdder, DeadOwner, TableFull}
 use Rattle.sm_history.specs.declared.refusal.Exception.TheVariants.{NothingToUnregister, NotRegistered, OtherObject}
 use Rattle.sm_history.specs.declared.refusal.Exception.TheVariants.{InUse}
-use Rattle.sm_history.specs.declared.stop.Instead.TheVariants.{GotNull, Refused}
+use Rattle.sm_history.specs.declared.failed_check.EarlyAnswer.TheVariants.{GotNull, Refused}
 use Rattle.sm_history.specs.declared.delivery.Delivery.{Delivery}
 use Rattle.sm_history.specs.Effects.{Effects, Service, Watch, same_node}
 use Rattle.sm_history.specs.Clients.{is_live, live_clients}
@@ -178,7 +178,7 @@ unregister_alike d e c name obj s live =
 -- ---- the first that fails
 
 -- What follows a condition matters only where it holds.
-pub behind_alike : (p : Policy) (r : Instead) (a b : Bool) (xs ys : List Check) → a ≡ b
+pub behind_alike : (p : Policy) (r : EarlyAnswer) (a b : Bool) (xs ys : List Check) → a ≡ b
     → (a ≡ true → first_failing p xs ≡ first_failing p ys)
     → first_failing p (Wants a r ∷ xs) ≡ first_failing p (Wants b r ∷ ys)
 behind_alike p r true true xs ys is more = more refl

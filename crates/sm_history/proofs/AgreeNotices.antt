@@ -11,11 +11,11 @@ use Rattle.sm_kinds.specs.declared.number.ObjRef.{ObjRef}
 use Rattle.sm_kinds.specs.declared.number.ObjRef.TheVariants.{Own as OwnRef, Handle as HandleRef, Null as NullRef}
 use Rattle.sm_kinds.specs.declared.identity.Identity.{Identity}
 use Rattle.sm_policy.specs.Policy.{Policy, label_of}
-use Rattle.sm_history.specs.declared.stop.Instead.{Instead}
-use Rattle.sm_history.specs.declared.stop.Stop.{Stop}
+use Rattle.sm_history.specs.declared.failed_check.EarlyAnswer.{EarlyAnswer}
+use Rattle.sm_history.specs.declared.failed_check.FailedCheck.{FailedCheck}
 use Rattle.sm_history.specs.declared.refusal.Refusal.TheVariants.{Failed}
 use Rattle.sm_history.specs.declared.refusal.Failure.TheVariants.{TargetFull as FailsFull}
-use Rattle.sm_history.specs.declared.stop.Instead.TheVariants.{Refused}
+use Rattle.sm_history.specs.declared.failed_check.EarlyAnswer.TheVariants.{Refused}
 use Rattle.sm_history.specs.declared.notice.Notice.{Notice}
 use Rattle.sm_history.specs.declared.notice.Told.{Told}
 use Rattle.sm_history.specs.declared.notice.Told.TheVariants.{Told as IsTold}
@@ -44,7 +44,7 @@ use Rattle.sm_history.specs.declared.limits.TheConstants.{MOST_HANDLES, MOST_DEL
 pub both : {A B C : Type 0} (f : A → B → C) {a a' : A} {b b' : B} → a ≡ a' → b ≡ b' → f a b ≡ f a' b'
 both {A} {B} {C} f {a} {a'} {b} {b'} p q = ap (λ x. f x b) p ∙ ap (f a') q
 
-pub wants_alike : (r : Instead) {a b : Bool} → a ≡ b → Wants a r ≡ Wants b r
+pub wants_alike : (r : EarlyAnswer) {a b : Bool} → a ≡ b → Wants a r ≡ Wants b r
 wants_alike r p = ap (λ t. Wants t r) p
 
 pub cons_alike : {x y : Check} {xs ys : List Check} → x ≡ y → xs ≡ ys → (let l : List Check = x ∷ xs in l) ≡ y ∷ ys
@@ -137,7 +137,7 @@ registration_alike d e n w s =
     ap (λ (g : Given). let v : Delivery = record { object = w.object; what = Registered w.name g } in v)
     (given_alike d e w.client n s)
 
-told_alike : (d e : Effects) (n : Node) (w : Watch) (o : Option Stop) → Sim d e → told_of d n w o ≡ told_of e n w o
+told_alike : (d e : Effects) (n : Node) (w : Watch) (o : Option FailedCheck) → Sim d e → told_of d n w o ≡ told_of e n w o
 told_alike d e n w None s = ap (λ (x : Delivery). IsTold x) (registration_alike d e n w s)
 told_alike d e n w (Some failing) s = refl
 
@@ -147,7 +147,7 @@ notice_alike d e n w s live =
     ap (λ (t : Told). let v : Notice = record { client = record { 0 = w.client }; object = w.object; result = t } in v)
     (ap (told_of d n w) (missing_alike d e n w s live) ∙ told_alike d e n w (first_missing e n w) s)
 
-sim_told : (d e : Effects) (n : Node) (w : Watch) (o : Option Stop) → Sim d e → is_live d w.client ≡ true
+sim_told : (d e : Effects) (n : Node) (w : Watch) (o : Option FailedCheck) → Sim d e → is_live d w.client ≡ true
     → Sim (after_told d n w o) (after_told e n w o)
 sim_told d e n w None s live =
     let h = sim_handed d e w.client n live s in
@@ -159,10 +159,10 @@ sim_told d e n w (Some failing) s live = s
 
 pub sim_notice : (d e : Effects) (n : Node) (w : Watch) → Sim d e → is_live d w.client ≡ true
     → Sim (after_notice d n w) (after_notice e n w)
-sim_notice d e n w s live = subst (λ (o : Option Stop). Sim (after_notice d n w) (after_told e n w o))
+sim_notice d e n w s live = subst (λ (o : Option FailedCheck). Sim (after_notice d n w) (after_told e n w o))
     (missing_alike d e n w s live) (sim_told d e n w (first_missing d n w) s live)
 
-live_told : (d : Effects) (n : Node) (w : Watch) (o : Option Stop) (k : ℕ)
+live_told : (d : Effects) (n : Node) (w : Watch) (o : Option FailedCheck) (k : ℕ)
     → is_live (after_told d n w o) k ≡ is_live d k
 live_told d n w None k = live_handed d w.client n k
 live_told d n w (Some failing) k = refl

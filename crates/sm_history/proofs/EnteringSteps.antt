@@ -8,7 +8,7 @@ use Rattle.sm_history.specs.declared.delivery.Given.TheVariants.{Handle, Own}
 use Rattle.sm_history.specs.declared.delivery.Delivery.{Delivery}
 use Rattle.sm_history.specs.declared.notice.Notice.{Notice}
 use Rattle.sm_history.specs.declared.notice.Told.TheVariants.{Told as IsTold}
-use Rattle.sm_history.specs.declared.stop.Stop.{Stop}
+use Rattle.sm_history.specs.declared.failed_check.FailedCheck.{FailedCheck}
 use Rattle.sm_history.specs.declared.tables.Tables.{Tables}
 use Rattle.sm_history.specs.Effects.{Effects, Watch, Gives, Delivers}
 use Rattle.sm_history.specs.Clients.{is_live}
@@ -67,7 +67,7 @@ hand_given d c n r s live =
 
 -- ---- notifying
 
-not_told : (d : Effects) (n : Node) (w : Watch) (failing : Stop) (x : Delivery)
+not_told : (d : Effects) (n : Node) (w : Watch) (failing : FailedCheck) (x : Delivery)
     → told_of d n w (Some failing) ≡ IsTold x → ⊥
 not_told d n w failing x is = cc
 

@@ -5,7 +5,7 @@ use Rattle.std.specs.List.{list_any}
 use Rattle.std.proofs.lemmas.Bool.Decides.{nat_tests}
 use Rattle.std.proofs.lemmas.Bool.{and_parts, or_from, or_parts}
 use Rattle.sm_kinds.specs.declared.number.Node.{Node}
-use Rattle.sm_history.specs.declared.stop.Stop.{Stop}
+use Rattle.sm_history.specs.declared.failed_check.FailedCheck.{FailedCheck}
 use Rattle.sm_history.specs.Effects.{Effect, Effects, Watch, Opens, Sets, Connects, Dies, Adds, Removes, Gives}
 use Rattle.sm_history.specs.Effects.{Releases, Watches, Unwatches, Delivers, Takes}
 use Rattle.sm_history.specs.Clients.{is_live, next_client, is_connect_of}
@@ -95,11 +95,11 @@ next-handed : (d : Effects) (c : ℕ) (n : Node) → next_client (handed d c n) 
 next-handed d c n = elim (n.owner.0 == c) as (λ b. next_client (if b then d else Gives c n (number_for d c n) ∷ d)
     ≡ next_client d) [ true ↦ refl | false ↦ refl ]
 
-next-told : (d : Effects) (n : Node) (w : Watch) (o : Option Stop) → next_client (after_told d n w o) ≡ next_client d
+next-told : (d : Effects) (n : Node) (w : Watch) (o : Option FailedCheck) → next_client (after_told d n w o) ≡ next_client d
 next-told d n w None = next-handed d w.client n
 next-told d n w (Some failing) = refl
 
-fresh_told : (d : Effects) (n : Node) (w : Watch) (o : Option Stop) → IsFresh d → w.client < next_client d
+fresh_told : (d : Effects) (n : Node) (w : Watch) (o : Option FailedCheck) → IsFresh d → w.client < next_client d
     → IsFresh (after_told d n w o)
 fresh_told d n w None fresh lt =
     fresh_more (Delivers w.client (registration d n w)) (handed d w.client n) (fresh_handed d w.client n fresh lt) refl

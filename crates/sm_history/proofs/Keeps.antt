@@ -3,7 +3,7 @@
 use Rattle.std.proofs.Common.{◌≡◌, ℕ, Bool, true, false, ◌==◌, List, [], ◌∷◌, refl, Option, Some, None, if◌then◌else◌}
 use Rattle.sm_kinds.specs.declared.number.Node.{Node}
 use Rattle.sm_kinds.specs.declared.number.ObjRef.{ObjRef}
-use Rattle.sm_history.specs.declared.stop.Stop.{Stop}
+use Rattle.sm_history.specs.declared.failed_check.FailedCheck.{FailedCheck}
 use Rattle.sm_history.specs.declared.event.Event.{Event}
 use Rattle.sm_history.specs.declared.event.Event.TheVariants.{Open, Connect, Add, Get, Watch as WatchName, Unwatch}
 use Rattle.sm_history.specs.declared.event.Event.TheVariants.{Unregister, Call, Release, Take, Die, Reload}
@@ -32,7 +32,7 @@ pub handed_keeps : (P : Effects → Type 0) → Lasts P → (d : Effects) (c : �
 handed_keeps P lasts d c n h = elim (n.owner.0 == c) as (λ b. P (if b then d else Gives c n (number_for d c n) ∷ d))
     [ true ↦ h | false ↦ lasts (Gives c n (number_for d c n)) d refl h ]
 
-pub told_keeps : (P : Effects → Type 0) → Lasts P → (d : Effects) (n : Node) (w : Watch) (o : Option Stop) → P d
+pub told_keeps : (P : Effects → Type 0) → Lasts P → (d : Effects) (n : Node) (w : Watch) (o : Option FailedCheck) → P d
     → P (after_told d n w o)
 told_keeps P lasts d n w None h = lasts (Delivers w.client (registration d n w)) (handed d w.client n) refl
     (handed_keeps P lasts d w.client n h)

@@ -14,7 +14,7 @@ use Rattle.sm_history.specs.declared.event.Event.{Event}
 use Rattle.sm_history.specs.declared.event.Event.TheVariants.{Open, Connect, Add, Get, Watch as WatchName, Unwatch}
 use Rattle.sm_history.specs.declared.event.Event.TheVariants.{Unregister, Call, Release, Take, Die, Reload}
 use Rattle.sm_history.specs.declared.reply.Reply.TheVariants.{Done}
-use Rattle.sm_history.specs.declared.stop.Stop.{Stop}
+use Rattle.sm_history.specs.declared.failed_check.FailedCheck.{FailedCheck}
 use Rattle.sm_history.specs.Effects.{Effect, Effects, Service, Watch, Adds, Gives, Watches}
 use Rattle.sm_history.specs.Clients.{connected, policy_at}
 use Rattle.sm_history.specs.Holdings.{given_to, handed, number_for, resolve_at, node_at}
@@ -28,7 +28,7 @@ use Rattle.sm_history.specs.Histories.{call_delivery, service, watch}
 use Rattle.sm_history.specs.Verdict.{answered, checks, handing_checks, has_place, outcome_of, number_of}
 use Rattle.sm_history.specs.Verdict.{notice_of_watch}
 use Rattle.sm_history.specs.Checks.{Wants, first_failing}
-use Rattle.sm_history.specs.declared.stop.Instead.TheVariants.{Refused}
+use Rattle.sm_history.specs.declared.failed_check.EarlyAnswer.TheVariants.{Refused}
 use Rattle.sm_history.specs.declared.refusal.Refusal.TheVariants.{JournalFull}
 use Rattle.sm_history.specs.declared.outcome.Outcome.TheVariants.{Watched}
 use Rattle.sm_history.specs.Lawful.{AreLawful, IsLawful}
@@ -108,19 +108,19 @@ refs_numbers d from to (r ∷ rs) =
 
 -- ---- watchers in order
 
-told_puts : (d : Effects) (n : Node) (w : Watch) (o : Option Stop)
+told_puts : (d : Effects) (n : Node) (w : Watch) (o : Option FailedCheck)
     → Puts delivery_made d (told_deliveries (told_of d n w o)) (after_told d n w o)
 told_puts d n w None = ap (λ xs. registration d n w ∷ xs) (handed_deliveries d w.client n)
 told_puts d n w (Some failing) = refl
 
-told_numbers : (d : Effects) (n : Node) (w : Watch) (o : Option Stop)
+told_numbers : (d : Effects) (n : Node) (w : Watch) (o : Option FailedCheck)
     → Puts number_made d (delivery_numbers (told_deliveries (told_of d n w o))) (after_told d n w o)
 told_numbers d n w None =
     handed_numbers d w.client n
     ∙ ap (λ xs. reverse xs ++ filter_map number_made d) (sym (append-nil (number_in (given_to d w.client n))))
 told_numbers d n w (Some failing) = refl
 
-told_clients : (d : Effects) (n : Node) (w : Watch) (o : Option Stop) → Puts connected d [] (after_told d n w o)
+told_clients : (d : Effects) (n : Node) (w : Watch) (o : Option FailedCheck) → Puts connected d [] (after_told d n w o)
 told_clients d n w None = handed_clients d w.client n
 told_clients d n w (Some failing) = refl
 
@@ -238,7 +238,7 @@ lists d c (Reload expected policy) a = record { deliveries = refl; numbers = ref
 
 -- ---- histories
 
-pub outcome_is : (x : Option Stop) (o outcome : Outcome) → answered x o ≡ Done outcome → outcome ≡ o
+pub outcome_is : (x : Option FailedCheck) (o outcome : Outcome) → answered x o ≡ Done outcome → outcome ≡ o
 outcome_is None o outcome done = cc
 outcome_is (Some s) o outcome done = absurd (not_done s outcome done)
 

@@ -10,15 +10,15 @@ use Rattle.sm_history.specs.Effects.{Effects, Service, Opens, Sets, Connects, Di
 use Rattle.sm_history.specs.Effects.{Watches, Unwatches, Delivers, Takes, Resumes}
 use Rattle.sm_history.specs.Clients.{next_client}
 use Rattle.sm_history.specs.Services.{last_said, Silent, Gone, Here, said_or}
-use Rattle.sm_history.specs.Checks.{Check, holds, answer_of, first_failing, stop_of}
-use Rattle.sm_history.specs.declared.stop.Stop.{Stop}
-use Rattle.sm_history.specs.declared.stop.Instead.TheVariants.{Refused as IsRefused, GotNull as IsNull, GotOwn as IsOwn}
-use Rattle.sm_history.specs.declared.stop.Stop.TheVariants.{Unruled, Barred, Unmet}
+use Rattle.sm_history.specs.Checks.{Check, holds, answer_of, first_failing, failed_check_of}
+use Rattle.sm_history.specs.declared.failed_check.FailedCheck.{FailedCheck}
+use Rattle.sm_history.specs.declared.failed_check.EarlyAnswer.TheVariants.{Refused as IsRefused, GotNull as IsNull, GotOwn as IsOwn}
+use Rattle.sm_history.specs.declared.failed_check.FailedCheck.TheVariants.{Unruled, Barred, Unmet}
 use Rattle.sm_history.specs.Verdict.{answered}
 use Rattle.sm_history.proofs.Keeps.{Lasts}
 use Rattle.sm_history.specs.Sound.{IsOwned}
 
-pub not_done : (x : Stop) (outcome : Outcome) → answer_of x ≡ Done outcome → ⊥
+pub not_done : (x : FailedCheck) (outcome : Outcome) → answer_of x ≡ Done outcome → ⊥
 not_done (Unruled class perm who target name) outcome h = cc
 not_done (Barred denial who name) outcome h = cc
 not_done (Unmet IsNull) outcome h = cc
@@ -30,10 +30,10 @@ pub all_hold : (p : Policy) (xs : List Check) (o outcome : Outcome) → answered
     → AllHold p xs
 all_hold p [] o outcome h = tt
 all_hold p (x ∷ xs) o outcome h =
-    elim (holds p x) as (λ b. holds p x ≡ b → answered (if b then first_failing p xs else Some (stop_of x)) o
+    elim (holds p x) as (λ b. holds p x ≡ b → answered (if b then first_failing p xs else Some (failed_check_of x)) o
     ≡ Done outcome → (holds p x ≡ true) × AllHold p xs) [
       | true ↦ λ e h'. (e, all_hold p xs o outcome h')
-      | false ↦ λ e h'. absurd (not_done (stop_of x) outcome h')
+      | false ↦ λ e h'. absurd (not_done (failed_check_of x) outcome h')
     ] refl h
 
 pub owned_lasts : Lasts IsOwned

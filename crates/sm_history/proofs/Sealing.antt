@@ -7,14 +7,14 @@ use Rattle.std.specs.List.{list_any}
 use Rattle.std.proofs.lemmas.Bool.{true≢false}
 use Rattle.std.proofs.lemmas.List.{length-append}
 use Rattle.sm_policy.specs.Policy.{Policy}
-use Rattle.sm_history.specs.declared.stop.Stop.{Stop}
+use Rattle.sm_history.specs.declared.failed_check.FailedCheck.{FailedCheck}
 use Rattle.sm_history.specs.declared.by.By.{By}
 use Rattle.sm_history.specs.declared.by.By.TheVariants.{Manager, Client, Admin}
 use Rattle.sm_history.specs.declared.event.Event.{Event}
 use Rattle.sm_history.specs.declared.entry.Entry.{Entry}
 use Rattle.sm_history.specs.declared.outcome.Outcome.{Outcome}
 use Rattle.sm_history.specs.declared.reply.Reply.TheVariants.{Done}
-use Rattle.sm_history.specs.declared.stop.Instead.TheVariants.{Refused}
+use Rattle.sm_history.specs.declared.failed_check.EarlyAnswer.TheVariants.{Refused}
 use Rattle.sm_history.specs.declared.refusal.Refusal.TheVariants.{JournalFull}
 use Rattle.sm_history.specs.Effects.{Effects}
 use Rattle.sm_history.specs.Clients.{is_live, live_clients, policy_at, connected}
@@ -133,7 +133,7 @@ less_checked d have by turn event rest outcome done =
     let with_rest = hold_none p (all_checks d have by turn event rest) a in
     let without : first_failing p (all_checks d have by turn event []) ≡ None =
     hold_none p (all_checks d have by turn event []) (a.0, (a.1.0, (a.1.1.0, hold_part p xs rest a.1.1.1))) in
-    ap (λ (x : Option Stop). answered x o) without ∙ sym (ap (λ (x : Option Stop). answered x o) with_rest) ∙ done
+    ap (λ (x : Option FailedCheck). answered x o) without ∙ sym (ap (λ (x : Option FailedCheck). answered x o) with_rest) ∙ done
 
 -- ---- a lawful history goes on from lawful changes
 

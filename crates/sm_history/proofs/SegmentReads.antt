@@ -12,7 +12,7 @@ use Rattle.std.proofs.lemmas.List.Elements.{filter_agree}
 use Rattle.sm_kinds.specs.declared.identity.Identity.{Identity}
 use Rattle.sm_kinds.specs.declared.class.Class.TheVariants.{ServiceManager}
 use Rattle.sm_policy.specs.Policy.{Policy, written_at}
-use Rattle.sm_history.specs.declared.stop.Stop.{Stop}
+use Rattle.sm_history.specs.declared.failed_check.FailedCheck.{FailedCheck}
 use Rattle.sm_history.specs.declared.by.By.{By}
 use Rattle.sm_history.specs.declared.by.By.TheVariants.{Manager, Client, Admin}
 use Rattle.sm_history.specs.declared.event.Event.{Event}
@@ -22,7 +22,7 @@ use Rattle.sm_history.specs.declared.query.Query.TheVariants.{List as ListNames,
 use Rattle.sm_history.specs.declared.reply.Answer.{Answer}
 use Rattle.sm_history.specs.declared.reply.Answer.TheVariants.{Names, Why}
 use Rattle.sm_history.specs.declared.reply.Reply.TheVariants.{Done, Looked}
-use Rattle.sm_history.specs.declared.stop.Instead.TheVariants.{Refused}
+use Rattle.sm_history.specs.declared.failed_check.EarlyAnswer.TheVariants.{Refused}
 use Rattle.sm_history.specs.declared.refusal.Refusal.TheVariants.{Failed, JournalFull}
 use Rattle.sm_history.specs.declared.refusal.Failure.TheVariants.{NotYours, NotConnected}
 use Rattle.sm_history.specs.Effects.{Effects}
@@ -225,7 +225,7 @@ there_alike d e Manager s = refl
 there_alike d e (Client c) s = s.agree.lives c.0
 there_alike d e (Admin a) s = refl
 
-looked_alike : (d e : Effects) (len : ℕ) (q : Query) (o : Option Stop) → Sim d e
+looked_alike : (d e : Effects) (len : ℕ) (q : Query) (o : Option FailedCheck) → Sim d e
     → looked_at d len q o ≡ looked_at e len q o
 looked_alike d e len q None s = both (λ (v : ℕ) (x : Answer). Looked v len x) s.agree.version (found_alike d e q s)
 looked_alike d e len q (Some failing) s = refl
@@ -251,7 +251,7 @@ verdict_is : (places : ℕ) (h : History) (by : By) (turn : ℕ) (event : Event)
     (Wants (has_place places h (client_of by) event) (Refused JournalFull) ∷ [])
 verdict_is places h by turn event = refl
 
-looked_is : (h : History) (q : Query) (o : Option Stop) → looked h q o ≡ looked_at (effects_of h) (length_of h) q o
+looked_is : (h : History) (q : Query) (o : Option FailedCheck) → looked h q o ≡ looked_at (effects_of h) (length_of h) q o
 looked_is h q None = refl
 looked_is h q (Some failing) = refl
 

@@ -24,9 +24,9 @@ use Rattle.sm_history.specs.declared.event.Event.TheVariants.{Unregister, Call, 
 use Rattle.sm_history.specs.declared.query.Query.{Query}
 use Rattle.sm_history.specs.declared.query.Query.TheVariants.{List as ListNames, Version, Explain}
 use Rattle.sm_history.specs.declared.records.Record.{Record}
-use Rattle.sm_history.specs.declared.stop.Instead.{Instead}
-use Rattle.sm_history.specs.declared.stop.Instead.TheVariants.{Refused}
-use Rattle.sm_history.specs.declared.stop.Stop.{Stop}
+use Rattle.sm_history.specs.declared.failed_check.EarlyAnswer.{EarlyAnswer}
+use Rattle.sm_history.specs.declared.failed_check.EarlyAnswer.TheVariants.{Refused}
+use Rattle.sm_history.specs.declared.failed_check.FailedCheck.{FailedCheck}
 use Rattle.sm_history.specs.declared.refusal.Refusal.TheVariants.{Failed, JournalFull}
 use Rattle.sm_history.specs.declared.refusal.Failure.TheVariants.{NotYours, NotConnected, OutOfTurn}
 use Rattle.sm_history.specs.Effects.{Effects, Service, Watch, Adds, Watches, Gives}
@@ -245,7 +245,7 @@ handed_same d e c n s = elim (n.owner.0 == c) as (λ b.
     SameProcesses d (let f : Effects = if b then e else Gives c n (number_for e c n) ∷ e in f))
     [ true ↦ s | false ↦ record { clients = s.clients; manager = s.manager } ]
 
-told_same : (d e : Effects) (n : Node) (w : Watch) (o : Option Stop) → SameProcesses d e
+told_same : (d e : Effects) (n : Node) (w : Watch) (o : Option FailedCheck) → SameProcesses d e
     → SameProcesses d (after_told e n w o)
 told_same d e n w None s = let t = handed_same d e w.client n s in
     record { clients = t.clients; manager = t.manager }
@@ -301,7 +301,7 @@ telling_true h c Die opened acts = All-nil (IsTrueOf h)
 -- ---- events and queries
 
 -- What is left behind two conditions, which hold or nothing is left.
-behind_true : (h : History) (a b : Bool) (i j : Instead) (xs : List Check) (told : List Record)
+behind_true : (h : History) (a b : Bool) (i j : EarlyAnswer) (xs : List Check) (told : List Record)
     → (a ≡ true → b ≡ true → AllGood (effects_of h) xs)
     → (a ≡ true → b ≡ true → All (IsTrueOf h) told)
     → All (IsTrueOf h) (left_by_all (moment_of h) (Wants a i ∷ Wants b j ∷ xs)
@@ -342,7 +342,7 @@ query_good d (Admin a) (ListNames mask) theirs there = absurd (true≢false (sym
 query_good d by Version theirs there = tt
 query_good d by (Explain s t class perm) theirs there = tt
 
-asked_true : (h : History) (a b : Bool) (i j : Instead) (xs : List Check)
+asked_true : (h : History) (a b : Bool) (i j : EarlyAnswer) (xs : List Check)
     → (a ≡ true → b ≡ true → AllGood (effects_of h) xs)
     → All (IsTrueOf h) (left_by_all (moment_of h) (Wants a i ∷ Wants b j ∷ xs))
 asked_true h false b i j xs good = All-nil (IsTrueOf h)

@@ -4,7 +4,7 @@ use Rattle.std.proofs.Common.{None, if◌then◌else◌, arith}
 use Rattle.sm_kinds.specs.declared.number.Node.{Node}
 use Rattle.sm_kinds.specs.declared.number.ObjRef.{ObjRef}
 use Rattle.sm_policy.specs.Policy.{Policy}
-use Rattle.sm_history.specs.declared.stop.Stop.{Stop}
+use Rattle.sm_history.specs.declared.failed_check.FailedCheck.{FailedCheck}
 use Rattle.sm_history.specs.declared.event.Event.{Event}
 use Rattle.sm_history.specs.declared.event.Event.TheVariants.{Open, Connect, Add, Get, Watch as WatchName, Unwatch}
 use Rattle.sm_history.specs.declared.event.Event.TheVariants.{Unregister, Call, Release, Take, Die, Reload}
@@ -24,7 +24,7 @@ handed-same : (d : Effects) (c : ℕ) (n : Node) → version_at (handed d c n) �
 handed-same d c n = elim (n.owner.0 == c) as (λ b. version_at (if b then d else Gives c n (number_for d c n) ∷ d)
     ≡ version_at d) [ true ↦ refl | false ↦ refl ]
 
-told-same : (d : Effects) (n : Node) (w : Watch) (o : Option Stop) → version_at (after_told d n w o) ≡ version_at d
+told-same : (d : Effects) (n : Node) (w : Watch) (o : Option FailedCheck) → version_at (after_told d n w o) ≡ version_at d
 told-same d n w None = handed-same d w.client n
 told-same d n w (Some failing) = refl
 

@@ -12,7 +12,7 @@ use Rattle.sm_kinds.specs.declared.number.ObjRef.{ObjRef}
 use Rattle.sm_kinds.specs.declared.number.ObjRef.TheVariants.{Null as NullRef}
 use Rattle.sm_kinds.specs.Names.{is_valid_name}
 use Rattle.sm_kinds.specs.Users.{is_barred, is_isolated_user}
-use Rattle.sm_history.specs.declared.stop.Stop.{Stop}
+use Rattle.sm_history.specs.declared.failed_check.FailedCheck.{FailedCheck}
 use Rattle.sm_history.specs.declared.by.By.{By}
 use Rattle.sm_history.specs.declared.by.By.TheVariants.{Manager, Client, Admin}
 use Rattle.sm_history.specs.declared.event.Event.{Event}
@@ -32,7 +32,7 @@ use Rattle.sm_history.specs.declared.refusal.Exception.TheVariants.{DeadOwner, T
 use Rattle.sm_history.specs.declared.refusal.Exception.TheVariants.{NotRegistered, OtherObject, InUse}
 use Rattle.sm_history.specs.declared.reply.Reply.{Reply}
 use Rattle.sm_history.specs.declared.reply.Reply.TheVariants.{Done}
-use Rattle.sm_history.specs.declared.stop.Instead.TheVariants.{GotNull, GotOwn, Refused}
+use Rattle.sm_history.specs.declared.failed_check.EarlyAnswer.TheVariants.{GotNull, GotOwn, Refused}
 use Rattle.sm_history.specs.declared.delivery.Delivery.{Delivery}
 use Rattle.sm_history.specs.declared.notice.Notice.{Notice}
 use Rattle.sm_history.specs.Effects.{Effects, Service, Watch, Adds, Watches, same_node}
@@ -286,7 +286,7 @@ outcome_of d c Die = Died
 outcome_of d c (Reload expected policy) = Reloaded (version_at d + 1)
 
 -- An event is answered so, if this check failed or none did.
-abbrev pub answered : Option Stop → Outcome → Reply
+abbrev pub answered : Option FailedCheck → Outcome → Reply
 answered None outcome = Done outcome
 answered (Some failing) outcome = answer_of failing
 

@@ -23,7 +23,7 @@ const ENOBUFS: i32 = 105;
 
 /// What a failed `accept` means for the calls after it.
 #[derive(Clone, Copy, Debug, PartialEq, Eq)]
-enum Failure {
+enum AcceptFailure {
     /// It concerns only one connection or one call.
     Passing,
     /// Files or memory are short for now.
@@ -32,15 +32,15 @@ enum Failure {
     Lasting,
 }
 
-fn failure_of(error: &io::Error) -> Failure {
+fn failure_of(error: &io::Error) -> AcceptFailure {
     match error.kind() {
         ErrorKind::ConnectionAborted | ErrorKind::Interrupted | ErrorKind::WouldBlock => {
-            Failure::Passing
+            AcceptFailure::Passing
         }
-        ErrorKind::OutOfMemory => Failure::Shortage,
+        ErrorKind::OutOfMemory => AcceptFailure::Shortage,
         _ => match error.raw_os_error() {
-            Some(ENFILE | EMFILE | ENOBUFS) => Failure::Shortage,
-            _ => Failure::Lasting,
+            Some(ENFILE | EMFILE | ENOBUFS) => AcceptFailure::Shortage,
+            _ => AcceptFailure::Lasting,
         },
     }
 }
@@ -61,12 +61,12 @@ pub fn arrival<E: Entrance, H: Supervisor, R: Wait + Clock>(
         match entrance.accept() {
             Ok(stream) => return unless_noted(rt, faults, stream),
             Err(error) => match failure_of(&error) {
-                Failure::Passing => {}
-                Failure::Shortage => {
+                AcceptFailure::Passing => {}
+                AcceptFailure::Shortage => {
                     wait_out(rt, host, error, told);
                     told = true;
                 }
-                Failure::Lasting => {
+                AcceptFailure::Lasting => {
                     give_up(rt, host, faults, error);
                     return None;
                 }

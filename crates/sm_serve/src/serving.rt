@@ -17,7 +17,7 @@ use crate::supervisor::{ServerEvent, Supervisor};
 use crossbeam_channel::bounded;
 use sm_core::View;
 use sm_door::{
-    Actor, Admin, Door, LockedManager, Page, Published, Seat, Session, ViewReader, ViewWriter,
+    Actor, Admin, Door, LockedManager, Published, Seat, Session, SharedView, ViewReader, ViewWriter,
 };
 use sm_engine::ServeFault;
 use sm_registry::{HistoryId, Naming, Registry};
@@ -89,8 +89,8 @@ pub fn serve<
     thread::scope(thread::scope_env(), rt, |scope| {
         crosses::<View>();
         crosses::<HistoryId<J>>();
-        crosses::<Page<J>>();
-        crosses::<Arc<Page<J>>>();
+        crosses::<SharedView<J>>();
+        crosses::<Arc<SharedView<J>>>();
         crosses::<Published<J>>();
         sends::<ViewReader<J>>();
         sends::<Option<ViewReader<J>>>();

@@ -6,7 +6,8 @@ ghost use denote.Param.Send.{IsSend, IsSync};
 
 use sm_core::View;
 use sm_door::{
-    Actor, Admin, Door, Gate, LockedManager, Page, Published, Seat, Session, ViewReader, ViewWriter,
+    Actor, Admin, Door, Gate, LockedManager, Published, Seat, Session, SharedView, ViewReader,
+    ViewWriter,
 };
 use sm_history::{Answer, Event, Outcome, Refusal, Reply, Segment};
 use sm_kinds::{Class, Context, Identity, Name, ObjRef, Perms, Places};
@@ -239,8 +240,8 @@ fn all_at_once<J: Naming + Send + Sync, R: Threads + Wait + Abort + Sync>(
     thread::scope(thread::scope_env(), rt, |scope| {
         crosses::<View>();
         crosses::<HistoryId<J>>();
-        crosses::<Page<J>>();
-        crosses::<Arc<Page<J>>>();
+        crosses::<SharedView<J>>();
+        crosses::<Arc<SharedView<J>>>();
         crosses::<Published<J>>();
         sends::<ViewReader<J>>();
         sends::<Option<ViewReader<J>>>();
@@ -401,8 +402,8 @@ fn both_install<J: Naming + Send + Sync, R: Threads + Wait + Abort + Sync>(
     thread::scope(thread::scope_env(), rt, |scope| {
         crosses::<View>();
         crosses::<HistoryId<J>>();
-        crosses::<Page<J>>();
-        crosses::<Arc<Page<J>>>();
+        crosses::<SharedView<J>>();
+        crosses::<Arc<SharedView<J>>>();
         crosses::<Published<J>>();
         sends::<ViewReader<J>>();
         sends::<Option<ViewReader<J>>>();

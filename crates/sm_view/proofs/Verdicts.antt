@@ -16,14 +16,14 @@ use Rattle.sm_history.specs.declared.refusal.Refusal.TheVariants.{Failed}
 use Rattle.sm_history.specs.declared.refusal.Failure.TheVariants.{NotYours, NotConnected, OutOfTurn}
 use Rattle.sm_history.specs.declared.reply.Reply.{Reply}
 use Rattle.sm_history.specs.declared.reply.Reply.TheVariants.{Done, Refused}
-use Rattle.sm_history.specs.declared.stop.Instead.TheVariants.{Refused as IsRefused}
+use Rattle.sm_history.specs.declared.failed_check.EarlyAnswer.TheVariants.{Refused as IsRefused}
 use Rattle.sm_history.specs.declared.service.Service.{Service}
 use Rattle.sm_history.specs.Books.{Book}
 use Rattle.sm_history.specs.Effects.{Effects}
 use Rattle.sm_history.specs.Clients.{policy_at}
 use Rattle.sm_history.specs.Services.{service_at}
 use Rattle.sm_history.specs.Holdings.{node_at}
-use Rattle.sm_history.specs.Checks.{Check, Needs, Spares, Wants, holds, stop_of, answer_of, instead_of, first_failing}
+use Rattle.sm_history.specs.Checks.{Check, Needs, Spares, Wants, holds, failed_check_of, answer_of, early_reply, first_failing}
 use Rattle.sm_history.specs.Histories.{History, effects_of, turn_of, client_of, found}
 use Rattle.sm_history.specs.Verdict.{verdict, answered, is_theirs, is_there, outcome_of, handing_checks}
 use Rattle.sm_history.specs.Verdict.{passes_to_client, all_pass_to_client}
@@ -41,10 +41,10 @@ settles (Refused (Failed (OutOfTurn n))) = false
 settles _ = true
 
 abbrev plain : Check → Bool
-plain (Wants ok instead) = settles (instead_of instead)
+plain (Wants ok instead) = settles (early_reply instead)
 plain _ = true
 
-plain_answer : (x : Check) → plain x ≡ true → settles (answer_of (stop_of x)) ≡ true
+plain_answer : (x : Check) → plain x ≡ true → settles (answer_of (failed_check_of x)) ≡ true
 plain_answer (Needs class perm who target name) h = refl
 plain_answer (Spares ok denial who name) h = refl
 plain_answer (Wants ok instead) h = h
@@ -53,7 +53,7 @@ first_plain : (p : Policy) (xs : List Check) (o : Outcome) → list_all plain xs
     → settles (answered (first_failing p xs) o) ≡ true
 first_plain p [] o all = refl
 first_plain p (x ∷ xs) o all =
-    elim (holds p x) as (λ b. settles (answered (if b then first_failing p xs else Some (stop_of x)) o) ≡ true) [
+    elim (holds p x) as (λ b. settles (answered (if b then first_failing p xs else Some (failed_check_of x)) o) ≡ true) [
       | true ↦ first_plain p xs o (and_parts (plain x) (list_all plain xs) all).1
       | false ↦ plain_answer x (and_parts (plain x) (list_all plain xs) all).0
     ]

@@ -67,7 +67,7 @@ fn open<'a, J: Naming + Send + Sync, R: Files + Net + Threads + Wait + Clock + S
         Err(refusal) => return Err(Ending::Script(ScriptFault::Opening(refusal))),
     };
     let seats = FreeSeats::new(seats);
-    let tokens = Tokens {
+    let tokens = AdminTokens {
         admin: admins.swap_remove(0),
         sealer: admins.swap_remove(0),
     };
@@ -78,7 +78,7 @@ fn open<'a, J: Naming + Send + Sync, R: Files + Net + Threads + Wait + Clock + S
 
 /// The tokens of a server: for administrators' connections, and for its own seals.
 #[derive(Drop)]
-struct Tokens<J: Naming> {
+struct AdminTokens<J: Naming> {
     admin: Admin<J>,
     sealer: Admin<J>,
 }
@@ -97,7 +97,7 @@ fn listen<'a, J: Naming + Send + Sync, R: Files + Net + Threads + Wait + Clock +
     rt: &R,
     door: &Door<J, NoGate>,
     seats: &FreeSeats<J>,
-    tokens: Tokens<J>,
+    tokens: AdminTokens<J>,
     slots: u32,
     sockets: Sockets<'a>,
 ) -> Result<(), Ending<'a>> {
@@ -121,7 +121,7 @@ fn listen_to_both<'a, J: Naming + Send + Sync, R: Files + Net + Threads + Wait +
     rt: &R,
     door: &Door<J, NoGate>,
     seats: &FreeSeats<J>,
-    tokens: Tokens<J>,
+    tokens: AdminTokens<J>,
     slots: u32,
     sockets: Sockets<'a>,
     clients: UnixListener,
@@ -148,7 +148,7 @@ fn serve_at<'a, J: Naming + Send + Sync, R: Threads + Wait + Clock + Sync>(
     rt: &R,
     door: &Door<J, NoGate>,
     seats: &FreeSeats<J>,
-    tokens: Tokens<J>,
+    tokens: AdminTokens<J>,
     slots: u32,
     sockets: Sockets<'a>,
     clients: UnixListener,
@@ -207,12 +207,12 @@ fn serve_under<'a, J: Naming + Send + Sync, R: Threads + Wait + Clock + Sync>(
     console: &Console<R>,
     door: &Door<J, NoGate>,
     seats: &FreeSeats<J>,
-    tokens: Tokens<J>,
+    tokens: AdminTokens<J>,
     numbers: Numbers,
     mut clients: UnixListener,
     admins: UnixListener,
 ) -> Result<(), Ending<'a>> {
-    let Tokens { admin, sealer } = tokens;
+    let AdminTokens { admin, sealer } = tokens;
     let ended = serve(
         rt,
         host.alloc(),

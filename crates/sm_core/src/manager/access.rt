@@ -5,7 +5,7 @@ ghost use Rattle.sm_kinds.specs.Contexts.{type_of};
 ghost use Rattle.sm_kinds.specs.declared.class.Class.TheVariants.{Binder, ServiceManager};
 ghost use Rattle.sm_policy.specs.Policy.{allowed, decision, type_index};
 ghost use Rattle.sm_history.specs.Records.{rule_record};
-ghost use Rattle.sm_history.specs.declared.stop.Stop.TheVariants.{Unruled, Barred};
+ghost use Rattle.sm_history.specs.declared.failed_check.FailedCheck.TheVariants.{Unruled, Barred};
 ghost use Rattle.sm_history.specs.Clients.{manager_at, policy_at, label_at};
 ghost use Rattle.sm_history.specs.Checks.{adding, calling, finding, listing, transferring};
 ghost use Rattle.sm_core.specs.Judging.{IsRuled, noted, clause_noted};
@@ -17,8 +17,8 @@ use crate::manager::replying::denial;
 use crate::manager::{Manager, wanted};
 use crate::notes::Notes;
 use crate::process::Process;
-use crate::small_stop::SmallStop;
-use sm_history::{Denial, Record, Stop};
+use crate::small_failed_check::SmallFailedCheck;
+use sm_history::{Denial, FailedCheck, Record};
 use sm_kinds::{Class, Context, Identity, Name, Perms};
 use sm_policy::Decision;
 use std::alloc::{AllocError, Global};
@@ -33,7 +33,7 @@ fn unruled(
     name: Option<&Name>,
     class: Class,
     perm: Perms,
-) -> SmallStop
+) -> SmallFailedCheck
     ensures { (result ≡ spec.wanted)
         ⊎ (result ≡ Unruled class perm who.now target.now (option_map (λ n. n.now) name.entry)) }
 {
@@ -50,14 +50,14 @@ fn unruled(
             Err(_) => return wanted(),
         },
     };
-    let stop = Stop::Unruled {
+    let stop = FailedCheck::Unruled {
         class,
         perm,
         who,
         target,
         name,
     };
-    SmallStop::whole(alloc, stop)
+    SmallFailedCheck::whole(alloc, stop)
 }
 
 impl Manager {
@@ -72,7 +72,7 @@ impl Manager {
         class: Class,
         perm: Perms,
         notes: &mut Notes,
-    ) -> Result<(), SmallStop>
+    ) -> Result<(), SmallFailedCheck>
         requires { made ≡ decision (policy_at (effects_in self.now)) (type_of who.now.context)
             (type_of target.now) class perm }
         ensures { MatchResult result
@@ -98,7 +98,7 @@ impl Manager {
         class: Class,
         perm: Perms,
         notes: &mut Notes,
-    ) -> Result<(), SmallStop>
+    ) -> Result<(), SmallFailedCheck>
         requires { permissive
             ≡ allowed (policy_at (effects_in self.now)) (type_of who.now.context) (type_of target.now) class perm }
         ensures { MatchResult result
@@ -156,12 +156,12 @@ impl Manager {
         who: &Identity,
         name: &Name,
         notes: &mut Notes,
-    ) -> SmallStop
+    ) -> SmallFailedCheck
         ensures { (result ≡ spec.wanted) ⊎ ((result ≡ Barred denial who.now name.now)
             × (notes.new ≡ clause_noted (moment_in self.now) notes.old denial who.now name.now)) }
     {
         match self.bars(denial, who, name, notes) {
-            Ok(stop) => SmallStop::whole(self.alloc, stop),
+            Ok(stop) => SmallFailedCheck::whole(self.alloc, stop),
             Err(_) => wanted(),
         }
     }
@@ -174,7 +174,7 @@ impl Manager {
         who: &Identity,
         name: &Name,
         notes: &mut Notes,
-    ) -> Result<Stop, AllocError>
+    ) -> Result<FailedCheck, AllocError>
         ensures { IfOk result (λ s. (s ≡ Barred denial who.now name.now)
             × (notes.new ≡ clause_noted (moment_in self.now) notes.old denial who.now name.now)) }
     {
@@ -188,7 +188,7 @@ impl Manager {
             target: None,
             name: Some(name.clone()?),
         })?;
-        Ok(Stop::Barred {
+        Ok(FailedCheck::Barred {
             denial,
             who: who.clone()?,
             name: name.clone()?,
@@ -196,7 +196,7 @@ impl Manager {
     }
 
     /// Checks that a process may send a transaction to the manager.
-    pub fn can_call_manager(&self, who: &Process, notes: &mut Notes) -> Result<(), SmallStop>
+    pub fn can_call_manager(&self, who: &Process, notes: &mut Notes) -> Result<(), SmallFailedCheck>
         requires { who.now ≡ process_at (effects_in self.now) who.now.who }
         ensures { IsRuled (moment_in self.now) notes.old notes.new Binder calling who.now.who
             (manager_at (effects_in self.now)).context None result }
@@ -205,7 +205,11 @@ impl Manager {
     }
 
     /// Checks that a process may pass a reference to the manager.
-    pub fn can_transfer_to_manager(&self, who: &Process, notes: &mut Notes) -> Result<(), SmallStop>
+    pub fn can_transfer_to_manager(
+        &self,
+        who: &Process,
+        notes: &mut Notes,
+    ) -> Result<(), SmallFailedCheck>
         requires { who.now ≡ process_at (effects_in self.now) who.now.who }
         ensures { IsRuled (moment_in self.now) notes.old notes.new Binder transferring who.now.who
             (manager_at (effects_in self.now)).context None result }
@@ -214,7 +218,11 @@ impl Manager {
     }
 
     /// Checks that the manager may send a transaction to a process.
-    pub fn can_call_from_manager(&self, who: &Process, notes: &mut Notes) -> Result<(), SmallStop>
+    pub fn can_call_from_manager(
+        &self,
+        who: &Process,
+        notes: &mut Notes,
+    ) -> Result<(), SmallFailedCheck>
         requires { who.now ≡ process_at (effects_in self.now) who.now.who }
         ensures { IsRuled (moment_in self.now) notes.old notes.new Binder calling
             (manager_at (effects_in self.now)) who.now.who.context None result }
@@ -227,7 +235,7 @@ impl Manager {
         &self,
         who: &Process,
         notes: &mut Notes,
-    ) -> Result<(), SmallStop>
+    ) -> Result<(), SmallFailedCheck>
         requires { who.now ≡ process_at (effects_in self.now) who.now.who }
         ensures { IsRuled (moment_in self.now) notes.old notes.new Binder transferring
             (manager_at (effects_in self.now)) who.now.who.context None result }
@@ -241,7 +249,7 @@ impl Manager {
         who: &Process,
         other: &Process,
         notes: &mut Notes,
-    ) -> Result<(), SmallStop>
+    ) -> Result<(), SmallFailedCheck>
         requires who { who.now ≡ process_at (effects_in self.now) who.now.who }
         requires other { other.now ≡ process_at (effects_in self.now) other.now.who }
         ensures { IsRuled (moment_in self.now) notes.old notes.new Binder calling who.now.who
@@ -256,7 +264,7 @@ impl Manager {
         who: &Process,
         other: &Process,
         notes: &mut Notes,
-    ) -> Result<(), SmallStop>
+    ) -> Result<(), SmallFailedCheck>
         requires who { who.now ≡ process_at (effects_in self.now) who.now.who }
         requires other { other.now ≡ process_at (effects_in self.now) other.now.who }
         ensures { IsRuled (moment_in self.now) notes.old notes.new Binder transferring who.now.who
@@ -266,7 +274,12 @@ impl Manager {
     }
 
     /// Checks that a process may add a service under a name, whose label is the target.
-    pub fn can_add(&self, who: &Process, name: &Name, notes: &mut Notes) -> Result<(), SmallStop>
+    pub fn can_add(
+        &self,
+        who: &Process,
+        name: &Name,
+        notes: &mut Notes,
+    ) -> Result<(), SmallFailedCheck>
         requires { who.now ≡ process_at (effects_in self.now) who.now.who }
         ensures { IsRuled (moment_in self.now) notes.old notes.new ServiceManager adding who.now.who
             (label_at (effects_in self.now) name.now) (Some name.now) result }
@@ -275,7 +288,12 @@ impl Manager {
     }
 
     /// Checks that a process may find the service of a name, whose label is the target.
-    pub fn can_find(&self, who: &Process, name: &Name, notes: &mut Notes) -> Result<(), SmallStop>
+    pub fn can_find(
+        &self,
+        who: &Process,
+        name: &Name,
+        notes: &mut Notes,
+    ) -> Result<(), SmallFailedCheck>
         requires { who.now ≡ process_at (effects_in self.now) who.now.who }
         ensures { IsRuled (moment_in self.now) notes.old notes.new ServiceManager finding who.now.who
             (label_at (effects_in self.now) name.now) (Some name.now) result }
@@ -284,7 +302,7 @@ impl Manager {
     }
 
     /// Checks that a process may list the names; the manager's own context is the target.
-    pub fn can_list(&self, who: &Process, notes: &mut Notes) -> Result<(), SmallStop>
+    pub fn can_list(&self, who: &Process, notes: &mut Notes) -> Result<(), SmallFailedCheck>
         requires { who.now ≡ process_at (effects_in self.now) who.now.who }
         ensures { IsRuled (moment_in self.now) notes.old notes.new ServiceManager listing who.now.who
             (manager_at (effects_in self.now)).context None result }
@@ -309,7 +327,7 @@ impl Manager {
         target: &Process,
         perm: Perms,
         notes: &mut Notes,
-    ) -> Result<(), SmallStop>
+    ) -> Result<(), SmallFailedCheck>
         requires source { source.now ≡ process_at (effects_in self.now) source.now.who }
         requires target { target.now ≡ process_at (effects_in self.now) target.now.who }
         ensures { IsRuled (moment_in self.now) notes.old notes.new Binder perm source.now.who
@@ -334,7 +352,7 @@ impl Manager {
         name: &Name,
         perm: Perms,
         notes: &mut Notes,
-    ) -> Result<(), SmallStop>
+    ) -> Result<(), SmallFailedCheck>
         requires { source.now ≡ process_at (effects_in self.now) source.now.who }
         ensures { IsRuled (moment_in self.now) notes.old notes.new ServiceManager perm source.now.who
             (label_at (effects_in self.now) name.now) (Some name.now) result }
@@ -362,7 +380,7 @@ impl Manager {
         class: Class,
         perm: Perms,
         notes: &mut Notes,
-    ) -> Result<(), SmallStop>
+    ) -> Result<(), SmallFailedCheck>
         requires source { source.now ≡ process_at (effects_in self.now) source.now.who }
         requires target { index ≡ type_index (policy_at (effects_in self.now)) (type_of target.now) }
         ensures { IsRuled (moment_in self.now) notes.old notes.new class perm source.now.who target.now

@@ -16,11 +16,11 @@ ghost use Rattle.sm_core.specs.Judging as spec;
 ghost use Rattle.sm_core.specs.Calling.{Sends, gives_of, passing_checks, target_checks};
 ghost use Rattle.sm_core.specs.Managed.{effects_in, moment_in};
 
-use crate::client::ClientRow;
+use crate::client::LiveClient;
 use crate::manager::{Manager, wanted};
 use crate::notes::Notes;
 use crate::plan::Plan;
-use crate::small_stop::{Plain, SmallStop};
+use crate::small_failed_check::{Plain, SmallFailedCheck};
 use sm_history::{BoxedDelivery, Delivery, Effect, Failure, Given, GivenRefs, Message, Outcome};
 use sm_kinds::{Identity, Node, ObjRef, Payload, Refs};
 use std::alloc::{AllocError, Global};
@@ -113,12 +113,12 @@ impl Manager {
     /// by `selinux_binder_transaction` and, for each reference, `selinux_binder_transfer_binder`.
     pub fn judge_call(
         &self,
-        row: &ClientRow,
+        row: &LiveClient,
         handle: u32,
         payload: &Payload,
         refs: &Refs,
         notes: &mut Notes,
-    ) -> Result<Plan, SmallStop>
+    ) -> Result<Plan, SmallFailedCheck>
         requires live { is_live (effects_in self.now) row.now.id ≡ true }
         requires row { row.now ≡ client_row (effects_in self.now) row.now.id }
         ensures { Judged self.now.book.history notes.old notes.new row.now.id
@@ -136,7 +136,7 @@ impl Manager {
             return Err(wanted());
         };
         if !self.has_room(target.owner.0, nodes.as_slice()) {
-            return Err(SmallStop::unmet(Plain::Failed(Failure::TargetFull)));
+            return Err(SmallFailedCheck::unmet(Plain::Failed(Failure::TargetFull)));
         }
         self.plan_call(row, target, payload, named.as_slice(), nodes.as_slice())
     }
@@ -144,10 +144,10 @@ impl Manager {
     /// Returns the called object, if its owner lives and the caller may call the owner.
     fn judge_target(
         &self,
-        row: &ClientRow,
+        row: &LiveClient,
         handle: u32,
         notes: &mut Notes,
-    ) -> Result<Node, SmallStop>
+    ) -> Result<Node, SmallFailedCheck>
         requires { row.now ≡ client_row (effects_in self.now) row.now.id }
         ensures { MatchResult result
             (λ n. AllPass (moment_in self.now) notes.old notes.new
@@ -158,10 +158,10 @@ impl Manager {
             (target_checks (effects_in self.now) row.now.id (node_at (effects_in self.now) row.now.id handle))) }
     {
         let Some(node) = self.resolved(row.id, ObjRef::Handle(handle)) else {
-            return Err(SmallStop::unmet(Plain::Failed(Failure::BadHandle)));
+            return Err(SmallFailedCheck::unmet(Plain::Failed(Failure::BadHandle)));
         };
         let Some(owner) = self.client_row(node.owner.0) else {
-            return Err(SmallStop::unmet(Plain::Dead));
+            return Err(SmallFailedCheck::unmet(Plain::Dead));
         };
         if let Err(stop) = self.can_call_client(&row.process, &owner.process, notes) {
             return Err(stop);
@@ -172,11 +172,11 @@ impl Manager {
     /// Returns the objects that a call's references name, if each may be passed to the receiver.
     fn judge_references(
         &self,
-        row: &ClientRow,
+        row: &LiveClient,
         receiver: u32,
         refs: &[ObjRef],
         notes: &mut Notes,
-    ) -> Result<Vec<Option<Node>>, SmallStop>
+    ) -> Result<Vec<Option<Node>>, SmallFailedCheck>
         requires row { row.now ≡ client_row (effects_in self.now) row.now.id }
         requires live { is_live (effects_in self.now) receiver ≡ true }
         ensures { MatchResult result
@@ -202,11 +202,11 @@ impl Manager {
     /// Returns the object that a reference names, if it is null or may be passed to the receiver.
     fn judge_passed(
         &self,
-        row: &ClientRow,
+        row: &LiveClient,
         receiver: u32,
         obj: ObjRef,
         notes: &mut Notes,
-    ) -> Result<Option<Node>, SmallStop>
+    ) -> Result<Option<Node>, SmallFailedCheck>
         requires row { row.now ≡ client_row (effects_in self.now) row.now.id }
         requires live { is_live (effects_in self.now) receiver ≡ true }
         ensures { MatchResult result
@@ -226,11 +226,11 @@ impl Manager {
     /// Returns the object of a reference, if it names one that may be passed to the receiver.
     fn judge_named(
         &self,
-        row: &ClientRow,
+        row: &LiveClient,
         receiver: u32,
         node: Option<Node>,
         notes: &mut Notes,
-    ) -> Result<Option<Node>, SmallStop>
+    ) -> Result<Option<Node>, SmallFailedCheck>
         requires row { row.now ≡ client_row (effects_in self.now) row.now.id }
         requires live { is_live (effects_in self.now) receiver ≡ true }
         ensures { MatchResult result
@@ -241,7 +241,7 @@ impl Manager {
             (passing_checks (effects_in self.now) row.now.id receiver node)) }
     {
         if node.is_none() {
-            return Err(SmallStop::unmet(Plain::Failed(Failure::BadHandle)));
+            return Err(SmallFailedCheck::unmet(Plain::Failed(Failure::BadHandle)));
         }
         let Some(other) = self.client_row(receiver) else {
             unreachable!();
@@ -271,12 +271,12 @@ impl Manager {
     /// Returns the plan of a call that passes its checks.
     fn plan_call(
         &self,
-        row: &ClientRow,
+        row: &LiveClient,
         target: Node,
         payload: &Payload,
         named: &[Option<Node>],
         nodes: &[Node],
-    ) -> Result<Plan, SmallStop>
+    ) -> Result<Plan, SmallFailedCheck>
         requires row { row.now ≡ client_row (effects_in self.now) row.now.id }
         requires live { is_live (effects_in self.now) target.owner.0 ≡ true }
         requires few { length nodes.now ≤ MOST_REFS }

@@ -13,11 +13,11 @@ ghost use Rattle.sm_view.specs.Promises.{Looks};
 ghost use Rattle.sm_view.specs.Replies.{takes_memory};
 
 use crate::caller::Caller;
-use crate::client::ClientRow;
+use crate::client::LiveClient;
 use crate::manager::replying::{answer, is_memory};
 use crate::manager::{Manager, wanted};
 use crate::notes::Notes;
-use crate::small_stop::{Plain, SmallStop};
+use crate::small_failed_check::{Plain, SmallFailedCheck};
 use sm_history::{Answer, By, Failure, NameList, Query, Record, Reply};
 use sm_kinds::Name;
 use std::alloc::AllocError;
@@ -72,7 +72,12 @@ impl Manager {
     }
 
     /// Returns why a query is refused, or its result.
-    pub fn judge_query(&self, by: By, query: &Query, notes: &mut Notes) -> Result<Answer, SmallStop>
+    pub fn judge_query(
+        &self,
+        by: By,
+        query: &Query,
+        notes: &mut Notes,
+    ) -> Result<Answer, SmallFailedCheck>
         ensures judged { MatchResult result
             (λ found. AllPass (moment_in self.now) notes.old notes.new
             (checks_of_query self.now.book.history by query.now)
@@ -81,10 +86,10 @@ impl Manager {
         ensures asker { takes_memory query.now ≡ false → IfErr result IsAskerStop }
     {
         if !may_ask(by, query) {
-            return Err(SmallStop::unmet(Plain::Failed(Failure::NotYours)));
+            return Err(SmallFailedCheck::unmet(Plain::Failed(Failure::NotYours)));
         }
         let Some(caller) = self.caller(by) else {
-            return Err(SmallStop::unmet(Plain::Failed(Failure::NotConnected)));
+            return Err(SmallFailedCheck::unmet(Plain::Failed(Failure::NotConnected)));
         };
         match query {
             Query::List(mask) => match caller {
@@ -106,7 +111,12 @@ impl Manager {
     }
 
     /// Judges a list (`listServices`): `list` is checked against the manager's own context.
-    fn list(&self, row: &ClientRow, mask: u32, notes: &mut Notes) -> Result<Answer, SmallStop>
+    fn list(
+        &self,
+        row: &LiveClient,
+        mask: u32,
+        notes: &mut Notes,
+    ) -> Result<Answer, SmallFailedCheck>
         requires live { is_live (effects_in self.now) row.now.id ≡ true }
         requires row { row.now ≡ client_row (effects_in self.now) row.now.id }
         ensures { MatchResult result

@@ -19,15 +19,15 @@ use crate::manager::{Manager, wanted};
 use crate::notes::Notes;
 use crate::notifications::{Notifications, boxed_twice, listed_twice};
 use crate::plan::Plan;
-use crate::small_stop::{Plain, SmallStop};
+use crate::small_failed_check::{Plain, SmallFailedCheck};
 use sm_history::{Effect, Failure, Given, Notice, Outcome, Told, Watch};
 use sm_kinds::{ClientId, Name, Node};
 
 /// Returns the stop for a watcher whose inbox or handles have no room.
-fn full() -> SmallStop
+fn full() -> SmallFailedCheck
     ensures { result ≡ spec.full }
 {
-    SmallStop::unmet(Plain::Failed(Failure::TargetFull))
+    SmallFailedCheck::unmet(Plain::Failed(Failure::TargetFull))
 }
 
 impl Manager {
@@ -75,7 +75,7 @@ impl Manager {
         node: Node,
         left: usize,
         notes: &mut Notes,
-    ) -> Result<Given, SmallStop>
+    ) -> Result<Given, SmallFailedCheck>
         requires { is_live (effects_in self.now) watch.now.client ≡ true }
         ensures { MatchResult result
             (λ g. AllPass (moment_in self.now) notes.old notes.new
@@ -104,7 +104,7 @@ impl Manager {
         watch: &Watch,
         node: Node,
         notifications: &mut Notifications,
-    ) -> Result<Told, SmallStop>
+    ) -> Result<Told, SmallFailedCheck>
         requires live { is_live (effects_in self.now) watch.now.client ≡ true }
         requires notifications { AreNotifications (effects_in self.now) node notifications.old }
         ensures { MatchResult result
@@ -133,7 +133,7 @@ impl Manager {
         watch: &Watch,
         node: Node,
         notifications: &mut Notifications,
-    ) -> Result<Notice, SmallStop>
+    ) -> Result<Notice, SmallFailedCheck>
         requires live { is_live (effects_in self.now) watch.now.client ≡ true }
         requires notifications { AreNotifications (effects_in self.now) node notifications.old }
         ensures { MatchResult result
@@ -156,7 +156,7 @@ impl Manager {
         watches: &[Watch],
         node: Node,
         notifications: &mut Notifications,
-    ) -> Result<Vec<Notice>, SmallStop>
+    ) -> Result<Vec<Notice>, SmallFailedCheck>
         requires live { list_all (λ w. is_live (effects_in self.now) w.client) watches.now ≡ true }
         requires notifications { AreNotifications (effects_in self.now) node notifications.old }
         ensures { MatchResult result
@@ -189,7 +189,7 @@ impl Manager {
         watch: &Watch,
         node: Node,
         effects: Vec<Effect>,
-    ) -> Result<Plan, SmallStop>
+    ) -> Result<Plan, SmallFailedCheck>
         requires live { is_live (effects_in self.now) watch.now.client ≡ true }
         requires before { MayPrecede (effects_in self.now) node effects.items }
         ensures { MatchResult result
@@ -221,7 +221,7 @@ impl Manager {
         name: &Name,
         node: Node,
         effects: Vec<Effect>,
-    ) -> Result<Plan, SmallStop>
+    ) -> Result<Plan, SmallFailedCheck>
         requires { MayPrecede (effects_in self.now) node effects.items }
         ensures { MatchResult result
             (λ plan. (plan.outcome ≡ Added (notices_at (followed (effects_in self.now) effects.items) node

@@ -12,18 +12,18 @@ use crate::manager::Manager;
 use crate::manager::judging::one;
 use crate::notes::Notes;
 use crate::plan::Plan;
-use crate::small_stop::{Plain, SmallStop};
+use crate::small_failed_check::{Plain, SmallFailedCheck};
 use sm_history::{Effect, Failure, Outcome};
 use sm_kinds::ObjRef;
 
 impl Manager {
     /// Judges a release of one grant of a handle. The last release frees the number.
-    pub fn judge_release(&self, client: u32, handle: u32) -> Result<Plan, SmallStop>
+    pub fn judge_release(&self, client: u32, handle: u32) -> Result<Plan, SmallFailedCheck>
         requires { is_live (effects_in self.now) client ≡ true }
         ensures { (old : List Record) → Judged self.now.book.history old old client (Release handle) result }
     {
         let Some(node) = self.resolved(client, ObjRef::Handle(handle)) else {
-            return Err(SmallStop::unmet(Plain::Failed(Failure::BadHandle)));
+            return Err(SmallFailedCheck::unmet(Plain::Failed(Failure::BadHandle)));
         };
         let effects = one(self.alloc, Effect::Releases { client, node })?;
         Ok(Plan {

@@ -13,7 +13,7 @@ use crate::manager::judging::one;
 use crate::manager::{Manager, wanted};
 use crate::notes::Notes;
 use crate::plan::Plan;
-use crate::small_stop::{Plain, SmallStop};
+use crate::small_failed_check::{Plain, SmallFailedCheck};
 use sm_history::{BoxedDelivery, Effect, Outcome};
 
 impl Manager {
@@ -27,12 +27,12 @@ impl Manager {
     }
 
     /// Judges a take of the oldest delivery from a client's inbox.
-    pub fn judge_take(&self, client: u32) -> Result<Plan, SmallStop>
+    pub fn judge_take(&self, client: u32) -> Result<Plan, SmallFailedCheck>
         requires { is_live (effects_in self.now) client ≡ true }
         ensures { (old : List Record) → Judged self.now.book.history old old client Take result }
     {
         let Some(oldest) = self.oldest(client) else {
-            return Err(SmallStop::unmet(Plain::Empty));
+            return Err(SmallFailedCheck::unmet(Plain::Empty));
         };
         let Ok(outcome) = oldest.clone() else {
             return Err(wanted());

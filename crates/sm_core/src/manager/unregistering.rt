@@ -2,8 +2,8 @@
 
 ghost use Rattle.std.specs.Prelude.{◌≡◌, true, MatchResult};
 ghost use Rattle.sm_history.specs.declared.event.Event.TheVariants.{Unregister};
-ghost use Rattle.sm_history.specs.declared.stop.Stop.TheVariants.{Unmet};
-ghost use Rattle.sm_history.specs.declared.stop.Instead.TheVariants.{Refused};
+ghost use Rattle.sm_history.specs.declared.failed_check.FailedCheck.TheVariants.{Unmet};
+ghost use Rattle.sm_history.specs.declared.failed_check.EarlyAnswer.TheVariants.{Refused};
 ghost use Rattle.sm_history.specs.declared.refusal.Refusal.TheVariants.{Exception as Excepted};
 ghost use Rattle.sm_history.specs.Clients.{is_live, policy_at};
 ghost use Rattle.sm_history.specs.Holdings.{is_in_use};
@@ -11,31 +11,31 @@ ghost use Rattle.sm_core.specs.Tables.{client_row};
 ghost use Rattle.sm_core.specs.Judging.{AllPass, Halts, Judged, removal_checks};
 ghost use Rattle.sm_core.specs.Managed.{effects_in, moment_in};
 
-use crate::client::ClientRow;
+use crate::client::LiveClient;
 use crate::manager::judging::one;
 use crate::manager::{Manager, wanted};
 use crate::notes::Notes;
 use crate::plan::Plan;
-use crate::small_stop::{Plain, SmallStop};
+use crate::small_failed_check::{Plain, SmallFailedCheck};
 use sm_history::{Effect, Exception, Outcome};
 use sm_kinds::{Name, Node, ObjRef};
 
 /// Returns the stop for a call that fails with a Binder exception.
-fn failed(exception: Exception) -> SmallStop
+fn failed(exception: Exception) -> SmallFailedCheck
     ensures { result ≡ Unmet (Refused (Excepted exception)) }
 {
-    SmallStop::unmet(Plain::Exception(exception))
+    SmallFailedCheck::unmet(Plain::Exception(exception))
 }
 
 impl Manager {
     /// Judges the removal of a service by the client that added it (`tryUnregisterService`).
     pub fn judge_unregister(
         &self,
-        row: &ClientRow,
+        row: &LiveClient,
         name: &Name,
         obj: ObjRef,
         notes: &mut Notes,
-    ) -> Result<Plan, SmallStop>
+    ) -> Result<Plan, SmallFailedCheck>
         requires live { is_live (effects_in self.now) row.now.id ≡ true }
         requires row { row.now ≡ client_row (effects_in self.now) row.now.id }
         ensures { Judged self.now.book.history notes.old notes.new row.now.id (Unregister name.now obj) result }
@@ -60,11 +60,11 @@ impl Manager {
     /// Checks that the caller may remove an object from a name.
     fn judge_removal(
         &self,
-        row: &ClientRow,
+        row: &LiveClient,
         name: &Name,
         node: Option<Node>,
         notes: &mut Notes,
-    ) -> Result<(), SmallStop>
+    ) -> Result<(), SmallFailedCheck>
         requires { row.now ≡ client_row (effects_in self.now) row.now.id }
         ensures { MatchResult result
             (λ done. AllPass (moment_in self.now) notes.old notes.new

@@ -13,17 +13,17 @@ ghost use Rattle.sm_core.specs.Judging.{AllPass, Halts, Judged};
 ghost use Rattle.sm_core.specs.Judging as spec;
 ghost use Rattle.sm_core.specs.Managed.{effects_in, moment_in};
 
-use crate::client::ClientRow;
+use crate::client::LiveClient;
 use crate::manager::judging::one;
 use crate::manager::{Manager, wanted};
 use crate::notes::Notes;
 use crate::plan::Plan;
-use crate::small_stop::{Plain, SmallStop};
+use crate::small_failed_check::{Plain, SmallFailedCheck};
 use sm_history::{Denial, Effect, Exception, MOST_WATCHES, Outcome, Watch, WatchPair};
 use sm_kinds::{Name, is_isolated, valid_name};
 
 /// Makes the watch of a name by a client's object.
-fn watch_of(client: u32, name: &Name, object: u32) -> Result<Watch, SmallStop>
+fn watch_of(client: u32, name: &Name, object: u32) -> Result<Watch, SmallFailedCheck>
     ensures { MatchResult result (λ w. w ≡ watch client name.now object) (λ s. s ≡ spec.wanted) }
 {
     match name.clone() {
@@ -37,7 +37,7 @@ fn watch_of(client: u32, name: &Name, object: u32) -> Result<Watch, SmallStop>
 }
 
 /// Makes the watch and its copy.
-fn pair_of(client: u32, name: &Name, object: u32) -> Result<WatchPair, SmallStop>
+fn pair_of(client: u32, name: &Name, object: u32) -> Result<WatchPair, SmallFailedCheck>
     ensures { MatchResult result (λ w. w ≡ watch client name.now object) (λ s. s ≡ spec.wanted) }
 {
     match WatchPair::new(client, name, object) {
@@ -50,11 +50,11 @@ impl Manager {
     /// Judges a new watch of a name by a client's object (`registerForNotifications`).
     pub fn judge_watch(
         &self,
-        row: &ClientRow,
+        row: &LiveClient,
         name: &Name,
         object: u32,
         notes: &mut Notes,
-    ) -> Result<Plan, SmallStop>
+    ) -> Result<Plan, SmallFailedCheck>
         requires live { is_live (effects_in self.now) row.now.id ≡ true }
         requires row { row.now ≡ client_row (effects_in self.now) row.now.id }
         ensures { Judged self.now.book.history notes.old notes.new row.now.id (WatchName name.now object) result }
@@ -79,10 +79,10 @@ impl Manager {
     /// Checks that a client may watch a name.
     fn judge_watching(
         &self,
-        row: &ClientRow,
+        row: &LiveClient,
         name: &Name,
         notes: &mut Notes,
-    ) -> Result<(), SmallStop>
+    ) -> Result<(), SmallFailedCheck>
         requires { row.now ≡ client_row (effects_in self.now) row.now.id }
         ensures { MatchResult result
             (λ done. AllPass (moment_in self.now) notes.old notes.new
@@ -98,10 +98,10 @@ impl Manager {
             return Err(self.barred(denial, &row.process.who, name, notes));
         }
         if !valid_name(name.bytes()) {
-            return Err(SmallStop::unmet(Plain::Exception(Exception::InvalidName)));
+            return Err(SmallFailedCheck::unmet(Plain::Exception(Exception::InvalidName)));
         }
         if self.watches() >= MOST_WATCHES {
-            return Err(SmallStop::unmet(Plain::Exception(Exception::TableFull)));
+            return Err(SmallFailedCheck::unmet(Plain::Exception(Exception::TableFull)));
         }
         Ok(())
     }
@@ -117,11 +117,11 @@ impl Manager {
     /// Judges the removal of every watch of a name by a client's object (`unregisterForNotifications`).
     pub fn judge_unwatch(
         &self,
-        row: &ClientRow,
+        row: &LiveClient,
         name: &Name,
         object: u32,
         notes: &mut Notes,
-    ) -> Result<Plan, SmallStop>
+    ) -> Result<Plan, SmallFailedCheck>
         requires live { is_live (effects_in self.now) row.now.id ≡ true }
         requires row { row.now ≡ client_row (effects_in self.now) row.now.id }
         ensures { Judged self.now.book.history notes.old notes.new row.now.id (Unwatch name.now object) result }
@@ -130,7 +130,7 @@ impl Manager {
         self.can_transfer_to_manager(&row.process, notes)?;
         self.can_find(&row.process, name, notes)?;
         if !self.is_watching(row.id, name.bytes(), object) {
-            return Err(SmallStop::unmet(Plain::Exception(Exception::NothingToUnregister)));
+            return Err(SmallFailedCheck::unmet(Plain::Exception(Exception::NothingToUnregister)));
         }
         let ended = self.watching(row.id, name.bytes(), object);
         let watch = watch_of(row.id, name, object)?;

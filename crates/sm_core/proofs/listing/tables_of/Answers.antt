@@ -1,6 +1,6 @@
 use Rattle.std.proofs.Common.{List, ap, subst, ◌∙◌}
 use Rattle.sm_history.specs.Clients.{clients_made}
-use Rattle.sm_core.specs.declared.client.ClientRow.{ClientRow}
+use Rattle.sm_core.specs.declared.client.LiveClient.{LiveClient}
 use Rattle.sm_core.specs.declared.process.Process.{Process}
 use Rattle.sm_core.specs.Listed.{AreListed}
 use Rattle.sm_core.proofs.ListedTables.{before_next, tracks_clients}
@@ -14,7 +14,7 @@ returns c d s = record {
   clients = before_next c.args.state.now.next (clients_made d) c.saturating_sub.result s.next
       c.saturating_sub.ensures;
   live = tracks_clients d c.args.state.now.clients.items c.in_ok-live.live.items s.clients
-      (subst (λ (rs : List ClientRow). AreListed d rs c.in_ok-live.live.items) c.deref.ensures.value
+      (subst (λ (rs : List LiveClient). AreListed d rs c.in_ok-live.live.items) c.deref.ensures.value
       (c.in_ok-live.ensures d s.grants s.inboxes));
   names = c.in_ok-names.ensures d (c.services.ensures d s.names);
   watches = c.in_ok-watches.ensures d s.names;

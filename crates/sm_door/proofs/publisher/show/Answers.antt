@@ -8,10 +8,10 @@ use Rattle.sm_door.proofs.publisher.show.Goals as goal
 
 pub publish_as-requires : goal.publish_as-requires
 publish_as-requires g c next is =
-    let was = ap (λ d. arc_value d.shown.value.page) c.append.ensures.desk in
-    let last : arc_value next.page ≡ arc_value c.args.next =
+    let was = ap (λ d. arc_value d.shown.value.shared_view) c.append.ensures.desk in
+    let last : arc_value next.shared_view ≡ arc_value c.args.next =
     last_shown arc_value _ _ _ c.args.next _ c.in-Ok.ensures.pending is in
-    shows g.J.Naming.opening (λ s. arc_value s.page) _ _ c.append.new.self.desk.shown.value next
+    shows g.J.Naming.opening (λ s. arc_value s.shared_view) _ _ c.append.new.self.desk.shown.value next
     (subst (λ (z : Book × Book). Begins z.0 z.1) (λ i. (sym last i, sym was i)) c.requires)
 
 pub returns-in-Ok : goal.returns-in-Ok

@@ -1,5 +1,5 @@
 use Rattle.std.proofs.Common.{length, ap, ◌∙◌}
-use Rattle.svcmgr.proofs.Tokens.{has_admin, leaves_one}
+use Rattle.svcmgr.proofs.AdminTokens.{has_admin, leaves_one}
 use Rattle.svcmgr.proofs.daemon.open.Goals as goal
 
 -- A new door has four administrators.

@@ -4,7 +4,7 @@ use Rattle.sm_history.specs.Openings.{Opening}
 use Rattle.sm_history.specs.Segments.{rows_of}
 use Rattle.sm_core.specs.Managed.{Managed}
 use Rattle.sm_core.specs.SealReady.{IsReadySeal}
-use Rattle.sm_core.specs.declared.client.ClientRow.{ClientRow}
+use Rattle.sm_core.specs.declared.client.LiveClient.{LiveClient}
 use Rattle.sm_core.specs.Counting.{made, made_sealed}
 use Rattle.sm_core.specs.Journals.{segment}
 use Rattle.sm_core.proofs.KeptSealed.{small_number}
@@ -29,7 +29,7 @@ returns c =
     let counts : (by : By) → made c.in_ok-turns.turns by
     ≡ made_sealed (ids c.self.inside.state.clients.items) c.self.inside.state.next c.self.inside.turns by =
     λ by. c.in_ok-turns.ensures.turns by
-    ∙ ap (λ (rs : List ClientRow). made_sealed (ids rs) c.self.inside.state.next c.self.inside.turns by)
+    ∙ ap (λ (rs : List LiveClient). made_sealed (ids rs) c.self.inside.state.next c.self.inside.turns by)
     c.deref.ensures.value in
     subst (λ (m : Managed). IsReadySeal m (record { journal = c.in_ok-journal.journal; turns = c.in_ok-turns.turns }))
     c.self.view_is (record {

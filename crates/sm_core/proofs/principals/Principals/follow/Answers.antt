@@ -1,6 +1,6 @@
 use Rattle.std.proofs.Common.{ap, sym, ◌∙◌, ◌++◌, ◌+◌, ◌∷◌, []}
 use Rattle.std.specs.Prelude.{filter, not, ◌==◌}
-use Rattle.sm_core.specs.declared.client.ClientRow.{ClientRow}
+use Rattle.sm_core.specs.declared.client.LiveClient.{LiveClient}
 use Rattle.sm_core.specs.declared.process.Process.{Process}
 use Rattle.sm_kinds.specs.declared.identity.Identity.{Identity}
 use Rattle.sm_history.specs.declared.effect.Effect.TheVariants.{Sets}
@@ -41,6 +41,6 @@ returns-in-Dies-clause-stand c = rw c.in-Dies.is (λ d sound m s. record {
   manager = s.manager;
   policy = s.policy;
   version = s.version;
-  clients = c.drop_client.ensures.gone ∙ ap (filter (λ (r : ClientRow). not (c.in-Dies.client == r.id))) s.clients
+  clients = c.drop_client.ensures.gone ∙ ap (filter (λ (r : LiveClient). not (c.in-Dies.client == r.id))) s.clients
       ∙ sym (clients_dies d c.in-Dies.client);
 })

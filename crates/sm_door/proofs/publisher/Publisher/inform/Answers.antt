@@ -10,7 +10,7 @@ pub loop-init : goal.loop-init
 loop-init g c = book_itself _
 
 pub enter_as-requires : goal.enter_as-requires
-enter_as-requires g c x = enters g.J.Naming.opening (λ s. arc_value s.page) _ _ x
+enter_as-requires g c x = enters g.J.Naming.opening (λ s. arc_value s.shared_view) _ _ x
 
 pub returns-then-found-clause-begins : goal.returns-then-found-clause-begins
 returns-then-found-clause-begins g c =

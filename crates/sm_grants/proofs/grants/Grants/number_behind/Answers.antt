@@ -1,7 +1,8 @@
 use Rattle.std.proofs.Common.{◌≡◌, ◌+◌, ◌-◌, ℕ, Some, None, ◌∙◌, sym, ap, subst, get_or, arith}
 use Rattle.sm_kinds.specs.declared.number.Node.{Node}
 use Rattle.sm_history.proofs.Balanced.{node_same}
-use Rattle.sm_grants.specs.Slots.{slot, node_of}
+use Rattle.sm_history.specs.Tables.{slot}
+use Rattle.sm_grants.specs.Slots.{node_of}
 use Rattle.sm_grants.specs.Rows.{slots_of}
 use Rattle.sm_history.specs.Effects.{same_node}
 use Rattle.sm_grants.proofs.Places.{place_is}

@@ -1,7 +1,8 @@
 use Rattle.std.proofs.Common.{◌≡◌, ◌+◌, ◌∷◌, [], ◌++◌, sym, subst, get_or, take, arith, List, ℕ}
 use Rattle.sm_kinds.specs.declared.number.Node.{Node}
 use Rattle.std.proofs.lemmas.List.{take_more, take_all, length-take-le}
-use Rattle.sm_grants.specs.Slots.{Slots, IsNumberFor}
+use Rattle.sm_history.specs.Tables.{Slots}
+use Rattle.sm_grants.specs.Slots.{IsNumberFor}
 use Rattle.sm_grants.specs.Rows.{slots_of}
 use Rattle.sm_grants.specs.Several.{with_grant, with_grants, Along, AreNumbersFor}
 use Rattle.sm_grants.proofs.InOrder.{numbers_are, numbers_more, grants_more}

@@ -1,6 +1,7 @@
 use Rattle.std.proofs.Common.{◌≡◌, ◌≤◌, ◌<◌, ◌-◌, Some, None, sym, ap, subst, ◌∙◌, arith}
 use Rattle.std.specs.Prelude.{Option}
-use Rattle.sm_grants.specs.Slots.{HandleTable, slot, IsPut, released_slot}
+use Rattle.sm_history.specs.Tables.{slot, IsPut, released_slot}
+use Rattle.sm_grants.specs.Slots.{HandleTable}
 use Rattle.sm_grants.specs.Rows.{index_from, slots_in, spare_in, spare_of}
 use Rattle.sm_grants.proofs.ClientRows.{spare_kept, tracks_releases, tracks_room, row_here, row_changed, no_row}
 use Rattle.sm_grants.proofs.ClientRows.{node_found, node_none, node_no_number}

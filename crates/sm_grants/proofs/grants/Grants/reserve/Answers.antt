@@ -5,7 +5,7 @@ use Rattle.sm_grants.specs.Slots.{HandleTable}
 use Rattle.sm_grants.specs.Rows.{index_from, slots_in, spare_in, spare_of}
 use Rattle.sm_grants.proofs.ClientRows.{tracks_room, row_here, row_changed, no_row, tracks_pushed, changed_own}
 use Rattle.sm_grants.proofs.ClientRows.{spare_pushed, spare_kept, spare_more}
-use Rattle.sm_grants.specs.Slots.{Slots}
+use Rattle.sm_history.specs.Tables.{Slots}
 use Rattle.sm_grants.specs.Rows.{slots_of}
 use Rattle.sm_grants.specs.Highest.{highest_in, highest}
 use Rattle.sm_grants.proofs.Bound.{client_bounded, set_bounded, pushed_bounded}

@@ -1,5 +1,6 @@
 use Rattle.std.proofs.Common.{◌<◌, ℕ, subst}
-use Rattle.sm_grants.specs.Slots.{slot, count_of}
+use Rattle.sm_history.specs.Tables.{slot}
+use Rattle.sm_grants.specs.Slots.{count_of}
 use Rattle.sm_grants.proofs.handles.Handles.grant.Goals as goal
 
 pub returns-else-not-can_count-clause-few : goal.returns-else-not-can_count-clause-few

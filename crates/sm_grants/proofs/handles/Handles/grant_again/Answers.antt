@@ -1,7 +1,8 @@
 use Rattle.std.proofs.Common.{◌≡◌, true, sym, subst}
 use Rattle.std.specs.Prelude.{is_some}
 use Rattle.sm_kinds.specs.declared.number.Node.{Node}
-use Rattle.sm_grants.specs.Slots.{slot, HandleTable, granted_slot}
+use Rattle.sm_history.specs.Tables.{slot}
+use Rattle.sm_grants.specs.Slots.{HandleTable, granted_slot}
 use Rattle.sm_grants.proofs.Indexed.{kept_put, node_again}
 use Rattle.sm_grants.proofs.handles.Handles.grant_again.Goals as goal
 

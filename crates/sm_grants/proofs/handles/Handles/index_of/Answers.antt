@@ -1,5 +1,6 @@
 use Rattle.std.proofs.Common.{◌≡◌, ℕ, Some, subst, ◌∙◌}
-use Rattle.sm_grants.specs.Slots.{slot, node_of, HandleTable}
+use Rattle.sm_history.specs.Tables.{slot}
+use Rattle.sm_grants.specs.Slots.{node_of, HandleTable}
 use Rattle.sm_grants.proofs.Indexed.{index_found, inside_most, only_slot}
 use Rattle.sm_grants.proofs.handles.Handles.index_of.Goals as goal
 

@@ -1,5 +1,6 @@
 use Rattle.std.proofs.Common.{◌≡◌, Some, sym, subst}
-use Rattle.sm_grants.specs.Slots.{slot, HandleTable, node_of}
+use Rattle.sm_history.specs.Tables.{slot}
+use Rattle.sm_grants.specs.Slots.{HandleTable, node_of}
 use Rattle.sm_grants.proofs.Indexed.{kept_last, one_less}
 use Rattle.sm_grants.proofs.handles.Handles.release_last.Goals as goal
 

@@ -1,5 +1,6 @@
 use Rattle.std.proofs.Common.{◌<◌, sym, subst}
-use Rattle.sm_grants.specs.Slots.{slot, HandleTable, released_slot, count_of}
+use Rattle.sm_history.specs.Tables.{slot, released_slot}
+use Rattle.sm_grants.specs.Slots.{HandleTable, count_of}
 use Rattle.sm_grants.proofs.Indexed.{kept_put, node_left}
 use Rattle.sm_grants.proofs.handles.Handles.release_one.Goals as goal
 

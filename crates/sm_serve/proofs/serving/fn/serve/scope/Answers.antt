@@ -22,7 +22,7 @@ use Rattle.sm_serve.specs.contracts.shared_admin.SharedAdmin as SharedAdmin
 use Rattle.sm_serve.specs.contracts.gauge.Gauge as Gauge
 use Rattle.sm_core.proofs.Crossing.{view_send, view_sync}
 use Rattle.sm_core.proofs.CrossingManager.{manager_send}
-use Rattle.sm_door.proofs.Crossing.{actor_send, locked_send, page_row, reader_row, writer_row}
+use Rattle.sm_door.proofs.Crossing.{actor_send, locked_send, shared_view_row, reader_row, writer_row}
 use Rattle.sm_serve.proofs.serving.fn.serve.scope.Goals as goal
 
 pub crosses-requires-send-X : goal.crosses-requires-send-X
@@ -60,11 +60,11 @@ sends-requires-10-send-X g c κs within =
 pub sends-requires-9-send-X : goal.sends-requires-9-send-X
 sends-requires-9-send-X g c κs within =
     let J = param 0 g.row.J in
-    let page : IsSend (page_row J g.J.Naming) = search (sendable, crosses, c.crosses-4.ensures.0) depth 60 fits 20000 in
+    let shared_view : IsSend (shared_view_row J g.J.Naming) = search (sendable, crosses, c.crosses-4.ensures.0) depth 60 fits 20000 in
     let w : IsSend (writer_row J g.J.Naming) = search (sendable, crosses, c.sends-6.ensures) depth 60 fits 20000 in
     let registry : IsSend (Registry.the_row J g.J.Naming) =
     search (sendable, crosses, c.sends-8.ensures) depth 60 fits 20000 in
-    param_send 0 _ (arg_send _ no _ (locked_send J g.J.Naming manager_send registry page w))
+    param_send 0 _ (arg_send _ no _ (locked_send J g.J.Naming manager_send registry shared_view w))
 
 pub spawn-requires-2-send-F : goal.spawn-requires-2-send-F
 spawn-requires-2-send-F g c κs within =

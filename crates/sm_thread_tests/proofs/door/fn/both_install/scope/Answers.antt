@@ -5,7 +5,7 @@ use Rattle.std.proofs.Crossing.{crosses}
 use Rattle.sm_registry.specs.contracts.registry.Registry as Registry
 use Rattle.sm_core.proofs.Crossing.{view_send, view_sync}
 use Rattle.sm_core.proofs.CrossingManager.{manager_send}
-use Rattle.sm_door.proofs.Crossing.{actor_send, locked_send, page_row, reader_row, writer_row}
+use Rattle.sm_door.proofs.Crossing.{actor_send, locked_send, shared_view_row, reader_row, writer_row}
 use Rattle.sm_thread_tests.proofs.door.fn.both_install.scope.Goals as goal
 
 pub crosses-requires-send-X : goal.crosses-requires-send-X
@@ -23,7 +23,7 @@ sends-requires-3-send-X g c κs within =
 pub sends-requires-8-send-X : goal.sends-requires-8-send-X
 sends-requires-8-send-X g c κs within =
     let J = param 0 g.row.J in
-    let page : IsSend (page_row J g.J.Naming) = search (sendable, crosses, c.crosses-4.ensures.0) depth 60 fits 20000 in
+    let shared_view : IsSend (shared_view_row J g.J.Naming) = search (sendable, crosses, c.crosses-4.ensures.0) depth 60 fits 20000 in
     let w : IsSend (writer_row J g.J.Naming) = search (sendable, crosses, c.sends-5.ensures) depth 60 fits 20000 in
     let registry : IsSend (Registry.the_row J g.J.Naming) = search (sendable, crosses, c.sends-7.ensures) depth 60 fits 20000 in
-    param_send 0 _ (arg_send _ no _ (locked_send J g.J.Naming manager_send registry page w))
+    param_send 0 _ (arg_send _ no _ (locked_send J g.J.Naming manager_send registry shared_view w))

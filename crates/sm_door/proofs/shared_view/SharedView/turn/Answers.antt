@@ -1,6 +1,6 @@
 use Rattle.std.proofs.Common.{subst}
 use Rattle.sm_view.specs.Begins.{IsLawfulBook}
-use Rattle.sm_door.proofs.page.Page.turn.Goals as goal
+use Rattle.sm_door.proofs.shared_view.SharedView.turn.Goals as goal
 
 pub returns-clause-lawful : goal.returns-clause-lawful
 returns-clause-lawful g c = subst IsLawfulBook c.self.view_is c.lawful.ensures

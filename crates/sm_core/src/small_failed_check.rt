@@ -1,11 +1,11 @@
 //! Why a request makes no change, in a small value.
 
 ghost use Rattle.std.specs.Prelude.{◌≡◌, ◌⊎◌};
-ghost use Rattle.sm_history.specs.declared.stop.Stop.TheVariants.{Unmet};
-ghost use Rattle.sm_core.specs.SmallStops.{instead_of, stop_of};
+ghost use Rattle.sm_history.specs.declared.failed_check.FailedCheck.TheVariants.{Unmet};
+ghost use Rattle.sm_core.specs.SmallFailedChecks.{early_answer, stored_check};
 ghost use Rattle.sm_core.specs.Judging as spec;
 
-use sm_history::{Exception, Failure, Stop};
+use sm_history::{Exception, FailedCheck, Failure};
 use std::alloc::Global;
 use std::marker::Model;
 
@@ -40,66 +40,66 @@ pub enum Stored {
     /// Inline.
     Plain(Plain),
     /// Boxed.
-    Whole(Box<Stop>),
+    Whole(Box<FailedCheck>),
 }
 
 /// Why a request makes no change. Contracts see the stop. Each judgement passes it on, so it is small: only a stop with
 /// texts is boxed.
-pub struct SmallStop {
+pub struct SmallFailedCheck {
     held: Stored,
 }
 
-impl Model for SmallStop {
-    ghost use Rattle.sm_history.specs.declared.stop.Stop.{Stop};
-    ghost use Rattle.sm_core.specs.SmallStops.{stop_of};
+impl Model for SmallFailedCheck {
+    ghost use Rattle.sm_history.specs.declared.failed_check.FailedCheck.{FailedCheck};
+    ghost use Rattle.sm_core.specs.SmallFailedChecks.{stored_check};
 
-    ghost Value = { Stop };
+    ghost Value = { FailedCheck };
 
-    ghost view = { λ h. stop_of h.held };
+    ghost view = { λ h. stored_check h.held };
 }
 
 // Drop: see docs/PROOFS.md.
-impl Drop for SmallStop {
+impl Drop for SmallFailedCheck {
     fn drop(self) {
-        let SmallStop { held: _ } = self;
+        let SmallFailedCheck { held: _ } = self;
     }
 }
 
-impl SmallStop {
+impl SmallFailedCheck {
     /// Makes a stop without texts.
     #[inline]
-    pub fn unmet(plain: Plain) -> SmallStop
-        ensures { result ≡ Unmet (instead_of plain) }
+    pub fn unmet(plain: Plain) -> SmallFailedCheck
+        ensures { result ≡ Unmet (early_answer plain) }
     {
-        SmallStop {
+        SmallFailedCheck {
             held: Stored::Plain(plain),
         }
     }
 
     /// Boxes a stop with texts; if that fails, makes the stop for a failed allocation.
-    pub fn whole(alloc: Global, stop: Stop) -> SmallStop
+    pub fn whole(alloc: Global, stop: FailedCheck) -> SmallFailedCheck
         ensures { (result ≡ spec.wanted) ⊎ (result ≡ stop) }
     {
         match Box::new(alloc, stop) {
-            Ok(stop) => SmallStop {
+            Ok(stop) => SmallFailedCheck {
                 held: Stored::Whole(stop),
             },
-            Err(_) => SmallStop::unmet(Plain::Memory),
+            Err(_) => SmallFailedCheck::unmet(Plain::Memory),
         }
     }
 
     /// Returns how the stop is stored.
     pub fn held(&self) -> &Stored
-        ensures { stop_of result.now ≡ self.now }
+        ensures { stored_check result.now ≡ self.now }
     {
         &self.held
     }
 
     /// Returns how the stop is stored.
     pub fn into_stored(self) -> Stored
-        ensures { stop_of result ≡ self }
+        ensures { stored_check result ≡ self }
     {
-        let SmallStop { held } = self;
+        let SmallFailedCheck { held } = self;
         held
     }
 }

@@ -10,16 +10,16 @@ use Rattle.sm_view.specs.Promises.{Looks}
 use Rattle.sm_view.specs.Tokens.{Knows}
 use Rattle.sm_door.specs.declared.published.ReaderKnowledge.{ReaderKnowledge}
 use Rattle.sm_door.proofs.Places.{enters}
-use Rattle.sm_door.proofs.actor.Actor.read_page.Goals as goal
+use Rattle.sm_door.proofs.actor.Actor.read_view.Goals as goal
 
 pub enter_as-requires : goal.enter_as-requires
-enter_as-requires g c x = enters g.J.Naming.opening (λ s. arc_value s.page) _ _ x
+enter_as-requires g c x = enters g.J.Naming.opening (λ s. arc_value s.shared_view) _ _ x
 
--- What it sees now is the page that it found.
+-- What it sees now is the shared view that it found.
 pub invariant_of-self : goal.invariant_of-self
 invariant_of-self g c =
-    let page = arc_value c.in-Ok.reading.part.value.page in
-    let found : c.deref-in-Ok.result.now ≡ page = search (rules, c.get.ensures, c.deref-in-Ok.ensures) in
+    let shared_view = arc_value c.in-Ok.reading.part.value.shared_view in
+    let found : c.deref-in-Ok.result.now ≡ shared_view = search (rules, c.get.ensures, c.deref-in-Ok.ensures) in
     let now = c.leave.ensures.1 ∙ c.in-Ok.ensures.1.1 in
     subst (λ (b : Book). (c.turn-self-inside.result ≡ turn_of b.history c.self.inside.by) × IsLawfulBook b)
     (found ∙ ap (λ (k : ReaderKnowledge). k.seen) (sym now))
@@ -27,11 +27,11 @@ invariant_of-self g c =
 
 pub returns-in-Ok : goal.returns-in-Ok
 returns-in-Ok g c =
-    let page = arc_value c.in-Ok.reading.part.value.page in
-    let found : c.deref-in-Ok.result.now ≡ page = search (rules, c.get.ensures, c.deref-in-Ok.ensures) in
-    let looked : c.deref.result.now ≡ page = search (rules, c.get.ensures, c.deref.ensures) in
+    let shared_view = arc_value c.in-Ok.reading.part.value.shared_view in
+    let found : c.deref-in-Ok.result.now ≡ shared_view = search (rules, c.get.ensures, c.deref-in-Ok.ensures) in
+    let looked : c.deref.result.now ≡ shared_view = search (rules, c.get.ensures, c.deref.ensures) in
     let now = c.leave.ensures.1 ∙ c.in-Ok.ensures.1.1 in
-    let seen : page ≡ (place_view c.leave.result.place).seen = ap (λ (k : ReaderKnowledge). k.seen) (sym now) in
+    let seen : shared_view ≡ (place_view c.leave.result.place).seen = ap (λ (k : ReaderKnowledge). k.seen) (sym now) in
     let had : c.self.inside.reader ≡ Some c.unwrap.result = search (rules, c.take.ensures, c.unwrap.ensures) in
     let view = rw had at c.self.view_is in
     let was : (place_view c.unwrap.result.place).seen ≡ c.args.self.now.seen = ap (λ (k : Knows). k.seen) view in

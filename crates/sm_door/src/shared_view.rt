@@ -1,4 +1,4 @@
-//! Pages: views with the ids of their histories.
+//! Shared views: views with the ids of their histories.
 
 ghost use Rattle.std.specs.Prelude.{◌≡◌, IfOk, IsTrue};
 ghost use Rattle.std.specs.Arc.{arc_value};
@@ -17,12 +17,12 @@ use std::sync::{Arc, Wait};
 
 /// A view with the id of its history. Contracts see that history with its slots.
 #[derive(Drop)]
-pub struct Page<J: Naming> {
+pub struct SharedView<J: Naming> {
     view: View,
     history_id: HistoryId<J>,
 }
 
-impl<J: Naming> Model for Page<J> {
+impl<J: Naming> Model for SharedView<J> {
     ghost use Rattle.std.specs.Prelude.{◌≡◌};
     ghost use Rattle.sm_history.specs.Books.{Book};
 
@@ -33,20 +33,20 @@ impl<J: Naming> Model for Page<J> {
     ghost invariant = { λ p. p.history_id ≡ p.view };
 }
 
-impl<J: Naming> Page<J> {
-    /// Makes a page of a view, with a new id. Returns an error if an allocation failed or no number is left.
+impl<J: Naming> SharedView<J> {
+    /// Makes a shared view of a view, with a new id. Returns an error if an allocation failed or no number is left.
     pub(crate) fn new<R: Wait>(
         rt: &R,
         alloc: Global,
         registry: &mut Registry<J>,
         view: View,
-    ) -> Result<Arc<Page<J>>, AllocError>
+    ) -> Result<Arc<SharedView<J>>, AllocError>
         ensures { IfOk result (λ p. arc_value p ≡ view) }
     {
         let Some(history_id) = registry.add::<View, ShowsView, R>(rt, &view) else {
             return Err(AllocError);
         };
-        Ok(Arc::new(alloc, Page { view, history_id })?)
+        Ok(Arc::new(alloc, SharedView { view, history_id })?)
     }
 
     /// Returns its view.
@@ -56,8 +56,8 @@ impl<J: Naming> Page<J> {
         &self.view
     }
 
-    /// Returns whether it is the other page, by their ids. Then both are of one history.
-    pub fn is(&self, other: &Page<J>) -> bool
+    /// Returns whether it is the other shared view, by their ids. Then both are of one history.
+    pub fn is(&self, other: &SharedView<J>) -> bool
         ensures { IsTrue result → self.now ≡ other.now }
     {
         self.history_id.is(&other.history_id)
@@ -72,7 +72,7 @@ impl<J: Naming> Page<J> {
         self.view.turn(by)
     }
 
-    /// Answers a query on the page's history, with the query's audit records.
+    /// Answers a query on the shared view's history, with the query's audit records.
     pub fn look_recorded(&self, by: By, query: Query) -> (Reply, Vec<Record>)
         ensures looks { Looks self.now by query result.0 }
         ensures records { result.1.items ≡ look_leaves self.now by query result.0 }
