@@ -16,7 +16,8 @@ use Rattle.sm_history.specs.Sound.{Sound}
 use Rattle.sm_history.specs.Histories.{History, effects_of}
 use Rattle.sm_history.specs.Segments.{sealed}
 use Rattle.sm_history.proofs.RowsSound.{sim_rows}
-use Rattle.sm_grants.specs.Slots.{Slots, slot, node_of}
+use Rattle.sm_history.specs.Tables.{Slots, slot}
+use Rattle.sm_grants.specs.Slots.{node_of}
 use Rattle.sm_grants.specs.Tracking.{TracksSlots}
 use Rattle.sm_grants.specs.Rows.{TracksRows, slots_of}
 use Rattle.sm_grants.specs.declared.rows.ClientHandles.{ClientHandles}
