@@ -21,7 +21,7 @@ use Rattle.sm_door.specs.contracts.published.Published as Published
 use Rattle.sm_door.specs.contracts.published.ReaderKnowledge as ReaderKnowledge
 use Rattle.sm_door.specs.contracts.published.OneHistory as OneHistory
 use Rattle.sm_door.specs.contracts.published.OneHistoryProtocolPublishedReaderKnowledge.TheImpl as Rule
-use Rattle.sm_door.specs.contracts.published.PublishedAbsorbArcPage.TheImpl as Absorb
+use Rattle.sm_door.specs.contracts.published.PublishedAbsorbArcSharedView.TheImpl as Absorb
 use Rattle.sm_door.specs.contracts.locked_manager.LockedManager as LockedManager
 use Rattle.sm_door.specs.contracts.actor.Actor as Actor
 use Rattle.sm_door.specs.contracts.actor.Actor.TheInside as ActorInside

@@ -16,7 +16,7 @@ use Rattle.sm_door.specs.contracts.actor.Actor as Actor
 use Rattle.sm_door.specs.contracts.admin.Admin.TheInside as AdminInside
 use Rattle.sm_door.specs.contracts.door.Door as Door
 use Rattle.sm_door.specs.contracts.session.Session.TheInside as SessionInside
-use Rattle.sm_door.specs.contracts.published.PublishedAbsorbArcPage.TheImpl as Absorb
+use Rattle.sm_door.specs.contracts.published.PublishedAbsorbArcSharedView.TheImpl as Absorb
 use Rattle.sm_serve.specs.contracts.faults.Faults as Faults
 use Rattle.sm_serve.specs.contracts.shared_admin.SharedAdmin as SharedAdmin
 use Rattle.sm_serve.specs.contracts.gauge.Gauge as Gauge
@@ -60,7 +60,8 @@ sends-requires-10-send-X g c κs within =
 pub sends-requires-9-send-X : goal.sends-requires-9-send-X
 sends-requires-9-send-X g c κs within =
     let J = param 0 g.row.J in
-    let shared_view : IsSend (shared_view_row J g.J.Naming) = search (sendable, crosses, c.crosses-4.ensures.0) depth 60 fits 20000 in
+    let shared_view : IsSend (shared_view_row J g.J.Naming) =
+    search (sendable, crosses, c.crosses-4.ensures.0) depth 60 fits 20000 in
     let w : IsSend (writer_row J g.J.Naming) = search (sendable, crosses, c.sends-6.ensures) depth 60 fits 20000 in
     let registry : IsSend (Registry.the_row J g.J.Naming) =
     search (sendable, crosses, c.sends-8.ensures) depth 60 fits 20000 in
