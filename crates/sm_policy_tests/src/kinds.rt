@@ -5,51 +5,75 @@ use sm_kinds::{
     Places, Refs, RefsError, Word, all_graphic, app_number, is_barred_app, is_isolated,
     push_access, push_numbered, valid_name,
 };
-use std::test::Fail;
+use std::alloc::Global;
+use std::process::Abort;
 
 #[test]
-fn contexts_have_three_parts_and_perhaps_a_range(rt: HostRuntime) -> Result<(), Fail> {
-    let alloc = rt.alloc();
-    let whole = Context::read(alloc, b"u:r:untrusted_app:s0:c1,c2")?;
-    assert_eq!(rt; whole.type_name(), b"untrusted_app".as_slice());
-    assert_eq!(rt; whole.text(), b"u:r:untrusted_app:s0:c1,c2".as_slice());
-    let short = Context::read(alloc, b"u:r:t")?;
-    assert_eq!(rt; short.clone()?.type_name(), b"t".as_slice());
-    Ok(())
+fn contexts_have_three_parts_and_perhaps_a_range(rt: HostRuntime) {
+    for (text, type_name) in [
+        (
+            b"u:r:untrusted_app:s0:c1,c2".as_slice(),
+            b"untrusted_app".as_slice(),
+        ),
+        (b"u:r:t", b"t"),
+    ] {
+        let whole = Context::read(rt.alloc(), text);
+        let whole = whole.ok().expect(&rt, "a context");
+        let copy = whole.clone().ok().expect(&rt, "a copy");
+        assert_eq!(rt; (copy.text(), copy.type_name()), (text, type_name));
+    }
 }
 
 #[test]
 fn what_is_no_context(rt: HostRuntime) {
-    let alloc = rt.alloc();
     let bad: [&[u8]; 7] = [
         b"u:r", b"u:r:", b"u:r:t:", b":r:t", b"u::t", b"", b"u:r:a b",
     ];
     for text in bad {
-        assert!(rt; matches!(Context::read(alloc, text), Err(ContextError::BadContext)));
+        let fault = Context::read(rt.alloc(), text).err();
+        assert_eq!(rt; (text, fault), (text, Some(ContextError::BadContext)));
     }
-    assert!(rt; all_graphic(b"!a~") && !all_graphic(b"a b") && !all_graphic(b"a\x7f"));
 }
 
 #[test]
-fn names_have_1_to_127_bytes(rt: HostRuntime) -> Result<(), Fail> {
-    let longest = vec![in rt.alloc(); b'a'; 127]?;
-    let longer = vec![in rt.alloc(); b'a'; 128]?;
-    assert!(rt; valid_name(&longest));
-    assert!(rt; !valid_name(&longer));
-    assert!(rt; valid_name(b"a-Z_0.9/x"));
-    assert!(rt; !valid_name(b""));
-    assert!(rt; !valid_name(b"a b"));
-    Ok(())
+fn what_is_graphic(rt: HostRuntime) {
+    for (text, graphic) in [
+        (b"!a~".as_slice(), true),
+        (b"a b", false),
+        (b"a\x7f", false),
+    ] {
+        assert_eq!(rt; (text, all_graphic(text)), (text, graphic));
+    }
 }
 
 #[test]
-fn a_list_has_the_names_that_were_put_in(rt: HostRuntime) -> Result<(), Fail> {
+fn names_have_1_to_127_bytes(rt: HostRuntime) {
+    let long = [b'a'; 128];
+    for (name, valid) in [
+        (&long[..127], true),
+        (long.as_slice(), false),
+        (b"a-Z_0.9/x", true),
+        (b"", false),
+        (b"a b", false),
+    ] {
+        assert_eq!(rt; (name, valid_name(name)), (name, valid));
+    }
+}
+
+#[test]
+fn a_list_has_the_names_that_were_put_in(rt: HostRuntime) {
     let mut names = Names::new(rt.alloc());
-    names.push(Name::new(rt.alloc(), b"activity")?)?;
-    assert!(rt; names.contains(b"activity"));
-    assert!(rt; !names.contains(b"activit"));
-    assert_eq!(rt; names.list().len(), 1);
-    Ok(())
+    let name = Name::new(rt.alloc(), b"activity");
+    let name = name.ok().expect(&rt, "a name");
+    names.push(name).ok().expect(&rt, "memory");
+    assert_eq!(rt;
+        (
+            names.contains(b"activity"),
+            names.contains(b"activit"),
+            names.list().len()
+        ),
+        (true, false, 1)
+    );
 }
 
 #[test]
@@ -69,98 +93,144 @@ fn user_numbers_divide_at_10000_and_90000(rt: HostRuntime) {
         (99_999, true, true),
         (109_999, false, false),
     ] {
-        assert_eq!(rt; is_barred_app(uid), barred);
-        assert_eq!(rt; is_isolated(uid), isolated);
+        assert_eq!(rt;
+            (uid, is_barred_app(uid), is_isolated(uid)),
+            (uid, barred, isolated)
+        );
+    }
+}
+
+#[test]
+fn classes_have_words(rt: HostRuntime) {
+    for (word, class) in [
+        (b"binder".as_slice(), Some(Class::Binder)),
+        (b"service_manager", Some(Class::ServiceManager)),
+        (b"file", None),
+    ] {
+        assert_eq!(rt; Class::read(word), class);
     }
 }
 
 #[test]
 fn permissions_are_bits_of_their_class(rt: HostRuntime) {
-    assert_eq!(rt; Class::read(b"binder"), Some(Class::Binder));
-    assert_eq!(rt; Class::read(b"file"), None);
-    assert_eq!(rt; Class::ServiceManager.word(), b"service_manager".as_slice());
-    assert_eq!(rt; Perms::read(Class::ServiceManager, b"list"), Some(Perms(4)));
-    assert_eq!(rt; Perms::read(Class::Binder, b"transfer"), Some(Perms(64)));
-    assert_eq!(rt; Perms::read(Class::Binder, b"find"), None);
-    assert_eq!(rt;
-        Perms::SET_CONTEXT_MGR.word(),
-        Some(b"set_context_mgr".as_slice())
-    );
-    assert_eq!(rt; Perms(3).word(), None);
+    for (class, word, perms) in [
+        (Class::ServiceManager, b"list".as_slice(), Some(Perms(4))),
+        (Class::Binder, b"transfer", Some(Perms(64))),
+        (Class::Binder, b"find", None),
+    ] {
+        assert_eq!(rt; Perms::read(class, word), perms);
+    }
+    for (perms, word) in [
+        (
+            Perms::SET_CONTEXT_MGR,
+            Some(b"set_context_mgr".as_slice()),
+        ),
+        (Perms(3), None),
+    ] {
+        assert_eq!(rt; perms.word(), word);
+    }
 }
 
 #[test]
 fn a_journal_has_2_to_1048576_places(rt: HostRuntime) {
-    assert!(rt; Places::new(1).is_none());
-    assert_eq!(rt; Places::new(2).map(|p| p.entries()), Some(2));
-    assert_eq!(rt;
-        Places::new(1_048_576).map(|p| p.entries()),
-        Some(1_048_576)
-    );
-    assert!(rt; Places::new(1_048_577).is_none());
+    for (entries, places) in [
+        (1, None),
+        (2, Some(2)),
+        (1_048_576, Some(1_048_576)),
+        (1_048_577, None),
+    ] {
+        assert_eq!(rt; places_of(entries), places);
+    }
 }
 
+fn places_of(entries: u32) -> Option<u32> {
+    Some(Places::new(entries)?.entries())
+}
+
+/// A list of a copy of some values.
+fn list<T: Copy>(rt: &impl Abort, alloc: Global, values: &[T]) -> Vec<T> {
+    Vec::from_slice(alloc, values).ok().expect(rt, "memory")
+}
+
+fn holds(rt: &impl Abort, payload: Result<Payload, PayloadError>, bytes: &[u8]) {
+    let payload = payload.ok().expect(rt, "a payload");
+    let copy = payload.clone().ok().expect(rt, "a copy");
+    assert_eq!(rt; copy.bytes(), bytes);
+}
+
+// A payload of a copy of bytes, and one that keeps the memory of a list of them.
 #[test]
-fn a_payload_has_1024_bytes_at_most(rt: HostRuntime) -> Result<(), Fail> {
-    let bytes = [7u8; 1_025];
-    let longest = Payload::new(rt.alloc(), &bytes[..1_024]).ok();
-    let longest = longest.expect(&rt, "a payload");
-    assert_eq!(rt; longest.clone()?.bytes().len(), 1_024);
-    assert!(rt; matches!(Payload::new(rt.alloc(), &bytes), Err(PayloadError::TooLong)));
-    Ok(())
+fn a_payload_has_1024_bytes_at_most(rt: HostRuntime) {
+    let long = [7u8; 1_025];
+    for bytes in [b"data".as_slice(), &long[..1_024]] {
+        holds(&rt, Payload::new(rt.alloc(), bytes), bytes);
+        let listed = list(&rt, rt.alloc(), bytes);
+        holds(&rt, Payload::from_vec(listed), bytes);
+    }
+    let copied = Payload::new(rt.alloc(), &long).err();
+    let kept = Payload::from_vec(list(&rt, rt.alloc(), &long)).err();
+    assert_eq!(rt;
+        (copied, kept),
+        (Some(PayloadError::TooLong), Some(PayloadError::TooLong))
+    );
 }
 
+fn length_of(refs: Option<Refs>) -> Option<usize> {
+    Some(refs?.list().len())
+}
+
+// References of a copy of a list, and those that keep its memory.
 #[test]
 fn a_call_has_16_references_at_most(rt: HostRuntime) {
     let refs = [ObjRef::Own(1); 17];
-    let most = Refs::new(rt.alloc(), &refs[..16]).ok();
-    assert_eq!(rt; most.expect(&rt, "references").list().len(), 16);
-    assert!(rt; matches!(Refs::new(rt.alloc(), &refs), Err(RefsError::TooLong)));
+    for (refs, length) in [(&refs[..16], Some(16)), (refs.as_slice(), None)] {
+        let copied = length_of(Refs::new(rt.alloc(), refs).ok());
+        let kept = length_of(Refs::from_vec(list(&rt, rt.alloc(), refs)));
+        assert_eq!(rt; (copied, kept), (length, length));
+    }
+    let fault = Refs::new(rt.alloc(), &refs).err();
+    assert_eq!(rt; fault, Some(RefsError::TooLong));
+}
+
+#[test]
+fn clients_are_in_the_order_of_their_numbers(rt: HostRuntime) {
     assert!(rt; ClientId(1) < ClientId(2));
 }
 
 #[test]
-fn a_payload_and_references_keep_the_memory_of_a_list(rt: HostRuntime) -> Result<(), Fail> {
-    let bytes = Vec::from_slice(rt.alloc(), b"data")?;
-    let payload = Payload::from_vec(bytes).ok();
-    assert_eq!(rt;
-        payload.expect(&rt, "a payload").bytes(),
-        b"data".as_slice()
-    );
-    let long = Vec::from_slice(rt.alloc(), &[7u8; 1_025])?;
-    assert!(rt; matches!(Payload::from_vec(long), Err(PayloadError::TooLong)));
-    let most = Vec::from_slice(rt.alloc(), &[ObjRef::Own(1); 16])?;
-    assert_eq!(rt;
-        Refs::from_vec(most).expect(&rt, "references").list().len(),
-        16
-    );
-    let more = Vec::from_slice(rt.alloc(), &[ObjRef::Own(1); 17])?;
-    assert!(rt; Refs::from_vec(more).is_none());
-    Ok(())
-}
-
-#[test]
-fn messages_name_numbers_and_accesses(rt: HostRuntime) -> Result<(), Fail> {
-    let mut text = Vec::from_slice(rt.alloc(), b"failed ")?;
-    push_numbered(&mut text, b"out-of-turn ", 18_446_744_073_709_551_615)?;
+fn messages_name_numbers(rt: HostRuntime) {
+    let mut text = list(&rt, rt.alloc(), b"failed ");
+    let added = push_numbered(&mut text, b"out-of-turn ", 18_446_744_073_709_551_615);
+    added.ok().expect(&rt, "memory");
     assert_eq!(rt;
         text.as_slice(),
         b"failed out-of-turn 18446744073709551615".as_slice()
     );
-    let mut text = Vec::from_slice(rt.alloc(), b"denied ")?;
-    push_access(
-        &mut text,
-        b"system_server",
-        b"servicemanager",
-        Class::Binder,
-        Perms::CALL,
-    )?;
-    assert_eq!(rt;
-        text.as_slice(),
-        b"denied system_server servicemanager binder call".as_slice()
-    );
-    let mut text = Vec::new(rt.alloc());
-    push_access(&mut text, b"a", b"b", Class::ServiceManager, Perms(3))?;
-    assert_eq!(rt; text.as_slice(), b"a b service_manager ".as_slice());
-    Ok(())
+}
+
+#[test]
+fn messages_name_accesses(rt: HostRuntime) {
+    for (front, source, target, class, perm, wanted) in [
+        (
+            b"denied ".as_slice(),
+            b"system_server".as_slice(),
+            b"servicemanager".as_slice(),
+            Class::Binder,
+            Perms::CALL,
+            b"denied system_server servicemanager binder call".as_slice(),
+        ),
+        (
+            b"",
+            b"a",
+            b"b",
+            Class::ServiceManager,
+            Perms(3),
+            b"a b service_manager ",
+        ),
+    ] {
+        let mut text = list(&rt, rt.alloc(), front);
+        let added = push_access(&mut text, source, target, class, perm);
+        added.ok().expect(&rt, "memory");
+        assert_eq!(rt; text.as_slice(), wanted);
+    }
 }
