@@ -4,6 +4,7 @@ ghost use Rattle.std.specs.Prelude.{◌≡◌, ◌<◌, length, IfOk};
 
 use sm_bits::{BitRow, empty_rows};
 use std::alloc::{AllocError, Global};
+use std::process::Abort;
 use std::test::*;
 
 fn row_of(alloc: Global, first: usize, second: usize) -> Result<BitRow, AllocError>
@@ -16,20 +17,30 @@ fn row_of(alloc: Global, first: usize, second: usize) -> Result<BitRow, AllocErr
     Ok(row)
 }
 
+/// Asserts that these numbers are in a set, and no other one.
+fn has_just(rt: &impl Abort, row: &BitRow, numbers: &[usize])
+    requires { length row.now ≡ 2 }
+{
+    for number in 0..128usize {
+        let wanted = numbers.contains(&number);
+        assert_eq!(rt; (number, row.has(number)), (number, wanted));
+    }
+    assert_eq!(rt; row.count(), numbers.len());
+}
+
 #[test]
 fn sets_of_numbers(rt: HostRuntime) -> Result<(), Fail> {
     let mut row = row_of(rt.alloc(), 3, 64)?;
     let other = row_of(rt.alloc(), 64, 127)?;
-    assert!(rt; row.has(3) && row.has(64) && !row.has(4) && !row.has(0));
+    has_just(&rt, &row, &[3, 64]);
     assert!(rt; row.meets(&other));
-    assert!(rt; row.count() == 2);
     row.subtract(&other);
-    assert!(rt; row.has(3) && !row.has(64) && !row.meets(&other));
-    assert!(rt; row.count() == 1);
+    has_just(&rt, &row, &[3]);
+    assert!(rt; !row.meets(&other));
     row.union_with(&other);
-    assert!(rt; row.has(3) && row.has(64) && row.has(127) && !row.has(126));
+    has_just(&rt, &row, &[3, 64, 127]);
     row.remove(64);
-    assert!(rt; row.has(3) && !row.has(64) && row.has(127));
+    has_just(&rt, &row, &[3, 127]);
     Ok(())
 }
 
@@ -38,20 +49,24 @@ fn several_rows(rt: HostRuntime) -> Result<(), Fail> {
     let mut rows = empty_rows(rt.alloc(), 3, 2)?;
     assert!(rt; rows.len() == 3);
     rows[1].insert(127);
-    assert!(rt; rows[1].has(127) && !rows[0].has(127) && !rows[2].has(127));
+    assert_eq!(rt;
+        (rows[0].has(127), rows[1].has(127), rows[2].has(127)),
+        (false, true, false)
+    );
     Ok(())
 }
 
 #[test]
 fn free_numbers(rt: HostRuntime) -> Result<(), Fail> {
     let mut row = row_of(rt.alloc(), 0, 1)?;
-    assert!(rt; row.first_free() == 2);
-    assert!(rt; row.first_free_from(1) == 2 && row.first_free_from(3) == 3);
-    assert!(rt; row.first_free_from(127) == 127 && row.first_free_from(200) == 200);
+    for (from, free) in [(0, 2), (1, 2), (3, 3), (127, 127), (200, 200)] {
+        assert_eq!(rt; (from, row.first_free_from(from)), (from, free));
+    }
+    assert_eq!(rt; row.first_free(), 2);
     row.insert(63);
     row.insert(64);
-    assert!(rt; row.first_free_from(63) == 65);
+    assert_eq!(rt; row.first_free_from(63), 65);
     row.remove(0);
-    assert!(rt; row.first_free() == 0);
+    assert_eq!(rt; row.first_free(), 0);
     Ok(())
 }

@@ -1,38 +1,54 @@
 //! The declarations of policy sources: which are refused, and the types that sets denote.
 
-use sm_ruletext::{RuleKind, What, read};
+use sm_ruletext::{RuleKind, Set, Statement, What, read};
 use sm_types::{Types, TypesFault};
 use std::alloc::{AllocError, Global};
 use std::process::Abort;
-use std::test::*;
+
+fn statements_of(rt: &impl Abort, alloc: Global, text: &[u8]) -> Vec<Statement> {
+    read(alloc, text).ok().expect(rt, "statements")
+}
+
+fn fault_of(rt: &impl Abort, alloc: Global, text: &[u8]) -> Option<TypesFault> {
+    Types::build(alloc, &statements_of(rt, alloc, text)).err()
+}
+
+const SETS: &[u8] = b"attribute d;\ntype a, d;\ntype b;\nallow { * -a } ~d:binder *;\n";
 
 #[test]
-fn numbers_and_sets(rt: HostRuntime) {
-    let text = b"attribute d;\ntype a, d;\ntype b;\nallow { * -a } ~d:binder *;\n";
-    let statements = read(rt.alloc(), text).ok().expect(&rt, "statements");
+fn numbers_of_types(rt: HostRuntime) {
+    let statements = statements_of(&rt, rt.alloc(), SETS);
     let types = Types::build(rt.alloc(), &statements);
     let types = types.ok().expect(&rt, "types");
-    assert_eq!(rt; types.count(), 2);
-    assert_eq!(rt; types.attribute_count(), 1);
-    assert_eq!(rt; types.index(b"b"), Some(1));
-    assert_eq!(rt; types.index(b"d"), None);
-    assert_eq!(rt; types.name(0), Some(b"a".as_slice()));
-    assert_eq!(rt; types.name(2), None);
+    assert_eq!(rt; (types.count(), types.attribute_count()), (2, 1));
+    assert_eq!(rt; (types.index(b"b"), types.index(b"d")), (Some(1), None));
+    assert_eq!(rt;
+        (types.name(0), types.name(2)),
+        (Some(b"a".as_slice()), None)
+    );
+}
+
+/// Whether a set has the numbers 0, 1 and 2.
+fn has(alloc: Global, types: &Types, set: &Set) -> Result<(bool, bool, bool), TypesFault> {
+    let row = types.expand(alloc, set)?;
+    Ok((row.has(0), row.has(1), row.has(2)))
+}
+
+#[test]
+fn numbers_in_sets(rt: HostRuntime) {
+    let statements = statements_of(&rt, rt.alloc(), SETS);
+    let types = Types::build(rt.alloc(), &statements);
+    let types = types.ok().expect(&rt, "types");
     for statement in &statements {
         if let What::Rule(RuleKind::Allow, rule) = &statement.what {
-            let sources = types
-                .expand(rt.alloc(), &rule.source)
-                .ok()
-                .expect(&rt, "known");
-            assert!(rt; !sources.has(0) && sources.has(1) && !sources.has(2));
-            let targets = types
-                .expand(rt.alloc(), &rule.target)
-                .ok()
-                .expect(&rt, "known");
-            assert!(rt; !targets.has(0) && targets.has(1));
-            // The classes' names are no types.
-            let class = types.expand(rt.alloc(), &rule.class).err();
-            assert_eq!(rt; class, Some(TypesFault::Unknown(4)));
+            for (set, wanted) in [
+                (&rule.source, Ok((false, true, false))),
+                (&rule.target, Ok((false, true, false))),
+                // The classes' names are no types.
+                (&rule.class, Err(TypesFault::Unknown(4))),
+            ] {
+                assert_eq!(rt; has(rt.alloc(), &types, set), wanted);
+            }
         }
     }
 }
@@ -67,9 +83,8 @@ fn faults(rt: HostRuntime) {
     }
 }
 
-/// Declarations of different names: `count` of them, each with its keyword.
-fn names_declared(alloc: Global, keyword: &[u8], count: u32) -> Result<Vec<u8>, AllocError> {
-    let mut text = Vec::new(alloc);
+/// Adds declarations of different names: `count` of them, each with its keyword.
+fn declare_names(text: &mut Vec<u8>, keyword: &[u8], count: u32) -> Result<(), AllocError> {
     for i in 0..count {
         text.extend_from_slice(keyword)?;
         for shift in [12u32, 8, 4, 0] {
@@ -77,31 +92,31 @@ fn names_declared(alloc: Global, keyword: &[u8], count: u32) -> Result<Vec<u8>, 
         }
         text.push(b';')?;
     }
-    Ok(text)
+    Ok(())
 }
 
-fn count_of(rt: &impl Abort, alloc: Global, text: &[u8]) -> usize {
-    let statements = read(alloc, text).ok().expect(rt, "statements");
-    let types = Types::build(alloc, &statements).ok().expect(rt, "types");
-    types.count() + types.attribute_count()
-}
-
-fn fault_of(rt: &impl Abort, alloc: Global, text: &[u8]) -> Option<TypesFault> {
-    let statements = read(alloc, text).ok().expect(rt, "statements");
-    Types::build(alloc, &statements).err()
+/// The number of names that are declared in a text of so many declarations, or its fault.
+fn declared(
+    rt: &impl Abort,
+    alloc: Global,
+    keyword: &[u8],
+    count: u32,
+) -> Result<usize, TypesFault> {
+    let mut text = Vec::new(alloc);
+    let added = declare_names(&mut text, keyword, count);
+    added.ok().expect(rt, "memory");
+    let types = Types::build(alloc, &statements_of(rt, alloc, &text))?;
+    Ok(types.count() + types.attribute_count())
 }
 
 #[test]
-fn most_names(rt: HostRuntime) -> Result<(), Fail> {
-    let alloc = rt.alloc();
-    for (keyword, most) in [
-        (b"type t".as_slice(), 4096),
-        (b"attribute t".as_slice(), 1024),
+fn most_names(rt: HostRuntime) {
+    for (keyword, count, wanted) in [
+        (b"type t".as_slice(), 4096, Ok(4096)),
+        (b"type t", 4097, Err(TypesFault::TooMany)),
+        (b"attribute t", 1024, Ok(1024)),
+        (b"attribute t", 1025, Err(TypesFault::TooMany)),
     ] {
-        let text = names_declared(alloc, keyword, most)?;
-        assert_eq!(rt; count_of(&rt, alloc, &text), most as usize);
-        let text = names_declared(alloc, keyword, most + 1)?;
-        assert_eq!(rt; fault_of(&rt, alloc, &text), Some(TypesFault::TooMany));
+        assert_eq!(rt; declared(&rt, rt.alloc(), keyword, count), wanted);
     }
-    Ok(())
 }

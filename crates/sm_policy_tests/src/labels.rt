@@ -4,15 +4,14 @@ use sm_contexts::*;
 use sm_samples::DEVICE_LABELS;
 use std::alloc::{AllocError, Global};
 use std::process::Abort;
-use std::test::*;
 
 fn fault(alloc: Global, text: &[u8]) -> Option<ContextsFault> {
     Contexts::read(alloc, text).err()
 }
 
-/// Entry lines of distinct keys, the first of them `*`.
-fn entry_lines(alloc: Global, count: u32) -> Result<Vec<u8>, AllocError> {
-    let mut text = Vec::from_slice(alloc, b"* u:r:t")?;
+/// Adds entry lines of distinct keys, the first of them `*`.
+fn add_entry_lines(text: &mut Vec<u8>, count: u32) -> Result<(), AllocError> {
+    text.extend_from_slice(b"* u:r:t")?;
     for i in 1..count {
         text.push(b'\n')?;
         for digit in [i / 676 % 26, i / 26 % 26, i % 26] {
@@ -20,15 +19,7 @@ fn entry_lines(alloc: Global, count: u32) -> Result<Vec<u8>, AllocError> {
         }
         text.extend_from_slice(b" u:r:t")?;
     }
-    Ok(text)
-}
-
-fn comment(alloc: Global, length: u32) -> Result<Vec<u8>, AllocError> {
-    let mut text = Vec::new(alloc);
-    for _ in 0..length {
-        text.push(b'#')?;
-    }
-    Ok(text)
+    Ok(())
 }
 
 #[test]
@@ -86,81 +77,85 @@ const FRONTS: [(usize, Option<ContextsFault>); 9] = [
 ];
 
 #[test]
-fn each_front_of_a_text(rt: HostRuntime) -> Result<(), Fail> {
+fn each_front_of_a_text(rt: HostRuntime) {
     assert_eq!(rt; DEVICE_LABELS.len(), 89);
     let mut from = 0usize;
     for (to, expected) in FRONTS {
         for end in from..=to {
-            let front = DEVICE_LABELS.get(..end).ok_or("a front")?;
+            let front = DEVICE_LABELS.get(..end).expect(&rt, "a front");
             assert_eq!(rt; fault(rt.alloc(), front), expected);
         }
         from = to.saturating_add(1);
     }
-    Ok(())
+}
+
+const LABELS: &[u8] = b"# labels\n\nactivity\tu:object_r:activity_service:s0\n\
+    * u:object_r:default_android_service:s0\r\nactivity u:object_r:activity_service:s0\n\
+    phone u:r:radio:s0:c1,c2";
+
+const DEFAULT: &[u8] = b"u:object_r:default_android_service:s0";
+
+/// The line and the type of a key, by its number.
+fn entry_of(contexts: &Contexts, index: u32) -> Option<(u32, &[u8])> {
+    let (line, context) = contexts.entry(index)?;
+    Some((line, context.type_name()))
 }
 
 #[test]
-fn labels(rt: HostRuntime) -> Result<(), Fail> {
-    let text =
-        b"# labels\n\nactivity\tu:object_r:activity_service:s0\n* u:object_r:default_android_service:s0\r\nactivity u:object_r:activity_service:s0\nphone u:r:radio:s0:c1,c2";
-    let contexts = Contexts::read(rt.alloc(), text).ok();
-    let contexts = contexts.expect(&rt, "contexts");
-    assert_eq!(rt; contexts.count(), 3);
-    assert_eq!(rt;
-        contexts.label(b"activity").type_name(),
-        b"activity_service".as_slice()
-    );
-    assert_eq!(rt;
-        contexts.label(b"phone").text(),
-        b"u:r:radio:s0:c1,c2".as_slice()
-    );
-    for name in [b"*".as_slice(), b"activit", b"activity ", b""] {
-        assert_eq!(rt;
-            contexts.label(name).type_name(),
-            b"default_android_service".as_slice()
-        );
+fn labels(rt: HostRuntime) {
+    let contexts = Contexts::read(rt.alloc(), LABELS);
+    let contexts = contexts.ok().expect(&rt, "contexts");
+    for (name, place, label) in [
+        (
+            b"activity".as_slice(),
+            0,
+            b"u:object_r:activity_service:s0".as_slice(),
+        ),
+        (b"phone", 2, b"u:r:radio:s0:c1,c2"),
+        (b"*", 1, DEFAULT),
+        (b"activit", 1, DEFAULT),
+        (b"activity ", 1, DEFAULT),
+        (b"", 1, DEFAULT),
+    ] {
+        let found = (contexts.place(name), contexts.label(name).text());
+        assert_eq!(rt; found, (place, label));
     }
-    assert_eq!(rt;
-        (contexts.place(b"activity"), contexts.place(b"phone")),
-        (0, 2)
-    );
-    assert_eq!(rt; (contexts.place(b"*"), contexts.place(b"activit")), (1, 1));
-    let (line, context) = contexts.entry(2).ok_or("a third key")?;
-    assert_eq!(rt; line, 6);
-    assert_eq!(rt; context.type_name(), b"radio".as_slice());
-    assert!(rt; contexts.entry(3).is_none());
-    Ok(())
+    assert_eq!(rt; contexts.count(), 3);
+    for (index, entry) in [
+        (0, Some((3, b"activity_service".as_slice()))),
+        (2, Some((6, b"radio"))),
+        (3, None),
+    ] {
+        assert_eq!(rt; entry_of(&contexts, index), entry);
+    }
 }
 
-fn fault_of_entries(alloc: Global, count: u32) -> Result<Option<ContextsFault>, AllocError> {
-    let text = entry_lines(alloc, count)?;
-    Ok(fault(alloc, &text))
-}
-
-fn fault_of_comment(alloc: Global, length: u32) -> Result<Option<ContextsFault>, AllocError> {
-    let text = comment(alloc, length)?;
-    Ok(fault(alloc, &text))
-}
-
-fn count_of(rt: &impl Abort, alloc: Global, text: &[u8]) -> u32 {
-    let contexts = Contexts::read(alloc, text).ok().expect(rt, "contexts");
-    contexts.count()
+/// The number of keys in a text of so many entry lines, or its fault.
+fn keys(rt: &impl Abort, alloc: Global, count: u32) -> Result<u32, ContextsFault> {
+    let mut text = Vec::new(alloc);
+    let added = add_entry_lines(&mut text, count);
+    added.ok().expect(rt, "memory");
+    Ok(Contexts::read(alloc, &text)?.count())
 }
 
 #[test]
-fn most_entries(rt: HostRuntime) -> Result<(), Fail> {
-    let most = entry_lines(rt.alloc(), 16_384)?;
-    assert_eq!(rt; count_of(&rt, rt.alloc(), &most), 16_384);
-    let more = fault_of_entries(rt.alloc(), 16_385)?;
-    assert_eq!(rt; more, Some(ContextsFault::TooLarge));
-    Ok(())
+fn most_entries(rt: HostRuntime) {
+    for (lines, wanted) in [
+        (16_384, Ok(16_384)),
+        (16_385, Err(ContextsFault::TooLarge)),
+    ] {
+        assert_eq!(rt; keys(&rt, rt.alloc(), lines), wanted);
+    }
 }
 
 #[test]
-fn longest_text(rt: HostRuntime) -> Result<(), Fail> {
-    let longest = fault_of_comment(rt.alloc(), 4_194_304)?;
-    assert_eq!(rt; longest, Some(ContextsFault::NoDefault));
-    let too_long = fault_of_comment(rt.alloc(), 4_194_305)?;
-    assert_eq!(rt; too_long, Some(ContextsFault::TooLarge));
-    Ok(())
+fn longest_text(rt: HostRuntime) {
+    for (length, wanted) in [
+        (4_194_304, ContextsFault::NoDefault),
+        (4_194_305, ContextsFault::TooLarge),
+    ] {
+        let comment = vec![in rt.alloc(); b'#'; length];
+        let comment = comment.ok().expect(&rt, "memory");
+        assert_eq!(rt; fault(rt.alloc(), &comment), Some(wanted));
+    }
 }

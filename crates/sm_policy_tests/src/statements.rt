@@ -4,7 +4,6 @@ use sm_ruletext::*;
 use sm_samples::DEVICE_RULES;
 use std::alloc::{AllocError, Global};
 use std::process::Abort;
-use std::test::*;
 
 fn accepted(rt: &impl Abort, alloc: Global, text: &[u8]) -> Vec<Statement> {
     read(alloc, text).ok().expect(rt, "statements")
@@ -21,20 +20,19 @@ pub fn repeated(text: &mut Vec<u8>, piece: &[u8], times: u32) -> Result<(), Allo
 #[test]
 fn whole_text(rt: HostRuntime) {
     let statements = accepted(&rt, rt.alloc(), DEVICE_RULES);
-    assert_eq!(rt; statements.len(), 16);
     let mut line = 0;
+    let mut rules = 0u32;
     for statement in &statements {
         assert!(rt; statement.line > line);
         line = statement.line;
+        rules = rules.saturating_add(statement.what.is_rule() as u32);
     }
-    assert_eq!(rt; line, 16);
+    assert_eq!(rt; (statements.len(), line, rules), (16, 16, 8));
     // Without the last newline, and without the last semicolon.
-    let cut = accepted(&rt, rt.alloc(), &DEVICE_RULES[..685]);
-    assert_eq!(rt; cut.len(), 16);
-    assert_eq!(rt;
-        read(rt.alloc(), &DEVICE_RULES[..684]).err(),
-        Some(RuleTextFault::Syntax(16))
-    );
+    for (end, wanted) in [(685, Ok(16)), (684, Err(RuleTextFault::Syntax(16)))] {
+        let front = DEVICE_RULES.get(..end).expect(&rt, "a front");
+        assert_eq!(rt; read_front(rt.alloc(), front), wanted);
+    }
 }
 
 /// Whether a word begins a statement of the device's rules.
@@ -102,47 +100,49 @@ fn each_front_of_a_text(rt: HostRuntime) {
     }
 }
 
+const FAULTS: [(&[u8], Option<RuleTextFault>); 12] = [
+    (
+        b"type a;\nrole r;\n",
+        Some(RuleTextFault::Unsupported(2)),
+    ),
+    (b"\npermissive { a };", Some(RuleTextFault::Syntax(2))),
+    (b"permissive self;", Some(RuleTextFault::Syntax(1))),
+    (b"permissive a b;", Some(RuleTextFault::Syntax(1))),
+    (b"dontaudit x y;", Some(RuleTextFault::Syntax(1))),
+    (b"type a;\ntype b", Some(RuleTextFault::Syntax(2))),
+    (
+        b"\n# x\n allow a { } : b c;",
+        Some(RuleTextFault::Syntax(3)),
+    ),
+    (b"allow self a:b c;", Some(RuleTextFault::Syntax(1))),
+    (b"allow a ~self:b c;", Some(RuleTextFault::Syntax(1))),
+    (b"allow a { -self }:b c;", Some(RuleTextFault::Syntax(1))),
+    (
+        b"allow a {{ self } *}:b c;;auditallow x \"a;b\" # ;\n;",
+        None,
+    ),
+    // No text begins where its line has no second quote.
+    (
+        b"auditallow x \"a;b\n;",
+        Some(RuleTextFault::Unsupported(1)),
+    ),
+];
+
 #[test]
 fn faults(rt: HostRuntime) {
-    let fault = |text: &[u8]| read(rt.alloc(), text).err();
-    assert_eq!(rt;
-        fault(b"type a;\nrole r;\n"),
-        Some(RuleTextFault::Unsupported(2))
-    );
-    assert_eq!(rt;
-        fault(b"\npermissive { a };"),
-        Some(RuleTextFault::Syntax(2))
-    );
-    assert_eq!(rt; fault(b"permissive self;"), Some(RuleTextFault::Syntax(1)));
-    assert_eq!(rt; fault(b"permissive a b;"), Some(RuleTextFault::Syntax(1)));
-    assert_eq!(rt; fault(b"dontaudit x y;"), Some(RuleTextFault::Syntax(1)));
-    assert_eq!(rt; fault(b"type a;\ntype b"), Some(RuleTextFault::Syntax(2)));
-    assert_eq!(rt;
-        fault(b"\n# x\n allow a { } : b c;"),
-        Some(RuleTextFault::Syntax(3))
-    );
-    assert_eq!(rt; fault(b"allow self a:b c;"), Some(RuleTextFault::Syntax(1)));
-    assert_eq!(rt;
-        fault(b"allow a ~self:b c;"),
-        Some(RuleTextFault::Syntax(1))
-    );
-    assert_eq!(rt;
-        fault(b"allow a { -self }:b c;"),
-        Some(RuleTextFault::Syntax(1))
-    );
-    assert_eq!(rt;
-        fault(b"allow a {{ self } *}:b c;;auditallow x \"a;b\" # ;\n;"),
-        None
-    );
-    // No text begins where its line has no second quote.
-    assert_eq!(rt;
-        fault(b"auditallow x \"a;b\n;"),
-        Some(RuleTextFault::Unsupported(1))
-    );
+    for (text, wanted) in FAULTS {
+        let fault = read(rt.alloc(), text).err();
+        assert_eq!(rt; (text, fault), (text, wanted));
+    }
+}
+
+/// The number of statements, and the line of the first.
+fn number_and_line(statements: &[Statement]) -> Option<(usize, u32)> {
+    Some((statements.len(), statements.first()?.line))
 }
 
 #[test]
-fn skipped_statements(rt: HostRuntime) -> Result<(), Fail> {
+fn skipped_statements(rt: HostRuntime) {
     for word in [
         b"auditallow".as_slice(),
         b"type_transition",
@@ -152,13 +152,14 @@ fn skipped_statements(rt: HostRuntime) -> Result<(), Fail> {
         b"dontauditxperm",
         b"neverallowxperm",
     ] {
-        let mut text = Vec::from_slice(rt.alloc(), word)?;
-        text.extend_from_slice(b" x y:z { w } \"a;b # c\" # d;\n;\ntype a;\n")?;
+        let text = Vec::from_slice(rt.alloc(), word);
+        let mut text = text.ok().expect(&rt, "memory");
+        let added =
+            text.extend_from_slice(b" x y:z { w } \"a;b # c\" # d;\n;\ntype a;\n");
+        added.ok().expect(&rt, "memory");
         let statements = accepted(&rt, rt.alloc(), &text);
-        assert_eq!(rt; statements.len(), 1);
-        assert_eq!(rt; statements[0].line, 3);
+        assert_eq!(rt; (word, number_and_line(&statements)), (word, Some((1, 3))));
     }
-    Ok(())
 }
 
 #[test]
@@ -199,27 +200,31 @@ fn permissive_and_dontaudit(rt: HostRuntime) {
     }
 }
 
-#[test]
-fn most_rules(rt: HostRuntime) -> Result<(), Fail> {
-    let mut text = Vec::from_slice(rt.alloc(), b"type a;\n")?;
-    repeated(&mut text, b"allow a a:binder call;\n", 65_536)?;
-    let statements = accepted(&rt, rt.alloc(), &text);
-    assert_eq!(rt; statements.len(), 65_537);
-    assert!(rt; !statements[0].what.is_rule() && statements[1].what.is_rule());
-    text.extend_from_slice(b"allow a a:binder call;\n")?;
-    assert_eq!(rt; read(rt.alloc(), &text).err(), Some(RuleTextFault::TooMany));
-    Ok(())
+/// The number of statements in a text of a first piece and so many of a second, or its fault.
+fn count_of(
+    rt: &impl Abort,
+    alloc: Global,
+    first: &[u8],
+    piece: &[u8],
+    times: u32,
+) -> Result<usize, RuleTextFault> {
+    let mut text = Vec::new(alloc);
+    repeated(&mut text, first, 1).ok().expect(rt, "memory");
+    repeated(&mut text, piece, times).ok().expect(rt, "memory");
+    read_front(alloc, &text)
 }
 
 #[test]
-fn longest_text(rt: HostRuntime) -> Result<(), Fail> {
-    let mut text = Vec::new(rt.alloc());
-    repeated(&mut text, b"                ", 262_144)?;
-    assert_eq!(rt; accepted(&rt, rt.alloc(), &text).len(), 0);
-    text.push(b' ')?;
-    assert_eq!(rt;
-        read(rt.alloc(), &text).err(),
-        Some(RuleTextFault::TooLarge)
-    );
-    Ok(())
+fn most_rules_and_longest_text(rt: HostRuntime) {
+    let rule = b"allow a a:binder call;\n".as_slice();
+    let spaces = b"                ".as_slice();
+    for (first, piece, times, wanted) in [
+        (b"type a;\n".as_slice(), rule, 65_536, Ok(65_537)),
+        (b"type a;\n", rule, 65_537, Err(RuleTextFault::TooMany)),
+        (b"", spaces, 262_144, Ok(0)),
+        (b" ", spaces, 262_144, Err(RuleTextFault::TooLarge)),
+    ] {
+        let count = count_of(&rt, rt.alloc(), first, piece, times);
+        assert_eq!(rt; (times, count), (times, wanted));
+    }
 }
