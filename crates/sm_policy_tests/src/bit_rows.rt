@@ -1,20 +1,32 @@
 //! Rows of bits.
 
-ghost use Rattle.std.specs.Prelude.{◌≡◌, ◌<◌, length, IfOk};
+ghost use Rattle.std.specs.Prelude.{◌≡◌, ◌<◌, length};
 
 use sm_bits::{BitRow, empty_rows};
-use std::alloc::{AllocError, Global};
+use std::alloc::Global;
 use std::process::Abort;
-use std::test::*;
 
-fn row_of(alloc: Global, first: usize, second: usize) -> Result<BitRow, AllocError>
-    requires { (first < 128) × (second < 128) }
-    ensures { IfOk result (λ row. length row ≡ 2) }
+fn empty_row(rt: &impl Abort, alloc: Global) -> BitRow
+    ensures { length result ≡ 2 }
 {
-    let mut row = BitRow::empty(alloc, 2)?;
-    row.insert(first);
-    row.insert(second);
-    Ok(row)
+    BitRow::empty(alloc, 2).ok().expect(rt, "memory")
+}
+
+fn put(row: &mut BitRow, number: usize)
+    requires { (length row.old ≡ 2) × (number < 128) }
+    ensures { length row.new ≡ 2 }
+{
+    row.insert(number);
+}
+
+fn row_of(rt: &impl Abort, alloc: Global, first: usize, second: usize) -> BitRow
+    requires { (first < 128) × (second < 128) }
+    ensures { length result ≡ 2 }
+{
+    let mut row = empty_row(rt, alloc);
+    put(&mut row, first);
+    put(&mut row, second);
+    row
 }
 
 /// Asserts that these numbers are in a set, and no other one.
@@ -29,9 +41,9 @@ fn has_just(rt: &impl Abort, row: &BitRow, numbers: &[usize])
 }
 
 #[test]
-fn sets_of_numbers(rt: HostRuntime) -> Result<(), Fail> {
-    let mut row = row_of(rt.alloc(), 3, 64)?;
-    let other = row_of(rt.alloc(), 64, 127)?;
+fn sets_of_numbers(rt: HostRuntime) {
+    let mut row = row_of(&rt, rt.alloc(), 3, 64);
+    let other = row_of(&rt, rt.alloc(), 64, 127);
     has_just(&rt, &row, &[3, 64]);
     assert!(rt; row.meets(&other));
     row.subtract(&other);
@@ -41,24 +53,23 @@ fn sets_of_numbers(rt: HostRuntime) -> Result<(), Fail> {
     has_just(&rt, &row, &[3, 64, 127]);
     row.remove(64);
     has_just(&rt, &row, &[3, 127]);
-    Ok(())
 }
 
 #[test]
-fn several_rows(rt: HostRuntime) -> Result<(), Fail> {
-    let mut rows = empty_rows(rt.alloc(), 3, 2)?;
+fn several_rows(rt: HostRuntime) {
+    let rows = empty_rows(rt.alloc(), 3, 2);
+    let mut rows = rows.ok().expect(&rt, "memory");
     assert!(rt; rows.len() == 3);
     rows[1].insert(127);
     assert_eq!(rt;
         (rows[0].has(127), rows[1].has(127), rows[2].has(127)),
         (false, true, false)
     );
-    Ok(())
 }
 
 #[test]
-fn free_numbers(rt: HostRuntime) -> Result<(), Fail> {
-    let mut row = row_of(rt.alloc(), 0, 1)?;
+fn free_numbers(rt: HostRuntime) {
+    let mut row = row_of(&rt, rt.alloc(), 0, 1);
     for (from, free) in [(0, 2), (1, 2), (3, 3), (127, 127), (200, 200)] {
         assert_eq!(rt; (from, row.first_free_from(from)), (from, free));
     }
@@ -68,5 +79,4 @@ fn free_numbers(rt: HostRuntime) -> Result<(), Fail> {
     assert_eq!(rt; row.first_free_from(63), 65);
     row.remove(0);
     assert_eq!(rt; row.first_free(), 0);
-    Ok(())
 }

@@ -1,31 +1,32 @@
 //! The declarations of policy sources: which are refused, and the types that sets denote.
 
-use sm_ruletext::{RuleKind, Set, Statement, What, read};
+use crate::statements::accepted;
+use sm_ruletext::{RuleKind, Set, What};
 use sm_types::{Types, TypesFault};
 use std::alloc::{AllocError, Global};
 use std::process::Abort;
 
-fn statements_of(rt: &impl Abort, alloc: Global, text: &[u8]) -> Vec<Statement> {
-    read(alloc, text).ok().expect(rt, "statements")
+fn fault_of(rt: &impl Abort, alloc: Global, text: &[u8]) -> Option<TypesFault> {
+    Types::build(alloc, &accepted(rt, alloc, text)).err()
 }
 
-fn fault_of(rt: &impl Abort, alloc: Global, text: &[u8]) -> Option<TypesFault> {
-    Types::build(alloc, &statements_of(rt, alloc, text)).err()
+fn types_of(rt: &impl Abort, alloc: Global, text: &[u8]) -> Types {
+    let types = Types::build(alloc, &accepted(rt, alloc, text));
+    types.ok().expect(rt, "types")
 }
 
 const SETS: &[u8] = b"attribute d;\ntype a, d;\ntype b;\nallow { * -a } ~d:binder *;\n";
 
 #[test]
 fn numbers_of_types(rt: HostRuntime) {
-    let statements = statements_of(&rt, rt.alloc(), SETS);
-    let types = Types::build(rt.alloc(), &statements);
-    let types = types.ok().expect(&rt, "types");
+    let types = types_of(&rt, rt.alloc(), SETS);
     assert_eq!(rt; (types.count(), types.attribute_count()), (2, 1));
-    assert_eq!(rt; (types.index(b"b"), types.index(b"d")), (Some(1), None));
-    assert_eq!(rt;
-        (types.name(0), types.name(2)),
-        (Some(b"a".as_slice()), None)
-    );
+    for (name, number) in [(b"b".as_slice(), Some(1)), (b"d", None)] {
+        assert_eq!(rt; types.index(name), number);
+    }
+    for (number, name) in [(0, Some(b"a".as_slice())), (2, None)] {
+        assert_eq!(rt; types.name(number), name);
+    }
 }
 
 /// Whether a set has the numbers 0, 1 and 2.
@@ -36,9 +37,8 @@ fn has(alloc: Global, types: &Types, set: &Set) -> Result<(bool, bool, bool), Ty
 
 #[test]
 fn numbers_in_sets(rt: HostRuntime) {
-    let statements = statements_of(&rt, rt.alloc(), SETS);
-    let types = Types::build(rt.alloc(), &statements);
-    let types = types.ok().expect(&rt, "types");
+    let statements = accepted(&rt, rt.alloc(), SETS);
+    let types = types_of(&rt, rt.alloc(), SETS);
     for statement in &statements {
         if let What::Rule(RuleKind::Allow, rule) = &statement.what {
             for (set, wanted) in [
@@ -105,7 +105,7 @@ fn declared(
     let mut text = Vec::new(alloc);
     let added = declare_names(&mut text, keyword, count);
     added.ok().expect(rt, "memory");
-    let types = Types::build(alloc, &statements_of(rt, alloc, &text))?;
+    let types = Types::build(alloc, &accepted(rt, alloc, &text))?;
     Ok(types.count() + types.attribute_count())
 }
 

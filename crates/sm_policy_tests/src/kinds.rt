@@ -121,10 +121,7 @@ fn permissions_are_bits_of_their_class(rt: HostRuntime) {
         assert_eq!(rt; Perms::read(class, word), perms);
     }
     for (perms, word) in [
-        (
-            Perms::SET_CONTEXT_MGR,
-            Some(b"set_context_mgr".as_slice()),
-        ),
+        (Perms::SET_CONTEXT_MGR, Some(b"set_context_mgr".as_slice())),
         (Perms(3), None),
     ] {
         assert_eq!(rt; perms.word(), word);

@@ -101,10 +101,18 @@ fn entry_of(contexts: &Contexts, index: u32) -> Option<(u32, &[u8])> {
     Some((line, context.type_name()))
 }
 
+/// The number of a name's key, and its label.
+fn label_of<'a>(contexts: &'a Contexts, name: &[u8]) -> (u32, &'a [u8]) {
+    (contexts.place(name), contexts.label(name).text())
+}
+
+fn contexts_of(rt: &impl Abort, alloc: Global, text: &[u8]) -> Contexts {
+    Contexts::read(alloc, text).ok().expect(rt, "contexts")
+}
+
 #[test]
 fn labels(rt: HostRuntime) {
-    let contexts = Contexts::read(rt.alloc(), LABELS);
-    let contexts = contexts.ok().expect(&rt, "contexts");
+    let contexts = contexts_of(&rt, rt.alloc(), LABELS);
     for (name, place, label) in [
         (
             b"activity".as_slice(),
@@ -117,8 +125,7 @@ fn labels(rt: HostRuntime) {
         (b"activity ", 1, DEFAULT),
         (b"", 1, DEFAULT),
     ] {
-        let found = (contexts.place(name), contexts.label(name).text());
-        assert_eq!(rt; found, (place, label));
+        assert_eq!(rt; label_of(&contexts, name), (place, label));
     }
     assert_eq!(rt; contexts.count(), 3);
     for (index, entry) in [
@@ -140,10 +147,7 @@ fn keys(rt: &impl Abort, alloc: Global, count: u32) -> Result<u32, ContextsFault
 
 #[test]
 fn most_entries(rt: HostRuntime) {
-    for (lines, wanted) in [
-        (16_384, Ok(16_384)),
-        (16_385, Err(ContextsFault::TooLarge)),
-    ] {
+    for (lines, wanted) in [(16_384, Ok(16_384)), (16_385, Err(ContextsFault::TooLarge))] {
         assert_eq!(rt; keys(&rt, rt.alloc(), lines), wanted);
     }
 }

@@ -1,11 +1,11 @@
 //! Policies from their two texts: what is refused, what is counted, who may do what.
 
-use crate::statements::repeated;
+use crate::statements::{accepted, repeated};
 use sm_contexts::ContextsFault;
 use sm_kinds::{Class, Perms};
 use sm_policy::*;
 use sm_rules::{PERM_COUNT, class_at, perm_at, written_plainly};
-use sm_ruletext::{RuleTextFault, Statement, read};
+use sm_ruletext::{RuleTextFault, Statement};
 use sm_samples::{DEVICE_LABELS, DEVICE_RULES, device_rules_with};
 use sm_types::TypesFault;
 use std::alloc::{AllocError, Global};
@@ -105,7 +105,7 @@ fn refusals(rt: HostRuntime) {
     assert_refusal(
         &rt,
         rt.alloc(),
-        &DEVICE_RULES[..40],
+        DEVICE_RULES.get(..40).expect(&rt, "a front"),
         DEVICE_LABELS,
         b"contexts: undeclared type at line 2",
     );
@@ -188,8 +188,11 @@ fn counts_and_labels(rt: HostRuntime) {
 }
 
 const SERVER: &[u8] = b"system_server";
+
 const APP: &[u8] = b"untrusted_app";
+
 const SERVICE: &[u8] = b"activity_service";
+
 const MANAGER: &[u8] = b"servicemanager";
 
 /// Accesses, and the lines of the rules of the device that grant them.
@@ -198,7 +201,13 @@ const ACCESSES: [(&[u8], &[u8], Class, Perms, Option<u32>); 9] = [
     (SERVER, APP, Class::Binder, Perms::CALL, None),
     (APP, SERVICE, Class::ServiceManager, Perms::FIND, Some(13)),
     (APP, SERVICE, Class::Binder, Perms::FIND, None),
-    (MANAGER, MANAGER, Class::Binder, Perms::SET_CONTEXT_MGR, Some(9)),
+    (
+        MANAGER,
+        MANAGER,
+        Class::Binder,
+        Perms::SET_CONTEXT_MGR,
+        Some(9),
+    ),
     (SERVER, SERVER, Class::Binder, Perms::SET_CONTEXT_MGR, None),
     (SERVER, SERVICE, Class::ServiceManager, Perms::ADD, Some(12)),
     (APP, SERVICE, Class::ServiceManager, Perms::ADD, None),
@@ -235,7 +244,10 @@ fn types_by_number(rt: HostRuntime) {
         (1, 6, Class::Binder, false),
     ] {
         let found = snapshot.allows_at(source, target, class, Perms::CALL);
-        assert_eq!(rt; (source, target, class, found), (source, target, class, allowed));
+        assert_eq!(rt;
+            (source, target, class, found),
+            (source, target, class, allowed)
+        );
     }
 }
 
@@ -248,16 +260,12 @@ fn add_nested(text: &mut Vec<u8>, depth: u32) -> Result<(), AllocError> {
     text.extend_from_slice(b" a:binder call;")
 }
 
-fn statement_count(rt: &impl Abort, alloc: Global, rules: &[u8]) -> usize {
-    read(alloc, rules).ok().expect(rt, "statements").len()
-}
-
 #[test]
 fn nested_braces_decide_as_written(rt: HostRuntime) {
     let mut text = Vec::new(rt.alloc());
     let added = add_nested(&mut text, 1_000_000);
     added.ok().expect(&rt, "memory");
-    assert_eq!(rt; statement_count(&rt, rt.alloc(), &text), 2);
+    assert_eq!(rt; accepted(&rt, rt.alloc(), &text).len(), 2);
     let prepared = prepared(&rt, rt.alloc(), &text, b"* u:r:a\n");
     for (perm, line) in [(Perms::CALL, Some(2)), (Perms::TRANSFER, None)] {
         assert_eq!(rt; prepared.why(b"a", b"a", Class::Binder, perm), line);
@@ -325,6 +333,20 @@ fn permissive_and_dontaudit(rt: HostRuntime) {
         assert_eq!(rt; (source, target, found), (source, target, wanted));
     }
     assert_eq!(rt; prepared.why(b"b", b"a", Class::Binder, Perms::CALL), None);
+}
+
+/// Whether a permission of the service manager's class is allowed on `c` and audited.
+fn of_manager(snapshot: &Snapshot, source: &[u8], perm: Perms) -> (bool, bool) {
+    let class = Class::ServiceManager;
+    (
+        snapshot.allows(source, b"c", class, perm),
+        snapshot.audits(source, b"c", class, perm),
+    )
+}
+
+#[test]
+fn permissive_and_dontaudit_in_a_snapshot(rt: HostRuntime) {
+    let prepared = prepared(&rt, rt.alloc(), PERMISSIVE_RULES, b"* u:r:a\n");
     let snapshot = Snapshot::new(prepared, 1);
     for (source, perm, wanted) in [
         (b"a".as_slice(), Perms::FIND, (false, false)),
@@ -332,10 +354,7 @@ fn permissive_and_dontaudit(rt: HostRuntime) {
         // A permission of the other class is none of this one.
         (b"b", Perms::CALL, (false, true)),
     ] {
-        let found = (
-            snapshot.allows(source, b"c", Class::ServiceManager, perm),
-            snapshot.audits(source, b"c", Class::ServiceManager, perm),
-        );
+        let found = of_manager(&snapshot, source, perm);
         assert_eq!(rt; (source, found), (source, wanted));
     }
 }
@@ -423,17 +442,24 @@ fn agree(prepared: &Prepared, statements: &[Statement], source: u32, target: u32
     true
 }
 
+/// The first two types of which they do not say the same.
+fn first_disagreement(prepared: &Prepared, statements: &[Statement]) -> Option<(u32, u32)> {
+    for source in 0..24u32 {
+        for target in 0..24u32 {
+            if !agree(prepared, statements, source, target) {
+                return Some((source, target));
+            }
+        }
+    }
+    None
+}
+
 #[test]
 fn bytes_say_what_is_written(rt: HostRuntime) {
     let mut text = Vec::new(rt.alloc());
     add_types(&mut text).ok().expect(&rt, "memory");
     add_rules(&mut text).ok().expect(&rt, "memory");
-    let statements = read(rt.alloc(), &text).ok().expect(&rt, "statements");
+    let statements = accepted(&rt, rt.alloc(), &text);
     let prepared = prepared(&rt, rt.alloc(), &text, b"* u:r:a\n");
-    for source in 0..24u32 {
-        for target in 0..24u32 {
-            let agreed = agree(&prepared, &statements, source, target);
-            assert_eq!(rt; (source, target, agreed), (source, target, true));
-        }
-    }
+    assert_eq!(rt; first_disagreement(&prepared, &statements), None);
 }

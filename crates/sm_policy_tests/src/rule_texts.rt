@@ -2,19 +2,16 @@
 
 ghost use Rattle.sm_types.specs.Members.{IsOf};
 
+use crate::statements::accepted;
 use sm_kinds::{Class, Perms, push_numbered};
 use sm_neverallow::{Matrices, Violation, first_violation};
 use sm_rules::{Rules, RulesFault, written_plainly};
-use sm_ruletext::{Statement, read};
+use sm_ruletext::Statement;
 use sm_samples::DEVICE_RULES;
 use sm_types::Types;
 use sm_vectors::Vectors;
 use std::alloc::{AllocError, Global};
 use std::process::Abort;
-
-fn statements_of(rt: &impl Abort, alloc: Global, text: &[u8]) -> Vec<Statement> {
-    read(alloc, text).ok().expect(rt, "statements")
-}
 
 fn types_of(rt: &impl Abort, alloc: Global, statements: &[Statement]) -> Types
     ensures { IsOf statements.now result }
@@ -23,14 +20,14 @@ fn types_of(rt: &impl Abort, alloc: Global, statements: &[Statement]) -> Types
 }
 
 fn rules_of(rt: &impl Abort, alloc: Global, text: &[u8]) -> Rules {
-    let statements = statements_of(rt, alloc, text);
+    let statements = accepted(rt, alloc, text);
     let types = types_of(rt, alloc, &statements);
     let rules = Rules::build(alloc, &statements, &types);
     rules.ok().expect(rt, "rules")
 }
 
 fn fault_of(rt: &impl Abort, alloc: Global, text: &[u8]) -> Option<RulesFault> {
-    let statements = statements_of(rt, alloc, text);
+    let statements = accepted(rt, alloc, text);
     let types = types_of(rt, alloc, &statements);
     Rules::build(alloc, &statements, &types).err()
 }
@@ -139,7 +136,7 @@ fn line(
     class: Class,
     perm: Perms,
 ) -> Option<u32> {
-    let statements = statements_of(rt, alloc, text);
+    let statements = accepted(rt, alloc, text);
     let types = types_of(rt, alloc, &statements);
     let rules = Rules::build(alloc, &statements, &types);
     let rules = rules.ok().expect(rt, "rules");
@@ -153,7 +150,9 @@ fn line(
 }
 
 const APP: &[u8] = b"isolated_app";
+
 const SERVICE: &[u8] = b"activity_service";
+
 const MANAGER: &[u8] = b"servicemanager";
 
 const SETS: &[u8] = b"attribute d;\ntype a, d;\ntype b;\nallow { * -a } ~d:binder *;\n";
@@ -174,7 +173,14 @@ type Granted = (
 const LINES: [Granted; 9] = [
     (DEVICE_RULES, MANAGER, MANAGER, Class::Binder, 32, Some(9)),
     (DEVICE_RULES, APP, APP, Class::Binder, 32, None),
-    (DEVICE_RULES, APP, SERVICE, Class::ServiceManager, 2, Some(13)),
+    (
+        DEVICE_RULES,
+        APP,
+        SERVICE,
+        Class::ServiceManager,
+        2,
+        Some(13),
+    ),
     // Two permissions are no single one, and a permission of the other class is none.
     (DEVICE_RULES, APP, MANAGER, Class::Binder, 80, None),
     (DEVICE_RULES, APP, SERVICE, Class::Binder, 2, None),
@@ -188,7 +194,10 @@ const LINES: [Granted; 9] = [
 fn lines(rt: HostRuntime) {
     for (text, source, target, class, perm, wanted) in LINES {
         let found = line(&rt, rt.alloc(), text, (source, target), class, Perms(perm));
-        assert_eq!(rt; (source, target, perm, found), (source, target, perm, wanted));
+        assert_eq!(rt;
+            (source, target, perm, found),
+            (source, target, perm, wanted)
+        );
     }
 }
 
@@ -230,25 +239,44 @@ fn add_rule(
     text.extend_from_slice(behind)
 }
 
-/// Asserts which accesses a rule grants, with each of the sets between the other two parts of the rule.
+/// Asserts that a text with a set grants just the accesses with these letters.
 fn assert_grants(
     rt: &impl Abort,
     alloc: Global,
-    (before, behind): (&[u8], &[u8]),
-    tuples: &[Lettered],
-    sets: &[Grants],
+    text: &[u8],
+    (set, letters): Grants,
+    accesses: &[Lettered],
 ) {
-    for (set, letters) in sets {
-        let mut text = Vec::new(alloc);
-        let added = add_rule(&mut text, before, set, behind);
-        added.ok().expect(rt, "memory");
-        for (letter, source, target, class, perm) in tuples {
-            let found = line(rt, alloc, &text, (source, target), *class, Perms(*perm));
-            let granted = letters.contains(letter);
-            assert_eq!(rt; (*set, *letter, found.is_some()), (*set, *letter, granted));
-        }
+    for (letter, source, target, class, perm) in accesses {
+        let found = line(rt, alloc, text, (source, target), *class, Perms(*perm));
+        let wanted = letters.contains(letter);
+        assert_eq!(rt; (set, *letter, found.is_some()), (set, *letter, wanted));
     }
 }
+
+const OF_SOURCES: [Lettered; 3] = [
+    (b'a', b"a", b"c", Class::Binder, 16),
+    (b'b', b"b", b"c", Class::Binder, 16),
+    (b'c', b"c", b"c", Class::Binder, 16),
+];
+
+const OF_TARGETS: [Lettered; 3] = [
+    (b'a', b"c", b"a", Class::Binder, 16),
+    (b'b', b"c", b"b", Class::Binder, 16),
+    (b'c', b"c", b"c", Class::Binder, 16),
+];
+
+const OF_CLASSES: [Lettered; 2] = [
+    (b's', b"a", b"b", Class::ServiceManager, 2),
+    (b'b', b"a", b"b", Class::Binder, 16),
+];
+
+const OF_PERMISSIONS: [Lettered; 4] = [
+    (b'i', b"a", b"b", Class::Binder, 8),
+    (b'c', b"a", b"b", Class::Binder, 16),
+    (b's', b"a", b"b", Class::Binder, 32),
+    (b't', b"a", b"b", Class::Binder, 64),
+];
 
 /// Sets of types, and the types that they denote.
 const TYPE_SETS: [Grants; 13] = [
@@ -275,75 +303,61 @@ const OWN_SETS: [Grants; 4] = [
     (b"{ * -b -c self }", b"ac"),
 ];
 
-#[test]
-fn sets_of_sources(rt: HostRuntime) {
-    let tuples: [Lettered; 3] = [
-        (b'a', b"a", b"c", Class::Binder, 16),
-        (b'b', b"b", b"c", Class::Binder, 16),
-        (b'c', b"c", b"c", Class::Binder, 16),
-    ];
-    let rule = (b"allow ".as_slice(), b" c:binder call;\n".as_slice());
-    assert_grants(&rt, rt.alloc(), rule, &tuples, &TYPE_SETS);
-}
+const CLASS_SETS: [Grants; 8] = [
+    (b"*", b"sb"),
+    (b"binder", b"b"),
+    (b"~binder", b"s"),
+    (b"~{ binder file }", b"s"),
+    (b"{ binder service_manager }", b"sb"),
+    (b"{ * -binder }", b"s"),
+    (b"{ binder { service_manager -binder } }", b"s"),
+    (b"{ binder -file }", b"b"),
+];
+
+const PERMISSION_SETS: [Grants; 8] = [
+    (b"*", b"icst"),
+    (b"call", b"c"),
+    (b"~call", b"ist"),
+    (b"~{ call transfer }", b"is"),
+    (b"{ call transfer }", b"ct"),
+    (b"{ * -call }", b"ist"),
+    (b"{ call { transfer -call } }", b"t"),
+    (b"{ -call }", b""),
+];
 
 #[test]
-fn sets_of_targets(rt: HostRuntime) {
-    let tuples: [Lettered; 3] = [
-        (b'a', b"c", b"a", Class::Binder, 16),
-        (b'b', b"c", b"b", Class::Binder, 16),
-        (b'c', b"c", b"c", Class::Binder, 16),
-    ];
-    let rule = (b"allow c ".as_slice(), b":binder call;\n".as_slice());
-    assert_grants(&rt, rt.alloc(), rule, &tuples, &TYPE_SETS);
-    assert_grants(&rt, rt.alloc(), rule, &tuples, &OWN_SETS);
-}
-
-#[test]
-fn sets_of_classes(rt: HostRuntime) {
-    let tuples: [Lettered; 2] = [
-        (b's', b"a", b"b", Class::ServiceManager, 2),
-        (b'b', b"a", b"b", Class::Binder, 16),
-    ];
-    let sets: [Grants; 8] = [
-        (b"*", b"sb"),
-        (b"binder", b"b"),
-        (b"~binder", b"s"),
-        (b"~{ binder file }", b"s"),
-        (b"{ binder service_manager }", b"sb"),
-        (b"{ * -binder }", b"s"),
-        (b"{ binder { service_manager -binder } }", b"s"),
-        (b"{ binder -file }", b"b"),
-    ];
-    let rule = (b"allow a b:".as_slice(), b" *;\n".as_slice());
-    assert_grants(&rt, rt.alloc(), rule, &tuples, &sets);
-}
-
-#[test]
-fn sets_of_permissions(rt: HostRuntime) {
-    let tuples: [Lettered; 4] = [
-        (b'i', b"a", b"b", Class::Binder, 8),
-        (b'c', b"a", b"b", Class::Binder, 16),
-        (b's', b"a", b"b", Class::Binder, 32),
-        (b't', b"a", b"b", Class::Binder, 64),
-    ];
-    let sets: [Grants; 8] = [
-        (b"*", b"icst"),
-        (b"call", b"c"),
-        (b"~call", b"ist"),
-        (b"~{ call transfer }", b"is"),
-        (b"{ call transfer }", b"ct"),
-        (b"{ * -call }", b"ist"),
-        (b"{ call { transfer -call } }", b"t"),
-        (b"{ -call }", b""),
-    ];
-    let rule = (b"allow a b:binder ".as_slice(), b";\n".as_slice());
-    assert_grants(&rt, rt.alloc(), rule, &tuples, &sets);
+fn what_sets_denote(rt: HostRuntime) {
+    for (before, sets, behind, accesses) in [
+        (
+            b"allow ".as_slice(),
+            TYPE_SETS.as_slice(),
+            b" c:binder call;\n".as_slice(),
+            OF_SOURCES.as_slice(),
+        ),
+        (b"allow c ", &TYPE_SETS, b":binder call;\n", &OF_TARGETS),
+        (b"allow c ", &OWN_SETS, b":binder call;\n", &OF_TARGETS),
+        (b"allow a b:", &CLASS_SETS, b" *;\n", &OF_CLASSES),
+        (
+            b"allow a b:binder ",
+            &PERMISSION_SETS,
+            b";\n",
+            &OF_PERMISSIONS,
+        ),
+    ] {
+        for set in sets {
+            let mut text = Vec::new(rt.alloc());
+            let added = add_rule(&mut text, before, set.0, behind);
+            added.ok().expect(&rt, "memory");
+            assert_grants(&rt, rt.alloc(), &text, *set, accesses);
+        }
+    }
 }
 
 /// The lines of a neverallow rule and of an allow rule that breaks it, a source and a target, a class and a permission.
 type Broken = ((u32, u32), (u16, u16), (Class, Perms));
 
 const CALL: (Class, Perms) = (Class::Binder, Perms(16));
+
 const TRANSFER: (Class, Perms) = (Class::Binder, Perms(64));
 
 fn broken(found: Option<Violation>) -> Option<Broken> {
@@ -428,11 +442,17 @@ fn add_nevers(
 }
 
 const BY_NAME: &[u8] = b"allow t69 t0:binder call;\nallow t2 t0:binder call;\n";
+
 const BUT_NAMES: &[u8] = b"neverallow { * -t69 -t2 } *:binder call;\n";
+
 const LAST_GROUP: &[u8] = b"neverallow t69 t0:binder call;\n";
+
 const FIRST_GROUP: &[u8] = b"neverallow t2 t0:binder call;\n";
+
 const BY_SELF: &[u8] = b"allow t66 self:binder call;\nallow t2 t0:binder call;\n";
+
 const BUT_SELF: &[u8] = b"neverallow { * -t66 -t2 } { self t66 }:binder call;\n";
+
 const OWN: &[u8] = b"neverallow { t66 t3 } self:binder call;\n";
 
 /// Allow rules, neverallow rules that are the same, the two others among them, and the violation.
@@ -446,12 +466,42 @@ type Nevers = (
 
 const MANY_NEVERS: [Nevers; 6] = [
     // The later rule of the text is hit by an earlier group of sources, and the other way round.
-    (BY_NAME, BUT_NAMES, LAST_GROUP, FIRST_GROUP, Some(((123, 71), (69, 0), CALL))),
-    (BY_NAME, BUT_NAMES, FIRST_GROUP, LAST_GROUP, Some(((123, 72), (2, 0), CALL))),
+    (
+        BY_NAME,
+        BUT_NAMES,
+        LAST_GROUP,
+        FIRST_GROUP,
+        Some(((123, 71), (69, 0), CALL)),
+    ),
+    (
+        BY_NAME,
+        BUT_NAMES,
+        FIRST_GROUP,
+        LAST_GROUP,
+        Some(((123, 72), (2, 0), CALL)),
+    ),
     // By `self` alone, on either side, and the first of the two ways.
-    (BY_SELF, BUT_SELF, FIRST_GROUP, OWN, Some(((123, 72), (2, 0), CALL))),
-    (BY_SELF, BUT_SELF, OWN, FIRST_GROUP, Some(((123, 71), (66, 66), CALL))),
-    (BY_SELF, BUT_SELF, OWN, OWN, Some(((123, 71), (66, 66), CALL))),
+    (
+        BY_SELF,
+        BUT_SELF,
+        FIRST_GROUP,
+        OWN,
+        Some(((123, 72), (2, 0), CALL)),
+    ),
+    (
+        BY_SELF,
+        BUT_SELF,
+        OWN,
+        FIRST_GROUP,
+        Some(((123, 71), (66, 66), CALL)),
+    ),
+    (
+        BY_SELF,
+        BUT_SELF,
+        OWN,
+        OWN,
+        Some(((123, 71), (66, 66), CALL)),
+    ),
     (b"allow * t4:binder call;\n", OWN, OWN, OWN, None),
 ];
 

@@ -5,7 +5,8 @@ use sm_samples::DEVICE_RULES;
 use std::alloc::{AllocError, Global};
 use std::process::Abort;
 
-fn accepted(rt: &impl Abort, alloc: Global, text: &[u8]) -> Vec<Statement> {
+/// The statements of a text without faults.
+pub fn accepted(rt: &impl Abort, alloc: Global, text: &[u8]) -> Vec<Statement> {
     read(alloc, text).ok().expect(rt, "statements")
 }
 
@@ -101,10 +102,7 @@ fn each_front_of_a_text(rt: HostRuntime) {
 }
 
 const FAULTS: [(&[u8], Option<RuleTextFault>); 12] = [
-    (
-        b"type a;\nrole r;\n",
-        Some(RuleTextFault::Unsupported(2)),
-    ),
+    (b"type a;\nrole r;\n", Some(RuleTextFault::Unsupported(2))),
     (b"\npermissive { a };", Some(RuleTextFault::Syntax(2))),
     (b"permissive self;", Some(RuleTextFault::Syntax(1))),
     (b"permissive a b;", Some(RuleTextFault::Syntax(1))),
@@ -154,12 +152,21 @@ fn skipped_statements(rt: HostRuntime) {
     ] {
         let text = Vec::from_slice(rt.alloc(), word);
         let mut text = text.ok().expect(&rt, "memory");
-        let added =
-            text.extend_from_slice(b" x y:z { w } \"a;b # c\" # d;\n;\ntype a;\n");
+        let added = text.extend_from_slice(b" x y:z { w } \"a;b # c\" # d;\n;\ntype a;\n");
         added.ok().expect(&rt, "memory");
         let statements = accepted(&rt, rt.alloc(), &text);
         assert_eq!(rt; (word, number_and_line(&statements)), (word, Some((1, 3))));
     }
+}
+
+/// Whether a rule has the sets of the rule in the test below.
+fn is_of_sets(rule: &Rule) -> bool {
+    rule.is_kept()
+        && rule.source.all
+        && rule.source.minus.contains(b"a")
+        && rule.target.complement
+        && rule.class.selects(b"binder")
+        && rule.perm.all
 }
 
 #[test]
@@ -171,33 +178,34 @@ fn sets(rt: HostRuntime) {
     assert_eq!(rt; statements.len(), 4);
     for statement in &statements {
         if let What::Rule(RuleKind::Allow, rule) = &statement.what {
-            assert_eq!(rt; statement.line, 4);
-            assert!(rt; rule.source.all && rule.target.complement && rule.perm.all);
-            assert!(rt; rule.source.minus.contains(b"a"));
-            assert!(rt; rule.is_kept() && rule.class.selects(b"binder"));
+            assert_eq!(rt; (statement.line, is_of_sets(rule)), (4, true));
         }
+    }
+}
+
+/// Whether a statement is that dontaudit rule or that declaration of `a` that the test below has.
+fn is_as_written(what: &What) -> bool {
+    match what {
+        What::Rule(RuleKind::Dontaudit, rule) => rule.to_self,
+        What::Permissive(name) => name.bytes() == b"a".as_slice(),
+        _ => false,
     }
 }
 
 #[test]
 fn permissive_and_dontaudit(rt: HostRuntime) {
     let text = b"dontaudit a { self b }:binder *;\ndontaudit x y:file read;\npermissive a;";
-    let statements = accepted(&rt, rt.alloc(), text);
-    // The rule of another class is skipped.
-    assert_eq!(rt; statements.len(), 2);
-    for statement in &statements {
-        match &statement.what {
-            What::Rule(RuleKind::Dontaudit, rule) => {
-                assert_eq!(rt; statement.line, 1);
-                assert!(rt; rule.to_self && statement.what.is_rule());
-            }
-            What::Permissive(name) => {
-                assert_eq!(rt; (statement.line, name.bytes()), (3, b"a".as_slice()));
-                assert!(rt; !statement.what.is_rule());
-            }
-            _ => assert!(rt; false),
-        }
+    let mut found = Vec::new(rt.alloc());
+    for statement in &accepted(&rt, rt.alloc(), text) {
+        let what = &statement.what;
+        let row = (statement.line, what.is_rule(), is_as_written(what));
+        found.push(row).ok().expect(&rt, "memory");
     }
+    // The rule of another class is skipped.
+    assert_eq!(rt;
+        found.as_slice(),
+        [(1, true, true), (3, false, true)].as_slice()
+    );
 }
 
 /// The number of statements in a text of a first piece and so many of a second, or its fault.
