@@ -96,9 +96,11 @@ const LABELS: &[u8] = b"# labels\n\nactivity\tu:object_r:activity_service:s0\n\
 const DEFAULT: &[u8] = b"u:object_r:default_android_service:s0";
 
 /// The line and the type of a key, by its number.
-fn entry_of(contexts: &Contexts, index: u32) -> Option<(u32, &[u8])> {
-    let (line, context) = contexts.entry(index)?;
-    Some((line, context.type_name()))
+fn entry_of(contexts: &Contexts, index: u32) -> (u32, &[u8]) {
+    match contexts.entry(index) {
+        Some((line, context)) => (line, context.type_name()),
+        None => (0, b"no key"),
+    }
 }
 
 /// The number of a name's key, and its label.
@@ -110,9 +112,7 @@ fn contexts_of(rt: &impl Abort, alloc: Global, text: &[u8]) -> Contexts {
     Contexts::read(alloc, text).ok().expect(rt, "contexts")
 }
 
-#[test]
-fn labels(rt: HostRuntime) {
-    let contexts = contexts_of(&rt, rt.alloc(), LABELS);
+fn assert_labels(rt: &impl Abort, contexts: &Contexts) {
     for (name, place, label) in [
         (
             b"activity".as_slice(),
@@ -125,16 +125,26 @@ fn labels(rt: HostRuntime) {
         (b"activity ", 1, DEFAULT),
         (b"", 1, DEFAULT),
     ] {
-        assert_eq!(rt; label_of(&contexts, name), (place, label));
+        assert_eq!(rt; label_of(contexts, name), (place, label));
     }
-    assert_eq!(rt; contexts.count(), 3);
-    for (index, entry) in [
-        (0, Some((3, b"activity_service".as_slice()))),
-        (2, Some((6, b"radio"))),
-        (3, None),
+}
+
+fn assert_entries(rt: &impl Abort, contexts: &Contexts) {
+    for (index, line, label_type) in [
+        (0, 3, b"activity_service".as_slice()),
+        (2, 6, b"radio"),
+        (3, 0, b"no key"),
     ] {
-        assert_eq!(rt; entry_of(&contexts, index), entry);
+        assert_eq!(rt; entry_of(contexts, index), (line, label_type));
     }
+}
+
+#[test]
+fn labels(rt: HostRuntime) {
+    let contexts = contexts_of(&rt, rt.alloc(), LABELS);
+    assert_labels(&rt, &contexts);
+    assert_entries(&rt, &contexts);
+    assert_eq!(rt; contexts.count(), 3);
 }
 
 /// The number of keys in a text of so many entry lines, or its fault.
