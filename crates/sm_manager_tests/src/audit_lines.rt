@@ -1,6 +1,6 @@
 //! The lines of records, and the ring of the newest.
 
-use sm_audit::{Ring, line, push_line, push_lines};
+use sm_audit::{Ring, push_line, push_lines};
 use sm_history::{Denial, Record};
 use sm_kinds::{Class, Context, Identity, Name, Perms};
 use std::alloc::Global;
@@ -15,45 +15,29 @@ fn name(rt: &impl Abort, alloc: Global, bytes: &[u8]) -> Name {
     Name::new(alloc, bytes).ok().expect(rt, "a name")
 }
 
-fn process(rt: &impl Abort, alloc: Global, pid: u32, uid: u32, text: &[u8]) -> Identity {
-    let context = context(rt, alloc, text);
-    Identity { pid, uid, context }
-}
-
-/// What the rule of a denial says, by type names.
-fn rule(
-    rt: &impl Abort,
-    alloc: Global,
-    source: &[u8],
-    target: &[u8],
-    class: Class,
-    perm: Perms,
-) -> Denial {
-    Denial::Rule {
-        source: name(rt, alloc, source),
-        target: name(rt, alloc, target),
-        class,
-        perm,
+fn application(rt: &impl Abort, alloc: Global) -> Identity {
+    Identity {
+        pid: 200,
+        uid: 10007,
+        context: context(rt, alloc, b"u:r:untrusted_app:s0"),
     }
 }
 
-/// That `find` is missing for a name, which the caller may find all the same if its type is permissive.
-fn find_missing(rt: &impl Abort, alloc: Global, bytes: &[u8], permissive: bool) -> Record {
+/// That `find` is missing for `activity`.
+fn find_missing(rt: &impl Abort, alloc: Global) -> Record {
     Record {
         length: 5,
         version: 2,
-        denial: rule(
-            rt,
-            alloc,
-            b"untrusted_app",
-            b"activity_service",
-            Class::ServiceManager,
-            Perms::FIND,
-        ),
-        permissive,
-        who: process(rt, alloc, 200, 10007, b"u:r:untrusted_app:s0"),
+        denial: Denial::Rule {
+            source: name(rt, alloc, b"untrusted_app"),
+            target: name(rt, alloc, b"activity_service"),
+            class: Class::ServiceManager,
+            perm: Perms::FIND,
+        },
+        permissive: false,
+        who: application(rt, alloc),
         target: Some(context(rt, alloc, b"u:object_r:activity_service:s0")),
-        name: Some(name(rt, alloc, bytes)),
+        name: Some(name(rt, alloc, b"activity")),
     }
 }
 
@@ -64,44 +48,28 @@ fn app_barred(rt: &impl Abort, alloc: Global, length: u64) -> Record {
         version: 1,
         denial: Denial::App(10007),
         permissive: false,
-        who: process(rt, alloc, 200, 10007, b"u:r:untrusted_app:s0"),
+        who: application(rt, alloc),
         target: None,
         name: Some(name(rt, alloc, b"activity")),
     }
 }
 
-fn line_of(rt: &impl Abort, alloc: Global, record: &Record) -> Vec<u8> {
-    line(alloc, record).ok().expect(rt, "memory")
-}
-
 #[test]
-fn a_missing_rule_names_both_contexts(rt: HostRuntime) {
+fn lines_come_behind_what_is_there_in_their_order(rt: HostRuntime) {
     let alloc = rt.alloc();
-    let record = find_missing(&rt, alloc, b"activity", false);
-    let line = line_of(&rt, alloc, &record);
-    assert_eq!(rt;
-        line.as_slice(),
-        b"journal=5 version=2 avc: denied { find } for pid=200 uid=10007 name=activity scontext=u:r:untrusted_app:s0 tcontext=u:object_r:activity_service:s0 tclass=service_manager permissive=0\n".as_slice()
-    );
-}
-
-#[test]
-fn lines_come_behind_what_is_there_in_their_order(rt: HostRuntime) -> Result<(), Fail> {
-    let alloc = rt.alloc();
-    let mut out = Vec::from_slice(alloc, b"denials 2\n")?;
-    push_line(
-        alloc,
-        &mut out,
-        &find_missing(&rt, alloc, b"activity", false),
-    )?;
-    let mut records = Vec::new(alloc);
-    records.push(app_barred(&rt, alloc, 6))?;
-    push_lines(alloc, &mut out, &records)?;
+    let mut out = Vec::from_slice(alloc, b"denials 2\n")
+        .ok()
+        .expect(&rt, "memory");
+    push_line(alloc, &mut out, &find_missing(&rt, alloc))
+        .ok()
+        .expect(&rt, "memory");
+    push_lines(alloc, &mut out, &[app_barred(&rt, alloc, 6)])
+        .ok()
+        .expect(&rt, "memory");
     assert_eq!(rt;
         out.as_slice(),
         b"denials 2\njournal=5 version=2 avc: denied { find } for pid=200 uid=10007 name=activity scontext=u:r:untrusted_app:s0 tcontext=u:object_r:activity_service:s0 tclass=service_manager permissive=0\njournal=6 version=1 clause: denied app for pid=200 uid=10007 name=activity scontext=u:r:untrusted_app:s0\n".as_slice()
     );
-    Ok(())
 }
 
 /// Pushes `many` records, each with another length.
@@ -112,32 +80,39 @@ fn push_many(rt: &impl Abort, ring: &mut Ring, alloc: Global, many: u64) {
 }
 
 /// The number of records in the ring, and the lengths of the oldest and of the newest one.
-fn held(rt: &impl Abort, ring: &Ring, alloc: Global) -> Option<(usize, u64, u64)> {
+fn holds(rt: &impl Abort, ring: &Ring, alloc: Global, wanted: (usize, u64, u64)) {
     let all = ring.all(alloc).ok().expect(rt, "memory");
-    let oldest = all.first()?.length;
-    Some((all.len(), oldest, all.last()?.length))
+    let (Some(oldest), Some(newest)) = (all.first(), all.last()) else {
+        panic!(rt; "an empty ring");
+    };
+    assert_eq!(rt; (all.len(), oldest.length, newest.length), wanted);
+}
+
+/// The records of these lengths.
+fn barred(rt: &impl Abort, alloc: Global, lengths: &[u64]) -> Vec<Record> {
+    let mut records = Vec::new(alloc);
+    for length in lengths {
+        records
+            .push(app_barred(rt, alloc, *length))
+            .ok()
+            .expect(rt, "memory");
+    }
+    records
 }
 
 #[test]
-fn the_oldest_record_goes_first(rt: HostRuntime) -> Result<(), Fail> {
+fn the_oldest_record_goes_first(rt: HostRuntime) {
     let alloc = rt.alloc();
-    let mut ring = Ring::new(alloc)?;
-    assert!(rt; held(&rt, &ring, alloc).is_none());
+    let mut ring = Ring::new(alloc).ok().expect(&rt, "memory");
+    let none = ring.all(alloc).ok().expect(&rt, "memory");
+    assert!(rt; none.is_empty());
     push_many(&rt, &mut ring, alloc, 1024);
-    assert_eq!(rt; held(&rt, &ring, alloc), Some((1024, 0, 1023)));
+    holds(&rt, &ring, alloc, (1024, 0, 1023));
     let full = ring.all(alloc).ok().expect(&rt, "memory");
     ring.push(app_barred(&rt, alloc, 1024));
-    assert_eq!(rt; held(&rt, &ring, alloc), Some((1024, 1, 1024)));
-    let mut two = Vec::new(alloc);
-    two.push(app_barred(&rt, alloc, 1025))
-        .ok()
-        .expect(&rt, "memory");
-    two.push(app_barred(&rt, alloc, 1026))
-        .ok()
-        .expect(&rt, "memory");
-    ring.push_all(two);
-    assert_eq!(rt; held(&rt, &ring, alloc), Some((1024, 3, 1026)));
+    holds(&rt, &ring, alloc, (1024, 1, 1024));
+    ring.push_all(barred(&rt, alloc, &[1025, 1026]));
+    holds(&rt, &ring, alloc, (1024, 3, 1026));
     ring.push_all(full);
-    assert_eq!(rt; held(&rt, &ring, alloc), Some((1024, 0, 1023)));
-    Ok(())
+    holds(&rt, &ring, alloc, (1024, 0, 1023));
 }

@@ -1,9 +1,9 @@
 //! The table of services and watches.
 
-use sm_history::{Service, WatchPair};
-use sm_kinds::{ClientId, Name, Node};
+use sm_history::{MOST_WATCHES, Service, Watch, WatchPair};
+use sm_kinds::{ClientId, Name, Node, push_numbered};
 use sm_names::Names;
-use std::alloc::Global;
+use std::alloc::{AllocError, Global};
 use std::process::Abort;
 use std::test::*;
 
@@ -28,53 +28,66 @@ fn add(rt: &impl Abort, names: &mut Names, alloc: Global, name: &[u8], service: 
     }
 }
 
-/// Watches a name as the manager does: false where there are too many watches.
-fn watch(
-    rt: &impl Abort,
-    names: &mut Names,
-    alloc: Global,
-    client: u32,
-    name: &[u8],
-    object: u32,
-) -> bool {
+fn watch_of(rt: &impl Abort, alloc: Global, client: u32, name: &[u8], object: u32) -> WatchPair {
     let name = Name::new(alloc, name).ok().expect(rt, "a name");
-    names.reserve(1).ok().expect(rt, "memory");
-    if names.is_ready() && names.watches() < sm_history::MOST_WATCHES {
-        let pair = WatchPair::new(client, &name, object);
-        names.watch(pair.ok().expect(rt, "memory"));
-        return true;
-    }
-    false
+    let pair = WatchPair::new(client, &name, object);
+    pair.ok().expect(rt, "memory")
 }
 
-/// The names whose services have a bit of the mask.
-fn listed(rt: &impl Abort, names: &Names, alloc: Global, mask: u32) -> Vec<Name> {
-    names.by_mask(alloc, mask).ok().expect(rt, "memory")
+/// Watches a name as the manager does, if there aren't too many watches.
+fn watch(rt: &impl Abort, names: &mut Names, watch: WatchPair) {
+    names.reserve(1).ok().expect(rt, "memory");
+    if names.is_ready() && names.watches() < MOST_WATCHES {
+        names.watch(watch);
+    }
+}
+
+/// The names whose services have a bit of the mask, with a blank behind each.
+fn listed(rt: &impl Abort, names: &Names, alloc: Global, mask: u32) -> Vec<u8> {
+    let mut text = Vec::new(alloc);
+    for name in &names.by_mask(alloc, mask).ok().expect(rt, "memory") {
+        text.extend_from_slice(name.bytes())
+            .ok()
+            .expect(rt, "memory");
+        text.push(b' ').ok().expect(rt, "memory");
+    }
+    text
+}
+
+/// The object of a service.
+fn object_of(service: Option<Service>) -> Option<u32> {
+    match service {
+        Some(service) => Some(service.node.object),
+        None => None,
+    }
 }
 
 /// The object under a name.
-fn object_at(names: &Names, name: &[u8]) -> Option<u32> {
-    names.get(name).map(|s| s.node.object)
+fn stands(rt: &impl Abort, names: &Names, name: &[u8], wanted: Option<u32>) {
+    assert_eq!(rt; (name, object_of(names.get(name))), (name, wanted));
 }
 
 #[test]
 fn services_stand_under_their_names(rt: HostRuntime) {
     let mut names = Names::new(rt.alloc());
-    add(&rt, &mut names, rt.alloc(), b"power", service(1, 5, 1));
-    add(&rt, &mut names, rt.alloc(), b"audio", service(2, 6, 8));
-    assert_eq!(rt; object_at(&names, b"power"), Some(5));
-    add(&rt, &mut names, rt.alloc(), b"power", service(2, 7, 9));
-    assert_eq!(rt; object_at(&names, b"power"), Some(7));
+    let power = b"power".as_slice();
+    let rows = [
+        (power, service(1, 5, 1)),
+        (b"audio", service(2, 6, 8)),
+        (power, service(2, 7, 9)),
+    ];
+    for (name, service) in rows {
+        add(&rt, &mut names, rt.alloc(), name, service);
+        stands(&rt, &names, name, Some(service.node.object));
+    }
     assert!(rt; names.has_room(b"wifi"));
-    let found = listed(&rt, &names, rt.alloc(), 8);
-    assert_eq!(rt; found.len(), 2);
-    assert!(rt; found[0].bytes() == b"audio".as_slice());
-    assert!(rt; found[1].bytes() == b"power".as_slice());
-    assert_eq!(rt; listed(&rt, &names, rt.alloc(), 1).len(), 1);
-    names.remove(b"power");
-    assert_eq!(rt; object_at(&names, b"power"), None);
+    for (mask, wanted) in [(8, b"audio power ".as_slice()), (1, b"power ")] {
+        assert_eq!(rt; listed(&rt, &names, rt.alloc(), mask).as_slice(), wanted);
+    }
+    names.remove(power);
+    stands(&rt, &names, power, None);
     names.forget(2);
-    assert_eq!(rt; object_at(&names, b"audio"), None);
+    stands(&rt, &names, b"audio", None);
 }
 
 #[test]
@@ -85,31 +98,62 @@ fn a_copy_of_the_services_goes_its_own_way(rt: HostRuntime) {
     let copy = names.services().copy(rt.alloc(), 1);
     let mut copy = copy.ok().expect(&rt, "memory");
     copy.remove(b"power");
-    assert_eq!(rt; copy.get(b"power").map(|s| s.node.object), None);
-    assert_eq!(rt; copy.get(b"audio").map(|s| s.node.object), Some(6));
-    assert_eq!(rt; copy.len(), 1);
-    assert_eq!(rt; object_at(&names, b"power"), Some(5));
+    for (name, wanted) in [(b"power", None), (b"audio", Some(6))] {
+        assert_eq!(rt; (name, object_of(copy.get(name))), (name, wanted));
+    }
+    assert!(rt; copy.len() == 1);
+    stands(&rt, &names, b"power", Some(5));
+}
+
+/// Four watches, the first of which is made again at the end: the client, the name and the object of each.
+const WATCHES: [(u32, &[u8], u32); 4] = [
+    (7, b"power", 1),
+    (8, b"audio", 1),
+    (8, b"power", 2),
+    (7, b"power", 1),
+];
+
+/// These are the watches: the client, the name and the object of each.
+fn are_told(rt: &impl Abort, alloc: Global, watches: &[Watch], wanted: &[u8]) {
+    let mut text = Vec::new(alloc);
+    for watch in watches {
+        push_watch(&mut text, watch).ok().expect(rt, "memory");
+    }
+    assert_eq!(rt; text.as_slice(), wanted);
+}
+
+fn push_watch(text: &mut Vec<u8>, watch: &Watch) -> Result<(), AllocError> {
+    push_numbered(text, b"", u64::from(watch.client))?;
+    text.extend_from_slice(b" ")?;
+    text.extend_from_slice(watch.name.bytes())?;
+    push_numbered(text, b" ", u64::from(watch.object))?;
+    text.extend_from_slice(b"\n")
 }
 
 #[test]
 fn a_watch_made_twice_is_there_twice(rt: HostRuntime) {
     let mut names = Names::new(rt.alloc());
-    assert!(rt; watch(&rt, &mut names, rt.alloc(), 7, b"power", 1));
-    assert!(rt; watch(&rt, &mut names, rt.alloc(), 8, b"audio", 1));
-    assert!(rt; watch(&rt, &mut names, rt.alloc(), 8, b"power", 2));
-    assert!(rt; watch(&rt, &mut names, rt.alloc(), 7, b"power", 1));
-    assert_eq!(rt; names.watches(), 4);
-    assert_eq!(rt; names.watching(7, b"power", 1), 2);
-    let watchers = names.watchers(b"power");
-    assert_eq!(rt; watchers.len(), 3);
-    assert!(rt; watchers[0].client == 7 && watchers[1].client == 8 && watchers[2].client == 7);
+    for (client, name, object) in WATCHES {
+        watch(
+            &rt,
+            &mut names,
+            watch_of(&rt, rt.alloc(), client, name, object),
+        );
+    }
+    assert!(rt; names.watches() == 4);
+    assert!(rt; names.watching(7, b"power", 1) == 2);
+    let power = b"7 power 1\n8 power 2\n7 power 1\n";
+    are_told(&rt, rt.alloc(), names.watchers(b"power"), power);
     let all = names.listed_watches(rt.alloc()).ok().expect(&rt, "memory");
-    assert_eq!(rt; all.len(), 4);
-    assert!(rt; all[1].name.bytes() == b"audio".as_slice() && all[3].client == 7);
-    assert!(rt; names.is_watching(8, b"power", 2));
-    assert!(rt; !names.is_watching(8, b"power", 1));
-    assert_eq!(rt; names.unwatch(7, b"power", 1), 2);
-    assert_eq!(rt; names.watchers(b"power").len(), 1);
+    are_told(
+        &rt,
+        rt.alloc(),
+        &all,
+        b"7 power 1\n8 audio 1\n8 power 2\n7 power 1\n",
+    );
+    assert!(rt; names.is_watching(8, b"power", 2) && !names.is_watching(8, b"power", 1));
+    assert!(rt; names.unwatch(7, b"power", 1) == 2);
+    are_told(&rt, rt.alloc(), names.watchers(b"power"), b"8 power 2\n");
     names.forget(8);
-    assert_eq!(rt; names.watches(), 0);
+    assert!(rt; names.watches() == 0);
 }
