@@ -1,16 +1,14 @@
 //! Connections of clients and of administrators, one after another at a desk that holds one manager.
 
-use crate::attending::{ending_at, hears, holds_at};
+use crate::acts::{Act, SERVER, policy};
+use crate::attending::{ends_at, holds_at, said};
 use crate::manager_desk::ManagerDesk;
-use crate::turns::{add, policy, server};
 use sm_engine::Fault;
-use sm_history::{By, Event};
-use sm_kinds::ClientId;
+use sm_history::By;
 use sm_samples::{BROKEN_RULE, DEVICE_LABELS, DEVICE_RULES, Said, Talk, device_rules_with};
 use sm_wire::Kind;
 use std::alloc::{AllocError, Global};
 use std::process::Abort;
-use std::test::Fail;
 
 /// A client's connection, with lines that are allowed when they come and others.
 pub const A_CLIENT: Talk = &[
@@ -23,36 +21,22 @@ pub const A_CLIENT: Talk = &[
     ("bye", "bye"),
 ];
 
-// A desk with a device's policy and a journal of `places` slots.
-fn device_desk(rt: &impl Abort, alloc: Global, places: u32) -> ManagerDesk {
-    ManagerDesk::open(rt, alloc, &policy(rt, alloc), places)
-}
-
-// The same, where a client beside the connections has put a service under `activity`.
-fn desk_with_activity(rt: &impl Abort, alloc: Global) -> ManagerDesk {
-    let mut desk = device_desk(rt, alloc, 1000);
-    let connect = Event::Connect(server(rt, alloc));
-    assert!(rt; desk.does(By::Manager, connect));
-    assert!(rt; desk.does(By::Client(ClientId(1)), add(rt, alloc)));
-    desk
+fn device_desk(rt: &impl Abort, alloc: Global) -> ManagerDesk {
+    ManagerDesk::open(rt, alloc, &policy(rt, alloc, DEVICE_RULES))
 }
 
 // After `bye` nothing is answered.
 #[test]
-fn a_client_says_bye(rt: HostRuntime) -> Result<(), Fail> {
+fn a_client_says_bye(rt: HostRuntime) {
     let alloc = rt.alloc();
-    let mut said = Said::new(alloc);
-    said.talk(A_CLIENT)?;
-    said.script.extend_from_slice(b"list 15\nlis")?;
-    let desk = hears(
-        &rt,
-        alloc,
-        Kind::Client,
-        device_desk(&rt, alloc, 1000),
-        &said,
-    );
-    assert_eq!(rt; desk.ends, 1);
-    Ok(())
+    let mut said = said(&rt, alloc, A_CLIENT);
+    said.script
+        .extend_from_slice(b"list 15\nlis")
+        .ok()
+        .expect(&rt, "memory");
+    let desk = device_desk(&rt, alloc);
+    let desk = ends_at(&rt, alloc, Kind::Client, desk, &said, None);
+    assert!(rt; desk.ends == 1);
 }
 
 const AN_APPLICATION: Talk = &[
@@ -84,13 +68,16 @@ const WHAT_IT_WAS_DENIED: Talk = &[
     ("version", "version 1 7"),
 ];
 
+// A client beside the connections has put a service under `activity`.
 #[test]
 fn an_administrator_reads_what_a_client_was_denied(rt: HostRuntime) {
     let alloc = rt.alloc();
-    let desk = desk_with_activity(&rt, alloc);
+    let mut desk = device_desk(&rt, alloc);
+    assert!(rt; desk.does(&rt, By::Manager, Act::ConnectServer));
+    assert!(rt; desk.does(&rt, SERVER, Act::Add));
     let desk = holds_at(&rt, alloc, Kind::Client, desk, AN_APPLICATION);
     let desk = holds_at(&rt, alloc, Kind::Admin, desk, WHAT_IT_WAS_DENIED);
-    assert_eq!(rt; desk.ends, 1);
+    assert!(rt; desk.ends == 1);
 }
 
 /// An administrator's connection: a refused policy, one that is accepted, one that comes too late.
@@ -110,18 +97,12 @@ pub fn an_administrator(alloc: Global) -> Result<Said, AllocError> {
 }
 
 #[test]
-fn an_administrator_reloads(rt: HostRuntime) -> Result<(), Fail> {
+fn an_administrator_reloads(rt: HostRuntime) {
     let alloc = rt.alloc();
-    let said = an_administrator(alloc)?;
-    let desk = hears(
-        &rt,
-        alloc,
-        Kind::Admin,
-        device_desk(&rt, alloc, 1000),
-        &said,
-    );
-    assert_eq!(rt; desk.ends, 0);
-    Ok(())
+    let said = an_administrator(alloc).ok().expect(&rt, "memory");
+    let desk = device_desk(&rt, alloc);
+    let desk = ends_at(&rt, alloc, Kind::Admin, desk, &said, None);
+    assert!(rt; desk.ends == 0);
 }
 
 // Before a client is made all else is malformed.
@@ -172,12 +153,12 @@ const NOT_OF_AN_ADMINISTRATOR: Talk = &[
 #[test]
 fn lines_out_of_their_place(rt: HostRuntime) {
     let alloc = rt.alloc();
-    let desk = device_desk(&rt, alloc, 1000);
+    let desk = device_desk(&rt, alloc);
     let desk = holds_at(&rt, alloc, Kind::Client, desk, BEFORE_A_HELLO);
     let desk = holds_at(&rt, alloc, Kind::Admin, desk, NOT_OF_AN_ADMINISTRATOR);
-    assert_eq!(rt; desk.ends, 0);
+    assert!(rt; desk.ends == 0);
     let desk = holds_at(&rt, alloc, Kind::Client, desk, NOT_OF_A_CLIENT);
-    assert_eq!(rt; desk.ends, 1);
+    assert!(rt; desk.ends == 1);
 }
 
 const A_LOST_SERVER: Talk = &[
@@ -192,19 +173,28 @@ const AFTER_A_LOST_SERVER: Talk = &[
     ("take", "empty"),
 ];
 
-// Nothing after a line that is too long is read, and the client has left.
-#[test]
-fn a_line_too_long(rt: HostRuntime) -> Result<(), Fail> {
-    let alloc = rt.alloc();
-    let mut said = Said::new(alloc);
-    said.talk(A_LOST_SERVER)?;
+/// A line that is too long, and one behind it.
+fn push_too_long(alloc: Global, said: &mut Said) -> Result<(), AllocError> {
     said.script.extend_from_slice(&vec![in alloc; b'a'; 4097]?)?;
     said.script.extend_from_slice(b"\ntake\n")?;
-    said.wanted.extend_from_slice(b"fault long\n")?;
-    let desk = device_desk(&rt, alloc, 1000);
-    let (desk, ending) = ending_at(&rt, alloc, Kind::Client, desk, &said);
-    assert!(rt; matches!(ending, Err(Fault::LineTooLong)));
-    assert_eq!(rt; desk.ends, 1);
+    said.wanted.extend_from_slice(b"fault long\n")
+}
+
+// Nothing after a line that is too long is read, and the client has left.
+#[test]
+fn a_line_too_long(rt: HostRuntime) {
+    let alloc = rt.alloc();
+    let mut said = said(&rt, alloc, A_LOST_SERVER);
+    push_too_long(alloc, &mut said).ok().expect(&rt, "memory");
+    let desk = device_desk(&rt, alloc);
+    let desk = ends_at(
+        &rt,
+        alloc,
+        Kind::Client,
+        desk,
+        &said,
+        Some(Fault::LineTooLong),
+    );
+    assert!(rt; desk.ends == 1);
     holds_at(&rt, alloc, Kind::Client, desk, AFTER_A_LOST_SERVER);
-    Ok(())
 }

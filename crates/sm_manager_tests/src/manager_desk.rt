@@ -1,17 +1,14 @@
 //! A desk that holds one service manager.
 
-use crate::turns::process;
+use crate::acts::{ADMIN, Act, event, opened_under};
 use sm_core::Manager;
 use sm_history::{By, Event, Failure, Outcome, Refusal, Reply};
-use sm_kinds::{AdminId, ClientId, Identity, Places};
+use sm_kinds::{ClientId, Identity};
 use sm_policy::Prepared;
 use sm_session::{Desk, Response};
 use sm_wire::Request;
 use std::alloc::Global;
 use std::process::Abort;
-
-/// The administrator of each connection of an administrator.
-const ADMINISTRATOR: AdminId = AdminId(1);
 
 /// A desk that holds one service manager, for one connection after another.
 pub struct ManagerDesk {
@@ -38,15 +35,12 @@ impl Drop for ManagerDesk {
 }
 
 impl ManagerDesk {
-    /// Opens a manager under this policy, with a journal of `places` slots.
-    pub fn open(rt: &impl Abort, alloc: Global, policy: &Prepared, places: u32) -> ManagerDesk {
-        let who = process(rt, alloc, b"u:r:servicemanager:s0");
+    /// Opens a manager under this policy.
+    pub fn open(rt: &impl Abort, alloc: Global, policy: &Prepared) -> ManagerDesk {
         let policy = policy.share().ok().expect(rt, "memory");
-        let places = Places::new(places).expect(rt, "places");
-        let manager = Manager::open(alloc, who, policy, places);
         ManagerDesk {
             alloc,
-            manager: manager.ok().expect(rt, "a manager"),
+            manager: opened_under(rt, alloc, policy, 1000),
             client: None,
             asked: 0,
             ends: 0,
@@ -54,8 +48,8 @@ impl ManagerDesk {
     }
 
     /// Whether this is done for an actor beside the connections.
-    pub fn does(&mut self, by: By, event: Event) -> bool {
-        matches!(&self.step(by, event), Reply::Done(_))
+    pub fn does(&mut self, rt: &impl Abort, by: By, act: Act) -> bool {
+        matches!(&self.step(by, event(rt, self.alloc, act)), Reply::Done(_))
     }
 
     // An actor's event, at the turn that the actor has.
@@ -68,7 +62,7 @@ impl ManagerDesk {
     fn by(&self) -> By {
         match self.client {
             Some(client) => By::Client(client),
-            None => By::Admin(ADMINISTRATOR),
+            None => ADMIN,
         }
     }
 

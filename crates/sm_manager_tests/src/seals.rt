@@ -1,9 +1,8 @@
 //! Segments that a manager returns: their contents, and the openings of the next ones.
 
-use crate::turns::{add, application, policy, process, server};
+use crate::acts::{APPLICATION, Act, Became, SERVER, Seen, has_turn, opened, steps};
 use sm_core::Manager;
-use sm_history::{By, ClientRow, Event, Held, NamedRow, Refusal, Reply, Rows, TurnRow, Watch};
-use sm_kinds::{ClientId, Name, Places};
+use sm_history::{By, ClientRow, Held, NamedRow, Refusal, Rows, TurnRow, Watch};
 use std::alloc::Global;
 use std::process::Abort;
 
@@ -68,150 +67,131 @@ fn same_rows(one: &Rows, other: &Rows) -> bool {
         && same_turns(one.turns(), other.turns())
 }
 
-/// Makes an actor's next change. Whether it is done.
-fn does(manager: &mut Manager, by: By, event: Event) -> bool {
-    let turn = manager.turn(by);
-    matches!(&manager.step(by, turn, event), Reply::Done(_))
-}
-
 /// Seals a manager whose open segment has this number and these many changes, the last of which is the `length`th of
 /// all. It begins with the rows that the segment before it left. Returns what it leaves.
 fn sealed(
     rt: &impl Abort,
     manager: &mut Manager,
-    before: Option<Rows>,
+    before: Option<&Rows>,
     number: u64,
     changes: usize,
     length: u64,
-) -> Option<Rows> {
+) -> Rows {
     let segment = manager.seal().ok().expect(rt, "a segment");
     assert_eq!(rt; (segment.number(), segment.length()), (number, length));
     let (full, last) = segment.entries();
     assert_eq!(rt; (full.len(), last.len()), (0, changes));
-    if let Some(rows) = &before {
+    if let Some(rows) = before {
         assert!(rt; same_rows(rows, segment.opening()));
     }
-    segment.replay().ok()
+    segment.replay().ok().expect(rt, "memory")
 }
 
-const SERVER: By = By::Client(ClientId(1));
-
-const APPLICATION: By = By::Client(ClientId(2));
-
-fn opened(rt: &impl Abort, alloc: Global, places: u32) -> Manager {
-    let places = Places::new(places).expect(rt, "places");
-    let who = process(rt, alloc, b"u:r:servicemanager:s0");
-    let manager = Manager::open(alloc, who, policy(rt, alloc), places);
-    manager.ok().expect(rt, "a manager")
+/// Connects a system server to a manager whose journal has this many slots.
+fn serving(rt: &impl Abort, alloc: Global, places: u32) -> Manager {
+    let mut manager = opened(rt, alloc, places);
+    let connects = [(By::Manager, Act::ConnectServer, Seen::Connected(1))];
+    steps(rt, alloc, &mut manager, &connects);
+    manager
 }
 
-fn activity(rt: &impl Abort, alloc: Global) -> Name {
-    Name::new(alloc, b"activity").ok().expect(rt, "a name")
-}
+/// The journal is full for its second change.
+const FIRST: &[(By, Act, Seen)] = &[
+    (SERVER, Act::Add, Seen::Unheard),
+    (SERVER, Act::Add, Seen::Another),
+];
 
-fn get(rt: &impl Abort, alloc: Global) -> Event {
-    Event::Get {
-        name: activity(rt, alloc),
-    }
-}
+const SECOND: &[(By, Act, Seen)] = &[
+    (SERVER, Act::Add, Seen::Unheard),
+    (By::Manager, Act::ConnectApplication, Seen::Connected(2)),
+    (APPLICATION, Act::Get, Seen::Another),
+];
+
+const THIRD: &[(By, Act, Seen)] = &[
+    (APPLICATION, Act::Get, Seen::Done),
+    (APPLICATION, Act::Get, Seen::Done),
+];
+
+/// The handle counts two grants.
+const FOURTH: &[(By, Act, Seen)] = &[
+    (APPLICATION, Act::Release, Seen::Done),
+    (APPLICATION, Act::Release, Seen::Done),
+    (APPLICATION, Act::Release, Seen::Another),
+];
 
 // A journal of four slots, which is full again and again.
 #[test]
 fn each_segment_begins_with_what_the_last_one_left(rt: HostRuntime) {
     let alloc = rt.alloc();
-    let mut manager = opened(&rt, alloc, 4);
-    assert!(rt;
-        does(
-            &mut manager,
-            By::Manager,
-            Event::Connect(server(&rt, alloc))
-        )
-    );
-    assert!(rt; does(&mut manager, SERVER, add(&rt, alloc)));
-    assert!(rt; !does(&mut manager, SERVER, add(&rt, alloc)));
+    let mut manager = serving(&rt, alloc, 4);
+    steps(&rt, alloc, &mut manager, FIRST);
     let rows = sealed(&rt, &mut manager, None, 1, 3, 3);
-    assert!(rt; does(&mut manager, SERVER, add(&rt, alloc)));
-    assert!(rt;
-        does(
-            &mut manager,
-            By::Manager,
-            Event::Connect(application(&rt, alloc))
-        )
-    );
-    assert!(rt; !does(&mut manager, APPLICATION, get(&rt, alloc)));
-    let rows = sealed(&rt, &mut manager, rows, 2, 2, 5);
-    assert_eq!(rt; (manager.turn(By::Manager), manager.turn(SERVER)), (3, 2));
-    assert!(rt; does(&mut manager, APPLICATION, get(&rt, alloc)));
-    assert!(rt; does(&mut manager, APPLICATION, get(&rt, alloc)));
-    let rows = sealed(&rt, &mut manager, rows, 3, 2, 7);
-    for _ in 0..2 {
-        assert!(rt; does(&mut manager, APPLICATION, Event::Release { handle: 1 }));
-    }
-    assert!(rt; !does(&mut manager, APPLICATION, Event::Release { handle: 1 }));
-    let rows = sealed(&rt, &mut manager, rows, 4, 2, 9);
+    steps(&rt, alloc, &mut manager, SECOND);
+    let rows = sealed(&rt, &mut manager, Some(&rows), 2, 2, 5);
+    has_turn(&rt, &manager, By::Manager, 3);
+    has_turn(&rt, &manager, SERVER, 2);
+    steps(&rt, alloc, &mut manager, THIRD);
+    let rows = sealed(&rt, &mut manager, Some(&rows), 3, 2, 7);
+    steps(&rt, alloc, &mut manager, FOURTH);
+    let rows = sealed(&rt, &mut manager, Some(&rows), 4, 2, 9);
     assert!(rt; matches!(manager.seal(), Err(Refusal::Empty)));
-    assert!(rt; does(&mut manager, SERVER, Event::Die));
-    let rows = sealed(&rt, &mut manager, rows, 5, 1, 10);
-    let live = rows.map(|rows| rows.live().len());
-    assert_eq!(rt; live, Some(1));
-    assert_eq!(rt; (manager.turn(SERVER), manager.turn(APPLICATION)), (0, 4));
+    steps(&rt, alloc, &mut manager, &[(SERVER, Act::Die, Seen::Done)]);
+    let rows = sealed(&rt, &mut manager, Some(&rows), 5, 1, 10);
+    assert!(rt; rows.live().len() == 1);
+    has_turn(&rt, &manager, SERVER, 0);
+    has_turn(&rt, &manager, APPLICATION, 4);
 }
 
-// Watches of two names, made in turn: a segment begins with them in the order in which they were made.
+/// Four watches, the second of which is ended.
+const WATCHES: &[(By, Act, Seen)] = &[
+    (SERVER, Act::Watch(1), Seen::Unheard),
+    (SERVER, Act::Watch(2), Seen::Unheard),
+    (SERVER, Act::Watch(3), Seen::Unheard),
+    (SERVER, Act::Watch(4), Seen::Unheard),
+    (SERVER, Act::Unwatch(2), Seen::Done),
+];
+
+/// The objects of the first and of the last watch.
+fn ends(rows: &Rows) -> Option<(u32, u32)> {
+    let first = rows.watches().first()?.object;
+    Some((first, rows.watches().last()?.object))
+}
+
+// A segment begins with the watches in the order in which they were made.
 #[test]
 fn a_segment_begins_with_the_watches_in_their_order(rt: HostRuntime) {
     let alloc = rt.alloc();
-    let mut manager = opened(&rt, alloc, 1000);
-    assert!(rt;
-        does(
-            &mut manager,
-            By::Manager,
-            Event::Connect(server(&rt, alloc))
-        )
-    );
-    for object in 1..5 {
-        let watch = Event::Watch {
-            name: activity(&rt, alloc),
-            object,
-        };
-        assert!(rt; does(&mut manager, SERVER, watch));
-    }
-    let ended = Event::Unwatch {
-        name: activity(&rt, alloc),
-        object: 2,
-    };
-    assert!(rt; does(&mut manager, SERVER, ended));
+    let mut manager = serving(&rt, alloc, 1000);
+    steps(&rt, alloc, &mut manager, WATCHES);
     let rows = sealed(&rt, &mut manager, None, 1, 7, 7);
-    assert!(rt; does(&mut manager, SERVER, add(&rt, alloc)));
-    let rows = sealed(&rt, &mut manager, rows, 2, 1, 8);
-    let first = rows
-        .as_ref()
-        .and_then(|rows| rows.watches().first().map(|w| w.object));
-    let last = rows
-        .as_ref()
-        .and_then(|rows| rows.watches().last().map(|w| w.object));
-    assert_eq!(rt; (first, last), (Some(1), Some(4)));
+    let told = Seen::Heard(1, 1, Became::Told);
+    steps(&rt, alloc, &mut manager, &[(SERVER, Act::Add, told)]);
+    let rows = sealed(&rt, &mut manager, Some(&rows), 2, 1, 8);
+    assert_eq!(rt; ends(&rows), Some((1, 4)));
 }
 
 // A segment of several chunks: its replay gives what the next segment begins with.
 #[test]
 fn a_long_segment_is_replayed(rt: HostRuntime) {
     let alloc = rt.alloc();
-    let mut manager = opened(&rt, alloc, 100_000);
-    assert!(rt;
-        does(
-            &mut manager,
-            By::Manager,
-            Event::Connect(server(&rt, alloc))
-        )
-    );
+    let mut manager = serving(&rt, alloc, 100_000);
     for _ in 0..5_000 {
-        assert!(rt; does(&mut manager, SERVER, add(&rt, alloc)));
+        steps(
+            &rt,
+            alloc,
+            &mut manager,
+            &[(SERVER, Act::Add, Seen::Unheard)],
+        );
     }
     let segment = manager.seal().ok().expect(&rt, "a segment");
-    assert_eq!(rt; segment.length(), 5_002);
+    assert!(rt; segment.length() == 5_002);
     let rows = segment.replay().ok().expect(&rt, "memory");
-    assert!(rt; does(&mut manager, SERVER, add(&rt, alloc)));
+    steps(
+        &rt,
+        alloc,
+        &mut manager,
+        &[(SERVER, Act::Add, Seen::Unheard)],
+    );
     let next = manager.seal().ok().expect(&rt, "a segment");
     assert!(rt; same_rows(&rows, next.opening()));
 }

@@ -1,210 +1,99 @@
 //! A manager that is called directly: whose turn it is, and who may do and ask what.
 
+use crate::acts::{
+    ADMIN, APPLICATION, Act, SERVER, Seen, event, has_turn, look, opened, step, steps,
+};
 use sm_audit::push_lines;
 use sm_core::Manager;
-use sm_history::{By, Entry, Event, Failure, Outcome, Query, Record, Refusal, Reply};
-use sm_kinds::{
-    AdminId, Class, ClientId, Context, Identity, Name, ObjRef, Payload, Perms, Places, Refs,
-};
-use sm_policy::Prepared;
-use sm_samples::{DEVICE_LABELS, DEVICE_RULES};
+use sm_history::{By, Entry, Query, Record};
+use sm_kinds::{AdminId, Class, Name, Perms};
 use std::alloc::Global;
 use std::mem::size_of;
 use std::process::Abort;
 
-pub fn policy(rt: &impl Abort, alloc: Global) -> Prepared {
-    Prepared::from_texts(alloc, DEVICE_RULES, DEVICE_LABELS)
-        .ok()
-        .expect(rt, "a policy")
-}
-
-pub fn process(rt: &impl Abort, alloc: Global, context: &[u8]) -> Identity {
-    Identity {
-        pid: 1,
-        uid: 1000,
-        context: Context::read(alloc, context).ok().expect(rt, "a context"),
+/// Changes at these turns, each with what is seen of its reply.
+fn steps_at(rt: &impl Abort, alloc: Global, manager: &mut Manager, rows: &[(By, u64, Act, Seen)]) {
+    for (by, turn, act, wanted) in rows {
+        let seen = step(rt, alloc, manager, *by, *turn, *act);
+        assert_eq!(rt; (*by, *turn, *act, seen), (*by, *turn, *act, *wanted));
     }
 }
 
-pub fn server(rt: &impl Abort, alloc: Global) -> Identity {
-    process(rt, alloc, b"u:r:system_server:s0")
+const OUT_OF_TURN: &[(By, u64, Act, Seen)] = &[
+    (By::Manager, 0, Act::ConnectServer, Seen::OutOfTurn(1)),
+    (By::Manager, 1, Act::ConnectServer, Seen::Connected(1)),
+    (SERVER, 5, Act::Take, Seen::OutOfTurn(0)),
+    (SERVER, 5, Act::Get, Seen::OutOfTurn(0)),
+    (SERVER, 1, Act::Add, Seen::OutOfTurn(0)),
+    (SERVER, 0, Act::Add, Seen::Unheard),
+];
+
+#[test]
+fn changes_out_of_turn(rt: HostRuntime) {
+    let alloc = rt.alloc();
+    let mut manager = opened(&rt, alloc, 1000);
+    has_turn(&rt, &manager, By::Manager, 1);
+    steps_at(&rt, alloc, &mut manager, OUT_OF_TURN);
+    has_turn(&rt, &manager, By::Manager, 2);
+    has_turn(&rt, &manager, SERVER, 1);
+    has_turn(&rt, &manager, APPLICATION, 0);
 }
 
-fn opened(rt: &impl Abort, alloc: Global) -> Manager {
-    let places = Places::new(1000).expect(rt, "places");
-    let who = process(rt, alloc, b"u:r:servicemanager:s0");
-    Manager::open(alloc, who, policy(rt, alloc), places)
-        .ok()
-        .expect(rt, "a manager")
-}
-
-/// What these tests ask of a reply. One small value in place of each reply keeps their proofs short.
-#[derive(Clone, Copy, Debug, PartialEq, Eq)]
-enum Seen {
-    Connected(u32),
-    Added,
-    Granted(u32),
-    Released,
-    Died,
-    Reloaded(u64),
-    Null,
-    NotYours,
-    NotConnected,
-    OutOfTurn(u64),
-    VersionMoved(u64),
-    BadHandle,
-    Empty,
-    Looked(u64, u64),
-    Another,
-}
-
-fn outcome_of(outcome: &Outcome) -> Seen {
-    match outcome {
-        Outcome::Connected(client) => Seen::Connected(client.0),
-        Outcome::Added(_) => Seen::Added,
-        Outcome::Granted(handle) => Seen::Granted(*handle),
-        Outcome::Released => Seen::Released,
-        Outcome::Died => Seen::Died,
-        Outcome::Reloaded(version) => Seen::Reloaded(*version),
-        _ => Seen::Another,
-    }
-}
-
-fn seen_of(reply: &Reply) -> Seen {
-    match reply {
-        Reply::Done(outcome) => outcome_of(outcome),
-        Reply::GotNull => Seen::Null,
-        Reply::Looked {
-            version,
-            length,
-            answer: _,
-        } => Seen::Looked(*version, *length),
-        Reply::Refused(Refusal::Failed(Failure::NotYours)) => Seen::NotYours,
-        Reply::Refused(Refusal::Failed(Failure::NotConnected)) => Seen::NotConnected,
-        Reply::Refused(Refusal::Failed(Failure::OutOfTurn(turn))) => Seen::OutOfTurn(*turn),
-        Reply::Refused(Refusal::Failed(Failure::BadHandle)) => Seen::BadHandle,
-        Reply::Refused(Refusal::Empty) => Seen::Empty,
-        Reply::Refused(Refusal::VersionMoved(version)) => Seen::VersionMoved(*version),
-        _ => Seen::Another,
-    }
-}
-
-fn step(manager: &mut Manager, by: By, turn: u64, event: Event) -> Seen {
-    seen_of(&manager.step(by, turn, event))
-}
-
-fn look(manager: &Manager, by: By, query: Query) -> Seen {
-    seen_of(&manager.look(by, query))
-}
+const OF_OTHERS: &[(By, u64, Act, Seen)] = &[
+    (By::Manager, 1, Act::ConnectServer, Seen::Connected(1)),
+    (By::Manager, 0, Act::Open, Seen::NotYours),
+    (SERVER, 0, Act::Open, Seen::NotYours),
+    (ADMIN, 0, Act::Open, Seen::NotYours),
+    (SERVER, 0, Act::ConnectServer, Seen::NotYours),
+    (ADMIN, 0, Act::ConnectServer, Seen::NotYours),
+];
 
 fn name(rt: &impl Abort, alloc: Global, bytes: &[u8]) -> Name {
     Name::new(alloc, bytes).ok().expect(rt, "a name")
 }
 
-fn activity(rt: &impl Abort, alloc: Global) -> Name {
-    name(rt, alloc, b"activity")
-}
-
-pub fn add(rt: &impl Abort, alloc: Global) -> Event {
-    Event::Add {
-        name: activity(rt, alloc),
-        obj: ObjRef::Own(1),
-        allow_isolated: false,
-        dump: 8,
+fn explain(rt: &impl Abort, alloc: Global) -> Query {
+    Query::Explain {
+        source: name(rt, alloc, b"system_server"),
+        target: name(rt, alloc, b"servicemanager"),
+        class: Class::Binder,
+        perm: Perms::CALL,
     }
 }
 
-fn connected(rt: &impl Abort, alloc: Global) -> Manager {
-    let mut manager = opened(rt, alloc);
-    let connect = Event::Connect(server(rt, alloc));
-    assert_eq!(rt;
-        step(&mut manager, By::Manager, 1, connect),
-        Seen::Connected(1)
-    );
-    manager
-}
-
 #[test]
-fn connects_out_of_turn(rt: HostRuntime) {
+fn openings_connects_and_queries_of_others(rt: HostRuntime) {
     let alloc = rt.alloc();
-    let mut manager = opened(&rt, alloc);
-    assert_eq!(rt; manager.turn(By::Manager), 1);
-    let connect = Event::Connect(server(&rt, alloc));
-    assert_eq!(rt;
-        step(&mut manager, By::Manager, 0, connect),
-        Seen::OutOfTurn(1)
-    );
-    let connect = Event::Connect(server(&rt, alloc));
-    assert_eq!(rt;
-        step(&mut manager, By::Manager, 1, connect),
-        Seen::Connected(1)
-    );
-    assert_eq!(rt; manager.turn(By::Manager), 2);
-}
-
-#[test]
-fn changes_out_of_turn(rt: HostRuntime) {
-    let alloc = rt.alloc();
-    let mut manager = connected(&rt, alloc);
-    let by = By::Client(ClientId(1));
-    assert_eq!(rt; step(&mut manager, by, 5, Event::Take), Seen::OutOfTurn(0));
-    let get = Event::Get {
-        name: activity(&rt, alloc),
-    };
-    assert_eq!(rt; step(&mut manager, by, 5, get), Seen::OutOfTurn(0));
-    assert_eq!(rt;
-        step(&mut manager, by, 1, add(&rt, alloc)),
-        Seen::OutOfTurn(0)
-    );
-    assert_eq!(rt; step(&mut manager, by, 0, add(&rt, alloc)), Seen::Added);
-    assert_eq!(rt; manager.turn(by), 1);
-    assert_eq!(rt; manager.turn(By::Client(ClientId(2))), 0);
-}
-
-fn is_refused_as_another(manager: &mut Manager, by: By, event: Event) -> bool {
-    step(manager, by, 0, event) == Seen::NotYours
-}
-
-#[test]
-fn openings_and_connects_of_others(rt: HostRuntime) {
-    let alloc = rt.alloc();
-    let mut manager = connected(&rt, alloc);
-    let client = By::Client(ClientId(1));
-    let admin = By::Admin(AdminId(1));
-    for by in [By::Manager, client, admin] {
-        let open = Event::Open(server(&rt, alloc), policy(&rt, alloc));
-        assert!(rt; is_refused_as_another(&mut manager, by, open));
+    let mut manager = opened(&rt, alloc, 1000);
+    steps_at(&rt, alloc, &mut manager, OF_OTHERS);
+    has_turn(&rt, &manager, By::Manager, 2);
+    let queries = [
+        (By::Manager, Query::Version),
+        (ADMIN, Query::List(15)),
+        (SERVER, explain(&rt, alloc)),
+    ];
+    for (by, query) in queries {
+        assert_eq!(rt; (by, look(&manager, by, query)), (by, Seen::NotYours));
     }
-    for by in [client, admin] {
-        let connect = Event::Connect(server(&rt, alloc));
-        assert!(rt; is_refused_as_another(&mut manager, by, connect));
-    }
-    assert_eq!(rt; manager.turn(By::Manager), 2);
 }
+
+const A_SERVER: &[(By, Act, Seen)] = &[(By::Manager, Act::ConnectServer, Seen::Connected(1))];
 
 #[test]
 fn a_journal_of_a_hundred_thousand(rt: HostRuntime) {
     let alloc = rt.alloc();
-    let places = Places::new(1_048_576).expect(&rt, "places");
-    let who = process(&rt, alloc, b"u:r:servicemanager:s0");
-    let opened = Manager::open(alloc, who, policy(&rt, alloc), places);
-    let mut manager = opened.ok().expect(&rt, "a manager");
-    let connect = Event::Connect(server(&rt, alloc));
-    assert_eq!(rt;
-        step(&mut manager, By::Manager, 1, connect),
-        Seen::Connected(1)
-    );
-    let client = By::Client(ClientId(1));
-    for turn in 0..100_000 {
-        assert_eq!(rt;
-            step(&mut manager, client, turn, add(&rt, alloc)),
-            Seen::Added
+    let mut manager = opened(&rt, alloc, 1_048_576);
+    steps(&rt, alloc, &mut manager, A_SERVER);
+    for _ in 0..100_000 {
+        steps(
+            &rt,
+            alloc,
+            &mut manager,
+            &[(SERVER, Act::Add, Seen::Unheard)],
         );
     }
-    assert_eq!(rt;
-        look(&manager, client, Query::Version),
-        Seen::Looked(1, 100_002)
-    );
+    let seen = look(&manager, SERVER, Query::Version);
+    assert_eq!(rt; seen, Seen::Version(1, 100_002));
 }
 
 #[test]
@@ -212,58 +101,21 @@ fn an_entry_is_small(rt: HostRuntime) {
     assert!(rt; size_of::<Entry>() <= 160);
 }
 
-#[test]
-fn queries_of_others(rt: HostRuntime) {
-    let alloc = rt.alloc();
-    let manager = connected(&rt, alloc);
-    assert_eq!(rt; look(&manager, By::Manager, Query::Version), Seen::NotYours);
-    assert_eq!(rt;
-        look(&manager, By::Admin(AdminId(1)), Query::List(15)),
-        Seen::NotYours
-    );
-    let explain = Query::Explain {
-        source: name(&rt, alloc, b"system_server"),
-        target: name(&rt, alloc, b"servicemanager"),
-        class: Class::Binder,
-        perm: Perms::CALL,
-    };
-    assert_eq!(rt;
-        look(&manager, By::Client(ClientId(1)), explain),
-        Seen::NotYours
-    );
-}
+const SECOND_ADMIN: By = By::Admin(AdminId(2));
 
-fn reload(rt: &impl Abort, alloc: Global, expected: u64) -> Event {
-    Event::Reload {
-        expected,
-        prepared: policy(rt, alloc),
-    }
-}
+const TWO_ADMINISTRATORS: &[(By, u64, Act, Seen)] = &[
+    (ADMIN, 0, Act::Reload(1), Seen::Reloaded(2)),
+    (SECOND_ADMIN, 0, Act::Reload(1), Seen::VersionMoved(2)),
+    (ADMIN, 0, Act::Reload(2), Seen::OutOfTurn(1)),
+    (SECOND_ADMIN, 0, Act::Reload(2), Seen::Reloaded(3)),
+];
 
 #[test]
 fn two_administrators(rt: HostRuntime) {
     let alloc = rt.alloc();
-    let mut manager = opened(&rt, alloc);
-    let (first, second) = (By::Admin(AdminId(1)), By::Admin(AdminId(2)));
-    let event = reload(&rt, alloc, 1);
-    assert_eq!(rt; step(&mut manager, first, 0, event), Seen::Reloaded(2));
-    let event = reload(&rt, alloc, 1);
-    assert_eq!(rt; step(&mut manager, second, 0, event), Seen::VersionMoved(2));
-    let event = reload(&rt, alloc, 2);
-    assert_eq!(rt; step(&mut manager, first, 0, event), Seen::OutOfTurn(1));
-    let event = reload(&rt, alloc, 2);
-    assert_eq!(rt; step(&mut manager, second, 0, event), Seen::Reloaded(3));
-    assert_eq!(rt; manager.turn(second), 1);
-}
-
-pub fn application(rt: &impl Abort, alloc: Global) -> Identity {
-    Identity {
-        pid: 200,
-        uid: 10007,
-        context: Context::read(alloc, b"u:r:untrusted_app:s0")
-            .ok()
-            .expect(rt, "a context"),
-    }
+    let mut manager = opened(&rt, alloc, 1000);
+    steps_at(&rt, alloc, &mut manager, TWO_ADMINISTRATORS);
+    has_turn(&rt, &manager, SECOND_ADMIN, 1);
 }
 
 /// An application's add, which its user number bars.
@@ -281,65 +133,65 @@ const MISSING_LIST: &[u8] =
     b"journal=3 version=1 avc: denied { list } for pid=200 uid=10007 scontext=u:r:untrusted_app:s0 tcontext=u:r:servicemanager:s0 tclass=service_manager permissive=0
 ";
 
-/// Whether these are the audit lines of the records.
-fn are_told(rt: &impl Abort, alloc: Global, records: &[Record], lines: &[u8]) -> bool {
+/// These are the audit lines of the records.
+fn are_told(rt: &impl Abort, alloc: Global, records: &[Record], lines: &[u8]) {
     let mut told = Vec::new(alloc);
     let pushed = push_lines(alloc, &mut told, records);
     pushed.ok().expect(rt, "memory");
-    told.as_slice() == lines
+    assert_eq!(rt; told.as_slice(), lines);
 }
 
-/// Whether the ring has just these records.
-fn are_kept(rt: &impl Abort, alloc: Global, manager: &Manager, lines: &[u8]) -> bool {
+/// The ring has just these records.
+fn are_kept(rt: &impl Abort, alloc: Global, manager: &Manager, lines: &[u8]) {
     let records = manager.records().ok().expect(rt, "memory");
-    are_told(rt, alloc, &records, lines)
+    are_told(rt, alloc, &records, lines);
 }
 
-/// Whether an add by this client would leave these records.
-fn add_would_leave(rt: &impl Abort, alloc: Global, manager: &Manager, lines: &[u8]) -> bool {
-    let records = manager.step_records(APPLICATION, 0, &add(rt, alloc));
+/// An add by the application would leave these records.
+fn add_would_leave(rt: &impl Abort, alloc: Global, manager: &Manager, lines: &[u8]) {
+    let records = manager.step_records(APPLICATION, 0, &event(rt, alloc, Act::Add));
     let records = records.ok().expect(rt, "memory");
-    are_told(rt, alloc, &records, lines)
+    are_told(rt, alloc, &records, lines);
 }
 
-/// Whether an add by this client leaves these records.
-fn add_leaves(rt: &impl Abort, alloc: Global, manager: &mut Manager, lines: &[u8]) -> bool {
-    let (_, records) = manager.step_recorded(APPLICATION, 0, add(rt, alloc));
-    are_told(rt, alloc, &records, lines)
+/// An add by the application leaves these records.
+fn add_leaves(rt: &impl Abort, alloc: Global, manager: &mut Manager, lines: &[u8]) {
+    let (_, records) = manager.step_recorded(APPLICATION, 0, event(rt, alloc, Act::Add));
+    are_told(rt, alloc, &records, lines);
 }
 
-/// Whether a list by this client leaves these records, by both calls.
-fn list_leaves(rt: &impl Abort, alloc: Global, manager: &Manager, lines: &[u8]) -> bool {
+/// A list by the application leaves these records, by both calls.
+fn list_leaves(rt: &impl Abort, alloc: Global, manager: &Manager, lines: &[u8]) {
     let first = manager.look_records(APPLICATION, &Query::List(15));
     let first = first.ok().expect(rt, "memory");
+    are_told(rt, alloc, &first, lines);
     let (_, second) = manager.look_recorded(APPLICATION, Query::List(15));
-    are_told(rt, alloc, &first, lines) && are_told(rt, alloc, &second, lines)
+    are_told(rt, alloc, &second, lines);
 }
 
-const APPLICATION: By = By::Client(ClientId(2));
-
-/// An application's connection, after that of a system service.
-fn with_application(rt: &impl Abort, alloc: Global) -> Manager {
-    let mut manager = connected(rt, alloc);
-    let connect = Event::Connect(application(rt, alloc));
-    let seen = step(&mut manager, By::Manager, 2, connect);
-    assert_eq!(rt; seen, Seen::Connected(2));
-    manager
-}
+const AN_APPLICATION: &[(By, Act, Seen)] = &[(
+    By::Manager,
+    Act::ConnectApplication,
+    Seen::Connected(2),
+)];
 
 // A refused add leaves one record in the ring; what is only asked for, and a query, leave none there.
 #[test]
 fn records(rt: HostRuntime) {
     let alloc = rt.alloc();
-    let mut manager = with_application(&rt, alloc);
-    assert!(rt; add_would_leave(&rt, alloc, &manager, BARRED_ADD));
-    assert!(rt; list_leaves(&rt, alloc, &manager, MISSING_LIST));
-    assert!(rt; are_kept(&rt, alloc, &manager, b""));
-    assert_eq!(rt;
-        step(&mut manager, APPLICATION, 0, add(&rt, alloc)),
-        Seen::Another
+    let mut manager = opened(&rt, alloc, 1000);
+    steps(&rt, alloc, &mut manager, A_SERVER);
+    steps(&rt, alloc, &mut manager, AN_APPLICATION);
+    add_would_leave(&rt, alloc, &manager, BARRED_ADD);
+    list_leaves(&rt, alloc, &manager, MISSING_LIST);
+    are_kept(&rt, alloc, &manager, b"");
+    steps(
+        &rt,
+        alloc,
+        &mut manager,
+        &[(APPLICATION, Act::Add, Seen::Another)],
     );
-    assert!(rt; are_kept(&rt, alloc, &manager, BARRED_ADD));
-    assert!(rt; add_leaves(&rt, alloc, &mut manager, BARRED_ADD));
-    assert!(rt; are_kept(&rt, alloc, &manager, TWO_BARRED_ADDS));
+    are_kept(&rt, alloc, &manager, BARRED_ADD);
+    add_leaves(&rt, alloc, &mut manager, BARRED_ADD);
+    are_kept(&rt, alloc, &manager, TWO_BARRED_ADDS);
 }
