@@ -247,6 +247,11 @@ pub fn steps(rt: &impl Abort, alloc: Global, manager: &mut Manager, rows: &[(By,
     }
 }
 
+/// The first connection, of a system server.
+pub const A_SERVER: &[(By, Act, Seen)] = &[(By::Manager, Act::ConnectServer, Seen::Connected(1))];
+
+pub const AN_ADD: &[(By, Act, Seen)] = &[(SERVER, Act::Add, Seen::Unheard)];
+
 /// An actor's next turn.
 pub fn has_turn(rt: &impl Abort, manager: &Manager, by: By, wanted: u64) {
     assert_eq!(rt; (by, manager.turn(by)), (by, wanted));

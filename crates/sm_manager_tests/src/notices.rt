@@ -37,29 +37,26 @@ fn a_watcher_is_told_of_what_it_may_find(rt: HostRuntime) {
     assert_eq!(rt; noted, (Seen::Heard(2, 7, Became::Denied), 1));
 }
 
+const A_GET: &[(By, Act, Seen)] = &[(APPLICATION, Act::Get, Seen::Done)];
+
+const A_CALL: &[(By, Act, Seen)] = &[(APPLICATION, Act::Call, Seen::Done)];
+
+const FULL: Seen = Seen::Heard(1, 7, Became::TargetFull);
+
+const A_FULL_WATCHER: &[(By, Act, Seen)] = &[(SERVER, Act::Watch(7), FULL)];
+
 // The server's inbox has 256 calls when it watches the name of its own service. A full inbox is no denial, so it is
 // not recorded.
 #[test]
 fn a_watcher_whose_inbox_is_full(rt: HostRuntime) {
     let alloc = rt.alloc();
     let mut manager = opened(&rt, alloc, 1000);
-    let full = Seen::Heard(1, 7, Became::TargetFull);
     steps(&rt, alloc, &mut manager, TWO_CLIENTS);
-    steps(
-        &rt,
-        alloc,
-        &mut manager,
-        &[(APPLICATION, Act::Get, Seen::Done)],
-    );
+    steps(&rt, alloc, &mut manager, A_GET);
     for _ in 0..256 {
-        steps(
-            &rt,
-            alloc,
-            &mut manager,
-            &[(APPLICATION, Act::Call, Seen::Done)],
-        );
+        steps(&rt, alloc, &mut manager, A_CALL);
     }
-    steps(&rt, alloc, &mut manager, &[(SERVER, Act::Watch(7), full)]);
+    steps(&rt, alloc, &mut manager, A_FULL_WATCHER);
     let noted = noted(&rt, alloc, &mut manager, SERVER, Act::Watch(7));
-    assert_eq!(rt; noted, (full, 0));
+    assert_eq!(rt; noted, (FULL, 0));
 }

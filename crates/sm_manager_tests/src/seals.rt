@@ -1,8 +1,10 @@
 //! Segments that a manager returns: their contents, and the openings of the next ones.
 
-use crate::acts::{APPLICATION, Act, Became, SERVER, Seen, has_turn, opened, steps};
+use crate::acts::{
+    A_SERVER, AN_ADD, APPLICATION, Act, Became, SERVER, Seen, has_turn, opened, steps,
+};
 use sm_core::Manager;
-use sm_history::{By, ClientRow, Held, NamedRow, Refusal, Rows, TurnRow, Watch};
+use sm_history::{By, ClientRow, Held, NamedRow, Refusal, Rows, Segment, TurnRow, Watch};
 use std::alloc::Global;
 use std::process::Abort;
 
@@ -67,88 +69,123 @@ fn same_rows(one: &Rows, other: &Rows) -> bool {
         && same_turns(one.turns(), other.turns())
 }
 
-/// Seals a manager whose open segment has this number and these many changes, the last of which is the `length`th of
-/// all. It begins with the rows that the segment before it left. Returns what it leaves.
-fn sealed(
-    rt: &impl Abort,
-    manager: &mut Manager,
-    before: Option<&Rows>,
-    number: u64,
-    changes: usize,
-    length: u64,
-) -> Rows {
-    let segment = manager.seal().ok().expect(rt, "a segment");
-    assert_eq!(rt; (segment.number(), segment.length()), (number, length));
+/// Changes, then a seal, and the next turns of actors after it.
+struct Round {
+    changes: &'static [(By, Act, Seen)],
+    /// The number of the segment, the length of the history at its end, and the number of its changes.
+    segment: (u64, u64, usize),
+    turns: &'static [(By, u64)],
+}
+
+/// A short segment has this number, length and number of changes.
+fn is_short(rt: &impl Abort, segment: &Segment, wanted: (u64, u64, usize)) {
     let (full, last) = segment.entries();
-    assert_eq!(rt; (full.len(), last.len()), (0, changes));
-    if let Some(rows) = before {
+    assert!(rt; full.is_empty());
+    let numbers = (segment.number(), segment.length(), last.len());
+    assert_eq!(rt; numbers, wanted);
+}
+
+/// Seals the manager. The segment begins with the rows that the segment before it left. Returns what it leaves.
+fn sealed(rt: &impl Abort, manager: &mut Manager, before: Option<Rows>, round: &Round) -> Rows {
+    let segment = manager.seal().ok().expect(rt, "a segment");
+    is_short(rt, &segment, round.segment);
+    if let Some(rows) = &before {
         assert!(rt; same_rows(rows, segment.opening()));
     }
     segment.replay().ok().expect(rt, "memory")
 }
 
-/// Connects a system server to a manager whose journal has this many slots.
-fn serving(rt: &impl Abort, alloc: Global, places: u32) -> Manager {
-    let mut manager = opened(rt, alloc, places);
-    let connects = [(By::Manager, Act::ConnectServer, Seen::Connected(1))];
-    steps(rt, alloc, &mut manager, &connects);
-    manager
+/// A second seal finds nothing.
+fn has_nothing_to_seal(rt: &impl Abort, manager: &mut Manager) {
+    assert!(rt; matches!(manager.seal(), Err(Refusal::Empty)));
 }
 
-/// The journal is full for its second change.
-const FIRST: &[(By, Act, Seen)] = &[
-    (SERVER, Act::Add, Seen::Unheard),
-    (SERVER, Act::Add, Seen::Another),
+/// Makes the changes of each round and seals. Returns what the last segment leaves.
+fn seals(rt: &impl Abort, alloc: Global, manager: &mut Manager, rounds: &[Round]) -> Option<Rows> {
+    let mut rows = None;
+    for round in rounds {
+        steps(rt, alloc, manager, round.changes);
+        rows = Some(sealed(rt, manager, rows, round));
+        has_nothing_to_seal(rt, manager);
+        for (by, turn) in round.turns {
+            has_turn(rt, manager, *by, *turn);
+        }
+    }
+    rows
+}
+
+/// A journal of four slots, which is full again and again.
+const FULL: &[Round] = &[
+    Round {
+        changes: &[
+            (By::Manager, Act::ConnectServer, Seen::Connected(1)),
+            (SERVER, Act::Add, Seen::Unheard),
+            (SERVER, Act::Add, Seen::Another),
+        ],
+        segment: (1, 3, 3),
+        turns: &[],
+    },
+    Round {
+        changes: &[
+            (SERVER, Act::Add, Seen::Unheard),
+            (By::Manager, Act::ConnectApplication, Seen::Connected(2)),
+            (APPLICATION, Act::Get, Seen::Another),
+        ],
+        segment: (2, 5, 2),
+        turns: &[(By::Manager, 3), (SERVER, 2)],
+    },
+    Round {
+        changes: &[
+            (APPLICATION, Act::Get, Seen::Done),
+            (APPLICATION, Act::Get, Seen::Done),
+        ],
+        segment: (3, 7, 2),
+        turns: &[],
+    },
+    Round {
+        changes: &[
+            (APPLICATION, Act::Release, Seen::Done),
+            (APPLICATION, Act::Release, Seen::Done),
+            (APPLICATION, Act::Release, Seen::Another),
+        ],
+        segment: (4, 9, 2),
+        turns: &[],
+    },
+    Round {
+        changes: &[(SERVER, Act::Die, Seen::Done)],
+        segment: (5, 10, 1),
+        turns: &[(SERVER, 0), (APPLICATION, 4)],
+    },
 ];
 
-const SECOND: &[(By, Act, Seen)] = &[
-    (SERVER, Act::Add, Seen::Unheard),
-    (By::Manager, Act::ConnectApplication, Seen::Connected(2)),
-    (APPLICATION, Act::Get, Seen::Another),
-];
-
-const THIRD: &[(By, Act, Seen)] = &[
-    (APPLICATION, Act::Get, Seen::Done),
-    (APPLICATION, Act::Get, Seen::Done),
-];
-
-/// The handle counts two grants.
-const FOURTH: &[(By, Act, Seen)] = &[
-    (APPLICATION, Act::Release, Seen::Done),
-    (APPLICATION, Act::Release, Seen::Done),
-    (APPLICATION, Act::Release, Seen::Another),
-];
-
-// A journal of four slots, which is full again and again.
 #[test]
 fn each_segment_begins_with_what_the_last_one_left(rt: HostRuntime) {
     let alloc = rt.alloc();
-    let mut manager = serving(&rt, alloc, 4);
-    steps(&rt, alloc, &mut manager, FIRST);
-    let rows = sealed(&rt, &mut manager, None, 1, 3, 3);
-    steps(&rt, alloc, &mut manager, SECOND);
-    let rows = sealed(&rt, &mut manager, Some(&rows), 2, 2, 5);
-    has_turn(&rt, &manager, By::Manager, 3);
-    has_turn(&rt, &manager, SERVER, 2);
-    steps(&rt, alloc, &mut manager, THIRD);
-    let rows = sealed(&rt, &mut manager, Some(&rows), 3, 2, 7);
-    steps(&rt, alloc, &mut manager, FOURTH);
-    let rows = sealed(&rt, &mut manager, Some(&rows), 4, 2, 9);
-    assert!(rt; matches!(manager.seal(), Err(Refusal::Empty)));
-    steps(&rt, alloc, &mut manager, &[(SERVER, Act::Die, Seen::Done)]);
-    let rows = sealed(&rt, &mut manager, Some(&rows), 5, 1, 10);
+    let mut manager = opened(&rt, alloc, 4);
+    let rows = seals(&rt, alloc, &mut manager, FULL);
+    let rows = rows.expect(&rt, "rows");
     assert!(rt; rows.live().len() == 1);
-    has_turn(&rt, &manager, SERVER, 0);
-    has_turn(&rt, &manager, APPLICATION, 4);
 }
 
 /// Four watches, the second of which is ended.
-const WATCHES: &[(By, Act, Seen)] = &[
-    (SERVER, Act::Watch(1), Seen::Unheard),
-    (SERVER, Act::Watch(2), Seen::Unheard),
-    (SERVER, Act::Watch(3), Seen::Unheard),
-    (SERVER, Act::Watch(4), Seen::Unheard),
-    (SERVER, Act::Unwatch(2), Seen::Done),
+const WATCHES: &[Round] = &[
+    Round {
+        changes: &[
+            (By::Manager, Act::ConnectServer, Seen::Connected(1)),
+            (SERVER, Act::Watch(1), Seen::Unheard),
+            (SERVER, Act::Watch(2), Seen::Unheard),
+            (SERVER, Act::Watch(3), Seen::Unheard),
+            (SERVER, Act::Watch(4), Seen::Unheard),
+            (SERVER, Act::Unwatch(2), Seen::Done),
+        ],
+        segment: (1, 7, 7),
+        turns: &[],
+    },
+    Round {
+        changes: &[(SERVER, Act::Add, Seen::Heard(1, 1, Became::Told))],
+        segment: (2, 8, 1),
+        turns: &[],
+    },
 ];
 
 /// The objects of the first and of the last watch.
@@ -161,37 +198,25 @@ fn ends(rows: &Rows) -> Option<(u32, u32)> {
 #[test]
 fn a_segment_begins_with_the_watches_in_their_order(rt: HostRuntime) {
     let alloc = rt.alloc();
-    let mut manager = serving(&rt, alloc, 1000);
-    steps(&rt, alloc, &mut manager, WATCHES);
-    let rows = sealed(&rt, &mut manager, None, 1, 7, 7);
-    let told = Seen::Heard(1, 1, Became::Told);
-    steps(&rt, alloc, &mut manager, &[(SERVER, Act::Add, told)]);
-    let rows = sealed(&rt, &mut manager, Some(&rows), 2, 1, 8);
-    assert_eq!(rt; ends(&rows), Some((1, 4)));
+    let mut manager = opened(&rt, alloc, 1000);
+    let rows = seals(&rt, alloc, &mut manager, WATCHES);
+    let rows = rows.expect(&rt, "rows");
+    assert!(rt; ends(&rows) == Some((1, 4)));
 }
 
 // A segment of several chunks: its replay gives what the next segment begins with.
 #[test]
 fn a_long_segment_is_replayed(rt: HostRuntime) {
     let alloc = rt.alloc();
-    let mut manager = serving(&rt, alloc, 100_000);
+    let mut manager = opened(&rt, alloc, 100_000);
+    steps(&rt, alloc, &mut manager, A_SERVER);
     for _ in 0..5_000 {
-        steps(
-            &rt,
-            alloc,
-            &mut manager,
-            &[(SERVER, Act::Add, Seen::Unheard)],
-        );
+        steps(&rt, alloc, &mut manager, AN_ADD);
     }
     let segment = manager.seal().ok().expect(&rt, "a segment");
     assert!(rt; segment.length() == 5_002);
     let rows = segment.replay().ok().expect(&rt, "memory");
-    steps(
-        &rt,
-        alloc,
-        &mut manager,
-        &[(SERVER, Act::Add, Seen::Unheard)],
-    );
+    steps(&rt, alloc, &mut manager, AN_ADD);
     let next = manager.seal().ok().expect(&rt, "a segment");
     assert!(rt; same_rows(&rows, next.opening()));
 }

@@ -1,7 +1,8 @@
 //! A manager that is called directly: whose turn it is, and who may do and ask what.
 
 use crate::acts::{
-    ADMIN, APPLICATION, Act, SERVER, Seen, event, has_turn, look, opened, step, steps,
+    A_SERVER, ADMIN, AN_ADD, APPLICATION, Act, SERVER, Seen, event, has_turn, look, opened, step,
+    steps,
 };
 use sm_audit::push_lines;
 use sm_core::Manager;
@@ -77,20 +78,13 @@ fn openings_connects_and_queries_of_others(rt: HostRuntime) {
     }
 }
 
-const A_SERVER: &[(By, Act, Seen)] = &[(By::Manager, Act::ConnectServer, Seen::Connected(1))];
-
 #[test]
 fn a_journal_of_a_hundred_thousand(rt: HostRuntime) {
     let alloc = rt.alloc();
     let mut manager = opened(&rt, alloc, 1_048_576);
     steps(&rt, alloc, &mut manager, A_SERVER);
     for _ in 0..100_000 {
-        steps(
-            &rt,
-            alloc,
-            &mut manager,
-            &[(SERVER, Act::Add, Seen::Unheard)],
-        );
+        steps(&rt, alloc, &mut manager, AN_ADD);
     }
     let seen = look(&manager, SERVER, Query::Version);
     assert_eq!(rt; seen, Seen::Version(1, 100_002));
