@@ -137,9 +137,9 @@ pub fn policy(rt: &impl Abort, alloc: Global, rules: &[u8]) -> Prepared {
     policy.ok().expect(rt, "a policy")
 }
 
-pub fn process(rt: &impl Abort, alloc: Global, uid: u32, context: &[u8]) -> Identity {
+fn process(rt: &impl Abort, alloc: Global, pid: u32, uid: u32, context: &[u8]) -> Identity {
     Identity {
-        pid: 200,
+        pid,
         uid,
         context: Context::read(alloc, context).ok().expect(rt, "a context"),
     }
@@ -148,7 +148,7 @@ pub fn process(rt: &impl Abort, alloc: Global, uid: u32, context: &[u8]) -> Iden
 /// A manager under this policy, with a journal of `places` slots.
 pub fn opened_under(rt: &impl Abort, alloc: Global, policy: Prepared, places: u32) -> Manager {
     let places = Places::new(places).expect(rt, "places");
-    let who = process(rt, alloc, 1000, b"u:r:servicemanager:s0");
+    let who = process(rt, alloc, 1, 1000, b"u:r:servicemanager:s0");
     let manager = Manager::open(alloc, who, policy, places);
     manager.ok().expect(rt, "a manager")
 }
@@ -159,11 +159,11 @@ pub fn opened(rt: &impl Abort, alloc: Global, places: u32) -> Manager {
 }
 
 fn server(rt: &impl Abort, alloc: Global) -> Identity {
-    process(rt, alloc, 1000, b"u:r:system_server:s0")
+    process(rt, alloc, 100, 1000, b"u:r:system_server:s0")
 }
 
 fn application(rt: &impl Abort, alloc: Global) -> Identity {
-    process(rt, alloc, 10007, b"u:r:untrusted_app:s0")
+    process(rt, alloc, 200, 10007, b"u:r:untrusted_app:s0")
 }
 
 fn activity(rt: &impl Abort, alloc: Global) -> Name {

@@ -95,7 +95,7 @@ fn an_entry_is_small(rt: HostRuntime) {
     assert!(rt; size_of::<Entry>() <= 160);
 }
 
-const SECOND_ADMIN: By = By::Admin(AdminId(2));
+const SECOND_ADMIN: By = By::Admin(AdminId(0));
 
 const TWO_ADMINISTRATORS: &[(By, u64, Act, Seen)] = &[
     (ADMIN, 0, Act::Reload(1), Seen::Reloaded(2)),
