@@ -4,6 +4,7 @@ ghost use Rattle.std.specs.Prelude.{◌≡◌};
 ghost use Rattle.sm_core.specs.Opening.{opened};
 
 use crate::manager::{activity, is_memory, lists_activity, policy, process};
+use crate::outcome::same;
 use sm_door::{Admin, Door, Seat, Session};
 use sm_history::{Outcome, Record, Refusal, Reply};
 use sm_kinds::{Identity, Places};
@@ -15,24 +16,35 @@ use std::marker::Brand;
 use std::process::Abort;
 use std::sync::Wait;
 
-/// A session of a server. `None` if an allocation failed; the seat comes back, and another try succeeds.
+/// A session of a process. After a failed allocation the seat comes back, and another try succeeds.
 fn joined<J: Naming, R: Wait + Abort>(
     rt: &R,
     alloc: Global,
     door: &Door<J, NoGate>,
-    seat: Seat<J>,
+    seats: &mut Vec<Seat<J>>,
+    context: &[u8],
 ) -> Option<Session<J>> {
-    let who = process(alloc, b"u:r:system_server:s0")?;
-    let again = process(alloc, b"u:r:system_server:s0")?;
+    let who = process(alloc, context)?;
+    let seat = seats.pop().expect(rt, "a seat");
     match door.connect(rt, seat, who) {
         Ok(session) => Some(session),
         Err((refusal, seat)) => {
             assert!(rt; matches!(refusal, Refusal::Memory));
+            let again = process(alloc, context).expect(rt, "an identity");
             let session = door.connect(rt, seat, again).ok();
             assert!(rt; session.is_some());
             session
         }
     }
+}
+
+/// Whether `activity` was added. If it wasn't, an allocation failed.
+fn is_added(rt: &impl Abort, reply: Reply) -> bool {
+    if matches!(&reply, Reply::Done(Outcome::Added(_))) {
+        return true;
+    }
+    assert!(rt; is_memory(&reply));
+    false
 }
 
 /// Adds `activity`. After a refusal nothing has changed, and another try succeeds.
@@ -43,111 +55,191 @@ fn adds<J: Naming, R: Wait + Abort>(
     me: &mut Session<J>,
 ) -> Option<()> {
     let event = activity(alloc)?;
-    let again = activity(alloc)?;
-    let mut reply = door.submit(rt, me, event);
-    if is_memory(&reply) {
-        reply = door.submit(rt, me, again);
+    if !is_added(rt, door.submit(rt, me, event)) {
+        let again = activity(alloc)?;
+        assert!(rt; is_added(rt, door.submit(rt, me, again)));
     }
-    assert!(rt; matches!(&reply, Reply::Done(Outcome::Added(_))));
     Some(())
 }
 
-/// Installs a policy over version 1. One that comes back since an allocation failed is installed at the second try.
+/// Installs a policy over version 1. If an allocation failed, the policy comes back.
+fn refused<J: Naming, R: Wait + Abort>(
+    rt: &R,
+    door: &Door<J, NoGate>,
+    me: &mut Admin<J>,
+    rules: Prepared,
+) -> Option<Prepared> {
+    match door.install(rt, me, 1, rules) {
+        Ok(version) => {
+            same(rt, version, 2);
+            None
+        }
+        Err((refusal, back)) => {
+            assert!(rt; matches!(refusal, Refusal::Memory));
+            Some(back)
+        }
+    }
+}
+
+/// Installs a policy. One that comes back is installed at the second try.
 fn installs<J: Naming, R: Wait + Abort>(
     rt: &R,
     alloc: Global,
     door: &Door<J, NoGate>,
     me: &mut Admin<J>,
 ) -> Option<()> {
-    match door.install(rt, me, 1, policy(rt, alloc)?) {
-        Ok(version) => assert!(rt; version == 2),
-        Err((refusal, back)) => {
-            assert!(rt; matches!(refusal, Refusal::Memory));
-            assert!(rt; matches!(door.install(rt, me, 1, back), Ok(2)));
-        }
+    let rules = policy(rt, alloc)?;
+    if let Some(back) = refused(rt, door, me, rules) {
+        assert!(rt; refused(rt, door, me, back).is_none());
     }
     Some(())
 }
 
 /// Whether a seal returns the first segment, with four changes.
-fn closes<J: Naming, R: Wait>(rt: &R, door: &Door<J, NoGate>, me: &mut Admin<J>) -> bool {
+fn closes<J: Naming, R: Wait + Abort>(rt: &R, door: &Door<J, NoGate>, me: &mut Admin<J>) -> bool {
     match door.seal(rt, me) {
-        Ok(segment) => segment.number() == 1 && segment.length() == 4,
+        Ok(segment) => {
+            same(rt, segment.number(), 1);
+            same(rt, segment.length(), 4);
+            true
+        }
         Err(_) => false,
     }
 }
 
 /// Seals. After a refusal nothing has changed, and another try succeeds.
 fn seals<J: Naming, R: Wait + Abort>(rt: &R, door: &Door<J, NoGate>, me: &mut Admin<J>) {
-    assert!(rt; closes(rt, door, me) || closes(rt, door, me));
-}
-
-/// Ends a session. After a failed allocation the session comes back, and another try succeeds.
-fn leaves<J: Naming, R: Wait + Abort>(rt: &R, door: &Door<J, NoGate>, me: Session<J>) {
-    if let Err((refusal, me)) = door.leave(rt, me) {
-        assert!(rt; matches!(refusal, Refusal::Memory));
-        assert!(rt; door.leave(rt, me).is_ok());
+    if !closes(rt, door, me) {
+        assert!(rt; closes(rt, door, me));
     }
 }
 
-/// A session of an application.
-fn joined_application<J: Naming, R: Wait + Abort>(
+/// Whether a session is ended. If it isn't, an allocation failed, and the session comes back.
+fn kept<J: Naming, R: Wait + Abort>(
     rt: &R,
-    alloc: Global,
     door: &Door<J, NoGate>,
-    seat: Seat<J>,
+    me: Session<J>,
 ) -> Option<Session<J>> {
-    let who = process(alloc, b"u:r:untrusted_app:s0")?;
-    match door.connect(rt, seat, who) {
-        Ok(session) => Some(session),
-        Err((refusal, _)) => {
+    match door.leave(rt, me) {
+        Ok(_) => None,
+        Err((refusal, me)) => {
             assert!(rt; matches!(refusal, Refusal::Memory));
-            None
+            Some(me)
         }
     }
 }
 
-/// Whether a request was denied, with its record; or an allocation failed, and there is none.
-fn is_denied(reply: &Reply, records: &[Record]) -> bool {
-    match reply {
-        Reply::Refused(Refusal::Denied(_)) => records.len() == 1,
-        _ => is_memory(reply) && records.is_empty(),
+/// Ends a session. After a failed allocation another try succeeds.
+fn leaves<J: Naming, R: Wait + Abort>(rt: &R, door: &Door<J, NoGate>, me: Session<J>) {
+    if let Some(me) = kept(rt, door, me) {
+        assert!(rt; kept(rt, door, me).is_none());
     }
 }
 
-/// An add and a list that are denied come with their records.
-fn is_refused<J: Naming, R: Wait + Abort>(
+/// A request was denied, with its record; or an allocation failed, and there is none.
+fn is_denied(rt: &impl Abort, reply: Reply, records: Vec<Record>) {
+    if matches!(&reply, Reply::Refused(Refusal::Denied(_))) {
+        assert!(rt; records.len() == 1);
+    } else {
+        assert!(rt; is_memory(&reply));
+        assert!(rt; records.is_empty());
+    }
+}
+
+/// An add that is denied comes with its record.
+fn may_not_add<J: Naming, R: Wait + Abort>(
     rt: &R,
     alloc: Global,
     door: &Door<J, NoGate>,
-    mut me: Session<J>,
+    me: &mut Session<J>,
 ) -> Option<()> {
-    let (reply, records) = door.submit_recorded(rt, &mut me, activity(alloc)?);
-    assert!(rt; is_denied(&reply, &records));
-    let (reply, records) = door.list_recorded(&mut me, 15);
-    assert!(rt; is_denied(&reply, &records));
-    leaves(rt, door, me);
+    let event = activity(alloc)?;
+    let (reply, records) = door.submit_recorded(rt, me, event);
+    is_denied(rt, reply, records);
     Some(())
+}
+
+/// A list that is denied comes with its record.
+fn may_not_list<J: Naming>(rt: &impl Abort, door: &Door<J, NoGate>, me: &mut Session<J>) {
+    let (reply, records) = door.list_recorded(me, 15);
+    is_denied(rt, reply, records);
+}
+
+/// The calls of an application.
+fn application<J: Naming, R: Wait + Abort>(
+    rt: &R,
+    alloc: Global,
+    door: &Door<J, NoGate>,
+    seats: &mut Vec<Seat<J>>,
+) -> Option<()> {
+    let mut me = joined(rt, alloc, door, seats, b"u:r:untrusted_app:s0")?;
+    let ended = may_not_add(rt, alloc, door, &mut me);
+    may_not_list(rt, door, &mut me);
+    leaves(rt, door, me);
+    ended
+}
+
+/// Whether there are no records. `None` if an allocation failed.
+fn has_no_denials<J: Naming, R: Wait>(
+    rt: &R,
+    door: &Door<J, NoGate>,
+    me: &mut Admin<J>,
+) -> Option<bool> {
+    let records = door.denials(rt, me).ok()?;
+    Some(records.is_empty())
+}
+
+/// The calls of an administrator.
+fn administrator<J: Naming, R: Wait + Abort>(
+    rt: &R,
+    alloc: Global,
+    door: &Door<J, NoGate>,
+    me: &mut Admin<J>,
+) -> Option<()> {
+    installs(rt, alloc, door, me)?;
+    let none = has_no_denials(rt, door, me)?;
+    assert!(rt; none);
+    seals(rt, door, me);
+    Some(())
+}
+
+/// The calls of a server, and then those of an administrator.
+fn server<J: Naming, R: Wait + Abort>(
+    rt: &R,
+    alloc: Global,
+    door: &Door<J, NoGate>,
+    me: &mut Session<J>,
+    admin: &mut Admin<J>,
+) -> Option<()> {
+    adds(rt, alloc, door, me)?;
+    lists_activity(rt, door.list(me, 15), 3)?;
+    administrator(rt, alloc, door, admin)
+}
+
+/// The calls while a server has a session.
+fn while_served<J: Naming, R: Wait + Abort>(
+    rt: &R,
+    alloc: Global,
+    door: &Door<J, NoGate>,
+    seats: &mut Vec<Seat<J>>,
+    admin: &mut Admin<J>,
+) -> Option<()> {
+    let mut me = joined(rt, alloc, door, seats, b"u:r:system_server:s0")?;
+    let ended = server(rt, alloc, door, &mut me, admin);
+    leaves(rt, door, me);
+    ended
 }
 
 fn calls<J: Naming, R: Wait + Abort>(
     rt: &R,
     alloc: Global,
     door: &Door<J, NoGate>,
-    seat: Seat<J>,
-    other: Seat<J>,
-    mut admin: Admin<J>,
+    seats: &mut Vec<Seat<J>>,
+    admins: &mut Vec<Admin<J>>,
 ) -> Option<()> {
-    let mut me = joined(rt, alloc, door, seat)?;
-    adds(rt, alloc, door, &mut me)?;
-    lists_activity(rt, &door.list(&mut me, 15), 3)?;
-    installs(rt, alloc, door, &mut admin)?;
-    let records = door.denials(rt, &mut admin).ok()?;
-    assert!(rt; records.is_empty());
-    seals(rt, door, &mut admin);
-    leaves(rt, door, me);
-    let application = joined_application(rt, alloc, door, other)?;
-    is_refused(rt, alloc, door, application)
+    let admin = admins.first_mut().expect(rt, "an administrator");
+    while_served(rt, alloc, door, seats, admin)?;
+    application(rt, alloc, door, seats)
 }
 
 fn opens<J: Naming, R: Wait + Abort>(
@@ -163,10 +255,7 @@ fn opens<J: Naming, R: Wait + Abort>(
 {
     match Door::<J, NoGate>::open(rt, alloc, unnamed, who, rules, places, NoGate) {
         Ok((door, mut seats, mut admins)) => {
-            let seat = seats.pop().expect(rt, "a seat");
-            let admin = admins.pop().expect(rt, "an administrator");
-            let other = seats.pop().expect(rt, "a seat");
-            let ended = calls(rt, alloc, &door, seat, other, admin);
+            let ended = calls(rt, alloc, &door, &mut seats, &mut admins);
             door.close(rt);
             ended
         }

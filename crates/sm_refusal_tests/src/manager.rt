@@ -2,8 +2,9 @@
 
 ghost use Rattle.std.specs.Prelude.{◌≡◌};
 
+use crate::outcome::same;
 use sm_core::{Manager, View};
-use sm_history::{Answer, By, Event, Outcome, Query, Refusal, Reply};
+use sm_history::{Answer, By, Event, Outcome, Query, Record, Refusal, Reply, Segment};
 use sm_kinds::{ClientId, Context, Identity, Name, ObjRef, Places};
 use sm_policy::{PolicyFault, Prepared};
 use sm_samples::{DEVICE_LABELS, DEVICE_RULES};
@@ -47,27 +48,37 @@ pub fn is_memory(reply: &Reply) -> bool {
     matches!(reply, Reply::Refused(Refusal::Memory))
 }
 
-/// Whether `activity` alone is listed, from a history of this length. `None` if an allocation failed.
-pub fn lists_activity(rt: &impl Abort, reply: &Reply, wanted: u64) -> Option<()> {
-    match reply {
+/// Whether a change was done. If it wasn't, an allocation failed.
+pub fn is_done(rt: &impl Abort, reply: Reply) -> bool {
+    if matches!(&reply, Reply::Done(_)) {
+        return true;
+    }
+    assert!(rt; is_memory(&reply));
+    false
+}
+
+/// `activity` alone is listed, from a history of this length. `None` if an allocation failed.
+pub fn lists_activity(rt: &impl Abort, reply: Reply, wanted: u64) -> Option<()> {
+    match &reply {
         Reply::Looked {
             version: 1,
             length,
             answer: Answer::Names(names),
         } => {
-            assert!(rt; *length == wanted && names.list().len() == 1);
+            same(rt, *length, wanted);
+            assert!(rt; names.list().len() == 1);
             Some(())
         }
         _ => {
-            assert!(rt; is_memory(reply));
+            assert!(rt; is_memory(&reply));
             None
         }
     }
 }
 
 fn opened(rt: &impl Abort, alloc: Global) -> Option<Manager> {
-    let policy = policy(rt, alloc)?;
     let who = process(alloc, b"u:r:servicemanager:s0")?;
+    let policy = policy(rt, alloc)?;
     let places = Places::new(1000).expect(rt, "places");
     match Manager::open(alloc, who, policy, places) {
         Ok(manager) => Some(manager),
@@ -81,34 +92,66 @@ fn opened(rt: &impl Abort, alloc: Global) -> Option<Manager> {
 /// Makes an actor's next change. `None` if an allocation failed, and then nothing has changed.
 fn does(rt: &impl Abort, manager: &mut Manager, by: By, event: Event) -> Option<()> {
     let turn = manager.turn(by);
-    let reply = manager.step(by, turn, event);
-    if matches!(&reply, Reply::Done(_)) {
-        assert!(rt; manager.turn(by) == turn.saturating_add(1));
-        return Some(());
+    if is_done(rt, manager.step(by, turn, event)) {
+        same(rt, manager.turn(by), turn.saturating_add(1));
+        Some(())
+    } else {
+        same(rt, manager.turn(by), turn);
+        None
     }
-    assert!(rt; is_memory(&reply) && manager.turn(by) == turn);
-    None
 }
 
-/// A manager with a server, which added `activity`.
-fn serving(rt: &impl Abort, alloc: Global) -> Option<Manager> {
-    let mut manager = opened(rt, alloc)?;
+/// A server joins, and adds `activity`.
+fn serves(rt: &impl Abort, alloc: Global, manager: &mut Manager) -> Option<()> {
     let server = process(alloc, b"u:r:system_server:s0")?;
-    does(rt, &mut manager, By::Manager, Event::Connect(server))?;
-    does(rt, &mut manager, SERVER, activity(alloc)?)?;
-    Some(manager)
+    does(rt, manager, By::Manager, Event::Connect(server))?;
+    adds(rt, alloc, manager)
 }
 
-fn looked(rt: &impl Abort, alloc: Global) -> Option<()> {
-    let manager = serving(rt, alloc)?;
-    lists_activity(rt, &manager.look(SERVER, Query::List(15)), 3)?;
+/// The server adds `activity`.
+fn adds(rt: &impl Abort, alloc: Global, manager: &mut Manager) -> Option<()> {
+    let event = activity(alloc)?;
+    does(rt, manager, SERVER, event)
+}
+
+/// What a test does with a manager whose server added `activity`.
+#[derive(Clone, Copy)]
+enum Calls {
+    Looks,
+    Records,
+    Changes,
+    Seals,
+}
+
+/// Makes the calls of a test on a manager of its own. `None` if an allocation failed.
+fn made(rt: &impl Abort, alloc: Global, calls: Calls) -> Option<()> {
+    let mut manager = opened(rt, alloc)?;
+    makes(rt, alloc, &mut manager, calls)
+}
+
+fn makes(rt: &impl Abort, alloc: Global, manager: &mut Manager, calls: Calls) -> Option<()> {
+    serves(rt, alloc, manager)?;
+    match calls {
+        Calls::Looks => looks(rt, manager),
+        Calls::Records => records(rt, alloc, manager),
+        Calls::Changes => changes(rt, alloc, manager),
+        Calls::Seals => seals(rt, alloc, manager),
+    }
+}
+
+/// Lists on the manager, and on a view of it.
+fn looks(rt: &impl Abort, manager: &Manager) -> Option<()> {
+    lists_activity(rt, manager.look(SERVER, Query::List(15)), 3)?;
     let view = manager.view().ok()?;
-    lists_activity(rt, &view.look(SERVER, Query::List(15)), 3)
+    lists_activity(rt, view.look(SERVER, Query::List(15)), 3)
 }
 
 #[test]
 fn services_are_listed(rt: HostRuntime) {
-    assert!(rt; looked(&rt, rt.alloc()).is_some() || looked(&rt, rt.alloc()).is_some());
+    let alloc = rt.alloc();
+    assert!(rt;
+        made(&rt, alloc, Calls::Looks).is_some() || made(&rt, alloc, Calls::Looks).is_some()
+    );
 }
 
 /// An event under which a check is denied: the server gets a name that it may not find.
@@ -117,99 +160,146 @@ fn denied(alloc: Global) -> Option<Event> {
     Some(Event::Get { name })
 }
 
-/// What a step of the event, and a list, would record.
-fn would_record(rt: &impl Abort, manager: &Manager, event: &Event) -> Option<()> {
-    let records = manager
-        .step_records(SERVER, manager.turn(SERVER), event)
-        .ok()?;
-    assert!(rt; records.len() == 1 && records[0].length == 3);
-    let looks = manager.look_records(SERVER, &Query::List(15)).ok()?;
-    assert!(rt; looks.is_empty());
+/// What a step of the event would record.
+fn step_would_record(rt: &impl Abort, alloc: Global, manager: &Manager) -> Option<()> {
+    let event = denied(alloc)?;
+    let turn = manager.turn(SERVER);
+    is_recorded(rt, manager.step_records(SERVER, turn, &event).ok())
+}
+
+/// One record, after three changes.
+fn is_recorded(rt: &impl Abort, records: Option<Vec<Record>>) -> Option<()> {
+    let records = records?;
+    assert!(rt; records.len() == 1);
+    same(rt, records[0].length, 3);
+    Some(())
+}
+
+/// A list would record nothing.
+fn list_would_record(rt: &impl Abort, manager: &Manager) -> Option<()> {
+    let records = manager.look_records(SERVER, &Query::List(15)).ok()?;
+    assert!(rt; records.is_empty());
     Some(())
 }
 
 /// Makes the step. It is recorded unless an allocation failed.
-fn records(rt: &impl Abort, manager: &mut Manager, event: Event) -> Option<()> {
+fn step_records(rt: &impl Abort, alloc: Global, manager: &mut Manager) -> Option<()> {
+    let event = denied(alloc)?;
     let turn = manager.turn(SERVER);
-    let refused = is_memory(&manager.step(SERVER, turn, event));
-    let all = manager.records().ok()?;
-    assert!(rt; all.len() == if refused { 0 } else { 1 });
-    if refused { None } else { Some(()) }
+    if has_no_memory(manager.step(SERVER, turn, event)) {
+        has_records(rt, manager, 0)?;
+        None
+    } else {
+        has_records(rt, manager, 1)
+    }
 }
 
-fn recorded(rt: &impl Abort, alloc: Global) -> Option<()> {
-    let mut manager = serving(rt, alloc)?;
-    let event = denied(alloc)?;
-    would_record(rt, &manager, &event)?;
-    records(rt, &mut manager, event)
+fn has_no_memory(reply: Reply) -> bool {
+    is_memory(&reply)
+}
+
+fn has_records(rt: &impl Abort, manager: &Manager, wanted: usize) -> Option<()> {
+    let records = manager.records().ok()?;
+    assert!(rt; records.len() == wanted);
+    Some(())
+}
+
+fn records(rt: &impl Abort, alloc: Global, manager: &mut Manager) -> Option<()> {
+    step_would_record(rt, alloc, manager)?;
+    list_would_record(rt, manager)?;
+    step_records(rt, alloc, manager)
 }
 
 #[test]
 fn denials_are_recorded(rt: HostRuntime) {
-    assert!(rt; recorded(&rt, rt.alloc()).is_some() || recorded(&rt, rt.alloc()).is_some());
+    let alloc = rt.alloc();
+    assert!(rt;
+        made(&rt, alloc, Calls::Records).is_some() || made(&rt, alloc, Calls::Records).is_some()
+    );
 }
 
-/// Adds `activity` once more, and returns the view that was made before the change was committed.
-fn shown(rt: &impl Abort, alloc: Global, manager: &mut Manager, last: &View) -> Option<View>
+/// Adds `activity` once more, and lists on the view that was made before the change was committed.
+fn shows(rt: &impl Abort, alloc: Global, manager: &mut Manager, last: &View) -> Option<()>
     requires { last.now ≡ manager.old.book }
 {
     let event = activity(alloc)?;
     let turn = manager.turn(SERVER);
-    let ready = match manager.ready(SERVER, turn, event) {
-        Ok(ready) => ready,
+    match manager.ready(SERVER, turn, event) {
+        Ok(ready) => match manager.view_after(&ready, last) {
+            Ok(view) => {
+                is_added(rt, manager.commit(ready));
+                lists_activity(rt, view.look(SERVER, Query::List(15)), 4)
+            }
+            Err(_) => None,
+        },
         Err(reply) => {
-            assert!(rt; is_memory(&reply));
-            return None;
+            assert!(rt; has_no_memory(reply));
+            None
         }
-    };
-    let Ok(view) = manager.view_after(&ready, last) else {
-        return None;
-    };
-    assert!(rt; matches!(manager.commit(ready), Reply::Done(Outcome::Added(_))));
-    Some(view)
+    }
 }
 
-fn viewed(rt: &impl Abort, alloc: Global) -> Option<()> {
-    let mut manager = serving(rt, alloc)?;
+fn is_added(rt: &impl Abort, reply: Reply) {
+    assert!(rt; matches!(&reply, Reply::Done(Outcome::Added(_))));
+}
+
+fn changes(rt: &impl Abort, alloc: Global, manager: &mut Manager) -> Option<()> {
     let Ok(last) = manager.view() else {
         return None;
     };
-    let view = shown(rt, alloc, &mut manager, &last)?;
-    lists_activity(rt, &view.look(SERVER, Query::List(15)), 4)
+    shows(rt, alloc, manager, &last)
 }
 
 #[test]
 fn a_change_is_seen(rt: HostRuntime) {
-    assert!(rt; viewed(&rt, rt.alloc()).is_some() || viewed(&rt, rt.alloc()).is_some());
+    let alloc = rt.alloc();
+    assert!(rt;
+        made(&rt, alloc, Calls::Changes).is_some() || made(&rt, alloc, Calls::Changes).is_some()
+    );
 }
 
-/// Seals the manager whose three changes are in its first segment.
-fn seals(rt: &impl Abort, manager: &mut Manager) -> Option<()> {
-    let ready = match manager.ready_seal() {
-        Ok(ready) => ready,
+/// The first segment, with three changes.
+fn is_first(rt: &impl Abort, segment: &Segment) -> Option<()> {
+    same(rt, segment.number(), 1);
+    same(rt, segment.length(), 3);
+    let rows = segment.replay().ok()?;
+    same(rt, rows.length(), 3);
+    assert!(rt; rows.names().len() == 1);
+    Some(())
+}
+
+/// Closes the first segment, and lists on the view that was made before.
+fn closes(rt: &impl Abort, manager: &mut Manager, last: &View) -> Option<()>
+    requires { last.now ≡ manager.old.book }
+{
+    match manager.ready_seal() {
+        Ok(ready) => match manager.view_sealed(&ready, last) {
+            Ok(view) => {
+                is_first(rt, &manager.commit_seal(ready))?;
+                lists_activity(rt, view.look(SERVER, Query::List(15)), 3)
+            }
+            Err(_) => None,
+        },
         Err(refusal) => {
             assert!(rt; matches!(refusal, Refusal::Memory));
-            return None;
+            None
         }
-    };
+    }
+}
+
+fn seals_first(rt: &impl Abort, manager: &mut Manager) -> Option<()> {
     let Ok(last) = manager.view() else {
         return None;
     };
-    let Ok(view) = manager.view_sealed(&ready, &last) else {
-        return None;
-    };
-    let segment = manager.commit_seal(ready);
-    assert!(rt; segment.number() == 1 && segment.length() == 3);
-    let rows = segment.replay().ok()?;
-    assert!(rt; rows.length() == 3 && rows.names().len() == 1);
-    lists_activity(rt, &view.look(SERVER, Query::List(15)), 3)
+    closes(rt, manager, &last)
 }
 
 /// Seals the manager once more, after one more change.
-fn seals_again(rt: &impl Abort, manager: &mut Manager) -> Option<()> {
+fn seals_second(rt: &impl Abort, manager: &mut Manager) -> Option<()> {
     match manager.seal() {
         Ok(segment) => {
-            assert!(rt; segment.number() == 2 && segment.length() == 4);
+            same(rt, segment.number(), 2);
+            same(rt, segment.length(), 4);
             Some(())
         }
         Err(refusal) => {
@@ -219,15 +309,16 @@ fn seals_again(rt: &impl Abort, manager: &mut Manager) -> Option<()> {
     }
 }
 
-fn sealed(rt: &impl Abort, alloc: Global) -> Option<()> {
-    let mut manager = serving(rt, alloc)?;
-    seals(rt, &mut manager)?;
-    let event = activity(alloc)?;
-    does(rt, &mut manager, SERVER, event)?;
-    seals_again(rt, &mut manager)
+fn seals(rt: &impl Abort, alloc: Global, manager: &mut Manager) -> Option<()> {
+    seals_first(rt, manager)?;
+    adds(rt, alloc, manager)?;
+    seals_second(rt, manager)
 }
 
 #[test]
 fn segments_are_closed(rt: HostRuntime) {
-    assert!(rt; sealed(&rt, rt.alloc()).is_some() || sealed(&rt, rt.alloc()).is_some());
+    let alloc = rt.alloc();
+    assert!(rt;
+        made(&rt, alloc, Calls::Seals).is_some() || made(&rt, alloc, Calls::Seals).is_some()
+    );
 }

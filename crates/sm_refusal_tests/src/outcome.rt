@@ -3,6 +3,7 @@
 ghost use Rattle.std.specs.Prelude.{◌≡◌, IfSome, Ok};
 
 use std::process::Abort;
+use std::test::*;
 
 /// The value of a call. `None` if an allocation failed, which is the only error that may come.
 pub fn value<T: Drop, E: PartialEq + Drop>(
@@ -19,4 +20,14 @@ pub fn value<T: Drop, E: PartialEq + Drop>(
             None
         }
     }
+}
+
+/// Two equal numbers.
+pub fn same(rt: &impl Abort, came: u64, wanted: u64) {
+    assert_eq!(rt; came, wanted);
+}
+
+/// Two equal texts.
+pub fn same_text(rt: &impl Abort, came: &[u8], wanted: &[u8]) {
+    assert_eq!(rt; came, wanted);
 }

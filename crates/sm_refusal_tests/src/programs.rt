@@ -2,6 +2,7 @@
 
 ghost use Rattle.std.specs.Prelude.{◌≡◌};
 
+use crate::outcome::same_text;
 use sm_check::check;
 use sm_engine::{Counted, Fault};
 use sm_history::{Event, Outcome, Refusal, Reply};
@@ -19,8 +20,9 @@ fn checked(rt: &impl Abort, alloc: Global) -> Option<()> {
     let mut writer = Counted::new(Vec::new(alloc));
     match check(alloc, DEVICE_RULES, DEVICE_LABELS, &mut writer) {
         Ok(accepted) => {
+            assert!(rt; accepted);
             let told = b"policy ok: 6 types, 2 attributes, 8 rules, 2 labels\n";
-            assert!(rt; accepted && writer.into_inner().as_slice() == told.as_slice());
+            same_text(rt, &writer.into_inner(), told);
             Some(())
         }
         Err(fault) => {

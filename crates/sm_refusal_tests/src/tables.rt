@@ -1,5 +1,6 @@
 //! The manager's tables, and its audit records.
 
+use crate::outcome::same_text;
 use sm_audit::{Ring, line, push_line, push_lines};
 use sm_grants::Grants;
 use sm_history::{
@@ -30,16 +31,35 @@ fn given(rt: &impl Abort, grants: &mut Grants, node: Node) -> Option<u32> {
     number
 }
 
-fn handles(rt: &impl Abort, alloc: Global) -> Option<()> {
-    let mut grants = Grants::new(alloc);
-    assert!(rt; given(rt, &mut grants, object(5))? == 1);
-    assert!(rt; given(rt, &mut grants, object(6))? == 2);
+fn gives(rt: &impl Abort, grants: &mut Grants) -> Option<()> {
+    assert!(rt; given(rt, grants, object(5))? == 1);
+    assert!(rt; given(rt, grants, object(6))? == 2);
     assert!(rt; grants.node(7, 1) == Some(object(5)));
+    Some(())
+}
+
+/// An object that was given has its number, and another one the next.
+fn numbers(rt: &impl Abort, alloc: Global, grants: &Grants) -> Option<()> {
     let numbers = grants.numbers(alloc, 7, &[object(9), object(6)]).ok()?;
     assert!(rt; numbers.as_slice() == [3, 2].as_slice());
+    Some(())
+}
+
+fn two_listed(rt: &impl Abort, alloc: Global, grants: &Grants) -> Option<()> {
     let listed = grants.listed(alloc, 7).ok()?;
     assert!(rt; listed.iter().filter(|slot| slot.is_some()).count() == 2);
     Some(())
+}
+
+fn gives_and_lists(rt: &impl Abort, alloc: Global, grants: &mut Grants) -> Option<()> {
+    gives(rt, grants)?;
+    numbers(rt, alloc, grants)?;
+    two_listed(rt, alloc, grants)
+}
+
+fn handles(rt: &impl Abort, alloc: Global) -> Option<()> {
+    let mut grants = Grants::new(alloc);
+    gives_and_lists(rt, alloc, &mut grants)
 }
 
 #[test]
@@ -57,19 +77,34 @@ fn room(rt: &impl Abort, names: &mut Names, watches: usize) -> Option<()> {
     Some(())
 }
 
-fn services(rt: &impl Abort, alloc: Global) -> Option<()> {
-    let power = Name::new(alloc, b"power").ok()?;
-    let pair = WatchPair::new(7, &power, 3).ok()?;
-    let mut names = Names::new(alloc);
-    room(rt, &mut names, 0)?;
+/// Client 7 watches `power`.
+fn watches(rt: &impl Abort, names: &mut Names, power: &Name) -> Option<()> {
+    room(rt, names, 0)?;
+    let pair = WatchPair::new(7, power, 3).ok()?;
     if names.is_ready() && names.watches() < MOST_WATCHES {
         names.watch(pair);
     }
-    room(rt, &mut names, 1)?;
+    Some(())
+}
+
+fn puts(rt: &impl Abort, names: &mut Names, power: Name) -> Option<()> {
+    room(rt, names, 1)?;
     if names.is_ready() {
         names.put(power, service());
     }
-    listed(rt, alloc, &names)
+    Some(())
+}
+
+fn keeps(rt: &impl Abort, alloc: Global, names: &mut Names) -> Option<()> {
+    let power = Name::new(alloc, b"power").ok()?;
+    watches(rt, names, &power)?;
+    puts(rt, names, power)?;
+    listed(rt, alloc, names)
+}
+
+fn services(rt: &impl Abort, alloc: Global) -> Option<()> {
+    let mut names = Names::new(alloc);
+    keeps(rt, alloc, &mut names)
 }
 
 fn service() -> Service {
@@ -83,10 +118,17 @@ fn service() -> Service {
 
 fn listed(rt: &impl Abort, alloc: Global, names: &Names) -> Option<()> {
     assert!(rt; names.watchers(b"power").len() == 1);
-    let found = names.by_mask(alloc, 24).ok()?;
-    assert!(rt; found.len() == 1 && found[0].bytes() == b"power".as_slice());
+    finds(rt, alloc, names)?;
     let watches = names.listed_watches(alloc).ok()?;
-    assert!(rt; watches.len() == 1 && watches[0].client == 7);
+    assert!(rt; watches.len() == 1);
+    assert!(rt; watches[0].client == 7);
+    Some(())
+}
+
+fn finds(rt: &impl Abort, alloc: Global, names: &Names) -> Option<()> {
+    let found = names.by_mask(alloc, 24).ok()?;
+    assert!(rt; found.len() == 1);
+    same_text(rt, found[0].bytes(), b"power");
     Some(())
 }
 
@@ -95,7 +137,7 @@ fn services_and_watches_are_kept(rt: HostRuntime) {
     assert!(rt; services(&rt, rt.alloc()).is_some() || services(&rt, rt.alloc()).is_some());
 }
 
-fn deliveries(rt: &impl Abort, alloc: Global) -> Option<()> {
+fn delivery(alloc: Global) -> Option<BoxedDelivery> {
     let name = Name::new(alloc, b"power").ok()?;
     let delivery = Delivery {
         object: 3,
@@ -104,18 +146,38 @@ fn deliveries(rt: &impl Abort, alloc: Global) -> Option<()> {
             given: Given::Null,
         },
     };
-    let delivery = BoxedDelivery::new(alloc, delivery).ok()?;
-    let mut inboxes = Inboxes::new(alloc);
+    BoxedDelivery::new(alloc, delivery).ok()
+}
+
+/// Makes room for a delivery. A refusal leaves the inbox as it was.
+fn inbox(rt: &impl Abort, inboxes: &mut Inboxes) -> Option<()> {
     if inboxes.reserve(7).is_err() {
-        assert!(rt; inboxes.first(7).is_none() && inboxes.has_room(7));
+        assert!(rt; inboxes.first(7).is_none());
+        assert!(rt; inboxes.has_room(7));
         return None;
     }
+    Some(())
+}
+
+fn delivers(rt: &impl Abort, alloc: Global, inboxes: &mut Inboxes) -> Option<()> {
+    inbox(rt, inboxes)?;
+    let delivery = delivery(alloc)?;
     if inboxes.can_put(7) {
         inboxes.put(7, delivery);
     }
+    waits(rt, alloc, inboxes)
+}
+
+fn waits(rt: &impl Abort, alloc: Global, inboxes: &Inboxes) -> Option<()> {
     let waiting = inboxes.listed(alloc, 7).ok()?;
-    assert!(rt; waiting.len() == 1 && waiting[0].delivery().object == 3);
+    assert!(rt; waiting.len() == 1);
+    assert!(rt; waiting[0].delivery().object == 3);
     Some(())
+}
+
+fn deliveries(rt: &impl Abort, alloc: Global) -> Option<()> {
+    let mut inboxes = Inboxes::new(alloc);
+    delivers(rt, alloc, &mut inboxes)
 }
 
 #[test]
@@ -144,15 +206,29 @@ fn record(alloc: Global) -> Option<Record> {
     })
 }
 
+fn has_line(rt: &impl Abort, alloc: Global, record: &Record) -> Option<()> {
+    let text = line(alloc, record).ok()?;
+    same_text(rt, &text, LINE);
+    Some(())
+}
+
+fn keeps_a_record(rt: &impl Abort, alloc: Global, ring: &Ring) -> Option<()> {
+    let all = ring.all(alloc).ok()?;
+    assert!(rt; all.len() == 1);
+    assert!(rt; all[0].length == 6);
+    Some(())
+}
+
+fn pushes(rt: &impl Abort, alloc: Global, ring: &mut Ring) -> Option<()> {
+    let denied = record(alloc)?;
+    has_line(rt, alloc, &denied)?;
+    ring.push(denied);
+    keeps_a_record(rt, alloc, ring)
+}
+
 fn records(rt: &impl Abort, alloc: Global) -> Option<()> {
     let mut ring = Ring::new(alloc).ok()?;
-    let denied = record(alloc)?;
-    let text = line(alloc, &denied).ok()?;
-    assert!(rt; text.as_slice() == LINE);
-    ring.push(denied);
-    let all = ring.all(alloc).ok()?;
-    assert!(rt; all.len() == 1 && all[0].length == 6);
-    Some(())
+    pushes(rt, alloc, &mut ring)
 }
 
 #[test]
@@ -178,21 +254,32 @@ fn has_lines(text: &[u8], count: u32) -> bool {
     }
 }
 
-fn lines_behind_a_text(rt: &impl Abort, alloc: Global) -> Option<()> {
+/// Pushes a line. A refusal leaves the text as it was.
+fn one_line(rt: &impl Abort, alloc: Global, text: &mut Vec<u8>) -> Option<()> {
     let denied = record(alloc)?;
-    let mut text = Vec::from_slice(alloc, HEAD).ok()?;
-    if push_line(alloc, &mut text, &denied).is_err() {
-        assert!(rt; has_lines(&text, 0));
+    if push_line(alloc, text, &denied).is_err() {
+        assert!(rt; has_lines(text, 0));
         return None;
     }
-    assert!(rt; has_lines(&text, 1));
-    let records = [denied, record(alloc)?];
-    if push_lines(alloc, &mut text, &records).is_err() {
-        assert!(rt; has_lines(&text, 1));
-        return None;
-    }
-    assert!(rt; has_lines(&text, 3));
+    assert!(rt; has_lines(text, 1));
     Some(())
+}
+
+/// Pushes two more lines. A refusal leaves the text as it was.
+fn two_lines(rt: &impl Abort, alloc: Global, text: &mut Vec<u8>) -> Option<()> {
+    let records = [record(alloc)?, record(alloc)?];
+    if push_lines(alloc, text, &records).is_err() {
+        assert!(rt; has_lines(text, 1));
+        return None;
+    }
+    assert!(rt; has_lines(text, 3));
+    Some(())
+}
+
+fn lines_behind_a_text(rt: &impl Abort, alloc: Global) -> Option<()> {
+    let mut text = Vec::from_slice(alloc, HEAD).ok()?;
+    one_line(rt, alloc, &mut text)?;
+    two_lines(rt, alloc, &mut text)
 }
 
 #[test]

@@ -1,6 +1,6 @@
 //! Values, request lines and reply lines.
 
-use crate::outcome::value;
+use crate::outcome::{same_text, value};
 use sm_history::{Event, Outcome, Reply};
 use sm_kinds::{Context, ContextError, Name, ObjRef, Payload, PayloadError, Refs, RefsError};
 use sm_wire::{FeedError, Item, Kind, Lines, ReadError, Request, Telling, reply_line};
@@ -8,21 +8,47 @@ use std::alloc::Global;
 use std::process::Abort;
 use std::test::*;
 
-fn values(rt: &impl Abort, alloc: Global) -> Option<()> {
-    let text = b"u:r:untrusted_app:s0:c1,c2".as_slice();
-    let context = value(rt, Context::read(alloc, text), ContextError::Memory)?;
-    assert!(rt; context.text() == text && context.type_name() == b"untrusted_app".as_slice());
+const CONTEXT: &[u8] = b"u:r:untrusted_app:s0:c1,c2";
+
+fn context(rt: &impl Abort, alloc: Global) -> Option<()> {
+    let context = value(rt, Context::read(alloc, CONTEXT), ContextError::Memory)?;
+    same_text(rt, context.text(), CONTEXT);
+    same_text(rt, context.type_name(), b"untrusted_app");
+    Some(())
+}
+
+fn name(rt: &impl Abort, alloc: Global) -> Option<()> {
     let name = Name::new(alloc, b"activity").ok()?;
-    assert!(rt; name.bytes() == b"activity".as_slice());
+    same_text(rt, name.bytes(), b"activity");
+    Some(())
+}
+
+fn payload(rt: &impl Abort, alloc: Global) -> Option<()> {
     let payload = value(rt, Payload::new(alloc, b"data"), PayloadError::Memory)?;
-    assert!(rt; payload.bytes() == b"data".as_slice());
+    same_text(rt, payload.bytes(), b"data");
+    Some(())
+}
+
+fn payload_of_bytes(rt: &impl Abort, alloc: Global) -> Option<()> {
     let bytes = Vec::from_slice(alloc, b"data").ok()?;
     let payload = value(rt, Payload::from_vec(bytes), PayloadError::Memory)?;
-    assert!(rt; payload.bytes() == b"data".as_slice());
+    same_text(rt, payload.bytes(), b"data");
+    Some(())
+}
+
+fn refs(rt: &impl Abort, alloc: Global) -> Option<()> {
     let list = [ObjRef::Own(5), ObjRef::Handle(9)];
     let refs = value(rt, Refs::new(alloc, &list), RefsError::Memory)?;
     assert!(rt; refs.list() == list.as_slice());
     Some(())
+}
+
+fn values(rt: &impl Abort, alloc: Global) -> Option<()> {
+    context(rt, alloc)?;
+    name(rt, alloc)?;
+    payload(rt, alloc)?;
+    payload_of_bytes(rt, alloc)?;
+    refs(rt, alloc)
 }
 
 #[test]
@@ -41,21 +67,26 @@ fn is_call(event: &Event) -> bool {
     }
 }
 
-fn request(rt: &impl Abort, alloc: Global) -> Option<()> {
+fn read(rt: &impl Abort, alloc: Global) -> Option<()> {
     let line = b"call 1 00 o5 h9";
-    let read = value(
-        rt,
-        Request::read(alloc, Kind::Client, line),
-        ReadError::Memory,
-    )?;
-    match &read {
-        Request::Change(None, event) => assert!(rt; is_call(event)),
+    let read = Request::read(alloc, Kind::Client, line);
+    match value(rt, read, ReadError::Memory)? {
+        Request::Change(None, event) => assert!(rt; is_call(&event)),
         _ => panic!(rt; "another request"),
     }
+    Some(())
+}
+
+fn answered(rt: &impl Abort, alloc: Global) -> Option<()> {
     let reply = Reply::Done(Outcome::Granted(7));
     let told = reply_line(alloc, Telling::Whole, &reply).ok()?;
-    assert!(rt; told.as_slice() == b"handle 7\n".as_slice());
+    same_text(rt, &told, b"handle 7\n");
     Some(())
+}
+
+fn request(rt: &impl Abort, alloc: Global) -> Option<()> {
+    read(rt, alloc)?;
+    answered(rt, alloc)
 }
 
 #[test]
@@ -73,20 +104,35 @@ fn versions(items: &[Item]) -> Option<usize> {
     Some(items.len())
 }
 
-/// Whether two and a half lines are cut. A piece that met a failed allocation may be fed again.
-fn cut(rt: &impl Abort, alloc: Global) -> Option<()> {
-    let mut lines = Lines::new(alloc, Kind::Client);
-    let items = value(rt, lines.feed(b"version\nvers"), FeedError::Memory)?;
+/// One `version` line.
+fn is_version(rt: &impl Abort, items: Vec<Item>) {
     assert!(rt; versions(&items) == Some(1));
-    let items = match lines.feed(b"ion\nver") {
-        Ok(items) => items,
+}
+
+/// Feeds the second piece. A piece that met a failed allocation may be fed again.
+fn fed(rt: &impl Abort, lines: &mut Lines) -> Option<Vec<Item>> {
+    match lines.feed(b"ion\nver") {
+        Ok(items) => Some(items),
         Err(error) => {
             assert!(rt; error == FeedError::Memory);
-            value(rt, lines.feed(b"ion\nver"), FeedError::Memory)?
+            value(rt, lines.feed(b"ion\nver"), FeedError::Memory)
         }
-    };
-    assert!(rt; versions(&items) == Some(1));
+    }
+}
+
+/// Two and a half lines are cut.
+fn feeds(rt: &impl Abort, lines: &mut Lines) -> Option<()> {
+    is_version(
+        rt,
+        value(rt, lines.feed(b"version\nvers"), FeedError::Memory)?,
+    );
+    is_version(rt, fed(rt, lines)?);
     Some(())
+}
+
+fn cut(rt: &impl Abort, alloc: Global) -> Option<()> {
+    let mut lines = Lines::new(alloc, Kind::Client);
+    feeds(rt, &mut lines)
 }
 
 #[test]
