@@ -1,40 +1,27 @@
 //! The lines of checks, and writers that fail at them.
 
+use crate::fixture::{DEVICE, Files};
 use sm_check::check;
 use sm_engine::{Counted, Fault};
-use sm_samples::{BROKEN_RULE, DEVICE_LABELS, DEVICE_RULES, FailAt, OneByte, device_rules_with};
-use std::alloc::Global;
+use sm_kinds::push_numbered;
+use sm_samples::{BROKEN_RULE, DEVICE_LABELS, DEVICE_RULES, FailAt, OneByte};
+use std::alloc::{AllocError, Global};
+use std::io::Write;
 use std::process::Abort;
-use std::test::Fail;
-
-/// Rules and contexts, with the line that a check prints.
-type Told = &'static [(&'static [u8], &'static [u8], &'static [u8])];
 
 const ACCEPTED: &[u8] = b"policy ok: 6 types, 2 attributes, 8 rules, 2 labels\n";
 
 // Checks a policy source and a contexts file, with the expected line; returns whether they are a policy's.
-fn tells(
-    rt: &impl Abort,
-    alloc: Global,
-    rules: &[u8],
-    contexts: &[u8],
-    line: &[u8],
-    is_accepted: bool,
-) {
+fn tells(rt: &impl Abort, alloc: Global, rules: &[u8], contexts: &[u8], line: &[u8]) -> bool {
     let mut writer = Counted::new(Vec::new(alloc));
     let result = check(alloc, rules, contexts, &mut writer);
-    assert!(rt; result == Ok(is_accepted));
     assert_eq!(rt; writer.into_inner().as_slice(), line);
-}
-
-#[test]
-fn an_accepted_policy(rt: HostRuntime) {
-    tells(&rt, rt.alloc(), DEVICE_RULES, DEVICE_LABELS, ACCEPTED, true);
+    result.ok().expect(rt, "a line")
 }
 
 // What is skipped isn't counted, nor is a dontaudit rule. An allow rule with a kept class is, also if it allows
 // nothing.
-const SMALL_POLICIES: Told = &[
+const SMALL_POLICIES: &[(&[u8], &[u8], &[u8])] = &[
     (
         b"auditallow x y:z { w };\ntype a;",
         b"* u:r:a",
@@ -75,83 +62,109 @@ const SMALL_POLICIES: Told = &[
 #[test]
 fn small_policies(rt: HostRuntime) {
     for (rules, contexts, line) in SMALL_POLICIES {
-        tells(&rt, rt.alloc(), rules, contexts, line, true);
+        assert!(rt; tells(&rt, rt.alloc(), rules, contexts, line));
     }
 }
 
 // Neither a permissive type nor a dontaudit rule is counted.
+const DEVICES: &[(&[u8], &[u8], bool)] = &[
+    (b"", ACCEPTED, true),
+    (
+        b"permissive untrusted_app;\ndontaudit untrusted_app *:service_manager { find list };\n",
+        ACCEPTED,
+        true,
+    ),
+    (
+        BROKEN_RULE,
+        b"policy refused: neverallow at line 16 by allow at line 17: untrusted_app activity_service service_manager add\n",
+        false,
+    ),
+];
+
 #[test]
-fn a_permissive_type_and_a_dontaudit_rule(rt: HostRuntime) -> Result<(), Fail> {
-    let alloc = rt.alloc();
-    let mut rules = device_rules_with(alloc, b"permissive untrusted_app;\n")?;
-    rules.extend_from_slice(b"dontaudit untrusted_app *:service_manager { find list };\n")?;
-    assert_eq!(rt; rules.len(), 769);
-    tells(&rt, alloc, &rules, DEVICE_LABELS, ACCEPTED, true);
+fn a_devices_policy_with_further_rules(rt: HostRuntime) {
+    for (more, line, is_accepted) in DEVICES {
+        let files = Files { more, ..DEVICE };
+        let rules = files.source(&rt, rt.alloc());
+        assert_eq!(rt;
+            tells(&rt, rt.alloc(), &rules, DEVICE_LABELS, line),
+            *is_accepted
+        );
+    }
+}
+
+// 2,000 types of 500 attributes, 30,000 allow rules and 1,000 neverallow rules: lines, and how often they are repeated.
+const PHONE_RULES: [(u32, &[u8]); 4] = [
+    (500, b"attribute d#;\n"),
+    (2000, b"type t$, d#, d@;\n"),
+    (
+        15_000,
+        b"allow t$ t&:binder { call transfer };\nallow d# { t& t$ }:service_manager ~add;\n",
+    ),
+    (
+        500,
+        b"neverallow { d# -t# } *:service_manager add;\nneverallow ~d# self:binder set_context_mgr;\n",
+    ),
+];
+
+// Appends lines. In the Ith repetition, signs stand for these numbers.
+fn push_rules(text: &mut Vec<u8>, lines: &[u8], i: u32) -> Result<(), AllocError> {
+    for byte in lines {
+        let number = match byte {
+            b'#' => i % 500,
+            b'@' => i.saturating_add(7) % 500,
+            b'$' => i % 2000,
+            b'&' => i.saturating_mul(7) % 2000,
+            _ => {
+                text.push(*byte)?;
+                continue;
+            }
+        };
+        push_numbered(text, b"", u64::from(number))?;
+    }
     Ok(())
 }
 
-#[test]
-fn a_broken_neverallow(rt: HostRuntime) -> Result<(), Fail> {
-    let rules = device_rules_with(rt.alloc(), BROKEN_RULE)?;
-    let line =
-        b"policy refused: neverallow at line 16 by allow at line 17: untrusted_app activity_service service_manager add\n";
-    tells(&rt, rt.alloc(), &rules, DEVICE_LABELS, line, false);
-    Ok(())
-}
-
-// 2,000 types of 500 attributes, 30,000 allow rules and 1,000 neverallow rules.
-fn phone_rules(alloc: Global) -> Result<Vec<u8>, Fail> {
+fn phone_rules(alloc: Global) -> Result<Vec<u8>, AllocError> {
     let mut text = Vec::new(alloc);
-    for i in 0u32..500 {
-        text.extend_from_slice(format!(in alloc; "attribute d{i};\n")?.as_bytes())?;
+    for (count, lines) in PHONE_RULES {
+        for i in 0..count {
+            push_rules(&mut text, lines, i)?;
+        }
     }
-    for i in 0u32..2000 {
-        let (d, e) = (i % 500, (i + 7) % 500);
-        text.extend_from_slice(format!(in alloc; "type t{i}, d{d}, d{e};\n")?.as_bytes())?;
-    }
-    for i in 0u32..15_000 {
-        let (d, s, t) = (i % 500, i % 2000, i * 7 % 2000);
-        let rules = format!(in alloc;
-            "allow t{s} t{t}:binder {{ call transfer }};\nallow d{d} {{ t{t} t{s} }}:service_manager ~add;\n"
-        )?;
-        text.extend_from_slice(rules.as_bytes())?;
-    }
-    for i in 0u32..500 {
-        let rules = format!(in alloc;
-            "neverallow {{ d{i} -t{i} }} *:service_manager add;\nneverallow ~d{i} self:binder set_context_mgr;\n"
-        )?;
-        text.extend_from_slice(rules.as_bytes())?;
-    }
+    text.extend_from_slice(b"allow t1999 t3:service_manager add;\n")?;
     Ok(text)
 }
 
 #[test]
-fn a_policy_of_a_phones_size(rt: HostRuntime) -> Result<(), Fail> {
-    let alloc = rt.alloc();
-    let mut rules = phone_rules(alloc)?;
-    rules.extend_from_slice(b"allow t1999 t3:service_manager add;\n")?;
+fn a_policy_of_a_phones_size(rt: HostRuntime) {
+    let rules = phone_rules(rt.alloc()).ok().expect(&rt, "memory");
     let line =
         b"policy refused: neverallow at line 32513 by allow at line 33501: t1999 t3 service_manager add\n";
-    tells(&rt, alloc, &rules, b"* u:r:t0", line, false);
-    Ok(())
+    assert!(rt; !tells(&rt, rt.alloc(), &rules, b"* u:r:t0", line));
+}
+
+// Checks a device's policy, and returns how many writes failed too.
+fn device_check<W: Write>(alloc: Global, writer: &mut W) -> (Result<bool, Fault>, u64) {
+    let mut writer = Counted::new(writer);
+    let result = check(alloc, DEVICE_RULES, DEVICE_LABELS, &mut writer);
+    (result, writer.failures())
 }
 
 // The Nth write fails, one byte a write. Whether there was an Nth write.
 fn write_fails(rt: &impl Abort, alloc: Global, n: u32) -> bool {
-    let mut writer = Counted::new(FailAt {
+    let mut writer = FailAt {
         inner: OneByte(Vec::new(alloc)),
         left: n,
-    });
-    let result = check(alloc, DEVICE_RULES, DEVICE_LABELS, &mut writer);
-    let failures = writer.failures();
-    let written = writer.into_inner().inner.0;
+    };
+    let told = device_check(alloc, &mut writer);
+    let written = writer.inner.0;
     assert!(rt; ACCEPTED.starts_with(&written));
-    if result.is_ok() {
+    if told.0.is_ok() {
         assert_eq!(rt; written.len(), ACCEPTED.len());
         return false;
     }
-    assert!(rt; result == Err(Fault::WriteFault));
-    assert_eq!(rt; failures, 1);
+    assert_eq!(rt; told, (Err(Fault::WriteFault), 1));
     assert_eq!(rt; written.len() + 1, n as usize);
     true
 }

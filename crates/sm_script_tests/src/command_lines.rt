@@ -2,13 +2,13 @@
 
 use clap::error::ErrorKind;
 use sm_command::{Ending, Mode, Sockets, options_of, words_of};
-use std::alloc::Global;
+use std::alloc::{AllocError, Global};
 use std::env::{Env, FillError};
 use std::io;
 use std::process::Abort;
 use std::test::Fail;
 
-fn words(alloc: Global, line: &str) -> Result<Vec<String>, Fail> {
+fn words(alloc: Global, line: &str) -> Result<Vec<String>, AllocError> {
     let mut words = Vec::new(alloc);
     for word in line.split(' ') {
         words.push(String::from_str(alloc, word)?)?;
@@ -16,134 +16,134 @@ fn words(alloc: Global, line: &str) -> Result<Vec<String>, Fail> {
     Ok(words)
 }
 
-#[test]
-fn accepted_command_lines(rt: HostRuntime) -> Result<(), Fail> {
-    let lines = [
-        ("svcmgr run r c", Mode::Run, 1_048_576),
-        ("svcmgr run --journal 2 r c", Mode::Run, 2),
-        ("svcmgr run r c --journal 1048576", Mode::Run, 1_048_576),
-        ("svcmgr check r c", Mode::Check, 1_048_576),
-    ];
-    for (line, mode, places) in lines {
-        let words = words(rt.alloc(), line)?;
-        let options = options_of(rt.alloc(), &words)?;
-        assert!(rt; options.mode == mode);
-        assert_eq!(rt; options.places.entries(), places);
-        assert_eq!(rt; options.rules, "r");
-        assert_eq!(rt; options.contexts, "c");
-    }
-    Ok(())
-}
-
-#[test]
-fn sockets_of_a_server(rt: HostRuntime) -> Result<(), Fail> {
-    let lines = [
-        (
-            "svcmgr serve --socket s --admin a r c",
-            16,
-            1_048_576,
-            None,
-            None,
-            false,
-        ),
-        (
-            "svcmgr serve --workers 64 --journal 2 --seal-at 2 --admin a --socket s --audit --mode 0660 r c",
-            64,
-            2,
-            Some(0o660),
-            Some(2),
-            true,
-        ),
-    ];
-    for (line, workers, places, mode, seal_at, audit) in lines {
-        let words = words(rt.alloc(), line)?;
-        let options = options_of(rt.alloc(), &words)?;
-        let wanted = Sockets {
+// Command lines with their modes, and the slots of their journals.
+const ACCEPTED: &[(&str, Mode, u32)] = &[
+    ("svcmgr run r c", Mode::Run, 1_048_576),
+    ("svcmgr run --journal 2 r c", Mode::Run, 2),
+    ("svcmgr run r c --journal 1048576", Mode::Run, 1_048_576),
+    ("svcmgr check r c", Mode::Check, 1_048_576),
+    (
+        "svcmgr serve --socket s --admin a r c",
+        Mode::Serve(Sockets {
             clients: "s",
             admins: "a",
-            workers,
-            mode,
-            seal_at,
-            audit,
-        };
-        assert!(rt; options.mode == Mode::Serve(wanted));
-        assert_eq!(rt; options.places.entries(), places);
-    }
-    Ok(())
-}
+            workers: 16,
+            mode: None,
+            seal_at: None,
+            audit: false,
+        }),
+        1_048_576,
+    ),
+    (
+        "svcmgr serve --workers 64 --journal 2 --seal-at 2 --admin a --socket s --audit --mode 0660 r c",
+        Mode::Serve(Sockets {
+            clients: "s",
+            admins: "a",
+            workers: 64,
+            mode: Some(0o660),
+            seal_at: Some(2),
+            audit: true,
+        }),
+        2,
+    ),
+];
 
-fn refusal(rt: &impl Abort, alloc: Global, line: &str) -> Result<ErrorKind, Fail> {
+fn accepts(
+    rt: &impl Abort,
+    alloc: Global,
+    line: &str,
+    mode: Mode,
+    places: u32,
+) -> Result<(), Fail> {
     let words = words(alloc, line)?;
-    let error = options_of(alloc, &words).err().expect(rt, "a refusal");
-    Ok(error.kind())
+    let options = options_of(alloc, &words)?;
+    assert!(rt; options.mode == mode);
+    assert_eq!(rt;
+        (options.places.entries(), options.rules, options.contexts),
+        (places, "r", "c")
+    );
+    Ok(())
 }
 
 #[test]
-fn other_command_lines(rt: HostRuntime) -> Result<(), Fail> {
-    let lines = [
-        ("svcmgr", ErrorKind::MissingSubcommand),
-        ("svcmgr walk r c", ErrorKind::InvalidSubcommand),
-        ("svcmgr run r", ErrorKind::MissingRequiredArgument),
-        ("svcmgr run r c s", ErrorKind::UnknownArgument),
-        ("svcmgr run --journal 1 r c", ErrorKind::ValueValidation),
-        (
-            "svcmgr run --journal 1048577 r c",
-            ErrorKind::ValueValidation,
-        ),
-        ("svcmgr check --journal 2 r c", ErrorKind::UnknownArgument),
-        ("svcmgr serve r c", ErrorKind::MissingRequiredArgument),
-        (
-            "svcmgr serve --socket s r c",
-            ErrorKind::MissingRequiredArgument,
-        ),
-        (
-            "svcmgr serve --workers 0 --socket s --admin a r c",
-            ErrorKind::ValueValidation,
-        ),
-        (
-            "svcmgr serve --workers 65 --socket s --admin a r c",
-            ErrorKind::ValueValidation,
-        ),
-        (
-            "svcmgr serve --socket  --admin a r c",
-            ErrorKind::ValueValidation,
-        ),
-        (
-            "svcmgr serve --socket s --admin  r c",
-            ErrorKind::ValueValidation,
-        ),
-        (
-            "svcmgr serve --socket s --admin s r c",
-            ErrorKind::ValueValidation,
-        ),
-        (
-            "svcmgr serve --seal-at 1 --socket s --admin a r c",
-            ErrorKind::ValueValidation,
-        ),
-        (
-            "svcmgr serve --journal 9 --seal-at 10 --socket s --admin a r c",
-            ErrorKind::ValueValidation,
-        ),
-        (
-            "svcmgr serve --mode 668 --socket s --admin a r c",
-            ErrorKind::ValueValidation,
-        ),
-        (
-            "svcmgr serve --mode 1777 --socket s --admin a r c",
-            ErrorKind::ValueValidation,
-        ),
-        (
-            "svcmgr serve --mode  --socket s --admin a r c",
-            ErrorKind::ValueValidation,
-        ),
-        ("svcmgr run --workers 2 r c", ErrorKind::UnknownArgument),
-        ("svcmgr --version", ErrorKind::DisplayVersion),
-        ("svcmgr --help", ErrorKind::DisplayHelp),
-    ];
-    for (line, kind) in lines {
-        assert!(rt; refusal(&rt, rt.alloc(), line)? == kind);
+fn accepted_command_lines(rt: HostRuntime) -> Result<(), Fail> {
+    for (line, mode, places) in ACCEPTED {
+        accepts(&rt, rt.alloc(), line, *mode, *places)?;
     }
     Ok(())
+}
+
+const REFUSED: &[(&str, ErrorKind)] = &[
+    ("svcmgr", ErrorKind::MissingSubcommand),
+    ("svcmgr walk r c", ErrorKind::InvalidSubcommand),
+    ("svcmgr run r", ErrorKind::MissingRequiredArgument),
+    ("svcmgr run r c s", ErrorKind::UnknownArgument),
+    ("svcmgr run --journal 1 r c", ErrorKind::ValueValidation),
+    (
+        "svcmgr run --journal 1048577 r c",
+        ErrorKind::ValueValidation,
+    ),
+    ("svcmgr check --journal 2 r c", ErrorKind::UnknownArgument),
+    ("svcmgr serve r c", ErrorKind::MissingRequiredArgument),
+    (
+        "svcmgr serve --socket s r c",
+        ErrorKind::MissingRequiredArgument,
+    ),
+    (
+        "svcmgr serve --workers 0 --socket s --admin a r c",
+        ErrorKind::ValueValidation,
+    ),
+    (
+        "svcmgr serve --workers 65 --socket s --admin a r c",
+        ErrorKind::ValueValidation,
+    ),
+    (
+        "svcmgr serve --socket  --admin a r c",
+        ErrorKind::ValueValidation,
+    ),
+    (
+        "svcmgr serve --socket s --admin  r c",
+        ErrorKind::ValueValidation,
+    ),
+    (
+        "svcmgr serve --socket s --admin s r c",
+        ErrorKind::ValueValidation,
+    ),
+    (
+        "svcmgr serve --seal-at 1 --socket s --admin a r c",
+        ErrorKind::ValueValidation,
+    ),
+    (
+        "svcmgr serve --journal 9 --seal-at 10 --socket s --admin a r c",
+        ErrorKind::ValueValidation,
+    ),
+    (
+        "svcmgr serve --mode 668 --socket s --admin a r c",
+        ErrorKind::ValueValidation,
+    ),
+    (
+        "svcmgr serve --mode 1777 --socket s --admin a r c",
+        ErrorKind::ValueValidation,
+    ),
+    (
+        "svcmgr serve --mode  --socket s --admin a r c",
+        ErrorKind::ValueValidation,
+    ),
+    ("svcmgr run --workers 2 r c", ErrorKind::UnknownArgument),
+    ("svcmgr --version", ErrorKind::DisplayVersion),
+    ("svcmgr --help", ErrorKind::DisplayHelp),
+];
+
+fn refusal(rt: &impl Abort, alloc: Global, line: &str) -> ErrorKind {
+    let words = words(alloc, line).ok().expect(rt, "memory");
+    options_of(alloc, &words).err().expect(rt, line).kind()
+}
+
+#[test]
+fn other_command_lines(rt: HostRuntime) {
+    for (line, kind) in REFUSED {
+        assert!(rt; refusal(&rt, rt.alloc(), line) == *kind);
+    }
 }
 
 /// A command line whose one word isn't UTF-8.
@@ -181,14 +181,15 @@ fn a_word_that_is_no_text(rt: HostRuntime) {
     assert!(rt; error.kind() == ErrorKind::ValueValidation);
 }
 
+fn has_line(rt: &impl Abort, alloc: Global, error: io::Error, wanted: &[u8]) {
+    let line = Ending::of_file("a.rules", error).line(alloc);
+    assert_eq!(rt; line.ok().expect(rt, "memory").as_slice(), wanted);
+}
+
 #[test]
-fn a_file_fault_names_the_file(rt: HostRuntime) -> Result<(), Fail> {
-    let ending = Ending::of_file("a.rules", io::Error::from_raw_os_error(2));
-    let line = ending.line(rt.alloc())?;
+fn a_file_fault_names_the_file(rt: HostRuntime) {
     let wanted = b"fault: a.rules: No such file or directory (os error 2)\n";
-    assert_eq!(rt; line.as_slice(), wanted.as_slice());
-    let ending = Ending::of_file("a.rules", io::Error::from(io::ErrorKind::OutOfMemory));
-    let line = ending.line(rt.alloc())?;
-    assert_eq!(rt; line.as_slice(), b"fault: no memory\n".as_slice());
-    Ok(())
+    has_line(&rt, rt.alloc(), io::Error::from_raw_os_error(2), wanted);
+    let error = io::Error::from(io::ErrorKind::OutOfMemory);
+    has_line(&rt, rt.alloc(), error, b"fault: no memory\n");
 }

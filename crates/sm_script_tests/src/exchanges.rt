@@ -1,12 +1,12 @@
 //! Handles, calls, inboxes, watches, unregistering and deaths, line by line.
 
-use crate::fixture::{Fixture, holds};
-use crate::texts::device_rules_but;
-use sm_samples::{DEVICE_LABELS, Said, Talk};
-use std::alloc::{AllocError, Global};
-use std::test::Fail;
+use crate::fixture::{DEVICE, Files, Fixture, hold};
+use crate::parts::Part::{Lines, Reload, Repeat};
+use crate::parts::Parts;
+use crate::texts::RULES_WITHOUT_CALLS;
+use sm_samples::Talk;
 
-const A_HANDLE_COUNTS: Talk = &[
+const A_HANDLE_COUNTS: Parts = &[Lines(&[
     ("hello 100 1000 u:r:system_server:s0", "client 1"),
     ("1 add activity o1 0 8", "ok"),
     ("hello 200 10007 u:r:untrusted_app:s0", "client 2"),
@@ -17,10 +17,10 @@ const A_HANDLE_COUNTS: Talk = &[
     ("2 release 1", "ok"),
     ("2 call 1 00", "failed bad-handle"),
     ("1 take", "call o1 200 10007 00"),
-];
+])];
 
 // A reference that names nothing refuses the whole call, and nothing is granted.
-pub const REFERENCES_OF_A_CALL: Talk = &[
+pub const REFERENCES_OF_A_CALL: Parts = &[Lines(&[
     ("hello 100 1000 u:r:system_server:s0", "client 1"),
     ("1 add activity o1 0 8", "ok"),
     ("hello 200 10007 u:r:untrusted_app:s0", "client 2"),
@@ -32,10 +32,10 @@ pub const REFERENCES_OF_A_CALL: Talk = &[
     ("1 release 1", "ok"),
     ("1 release 1", "ok"),
     ("1 release 1", "failed bad-handle"),
-];
+])];
 
 // The number of a released handle is that of the next new object.
-const NUMBERS_ARE_USED_AGAIN: Talk = &[
+const NUMBERS_ARE_USED_AGAIN: Parts = &[Lines(&[
     ("hello 100 1000 u:r:system_server:s0", "client 1"),
     ("1 add activity o1 0 8", "ok"),
     ("hello 200 10007 u:r:untrusted_app:s0", "client 2"),
@@ -50,9 +50,9 @@ const NUMBERS_ARE_USED_AGAIN: Talk = &[
     ("2 call 1 - h0", "failed bad-handle"),
     ("2 call 0 -", "failed bad-handle"),
     ("1 take", "empty"),
-];
+])];
 
-const UNREGISTERING: Talk = &[
+const UNREGISTERING: Parts = &[Lines(&[
     ("hello 100 1000 u:r:system_server:s0", "client 1"),
     ("1 add activity o1 0 8", "ok"),
     ("hello 200 10007 u:r:untrusted_app:s0", "client 2"),
@@ -61,9 +61,9 @@ const UNREGISTERING: Talk = &[
     ("2 release 1", "ok"),
     ("1 unregister activity o1", "ok"),
     ("1 unregister activity o1", "exception -5 not-registered"),
-];
+])];
 
-const WHO_MAY_UNREGISTER: Talk = &[
+const WHO_MAY_UNREGISTER: Parts = &[Lines(&[
     ("hello 100 1000 u:r:system_server:s0", "client 1"),
     ("1 add activity o1 0 8", "ok"),
     ("hello 101 1000 u:r:system_server:s0", "client 2"),
@@ -73,9 +73,9 @@ const WHO_MAY_UNREGISTER: Talk = &[
     ("2 unregister activity o2", "exception -5 other-object"),
     ("2 bye", "bye"),
     ("1 get activity", "null"),
-];
+])];
 
-const THE_OBJECT_OF_THE_DEAD: Talk = &[
+const THE_OBJECT_OF_THE_DEAD: Parts = &[Lines(&[
     ("hello 100 1000 u:r:system_server:s0", "client 1"),
     ("1 add activity o1 0 8", "ok"),
     ("hello 101 1000 u:r:system_server:s0", "client 2"),
@@ -83,9 +83,9 @@ const THE_OBJECT_OF_THE_DEAD: Talk = &[
     ("1 bye", "bye"),
     ("2 add activity h1 0 8", "exception -5 dead-owner"),
     ("2 release 1", "ok"),
-];
+])];
 
-const WATCHING_A_NAME_WITH_A_SERVICE: Talk = &[
+const WATCHING_A_NAME_WITH_A_SERVICE: Parts = &[Lines(&[
     ("hello 100 1000 u:r:system_server:s0", "client 1"),
     ("1 add activity o1 0 8", "ok"),
     ("hello 200 10007 u:r:untrusted_app:s0", "client 2"),
@@ -96,9 +96,9 @@ const WATCHING_A_NAME_WITH_A_SERVICE: Talk = &[
         "2 unwatch activity o7",
         "exception -5 nothing-to-unregister",
     ),
-];
+])];
 
-const A_WATCH_MADE_TWICE: Talk = &[
+const A_WATCH_MADE_TWICE: Parts = &[Lines(&[
     ("hello 100 1000 u:r:system_server:s0", "client 1"),
     ("hello 200 10007 u:r:untrusted_app:s0", "client 2"),
     ("2 watch activity o7", "ok"),
@@ -110,9 +110,9 @@ const A_WATCH_MADE_TWICE: Talk = &[
     ("2 release 1", "ok"),
     ("2 release 1", "ok"),
     ("2 release 1", "failed bad-handle"),
-];
+])];
 
-const SIXTEEN_REFERENCES: Talk = &[
+const SIXTEEN_REFERENCES: Parts = &[Lines(&[
     ("hello 100 1000 u:r:system_server:s0", "client 1"),
     ("1 add activity o1 0 8", "ok"),
     ("hello 200 10007 u:r:untrusted_app:s0", "client 2"),
@@ -129,7 +129,7 @@ const SIXTEEN_REFERENCES: Talk = &[
         "2 call 1 - null null null null null null null null null null null null null null null null null",
         "malformed",
     ),
-];
+])];
 
 // Client 2 dies holding a handle, watching, owning the service, and with a full inbox.
 const BEFORE_A_DEATH: Talk = &[
@@ -160,41 +160,14 @@ const AFTER_A_DEATH: Talk = &[
     ("1 get activity", "handle 2"),
 ];
 
-const ONE_MORE_CALL: Talk = &[("1 call 1 -", "ok")];
-
-#[test]
-fn a_death_of_one_that_has_all(rt: HostRuntime) -> Result<(), Fail> {
-    let alloc = rt.alloc();
-    let mut said = Said::new(alloc);
-    said.talk(BEFORE_A_DEATH)?;
-    for _ in 0..254 {
-        said.talk(ONE_MORE_CALL)?;
-    }
-    said.talk(AFTER_A_DEATH)?;
-    Fixture::device().hears(&rt, alloc, &said);
-    Ok(())
-}
-
-#[test]
-fn exchanges(rt: HostRuntime) -> Result<(), Fail> {
-    for talk in [
-        A_HANDLE_COUNTS,
-        REFERENCES_OF_A_CALL,
-        NUMBERS_ARE_USED_AGAIN,
-        UNREGISTERING,
-        WHO_MAY_UNREGISTER,
-        THE_OBJECT_OF_THE_DEAD,
-        WATCHING_A_NAME_WITH_A_SERVICE,
-        A_WATCH_MADE_TWICE,
-        SIXTEEN_REFERENCES,
-    ] {
-        holds(&rt, rt.alloc(), Fixture::device(), talk)?;
-    }
-    Ok(())
-}
+const A_DEATH_OF_ONE_THAT_HAS_ALL: Parts = &[
+    Lines(BEFORE_A_DEATH),
+    Repeat(254, b"1 call 1 -\n", b"ok\n"),
+    Lines(AFTER_A_DEATH),
+];
 
 // One of four slots is kept for the death of the client.
-const A_FULL_JOURNAL: Talk = &[
+const A_FULL_JOURNAL: Parts = &[Lines(&[
     ("hello 100 1000 u:r:system_server:s0", "client 1"),
     ("1 add activity o1 0 8", "ok"),
     ("1 add activity o1 0 8", "failed journal-full"),
@@ -204,15 +177,9 @@ const A_FULL_JOURNAL: Talk = &[
         "hello 200 10007 u:r:untrusted_app:s0",
         "failed journal-full",
     ),
-];
+])];
 
-#[test]
-fn a_place_for_each_death(rt: HostRuntime) -> Result<(), Fail> {
-    let policy = Fixture::device().with_places(4);
-    holds(&rt, rt.alloc(), policy, A_FULL_JOURNAL)
-}
-
-const A_SERVER_DIES: Talk = &[
+pub const A_SERVER_DIES: Talk = &[
     ("hello 100 1000 u:r:system_server:s0", "client 1"),
     ("1 watch activity o3", "ok"),
     ("1 add activity o1 0 8", "ok"),
@@ -224,34 +191,25 @@ const A_SERVER_DIES: Talk = &[
     ("2 call 1 00", "dead"),
 ];
 
-const ANOTHER_SERVER_COMES: Talk = &[
+pub const ANOTHER_SERVER_COMES: Talk = &[
     ("2 call 1 00", "dead"),
     ("hello 103 1000 u:r:system_server:s0", "client 3"),
     ("3 add activity o1 0 8", "ok"),
     ("2 get activity", "handle 2"),
 ];
 
-/// A server dies while a client holds its service, the policy is replaced, and another server comes.
-pub fn server_dies(alloc: Global) -> Result<Said, AllocError> {
-    let rules = device_rules_but(
-        alloc,
-        b"allow untrusted_app system_server:binder { call transfer };\n",
-        b"",
-    )?;
-    let mut said = Said::new(alloc);
-    said.talk(A_SERVER_DIES)?;
-    said.reload(1, &rules, DEVICE_LABELS, b"reloaded 2\n")?;
-    said.talk(ANOTHER_SERVER_COMES)?;
-    Ok(said)
-}
+/// A server dies while a client holds its service, the policy is replaced, and another server comes. A call of a dead
+/// object is answered so before any rule is checked, and a dead client watches nothing.
+pub const A_SERVER_THAT_DIES: Parts = &[
+    Lines(A_SERVER_DIES),
+    Reload(1, WITHOUT_CALLS, b"reloaded 2\n"),
+    Lines(ANOTHER_SERVER_COMES),
+];
 
-// A call of a dead object is answered so before any rule is checked, and a dead client watches nothing.
-#[test]
-fn a_server_that_dies(rt: HostRuntime) -> Result<(), Fail> {
-    let said = server_dies(rt.alloc())?;
-    Fixture::device().hears(&rt, rt.alloc(), &said);
-    Ok(())
-}
+pub const WITHOUT_CALLS: Files = Files {
+    rules: RULES_WITHOUT_CALLS,
+    ..DEVICE
+};
 
 const AN_APPLICATION_HAS_A_HANDLE: Talk = &[
     ("hello 100 1000 u:r:system_server:s0", "client 1"),
@@ -259,8 +217,6 @@ const AN_APPLICATION_HAS_A_HANDLE: Talk = &[
     ("hello 200 10007 u:r:untrusted_app:s0", "client 2"),
     ("2 get activity", "handle 1"),
 ];
-
-const ONE_CALL: Talk = &[("2 call 1 -", "ok")];
 
 // A watcher isn't notified of a service, either, while its inbox is full.
 const ONE_CALL_TOO_MANY: Talk = &[
@@ -271,15 +227,33 @@ const ONE_CALL_TOO_MANY: Talk = &[
     ("2 call 1 -", "failed target-full"),
 ];
 
+const A_FULL_INBOX: Parts = &[
+    Lines(AN_APPLICATION_HAS_A_HANDLE),
+    Repeat(256, b"2 call 1 -\n", b"ok\n"),
+    Lines(ONE_CALL_TOO_MANY),
+];
+
 #[test]
-fn a_full_inbox(rt: HostRuntime) -> Result<(), Fail> {
-    let alloc = rt.alloc();
-    let mut said = Said::new(alloc);
-    said.talk(AN_APPLICATION_HAS_A_HANDLE)?;
-    for _ in 0..256 {
-        said.talk(ONE_CALL)?;
-    }
-    said.talk(ONE_CALL_TOO_MANY)?;
-    Fixture::device().hears(&rt, alloc, &said);
-    Ok(())
+fn exchanges(rt: HostRuntime) {
+    let device = Fixture::device();
+    hold(
+        &rt,
+        rt.alloc(),
+        device,
+        &[
+            A_HANDLE_COUNTS,
+            REFERENCES_OF_A_CALL,
+            NUMBERS_ARE_USED_AGAIN,
+            UNREGISTERING,
+            WHO_MAY_UNREGISTER,
+            THE_OBJECT_OF_THE_DEAD,
+            WATCHING_A_NAME_WITH_A_SERVICE,
+            A_WATCH_MADE_TWICE,
+            SIXTEEN_REFERENCES,
+            A_DEATH_OF_ONE_THAT_HAS_ALL,
+            A_SERVER_THAT_DIES,
+            A_FULL_INBOX,
+        ],
+    );
+    hold(&rt, rt.alloc(), device.with_places(4), &[A_FULL_JOURNAL]);
 }

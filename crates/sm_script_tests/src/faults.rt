@@ -1,109 +1,105 @@
 //! Readers and writers that give little, or fail, and scripts that are cut.
 
-use crate::exchanges::{REFERENCES_OF_A_CALL, server_dies};
+use crate::exchanges::{
+    A_SERVER_DIES, A_SERVER_THAT_DIES, ANOTHER_SERVER_COMES, REFERENCES_OF_A_CALL, WITHOUT_CALLS,
+};
 use crate::fixture::Fixture;
+use crate::parts::Part::{Bytes, Lines, Reload};
+use crate::parts::{Parts, said_of};
 use sm_engine::Fault;
-use sm_samples::{FailAt, OneByte, Pieces, Said, Talk};
-use sm_script::ScriptFault;
+use sm_samples::{FailAt, OneByte, Pieces, Said};
 use std::alloc::{AllocError, Global};
 use std::process::Abort;
-use std::test::Fail;
 
 /// More reads or writes than a script here takes, a byte each.
 const MANY: u32 = 10_000;
 
 /// A server dies, the policy is replaced, and the input ends inside a line.
-fn cut_script(alloc: Global) -> Result<Said, AllocError> {
-    let mut said = server_dies(alloc)?;
-    said.talk(&[("1  get activity", "malformed")])?;
-    said.script.extend_from_slice(b"1 lis")?;
-    said.wanted.extend_from_slice(b"fault cut\n")?;
-    Ok(said)
-}
+const CUT_SCRIPT: Parts = &[
+    Lines(A_SERVER_DIES),
+    Reload(1, WITHOUT_CALLS, b"reloaded 2\n"),
+    Lines(ANOTHER_SERVER_COMES),
+    Lines(&[("1  get activity", "malformed")]),
+    Bytes(b"1 lis", b"fault cut\n"),
+];
 
-fn device() -> Fixture<'static> {
+fn device() -> Fixture {
     Fixture::device().with_reads(MANY)
 }
 
 #[test]
-fn one_byte_a_call(rt: HostRuntime) -> Result<(), Fail> {
-    let said = cut_script(rt.alloc())?;
-    let reader = OneByte(said.script.as_slice());
-    let left = device().run(&rt, rt.alloc(), reader, OneByte(Vec::new(rt.alloc())));
-    assert!(rt; left.ending.is_ok());
-    assert_eq!(rt;
-        left.writer.into_inner().0.as_slice(),
-        said.wanted.as_slice()
-    );
-    Ok(())
+fn one_byte_a_call(rt: HostRuntime) {
+    let said = said_of(&rt, rt.alloc(), CUT_SCRIPT);
+    let mut reader = OneByte(said.script.as_slice());
+    let mut writer = OneByte(Vec::new(rt.alloc()));
+    let mut audit = Vec::new(rt.alloc());
+    let ran = device().run(&rt, rt.alloc(), &mut reader, &mut writer, &mut audit);
+    assert_eq!(rt; ran.ending, Ok(()));
+    assert_eq!(rt; writer.0.as_slice(), said.wanted.as_slice());
 }
 
-const A_SERVICE: Talk = &[
+const A_SERVICE: Parts = &[Lines(&[
     ("hello 100 1000 u:r:system_server:s0", "client 1"),
     ("1 add activity o1 0 8", "ok"),
-];
+])];
 
-fn said(alloc: Global, talk: Talk) -> Result<Said, AllocError> {
-    let mut said = Said::new(alloc);
-    said.talk(talk)?;
-    Ok(said)
+// Runs a script that is read in pieces of at most so many bytes.
+fn hears_pieces(rt: &impl Abort, alloc: Global, said: &Said, most: usize) {
+    let mut reader = Pieces {
+        inner: said.script.as_slice(),
+        most,
+    };
+    let mut writer = Vec::new(alloc);
+    let mut audit = Vec::new(alloc);
+    let ran = device().run(rt, alloc, &mut reader, &mut writer, &mut audit);
+    assert_eq!(rt; ran.ending, Ok(()));
+    assert_eq!(rt; writer.as_slice(), said.wanted.as_slice());
 }
 
 #[test]
-fn pieces_of_each_length(rt: HostRuntime) -> Result<(), Fail> {
-    let alloc = rt.alloc();
-    for script in [
-        said(alloc, A_SERVICE)?,
-        said(alloc, REFERENCES_OF_A_CALL)?,
-        server_dies(alloc)?,
-    ] {
+fn pieces_of_each_length(rt: HostRuntime) {
+    for parts in [A_SERVICE, REFERENCES_OF_A_CALL, A_SERVER_THAT_DIES] {
+        let said = said_of(&rt, rt.alloc(), parts);
         for most in 1..=64 {
-            let reader = Pieces {
-                inner: script.script.as_slice(),
-                most,
-            };
-            let left = device().run(&rt, alloc, reader, Vec::new(alloc));
-            assert!(rt; left.ending.is_ok());
-            assert_eq!(rt;
-                left.writer.into_inner().as_slice(),
-                script.wanted.as_slice()
-            );
+            hears_pieces(&rt, rt.alloc(), &said, most);
         }
     }
-    Ok(())
 }
 
 #[test]
-fn too_many_reads(rt: HostRuntime) -> Result<(), Fail> {
-    let said = cut_script(rt.alloc())?;
+fn too_many_reads(rt: HostRuntime) {
+    let said = said_of(&rt, rt.alloc(), CUT_SCRIPT);
     let policy = Fixture::device().with_reads(3);
-    let reader = OneByte(said.script.as_slice());
-    let left = policy.run(&rt, rt.alloc(), reader, Vec::new(rt.alloc()));
-    assert!(rt; matches!(&left.ending, Err(ScriptFault::Engine(Fault::TooManyReads))));
-    assert_eq!(rt; Some(left.reader.into_inner().0), said.script.get(3..));
-    assert_eq!(rt; left.writer.into_inner().len(), 0);
-    Ok(())
+    let mut reader = OneByte(said.script.as_slice());
+    let mut writer = Vec::new(rt.alloc());
+    let mut audit = Vec::new(rt.alloc());
+    let ran = policy.run(&rt, rt.alloc(), &mut reader, &mut writer, &mut audit);
+    assert_eq!(rt; ran.ending, Err(Fault::TooManyReads));
+    assert_eq!(rt; Some(reader.0), said.script.get(3..));
+    assert_eq!(rt; writer.len(), 0);
 }
 
 // The Nth read fails, one byte a read. Whether there was an Nth read.
 fn read_fails(rt: &impl Abort, alloc: Global, said: &Said, n: u32) -> bool {
-    let reader = FailAt {
+    let mut reader = FailAt {
         inner: OneByte(said.script.as_slice()),
         left: n,
     };
-    let left = device().run(rt, alloc, reader, Vec::new(alloc));
-    assert!(rt; said.wanted.starts_with(&left.writer.into_inner()));
-    if left.ending.is_ok() {
+    let mut writer = Vec::new(alloc);
+    let mut audit = Vec::new(alloc);
+    let ran = device().run(rt, alloc, &mut reader, &mut writer, &mut audit);
+    assert!(rt; said.wanted.starts_with(&writer));
+    if ran.ending.is_ok() {
         return false;
     }
-    assert!(rt; matches!(&left.ending, Err(ScriptFault::Engine(Fault::ReadFault))));
-    assert_eq!(rt; left.reader.failures(), 1);
+    assert_eq!(rt; ran.ending, Err(Fault::ReadFault));
+    assert_eq!(rt; ran.failures[0], 1);
     true
 }
 
 #[test]
-fn each_read_fails(rt: HostRuntime) -> Result<(), Fail> {
-    let said = cut_script(rt.alloc())?;
+fn each_read_fails(rt: HostRuntime) {
+    let said = said_of(&rt, rt.alloc(), CUT_SCRIPT);
     let mut failed = 0u32;
     for n in 1..MANY {
         if !read_fails(&rt, rt.alloc(), &said, n) {
@@ -113,43 +109,9 @@ fn each_read_fails(rt: HostRuntime) -> Result<(), Fail> {
     }
     // The last read finds the end of the input.
     assert_eq!(rt; failed as usize, said.script.len() + 1);
-    Ok(())
 }
 
-// The Nth write fails, one byte a write. Whether there was an Nth write.
-fn write_fails(rt: &impl Abort, alloc: Global, said: &Said, n: u32) -> bool {
-    let writer = FailAt {
-        inner: OneByte(Vec::new(alloc)),
-        left: n,
-    };
-    let left = device().run(rt, alloc, said.script.as_slice(), writer);
-    let failures = left.writer.failures();
-    let replies = left.writer.into_inner().inner.0;
-    assert!(rt; said.wanted.starts_with(&replies));
-    if left.ending.is_ok() {
-        return false;
-    }
-    assert!(rt; matches!(&left.ending, Err(ScriptFault::Engine(Fault::WriteFault))));
-    assert_eq!(rt; failures, 1);
-    assert_eq!(rt; replies.len() + 1, n as usize);
-    true
-}
-
-#[test]
-fn each_write_fails(rt: HostRuntime) -> Result<(), Fail> {
-    let said = cut_script(rt.alloc())?;
-    let mut failed = 0u32;
-    for n in 1..MANY {
-        if !write_fails(&rt, rt.alloc(), &said, n) {
-            break;
-        }
-        failed = n;
-    }
-    assert_eq!(rt; failed as usize, said.wanted.len());
-    Ok(())
-}
-
-const DENIED: Talk = &[
+const DENIED: Parts = &[Lines(&[
     ("hello 200 10007 u:r:untrusted_app:s0", "client 1"),
     ("1 add activity o1 0 8", "exception -1 app 10007"),
     (
@@ -157,7 +119,7 @@ const DENIED: Talk = &[
         "exception -1 denied untrusted_app servicemanager service_manager list",
     ),
     ("1 get foo", "null"),
-];
+])];
 
 const AUDIT_LINES: &[u8] =
     b"journal=2 version=1 clause: denied app for pid=200 uid=10007 name=activity \
@@ -168,39 +130,75 @@ journal=2 version=1 avc: denied { find } for pid=200 uid=10007 name=foo scontext
 tcontext=u:object_r:default_android_service:s0 tclass=service_manager permissive=0
 ";
 
-// The Nth write of an audit line fails, one byte a write. Whether there was an Nth write.
-fn audit_write_fails(rt: &impl Abort, alloc: Global, said: &Said, n: u32) -> bool {
-    let audit = FailAt {
+/// A writer that takes one byte a call, and fails at one call.
+type Writer = FailAt<OneByte<Vec<u8>>>;
+
+fn writer_failing_at(alloc: Global, left: u32) -> Writer {
+    FailAt {
         inner: OneByte(Vec::new(alloc)),
-        left: n,
-    };
-    let script = said.script.as_slice();
-    let left = device().run_audited(rt, alloc, script, Vec::new(alloc), audit);
-    let failures = left.audit.failures();
-    let lines = left.audit.into_inner().inner.0;
-    assert!(rt; said.wanted.starts_with(&left.writer.into_inner()));
-    assert!(rt; AUDIT_LINES.starts_with(&lines));
-    if left.ending.is_ok() {
-        return false;
+        left,
     }
-    assert!(rt; matches!(&left.ending, Err(ScriptFault::Engine(Fault::WriteFault))));
-    assert_eq!(rt; failures, 1);
-    assert_eq!(rt; lines.len() + 1, n as usize);
-    true
+}
+
+// The given writes of replies and of audit lines fail, one byte a write; 0 is no write. Returns how many bytes of each
+// were written if a write failed.
+fn write_fails(
+    rt: &impl Abort,
+    alloc: Global,
+    said: &Said,
+    write: u32,
+    audit_write: u32,
+) -> Option<(usize, usize)> {
+    let mut script = said.script.as_slice();
+    let mut writer = writer_failing_at(alloc, write);
+    let mut audit = writer_failing_at(alloc, audit_write);
+    let ran = device().run(rt, alloc, &mut script, &mut writer, &mut audit);
+    let (replies, lines) = (writer.inner.0, audit.inner.0);
+    assert!(rt; said.wanted.starts_with(&replies));
+    assert!(rt; AUDIT_LINES.starts_with(&lines));
+    if ran.ending.is_ok() {
+        return None;
+    }
+    assert_eq!(rt; ran.ending, Err(Fault::WriteFault));
+    assert_eq!(rt;
+        ran.failures,
+        [0, u64::from(write > 0), u64::from(audit_write > 0)]
+    );
+    Some((replies.len(), lines.len()))
+}
+
+// Runs a script once for each write of a reply, or of an audit line, that it makes, which fails then. Returns their
+// number.
+fn failing_writes(rt: &impl Abort, alloc: Global, said: &Said, of_replies: bool) -> usize {
+    for n in 1..MANY {
+        let (write, audit_write) = if of_replies { (n, 0) } else { (0, n) };
+        let before = (n - 1) as usize;
+        match write_fails(rt, alloc, said, write, audit_write) {
+            None => return before,
+            Some((replies, lines)) => {
+                assert_eq!(rt; if of_replies { replies } else { lines }, before);
+            }
+        }
+    }
+    0
 }
 
 #[test]
-fn each_audit_write_fails(rt: HostRuntime) -> Result<(), Fail> {
-    let said = said(rt.alloc(), DENIED)?;
-    let mut failed = 0u32;
-    for n in 1..MANY {
-        if !audit_write_fails(&rt, rt.alloc(), &said, n) {
-            break;
-        }
-        failed = n;
-    }
-    assert_eq!(rt; failed as usize, AUDIT_LINES.len());
-    Ok(())
+fn each_write_fails(rt: HostRuntime) {
+    let said = said_of(&rt, rt.alloc(), CUT_SCRIPT);
+    assert_eq!(rt;
+        failing_writes(&rt, rt.alloc(), &said, true),
+        said.wanted.len()
+    );
+}
+
+#[test]
+fn each_audit_write_fails(rt: HostRuntime) {
+    let said = said_of(&rt, rt.alloc(), DENIED);
+    assert_eq!(rt;
+        failing_writes(&rt, rt.alloc(), &said, false),
+        AUDIT_LINES.len()
+    );
 }
 
 /// The number of bytes of a script's first items, and the number of bytes of their replies.
@@ -212,59 +210,71 @@ struct Front {
 
 // A prefix of a script that ends right before an item has the answers of the items so far; one that ends inside the
 // item has `fault cut` after them. Returns the prefix with the item.
-fn cut_inside(
-    rt: &impl Abort,
-    alloc: Global,
-    said: &Said,
-    before: Front,
-    item: Front,
-) -> Result<Front, Fail> {
-    let mut wanted = Vec::from_slice(alloc, said.wanted.get(..before.written).ok_or("replies")?)?;
-    device().replies(
-        rt,
-        alloc,
-        said.script.get(..before.read).ok_or("a front")?,
-        &wanted,
-    );
-    wanted.extend_from_slice(b"fault cut\n")?;
+fn cut_inside(rt: &impl Abort, alloc: Global, said: &Said, before: Front, item: Front) -> Front {
+    let replies = said.wanted.get(..before.written).expect(rt, "replies");
+    hears_front(rt, alloc, said, before.read, replies);
+    let cut = with_fault(alloc, replies).ok().expect(rt, "memory");
     let read = before.read.saturating_add(item.read);
     for end in before.read.saturating_add(1)..read {
-        device().replies(rt, alloc, said.script.get(..end).ok_or("a front")?, &wanted);
+        hears_front(rt, alloc, said, end, &cut);
     }
     let written = before.written.saturating_add(item.written);
-    Ok(Front { read, written })
+    Front { read, written }
+}
+
+fn hears_front(rt: &impl Abort, alloc: Global, said: &Said, end: usize, wanted: &[u8]) {
+    let script = said.script.get(..end).expect(rt, "a front");
+    device().replies(rt, alloc, script, wanted);
+}
+
+fn with_fault(alloc: Global, replies: &[u8]) -> Result<Vec<u8>, AllocError> {
+    let mut cut = Vec::from_slice(alloc, replies)?;
+    cut.extend_from_slice(b"fault cut\n")?;
+    Ok(cut)
 }
 
 // The length of a line with its newline.
 fn length_of(bytes: &[u8]) -> Option<usize> {
-    let end = bytes.iter().position(|byte| *byte == b'\n')?;
-    Some(end.saturating_add(1))
+    let mut length = 0usize;
+    for byte in bytes {
+        length = length.saturating_add(1);
+        if *byte == b'\n' {
+            return Some(length);
+        }
+    }
+    None
+}
+
+// The item after the front, of the script and of the replies.
+fn item_after(rt: &impl Abort, said: &Said, front: Front) -> Option<Front> {
+    let script = said.script.get(front.read..)?;
+    let mut read = length_of(script)?;
+    // Behind a reload's line are its two texts.
+    if script.starts_with(b"reload 1 626 89\n") {
+        read = read.saturating_add(626 + 89);
+    }
+    let written = length_of(said.wanted.get(front.written..)?);
+    Some(Front {
+        read,
+        written: written.expect(rt, "a reply"),
+    })
 }
 
 #[test]
-fn each_front_of_a_script(rt: HostRuntime) -> Result<(), Fail> {
-    let said = server_dies(rt.alloc())?;
+fn each_front_of_a_script(rt: HostRuntime) {
+    let said = said_of(&rt, rt.alloc(), A_SERVER_THAT_DIES);
     let mut front = Front {
         read: 0,
         written: 0,
     };
     for _ in 0..said.wanted.len() {
-        let script = said.script.get(front.read..).ok_or("a front")?;
-        let Some(mut read) = length_of(script) else {
+        let Some(item) = item_after(&rt, &said, front) else {
             break;
         };
-        // Behind a reload's line are its two texts.
-        if script.starts_with(b"reload 1 626 89\n") {
-            read = read.saturating_add(626 + 89);
-        }
-        let written = length_of(said.wanted.get(front.written..).ok_or("a reply")?);
-        let item = Front {
-            read,
-            written: written.ok_or("a reply")?,
-        };
-        front = cut_inside(&rt, rt.alloc(), &said, front, item)?;
+        front = cut_inside(&rt, rt.alloc(), &said, front, item);
     }
-    assert_eq!(rt; front.read, said.script.len());
-    assert_eq!(rt; front.written, said.wanted.len());
-    Ok(())
+    assert_eq!(rt;
+        (front.read, front.written),
+        (said.script.len(), said.wanted.len())
+    );
 }

@@ -19,6 +19,8 @@ mod fixture;
 #[cfg(test)]
 mod limits;
 #[cfg(test)]
+mod parts;
+#[cfg(test)]
 mod reloads;
 #[cfg(test)]
 mod renumbering;

@@ -1,188 +1,159 @@
 //! Lines, names, clients and journals at their limits, and scripts that are not begun.
 
-use crate::fixture::{Fixture, Left};
-use sm_engine::Fault;
+use crate::fixture::{DEVICE, DEVICE_WITH_DEFAULTS, Files, Fixture, LONGEST, PLAIN, hold};
+use crate::parts::Part::{Bytes, Lines, Repeat};
+use crate::parts::{Parts, said_of};
+use sm_engine::{Counted, Fault};
 use sm_history::{Denial, Refusal};
-use sm_kinds::{Class, Perms};
+use sm_kinds::{Class, Perms, Places};
 use sm_policy::PolicyFault;
-use sm_samples::{
-    DEVICE_LABELS, DEVICE_RULES, ONE_LABEL, PLAIN_RULES, RULE_FOR_DEFAULTS, device_rules_with,
-};
-use sm_script::ScriptFault;
+use sm_samples::{DEVICE_LABELS, Talk};
+use sm_script::{ScriptFault, run_script};
 use std::alloc::Global;
-use std::test::Fail;
+use std::process::Abort;
+
+const ONE_CLIENT: Talk = &[("hello 100 1000 u:r:system_server:s0", "client 1")];
+
+const INPUT_THAT_ENDS_INSIDE_A_LINE: Parts = &[Lines(ONE_CLIENT), Bytes(b"1 lis", b"fault cut\n")];
+
+const THE_LONGEST_LINE_BUT_ITS_END: Parts = &[Repeat(4096, b"a", b""), Bytes(b"", b"fault cut\n")];
+
+const THE_LONGEST_LINE: Parts = &[Repeat(4096, b"a", b""), Bytes(b"\n", b"malformed\n")];
+
+const NAMES_OF_THE_GREATEST_LENGTH: Parts = &[
+    Lines(ONE_CLIENT),
+    Lines(&[("1 add % o1 0 8", "exception -3 invalid-name")]),
+    Bytes(b"1 add ", b""),
+    Repeat(127, b"a", b""),
+    Bytes(b" o1 0 8\n", b"ok\n"),
+    Bytes(b"1 add ", b""),
+    Repeat(128, b"a", b""),
+    Bytes(b" o1 0 8\n", b"exception -3 invalid-name\n"),
+    Lines(&[("1 add x null 0 8", "exception -3 null-binder")]),
+];
+
+// A name that has a service is given another one, and there is still no room for a new name.
+const ONE_NAME_TOO_MANY: Parts = &[
+    Lines(ONE_CLIENT),
+    Repeat(4096, b"1 add n# o1 0 8\n", b"ok\n"),
+    Lines(&[
+        ("1 add m o1 0 8", "exception -5 table-full"),
+        ("1 add m null 0 8", "exception -3 null-binder"),
+        ("1 add n7 o2 0 1", "ok"),
+        ("1 get n7", "own 2"),
+        ("1 add m o1 0 8", "exception -5 table-full"),
+        ("1 get m", "null"),
+        ("1 list 1", "names 1 4099 1 n7"),
+    ]),
+];
+
+const ONE_CLIENT_TOO_MANY: Parts = &[
+    Repeat(64, b"hello 100 1000 u:r:system_server:s0\n", b"client #\n"),
+    Lines(&[
+        (
+            "hello 100 1000 u:r:system_server:s0",
+            "failed too-many-clients",
+        ),
+        ("64 list 15", "names 1 65 0"),
+        ("65 list 15", "failed not-connected"),
+        ("1 bye", "bye"),
+        ("hello 100 1000 u:r:system_server:s0", "client 65"),
+    ]),
+];
+
+// A get of one's own object takes no slot, and neither does a denied one.
+const NO_PLACE_FOR_A_HANDLE: Parts = &[Lines(&[
+    ("hello 100 1000 u:r:system_server:s0", "client 1"),
+    ("1 add activity o1 0 8", "ok"),
+    ("hello 200 10007 u:r:untrusted_app:s0", "client 2"),
+    ("2 get activity", "failed journal-full"),
+    ("2 get activity", "failed journal-full"),
+    ("1 get activity", "own 1"),
+    ("2 get foo", "null"),
+    ("1 version", "version 1 4"),
+])];
+
+const A_PLACE_FOR_ONE_HANDLE: Parts = &[Lines(&[
+    ("hello 100 1000 u:r:system_server:s0", "client 1"),
+    ("1 add activity o1 0 8", "ok"),
+    ("hello 200 10007 u:r:untrusted_app:s0", "client 2"),
+    ("2 get activity", "handle 1"),
+    ("2 get activity", "failed journal-full"),
+    ("1 get activity", "own 1"),
+    ("2 get foo", "null"),
+    ("1 version", "version 1 5"),
+])];
 
 #[test]
-fn input_that_ends_inside_a_line(rt: HostRuntime) {
-    let script = b"hello 100 1000 u:r:system_server:s0\n1 lis";
-    Fixture::device().replies(&rt, rt.alloc(), script, b"client 1\nfault cut\n");
+fn limits(rt: HostRuntime) {
+    let device = Fixture::device();
+    hold(
+        &rt,
+        rt.alloc(),
+        device,
+        &[
+            INPUT_THAT_ENDS_INSIDE_A_LINE,
+            THE_LONGEST_LINE_BUT_ITS_END,
+            THE_LONGEST_LINE,
+            ONE_CLIENT_TOO_MANY,
+        ],
+    );
+    hold(
+        &rt,
+        rt.alloc(),
+        Fixture::new(DEVICE_WITH_DEFAULTS),
+        &[NAMES_OF_THE_GREATEST_LENGTH, ONE_NAME_TOO_MANY],
+    );
+    for (places, parts) in [(6, NO_PLACE_FOR_A_HANDLE), (7, A_PLACE_FOR_ONE_HANDLE)] {
+        hold(&rt, rt.alloc(), device.with_places(places), &[parts]);
+    }
 }
 
-#[test]
-fn lines_of_the_greatest_length(rt: HostRuntime) -> Result<(), Fail> {
-    let alloc = rt.alloc();
-    let mut script = vec![in alloc; b'a'; 4096]?;
-    Fixture::device().replies(&rt, alloc, &script, b"fault cut\n");
-    script.extend_from_slice(b"\n")?;
-    Fixture::device().replies(&rt, alloc, &script, b"malformed\n");
-    Ok(())
-}
-
-#[test]
-fn lines_too_long(rt: HostRuntime) -> Result<(), Fail> {
-    let alloc = rt.alloc();
-    let mut script = vec![in alloc; b'a'; 4097]?;
+const TOO_LONG: &[Parts] = &[
     // Whether or not the line ends, and whatever follows.
-    for more in [b"".as_slice(), b"\nhello 100 1000 u:r:system_server:s0\n"] {
-        script.extend_from_slice(more)?;
-        let ending = Fixture::device().ending(&rt, alloc, &script, b"fault long\n");
-        assert!(rt; matches!(&ending, Err(ScriptFault::Engine(Fault::LineTooLong))));
-    }
-    Ok(())
-}
+    &[Repeat(4097, b"a", b"")],
+    &[
+        Repeat(4097, b"a", b""),
+        Bytes(b"\nhello 100 1000 u:r:system_server:s0\n", b""),
+    ],
+    // The texts that a reload announces.
+    &[Bytes(b"reload 1 4194305 0\n", b"")],
+    &[Bytes(b"reload 1 0 4194305\n", b"")],
+];
 
-// Appends `1 add NAME o1 0 8`, with a name of `letters` letters `a`.
-fn push_add(script: &mut Vec<u8>, letters: usize) -> Result<(), Fail> {
-    script.extend_from_slice(b"1 add ")?;
-    for _ in 0..letters {
-        script.push(b'a')?;
-    }
-    script.extend_from_slice(b" o1 0 8\n")?;
-    Ok(())
-}
-
-#[test]
-fn names_of_the_greatest_length(rt: HostRuntime) -> Result<(), Fail> {
-    let alloc = rt.alloc();
-    let mut script = Vec::from_slice(
-        alloc,
-        b"hello 100 1000 u:r:system_server:s0\n1 add % o1 0 8\n",
-    )?;
-    push_add(&mut script, 127)?;
-    push_add(&mut script, 128)?;
-    script.extend_from_slice(b"1 add x null 0 8\n")?;
-    let wanted = b"client 1
-exception -3 invalid-name
-ok
-exception -3 invalid-name
-exception -3 null-binder
-";
-    let rules = device_rules_with(alloc, RULE_FOR_DEFAULTS)?;
-    Fixture::new(&rules, DEVICE_LABELS).replies(&rt, alloc, &script, wanted);
-    Ok(())
+fn is_too_long(rt: &impl Abort, alloc: Global, parts: Parts) {
+    let said = said_of(rt, alloc, parts);
+    let (_, ending) = Fixture::device().ending(rt, alloc, &said.script, b"fault long\n");
+    assert_eq!(rt; ending, Err(Fault::LineTooLong));
 }
 
 #[test]
-fn one_name_too_many(rt: HostRuntime) -> Result<(), Fail> {
-    let alloc = rt.alloc();
-    let mut script = Vec::from_slice(alloc, b"hello 100 1000 u:r:system_server:s0\n")?;
-    let mut wanted = Vec::from_slice(alloc, b"client 1\n")?;
-    for n in 1u32..=4096 {
-        script.extend_from_slice(format!(in alloc; "1 add n{n} o1 0 8\n")?.as_bytes())?;
-        wanted.extend_from_slice(b"ok\n")?;
+fn lines_and_texts_too_long(rt: HostRuntime) {
+    for parts in TOO_LONG {
+        is_too_long(&rt, rt.alloc(), parts);
     }
-    // A name that has a service is given another one, and there is still no room for a new name.
-    script.extend_from_slice(
-        b"1 add m o1 0 8\n1 add m null 0 8\n1 add n7 o2 0 1\n1 get n7\n1 add m o1 0 8\n1 get m\n1 list 1\n",
-    )?;
-    wanted.extend_from_slice(
-        b"exception -5 table-full
-exception -3 null-binder
-ok
-own 2
-exception -5 table-full
-null
-names 1 4099 1 n7
-",
-    )?;
-    let rules = device_rules_with(alloc, RULE_FOR_DEFAULTS)?;
-    Fixture::new(&rules, DEVICE_LABELS).replies(&rt, alloc, &script, &wanted);
-    Ok(())
 }
 
-#[test]
-fn one_client_too_many(rt: HostRuntime) -> Result<(), Fail> {
-    let alloc = rt.alloc();
-    let mut script = Vec::new(alloc);
-    let mut wanted = Vec::new(alloc);
-    for n in 1u32..=64 {
-        script.extend_from_slice(b"hello 100 1000 u:r:system_server:s0\n")?;
-        wanted.extend_from_slice(format!(in alloc; "client {n}\n")?.as_bytes())?;
+// What is wrong with a policy whose script is not begun.
+fn reason(fault: &ScriptFault) -> &'static str {
+    match fault {
+        ScriptFault::Policy(PolicyFault::UndeclaredLabel(3)) => "the label at line 3",
+        ScriptFault::Opening(Refusal::Denied(denial)) if is_the_managers(denial) => {
+            "no set_context_mgr"
+        }
+        _ => "another fault",
     }
-    script.extend_from_slice(
-        b"hello 100 1000 u:r:system_server:s0
-64 list 15
-65 list 15
-1 bye
-hello 100 1000 u:r:system_server:s0
-",
-    )?;
-    wanted.extend_from_slice(
-        b"failed too-many-clients
-names 1 65 0
-failed not-connected
-bye
-client 65
-",
-    )?;
-    Fixture::device().replies(&rt, alloc, &script, &wanted);
-    Ok(())
 }
 
-#[test]
-fn journals_without_a_place_for_a_handle(rt: HostRuntime) {
-    let script = b"hello 100 1000 u:r:system_server:s0
-1 add activity o1 0 8
-hello 200 10007 u:r:untrusted_app:s0
-2 get activity
-2 get activity
-1 get activity
-2 get foo
-1 version
-";
-    let alloc = rt.alloc();
-    // A get of one's own object takes no slot, and neither does a denied one.
-    let none = b"client 1
-ok
-client 2
-failed journal-full
-failed journal-full
-own 1
-null
-version 1 4
-";
-    Fixture::device()
-        .with_places(6)
-        .replies(&rt, alloc, script, none);
-    let one = b"client 1
-ok
-client 2
-handle 1
-failed journal-full
-own 1
-null
-version 1 5
-";
-    Fixture::device()
-        .with_places(7)
-        .replies(&rt, alloc, script, one);
-}
-
-// Whether the opening was denied by the rule that is needed to become the manager.
-fn is_denied(left: &Left<&[u8], Vec<u8>, Vec<u8>>) -> bool {
-    match &left.ending {
-        Err(
-            ScriptFault::Opening(
-                Refusal::Denied(
-                    Denial::Rule {
-                        source,
-                        target,
-                        class,
-                        perm,
-                    },
-                ),
-            ),
-        ) => {
+// Whether the rule is lacking that is needed to become the manager.
+fn is_the_managers(denial: &Denial) -> bool {
+    match denial {
+        Denial::Rule {
+            source,
+            target,
+            class,
+            perm,
+        } => {
             source.bytes() == b"servicemanager".as_slice()
                 && target.bytes() == b"servicemanager".as_slice()
                 && *class == Class::Binder
@@ -192,38 +163,48 @@ fn is_denied(left: &Left<&[u8], Vec<u8>, Vec<u8>>) -> bool {
     }
 }
 
-#[test]
-fn managers_without_set_context_mgr(rt: HostRuntime) -> Result<(), Fail> {
-    let alloc = rt.alloc();
+// Runs a script that is not begun: nothing is read or written. Returns why.
+fn not_begun(rt: &impl Abort, alloc: Global, files: Files) -> &'static str {
     let script = b"hello 100 1000 u:r:system_server:s0\n".as_slice();
-    let mut plain = Vec::from_slice(alloc, &PLAIN_RULES[..64])?;
-    plain.extend_from_slice(&PLAIN_RULES[124..])?;
-    let mut device = Vec::from_slice(alloc, &DEVICE_RULES[..241])?;
-    device.extend_from_slice(&DEVICE_RULES[291..])?;
-    let policies = [
-        Fixture::new(&plain, ONE_LABEL),
-        Fixture::new(&device, DEVICE_LABELS),
-    ];
-    for policy in policies {
-        let left = policy.run(&rt, alloc, script, Vec::new(alloc));
-        assert!(rt; is_denied(&left));
-        assert_eq!(rt; left.writer.into_inner().len(), 0);
-        assert_eq!(rt; left.reader.into_inner().len(), script.len());
+    let mut reader = Counted::new(script);
+    let mut writer = Counted::new(Vec::new(alloc));
+    let ending = run_script(
+        alloc,
+        &files.source(rt, alloc),
+        files.contexts,
+        Places::new(LONGEST).expect(rt, "places"),
+        1000,
+        &mut reader,
+        &mut writer,
+        &mut Counted::new(Vec::new(alloc)),
+    );
+    assert_eq!(rt;
+        (reader.into_inner().len(), writer.into_inner().len()),
+        (script.len(), 0)
+    );
+    reason(&ending.err().expect(rt, "a fault"))
+}
+
+// A policy without the bytes of its source in this range.
+fn without(rt: &impl Abort, files: Files, from: usize, to: usize) -> Files {
+    Files {
+        rules: files.rules.get(..from).expect(rt, "a front"),
+        more: files.rules.get(to..).expect(rt, "a back"),
+        contexts: files.contexts,
     }
-    Ok(())
 }
 
 #[test]
-fn a_refused_policy_is_not_run(rt: HostRuntime) {
-    let script = b"hello 100 1000 u:r:system_server:s0\n".as_slice();
-    let policy = Fixture::new(PLAIN_RULES, DEVICE_LABELS);
-    let left = policy.run(&rt, rt.alloc(), script, Vec::new(rt.alloc()));
-    assert!(rt;
-        matches!(
-            &left.ending,
-            Err(ScriptFault::Policy(PolicyFault::UndeclaredLabel(3)))
-        )
-    );
-    assert_eq!(rt; left.writer.into_inner().len(), 0);
-    assert_eq!(rt; left.reader.into_inner().len(), script.len());
+fn scripts_that_are_not_begun(rt: HostRuntime) {
+    let undeclared = Files {
+        contexts: DEVICE_LABELS,
+        ..PLAIN
+    };
+    for (files, wanted) in [
+        (undeclared, "the label at line 3"),
+        (without(&rt, PLAIN, 64, 124), "no set_context_mgr"),
+        (without(&rt, DEVICE, 241, 291), "no set_context_mgr"),
+    ] {
+        assert_eq!(rt; not_begun(&rt, rt.alloc(), files), wanted);
+    }
 }

@@ -1,8 +1,9 @@
 //! Policies that renumber types while clients live.
 
-use crate::fixture::Fixture;
-use sm_samples::{Said, Talk};
-use std::test::Fail;
+use crate::fixture::{Files, Fixture, hold};
+use crate::parts::Part::{Lines, Reload};
+use crate::parts::Parts;
+use sm_samples::Talk;
 
 const LABELS: &[u8] = b"* u:object_r:activity_service:s0\n";
 
@@ -69,17 +70,6 @@ const THE_SAME_ANSWERS: Talk = &[
     ("3 get window", "handle 1"),
 ];
 
-#[test]
-fn types_in_another_order(rt: HostRuntime) -> Result<(), Fail> {
-    let alloc = rt.alloc();
-    let mut said = Said::new(alloc);
-    said.talk(TWO_CLIENTS)?;
-    said.reload(1, TURNED_RULES, LABELS, b"reloaded 2\n")?;
-    said.talk(THE_SAME_ANSWERS)?;
-    Fixture::new(RULES, LABELS).hears(&rt, alloc, &said);
-    Ok(())
-}
-
 const NOTHING_FOR_APPLICATIONS: Talk = &[
     (
         "2 get activity",
@@ -107,16 +97,43 @@ const APPLICATIONS_AGAIN: Talk = &[
     ),
 ];
 
+const PLAIN: Files = Files {
+    rules: RULES,
+    more: b"",
+    contexts: LABELS,
+};
+
+const TURNED: Files = Files {
+    rules: TURNED_RULES,
+    ..PLAIN
+};
+
+const WITHOUT_APPLICATIONS: Files = Files {
+    rules: RULES_WITHOUT_APPLICATIONS,
+    ..PLAIN
+};
+
+const TYPES_IN_ANOTHER_ORDER: Parts = &[
+    Lines(TWO_CLIENTS),
+    Reload(1, TURNED, b"reloaded 2\n"),
+    Lines(THE_SAME_ANSWERS),
+];
+
 // A process whose type isn't declared has no permission. Declared again, it has those that are written.
+const A_TYPE_THAT_GOES_AND_COMES_BACK: Parts = &[
+    Lines(TWO_CLIENTS),
+    Reload(1, WITHOUT_APPLICATIONS, b"reloaded 2\n"),
+    Lines(NOTHING_FOR_APPLICATIONS),
+    Reload(2, TURNED, b"reloaded 3\n"),
+    Lines(APPLICATIONS_AGAIN),
+];
+
 #[test]
-fn a_type_that_goes_and_comes_back(rt: HostRuntime) -> Result<(), Fail> {
-    let alloc = rt.alloc();
-    let mut said = Said::new(alloc);
-    said.talk(TWO_CLIENTS)?;
-    said.reload(1, RULES_WITHOUT_APPLICATIONS, LABELS, b"reloaded 2\n")?;
-    said.talk(NOTHING_FOR_APPLICATIONS)?;
-    said.reload(2, TURNED_RULES, LABELS, b"reloaded 3\n")?;
-    said.talk(APPLICATIONS_AGAIN)?;
-    Fixture::new(RULES, LABELS).hears(&rt, alloc, &said);
-    Ok(())
+fn types_with_other_numbers(rt: HostRuntime) {
+    hold(
+        &rt,
+        rt.alloc(),
+        Fixture::new(PLAIN),
+        &[TYPES_IN_ANOTHER_ORDER, A_TYPE_THAT_GOES_AND_COMES_BACK],
+    );
 }

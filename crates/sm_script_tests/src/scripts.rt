@@ -1,21 +1,19 @@
 //! Scripts and what they are answered, line by line.
 
-use crate::fixture::{Fixture, holds};
-use sm_samples::{
-    DEVICE_LABELS, ONE_LABEL, PLAIN_RULES, RULE_FOR_DEFAULTS, Talk, device_rules_with,
-};
-use std::test::Fail;
+use crate::fixture::{DEVICE_WITH_DEFAULTS, Fixture, PLAIN, hold};
+use crate::parts::Part::Lines;
+use crate::parts::Parts;
 
-const FIRST_PATH: Talk = &[
+const FIRST_PATH: Parts = &[Lines(&[
     ("hello 100 1000 u:r:system_server:s0", "client 1"),
     ("1 add activity o1 0 8", "ok"),
     ("hello 101 1000 u:r:system_server:s0", "client 2"),
     ("2 get activity", "handle 1"),
     ("1 get activity", "own 1"),
     ("2 list 8", "names 1 5 1 activity"),
-];
+])];
 
-const MISSING_RULES: Talk = &[
+const MISSING_RULES: Parts = &[Lines(&[
     ("hello 200 1000 u:r:activity_service:s0", "client 1"),
     (
         "1 get activity",
@@ -25,17 +23,9 @@ const MISSING_RULES: Talk = &[
     ("2 add activity o1 0 8", "exception -1 app 10000"),
     ("2 get activity", "null"),
     ("2 list 15", "names 1 3 0"),
-];
+])];
 
-#[test]
-fn with_plain_rules(rt: HostRuntime) -> Result<(), Fail> {
-    for talk in [FIRST_PATH, MISSING_RULES] {
-        holds(&rt, rt.alloc(), Fixture::new(PLAIN_RULES, ONE_LABEL), talk)?;
-    }
-    Ok(())
-}
-
-const ONE_HANDLE_FOR_AN_OBJECT: Talk = &[
+const ONE_HANDLE_FOR_AN_OBJECT: Parts = &[Lines(&[
     ("hello 100 1000 u:r:system_server:s0", "client 1"),
     ("1 add activity o1 0 8", "ok"),
     ("hello 200 10007 u:r:untrusted_app:s0", "client 2"),
@@ -47,10 +37,10 @@ const ONE_HANDLE_FOR_AN_OBJECT: Talk = &[
         "exception -1 denied untrusted_app servicemanager service_manager list",
     ),
     ("2 get foo", "null"),
-];
+])];
 
 // `check` means what `get` means: each one that is answered by a handle is an entry, and no other.
-const CHECKS: Talk = &[
+const CHECKS: Parts = &[Lines(&[
     ("hello 100 1000 u:r:system_server:s0", "client 1"),
     ("1 check activity", "null"),
     ("1 add activity o1 0 8", "ok"),
@@ -60,35 +50,35 @@ const CHECKS: Talk = &[
     ("2 get activity", "handle 1"),
     ("2 check foo", "null"),
     ("1 version", "version 1 6"),
-];
+])];
 
-const APPLICATIONS_OF_ANY_USER: Talk = &[
+const APPLICATIONS_OF_ANY_USER: Parts = &[Lines(&[
     ("hello 101 1010007 u:r:system_server:s0", "client 1"),
     ("1 add activity o1 0 8", "exception -1 app 1010007"),
     ("hello 102 109999 u:r:system_server:s0", "client 2"),
     ("2 add activity o1 0 8", "ok"),
-];
+])];
 
-const ISOLATED_CALLERS: Talk = &[
+const ISOLATED_CALLERS: Parts = &[Lines(&[
     ("hello 100 1000 u:r:system_server:s0", "client 1"),
     ("1 add activity o1 0 8", "ok"),
     ("hello 300 99001 u:r:isolated_app:s0", "client 2"),
     ("2 get activity", "null"),
     ("1 add activity o1 1 8", "ok"),
     ("2 get activity", "handle 1"),
-];
+])];
 
-const DUMP_FLAGS: Talk = &[
+const DUMP_FLAGS: Parts = &[Lines(&[
     ("hello 100 1000 u:r:system_server:s0", "client 1"),
     ("1 add activity o1 0 8", "ok"),
     ("1 list 15", "names 1 3 1 activity"),
     ("1 list 0", "names 1 3 0"),
     ("1 list 16", "names 1 3 0"),
     ("1 list 24", "names 1 3 1 activity"),
-];
+])];
 
 // The label is checked before the object and the name, and after the handle.
-const NAMES_WITHOUT_LABELS: Talk = &[
+const NAMES_WITHOUT_LABELS: Parts = &[Lines(&[
     ("hello 100 1000 u:r:system_server:s0", "client 1"),
     (
         "1 add foo o1 0 8",
@@ -106,10 +96,10 @@ const NAMES_WITHOUT_LABELS: Talk = &[
     ("1 add activity null 0 8", "exception -3 null-binder"),
     ("1 get foo", "null"),
     ("1 list 15", "names 1 2 0"),
-];
+])];
 
 // Each number has at most 32 bits. The last five digits of a user number say whose it is.
-const GREATEST_NUMBERS: Talk = &[
+const GREATEST_NUMBERS: Parts = &[Lines(&[
     ("hello 4294967296 1000 u:r:system_server:s0", "malformed"),
     ("hello 100 4294967296 u:r:system_server:s0", "malformed"),
     ("hello 0100 1000 u:r:system_server:s0", "malformed"),
@@ -126,9 +116,9 @@ const GREATEST_NUMBERS: Talk = &[
     ("2 list 2147483648", "names 1 4 1 activity"),
     ("4294967295 list 15", "failed not-connected"),
     ("4294967296 list 15", "malformed"),
-];
+])];
 
-const NAMES_AND_OBJECTS: Talk = &[
+const NAMES_AND_OBJECTS: Parts = &[Lines(&[
     ("hello 100 1000 u:r:system_server:s0", "client 1"),
     ("1 add % o1 0 8", "exception -3 invalid-name"),
     ("1 add %612062 o1 0 8", "exception -3 invalid-name"),
@@ -137,9 +127,9 @@ const NAMES_AND_OBJECTS: Talk = &[
     ("1 add y h9 0 8", "failed bad-handle"),
     ("1 add y o2 0 1", "ok"),
     ("1 list 15", "names 1 4 2 x y"),
-];
+])];
 
-const MALFORMED: Talk = &[
+const MALFORMED: Parts = &[Lines(&[
     ("1 get activity", "failed not-connected"),
     ("hello 100 1000 u:r", "malformed"),
     ("hello 100 1000 u:r:system_server:s0", "client 1"),
@@ -159,10 +149,10 @@ const MALFORMED: Talk = &[
     ("0 list 15", "failed not-connected"),
     ("9 take", "failed not-connected"),
     ("1 list 4294967295", "names 1 2 0"),
-];
+])];
 
 // A handle is held until it was released as often as it was given; an owner's end takes its services along.
-const HANDLES_AND_ENDS: Talk = &[
+const HANDLES_AND_ENDS: Parts = &[Lines(&[
     ("hello 100 1000 u:r:system_server:s0", "client 1"),
     ("1 add activity o1 0 8", "ok"),
     ("hello 200 10007 u:r:untrusted_app:s0", "client 2"),
@@ -178,30 +168,37 @@ const HANDLES_AND_ENDS: Talk = &[
     ("2 get activity", "null"),
     ("2 release 1", "ok"),
     ("2 version", "version 1 11"),
-];
+])];
 
 #[test]
-fn with_device_rules(rt: HostRuntime) -> Result<(), Fail> {
-    for talk in [
-        FIRST_PATH,
-        ONE_HANDLE_FOR_AN_OBJECT,
-        CHECKS,
-        APPLICATIONS_OF_ANY_USER,
-        ISOLATED_CALLERS,
-        DUMP_FLAGS,
-        NAMES_WITHOUT_LABELS,
-        GREATEST_NUMBERS,
-        MALFORMED,
-        HANDLES_AND_ENDS,
-    ] {
-        holds(&rt, rt.alloc(), Fixture::device(), talk)?;
-    }
-    Ok(())
-}
-
-#[test]
-fn with_rules_for_defaults(rt: HostRuntime) -> Result<(), Fail> {
-    let rules = device_rules_with(rt.alloc(), RULE_FOR_DEFAULTS)?;
-    let policy = Fixture::new(&rules, DEVICE_LABELS);
-    holds(&rt, rt.alloc(), policy, NAMES_AND_OBJECTS)
+fn scripts(rt: HostRuntime) {
+    hold(
+        &rt,
+        rt.alloc(),
+        Fixture::new(PLAIN),
+        &[FIRST_PATH, MISSING_RULES],
+    );
+    hold(
+        &rt,
+        rt.alloc(),
+        Fixture::device(),
+        &[
+            FIRST_PATH,
+            ONE_HANDLE_FOR_AN_OBJECT,
+            CHECKS,
+            APPLICATIONS_OF_ANY_USER,
+            ISOLATED_CALLERS,
+            DUMP_FLAGS,
+            NAMES_WITHOUT_LABELS,
+            GREATEST_NUMBERS,
+            MALFORMED,
+            HANDLES_AND_ENDS,
+        ],
+    );
+    hold(
+        &rt,
+        rt.alloc(),
+        Fixture::new(DEVICE_WITH_DEFAULTS),
+        &[NAMES_AND_OBJECTS],
+    );
 }

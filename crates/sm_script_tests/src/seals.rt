@@ -1,11 +1,11 @@
 //! Scripts in which the administrator seals the journal.
 
-use crate::fixture::{Fixture, holds};
-use sm_samples::Talk;
-use std::test::Fail;
+use crate::fixture::{Fixture, hold};
+use crate::parts::Part::Lines;
+use crate::parts::Parts;
 
 // Of four slots one is kept for the death of each live client.
-const A_JOURNAL_OF_FOUR: Talk = &[
+const A_JOURNAL_OF_FOUR: Parts = &[Lines(&[
     ("hello 100 1000 u:r:system_server:s0", "client 1"),
     ("1 add activity o1 0 8", "ok"),
     ("1 add activity o1 0 8", "failed journal-full"),
@@ -23,16 +23,10 @@ const A_JOURNAL_OF_FOUR: Talk = &[
     ("2 release 1", "failed bad-handle"),
     ("seal", "sealed 4 9"),
     ("seal", "empty"),
-];
-
-#[test]
-fn a_full_journal_is_sealed(rt: HostRuntime) -> Result<(), Fail> {
-    let policy = Fixture::device().with_places(4);
-    holds(&rt, rt.alloc(), policy, A_JOURNAL_OF_FOUR)
-}
+])];
 
 // What waits, who watches and who added a service stay; a death between two seals takes its own along.
-const WHAT_A_SEAL_KEEPS: Talk = &[
+const WHAT_A_SEAL_KEEPS: Parts = &[Lines(&[
     ("hello 100 1000 u:r:system_server:s0", "client 1"),
     ("hello 200 10007 u:r:untrusted_app:s0", "client 2"),
     ("2 watch activity o7", "ok"),
@@ -57,9 +51,11 @@ const WHAT_A_SEAL_KEEPS: Talk = &[
         "explain untrusted_app system_server binder call",
         "allowed 1 15",
     ),
-];
+])];
 
 #[test]
-fn a_seal_changes_no_answer(rt: HostRuntime) -> Result<(), Fail> {
-    holds(&rt, rt.alloc(), Fixture::device(), WHAT_A_SEAL_KEEPS)
+fn seals(rt: HostRuntime) {
+    let device = Fixture::device();
+    hold(&rt, rt.alloc(), device.with_places(4), &[A_JOURNAL_OF_FOUR]);
+    hold(&rt, rt.alloc(), device, &[WHAT_A_SEAL_KEEPS]);
 }

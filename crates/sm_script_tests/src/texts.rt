@@ -1,18 +1,19 @@
-//! Policy sources that differ in one line or word.
+//! Policy sources that differ from a device's in one line.
 
-use sm_samples::DEVICE_RULES;
-use std::alloc::{AllocError, Global};
-
-/// The rules of a device, with the first occurrence of `old` replaced.
-pub fn device_rules_but(alloc: Global, old: &[u8], new: &[u8]) -> Result<Vec<u8>, AllocError> {
-    let mut rules = Vec::new(alloc);
-    for i in 0..DEVICE_RULES.len() {
-        if let Some(behind) = DEVICE_RULES[i..].strip_prefix(old) {
-            rules.extend_from_slice(&DEVICE_RULES[..i])?;
-            rules.extend_from_slice(new)?;
-            rules.extend_from_slice(behind)?;
-            return Ok(rules);
-        }
-    }
-    Ok(rules)
-}
+/// A device's rules without the one that lets applications call the system server.
+pub const RULES_WITHOUT_CALLS: &[u8] = b"attribute domain;
+attribute binderuser;
+type servicemanager, domain;
+type system_server, domain, binderuser;
+type untrusted_app, domain, binderuser;
+type isolated_app, domain, binderuser;
+type activity_service;
+type default_android_service;
+allow servicemanager self:binder set_context_mgr;
+allow binderuser servicemanager:binder { call transfer };
+allow servicemanager binderuser:binder { call transfer };
+allow system_server activity_service:service_manager add;
+allow binderuser activity_service:service_manager find;
+allow system_server servicemanager:service_manager list;
+neverallow untrusted_app *:service_manager add;
+";
