@@ -102,97 +102,137 @@ fn are(list: &[Name], names: &[&[u8]]) -> bool {
     true
 }
 
-#[test]
-fn a_change_is_seen_after_a_meeting_and_without_one(rt: HostRuntime) {
-    let alloc = rt.alloc();
-    let who = manager(&rt, alloc);
-    let rules = policy(&rt, alloc, DEVICE_RULES);
-    let places = Places::new(1000).expect(&rt, "places");
-    meets::<Brand, _>(&rt, alloc, UnnamedRegistry::new(), who, rules, places);
+/// What is done at a door.
+#[derive(Clone, Copy)]
+enum Scene {
+    Meeting,
+    Installs,
+    Race,
 }
 
-fn meets<J: Naming, R: Wait + Abort>(
+/// Plays a scene at a door of its own.
+fn plays<R: Threads + Wait + Abort + Sync>(rt: &R, alloc: Global, scene: Scene) {
+    let who = manager(rt, alloc);
+    let rules = policy(rt, alloc, DEVICE_RULES);
+    let places = Places::new(1000).expect(rt, "places");
+    opens::<Brand, R>(rt, alloc, UnnamedRegistry::new(), who, rules, places, scene);
+}
+
+fn opens<J: Naming + Send + Sync, R: Threads + Wait + Abort + Sync>(
     rt: &R,
     alloc: Global,
     unnamed: UnnamedRegistry,
     who: Identity,
     rules: Prepared,
     places: Places,
+    scene: Scene,
 )
     requires registry { unnamed.seen.book ≡ J.registry }
     requires opening { J.opening ≡ opened places who rules }
 {
-    let (door, mut seats, mut admins) = Door::<J, NoGate>::open(
+    let (door, mut seats, admins) = Door::<J, NoGate>::open(
         rt, alloc, unnamed, who, rules, places, NoGate,
     ).ok()
         .expect(rt, "a door");
-    let mut admin = admins.pop().expect(rt, "an administrator");
-    let mut a = joined(rt, &door, seats.pop(), server(rt, alloc, 100));
-    let mut b = joined(rt, &door, seats.pop(), server(rt, alloc, 101));
-    assert!(rt; a.client().0 == 1);
-    assert!(rt; b.client().0 == 2);
-    assert!(rt; is_added(&door.submit(rt, &mut a, activity(rt, alloc))));
-    assert!(rt; lists(&door.list(&mut a, 15), 4, &[b"activity"]));
-    door.meet(rt, &mut a, &mut b);
-    assert!(rt; lists(&door.list(&mut b, 15), 4, &[b"activity"]));
-    assert!(rt; is_added(&door.submit(rt, &mut a, activity(rt, alloc))));
-    assert!(rt; lists(&door.list(&mut b, 15), 5, &[b"activity"]));
-    door.meet_admin(rt, &mut admin, &mut a);
-    assert!(rt; is_version(&door.version(&mut admin), 1, 5));
-    let stricter = policy(rt, alloc, STRICTER_RULES);
-    assert!(rt; matches!(door.install(rt, &mut admin, 1, stricter), Ok(2)));
-    door.meet_admin(rt, &mut admin, &mut a);
-    assert!(rt; is_version(&door.version(&mut a), 2, 6));
+    match scene {
+        Scene::Meeting => meets(rt, alloc, &door, &mut seats, admins),
+        Scene::Installs => grows(rt, alloc, &door, admins),
+        Scene::Race => rivals(rt, alloc, &door, admins),
+    }
     door.close(rt);
 }
 
 #[test]
+fn a_change_is_seen_after_a_meeting_and_without_one(rt: HostRuntime) {
+    plays(&rt, rt.alloc(), Scene::Meeting);
+}
+
+fn meets<J: Naming, R: Wait + Abort>(
+    rt: &R,
+    alloc: Global,
+    door: &Door<J, NoGate>,
+    seats: &mut Vec<Seat<J>>,
+    mut admins: Vec<Admin<J>>,
+) {
+    let mut admin = admins.pop().expect(rt, "an administrator");
+    let mut a = joined(rt, door, seats.pop(), server(rt, alloc, 100));
+    let mut b = joined(rt, door, seats.pop(), server(rt, alloc, 101));
+    assert_eq!(rt; (a.client().0, b.client().0), (1, 2));
+    adds_activity(rt, alloc, door, &mut a);
+    lists_activity(rt, door, &mut a, 4);
+    door.meet(rt, &mut a, &mut b);
+    lists_activity(rt, door, &mut b, 4);
+    adds_activity(rt, alloc, door, &mut a);
+    lists_activity(rt, door, &mut b, 5);
+    door.meet_admin(rt, &mut admin, &mut a);
+    has_version(rt, &door.version(&mut admin), 1, 5);
+    let stricter = policy(rt, alloc, STRICTER_RULES);
+    assert!(rt; matches!(door.install(rt, &mut admin, 1, stricter), Ok(2)));
+    door.meet_admin(rt, &mut admin, &mut a);
+    has_version(rt, &door.version(&mut a), 2, 6);
+}
+
+fn adds_activity<J: Naming, R: Wait + Abort>(
+    rt: &R,
+    alloc: Global,
+    door: &Door<J, NoGate>,
+    me: &mut Session<J>,
+) {
+    assert!(rt; is_added(&door.submit(rt, me, activity(rt, alloc))));
+}
+
+fn lists_activity<J: Naming, R: Abort>(
+    rt: &R,
+    door: &Door<J, NoGate>,
+    me: &mut Session<J>,
+    entries: u64,
+) {
+    assert!(rt; lists(&door.list(me, 15), entries, &[b"activity"]));
+}
+
+#[test]
 fn versions_never_go_back(rt: HostRuntime) {
-    let alloc = rt.alloc();
-    let who = manager(&rt, alloc);
-    let rules = policy(&rt, alloc, DEVICE_RULES);
-    let places = Places::new(1000).expect(&rt, "places");
-    grows::<Brand, _>(&rt, alloc, UnnamedRegistry::new(), who, rules, places);
+    plays(&rt, rt.alloc(), Scene::Installs);
 }
 
 fn grows<J: Naming + Send + Sync, R: Threads + Wait + Abort + Sync>(
     rt: &R,
     alloc: Global,
-    unnamed: UnnamedRegistry,
-    who: Identity,
-    policy: Prepared,
-    places: Places,
-)
-    requires registry { unnamed.seen.book ≡ J.registry }
-    requires opening { J.opening ≡ opened places who policy }
-{
-    let (door, _seats, mut admins) = Door::<J, NoGate>::open(
-        rt, alloc, unnamed, who, policy, places, NoGate,
-    ).ok()
-        .expect(rt, "a door");
+    door: &Door<J, NoGate>,
+    mut admins: Vec<Admin<J>>,
+) {
     let first = admins.pop().expect(rt, "an administrator");
     let readers = Mutex::new(admins);
-    assert!(rt; all_at_once(rt, alloc, &door, first, &readers));
-    let mut left = readers.into_inner();
-    let mut one = left.pop().expect(rt, "a reader that saw what it should");
-    let mut two = left.pop().expect(rt, "a reader that saw what it should");
-    let mut three = left.pop().expect(rt, "a reader that saw what it should");
-    assert!(rt; is_version(&door.version(&mut one), 101, 101));
-    assert!(rt; is_version(&door.version(&mut two), 101, 101));
-    let reply = finds(rt, alloc, &door, &mut three);
-    assert!(rt; rightly_found(&reply) == Some(101));
-    door.close(rt);
+    assert!(rt; all_at_once(rt, alloc, door, first, &readers));
+    see_the_last(rt, alloc, door, readers.into_inner());
 }
 
-fn is_version(reply: &Reply, wanted: u64, entries: u64) -> bool {
-    match reply {
+/// Three readers are left, and they see the last version.
+fn see_the_last<J: Naming, R: Abort>(
+    rt: &R,
+    alloc: Global,
+    door: &Door<J, NoGate>,
+    mut left: Vec<Admin<J>>,
+) {
+    for _ in 0..2 {
+        let mut reader = left.pop().expect(rt, "a reader that saw what it should");
+        has_version(rt, &door.version(&mut reader), 101, 101);
+    }
+    let mut reader = left.pop().expect(rt, "a reader that saw what it should");
+    let reply = finds(rt, alloc, door, &mut reader);
+    assert_eq!(rt; rightly_found(&reply), Some(101));
+}
+
+fn has_version(rt: &impl Abort, reply: &Reply, wanted: u64, entries: u64) {
+    let found = match reply {
         Reply::Looked {
             version,
             length,
             answer: Answer::Version,
-        } => *version == wanted && *length == entries,
-        _ => false,
-    }
+        } => Some((*version, *length)),
+        _ => None,
+    };
+    assert_eq!(rt; found, Some((wanted, entries)));
 }
 
 /// Which rule lets an untrusted application find `activity`.
@@ -356,36 +396,22 @@ impl Race {
 
 #[test]
 fn one_of_two_installs_is_done(rt: HostRuntime) {
-    let alloc = rt.alloc();
-    let who = manager(&rt, alloc);
-    let rules = policy(&rt, alloc, DEVICE_RULES);
-    let places = Places::new(1000).expect(&rt, "places");
-    rivals::<Brand, _>(&rt, alloc, UnnamedRegistry::new(), who, rules, places);
+    plays(&rt, rt.alloc(), Scene::Race);
 }
 
 fn rivals<J: Naming + Send + Sync, R: Threads + Wait + Abort + Sync>(
     rt: &R,
     alloc: Global,
-    unnamed: UnnamedRegistry,
-    who: Identity,
-    rules: Prepared,
-    places: Places,
-)
-    requires registry { unnamed.seen.book ≡ J.registry }
-    requires opening { J.opening ≡ opened places who rules }
-{
-    let (door, _seats, mut admins) = Door::<J, NoGate>::open(
-        rt, alloc, unnamed, who, rules, places, NoGate,
-    ).ok()
-        .expect(rt, "a door");
+    door: &Door<J, NoGate>,
+    mut admins: Vec<Admin<J>>,
+) {
     let first = admins.pop().expect(rt, "an administrator");
     let second = admins.pop().expect(rt, "an administrator");
     let mut third = admins.pop().expect(rt, "an administrator");
     let installs = Race::new();
-    assert!(rt; both_install(rt, alloc, &door, first, second, &installs));
+    assert!(rt; both_install(rt, alloc, door, first, second, &installs));
     assert!(rt; installs.is_one_of_two());
-    assert!(rt; is_version(&door.version(&mut third), 2, 2));
-    door.close(rt);
+    has_version(rt, &door.version(&mut third), 2, 2);
 }
 
 /// Two administrators install over one version at once. Whether both threads ran.
@@ -418,59 +444,26 @@ fn both_install<J: Naming + Send + Sync, R: Threads + Wait + Abort + Sync>(
         started = scope
             .spawn(move || {
                 let mut first = first;
-                install_stricter(rt, alloc, door, &mut first, installs);
+                install_over_first(rt, alloc, door, &mut first, STRICTER_RULES, false, installs);
             })
             .is_ok();
-        install_device(rt, alloc, door, &mut second, installs);
+        install_over_first(rt, alloc, door, &mut second, DEVICE_RULES, true, installs);
     });
     started
 }
 
-fn install_stricter<J: Naming, R: Wait + Abort>(
+/// Race the policy of these rules over version 1. One that comes back decides whether an untrusted application may find
+/// `activity` as the one that was passed.
+fn install_over_first<J: Naming, R: Wait + Abort>(
     rt: &R,
     alloc: Global,
     door: &Door<J, NoGate>,
     me: &mut Admin<J>,
-    installs: &Race,
-) {
-    install_over_first(
-        rt,
-        door,
-        me,
-        policy(rt, alloc, STRICTER_RULES),
-        false,
-        installs,
-    );
-}
-
-fn install_device<J: Naming, R: Wait + Abort>(
-    rt: &R,
-    alloc: Global,
-    door: &Door<J, NoGate>,
-    me: &mut Admin<J>,
-    installs: &Race,
-) {
-    install_over_first(
-        rt,
-        door,
-        me,
-        policy(rt, alloc, DEVICE_RULES),
-        true,
-        installs,
-    );
-}
-
-/// Race a policy over version 1. One that comes back decides whether an untrusted application may find `activity`
-/// as the one that was passed.
-fn install_over_first<J: Naming, R: Wait>(
-    rt: &R,
-    door: &Door<J, NoGate>,
-    me: &mut Admin<J>,
-    policy: Prepared,
+    rules: &[u8],
     finds: bool,
     installs: &Race,
 ) {
-    match door.install(rt, me, 1, policy) {
+    match door.install(rt, me, 1, policy(rt, alloc, rules)) {
         Ok(2) => {
             installs.done.fetch_add(1, Ordering::SeqCst);
         }
