@@ -95,7 +95,7 @@ fn declare_names(text: &mut Vec<u8>, keyword: &[u8], count: u32) -> Result<(), A
     Ok(())
 }
 
-/// The number of names that are declared in a text of so many declarations, or its fault.
+/// The number of names that are declared in a text with this many declarations, or its fault.
 fn declared(
     rt: &impl Abort,
     alloc: Global,

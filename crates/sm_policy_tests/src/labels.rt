@@ -147,7 +147,7 @@ fn labels(rt: HostRuntime) {
     assert_eq!(rt; contexts.count(), 3);
 }
 
-/// The number of keys in a text of so many entry lines, or its fault.
+/// The number of keys in a text with this many entry lines, or its fault.
 fn keys(rt: &impl Abort, alloc: Global, count: u32) -> Result<u32, ContextsFault> {
     let mut text = Vec::new(alloc);
     let added = add_entry_lines(&mut text, count);

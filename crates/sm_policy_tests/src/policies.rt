@@ -251,7 +251,7 @@ fn types_by_number(rt: HostRuntime) {
     }
 }
 
-/// A rule whose source is in so many braces.
+/// A rule whose source is nested this deep in braces.
 fn add_nested(text: &mut Vec<u8>, depth: u32) -> Result<(), AllocError> {
     text.extend_from_slice(b"type a;\nallow ")?;
     repeated(text, b"{", depth)?;

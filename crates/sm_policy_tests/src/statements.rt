@@ -208,7 +208,7 @@ fn permissive_and_dontaudit(rt: HostRuntime) {
     );
 }
 
-/// The number of statements in a text of a first piece and so many of a second, or its fault.
+/// The number of statements in a text, or its fault: a first piece, then the second repeated.
 fn count_of(
     rt: &impl Abort,
     alloc: Global,

@@ -107,7 +107,7 @@ const PHONE_RULES: [(u32, &[u8]); 4] = [
     ),
 ];
 
-// Appends lines. In the Ith repetition, signs stand for these numbers.
+// Appends lines. In the Ith repetition, signs are replaced by these numbers.
 fn push_rules(text: &mut Vec<u8>, lines: &[u8], i: u32) -> Result<(), AllocError> {
     for byte in lines {
         let number = match byte {

@@ -43,7 +43,7 @@ const A_SERVICE: Parts = &[Lines(&[
     ("1 add activity o1 0 8", "ok"),
 ])];
 
-// Runs a script that is read in pieces of at most so many bytes.
+// Runs a script that is read in pieces of `most` bytes.
 fn hears_pieces(rt: &impl Abort, alloc: Global, said: &Said, most: usize) {
     let mut reader = Pieces {
         inner: said.script.as_slice(),

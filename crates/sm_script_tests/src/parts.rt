@@ -13,7 +13,7 @@ pub enum Part {
     Lines(Talk),
     /// Bytes of the script, and of the answers.
     Bytes(&'static [u8], &'static [u8]),
-    /// The same, repeated the given number of times. Each `#` stands for the number of the repetition, from 1.
+    /// The same, repeated the given number of times. Each `#` is replaced by the number of the repetition, from 1.
     Repeat(u32, &'static [u8], &'static [u8]),
     /// A `reload` line that expects this version, with these files, and what answers it.
     Reload(u64, Files, &'static [u8]),
@@ -45,7 +45,7 @@ fn push(rt: &impl Abort, alloc: Global, said: &mut Said, part: Part) -> Result<(
     }
 }
 
-/// Appends these bytes so many times, each `#` as the number of the repetition.
+/// Appends these bytes `count` times, with each `#` replaced by the number of the repetition.
 pub fn repeat(
     said: &mut Said,
     count: u32,
