@@ -102,7 +102,7 @@ fn are(list: &[Name], names: &[&[u8]]) -> bool {
     true
 }
 
-/// What is done at a door.
+/// What a test does at a door of its own.
 #[derive(Clone, Copy)]
 enum Scene {
     Meeting,
@@ -452,8 +452,8 @@ fn both_install<J: Naming + Send + Sync, R: Threads + Wait + Abort + Sync>(
     started
 }
 
-/// Race the policy of these rules over version 1. One that comes back decides whether an untrusted application may find
-/// `activity` as the one that was passed.
+/// Installs the policy of these rules over version 1, as another administrator does. A policy that is returned decides
+/// whether an untrusted application may find `activity` as the one that was passed.
 fn install_over_first<J: Naming, R: Wait + Abort>(
     rt: &R,
     alloc: Global,

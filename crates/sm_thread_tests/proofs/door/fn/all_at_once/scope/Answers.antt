@@ -23,7 +23,9 @@ sends-requires-3-send-X g c κs within =
 pub sends-requires-8-send-X : goal.sends-requires-8-send-X
 sends-requires-8-send-X g c κs within =
     let J = param 0 g.row.J in
-    let shared_view : IsSend (shared_view_row J g.J.Naming) = search (sendable, crosses, c.crosses-4.ensures.0) depth 60 fits 20000 in
+    let shared_view : IsSend (shared_view_row J g.J.Naming) =
+    search (sendable, crosses, c.crosses-4.ensures.0) depth 60 fits 20000 in
     let w : IsSend (writer_row J g.J.Naming) = search (sendable, crosses, c.sends-5.ensures) depth 60 fits 20000 in
-    let registry : IsSend (Registry.the_row J g.J.Naming) = search (sendable, crosses, c.sends-7.ensures) depth 60 fits 20000 in
+    let registry : IsSend (Registry.the_row J g.J.Naming) =
+    search (sendable, crosses, c.sends-7.ensures) depth 60 fits 20000 in
     param_send 0 _ (arg_send _ no _ (locked_send J g.J.Naming manager_send registry shared_view w))
