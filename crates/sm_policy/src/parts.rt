@@ -35,7 +35,8 @@ impl Model for Parts {
     ghost view = { λ p. record { statements = p.statements.value.items; entries = p.labels.contexts } };
 
     ghost invariant = { λ p.
-        AreOneText p.statements.value.items p.labels.contexts p.types p.rules p.vectors p.counts p.labels.indexes.items };
+        AreOneText p.statements.value.items p.labels.contexts p.types p.rules p.vectors p.counts
+        p.labels.indexes.items };
 }
 
 /// Keeps the statements for contracts, and drops them.
