@@ -23,10 +23,10 @@ use Rattle.sm_history.specs.Checks.{answer_of}
 use Rattle.sm_history.specs.Histories.{History}
 use Rattle.sm_history.specs.Queries.{checks_of_query, looked, query_verdict}
 use Rattle.sm_history.specs.Records.{moment_of, records, query_records}
-use Rattle.sm_view.specs.Replies.{takes_memory}
+use Rattle.sm_history.specs.PossibleReplies.{takes_memory}
 use Rattle.sm_core.specs.Judging.{Halts, AllPass, asked, IsAskerStop, wanted}
 use Rattle.sm_core.specs.Managed.{is_memory, look_leaves}
-use Rattle.sm_view.specs.Promises.{Looks}
+use Rattle.sm_history.specs.Promises.{Looks}
 use Rattle.sm_core.proofs.Stopping.{failing_is, left_is}
 use Rattle.sm_core.proofs.Keeping.{stop_records}
 

@@ -15,8 +15,8 @@ ghost use Rattle.sm_core.specs.Kept.{Kept};
 ghost use Rattle.sm_core.specs.Managed.{look_leaves};
 ghost use Rattle.sm_core.specs.Stands.{Stands, sets_in};
 ghost use Rattle.sm_core.specs.Viewing.{IsComing, StandPrincipals};
-ghost use Rattle.sm_view.specs.Begins.{IsLawfulBook};
-ghost use Rattle.sm_view.specs.Promises.{Looks};
+ghost use Rattle.sm_history.specs.BookOrder.{IsLawfulBook};
+ghost use Rattle.sm_history.specs.Promises.{Looks};
 
 use crate::journal::Journal;
 use crate::listed::{moves_any_services, services_after};

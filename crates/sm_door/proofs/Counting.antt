@@ -2,7 +2,7 @@
 use Rattle.std.proofs.Common.{◌≡◌, ℕ, ◌+◌, [], ◌∷◌, ◌++◌, refl}
 use Rattle.sm_history.specs.declared.by.By.TheVariants.{Manager, Admin}
 use Rattle.sm_history.specs.Books.{Book}
-use Rattle.sm_view.specs.Tokens.{token}
+use Rattle.sm_history.specs.Tokens.{token}
 use Rattle.sm_door.specs.Opening.{new_seats, new_admins}
 use native.Mathlib.Numerals.{unary_clauses}
 

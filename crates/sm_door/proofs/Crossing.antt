@@ -5,8 +5,8 @@ use denote.Struct.Field as Field
 use denote.Struct.Declared as struct
 use denote.Enum.Declared as enum
 use Rattle.std.proofs.Crossing.{crosses}
-use Rattle.sm_registry.specs.declared.registry.Naming.{Ghosts}
-use Rattle.sm_registry.specs.contracts.registry.Registry as Registry
+use Rattle.sm_door.specs.declared.registry.Naming.{Ghosts}
+use Rattle.sm_door.specs.contracts.registry.Registry as Registry
 use Rattle.sm_history.specs.contracts.by.By as By
 use Rattle.sm_core.specs.contracts.view.View as View
 use Rattle.sm_core.specs.contracts.manager.Manager as Manager

@@ -1,3 +1,4 @@
+mod Adding
 mod Places
 mod Logging
 mod Counting

@@ -11,12 +11,12 @@ use Rattle.sm_history.specs.declared.reply.Reply.TheVariants.{Done, GotNull, Got
 use Rattle.sm_history.specs.Books.{Book}
 use Rattle.sm_history.specs.Verdict.{verdict}
 use Rattle.sm_core.specs.Managed.{step_leaves}
-use Rattle.sm_view.specs.Begins.{Begins}
-use Rattle.sm_view.specs.Replies.{moves}
-use Rattle.sm_view.specs.Steps.{Steps, book_after, made}
-use Rattle.sm_view.specs.Tokens.{Knows, Sees, turn}
-use Rattle.sm_view.proofs.Books.{before_change, book_itself}
-use Rattle.sm_view.proofs.Verdicts.{done_in_turn, not_yours_leaves}
+use Rattle.sm_history.specs.BookOrder.{Begins}
+use Rattle.sm_history.specs.PossibleReplies.{moves}
+use Rattle.sm_history.specs.Steps.{Steps, book_after, made}
+use Rattle.sm_history.specs.Tokens.{Knows, Sees, turn}
+use Rattle.sm_history.proofs.BookOrder.{before_change, book_itself}
+use Rattle.sm_history.proofs.Turns.{done_in_turn, not_yours_leaves}
 use Rattle.sm_door.specs.Logged.{Logged}
 
 module _ (b after : Book) (old new : Knows) (event : Event) (sees : Sees old after new) (log : List Record) where

@@ -20,9 +20,9 @@ use Rattle.sm_history.specs.declared.reply.Reply.{Reply}
 use Rattle.sm_history.specs.declared.reply.Reply.TheVariants.{Done, Refused}
 use Rattle.sm_audit.specs.Rings.{newest_of}
 use Rattle.sm_core.specs.Managed.{IsSame, IsAnswer, ring_after, step_leaves}
-use Rattle.sm_view.specs.Begins.{Begins}
-use Rattle.sm_view.specs.Steps.{Steps, Seals}
-use Rattle.sm_view.proofs.Books.{book_itself, book_through}
+use Rattle.sm_history.specs.BookOrder.{Begins}
+use Rattle.sm_history.specs.Steps.{Steps, Seals}
+use Rattle.sm_history.proofs.BookOrder.{book_itself, book_through}
 use Rattle.sm_door.specs.declared.published.ReaderKnowledge.{ReaderKnowledge}
 use Rattle.sm_door.specs.Rule.{Keeps, Enters, known}
 

@@ -1,3 +1,4 @@
+pub mod Registries
 pub mod Rule
 pub mod Opening
 pub mod SeatsOrSessions

@@ -8,10 +8,10 @@ use Rattle.sm_history.specs.declared.records.Record.{Record}
 use Rattle.sm_history.specs.declared.refusal.Refusal.TheVariants.{NoSeat}
 use Rattle.sm_history.specs.declared.reply.Reply.{Reply}
 use Rattle.sm_history.specs.declared.reply.Reply.TheVariants.{Refused}
-use Rattle.sm_view.specs.Begins.{Begins}
-use Rattle.sm_view.specs.Promises.{Looks}
-use Rattle.sm_view.specs.Steps.{book_after}
-use Rattle.sm_view.specs.Tokens.{Grows, Knows, turn}
+use Rattle.sm_history.specs.BookOrder.{Begins}
+use Rattle.sm_history.specs.Promises.{Looks}
+use Rattle.sm_history.specs.Steps.{book_after}
+use Rattle.sm_history.specs.Tokens.{Grows, Knows, turn}
 
 -- The records are those of the event, with this answer, in a book that begins with all that the token had seen. The
 -- token now sees that book, with the event's change if the event was done.

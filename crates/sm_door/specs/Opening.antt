@@ -2,7 +2,7 @@
 use Rattle.std.specs.Prelude.{ℕ, zero, suc, List, [], ◌∷◌, ◌++◌}
 use Rattle.sm_history.specs.declared.by.By.TheVariants.{Manager, Admin}
 use Rattle.sm_history.specs.Books.{Book}
-use Rattle.sm_view.specs.Tokens.{Knows, token}
+use Rattle.sm_history.specs.Tokens.{Knows, token}
 
 -- These are n free seats, which are the manager's tokens.
 unfoldable pub new_seats : Book → ℕ → List Knows

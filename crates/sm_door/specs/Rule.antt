@@ -3,7 +3,7 @@ use Rattle.std.specs.Prelude.{◌≡◌, ℕ, ◌+◌, List}
 use mathlib.Core.Option.{some}
 use lib.ListN.{get_elem?}
 use Rattle.sm_history.specs.Books.{Book}
-use Rattle.sm_view.specs.Begins.{Begins}
+use Rattle.sm_history.specs.BookOrder.{Begins}
 use Rattle.sm_door.specs.declared.published.ReaderKnowledge.{ReaderKnowledge}
 
 -- A slot knows this book and has read this often.

@@ -2,7 +2,7 @@
 use Rattle.std.specs.Prelude.{Option, Some, None}
 use Rattle.sm_kinds.specs.declared.number.ClientId.{ClientId}
 use Rattle.sm_history.specs.declared.by.By.TheVariants.{Manager}
-use Rattle.sm_view.specs.Tokens.{Knows, token}
+use Rattle.sm_history.specs.Tokens.{Knows, token}
 
 -- Without a client the token is the manager's, which connects one.
 abbrev pub sits : Option ClientId → Knows → Knows

@@ -3,16 +3,16 @@
 ghost use Rattle.std.specs.Prelude.{◌≡◌, [], MatchOption};
 ghost use Rattle.left_right.specs.Sides.{view as place_view};
 ghost use Rattle.sm_history.specs.Histories.{turn_of};
-ghost use Rattle.sm_view.specs.Begins.{IsLawfulBook};
-ghost use Rattle.sm_view.specs.Promises.{Read};
-ghost use Rattle.sm_view.specs.Tokens.{Sees as SeesNow, token, turn};
+ghost use Rattle.sm_history.specs.BookOrder.{IsLawfulBook};
+ghost use Rattle.sm_history.specs.Promises.{Read};
+ghost use Rattle.sm_history.specs.Tokens.{Sees as SeesNow, token, turn};
 ghost use Rattle.sm_door.specs.Logged.{ReadFrom, ReadLogged};
 ghost use Rattle.sm_door.specs.Rule.{known};
 
 use crate::locked_manager::LockedManager;
 use crate::published::{Sees, ViewReader};
+use crate::registry::Naming;
 use sm_history::{By, Query, Record, Refusal, Reply};
-use sm_registry::Naming;
 use std::alloc::Global;
 use std::marker::Model;
 use std::sync::Wait;
@@ -32,8 +32,8 @@ impl<J: Naming> Model for Actor<J> {
     ghost use Rattle.std.specs.Prelude.{◌≡◌, MatchOption};
     ghost use Rattle.left_right.specs.Sides.{view as place_view};
     ghost use Rattle.sm_history.specs.Histories.{turn_of};
-    ghost use Rattle.sm_view.specs.Begins.{IsLawfulBook};
-    ghost use Rattle.sm_view.specs.Tokens.{Knows, token, at_or};
+    ghost use Rattle.sm_history.specs.BookOrder.{IsLawfulBook};
+    ghost use Rattle.sm_history.specs.Tokens.{Knows, token, at_or};
     ghost use Rattle.sm_door.specs.Rule.{known};
 
     ghost Value = { Knows };

@@ -4,8 +4,8 @@ ghost use Rattle.std.specs.Prelude.{◌≡◌};
 ghost use Rattle.sm_history.specs.declared.by.By.TheVariants.{Admin as TheAdmin};
 
 use crate::actor::Actor;
+use crate::registry::Naming;
 use sm_kinds::AdminId;
-use sm_registry::Naming;
 use std::marker::Model;
 
 /// An administrator's token. It can't be copied, and serves the door that made it.
@@ -19,7 +19,7 @@ pub struct Admin<J: Naming> {
 impl<J: Naming> Model for Admin<J> {
     ghost use Rattle.std.specs.Prelude.{◌≡◌};
     ghost use Rattle.sm_history.specs.declared.by.By.TheVariants.{Admin as TheAdmin};
-    ghost use Rattle.sm_view.specs.Tokens.{Knows};
+    ghost use Rattle.sm_history.specs.Tokens.{Knows};
 
     ghost Value = { Knows };
 

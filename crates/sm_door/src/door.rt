@@ -14,9 +14,9 @@ ghost use Rattle.sm_history.specs.Checks.{managing};
 ghost use Rattle.sm_history.specs.Lawful.{MayOpen};
 ghost use Rattle.sm_history.specs.Verdict.{is_die};
 ghost use Rattle.sm_core.specs.Opening.{opened, opening_denial};
-ghost use Rattle.sm_view.specs.Promises.{Submitted, Accepted, Read, Joined, TellsRecords, Turned, Closed, NotClosed};
-ghost use Rattle.sm_view.specs.Replies.{OfConnect, OfLeave, OfInstall};
-ghost use Rattle.sm_view.specs.Tokens.{Grows, token};
+ghost use Rattle.sm_history.specs.Promises.{Submitted, Accepted, Read, Joined, TellsRecords, Turned, Closed, NotClosed};
+ghost use Rattle.sm_history.specs.PossibleReplies.{OfConnect, OfLeave, OfInstall};
+ghost use Rattle.sm_history.specs.Tokens.{Grows, token};
 ghost use Rattle.sm_history.specs.declared.limits.TheConstants.{MOST_CLIENTS};
 ghost use Rattle.sm_door.specs.declared.opening.TheConstants.{ADMINS};
 ghost use Rattle.sm_door.specs.Logged.{Logged, ReadLogged};
@@ -28,17 +28,19 @@ use crate::locked_manager::LockedManager;
 use crate::opening::{tokens_of, writer_of};
 use crate::published::Published;
 use crate::publisher::Publisher;
+use crate::registry::{Naming, UnnamedRegistry};
 use crate::seat::Seat;
 use crate::session::Session;
 use crate::shared_view::SharedView;
 use crate::token::Token;
 use left_right::Absorb;
 use sm_core::{Manager, View};
-use sm_history::{By, Event, Failure, Query, Record, Refusal, Reply, Segment};
+use sm_history::{
+    By, Event, Failure, Gate, Query, Record, Refusal, Reply, Segment, connected, installed,
+    is_death, left, moves,
+};
 use sm_kinds::{Class, Identity, Name, Perms, Places};
 use sm_policy::Prepared;
-use sm_registry::{Naming, UnnamedRegistry};
-use sm_view::{Gate, connected, installed, is_death, left, moves};
 use std::alloc::{AllocError, Global};
 use std::sync::{Arc, Mutex, MutexGuard, Wait};
 

@@ -5,19 +5,19 @@ ghost use Rattle.sm_history.specs.declared.refusal.Refusal.TheVariants.{Memory, 
 ghost use Rattle.std.specs.Arc.{arc_value};
 ghost use Rattle.sm_history.specs.declared.limits.TheConstants.{MOST_CLIENTS};
 ghost use Rattle.sm_history.specs.declared.by.By.TheVariants.{Manager as TheManager, Admin as TheAdmin};
-ghost use Rattle.sm_view.specs.Tokens.{token};
+ghost use Rattle.sm_history.specs.Tokens.{token};
 ghost use Rattle.sm_door.specs.declared.opening.TheConstants.{ADMINS};
 ghost use Rattle.sm_door.specs.Opening.{new_seats, new_admins};
 
 use crate::actor::Actor;
 use crate::admin::Admin;
 use crate::published::{Published, ViewWriter};
+use crate::registry::Naming;
 use crate::seat::Seat;
 use crate::shared_view::SharedView;
 use sm_core::Manager;
 use sm_history::{By, MOST_CLIENTS, Refusal};
 use sm_kinds::AdminId;
-use sm_registry::Naming;
 use std::alloc::{AllocError, Global};
 use std::sync::Arc;
 

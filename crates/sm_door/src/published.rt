@@ -1,12 +1,13 @@
 //! The published shared view, and the rule over what reader slots have seen.
 
+use crate::registry::Naming;
+use crate::registry_rule::Shows as ShowsBook;
 use crate::shared_view::SharedView;
 use crossbeam_utils::rule::{Outcome, Protocol};
 use left_right::Absorb;
 use left_right::reader::Reader;
 use left_right::writer::Writer;
 use sm_core::View;
-use sm_registry::{Naming, Shows as ShowsBook};
 use std::alloc::AllocError;
 use std::marker::PhantomData;
 use std::sync::Arc;

@@ -3,13 +3,13 @@
 ghost use Rattle.std.specs.Prelude.{◌≡◌, None, Some, MatchResult};
 ghost use Rattle.std.specs.Arc.{arc_value};
 ghost use Rattle.left_right.specs.Sides.{view as place_view};
-ghost use Rattle.sm_view.specs.Begins.{Begins};
+ghost use Rattle.sm_history.specs.BookOrder.{Begins};
 
 use crate::published::{Published, Publishes, Sees, ViewReader, ViewWriter};
+use crate::registry::{Naming, Registry};
 use crate::shared_view::SharedView;
 use left_right::Absorb;
 use sm_core::View;
-use sm_registry::{Naming, Registry};
 use std::alloc::{AllocError, Global};
 use std::marker::Model;
 use std::sync::{Arc, Wait};

@@ -3,13 +3,13 @@
 ghost use Rattle.std.specs.Prelude.{◌≡◌};
 ghost use Rattle.sm_history.specs.declared.by.By.TheVariants.{Manager, Client};
 ghost use Rattle.sm_history.specs.Histories.{turn_of};
-ghost use Rattle.sm_view.specs.Tokens.{token};
+ghost use Rattle.sm_history.specs.Tokens.{token};
 
 use crate::actor::Actor;
+use crate::registry::Naming;
 use crate::session::Session;
 use sm_history::By;
 use sm_kinds::ClientId;
-use sm_registry::Naming;
 use std::marker::Model;
 
 /// A free seat for a client. It can't be copied, and serves the door that made it. Contracts see it as a token of the
@@ -21,7 +21,7 @@ pub struct Seat<J: Naming> {
 
 impl<J: Naming> Model for Seat<J> {
     ghost use Rattle.sm_history.specs.declared.by.By.TheVariants.{Manager};
-    ghost use Rattle.sm_view.specs.Tokens.{Knows, token};
+    ghost use Rattle.sm_history.specs.Tokens.{Knows, token};
 
     ghost Value = { Knows };
 

@@ -3,10 +3,10 @@
 ghost use Rattle.std.specs.Prelude.{◌≡◌, MatchResult};
 
 use crate::actor::Actor;
+use crate::registry::Naming;
 use crate::seat::Seat;
 use crate::session::Session;
 use sm_kinds::ClientId;
-use sm_registry::Naming;
 use std::marker::Model;
 
 /// A client's slot at the door, with or without a client: what a server keeps for a connection that may have sent
@@ -20,7 +20,7 @@ pub struct SeatOrSession<J: Naming> {
 impl<J: Naming> Model for SeatOrSession<J> {
     ghost use Rattle.std.specs.Prelude.{◌≡◌, MatchOption};
     ghost use Rattle.sm_history.specs.declared.by.By.TheVariants.{Client};
-    ghost use Rattle.sm_view.specs.Tokens.{Knows};
+    ghost use Rattle.sm_history.specs.Tokens.{Knows};
     ghost use Rattle.sm_door.specs.SeatsOrSessions.{sits};
 
     ghost Value = { Knows };

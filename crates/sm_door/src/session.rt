@@ -2,12 +2,12 @@
 
 ghost use Rattle.std.specs.Prelude.{◌≡◌};
 ghost use Rattle.sm_history.specs.declared.by.By.TheVariants.{Manager, Client};
-ghost use Rattle.sm_view.specs.Tokens.{token};
+ghost use Rattle.sm_history.specs.Tokens.{token};
 
 use crate::actor::Actor;
+use crate::registry::Naming;
 use crate::seat::Seat;
 use sm_kinds::ClientId;
-use sm_registry::Naming;
 use std::marker::Model;
 
 /// A connected client's token. It can't be copied, and serves the door that made it. A session that is dropped without
@@ -21,7 +21,7 @@ pub struct Session<J: Naming> {
 impl<J: Naming> Model for Session<J> {
     ghost use Rattle.std.specs.Prelude.{◌≡◌};
     ghost use Rattle.sm_history.specs.declared.by.By.TheVariants.{Client};
-    ghost use Rattle.sm_view.specs.Tokens.{Knows};
+    ghost use Rattle.sm_history.specs.Tokens.{Knows};
 
     ghost Value = { Knows };
 

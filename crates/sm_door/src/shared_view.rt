@@ -4,13 +4,13 @@ ghost use Rattle.std.specs.Prelude.{◌≡◌, IfOk, IsTrue};
 ghost use Rattle.std.specs.Arc.{arc_value};
 ghost use Rattle.sm_core.specs.Managed.{look_leaves};
 ghost use Rattle.sm_history.specs.Histories.{turn_of};
-ghost use Rattle.sm_view.specs.Begins.{IsLawfulBook};
-ghost use Rattle.sm_view.specs.Promises.{Looks};
+ghost use Rattle.sm_history.specs.BookOrder.{IsLawfulBook};
+ghost use Rattle.sm_history.specs.Promises.{Looks};
 
 use crate::published::ShowsView;
+use crate::registry::{HistoryId, Naming, Registry};
 use sm_core::View;
 use sm_history::{By, Query, Record, Reply};
-use sm_registry::{HistoryId, Naming, Registry};
 use std::alloc::{AllocError, Global};
 use std::marker::Model;
 use std::sync::{Arc, Wait};

@@ -2,13 +2,13 @@
 
 ghost use Rattle.std.specs.Prelude.{◌≡◌};
 ghost use Rattle.sm_history.specs.declared.query.Query.TheVariants.{Version};
-ghost use Rattle.sm_view.specs.Promises.{Read};
-ghost use Rattle.sm_view.specs.Tokens.{Knows};
+ghost use Rattle.sm_history.specs.Promises.{Read};
+ghost use Rattle.sm_history.specs.Tokens.{Knows};
 
 use crate::admin::Admin;
+use crate::registry::Naming;
 use crate::session::Session;
 use sm_history::{Query, Reply};
-use sm_registry::Naming;
 
 /// Tokens that can ask for the version of the policy.
 pub trait Token {

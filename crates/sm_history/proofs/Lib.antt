@@ -53,3 +53,12 @@ pub mod SameTables
 pub mod TurnsCounted
 pub mod ReplaySteps
 pub mod ReplayRuns
+pub mod BookOrder
+pub mod TokensGrow
+pub mod Turns
+pub mod PossibleReplies
+pub mod Submitting
+pub mod Leaving
+pub mod Joining
+pub mod SealedTokens
+pub mod Staying

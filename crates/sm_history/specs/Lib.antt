@@ -31,3 +31,9 @@ pub mod Tables
 pub mod Entering
 pub mod Replaying
 pub mod Turning
+pub mod BookOrder
+pub mod Tokens
+pub mod Steps
+pub mod Promises
+pub mod PossibleReplies
+pub mod PromiseLaws

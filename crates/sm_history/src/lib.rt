@@ -3,6 +3,12 @@
 //! `src/` has the types of events, outcomes, queries and replies. `specs/` has the definitions that the whole product
 //! is proved against: what a history did, each table as a count, a filter or a search over it, the checks of each
 //! request, and the verdict.
+//!
+//! Threads share one manager behind a lock, and each has a token. In contracts a token knows a history, the one that
+//! its thread has seen; that history only goes on, and is always lawful (`specs/Tokens.antt`). What a change, a read, a
+//! connect or a leave promises of it is in `specs/Promises.antt`: the answer is the verdict of the history that the
+//! token sees from then on, and this one begins with all that it had seen before. `promises` derives this from one step
+//! of the manager and the book that is seen after it.
 #![tactic(auto)]
 
 mod by;
@@ -16,17 +22,20 @@ mod entering;
 mod entry;
 mod event;
 mod failed_check;
+mod gate;
 pub mod laws;
 mod limits;
 mod live;
 mod named_row;
 mod notice;
 mod outcome;
+pub mod promises;
 mod query;
 mod records;
 mod refusal;
 mod replay;
 mod reply;
+mod results;
 mod rows;
 mod segment;
 mod service;
@@ -44,6 +53,7 @@ pub use effect::{Effect, Watch, WatchPair};
 pub use entry::Entry;
 pub use event::Event;
 pub use failed_check::{EarlyAnswer, FailedCheck};
+pub use gate::{Gate, NoGate};
 pub use limits::{
     GREATEST, LAST_CLIENT, MOST_CLIENTS, MOST_DELIVERIES, MOST_HANDLES, MOST_NAMES, MOST_WATCHES,
 };
@@ -54,6 +64,7 @@ pub use query::Query;
 pub use records::Record;
 pub use refusal::{Exception, Failure, Refusal};
 pub use reply::{Answer, NameList, Reply};
+pub use results::{connected, installed, is_death, left, moves};
 pub use rows::Rows;
 pub use segment::Segment;
 pub use service::Service;

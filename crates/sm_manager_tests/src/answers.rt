@@ -1,8 +1,7 @@
 //! What no contract says: that these calls give what they are called for.
 
-use sm_history::{Event, Outcome, Refusal, Reply};
+use sm_history::{Event, Outcome, Refusal, Reply, connected, installed, is_death, left, moves};
 use sm_kinds::ClientId;
-use sm_view::{connected, installed, is_death, left, moves};
 use std::process::Abort;
 
 #[test]

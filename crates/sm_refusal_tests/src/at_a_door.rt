@@ -5,12 +5,10 @@ ghost use Rattle.sm_core.specs.Opening.{opened};
 
 use crate::manager::{activity, is_memory, lists_activity, policy, process};
 use crate::outcome::same;
-use sm_door::{Admin, Door, Seat, Session};
-use sm_history::{Outcome, Record, Refusal, Reply};
+use sm_door::{Admin, Door, Naming, Seat, Session, UnnamedRegistry};
+use sm_history::{NoGate, Outcome, Record, Refusal, Reply};
 use sm_kinds::{Identity, Places};
 use sm_policy::Prepared;
-use sm_registry::{Naming, UnnamedRegistry};
-use sm_view::NoGate;
 use std::alloc::Global;
 use std::marker::Brand;
 use std::process::Abort;

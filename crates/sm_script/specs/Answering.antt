@@ -21,8 +21,8 @@ use Rattle.sm_history.specs.declared.refusal.Refusal.TheVariants.{Memory}
 use Rattle.sm_history.specs.declared.reply.Reply.TheVariants.{Refused}
 use Rattle.sm_audit.specs.AuditLines.{audit_line}
 use Rattle.sm_core.specs.Managed.{Managed, look_leaves, ring_after, step_leaves}
-use Rattle.sm_view.specs.Promises.{Looks}
-use Rattle.sm_view.specs.Steps.{Steps, AnswersSeal}
+use Rattle.sm_history.specs.Promises.{Looks}
+use Rattle.sm_history.specs.Steps.{Steps, AnswersSeal}
 use Rattle.sm_wire.specs.declared.request.Request.{Request}
 use Rattle.sm_wire.specs.declared.request.Request.TheVariants.{Hello, Change, Look, Denials, Seal}
 use Rattle.sm_wire.specs.declared.request.Request.TheVariants as requests

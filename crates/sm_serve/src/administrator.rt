@@ -6,12 +6,10 @@ use crate::monitor::Monitor;
 use crate::refusals::not_yours;
 use crate::shared_admin::SharedAdmin;
 use crate::supervisor::Supervisor;
-use sm_door::Door;
-use sm_history::{Outcome, Query, Refusal, Reply};
+use sm_door::{Door, Naming};
+use sm_history::{Gate, Outcome, Query, Refusal, Reply};
 use sm_policy::Prepared;
-use sm_registry::Naming;
 use sm_session::Response;
-use sm_view::Gate;
 use sm_wire::Request;
 use std::sync::Wait;
 

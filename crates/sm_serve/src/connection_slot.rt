@@ -1,7 +1,6 @@
 //! The token of one connection.
 
-use sm_door::SeatOrSession;
-use sm_registry::Naming;
+use sm_door::{Naming, SeatOrSession};
 use std::sync::{Mutex, Wait};
 
 /// The seat or session of one connection, if it has any. Only one thread takes this lock.

@@ -1,7 +1,6 @@
 //! Free seats.
 
-use sm_door::Seat;
-use sm_registry::Naming;
+use sm_door::{Naming, Seat};
 use std::sync::{Mutex, Wait};
 
 /// The free seats, shared by all connections.

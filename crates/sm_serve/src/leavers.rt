@@ -3,9 +3,8 @@
 use crate::free_seats::FreeSeats;
 use crate::monitor::Monitor;
 use crate::supervisor::Supervisor;
-use sm_door::{Door, SeatOrSession, Session};
-use sm_registry::Naming;
-use sm_view::Gate;
+use sm_door::{Door, Naming, SeatOrSession, Session};
+use sm_history::Gate;
 use std::alloc::{AllocError, Global};
 use std::sync::{Mutex, Wait};
 

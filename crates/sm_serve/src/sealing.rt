@@ -3,9 +3,8 @@
 use crate::monitor::Monitor;
 use crate::shared_admin::SharedAdmin;
 use crate::supervisor::Supervisor;
-use sm_door::Door;
-use sm_registry::Naming;
-use sm_view::Gate;
+use sm_door::{Door, Naming};
+use sm_history::Gate;
 use std::sync::Wait;
 
 /// Seals the open segment if it has the required number of entries, and drops it. If an allocation fails, the next

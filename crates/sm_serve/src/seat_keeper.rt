@@ -2,8 +2,7 @@
 
 use crate::connection_slot::ConnectionSlot;
 use crate::free_seats::FreeSeats;
-use sm_door::SeatOrSession;
-use sm_registry::Naming;
+use sm_door::{Naming, SeatOrSession};
 use std::sync::Wait;
 
 /// The need of a connection.

@@ -17,11 +17,11 @@ use crate::supervisor::{ServerEvent, Supervisor};
 use crossbeam_channel::bounded;
 use sm_core::View;
 use sm_door::{
-    Actor, Admin, Door, LockedManager, Published, Seat, Session, SharedView, ViewReader, ViewWriter,
+    Actor, Admin, Door, HistoryId, LockedManager, Naming, Published, Registry, Seat, Session,
+    SharedView, ViewReader, ViewWriter,
 };
 use sm_engine::ServeFault;
-use sm_registry::{HistoryId, Naming, Registry};
-use sm_view::Gate;
+use sm_history::Gate;
 use std::alloc::Global;
 use std::os::unix::net::UnixStream;
 use std::rt::Clock;

@@ -1,7 +1,6 @@
 //! The token of all administrators' connections.
 
-use sm_door::Admin;
-use sm_registry::Naming;
+use sm_door::{Admin, Naming};
 use std::sync::{Mutex, MutexGuard, Wait};
 
 /// The token that all connections of administrators share, one after another.

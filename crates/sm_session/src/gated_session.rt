@@ -6,7 +6,7 @@ ghost use Rattle.sm_session.specs.Sessions.{AnswersItem, Leaves, begins, held_li
 use crate::desk::Desk;
 use crate::session_state::SessionState;
 use sm_engine::Machine;
-use sm_view::Gate;
+use sm_history::Gate;
 use sm_wire::{Item, Kind};
 use std::alloc::{AllocError, Global};
 use std::marker::Model;

@@ -7,7 +7,7 @@ ghost use Rattle.sm_session.specs.Sessions.{Attends};
 use crate::desk::Desk;
 use crate::gated_session::GatedSession;
 use sm_engine::{Counted, Fault, run};
-use sm_view::Gate;
+use sm_history::Gate;
 use sm_wire::Kind;
 use std::alloc::Global;
 use std::io::{Read, Write};

@@ -5,16 +5,11 @@ ghost use Rattle.sm_core.specs.Opening.{opened};
 ghost use denote.Param.Send.{IsSend, IsSync};
 
 use sm_core::View;
-use sm_door::{
-    Actor, Admin, Door, Gate, LockedManager, Published, Seat, Session, SharedView, ViewReader,
-    ViewWriter,
-};
-use sm_history::{Answer, Event, Outcome, Refusal, Reply, Segment};
+use sm_door::{Actor, Admin, Door, Gate, HistoryId, LockedManager, Naming, Published, Registry, Seat, Session, SharedView, UnnamedRegistry, ViewReader, ViewWriter};
+use sm_history::{Answer, Event, NoGate, Outcome, Refusal, Reply, Segment};
 use sm_kinds::{Class, Context, Identity, Name, ObjRef, Perms, Places};
 use sm_policy::Prepared;
-use sm_registry::{HistoryId, Naming, Registry, UnnamedRegistry};
 use sm_samples::{DEVICE_LABELS, DEVICE_RULES, STRICTER_RULES};
-use sm_view::NoGate;
 use std::alloc::Global;
 use std::marker::Brand;
 use std::process::Abort;

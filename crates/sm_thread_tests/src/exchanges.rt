@@ -6,13 +6,11 @@ ghost use Rattle.sm_core.specs.Opening.{opened};
 
 use crate::door::{manager, policy};
 use sm_audit::push_lines;
-use sm_door::{Admin, Door, Seat, Session};
-use sm_history::{Event, Failure, Outcome, Query, Record, Refusal, Reply};
+use sm_door::{Admin, Door, Naming, Seat, Session, UnnamedRegistry};
+use sm_history::{Event, Failure, NoGate, Outcome, Query, Record, Refusal, Reply, is_death};
 use sm_kinds::{Identity, Places};
 use sm_policy::Prepared;
-use sm_registry::{Naming, UnnamedRegistry};
 use sm_samples::DEVICE_RULES;
-use sm_view::{NoGate, is_death};
 use sm_wire::{Kind, Request, Telling, push_denials, reply_line};
 use std::alloc::Global;
 use std::marker::Brand;

@@ -5,7 +5,7 @@ use crate::server::{ALL_IS_WELL, HELLO, Talk, Watched, at_a_door, numbers};
 use crate::steps::Step::{self, Close, Over, Say, Vanish};
 use crate::steps::{Exchange, connected};
 use crossbeam_utils::Backoff;
-use sm_view::Gate;
+use sm_history::Gate;
 use std::sync::Arc;
 use std::sync::atomic::{AtomicU64, Ordering};
 use std::test::Fail;

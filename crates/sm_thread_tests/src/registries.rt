@@ -3,7 +3,7 @@
 ghost use Rattle.std.specs.Prelude.{◌≡◌};
 ghost use denote.Param.Send.{IsSend, IsSync};
 
-use sm_registry::{HistoryId, Naming, Registry, Shows, UnnamedRegistry};
+use sm_door::{HistoryId, Naming, Registry, Shows, UnnamedRegistry};
 use std::marker::Brand;
 use std::process::Abort;
 use std::sync::Wait;

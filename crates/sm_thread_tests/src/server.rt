@@ -5,15 +5,13 @@ ghost use Rattle.sm_core.specs.Opening.{opened};
 
 use crate::steps::Step::{self, Close, Over, Reload, Say, SayAll, Vanish};
 use crate::steps::connected;
-use sm_door::Door;
+use sm_door::{Door, Naming, UnnamedRegistry};
 use sm_engine::ServeFault;
-use sm_history::Record;
+use sm_history::{Gate, NoGate, Record};
 use sm_kinds::{Context, Identity, Places};
 use sm_policy::Prepared;
-use sm_registry::{Naming, UnnamedRegistry};
 use sm_samples::{DEVICE_LABELS, DEVICE_RULES, STRICTER_RULES};
 use sm_serve::{Entrance, FreeSeats, Numbers, Patience, ServerEvent, Supervisor, serve};
-use sm_view::{Gate, NoGate};
 use std::alloc::Global;
 use std::io::ErrorKind;
 use std::marker::Brand;

@@ -1,11 +1,10 @@
 //! A session's end, and its calls of the gate, over a desk that only counts.
 
 use sm_engine::Counted;
-use sm_history::{Event, Outcome, Refusal, Reply};
+use sm_history::{Event, Gate, Outcome, Refusal, Reply};
 use sm_kinds::{ClientId, Identity};
 use sm_policy::PolicyFault;
 use sm_session::*;
-use sm_view::Gate;
 use sm_wire::{Kind, Request};
 use std::alloc::Global;
 use std::io::{self, Write};

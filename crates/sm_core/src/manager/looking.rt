@@ -9,8 +9,8 @@ ghost use Rattle.sm_history.specs.Queries.{names_by_mask, is_their_query, query_
 ghost use Rattle.sm_core.specs.Managed.{effects_in, moment_in, look_leaves};
 ghost use Rattle.sm_core.specs.Judging.{AllPass, Halts, IsAskerStop};
 ghost use Rattle.sm_core.specs.Tables.{client_row};
-ghost use Rattle.sm_view.specs.Promises.{Looks};
-ghost use Rattle.sm_view.specs.Replies.{takes_memory};
+ghost use Rattle.sm_history.specs.Promises.{Looks};
+ghost use Rattle.sm_history.specs.PossibleReplies.{takes_memory};
 
 use crate::caller::Caller;
 use crate::client::LiveClient;

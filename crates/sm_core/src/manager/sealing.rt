@@ -4,8 +4,8 @@ ghost use Rattle.std.specs.Prelude.{◌≡◌, ◌≢◌, ◌≤◌, ◌+◌, �
 ghost use Rattle.sm_history.specs.declared.by.By.{By};
 ghost use Rattle.sm_history.specs.declared.refusal.Refusal.TheVariants.{Memory, Empty as IsEmpty};
 ghost use Rattle.sm_history.specs.Segments.{rows_of, sealed};
-ghost use Rattle.sm_view.specs.Begins.{sealed_book};
-ghost use Rattle.sm_view.specs.Steps.{Seals, StaysOpen};
+ghost use Rattle.sm_history.specs.BookOrder.{sealed_book};
+ghost use Rattle.sm_history.specs.Steps.{Seals, StaysOpen};
 ghost use Rattle.sm_core.specs.Managed.{IsSame};
 ghost use Rattle.sm_core.specs.SealReady.{IsReadySeal};
 

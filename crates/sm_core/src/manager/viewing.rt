@@ -1,7 +1,7 @@
 //! Views of the manager.
 
 ghost use Rattle.std.specs.Prelude.{◌≡◌, IfOk};
-ghost use Rattle.sm_view.specs.Begins.{extended};
+ghost use Rattle.sm_history.specs.BookOrder.{extended};
 ghost use Rattle.sm_core.specs.Readying.{IsReady};
 
 use crate::manager::Manager;

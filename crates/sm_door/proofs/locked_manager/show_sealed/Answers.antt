@@ -1,7 +1,7 @@
 use Rattle.std.proofs.Common.{◌∙◌, subst, sym}
 use Rattle.sm_history.specs.Books.{Book}
-use Rattle.sm_view.specs.Begins.{Begins}
-use Rattle.sm_view.proofs.Books.{book_behind}
+use Rattle.sm_history.specs.BookOrder.{Begins}
+use Rattle.sm_history.proofs.BookOrder.{book_behind}
 use Rattle.sm_door.proofs.locked_manager.show_sealed.Goals as goal
 
 pub publish-requires : goal.publish-requires

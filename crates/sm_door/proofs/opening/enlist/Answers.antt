@@ -1,6 +1,6 @@
 use Rattle.std.proofs.Common.{subst}
 use Rattle.std.specs.Arc.{arc_value}
-use Rattle.sm_view.specs.Begins.{IsLawfulBook}
+use Rattle.sm_history.specs.BookOrder.{IsLawfulBook}
 use Rattle.sm_door.proofs.Places.{admits}
 use Rattle.sm_door.proofs.opening.enlist.Goals as goal
 

@@ -2,7 +2,7 @@ use Rattle.std.proofs.Common.{◌≡◌, sym, ap, ◌∙◌, subst}
 use Rattle.std.specs.Arc.{arc_value}
 use Rattle.std.proofs.lemmas.Result.{MatchResult-weaker}
 use Rattle.sm_history.specs.Books.{Book}
-use Rattle.sm_view.specs.Begins.{Begins}
+use Rattle.sm_history.specs.BookOrder.{Begins}
 use Rattle.sm_door.proofs.Places.{shows, last_shown}
 use Rattle.sm_door.proofs.publisher.show.Goals as goal
 

@@ -1,4 +1,4 @@
-use Rattle.sm_registry.specs.Registries.{blank_book}
+use Rattle.sm_door.specs.Registries.{blank_book}
 use Rattle.sm_thread_tests.proofs.registries.history_ids_cross_threads.Given as goal
 
 -- Any registry.

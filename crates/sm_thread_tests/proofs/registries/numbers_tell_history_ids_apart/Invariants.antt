@@ -1,4 +1,4 @@
-use Rattle.sm_registry.specs.Registries.{blank_book}
+use Rattle.sm_door.specs.Registries.{blank_book}
 use Rattle.sm_thread_tests.proofs.registries.numbers_tell_history_ids_apart.Given as goal
 
 -- The registry that was just made.

@@ -1,6 +1,6 @@
 use Rattle.std.proofs.Common.{subst}
-use Rattle.sm_view.specs.Begins.{IsLawfulBook}
-use Rattle.sm_view.specs.Tokens.{Knows}
+use Rattle.sm_history.specs.BookOrder.{IsLawfulBook}
+use Rattle.sm_history.specs.Tokens.{Knows}
 use Rattle.sm_door.proofs.actor.Actor.due.Goals as goal
 
 pub returns-clause-lawful : goal.returns-clause-lawful

@@ -1,6 +1,6 @@
 use Rattle.std.proofs.Common.{◌≡◌, subst, sym}
 use Rattle.sm_history.specs.Histories.{turn_of}
-use Rattle.sm_view.specs.Begins.{IsLawfulBook}
+use Rattle.sm_history.specs.BookOrder.{IsLawfulBook}
 use Rattle.sm_door.specs.declared.published.ReaderKnowledge.{ReaderKnowledge}
 use Rattle.sm_door.proofs.actor.Actor.new.Goals as goal
 

@@ -5,9 +5,9 @@ use Rattle.sm_history.specs.declared.by.By.{By}
 use Rattle.sm_history.specs.Books.{Book}
 use Rattle.sm_history.specs.Histories.{turn_of}
 use Rattle.sm_core.specs.Managed.{look_leaves}
-use Rattle.sm_view.specs.Begins.{Begins, IsLawfulBook}
-use Rattle.sm_view.specs.Promises.{Looks}
-use Rattle.sm_view.specs.Tokens.{Knows}
+use Rattle.sm_history.specs.BookOrder.{Begins, IsLawfulBook}
+use Rattle.sm_history.specs.Promises.{Looks}
+use Rattle.sm_history.specs.Tokens.{Knows}
 use Rattle.sm_door.specs.declared.published.ReaderKnowledge.{ReaderKnowledge}
 use Rattle.sm_door.proofs.Places.{enters}
 use Rattle.sm_door.proofs.actor.Actor.read_view.Goals as goal

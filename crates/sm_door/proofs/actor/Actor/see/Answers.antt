@@ -2,8 +2,8 @@ use Rattle.std.proofs.Common.{rules, ◌≡◌, Some, ap, subst, sym}
 use Rattle.left_right.specs.Sides.{view as place_view}
 use Rattle.sm_history.specs.Books.{Book}
 use Rattle.sm_history.specs.Histories.{turn_of}
-use Rattle.sm_view.specs.Begins.{Begins, IsLawfulBook}
-use Rattle.sm_view.specs.Tokens.{Knows}
+use Rattle.sm_history.specs.BookOrder.{Begins, IsLawfulBook}
+use Rattle.sm_history.specs.Tokens.{Knows}
 use Rattle.sm_door.proofs.actor.Actor.see.Goals as goal
 
 pub invariant_of-self : goal.invariant_of-self

@@ -1,8 +1,8 @@
 use Rattle.std.proofs.Common.{rules, ◌≡◌, subst, true, false}
 use Rattle.sm_core.specs.Managed.{step_leaves}
-use Rattle.sm_view.specs.Steps.{Steps}
-use Rattle.sm_view.specs.Replies.{moves}
-use Rattle.sm_view.proofs.Submitting.{submitted, unseen}
+use Rattle.sm_history.specs.Steps.{Steps}
+use Rattle.sm_history.specs.PossibleReplies.{moves}
+use Rattle.sm_history.proofs.Submitting.{submitted, unseen}
 use Rattle.sm_door.proofs.Logging.{logged, logged_unseen}
 use Rattle.sm_door.proofs.door.Door.act.Goals as goal
 

@@ -3,10 +3,10 @@ use Rattle.sm_history.specs.declared.by.By.TheVariants.{Manager}
 use Rattle.sm_history.specs.declared.event.Event.TheVariants.{Connect}
 use Rattle.sm_history.specs.declared.outcome.Outcome.TheVariants.{Connected}
 use Rattle.sm_history.specs.declared.reply.Reply.TheVariants.{Done}
-use Rattle.sm_view.specs.Promises.{Joined}
-use Rattle.sm_view.specs.Steps.{Steps}
-use Rattle.sm_view.specs.Tokens.{Knows, Sees, token}
-use Rattle.sm_view.proofs.Joining.{connect_answered, sees_alike, joins}
+use Rattle.sm_history.specs.Promises.{Joined}
+use Rattle.sm_history.specs.Steps.{Steps}
+use Rattle.sm_history.specs.Tokens.{Knows, Sees, token}
+use Rattle.sm_history.proofs.Joining.{connect_answered, sees_alike, joins}
 use Rattle.sm_door.proofs.door.Door.connect.Goals as goal
 
 pub connected-requires : goal.connected-requires

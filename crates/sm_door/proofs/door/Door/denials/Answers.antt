@@ -2,7 +2,7 @@ use Rattle.std.proofs.Common.{subst, sym}
 use Rattle.std.specs.List.{All}
 use Rattle.sm_history.specs.Books.{Book}
 use Rattle.sm_history.specs.Records.{IsTrueSince}
-use Rattle.sm_view.specs.Tokens.{Knows, Grows}
+use Rattle.sm_history.specs.Tokens.{Knows, Grows}
 use Rattle.sm_door.proofs.door.Door.denials.Goals as goal
 
 pub returns-in-Ok : goal.returns-in-Ok

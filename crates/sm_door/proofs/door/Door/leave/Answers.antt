@@ -2,9 +2,9 @@ use Rattle.std.proofs.Common.{rules, ◌≡◌, ◌∙◌, subst, ap}
 use Rattle.sm_history.specs.declared.event.Event.TheVariants.{Die}
 use Rattle.sm_history.specs.declared.outcome.Outcome.TheVariants.{Died}
 use Rattle.sm_history.specs.declared.reply.Reply.TheVariants.{Done}
-use Rattle.sm_view.specs.Promises.{Submitted, Accepted}
-use Rattle.sm_view.specs.Tokens.{Knows, token}
-use Rattle.sm_view.proofs.Leaving.{leave_answered}
+use Rattle.sm_history.specs.Promises.{Submitted, Accepted}
+use Rattle.sm_history.specs.Tokens.{Knows, token}
+use Rattle.sm_history.proofs.Leaving.{leave_answered}
 use Rattle.sm_door.proofs.door.Door.leave.Goals as goal
 
 pub left-requires : goal.left-requires

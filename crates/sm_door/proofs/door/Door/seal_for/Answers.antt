@@ -1,4 +1,4 @@
-use Rattle.sm_view.proofs.Sealing.{closes}
+use Rattle.sm_history.proofs.SealedTokens.{closes}
 use Rattle.sm_door.proofs.door.Door.seal_for.Goals as goal
 
 pub returns-in-Ok : goal.returns-in-Ok

@@ -1,6 +1,6 @@
 use Rattle.std.proofs.Common.{◌∙◌, subst, sym}
 use Rattle.sm_history.specs.Books.{Book}
-use Rattle.sm_view.specs.Steps.{Seals}
+use Rattle.sm_history.specs.Steps.{Seals}
 use Rattle.sm_door.specs.Locked.{Locked}
 use Rattle.sm_door.proofs.Places.{same_book, seals_done}
 use Rattle.sm_door.proofs.locked_manager.LockedManager.seal.Goals as goal

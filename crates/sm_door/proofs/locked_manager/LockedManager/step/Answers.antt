@@ -2,7 +2,7 @@ use Rattle.std.proofs.Common.{rules, ◌≡◌, ◌∙◌, List, subst, sym}
 use Rattle.sm_history.specs.Books.{Book}
 use Rattle.sm_history.specs.declared.records.Record.{Record}
 use Rattle.sm_core.specs.Managed.{ring_after, step_leaves}
-use Rattle.sm_view.specs.Steps.{Steps}
+use Rattle.sm_history.specs.Steps.{Steps}
 use Rattle.sm_door.specs.Locked.{Locked}
 use Rattle.sm_door.proofs.Places.{same_book, steps_done, steps_refused, ring_done, leaves_done}
 use Rattle.sm_door.proofs.locked_manager.LockedManager.step.Goals as goal

@@ -1,5 +1,5 @@
 use Rattle.std.proofs.Common.{subst}
-use Rattle.sm_view.specs.Begins.{IsLawfulBook}
+use Rattle.sm_history.specs.BookOrder.{IsLawfulBook}
 use Rattle.sm_door.specs.Locked.{Locked}
 use Rattle.sm_door.proofs.locked_manager.LockedManager.turn.Goals as goal
 

@@ -1,8 +1,8 @@
 use Rattle.std.proofs.Common.{rules}
 use Rattle.std.specs.Arc.{arc_value}
 use Rattle.left_right.specs.Sides.{view as place_view}
-use Rattle.sm_view.specs.Begins.{Begins}
-use Rattle.sm_view.proofs.Books.{book_itself, book_through}
+use Rattle.sm_history.specs.BookOrder.{Begins}
+use Rattle.sm_history.proofs.BookOrder.{book_itself, book_through}
 use Rattle.sm_door.proofs.Places.{enters}
 use Rattle.sm_door.proofs.publisher.Publisher.inform.Goals as goal
 

@@ -1,7 +1,7 @@
 use Rattle.std.proofs.Common.{rules, ◌≡◌, ◌∙◌, subst, sym}
 use Rattle.std.specs.Arc.{arc_value}
 use Rattle.sm_history.specs.Books.{Book}
-use Rattle.sm_view.specs.Begins.{Begins}
+use Rattle.sm_history.specs.BookOrder.{Begins}
 use Rattle.sm_door.proofs.publisher.Publisher.publish.Goals as goal
 
 pub show-writer-requires : goal.show-writer-requires

@@ -1,5 +1,5 @@
 use Rattle.std.proofs.Common.{subst}
-use Rattle.sm_view.specs.Begins.{IsLawfulBook}
+use Rattle.sm_history.specs.BookOrder.{IsLawfulBook}
 use Rattle.sm_door.proofs.shared_view.SharedView.turn.Goals as goal
 
 pub returns-clause-lawful : goal.returns-clause-lawful

@@ -9,7 +9,7 @@ use mir.Syntax.{named}
 use Rattle.std.specs.Prelude.{codes, [], ◌∷◌}
 use Rattle.std.proofs.Crossing.{crosses}
 use Rattle.std.specs.contracts.alloc.Global as Global
-use Rattle.sm_registry.specs.contracts.registry.Registry as Registry
+use Rattle.sm_door.specs.contracts.registry.Registry as Registry
 use Rattle.sm_kinds.specs.contracts.number.AdminId as AdminId
 use Rattle.sm_kinds.specs.contracts.number.ClientId as ClientId
 use Rattle.sm_door.specs.contracts.actor.Actor as Actor

@@ -2,7 +2,7 @@ use denote.Exit.{no}
 use denote.Param.{param}
 use denote.Param.Send.{IsSend, sendable, param_send, param_sync, arg_send, arg_sync}
 use Rattle.std.proofs.Crossing.{crosses}
-use Rattle.sm_registry.specs.contracts.registry.Registry as Registry
+use Rattle.sm_door.specs.contracts.registry.Registry as Registry
 use Rattle.sm_core.proofs.Crossing.{view_send, view_sync}
 use Rattle.sm_core.proofs.CrossingManager.{manager_send}
 use Rattle.sm_door.proofs.Crossing.{actor_send, locked_send, shared_view_row, reader_row, writer_row}

@@ -1,0 +1,116 @@
+-- What each call promises of the token with which it is made.
+use Rattle.std.specs.Prelude.{true, ◌≡◌, ◌≢◌, ℕ, ◌+◌, ◌≤◌, ◌⊎◌, List, [], All, length}
+use Rattle.sm_kinds.specs.declared.identity.Identity.{Identity}
+use Rattle.sm_history.specs.declared.by.By.{By}
+use Rattle.sm_history.specs.declared.by.By.TheVariants.{Manager, Client}
+use Rattle.sm_history.specs.declared.event.Event.{Event}
+use Rattle.sm_history.specs.declared.event.Event.TheVariants.{Connect}
+use Rattle.sm_history.specs.declared.outcome.Outcome.{Outcome}
+use Rattle.sm_history.specs.declared.outcome.Outcome.TheVariants.{Connected}
+use Rattle.sm_history.specs.declared.query.Query.{Query}
+use Rattle.sm_history.specs.declared.records.Record.{Record}
+use Rattle.sm_history.specs.declared.refusal.Refusal.{Refusal}
+use Rattle.sm_history.specs.declared.refusal.Refusal.TheVariants.{Failed, Memory, NoSeat, Empty}
+use Rattle.sm_history.specs.declared.refusal.Failure.TheVariants.{OutOfTurn}
+use Rattle.sm_history.specs.declared.reply.Reply.{Reply}
+use Rattle.sm_history.specs.declared.reply.Reply.TheVariants.{Done, GotNull, GotOwn, Looked, Sealed, Refused}
+use Rattle.sm_history.specs.Books.{Book}
+use Rattle.sm_history.specs.Histories.{History, turn_of}
+use Rattle.sm_history.specs.Queries.{query_verdict}
+use Rattle.sm_history.specs.Records.{IsTrueSince}
+use Rattle.sm_history.specs.Verdict.{verdict}
+use Rattle.sm_history.specs.BookOrder.{Begins, IsLawfulBook, extended, sealed_book}
+use Rattle.sm_history.specs.PossibleReplies.{tells_turn, takes_memory}
+use Rattle.sm_history.specs.Steps.{made}
+use Rattle.sm_history.specs.Tokens.{Knows, Grows, turn}
+
+-- ---- changes
+
+-- The event was done: the history that the token sees now ends with its change, which is one more of this actor. The
+-- outcome is the verdict of the history before the change, which begins with all that the token had seen.
+pub record Accepted (old new : Knows) (event : Event) (outcome : Outcome) : Type 0 where
+  pub grows : Grows old new
+  pub before : Book
+  pub begins : Begins before old.seen
+  pub ends : new.seen ≡ extended before (made old.by (turn old) event outcome)
+  pub verdict_is : verdict before.places before.history old.by (turn old) event ≡ Done outcome
+  pub one_more : turn new ≡ turn old + 1
+
+-- The event wasn't done: the answer is the verdict of the history that the token sees now. It has as many changes of
+-- this actor as before; or another number, which is in the answer; or the actor isn't connected any more.
+pub record Kept (old new : Knows) (event : Event) (reply : Reply) : Type 0 where
+  pub grows : Grows old new
+  pub verdict_is : reply ≡ verdict new.seen.places new.seen.history old.by (turn old) event
+  pub same_turn : tells_turn reply ≡ true → turn new ≡ turn old
+  pub out_of_turn : (have : ℕ) → reply ≡ Refused (Failed (OutOfTurn have)) → (have ≡ turn new) × (have ≢ turn old)
+
+-- No change was made: an allocation failed, and the token stays as it is; or the event wasn't done.
+abbrev pub NotMade : Knows → Knows → Event → Reply → Type 0
+NotMade old new event reply = ((reply ≡ Refused Memory) × (new ≡ old)) ⊎ Kept old new event reply
+
+-- This is what a token knows after its actor's event was answered.
+abbrev pub Submitted : Knows → Knows → Event → Reply → Type 0
+Submitted old new event (Done outcome) = Accepted old new event outcome
+Submitted old new event GotNull = NotMade old new event GotNull
+Submitted old new event (GotOwn o) = NotMade old new event (GotOwn o)
+Submitted old new event (Looked v l a) = NotMade old new event (Looked v l a)
+Submitted old new event (Sealed n l) = NotMade old new event (Sealed n l)
+Submitted old new event (Refused refusal) = NotMade old new event (Refused refusal)
+
+-- ---- reads
+
+-- The answer is that of the query; or an allocation failed, for a query that allocates.
+abbrev pub Looks : Book → By → Query → Reply → Type 0
+Looks b by q reply = ((reply ≡ Refused Memory) × (takes_memory q ≡ true)) ⊎ (reply ≡ query_verdict b.history by q)
+
+-- No reader slot was free, and the token stays as it is; or the published history was entered, which begins with all
+-- that the token had seen, and the answer is given from it.
+abbrev pub Read : Knows → Knows → Query → Reply → Type 0
+Read old new q reply =
+    ((reply ≡ Refused NoSeat) × (new ≡ old))
+    ⊎ (Grows old new × (new.reads ≡ old.reads + 1) × Looks new.seen old.by q reply)
+
+-- There are at most 1,024 records, and each that was made in the segment that the token sees now is true of it.
+abbrev pub TellsRecords : Knows → Knows → List Record → Type 0
+TellsRecords old new records = Grows old new × (length records ≤ 1024) × All (IsTrueSince new.seen.history) records
+
+-- ---- seals
+
+-- The segment was closed. It has changes, and belongs to a lawful book, which begins with all that the token had seen.
+-- The token now sees the next segment, which has no change yet.
+pub record Closed (old new : Knows) (segment : History) : Type 0 where
+  pub grows : Grows old new
+  pub before : Book
+  pub lawful : IsLawfulBook before
+  pub begins : Begins before old.seen
+  pub segment_is : segment ≡ before.history
+  pub some : segment.entries ≢ []
+  pub opens : new.seen ≡ sealed_book before
+
+-- No segment was closed: an allocation failed, or the segment that the token sees now has no changes.
+abbrev pub NotClosed : Knows → Knows → Refusal → Type 0
+NotClosed old new refusal =
+    Grows old new × ((refusal ≡ Memory) ⊎ ((refusal ≡ Empty) × (new.seen.history.entries ≡ [])))
+
+-- ---- connecting
+
+-- The history that the session sees ends with the manager's change that connected its client, and the outcome is the
+-- verdict of the history before it. All of it begins with what the seat had seen.
+pub record Joined (old new : Knows) (who : Identity) : Type 0 where
+  pub lawful : IsLawfulBook new.seen
+  pub begins : Begins new.seen old.seen
+  pub before : Book
+  pub number : ℕ
+  pub by : new.by ≡ Client (record { 0 = number })
+  pub ends : new.seen ≡ extended before
+      (made Manager (turn_of before.history Manager) (Connect who) (Connected (record { 0 = number })))
+  pub verdict_is : verdict before.places before.history Manager (turn_of before.history Manager) (Connect who)
+      ≡ Done (Connected (record { 0 = number }))
+
+-- The client wasn't connected: an allocation failed, and the seat stays as it is; or this is the verdict of the history
+-- that the seat sees now.
+abbrev pub Turned : Knows → Knows → Identity → Refusal → Type 0
+Turned old new who refusal =
+    ((refusal ≡ Memory) × (new ≡ old))
+    ⊎ (Grows old new × (Refused refusal
+    ≡ verdict new.seen.places new.seen.history Manager (turn_of new.seen.history Manager) (Connect who)))

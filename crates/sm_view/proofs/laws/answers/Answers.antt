@@ -1,8 +1,0 @@
-use Rattle.sm_view.proofs.Leaving.{leave_answered, install_answered}
-use Rattle.sm_view.proofs.laws.answers.Goals as goal
-
-pub returns-clause-leave : goal.returns-clause-leave
-returns-clause-leave c = leave_answered
-
-pub returns-clause-install : goal.returns-clause-install
-returns-clause-install c = install_answered
