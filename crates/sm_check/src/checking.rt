@@ -2,7 +2,7 @@
 
 ghost use Rattle.std.specs.Prelude.{◌≡◌, ◌⊎◌, ◌<◌, ℕ, IfOk, OnOk, OnErr, take};
 ghost use Rattle.std.specs.Io.KnownBytes.{Appends};
-ghost use Rattle.sm_engine.specs.Counts.{failures_of, inner_of, greatest};
+ghost use Rattle.sm_engine.specs.Counts.{failures_of, inner_of, greatest_count};
 ghost use Rattle.sm_policy.specs.Preparing.{prepared};
 ghost use Rattle.sm_check.specs.Checking as spec;
 
@@ -25,7 +25,7 @@ pub fn check<W: Write>(
     contexts: &[u8],
     writer: &mut Counted<W>,
 ) -> Result<bool, Fault>
-    requires { failures_of writer.old < greatest }
+    requires { failures_of writer.old < greatest_count }
     ensures accepted { IfOk result (λ accepted. accepted ≡ spec.is_accepted (prepared rules.now contexts.now)) }
     ensures written { OnOk result (Appends (W.contents (inner_of writer.old)) (W.contents (inner_of writer.new))
         (spec.checked_line (prepared rules.now contexts.now))) }

@@ -24,13 +24,13 @@ use Rattle.sm_history.specs.Verdict.{all_pass_to_client, passes_to_client, call_
 use Rattle.sm_grants.specs.Several.{after_grants}
 use Rattle.sm_grants.specs.Handing.{AreNamed, others}
 use Rattle.sm_grants.proofs.Handing.{handed_are}
-use Rattle.sm_core.specs.Judging.{Halts, AllPass, Lacks, asked}
+use Rattle.sm_core.specs.Judging.{Halts, AllPass, Lacks, after_checks}
 use Rattle.sm_core.specs.Calling.{target_checks, room_check}
 use Rattle.sm_core.proofs.Stopping.{halts_first, halts_then, pass_both, pass_first}
 
 -- Checks are stopped at where what is left of them is.
 halts_alike : (m : Moment) (old mid new : List Record) (all xs : List Check) (s : FailedCheck)
-    → asked m old all ≡ asked m mid xs → Halts m mid new xs s → Halts m old new all s
+    → after_checks m old all ≡ after_checks m mid xs → Halts m mid new xs s → Halts m old new all s
 halts_alike m old mid new all xs s e (inl w) = inl w
 halts_alike m old mid new all xs s e (inr h) = inr (e ∙ h)
 
@@ -45,21 +45,23 @@ target_stops m old new d c n s live (inr lacks) = inr (rw (live, lacks.0, lacks.
 -- The references from one on are stopped at that one.
 pub halts_left : (m : Moment) (old mid new : List Record) (d : Effects) (c k : ℕ) (refs left rest : List ObjRef)
     (r : ObjRef) (s : FailedCheck)
-    → asked m old (all_pass_to_client d c k refs) ≡ asked m mid (all_pass_to_client d c k left) → left ≡ r ∷ rest
+    → after_checks m old (all_pass_to_client d c k refs) ≡ after_checks m mid (all_pass_to_client d c k left)
+    → left ≡ r ∷ rest
     → Halts m mid new (passes_to_client d c k r) s → Halts m old new (all_pass_to_client d c k refs) s
 halts_left m old mid new d c k refs left rest r s e is h =
     halts_alike m old mid new (all_pass_to_client d c k refs) (all_pass_to_client d c k (r ∷ rest)) s
-    (e ∙ ap (λ (rs : List ObjRef). asked m mid (all_pass_to_client d c k rs)) is)
+    (e ∙ ap (λ (rs : List ObjRef). after_checks m mid (all_pass_to_client d c k rs)) is)
     (halts_first m mid new (passes_to_client d c k r) (all_pass_to_client d c k rest) s h)
 
 -- The first of them passes, so that those behind it are left.
 pub left_behind : (m : Moment) (old mid new : List Record) (d : Effects) (c k : ℕ) (refs left rest : List ObjRef)
     (r : ObjRef)
-    → asked m old (all_pass_to_client d c k refs) ≡ asked m mid (all_pass_to_client d c k left) → left ≡ r ∷ rest
+    → after_checks m old (all_pass_to_client d c k refs) ≡ after_checks m mid (all_pass_to_client d c k left)
+    → left ≡ r ∷ rest
     → AllPass m mid new (passes_to_client d c k r)
-    → asked m old (all_pass_to_client d c k refs) ≡ asked m new (all_pass_to_client d c k rest)
+    → after_checks m old (all_pass_to_client d c k refs) ≡ after_checks m new (all_pass_to_client d c k rest)
 left_behind m old mid new d c k refs left rest r e is pass =
-    e ∙ ap (λ (rs : List ObjRef). asked m mid (all_pass_to_client d c k rs)) is ∙
+    e ∙ ap (λ (rs : List ObjRef). after_checks m mid (all_pass_to_client d c k rs)) is ∙
     pass_first m mid new (passes_to_client d c k r) (all_pass_to_client d c k rest) pass
 
 -- Behind the objects that were named, those of the references that are left.
@@ -75,11 +77,11 @@ names_on d c refs left rest r o named more names is items at some = λ os are.
 
 pub all_named : (m : Moment) (old new : List Record) (d : Effects) (c k : ℕ) (refs left : List ObjRef)
     (named : List (Option Node))
-    → asked m old (all_pass_to_client d c k refs) ≡ asked m new (all_pass_to_client d c k left)
+    → after_checks m old (all_pass_to_client d c k refs) ≡ after_checks m new (all_pass_to_client d c k left)
     → NamesOn d c refs left named → left ≡ []
     → AllPass m old new (all_pass_to_client d c k refs) × AreNamed d c refs named
 all_named m old new d c k refs left named e names none = (
-  e ∙ ap (λ (rs : List ObjRef). asked m new (all_pass_to_client d c k rs)) none,
+  e ∙ ap (λ (rs : List ObjRef). after_checks m new (all_pass_to_client d c k rs)) none,
   subst (λ (v : List (Option Node)). AreNamed d c refs v) (append-nil named)
       (names [] (subst (λ (rs : List ObjRef). AreNamed d c rs []) (sym none) tt)),
 )
@@ -107,7 +109,8 @@ checks_are d c handle n refs at =
     at)
 
 -- A call is stopped at its target, at one of its references, or at its receiver's room, or at no check.
-pub target_halts : (m : Moment) (old new : List Record) (d : Effects) (c handle : ℕ) (refs : List ObjRef) (s : FailedCheck)
+pub target_halts : (m : Moment) (old new : List Record) (d : Effects) (c handle : ℕ) (refs : List ObjRef)
+    (s : FailedCheck)
     → Halts m old new (target_checks d c (node_at d c handle)) s
     → Halts m old new (call_checks d c handle refs) s
 target_halts m old new d c handle refs s h =

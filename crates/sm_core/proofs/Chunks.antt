@@ -6,7 +6,7 @@ use Rattle.sm_history.specs.declared.entry.Entry.{Entry}
 use Rattle.sm_history.specs.Histories.{entered}
 use Rattle.sm_history.specs.Openings.{Opening}
 use Rattle.sm_history.specs.Replaying.{joined}
-use Rattle.sm_core.specs.Journals.{segment}
+use Rattle.sm_core.specs.Journals.{journal_segment}
 
 pub joined_more : (cs : List (List Entry)) (c : List Entry) → joined (cs ++ c ∷ []) ≡ joined cs ++ c
 joined_more [] c = append-nil c
@@ -20,9 +20,10 @@ pub pushed : (xs ys : List Entry) (e : Entry) → xs ++ (ys ++ e ∷ []) ≡ (xs
 pushed xs ys e = sym (append_assoc xs ys (e ∷ []))
 
 pub written_more : (number : ℕ) (o : Opening) (xs ys : List Entry) (e : Entry)
-    → segment number o (reverse (xs ++ (ys ++ e ∷ []))) ≡ entered e (segment number o (reverse (xs ++ ys)))
-written_more number o xs ys e = ap (λ (l : List Entry). segment number o (reverse l)) (pushed xs ys e) ∙
-    ap (λ (l : List Entry). segment number o l) (reverse-append (xs ++ ys) (e ∷ []))
+    → journal_segment number o (reverse (xs ++ (ys ++ e ∷ [])))
+    ≡ entered e (journal_segment number o (reverse (xs ++ ys)))
+written_more number o xs ys e = ap (λ (l : List Entry). journal_segment number o (reverse l)) (pushed xs ys e) ∙
+    ap (λ (l : List Entry). journal_segment number o l) (reverse-append (xs ++ ys) (e ∷ []))
 
 pub length_more : (xs ys : List Entry) (e : Entry) → length (xs ++ (ys ++ e ∷ [])) ≡ length (xs ++ ys) + 1
 length_more xs ys e = ap (length {A = Entry}) (pushed xs ys e) ∙ length-append (xs ++ ys) (e ∷ [])

@@ -15,7 +15,7 @@ use Rattle.sm_history.proofs.NumbersFit.{sealed_lawful, sealed_fits}
 use Rattle.sm_core.specs.declared.state.State.{State}
 use Rattle.sm_core.specs.declared.turns.Turns.{Turns}
 use Rattle.sm_history.specs.declared.limits.TheConstants.{GREATEST}
-use Rattle.sm_core.specs.Counting.{admins_in, made}
+use Rattle.sm_core.specs.Counting.{counted_admins, change_count}
 use Rattle.sm_core.specs.Kept.{Kept}
 use Rattle.sm_core.proofs.Small.{small_length}
 use Rattle.sm_core.proofs.StandsAlike.{stands_sealed}
@@ -44,7 +44,7 @@ small_number places h turns s k some =
 
 pub kept_sealed : (places : ℕ) (h h' : History) (turns turns' : Turns) (s : State) (ring : List Record)
     → Kept places h turns s ring → h.entries ≢ [] → h' ≡ sealed h
-    → ((by : By) → made turns' by ≡ turn_of (sealed h) by) → admins_in turns' ≡ admins_of (sealed h)
+    → ((by : By) → change_count turns' by ≡ turn_of (sealed h) by) → counted_admins turns' ≡ admins_of (sealed h)
     → Kept places h' turns' s ring
 kept_sealed places h h' turns turns' s ring k some is turns_are admins_are = rw is (record {
   lawful = sealed_lawful places h k.lawful;

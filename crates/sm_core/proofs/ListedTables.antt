@@ -5,7 +5,7 @@ use Rattle.std.proofs.lemmas.List.{take_more}
 use Rattle.sm_history.specs.declared.client_row.ClientRow.{ClientRow as Listed}
 use Rattle.sm_history.specs.Effects.{Effects}
 use Rattle.sm_history.specs.Clients.{live_clients}
-use Rattle.sm_history.specs.Tables.{IsClient, IsRowFor, TracksClients, clients_of, row_of}
+use Rattle.sm_history.specs.Tables.{IsClient, IsRowFor, TracksClients, clients_of, client_row_of}
 use Rattle.sm_history.proofs.Balanced.{number_same}
 use Rattle.sm_core.specs.declared.client.LiveClient.{LiveClient}
 use Rattle.sm_core.specs.Tables.{client_row, client_rows}
@@ -40,13 +40,13 @@ is_client d k c l is same = subst (λ (n : ℕ). IsClient d n l) same
     (record { who = is.who; held = is.held; waiting = is.waiting })
 
 row_listed : (d : Effects) (ks : List ℕ) (ls : List Listed) → AreListed d (map (client_row d) ks) ls → (c : ℕ)
-    → IsRowFor d c (row_of ls c)
+    → IsRowFor d c (client_row_of ls c)
 row_listed d [] [] are c = tt
 row_listed d [] (l ∷ ls) are c = absurd are
 row_listed d (k ∷ ks) [] are c = absurd are
 row_listed d (k ∷ ks) (l ∷ ls) are c =
     elim (l.client == c) as (λ b. (l.client == c) ≡ b →
-    IsRowFor d c (let o : Option Listed = if b then Some l else row_of ls c in o)) [
+    IsRowFor d c (let o : Option Listed = if b then Some l else client_row_of ls c in o)) [
       | true ↦ λ e. is_client d k c l are.0 (sym are.0.client ∙ number_same l.client c e)
       | false ↦ λ e. row_listed d ks ls are.1 c
     ] refl

@@ -24,15 +24,15 @@ use Rattle.sm_history.specs.Histories.{History}
 use Rattle.sm_history.specs.Queries.{checks_of_query, looked, query_verdict}
 use Rattle.sm_history.specs.Records.{moment_of, records, query_records}
 use Rattle.sm_history.specs.PossibleReplies.{takes_memory}
-use Rattle.sm_core.specs.Judging.{Halts, AllPass, asked, IsAskerStop, wanted}
-use Rattle.sm_core.specs.Managed.{is_memory, look_leaves}
+use Rattle.sm_core.specs.Judging.{Halts, AllPass, after_checks, IsAskerStop, wanted}
+use Rattle.sm_core.specs.Managed.{is_out_of_memory, look_leaves}
 use Rattle.sm_history.specs.Promises.{Looks}
 use Rattle.sm_core.proofs.Stopping.{failing_is, left_is}
 use Rattle.sm_core.proofs.Keeping.{stop_records}
 
 -- The verdict where a check stopped.
 stopped_reply : (b : Book) (by : By) (q : Query) (new : List Record) (s : FailedCheck) (reply : Reply)
-    → asked (moment_of b.history) [] (checks_of_query b.history by q) ≡ (new, Some s) → reply ≡ answer_of s
+    → after_checks (moment_of b.history) [] (checks_of_query b.history by q) ≡ (new, Some s) → reply ≡ answer_of s
     → reply ≡ query_verdict b.history by q
 stopped_reply b by q new s reply e is = is ∙ sym (ap (looked b.history q)
     (failing_is (moment_of b.history) [] new (checks_of_query b.history by q) (Some s) e))
@@ -88,15 +88,16 @@ pub not_wanted : (b : Bool) (s : FailedCheck) → (IsTrue b ↔ (s ≡ wanted)) 
 not_wanted b s both isnt w = true≢false (sym (both.1 w) ∙ isnt)
 
 -- A reply other than `Memory` doesn't come from a failed allocation.
-other_stop : (s : FailedCheck) (reply : Reply) → (reply ≡ Refused Memory) ⊎ (reply ≡ answer_of s) → is_memory reply ≡ false
+other_stop : (s : FailedCheck) (reply : Reply) → (reply ≡ Refused Memory) ⊎ (reply ≡ answer_of s)
+    → is_out_of_memory reply ≡ false
     → s ≡ wanted → ⊥
-other_stop s reply (inl is) other w = true≢false (sym (ap is_memory is) ∙ other)
-other_stop s reply (inr is) other w = true≢false (sym (ap is_memory (is ∙ ap answer_of w)) ∙ other)
+other_stop s reply (inl is) other w = true≢false (sym (ap is_out_of_memory is) ∙ other)
+other_stop s reply (inr is) other w = true≢false (sym (ap is_out_of_memory (is ∙ ap answer_of w)) ∙ other)
 
 -- The records that are given with the answer to a query.
 pub stop_leaves : (b : Book) (by : By) (q : Query) (new : List Record) (s : FailedCheck) (reply : Reply)
     → Halts (moment_of b.history) [] new (checks_of_query b.history by q) s
-    → (reply ≡ Refused Memory) ⊎ (reply ≡ answer_of s) → is_memory reply ≡ false
+    → (reply ≡ Refused Memory) ⊎ (reply ≡ answer_of s) → is_out_of_memory reply ≡ false
     → new ≡ look_leaves b by q reply
 stop_leaves b by q new s reply halts is other =
     rw other (query_left b.history by q new s halts (other_stop s reply is other))

@@ -142,7 +142,8 @@ is_handed d n xs c m live fits =
 passed : (p : Policy) (x : Check) (xs : List Check) → first_failing p (x ∷ xs) ≡ None
     → (holds p x ≡ true) × (first_failing p xs ≡ None)
 passed p x xs e =
-    elim (holds p x) as (λ b. (let o : Option FailedCheck = if b then first_failing p xs else Some (failed_check_of x) in o) ≡ None →
+    elim (holds p x) as (λ b. (let o : Option FailedCheck =
+    if b then first_failing p xs else Some (failed_check_of x) in o) ≡ None →
     (b ≡ true) × (first_failing p xs ≡ None)) [
       | true ↦ λ h. (refl, h)
       | false ↦ λ h. cc
@@ -218,7 +219,8 @@ tells h n w old new mid left g x t live is asks noted given told items counts =
     let before = t.may.before in
     let free : left ≡ free_at e c = is ∙ t.left c live in
     let found = sym (asked_is m old.records (told_checks d n w left)) ∙ asks in
-    let pass : first_failing p (told_checks d n w left) ≡ None = ap (λ (q : List Record × Option FailedCheck). q.1) found in
+    let pass : first_failing p (told_checks d n w left) ≡ None =
+    ap (λ (q : List Record × Option FailedCheck). q.1) found in
     let missing : first_missing e n w ≡ None = sym (missing_same d e n w left before live free) ∙ pass in
     let last = (passed p (Wants (nat_lt 0 left && fits_handles (handed d c n) c) (Refused (Failed TargetFull))) []
     (passed p (from_manager d c transferring)

@@ -32,7 +32,7 @@ use Rattle.sm_history.proofs.SegmentReads.{any_client}
 use Rattle.sm_history.proofs.TurnRows.{turn_rows}
 use Rattle.sm_core.specs.declared.client.LiveClient.{LiveClient}
 use Rattle.sm_core.specs.declared.turns.Turns.{Turns}
-use Rattle.sm_core.specs.Counting.{admin_of, admins_in, client_of, made, made_sealed, row_for}
+use Rattle.sm_core.specs.Counting.{admin_of, counted_admins, as_client, change_count, made_sealed, row_for}
 use Rattle.sm_core.specs.Tables.{client_row, client_rows}
 
 abbrev pub ids : List LiveClient → List ℕ
@@ -136,8 +136,10 @@ dead_turn h c dead =
     omega (arith, rows)
 
 pub turns_sealed : (h : History) (t t' : Turns) (rows : List LiveClient) (next : ℕ) → Sound (effects_of h)
-    → ((by : By) → made t by ≡ turn_of h by) → rows ≡ client_rows (effects_of h) → next ≡ next_client (effects_of h)
-    → ((by : By) → made t' by ≡ made_sealed (ids rows) next t by) → (by : By) → made t' by ≡ turn_of (sealed h) by
+    → ((by : By) → change_count t by ≡ turn_of h by) → rows ≡ client_rows (effects_of h)
+    → next ≡ next_client (effects_of h)
+    → ((by : By) → change_count t' by ≡ made_sealed (ids rows) next t by) → (by : By)
+    → change_count t' by ≡ turn_of (sealed h) by
 turns_sealed h t t' rows next s are er en is Manager = is Manager ∙ are Manager ∙ sym (sealed_turn h Manager refl)
 turns_sealed h t t' rows next s are er en is (Admin a) = is (Admin a) ∙ are (Admin a)
     ∙ sym (sealed_turn h (Admin a) refl)
@@ -153,12 +155,12 @@ turns_sealed h t t' rows next s are er en is (Client c) =
           let below = live_below d c.0 next s en e in
           let kept : (nat_lt c.0 next && list_any (λ k. k == c.0) (ids rows)) ≡ true =
           ap (λ (b : Bool). b && list_any (λ k. k == c.0) (ids rows)) below ∙ live ∙ e in
-          ap (λ (b : Bool). let n : ℕ = if b then made t (Client c) else 0 in n) kept ∙ are (Client c)
+          ap (λ (b : Bool). let n : ℕ = if b then change_count t (Client c) else 0 in n) kept ∙ are (Client c)
           ∙ sym (sealed_turn h (Client c) e)
       | false ↦ λ e.
           let gone : (nat_lt c.0 next && list_any (λ k. k == c.0) (ids rows)) ≡ false =
           ap (λ (b : Bool). nat_lt c.0 next && b) (live ∙ e) ∙ and_false (nat_lt c.0 next) in
-          ap (λ (b : Bool). let n : ℕ = if b then made t (Client c) else 0 in n) gone ∙ sym (dead_turn h c e)
+          ap (λ (b : Bool). let n : ℕ = if b then change_count t (Client c) else 0 in n) gone ∙ sym (dead_turn h c e)
     ] refl
 
 -- ---- rows
@@ -245,19 +247,19 @@ admins_sealed h =
     ∙ all_admins h.opening.turns h.entries
 
 -- The rows of the actors.
-same_rows : (h : History) (t : Turns) (bys : List By) → ((by : By) → made t by ≡ turn_of h by)
+same_rows : (h : History) (t : Turns) (bys : List By) → ((by : By) → change_count t by ≡ turn_of h by)
     → map (row_for t) bys ≡ map (turn_row h) bys
 same_rows h t [] are = refl
 same_rows h t (b ∷ bys) are =
     ap (λ (n : ℕ). (let r : TurnRow = record { by = b; turns = n } in r) ∷ map (row_for t) bys) (are b)
     ∙ ap (λ (rs : List TurnRow). turn_row h b ∷ rs) (same_rows h t bys are)
 
-pub actor_rows : (h : History) (t : Turns) (rows : List LiveClient) → ((by : By) → made t by ≡ turn_of h by)
-    → admins_in t ≡ admins_of h → rows ≡ client_rows (effects_of h)
-    → map (row_for t) (Manager ∷ map client_of (ids rows) ++ admins_in t) ≡ map (turn_row h) (actors_of h)
+pub actor_rows : (h : History) (t : Turns) (rows : List LiveClient) → ((by : By) → change_count t by ≡ turn_of h by)
+    → counted_admins t ≡ admins_of h → rows ≡ client_rows (effects_of h)
+    → map (row_for t) (Manager ∷ map as_client (ids rows) ++ counted_admins t) ≡ map (turn_row h) (actors_of h)
 actor_rows h t rows are admins is =
-    ap (λ (bys : List By). map (row_for t) (Manager ∷ map client_of (ids rows) ++ bys)) admins
-    ∙ ap (λ (rs : List LiveClient). map (row_for t) (Manager ∷ map client_of (ids rs) ++ admins_of h)) is
-    ∙ ap (λ (ks : List ℕ). map (row_for t) (Manager ∷ map client_of ks ++ admins_of h))
+    ap (λ (bys : List By). map (row_for t) (Manager ∷ map as_client (ids rows) ++ bys)) admins
+    ∙ ap (λ (rs : List LiveClient). map (row_for t) (Manager ∷ map as_client (ids rs) ++ admins_of h)) is
+    ∙ ap (λ (ks : List ℕ). map (row_for t) (Manager ∷ map as_client ks ++ admins_of h))
     (ids_are (effects_of h) (live_clients (effects_of h)))
     ∙ same_rows h t (actors_of h) are

@@ -7,7 +7,7 @@ use Rattle.sm_history.specs.declared.turn.TurnRow.{TurnRow}
 use Rattle.sm_history.specs.Openings.{is_same}
 use Rattle.sm_history.proofs.TurnRows.{same_actor}
 use Rattle.sm_core.specs.declared.turns.Turns.{Turns}
-use Rattle.sm_core.specs.Counting.{made}
+use Rattle.sm_core.specs.Counting.{change_count}
 use Rattle.sm_core.specs.Viewing.{counted_in, rows_of_others}
 
 -- Among the rows of others than `by`, another actor's first row is the one that it has among all.
@@ -27,16 +27,17 @@ found_among_others b by (r ∷ rs) other =
 
 -- The changes of an actor, where one actor's row is replaced by one with one change more.
 pub counted_after : (base turns : Turns) (row : TurnRow) (rows rows' : List TurnRow) (b : By)
-    → counted_in base rows b ≡ made turns b → row.turns ≡ made turns row.by + 1
+    → counted_in base rows b ≡ change_count turns b → row.turns ≡ change_count turns row.by + 1
     → rows' ≡ row ∷ rows_of_others row.by rows
-    → counted_in base rows' b ≡ (if is_same b row.by then made turns b + 1 else made turns b)
+    → counted_in base rows' b ≡ (if is_same b row.by then change_count turns b + 1 else change_count turns b)
 counted_after base turns row rows rows' b was one is =
     let rest = rows_of_others row.by rows in
     ap (λ (rs : List TurnRow). counted_in base rs b) is
     ∙ elim (is_same b row.by) as (λ t. is_same b row.by ≡ t
     → unwrap_or (option_map (λ (r : TurnRow). r.turns) (cond t (Some row) (find (λ r. is_same b r.by) rest)))
-    (made base b) ≡ (if t then made turns b + 1 else made turns b)) [
-      | true ↦ λ e. one ∙ ap (λ (a : By). made turns a + 1) (sym (same_actor b row.by e))
-      | false ↦ λ e. ap (λ (o : Option TurnRow). unwrap_or (option_map (λ (r : TurnRow). r.turns) o) (made base b))
+    (change_count base b) ≡ (if t then change_count turns b + 1 else change_count turns b)) [
+      | true ↦ λ e. one ∙ ap (λ (a : By). change_count turns a + 1) (sym (same_actor b row.by e))
+      | false ↦ λ e. ap (λ (o : Option TurnRow). unwrap_or (option_map (λ (r : TurnRow). r.turns) o)
+          (change_count base b))
           (found_among_others b row.by rows e) ∙ was
     ] refl

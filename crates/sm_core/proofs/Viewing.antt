@@ -25,7 +25,7 @@ use Rattle.sm_names.specs.declared.services.Services.{Services}
 use Rattle.sm_core.specs.declared.ready.Ready.{Ready}
 use Rattle.sm_core.specs.declared.state.State.{State}
 use Rattle.sm_core.specs.declared.turns.Turns.{Turns}
-use Rattle.sm_core.specs.Counting.{made}
+use Rattle.sm_core.specs.Counting.{change_count}
 use Rattle.sm_core.specs.Kept.{Kept}
 use Rattle.sm_core.specs.Stands.{Stands}
 use Rattle.sm_history.proofs.AfterNames.{service_connects}
@@ -129,7 +129,7 @@ pub viewed_now : (places : ℕ) (h : History) (turns : Turns) (s : State) (len :
     → Kept places h turns s [] → len ≡ length_of h
     → ((d : Effects) → Stands d s → StandPrincipals d principals)
     → ((d : Effects) → Stands d s → TracksRows d services.rows.items)
-    → ((b : By) → counted_in base since b ≡ made turns b)
+    → ((b : By) → counted_in base since b ≡ change_count turns b)
     → Viewed places h len principals services base since
 viewed_now places h turns s len principals services base since k is asks named counts = record {
   lawful = k.lawful;
@@ -150,7 +150,8 @@ pub viewed_more : (places : ℕ) (h : History) (turns : Turns) (s : State) (r : 
     → StandPrincipals (followed d r.effects.items) principals')
     → ((d : Effects) → Sound d → TracksRows d services.rows.items → MayAllApart d r.effects.items
     → TracksRows (followed d r.effects.items) services'.rows.items)
-    → ((b : By) → counted_in base' since' b ≡ (if is_same b r.entry.by then made turns b + 1 else made turns b))
+    → ((b : By) → counted_in base' since' b
+    ≡ (if is_same b r.entry.by then change_count turns b + 1 else change_count turns b))
     → Viewed places (entered r.entry h) (len + 1) principals' services' base' since'
 viewed_more places h turns s r len principals principals' services services' base base' since
     since' k coming v asks named
@@ -164,7 +165,7 @@ viewed_more places h turns s r len principals principals' services services' bas
           (named d k.stands.sound v.named coming.may);
       turns = λ by. counts by
           ∙ elim (is_same by e.by) as (λ t. is_same by e.by ≡ t →
-          (if t then made turns by + 1 else made turns by) ≡ turn_of (entered e h) by) [
+          (if t then change_count turns by + 1 else change_count turns by) ≡ turn_of (entered e h) by) [
             | true ↦ λ q. ap (λ (n : ℕ). n + 1) (k.turns_are by) ∙ sym (turn_same e h by q)
             | false ↦ λ q. k.turns_are by ∙ sym (turn_more e h by q)
           ] refl;

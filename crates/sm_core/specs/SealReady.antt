@@ -4,12 +4,12 @@ use Rattle.sm_history.specs.declared.by.By.{By}
 use Rattle.sm_history.specs.Histories.{turn_of}
 use Rattle.sm_history.specs.Segments.{admins_of, sealed}
 use Rattle.sm_core.specs.declared.sealing.ReadySeal.{ReadySeal}
-use Rattle.sm_core.specs.Counting.{admins_in, made}
+use Rattle.sm_core.specs.Counting.{counted_admins, change_count}
 use Rattle.sm_core.specs.Managed.{Managed}
 
 -- The open segment has changes, and the next one and its counts are made.
 pub record IsReadySeal (m : Managed) (r : ReadySeal) : Type 0 where
   pub some : m.book.history.entries ≢ []
   pub opens : r.journal.history ≡ sealed m.book.history
-  pub turns : (by : By) → made r.turns by ≡ turn_of (sealed m.book.history) by
-  pub admins : admins_in r.turns ≡ admins_of (sealed m.book.history)
+  pub turns : (by : By) → change_count r.turns by ≡ turn_of (sealed m.book.history) by
+  pub admins : counted_admins r.turns ≡ admins_of (sealed m.book.history)

@@ -29,7 +29,7 @@ use Rattle.sm_names.specs.Rows.{TracksRows}
 use Rattle.sm_core.specs.declared.principals.Principals.{Principals}
 use Rattle.sm_core.specs.declared.ready.Ready.{Ready}
 use Rattle.sm_core.specs.declared.turns.Turns.{Turns}
-use Rattle.sm_core.specs.Counting.{made}
+use Rattle.sm_core.specs.Counting.{change_count}
 use Rattle.sm_core.specs.Stands.{sets_in}
 use Rattle.sm_history.specs.declared.limits.TheConstants.{GREATEST}
 use Rattle.sm_core.specs.Tables.{process_at, client_rows}
@@ -95,7 +95,7 @@ rows_of_others by since = filter (λ r. not (is_same by r.by)) since
 
 -- An actor's changes: the number in its row, or that in the table where it has no row.
 abbrev pub counted_in : Turns → List TurnRow → By → ℕ
-counted_in base since by = unwrap_or (listed_turns since by) (made base by)
+counted_in base since by = unwrap_or (listed_turns since by) (change_count base by)
 
 -- The parts of a view are those of its history.
 pub record Viewed (places : ℕ) (h : History) (length : ℕ) (principals : Principals) (services : Services) (base : Turns)

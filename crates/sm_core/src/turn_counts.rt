@@ -5,7 +5,7 @@ ghost use Rattle.std.specs.Arc.{arc_value};
 ghost use Rattle.sm_history.specs.declared.by.By.{By};
 ghost use Rattle.sm_history.specs.Openings.{is_same};
 ghost use Rattle.sm_history.specs.declared.limits.TheConstants.{GREATEST};
-ghost use Rattle.sm_core.specs.Counting.{made};
+ghost use Rattle.sm_core.specs.Counting.{change_count};
 ghost use Rattle.sm_core.specs.Viewing.{counted_in, listed_turns, rows_of_others};
 
 use crate::turns::Turns;
@@ -67,7 +67,8 @@ impl TurnCounts {
     ///
     /// An error if an allocation fails.
     pub fn of(alloc: Global, turns: &Turns) -> Result<TurnCounts, AllocError>
-        ensures { IfOk result (λ t. (b : By) → counted_in (arc_value t.base) t.since.items b ≡ made turns.now b) }
+        ensures { IfOk result (λ t. (b : By)
+            → counted_in (arc_value t.base) t.since.items b ≡ change_count turns.now b) }
     {
         let base = Arc::new(alloc, turns.copy()?)?;
         let since = Vec::new(alloc);
@@ -80,10 +81,11 @@ impl TurnCounts {
     ///
     /// An error where an allocation failed.
     pub fn after(&self, alloc: Global, turns: &Turns, by: By) -> Result<TurnCounts, AllocError>
-        requires counts { (b : By) → counted_in (arc_value self.now.base) self.now.since.items b ≡ made turns.now b }
-        requires few { made turns.now by < GREATEST }
+        requires counts { (b : By) → counted_in (arc_value self.now.base) self.now.since.items b
+            ≡ change_count turns.now b }
+        requires few { change_count turns.now by < GREATEST }
         ensures { IfOk result (λ t. (b : By) → counted_in (arc_value t.base) t.since.items b
-            ≡ (if is_same b by then made turns.now b + 1 else made turns.now b)) }
+            ≡ (if is_same b by then change_count turns.now b + 1 else change_count turns.now b)) }
     {
         let row = TurnRow {
             by,

@@ -10,7 +10,7 @@ ghost use Rattle.sm_history.specs.declared.by.By.{By};
 ghost use Rattle.sm_history.specs.declared.limits.TheConstants.{GREATEST};
 ghost use Rattle.sm_history.specs.Sound.{Sound};
 ghost use Rattle.sm_names.specs.Rows.{TracksRows};
-ghost use Rattle.sm_core.specs.Counting.{made};
+ghost use Rattle.sm_core.specs.Counting.{change_count};
 ghost use Rattle.sm_core.specs.Kept.{Kept};
 ghost use Rattle.sm_core.specs.Managed.{look_leaves};
 ghost use Rattle.sm_core.specs.Stands.{Stands, sets_in};
@@ -159,7 +159,7 @@ impl View {
     /// begins with. Processes and services are shared with this view, since a seal changes neither.
     pub(crate) fn after_seal(&self, journal: &Journal, turns: &Turns) -> Result<View, AllocError>
         requires history { journal.now.history ≡ sealed self.now.history }
-        requires turns { (by : By) → made turns.now by ≡ turn_of (sealed self.now.history) by }
+        requires turns { (by : By) → change_count turns.now by ≡ turn_of (sealed self.now.history) by }
         ensures { IfOk result (λ v. v ≡ record { places = self.now.places; history = journal.now.history }) }
     {
         let alloc = self.alloc;

@@ -13,7 +13,7 @@ use Rattle.sm_history.specs.Verdict.{verdict}
 use Rattle.sm_core.specs.Managed.{step_leaves}
 use Rattle.sm_history.specs.BookOrder.{Begins}
 use Rattle.sm_history.specs.PossibleReplies.{moves}
-use Rattle.sm_history.specs.Steps.{Steps, book_after, made}
+use Rattle.sm_history.specs.Steps.{Steps, book_after, entry_made}
 use Rattle.sm_history.specs.Tokens.{Knows, Sees, turn}
 use Rattle.sm_history.proofs.BookOrder.{before_change, book_itself}
 use Rattle.sm_history.proofs.Turns.{done_in_turn, not_yours_leaves}
@@ -25,7 +25,7 @@ module _ (b after : Book) (old new : Knows) (event : Event) (sees : Sees old aft
       → log ≡ step_leaves b old.by (turn old) event (Done o) → Logged old new event (Done o) log
   logged_done o v goes left = record {
     before = b;
-    begins = before_change b old.seen (made old.by (turn old) event o)
+    begins = before_change b old.seen (entry_made old.by (turn old) event o)
         (subst (λ (x : Book). Begins x old.seen) (sees.1 ∙ goes) sees.0.begins)
         (done_in_turn b.places b.history old.by (turn old) event o (sym v));
     ends = sees.1 ∙ goes;

@@ -21,7 +21,7 @@ use Rattle.sm_history.specs.declared.reply.Reply.TheVariants.{Done, Refused}
 use Rattle.sm_audit.specs.Rings.{newest_of}
 use Rattle.sm_core.specs.Managed.{IsSame, IsAnswer, ring_after, step_leaves}
 use Rattle.sm_history.specs.BookOrder.{Begins}
-use Rattle.sm_history.specs.Steps.{Steps, Seals}
+use Rattle.sm_history.specs.Steps.{Steps, ClosesSegment}
 use Rattle.sm_history.proofs.BookOrder.{book_itself, book_through}
 use Rattle.sm_door.specs.declared.published.ReaderKnowledge.{ReaderKnowledge}
 use Rattle.sm_door.specs.Rule.{Keeps, Enters, known}
@@ -139,7 +139,7 @@ leaves_done b by turn event noted outcome r is left =
 
 -- A segment that was closed.
 pub seals_done : (b b' : Book) (segment : History) → b.history.entries ≢ [] → segment ≡ b.history
-    → b'.places ≡ b.places → b'.history ≡ sealed b.history → Seals b segment b'
+    → b'.places ≡ b.places → b'.history ≡ sealed b.history → ClosesSegment b segment b'
 seals_done b b' segment made is places history = record {
   segment_is = is;
   some = made;

@@ -4,7 +4,7 @@ ghost use Rattle.std.specs.Prelude.{◌≡◌, [], MatchOption};
 ghost use Rattle.left_right.specs.Sides.{view as place_view};
 ghost use Rattle.sm_history.specs.Histories.{turn_of};
 ghost use Rattle.sm_history.specs.BookOrder.{IsLawfulBook};
-ghost use Rattle.sm_history.specs.Promises.{Read};
+ghost use Rattle.sm_history.specs.Promises.{Queried};
 ghost use Rattle.sm_history.specs.Tokens.{Sees as SeesNow, token, turn};
 ghost use Rattle.sm_door.specs.Logged.{ReadFrom, ReadLogged};
 ghost use Rattle.sm_door.specs.Rule.{known};
@@ -90,7 +90,7 @@ impl<J: Naming> Actor<J> {
     /// Answers a query from the published shared view. Never blocks. `NoSeat` if no entry was free; the token is then
     /// unchanged.
     pub fn read(&mut self, query: Query) -> Reply
-        ensures { Read self.old self.new query result }
+        ensures { Queried self.old self.new query result }
     {
         match self.read_view(query) {
             Some((reply, _records)) => reply,

@@ -14,7 +14,8 @@ ghost use Rattle.sm_history.specs.Checks.{managing};
 ghost use Rattle.sm_history.specs.Lawful.{MayOpen};
 ghost use Rattle.sm_history.specs.Verdict.{is_die};
 ghost use Rattle.sm_core.specs.Opening.{opened, opening_denial};
-ghost use Rattle.sm_history.specs.Promises.{Submitted, Accepted, Read, Joined, TellsRecords, Turned, Closed, NotClosed};
+ghost use Rattle.sm_history.specs.Promises.{Submitted, Accepted, Queried, Joined, TellsRecords, Turned, Closed};
+ghost use Rattle.sm_history.specs.Promises.{NotClosed};
 ghost use Rattle.sm_history.specs.PossibleReplies.{OfConnect, OfLeave, OfInstall};
 ghost use Rattle.sm_history.specs.Tokens.{Grows, token};
 ghost use Rattle.sm_history.specs.declared.limits.TheConstants.{MOST_CLIENTS};
@@ -320,7 +321,7 @@ impl<J: Naming, G: Gate + Drop> Door<J, G> {
     /// Lists the names whose dump flags share a bit with the mask (`listServices`). Never blocks. A denial is in the
     /// reply, and isn't added to the ring.
     pub fn list(&self, me: &mut Session<J>, mask: u32) -> Reply
-        ensures { Read me.old me.new (ListNames mask) result }
+        ensures { Queried me.old me.new (ListNames mask) result }
     {
         me.actor.read(Query::List(mask))
     }
@@ -334,7 +335,7 @@ impl<J: Naming, G: Gate + Drop> Door<J, G> {
 
     /// Returns the version of the policy in force. Never blocks.
     pub fn version<T: Token>(&self, me: &mut T) -> Reply
-        ensures { Read (T.knows me.old) (T.knows me.new) Version result }
+        ensures { Queried (T.knows me.old) (T.knows me.new) Version result }
     {
         me.read_version()
     }
@@ -348,7 +349,7 @@ impl<J: Naming, G: Gate + Drop> Door<J, G> {
         class: Class,
         perm: Perms,
     ) -> Reply
-        ensures { Read me.old me.new (Explain source target class perm) result }
+        ensures { Queried me.old me.new (Explain source target class perm) result }
     {
         me.actor.read(Query::Explain {
             source,

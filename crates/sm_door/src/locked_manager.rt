@@ -10,7 +10,7 @@ ghost use Rattle.sm_core.specs.SealReady.{IsReadySeal};
 ghost use Rattle.sm_history.specs.Histories.{turn_of};
 ghost use Rattle.sm_history.specs.Records.{IsTrueSince};
 ghost use Rattle.sm_history.specs.BookOrder.{Begins, IsLawfulBook, extended, sealed_book};
-ghost use Rattle.sm_history.specs.Steps.{Steps, Seals, StaysOpen};
+ghost use Rattle.sm_history.specs.Steps.{Steps, ClosesSegment, StaysOpen};
 
 use crate::published::{Published, ViewReader};
 use crate::publisher::Publisher;
@@ -117,7 +117,7 @@ impl<J: Naming> LockedManager<J> {
     ///
     /// `Empty` if the segment has no changes, `Memory` if an allocation failed.
     pub fn seal<R: Wait>(&mut self, rt: &R) -> Result<Segment, Refusal>
-        ensures seals { MatchResult result (λ s. Seals self.old.book s self.new.book)
+        ensures seals { MatchResult result (λ s. ClosesSegment self.old.book s self.new.book)
             (λ r. StaysOpen self.old.book r self.new.book) }
         ensures ring { self.new.ring ≡ self.old.ring }
     {

@@ -39,7 +39,8 @@ where
 
     ghost view = { λ p. arc_value p.shared_view };
 
-    ghost invariant = { λ p. MatchOption p.writer ⊥ (λ w. arc_value w.desk.shown.value.shared_view ≡ arc_value p.shared_view) };
+    ghost invariant = { λ p. MatchOption p.writer ⊥
+        (λ w. arc_value w.desk.shown.value.shared_view ≡ arc_value p.shared_view) };
 }
 
 /// Publishes a shared view. On an error readers find what they found, and the shared view that stays pending is overtaken by the

@@ -2,7 +2,7 @@
 
 ghost use Rattle.std.specs.Prelude.{◌≡◌};
 ghost use Rattle.sm_history.specs.declared.query.Query.TheVariants.{Version};
-ghost use Rattle.sm_history.specs.Promises.{Read};
+ghost use Rattle.sm_history.specs.Promises.{Queried};
 ghost use Rattle.sm_history.specs.Tokens.{Knows};
 
 use crate::admin::Admin;
@@ -16,7 +16,7 @@ pub trait Token {
 
     /// Returns the version, from the published shared view. Never blocks.
     fn read_version(&mut self) -> Reply
-        ensures { Read (knows self.old) (knows self.new) Version result };
+        ensures { Queried (knows self.old) (knows self.new) Version result };
 }
 
 impl<J: Naming> Token for Session<J> {

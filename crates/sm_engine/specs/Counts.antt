@@ -15,9 +15,9 @@ abbrev pub inner_of : {T : Type 0} → Counted T → T
 inner_of c = c.inner
 
 -- This is the greatest count.
-abbrev pub greatest : ℕ
-greatest = 2 ^ 64 - 1
+abbrev pub greatest_count : ℕ
+greatest_count = 2 ^ 64 - 1
 
 -- A count goes up by one, unless it is the greatest.
 abbrev pub one_more : ℕ → ℕ
-one_more n = min (n + 1) greatest
+one_more n = min (n + 1) greatest_count

@@ -2,7 +2,7 @@
 
 ghost use Rattle.std.specs.Prelude.{◌≡◌, ◌<◌, ◌≤◌, ◌+◌, ◌-◌, ℕ, [], length, OnOk, OnErr, take, ◌⊎◌};
 ghost use Rattle.std.specs.Io.KnownBytes.{Appends};
-ghost use Rattle.sm_engine.specs.Counts.{failures_of, inner_of, greatest};
+ghost use Rattle.sm_engine.specs.Counts.{failures_of, inner_of, greatest_count};
 ghost use Rattle.sm_engine.specs.Running.{Wrote, Stopped, Spilled};
 
 use crate::counted::Counted;
@@ -21,8 +21,8 @@ pub fn answer_items<M: Machine, W: Write, A: Write>(
     writer: &mut Counted<W>,
     audit: &mut Counted<A>,
 ) -> Result<(), Fault>
-    requires writer { failures_of writer.old < greatest }
-    requires audit { failures_of audit.old < greatest }
+    requires writer { failures_of writer.old < greatest_count }
+    requires audit { failures_of audit.old < greatest_count }
     ensures ok { OnOk result (Wrote M.answers machine.old items.items
         (W.contents (inner_of writer.old)) (W.contents (inner_of writer.new))
         (A.contents (inner_of audit.old)) (A.contents (inner_of audit.new)) machine.new) }
@@ -62,7 +62,7 @@ fn tell_written<M: Machine>(machine: &mut M, held: &[u8])
 
 /// Writes what is held back, if it has at least `limit` bytes.
 fn spill<W: Write>(writer: &mut Counted<W>, limit: usize, held: &mut Vec<u8>) -> Result<(), Fault>
-    requires { failures_of writer.old < greatest }
+    requires { failures_of writer.old < greatest_count }
     ensures ok { OnOk result
         (Spilled (W.contents (inner_of writer.old)) (W.contents (inner_of writer.new)) held.old.items held.new.items) }
     ensures short { OnOk result (length held.new.items ≤ limit - 1) }
@@ -81,7 +81,7 @@ fn spill<W: Write>(writer: &mut Counted<W>, limit: usize, held: &mut Vec<u8>) ->
 
 /// Writes what is held back.
 fn write_held<W: Write>(writer: &mut Counted<W>, held: &mut Vec<u8>) -> Result<(), Fault>
-    requires { failures_of writer.old < greatest }
+    requires { failures_of writer.old < greatest_count }
     ensures ok { OnOk result
         (Appends (W.contents (inner_of writer.old)) (W.contents (inner_of writer.new)) held.old.items) }
     ensures held { OnOk result (held.new.items ≡ []) }

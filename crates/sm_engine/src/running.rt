@@ -4,7 +4,7 @@ ghost use Rattle.std.specs.Prelude.{◌≡◌, false, MatchBool, ◌<◌, ◌≤
 ghost use Rattle.std.specs.Prelude.{codes, [], ◌⊎◌, if◌then◌else◌};
 ghost use Rattle.std.specs.Io.KnownBytes.{Appends, Consumes, Keeps, IsAtEnd};
 ghost use Rattle.sm_wire.specs.Items.{IsAlive, scan_after, items_after};
-ghost use Rattle.sm_engine.specs.Counts.{failures_of, calls_of, inner_of, greatest, one_more};
+ghost use Rattle.sm_engine.specs.Counts.{failures_of, calls_of, inner_of, greatest_count, one_more};
 ghost use Rattle.sm_engine.specs.Running.{Wrote, Stopped, Served, ending_of};
 
 use crate::answering::answer_items;
@@ -30,9 +30,9 @@ pub fn run<M: Machine, R: Read, W: Write, A: Write>(
     audit: &mut Counted<A>,
 ) -> Result<(), Fault>
     requires begins { M.over machine.old ≡ false }
-    requires reader { failures_of reader.old < greatest }
-    requires writer { failures_of writer.old < greatest }
-    requires audit { failures_of audit.old < greatest }
+    requires reader { failures_of reader.old < greatest_count }
+    requires writer { failures_of writer.old < greatest_count }
+    requires audit { failures_of audit.old < greatest_count }
     ensures served { Served kind M.answers M.over M.hold_limit result bound
         (calls_of reader.new - calls_of reader.old) machine.old
         (R.remaining (inner_of reader.old)) (R.remaining (inner_of reader.new))
@@ -42,7 +42,7 @@ pub fn run<M: Machine, R: Read, W: Write, A: Write>(
         (MatchBool (M.over machine.new) (Unit {0}) (IsAtEnd (R.remaining (inner_of reader.new)))) }
     ensures reads { calls_of reader.new ≤ calls_of reader.old + bound }
     ensures too_many { result ≡ Err Fault.TooManyReads
-        → calls_of reader.new ≡ min (calls_of reader.old + bound) greatest }
+        → calls_of reader.new ≡ min (calls_of reader.old + bound) greatest_count }
     ensures read_fault { result ≡ Err Fault.ReadFault → failures_of reader.old < failures_of reader.new }
     ensures write_fault { result ≡ Err Fault.WriteFault → failures_of writer.old + failures_of audit.old
         < failures_of writer.new + failures_of audit.new }
@@ -70,7 +70,7 @@ pub fn run<M: Machine, R: Read, W: Write, A: Write>(
 
 fn read_piece<R: Read>(reader: &mut Counted<R>, buffer: &mut [u8]) -> Result<usize, Fault>
     requires room { 0 < length buffer.old }
-    requires count { failures_of reader.old < greatest }
+    requires count { failures_of reader.old < greatest_count }
     ensures within { IfOk result (λ n. n ≤ length buffer.new) }
     ensures bytes { IfOk result
         (λ n. Consumes (R.remaining (inner_of reader.old)) (R.remaining (inner_of reader.new)) (take n buffer.new)) }
@@ -96,8 +96,8 @@ fn take_piece<M: Machine, W: Write, A: Write>(
     audit: &mut Counted<A>,
 ) -> Result<(), Fault>
     requires alive { IsAlive lines.old }
-    requires writer { failures_of writer.old < greatest }
-    requires audit { failures_of audit.old < greatest }
+    requires writer { failures_of writer.old < greatest_count }
+    requires audit { failures_of audit.old < greatest_count }
     ensures ok { OnOk result (Wrote M.answers machine.old (items_after lines.old piece.now)
         (W.contents (inner_of writer.old)) (W.contents (inner_of writer.new))
         (A.contents (inner_of audit.old)) (A.contents (inner_of audit.new)) machine.new) }
@@ -122,7 +122,7 @@ fn take_piece<M: Machine, W: Write, A: Write>(
 
 // Reports the end of the input inside a line or a file.
 fn write_ending<W: Write>(lines: &Lines, writer: &mut Counted<W>) -> Result<(), Fault>
-    requires { failures_of writer.old < greatest }
+    requires { failures_of writer.old < greatest_count }
     ensures ok { OnOk result
         (Appends (W.contents (inner_of writer.old)) (W.contents (inner_of writer.new)) (ending_of lines.now)) }
     ensures front { OnErr result

@@ -2,7 +2,7 @@
 
 ghost use Rattle.std.specs.Prelude.{◌≡◌, ◌<◌, ◌≤◌, ℕ, take, OnOk, OnErr};
 ghost use Rattle.std.specs.Io.KnownBytes.{Appends};
-ghost use Rattle.sm_engine.specs.Counts.{failures_of, inner_of, greatest};
+ghost use Rattle.sm_engine.specs.Counts.{failures_of, inner_of, greatest_count};
 
 use crate::counted::Counted;
 use crate::fault::Fault;
@@ -10,7 +10,7 @@ use std::io::Write;
 
 /// Writes all of `text`. After a fault a prefix of it is written.
 pub fn write_whole<W: Write>(writer: &mut Counted<W>, text: &[u8]) -> Result<(), Fault>
-    requires { failures_of writer.old < greatest }
+    requires { failures_of writer.old < greatest_count }
     ensures ok { OnOk result (Appends (W.contents (inner_of writer.old)) (W.contents (inner_of writer.new)) text.now) }
     ensures count { OnOk result (failures_of writer.new ≡ failures_of writer.old) }
     ensures front { OnErr result

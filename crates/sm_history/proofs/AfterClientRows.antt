@@ -19,7 +19,7 @@ use Rattle.sm_history.specs.Holdings.{refs_at, is_held, number_at, node_at}
 use Rattle.sm_history.specs.Inboxes.{inbox_at}
 use Rattle.sm_history.specs.Sound.{Sound, HasOneEach}
 use Rattle.sm_history.specs.Following.{MayFollow, MayGive}
-use Rattle.sm_history.specs.Tables.{slot, slot_at, row_of, clients_of, IsPut, IsPlace, given_slot, released_slot}
+use Rattle.sm_history.specs.Tables.{slot, slot_at, client_row_of, clients_of, IsPut, IsPlace, given_slot, released_slot}
 use Rattle.sm_history.specs.Tables.{IsClient, IsRowFor, TracksClients}
 use Rattle.sm_history.proofs.Balanced.{number_same, node_same}
 use Rattle.sm_history.proofs.Grants.{same_self, held_gives}
@@ -58,7 +58,7 @@ pub rows_stay : (d e : Effects) (rows : List ClientRow) → live_clients e ≡ l
     → ((c : ℕ) → SameClient d e c) → TracksClients d rows → TracksClients e rows
 rows_stay d e rows list same tr = record {
   ids = tr.ids ∙ sym list;
-  each = λ c. row_stays d e c (row_of rows c) (same c) (tr.each c);
+  each = λ c. row_stays d e c (client_row_of rows c) (same c) (tr.each c);
 }
 
 ids_set : (rows : List ClientRow) (i : ℕ) (r r' : ClientRow) → i < length rows → r ≡ get_or rows i r
@@ -78,29 +78,29 @@ tracks_written d e rows c i r r' place at same list others own tr =
     let changed = row_written rows c i r r' place at same in
     record {
       ids = ids_set rows i r r' place.inside at same ∙ tr.ids ∙ sym list;
-      each = by_client (λ k. IsRowFor e k (row_of (set rows i r') k)) c
+      each = by_client (λ k. IsRowFor e k (client_row_of (set rows i r') k)) c
           (subst (IsRowFor e c) (sym changed.own)
           (own (subst (IsRowFor d c) (row_read rows c i r place at) (tr.each c))))
           (λ k f. subst (IsRowFor e k) (sym (changed.other k f))
-          (row_stays d e k (row_of rows k) (others k f) (tr.each k)));
+          (row_stays d e k (client_row_of rows k) (others k f) (tr.each k)));
     }
 
-pub in_ids : (rows : List ClientRow) (c : ℕ) → list_any (λ y. y == c) (clients_of rows) ≡ is_some (row_of rows c)
+pub in_ids : (rows : List ClientRow) (c : ℕ) → list_any (λ y. y == c) (clients_of rows) ≡ is_some (client_row_of rows c)
 in_ids [] c = refl
 in_ids (r ∷ rs) c = elim (r.client == c) as (λ b. (b || list_any (λ y. y == c) (clients_of rs))
-    ≡ is_some (cond b (Some r) (row_of rs c))) [ true ↦ refl | false ↦ in_ids rs c ]
+    ≡ is_some (cond b (Some r) (client_row_of rs c))) [ true ↦ refl | false ↦ in_ids rs c ]
 
 -- A live client has a row.
 pub live_row : (d : Effects) (rows : List ClientRow) (c : ℕ) → TracksClients d rows → is_live d c ≡ true
-    → row_of rows c ≡ None → ⊥
+    → client_row_of rows c ≡ None → ⊥
 live_row d rows c tr live none =
     true≢false (sym (ap (λ (o : Option ClientRow). is_some o) (sym none) ∙ sym (in_ids rows c)
     ∙ ap (list_any (λ y. y == c)) tr.ids ∙ any_live d c ∙ live))
 
 pub not_live : (d : Effects) (rows : List ClientRow) (c : ℕ) → TracksClients d rows
-    → list_any (λ y. y == c) (live_clients d) ≡ false → row_of rows c ≡ None
+    → list_any (λ y. y == c) (live_clients d) ≡ false → client_row_of rows c ≡ None
 not_live d rows c tr none =
-    elim (row_of rows c) as (λ o. is_some o ≡ false → o ≡ None) [
+    elim (client_row_of rows c) as (λ o. is_some o ≡ false → o ≡ None) [
       | None ↦ λ h. refl
       | Some r ↦ λ h. absurd
           (true≢false h)
@@ -191,15 +191,15 @@ tracks_connects d n who rows r s is own process held waiting tr =
     let e = Connects n who ∷ d in
     let new = is_new d n is s.fresh in
     let none = not_live d rows n tr (none_live d n new) in
-    let changed = row_pushed rows r (ap (row_of rows) own ∙ none) in
+    let changed = row_pushed rows r (ap (client_row_of rows) own ∙ none) in
     record {
       ids = ids_more rows r ∙ ap (λ (k : ℕ). clients_of rows ++ k ∷ []) own ∙ ap (λ (ks : List ℕ). ks ++ n ∷ []) tr.ids
           ∙ sym (list_connects d n who new);
-      each = by_client (λ k. IsRowFor e k (row_of (rows ++ r ∷ []) k)) n
-          (subst (IsRowFor e n) (sym (ap (row_of (rows ++ r ∷ [])) (sym own) ∙ changed.own))
+      each = by_client (λ k. IsRowFor e k (client_row_of (rows ++ r ∷ []) k)) n
+          (subst (IsRowFor e n) (sym (ap (client_row_of (rows ++ r ∷ [])) (sym own) ∙ changed.own))
           (new_client d n who r s is process held waiting))
           (λ k f. subst (IsRowFor e k) (sym (changed.other k (ap (λ v. v == k) own ∙ f)))
-          (row_stays d e k (row_of rows k) (same_connects d n who k s is f) (tr.each k)));
+          (row_stays d e k (client_row_of rows k) (same_connects d n who k s is f) (tr.each k)));
     }
 
 ids_gone : (rows : List ClientRow) (c : ℕ) → clients_of (filter (λ r. not (r.client == c)) rows)
@@ -240,9 +240,9 @@ tracks_dies d c rows s live tr =
     record {
       ids = ids_gone rows c ∙ filter_turned c (clients_of rows) ∙ ap (filter (λ k. not (c == k))) tr.ids
           ∙ sym (list_dies d c);
-      each = by_client (λ k. IsRowFor e k (row_of left k)) c (subst (IsRowFor e c) (sym changed.own) tt)
+      each = by_client (λ k. IsRowFor e k (client_row_of left k)) c (subst (IsRowFor e c) (sym changed.own) tt)
           (λ k f. subst (IsRowFor e k) (sym (changed.other k f))
-          (row_stays d e k (row_of rows k) (same_dies d c k s live f) (tr.each k)));
+          (row_stays d e k (client_row_of rows k) (same_dies d c k s live f) (tr.each k)));
     }
 
 -- ---- grants

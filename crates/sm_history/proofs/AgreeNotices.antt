@@ -137,7 +137,8 @@ registration_alike d e n w s =
     ap (λ (g : Given). let v : Delivery = record { object = w.object; what = Registered w.name g } in v)
     (given_alike d e w.client n s)
 
-told_alike : (d e : Effects) (n : Node) (w : Watch) (o : Option FailedCheck) → Sim d e → told_of d n w o ≡ told_of e n w o
+told_alike : (d e : Effects) (n : Node) (w : Watch) (o : Option FailedCheck) → Sim d e
+    → told_of d n w o ≡ told_of e n w o
 told_alike d e n w None s = ap (λ (x : Delivery). IsTold x) (registration_alike d e n w s)
 told_alike d e n w (Some failing) s = refl
 

@@ -10,7 +10,7 @@ use Rattle.std.proofs.lemmas.Bool.Decides.{nat_tests}
 use Rattle.std.proofs.lemmas.List.Folds.{find_at, find-set, find_past, find-append}
 use Rattle.std.proofs.lemmas.List.Quantifiers.{position-Some}
 use Rattle.sm_history.specs.declared.client_row.ClientRow.{ClientRow}
-use Rattle.sm_history.specs.Tables.{row_of, IsChanged, IsPlace}
+use Rattle.sm_history.specs.Tables.{client_row_of, IsChanged, IsPlace}
 
 number_same : (a b : ℕ) → (a == b) ≡ true → a ≡ b
 number_same a b h = grind (arith, nat_tests)
@@ -47,11 +47,11 @@ past_end [] i le = refl
 past_end (r ∷ rs) zero le = absurd (omega (arith, le))
 past_end (r ∷ rs) (suc i) le = past_end rs i (omega (arith, le))
 
-pub no_row : (rows : List ClientRow) (c : ℕ) → position (is_of c) rows ≡ None → row_of rows c ≡ None
+pub no_row : (rows : List ClientRow) (c : ℕ) → position (is_of c) rows ≡ None → client_row_of rows c ≡ None
 no_row rows c h =
     elim (nat_lt (position_or_len (is_of c) rows) (length rows)) as (λ b. nat_lt (position_or_len (is_of c) rows)
     (length rows) ≡ b → (let o : Option ℕ = cond b (Some (position_or_len (is_of c) rows)) None in o) ≡ None →
-    row_of rows c ≡ None) [
+    client_row_of rows c ≡ None) [
       | true ↦ λ e f. cc
       | false ↦ λ e f. find_at (is_of c) rows ∙ past_end rows (position_or_len (is_of c) rows)
           (grind (arith, nat_tests))
@@ -78,43 +78,43 @@ is_place rows c i h =
     }
 
 pub by_position : (rows : List ClientRow) (c : ℕ) (o : Option ℕ) → o ≡ position (is_of c) rows
-    → MatchOption o (row_of rows c ≡ None) (IsPlace rows c)
+    → MatchOption o (client_row_of rows c ≡ None) (IsPlace rows c)
 by_position rows c None e = no_row rows c (sym e)
 by_position rows c (Some i) e = is_place rows c i (sym e)
 
 -- What was read at a client's place is its row.
 pub row_read : (rows : List ClientRow) (c i : ℕ) (r : ClientRow) → IsPlace rows c i → r ≡ get_or rows i r
-    → row_of rows c ≡ Some r
+    → client_row_of rows c ≡ Some r
 row_read rows c i r at e = at.here r ∙ ap (λ x. Some x) (sym e)
 
 or_none : (o : Option ClientRow) → option_or o None ≡ o
 or_none None = refl
 or_none (Some r) = refl
 
-pub row_pushed : (rows : List ClientRow) (r : ClientRow) → row_of rows r.client ≡ None
+pub row_pushed : (rows : List ClientRow) (r : ClientRow) → client_row_of rows r.client ≡ None
     → IsChanged rows (rows ++ r ∷ []) r.client (Some r)
 row_pushed rows r none = record {
   own = find-append (is_of r.client) rows (r ∷ []) ∙ rw (none, self_same r.client) refl;
-  other = λ k f. find-append (is_of k) rows (r ∷ []) ∙ rw f (or_none (row_of rows k));
+  other = λ k f. find-append (is_of k) rows (r ∷ []) ∙ rw f (or_none (client_row_of rows k));
 }
 
-none_left : (rows : List ClientRow) (c : ℕ) → row_of (filter (λ r. not (r.client == c)) rows) c ≡ None
+none_left : (rows : List ClientRow) (c : ℕ) → client_row_of (filter (λ r. not (r.client == c)) rows) c ≡ None
 none_left [] c = refl
 none_left (r ∷ rs) c =
     elim (r.client == c) as (λ b. (r.client == c) ≡ b →
-    row_of (if not b then r ∷ filter (λ x. not (x.client == c)) rs else filter (λ x. not (x.client == c)) rs) c
+    client_row_of (if not b then r ∷ filter (λ x. not (x.client == c)) rs else filter (λ x. not (x.client == c)) rs) c
     ≡ None) [
       | true ↦ λ e. none_left rs c
       | false ↦ λ e. rw e (none_left rs c)
     ] refl
 
 others_left : (rows : List ClientRow) (c k : ℕ) → (c == k) ≡ false
-    → row_of (filter (λ r. not (r.client == c)) rows) k ≡ row_of rows k
+    → client_row_of (filter (λ r. not (r.client == c)) rows) k ≡ client_row_of rows k
 others_left [] c k f = refl
 others_left (r ∷ rs) c k f =
     elim (r.client == c) as (λ b. (r.client == c) ≡ b →
-    row_of (if not b then r ∷ filter (λ x. not (x.client == c)) rs else filter (λ x. not (x.client == c)) rs) k
-    ≡ row_of (r ∷ rs) k) [
+    client_row_of (if not b then r ∷ filter (λ x. not (x.client == c)) rs else filter (λ x. not (x.client == c)) rs) k
+    ≡ client_row_of (r ∷ rs) k) [
       | true ↦ λ e. rw (not_of r.client c k (number_same r.client c e) f) (others_left rs c k f)
       | false ↦ λ e. ap (λ (o : Option ClientRow). cond (r.client == k) (Some r) o) (others_left rs c k f)
     ] refl
@@ -129,18 +129,20 @@ pub row_written : (rows : List ClientRow) (c i : ℕ) (r r' : ClientRow) → IsP
 row_written rows c i r r' at e same = at.written r' (same ∙ ap (λ (x : ClientRow). x.client) e ∙ at.own r)
 
 -- The place of a row was sought.
-pub sought : (rows : List ClientRow) (c : ℕ) (o : Option ℕ) → MatchOption o (row_of rows c ≡ None) (IsPlace rows c)
-    → is_some o ≡ is_some (row_of rows c)
+pub sought : (rows : List ClientRow) (c : ℕ) (o : Option ℕ)
+    → MatchOption o (client_row_of rows c ≡ None) (IsPlace rows c)
+    → is_some o ≡ is_some (client_row_of rows c)
 sought rows c None none = sym (ap (λ (o : Option ClientRow). is_some o) none)
-sought rows c (Some i) at = elim (row_of rows c) as (λ o. row_of rows c ≡ o → true ≡ is_some o) [
-  | None ↦ λ e. elim rows as (λ rs. IsPlace rs c i → row_of rs c ≡ None → true ≡ false) [
+sought rows c (Some i) at = elim (client_row_of rows c) as (λ o. client_row_of rows c ≡ o → true ≡ is_some o) [
+  | None ↦ λ e. elim rows as (λ rs. IsPlace rs c i → client_row_of rs c ≡ None → true ≡ false) [
     | [] ↦ λ a f. absurd (let lt = a.inside in omega (arith, lt))
     | r ∷ rs ↦ λ a f. let there = a.here r in cc
   ] at e
   | Some r ↦ λ e. refl
 ] refl
 
-pub none_sought : (rows : List ClientRow) (c : ℕ) (o : Option ℕ) → MatchOption o (row_of rows c ≡ None) (IsPlace rows c)
-    → is_some o ≡ false → row_of rows c ≡ None
+pub none_sought : (rows : List ClientRow) (c : ℕ) (o : Option ℕ)
+    → MatchOption o (client_row_of rows c ≡ None) (IsPlace rows c)
+    → is_some o ≡ false → client_row_of rows c ≡ None
 none_sought rows c None none e = none
 none_sought rows c (Some i) at e = absurd (true≢false e)

@@ -21,7 +21,7 @@ use Rattle.sm_history.specs.Notices.{notice_at, notices_at, after_notice, after_
 use Rattle.sm_history.specs.Histories.{found, given_refs, handed_refs, call_delivery, service, watch, after_add}
 use Rattle.sm_history.specs.Histories.{after_get}
 use Rattle.sm_history.specs.Histories.{after_watch, after_call}
-use Rattle.sm_history.specs.Verdict.{number_of, notice_of_watch}
+use Rattle.sm_history.specs.Verdict.{handle_number, notice_of_watch}
 use Rattle.sm_history.specs.Following.{MayGive}
 use Rattle.sm_history.specs.Sound.{Sound}
 use Rattle.sm_history.specs.Tables.{TracksTables}
@@ -53,9 +53,10 @@ pub get_step : (d : Effects) (c : ℕ) (name : List ℕ) (sv : Service) (r : ℕ
     → (sv.node.owner.0 == c) ≡ false → (MayGive d c sv.node r → TracksTables (Gives c sv.node r ∷ d) t)
     → TracksTables (after_get d c (service_at d name)) t
 get_step d c name sv r outcome t s done is found other give =
-    let number : r ≡ number_of d c (service_at d name) = granted_is r (number_of d c (service_at d name))
+    let number : r ≡ handle_number d c (service_at d name) = granted_is r (handle_number d c (service_at d name))
     (sym is ∙ done.outcome_is) in
-    subst (λ (o : Option Service). r ≡ number_of d c o → AllFit (after_get d c o) → TracksTables (after_get d c o) t)
+    subst (λ (o : Option Service). r ≡ handle_number d c o → AllFit (after_get d c o)
+    → TracksTables (after_get d c o) t)
     (sym found)
     (λ number' fits'. get_case d c sv r t (sv.node.owner.0 == c) refl other s done.acts number' fits' give)
     number done.fits

@@ -95,7 +95,8 @@ next-handed : (d : Effects) (c : ℕ) (n : Node) → next_client (handed d c n) 
 next-handed d c n = elim (n.owner.0 == c) as (λ b. next_client (if b then d else Gives c n (number_for d c n) ∷ d)
     ≡ next_client d) [ true ↦ refl | false ↦ refl ]
 
-next-told : (d : Effects) (n : Node) (w : Watch) (o : Option FailedCheck) → next_client (after_told d n w o) ≡ next_client d
+next-told : (d : Effects) (n : Node) (w : Watch) (o : Option FailedCheck)
+    → next_client (after_told d n w o) ≡ next_client d
 next-told d n w None = next-handed d w.client n
 next-told d n w (Some failing) = refl
 

@@ -7,7 +7,7 @@ use Rattle.sm_history.specs.Checks.{Wants}
 use Rattle.sm_history.specs.declared.failed_check.EarlyAnswer.TheVariants.{Refused}
 use Rattle.sm_history.specs.declared.refusal.Refusal.TheVariants.{JournalFull}
 use Rattle.sm_history.specs.Rows.{resumed}
-use Rattle.sm_history.specs.Openings.{Opening, nothing}
+use Rattle.sm_history.specs.Openings.{Opening, blank_opening}
 use Rattle.sm_history.specs.Histories.{History, whole, entered, effects_of, turn_of, client_of}
 use Rattle.sm_history.specs.Verdict.{has_place}
 use Rattle.sm_history.specs.Segments.{rows_of}
@@ -55,8 +55,8 @@ holds_lawful P holds places h l = holds_after P holds places h.number h.opening 
 sound_opening : (e : Entry) → IsOpening e → Sound (effects_of (whole (e ∷ [])))
 sound_opening e (who, policy, is, may, ok) =
     subst (λ (x : Entry). Sound (effects_of (whole (x ∷ [])))) (sym is)
-    (sound_sets (Opens who ∷ resumed nothing.tables) policy
-    (sound_opens (resumed nothing.tables) who (sound_back [] sound_none)))
+    (sound_sets (Opens who ∷ resumed blank_opening.tables) policy
+    (sound_opens (resumed blank_opening.tables) who (sound_back [] sound_none)))
 
 abbrev pub LeavesSound : History → Type 0
 LeavesSound h = Sound (effects_of h)

@@ -16,7 +16,7 @@ use Rattle.sm_history.specs.Verdict.{verdict}
 use Rattle.sm_history.specs.BookOrder.{extended}
 use Rattle.sm_history.specs.Promises.{Joined, Turned}
 use Rattle.sm_history.specs.PossibleReplies.{ConnectReply}
-use Rattle.sm_history.specs.Steps.{Steps, made}
+use Rattle.sm_history.specs.Steps.{Steps, entry_made}
 use Rattle.sm_history.specs.Tokens.{Knows, Sees, token}
 use Rattle.sm_history.proofs.PossibleReplies.{connect_answer}
 
@@ -44,7 +44,7 @@ joins b after old seat who due c is s sees =
       before = b;
       number = c.0;
       by = refl;
-      ends = sees.1 ∙ (t.1 ∙ ap (λ n. extended b (made Manager n (Connect who) (Connected c))) is);
+      ends = sees.1 ∙ (t.1 ∙ ap (λ n. extended b (entry_made Manager n (Connect who) (Connected c))) is);
       verdict_is = sym (t.0 ∙ ap (λ n. verdict b.places b.history Manager n (Connect who)) is);
     }) s
 

@@ -25,7 +25,7 @@ use Rattle.sm_history.specs.Openings.{Opening}
 use Rattle.sm_history.specs.Histories.{History, whole, entered, effects_of, after_event, after_get, after_watch}
 use Rattle.sm_history.specs.Histories.{client_of, turn_of, found, given_ref, given_refs, handed_ref, handed_refs}
 use Rattle.sm_history.specs.Histories.{call_delivery, service, watch}
-use Rattle.sm_history.specs.Verdict.{answered, checks, handing_checks, has_place, outcome_of, number_of}
+use Rattle.sm_history.specs.Verdict.{answered, checks, handing_checks, has_place, outcome_of, handle_number}
 use Rattle.sm_history.specs.Verdict.{notice_of_watch}
 use Rattle.sm_history.specs.Checks.{Wants, first_failing}
 use Rattle.sm_history.specs.declared.failed_check.EarlyAnswer.TheVariants.{Refused}
@@ -181,7 +181,7 @@ lists_get d c name (Some s) is a =
     record {
       deliveries = ap (λ o. filter_map delivery_made (after_get d c o)) is ∙ handed_deliveries d c s.node;
       numbers = ap (λ o. filter_map number_made (after_get d c o)) is ∙ numbers
-          ∙ ap (λ o. number_of d c o ∷ filter_map number_made d) (sym is);
+          ∙ ap (λ o. handle_number d c o ∷ filter_map number_made d) (sym is);
       clients = ap (λ o. filter_map connected (after_get d c o)) is ∙ handed_clients d c s.node;
     }
 

@@ -12,7 +12,8 @@ use Rattle.sm_history.specs.Clients.{next_client}
 use Rattle.sm_history.specs.Services.{last_said, Silent, Gone, Here, said_or}
 use Rattle.sm_history.specs.Checks.{Check, holds, answer_of, first_failing, failed_check_of}
 use Rattle.sm_history.specs.declared.failed_check.FailedCheck.{FailedCheck}
-use Rattle.sm_history.specs.declared.failed_check.EarlyAnswer.TheVariants.{Refused as IsRefused, GotNull as IsNull, GotOwn as IsOwn}
+use Rattle.sm_history.specs.declared.failed_check.EarlyAnswer.TheVariants.{Refused as IsRefused, GotNull as IsNull}
+use Rattle.sm_history.specs.declared.failed_check.EarlyAnswer.TheVariants.{GotOwn as IsOwn}
 use Rattle.sm_history.specs.declared.failed_check.FailedCheck.TheVariants.{Unruled, Barred, Unmet}
 use Rattle.sm_history.specs.Verdict.{answered}
 use Rattle.sm_history.proofs.Keeps.{Lasts}

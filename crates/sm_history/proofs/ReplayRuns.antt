@@ -12,7 +12,7 @@ use Rattle.sm_history.specs.declared.replay.Replay.{Replay}
 use Rattle.sm_history.specs.Clients.{policy_at, version_at}
 use Rattle.sm_history.specs.Checks.{Wants, first_failing}
 use Rattle.sm_history.specs.Rows.{Rows, rows_at, resumed}
-use Rattle.sm_history.specs.Openings.{Opening, TurnRow, nothing}
+use Rattle.sm_history.specs.Openings.{Opening, TurnRow, blank_opening}
 use Rattle.sm_history.specs.Histories.{History, whole, entered, effects_of, length_of, turn_of, client_of}
 use Rattle.sm_history.specs.Verdict.{verdict, checks, has_place, outcome_of}
 use Rattle.sm_history.specs.Segments.{rows_of}
@@ -90,7 +90,7 @@ starts_left number o r (a, l, is) s =
     (ap (λ (v : Opening). v.tables) is ∙ rows_alike d (resumed (rows_at d)) (sim_rows d (sound_apart a l))
     ∙ ap (λ (v : Opening). rows_at (resumed v.tables)) (sym is))
 
-starts_nothing : (number : ℕ) (o : Opening) (r : Replay) → o ≡ nothing → StartsFrom o r
+starts_nothing : (number : ℕ) (o : Opening) (r : Replay) → o ≡ blank_opening → StartsFrom o r
     → TracksHistory (record { number = number; opening = o; entries = [] }) r
 starts_nothing number o r is s =
     begins number o r s
@@ -118,14 +118,14 @@ not_behind : (zs : List Entry) (e : Entry) (es : List Entry) → zs ++ e ∷ es 
 not_behind [] e es is = not_empty e es is
 not_behind (z ∷ zs) e es is = not_empty z (zs ++ e ∷ es) is
 
-opened : (number : ℕ) (o : Opening) (e : Entry) (es : List Entry) (r r' : Replay) → o ≡ nothing → es ≡ []
+opened : (number : ℕ) (o : Opening) (e : Entry) (es : List Entry) (r r' : Replay) → o ≡ blank_opening → es ≡ []
     → IsOpening e → EntersOne e r r' → TracksHistory (record { number = number; opening = o; entries = es }) r
     → TracksHistory (record { number = number; opening = o; entries = e ∷ es }) r'
 opened number o e es r r' is none opens one =
     subst (λ (v : Opening). TracksHistory (record { number = number; opening = v; entries = es }) r
     → TracksHistory (record { number = number; opening = v; entries = e ∷ es }) r') (sym is)
-    (subst (λ (v : List Entry). TracksHistory (record { number = number; opening = nothing; entries = v }) r
-    → TracksHistory (record { number = number; opening = nothing; entries = e ∷ v }) r') (sym none)
+    (subst (λ (v : List Entry). TracksHistory (record { number = number; opening = blank_opening; entries = v }) r
+    → TracksHistory (record { number = number; opening = blank_opening; entries = e ∷ v }) r') (sym none)
     (λ tr. one (start number) (sound_start number) tr (opening_next number e opens)))
 
 pub comes_on : (places number : ℕ) (o : Opening) (e : Entry) (es : List Entry) (r r' : Replay)

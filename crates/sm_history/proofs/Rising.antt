@@ -15,7 +15,8 @@ use Rattle.std.proofs.lemmas.Slice.Eq.{bytes_eq-Decides}
 use Rattle.sm_history.specs.declared.service.Service.{Service}
 use Rattle.sm_history.specs.Effects.{Effects, Adds, Removes}
 use Rattle.sm_history.specs.Rising.{AllAfter, IsRising}
-use Rattle.sm_history.specs.Services.{service_at, last_said, names_added, current_names, placed, placed_by, said_or}
+use Rattle.sm_history.specs.Services.{service_at, last_said, names_added, current_names, inserted_name, placed_by}
+use Rattle.sm_history.specs.Services.{said_or}
 use Rattle.sm_history.specs.Services.{Silent, Gone}
 
 pub same_bytes : (a b : List ℕ) → bytes_eq a b ≡ true → a ≡ b
@@ -58,21 +59,21 @@ all_after name x (y ∷ ys) e h =
     (all_after name x ys e (tail_after x y ys h))
 
 placed_after : (a name : List ℕ) (xs : List (List ℕ)) → slice_cmp nat_cmp a name ≡ Less → AllAfter a xs
-    → AllAfter a (placed name xs)
+    → AllAfter a (inserted_name name xs)
 placed_after a name [] e h = more_after a name [] e refl
 placed_after a name (x ∷ xs) e h =
     let i = placed_after a name xs e (tail_after a x xs h) in
-    elim (slice_cmp nat_cmp name x) as (λ o. AllAfter a (placed_by o name x xs (placed name xs))) [
+    elim (slice_cmp nat_cmp name x) as (λ o. AllAfter a (placed_by o name x xs (inserted_name name xs))) [
       | Less ↦ more_after a name (x ∷ xs) e h
       | Equal ↦ h
-      | Greater ↦ more_after a x (placed name xs) (head_after a x xs h) i
+      | Greater ↦ more_after a x (inserted_name name xs) (head_after a x xs h) i
     ]
 
-rising_placed : (name : List ℕ) (xs : List (List ℕ)) → IsRising xs → IsRising (placed name xs)
+rising_placed : (name : List ℕ) (xs : List (List ℕ)) → IsRising xs → IsRising (inserted_name name xs)
 rising_placed name [] h = (refl, tt)
 rising_placed name (x ∷ xs) h =
     elim (slice_cmp nat_cmp name x) as (λ o. slice_cmp nat_cmp name x ≡ o →
-    IsRising (placed_by o name x xs (placed name xs))) [
+    IsRising (placed_by o name x xs (inserted_name name xs))) [
       | Less ↦ λ e. (more_after name x xs e (all_after name x xs e h.0), h)
       | Equal ↦ λ e. h
       | Greater ↦ λ e. (placed_after x name xs (turned name x e) h.0, rising_placed name xs h.1)
@@ -83,19 +84,19 @@ rising_added [] = tt
 rising_added (Adds name s ∷ d) = rising_placed name (names_added d) (rising_added d)
 rising_added (x ∷ d) = rising_added d
 
-any_placed : (q name : List ℕ) (ns : List (List ℕ)) → list_any (λ x. bytes_eq x q) (placed name ns) ≡ false
+any_placed : (q name : List ℕ) (ns : List (List ℕ)) → list_any (λ x. bytes_eq x q) (inserted_name name ns) ≡ false
     → (bytes_eq name q ≡ false) × (list_any (λ x. bytes_eq x q) ns ≡ false)
 any_placed q name [] h = ((or_parts (bytes_eq name q) false h).0, refl)
 any_placed q name (x ∷ xs) h =
     let p = λ (y : List ℕ). bytes_eq y q in
     elim (slice_cmp nat_cmp name x) as (λ o. slice_cmp nat_cmp name x ≡ o →
-    list_any p (placed_by o name x xs (placed name xs)) ≡ false →
+    list_any p (placed_by o name x xs (inserted_name name xs)) ≡ false →
     (p name ≡ false) × (list_any p (x ∷ xs) ≡ false)) [
       | Less ↦ λ e h'. ((or_parts (p name) (list_any p (x ∷ xs)) h').0, (or_parts (p name) (list_any p (x ∷ xs)) h').1)
       | Equal ↦ λ e h'. (ap p (equal_names name x e) ∙ (or_parts (p x) (list_any p xs) h').0, h')
       | Greater ↦ λ e h'.
-          let i = any_placed q name xs (or_parts (p x) (list_any p (placed name xs)) h').1 in
-          (i.0, or_from (p x) (list_any p xs) (or_parts (p x) (list_any p (placed name xs)) h').0 i.1)
+          let i = any_placed q name xs (or_parts (p x) (list_any p (inserted_name name xs)) h').1 in
+          (i.0, or_from (p x) (list_any p xs) (or_parts (p x) (list_any p (inserted_name name xs)) h').0 i.1)
     ] refl h
 
 never_said : (d : Effects) (name : List ℕ) → list_any (λ x. bytes_eq x name) (names_added d) ≡ false

@@ -11,7 +11,7 @@ use Rattle.sm_history.specs.Clients.{is_live, live_clients}
 use Rattle.sm_history.specs.Agreeing.{Agree}
 use Rattle.sm_history.specs.Rows.{Rows, rows_at, resumed}
 use Rattle.sm_history.specs.Sound.{Sound}
-use Rattle.sm_history.specs.Tables.{slot, row_of, clients_of, IsClient, IsRowFor, TracksClients, TracksTables}
+use Rattle.sm_history.specs.Tables.{slot, client_row_of, clients_of, IsClient, IsRowFor, TracksClients, TracksTables}
 use Rattle.sm_history.specs.Tables.{AreSameRows}
 use Rattle.sm_history.proofs.Living.{any_live}
 use Rattle.sm_history.proofs.AgreeEffects.{Sim, held_alike}
@@ -52,7 +52,7 @@ client_alike d e c r s live i =
     }
 
 has_row : (d : Effects) (rows : List ClientRow) (c : ℕ) (r : ClientRow) → clients_of rows ≡ live_clients d
-    → row_of rows c ≡ Some r → is_live d c ≡ true
+    → client_row_of rows c ≡ Some r → is_live d c ≡ true
 has_row d rows c r ids at =
     sym (any_live d c) ∙ ap (list_any (λ y. y == c)) (sym ids) ∙ in_ids rows c
     ∙ ap (λ (o : Option ClientRow). is_some o) at
@@ -60,7 +60,7 @@ has_row d rows c r ids at =
 clients_alike : (d e : Effects) (rows : List ClientRow) → Sim d e → TracksClients d rows → TracksClients e rows
 clients_alike d e rows s tr = record {
   ids = tr.ids ∙ s.agree.live_list;
-  each = λ c. elim (row_of rows c) as (λ o. row_of rows c ≡ o → IsRowFor d c o → IsRowFor e c o) [
+  each = λ c. elim (client_row_of rows c) as (λ o. client_row_of rows c ≡ o → IsRowFor d c o → IsRowFor e c o) [
     | None ↦ λ at i. tt
     | Some r ↦ λ at i. client_alike d e c r s (has_row d rows c r tr.ids at) i
   ] refl (tr.each c);
@@ -96,15 +96,15 @@ ids_same (x ∷ xs) [] same = absurd same
 ids_same (x ∷ xs) (y ∷ ys) same = rw (same.0, ids_same xs ys same.4) refl
 
 each_same : (d : Effects) (c : ℕ) (rows copies : List ClientRow) → AreSameRows rows copies
-    → IsRowFor d c (row_of rows c)
-    → IsRowFor d c (row_of copies c)
+    → IsRowFor d c (client_row_of rows c)
+    → IsRowFor d c (client_row_of copies c)
 each_same d c [] [] same i = tt
 each_same d c [] (y ∷ ys) same i = absurd same
 each_same d c (x ∷ xs) [] same i = absurd same
 each_same d c (x ∷ xs) (y ∷ ys) same i =
-    subst (λ (k : ℕ). IsRowFor d c (cond (k == c) (Some y) (row_of ys c))) (sym same.0)
-    (elim (x.client == c) as (λ b. IsRowFor d c (cond b (Some x) (row_of xs c))
-    → IsRowFor d c (cond b (Some y) (row_of ys c))) [
+    subst (λ (k : ℕ). IsRowFor d c (cond (k == c) (Some y) (client_row_of ys c))) (sym same.0)
+    (elim (x.client == c) as (λ b. IsRowFor d c (cond b (Some x) (client_row_of xs c))
+    → IsRowFor d c (cond b (Some y) (client_row_of ys c))) [
       | true ↦ λ own. record {
         who = same.1 ∙ own.who;
         held = λ k. ap (λ (s : List (Option Held)). slot s k) same.2 ∙ own.held k;

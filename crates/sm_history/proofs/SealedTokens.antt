@@ -5,12 +5,12 @@ use Rattle.sm_history.specs.Books.{Book}
 use Rattle.sm_history.specs.Histories.{History}
 use Rattle.sm_history.specs.BookOrder.{Begins, IsLawfulBook}
 use Rattle.sm_history.specs.Promises.{Closed, NotClosed}
-use Rattle.sm_history.specs.Steps.{Seals, StaysOpen}
+use Rattle.sm_history.specs.Steps.{ClosesSegment, StaysOpen}
 use Rattle.sm_history.specs.Tokens.{Knows, Sees}
 use Rattle.sm_history.proofs.BookOrder.{book_through}
 
 pub closes : (b after : Book) (old between new : Knows) (segment : History) → Sees old b between
-    → Seals b segment after → Sees between after new → Closed old new segment
+    → ClosesSegment b segment after → Sees between after new → Closed old new segment
 closes b after old between new segment first s then = record {
   grows = record {
     by = then.0.by ∙ first.0.by;

@@ -21,7 +21,7 @@ use Rattle.sm_history.specs.Clients.{is_live, live_clients, policy_at, connected
 use Rattle.std.specs.Prelude.{reverse, filter_map}
 use Rattle.sm_history.specs.Checks.{Check, Wants, first_failing}
 use Rattle.sm_history.specs.Rows.{Rows, rows_at}
-use Rattle.sm_history.specs.Openings.{Opening, TurnRow, nothing, is_same}
+use Rattle.sm_history.specs.Openings.{Opening, TurnRow, blank_opening, is_same}
 use Rattle.sm_history.specs.Histories.{History, whole, length_of, effects_of, client_of, turn_of}
 use Rattle.sm_history.specs.Verdict.{answered, outcome_of, event_checks, has_place}
 use Rattle.sm_history.specs.Lawful.{AreLawfulApart, AreLawful, IsLawful, IsLeft, HasSoundPolicy}
@@ -133,7 +133,8 @@ less_checked d have by turn event rest outcome done =
     let with_rest = hold_none p (all_checks d have by turn event rest) a in
     let without : first_failing p (all_checks d have by turn event []) ≡ None =
     hold_none p (all_checks d have by turn event []) (a.0, (a.1.0, (a.1.1.0, hold_part p xs rest a.1.1.1))) in
-    ap (λ (x : Option FailedCheck). answered x o) without ∙ sym (ap (λ (x : Option FailedCheck). answered x o) with_rest) ∙ done
+    ap (λ (x : Option FailedCheck). answered x o) without
+    ∙ sym (ap (λ (x : Option FailedCheck). answered x o) with_rest) ∙ done
 
 -- ---- a lawful history goes on from lawful changes
 
@@ -152,7 +153,8 @@ pub record Grown (o : Opening) (es : List Entry) : Type 0 where
 goes_on : (number : ℕ) (o : Opening) (e : Entry) (es : List Entry)
     → verdict_apart (record { number = number; opening = o; entries = es }) e.by e.turn e.event ≡ Done e.outcome
     → HasSoundPolicy e.event
-    → ((o ≡ nothing) × AreLawfulApart es) ⊎ Grown o es → ((o ≡ nothing) × AreLawfulApart (e ∷ es)) ⊎ Grown o (e ∷ es)
+    → ((o ≡ blank_opening) × AreLawfulApart es) ⊎ Grown o es
+    → ((o ≡ blank_opening) × AreLawfulApart (e ∷ es)) ⊎ Grown o (e ∷ es)
 goes_on number o e es done ok (inl (is, l)) =
     inl (
       is,
@@ -173,7 +175,7 @@ goes_on number o e es done ok (inr g) =
     })
 
 pub grown_from : (places number : ℕ) (o : Opening) (es : List Entry) → AreLawful places number o es
-    → ((o ≡ nothing) × AreLawfulApart es) ⊎ Grown o es
+    → ((o ≡ blank_opening) × AreLawfulApart es) ⊎ Grown o es
 grown_from places number o [] ((a, l, is), fits) = inr (record { before = a; lawful = l; opens = is; grown = l })
 grown_from places number o (e ∷ es) (inl (first, is, none, opens)) =
     inl (is, subst (λ (v : List Entry). AreLawfulApart (e ∷ v)) (sym none) opens)
@@ -184,7 +186,7 @@ grown_from places number o (e ∷ es) (inr (before, done, ok)) =
     (Wants (has_place places h (client_of e.by) e.event) (Refused JournalFull) ∷ []) e.outcome done in
     goes_on number o e es apart ok (grown_from places number o es before)
 
-left_by : (h : History) → ((h.opening ≡ nothing) × AreLawfulApart h.entries) ⊎ Grown h.opening h.entries
+left_by : (h : History) → ((h.opening ≡ blank_opening) × AreLawfulApart h.entries) ⊎ Grown h.opening h.entries
     → IsLeft (rows_of h)
 left_by h (inl (is, l)) = (
   h.entries,

@@ -251,7 +251,8 @@ verdict_is : (places : ℕ) (h : History) (by : By) (turn : ℕ) (event : Event)
     (Wants (has_place places h (client_of by) event) (Refused JournalFull) ∷ [])
 verdict_is places h by turn event = refl
 
-looked_is : (h : History) (q : Query) (o : Option FailedCheck) → looked h q o ≡ looked_at (effects_of h) (length_of h) q o
+looked_is : (h : History) (q : Query) (o : Option FailedCheck)
+    → looked h q o ≡ looked_at (effects_of h) (length_of h) q o
 looked_is h q None = refl
 looked_is h q (Some failing) = refl
 

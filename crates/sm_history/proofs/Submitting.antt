@@ -13,16 +13,16 @@ use Rattle.sm_history.specs.Verdict.{verdict}
 use Rattle.sm_history.specs.BookOrder.{Begins, IsLawfulBook, extended}
 use Rattle.sm_history.specs.Promises.{Accepted, Kept, NotMade, Submitted}
 use Rattle.sm_history.specs.PossibleReplies.{moves, tells_turn}
-use Rattle.sm_history.specs.Steps.{Steps, made}
+use Rattle.sm_history.specs.Steps.{Steps, entry_made}
 use Rattle.sm_history.specs.Tokens.{Knows, Sees, turn}
 use Rattle.sm_history.proofs.BookOrder.{one_more, before_change, book_itself}
 use Rattle.sm_history.proofs.Turns.{done_in_turn, out_of_turn, others_in_turn, not_yours}
 
 module _ (b after : Book) (old new : Knows) (event : Event) (sees : Sees old after new) where
   done : (o : Outcome) → Done o ≡ verdict b.places b.history old.by (turn old) event
-      → after ≡ extended b (made old.by (turn old) event o) → Accepted old new event o
+      → after ≡ extended b (entry_made old.by (turn old) event o) → Accepted old new event o
   done o v goes =
-      let e = made old.by (turn old) event o in
+      let e = entry_made old.by (turn old) event o in
       let in_order : turn old ≡ turn_of b.history old.by =
       done_in_turn b.places b.history old.by (turn old) event o (sym v) in
       let grows = sees.0 in

@@ -20,7 +20,8 @@ use Rattle.sm_history.specs.Services.{service_at, current_names, names_added}
 use Rattle.sm_history.specs.Sound.{Sound, IsOnce}
 use Rattle.sm_history.specs.Rows.{Rows, LiveRow, HeldRow, NamedRow, WaitingRow, live_row, top_number, held_row}
 use Rattle.sm_history.specs.Rows.{held_under, held_rows, named_under, waiting_rows, rows_at}
-use Rattle.sm_history.specs.Tables.{Slots, slot, slot_at, slot_row, slot_under, row_of, row_in, names_of, service_of}
+use Rattle.sm_history.specs.Tables.{Slots, slot, slot_at, slot_row, slot_under, client_row_of, row_in, names_of}
+use Rattle.sm_history.specs.Tables.{service_of}
 use Rattle.sm_history.specs.Tables.{clients_of, live_of, held_of, waiting_of, tables_of, IsClient, IsRowFor}
 use Rattle.sm_history.specs.Tables.{TracksNames, TracksTables}
 use Rattle.sm_history.proofs.HeldAlike.{node_held, held_among}
@@ -91,14 +92,16 @@ held_are d c s held =
 
 -- ---- clients
 
-none_of : (rows : List ClientRow) (c : ℕ) → list_any (λ y. y == c) (clients_of rows) ≡ false → row_of rows c ≡ None
+none_of : (rows : List ClientRow) (c : ℕ) → list_any (λ y. y == c) (clients_of rows) ≡ false
+    → client_row_of rows c ≡ None
 none_of [] c h = refl
 none_of (r ∷ rs) c h =
     let parts = or_parts (r.client == c) (list_any (λ y. y == c) (clients_of rs)) h in
     rw parts.0 (none_of rs c parts.1)
 
 tail_for : (d : Effects) (r : ClientRow) (rs : List ClientRow) (c : ℕ) (t : Bool) → (r.client == c) ≡ t
-    → (t ≡ true → row_of rs c ≡ None) → IsRowFor d c (cond t (Some r) (row_of rs c)) → IsRowFor d c (row_of rs c)
+    → (t ≡ true → client_row_of rs c ≡ None) → IsRowFor d c (cond t (Some r) (client_row_of rs c))
+    → IsRowFor d c (client_row_of rs c)
 tail_for d r rs c true e none h = subst (IsRowFor d c) (sym (none refl)) tt
 tail_for d r rs c false e none h = h
 
@@ -107,13 +110,15 @@ number_same a b h = grind (arith, nat_tests)
 
 -- Each row is the one of its client.
 pub each_row : (d : Effects) (rows : List ClientRow) → IsOnce (clients_of rows) → ((c : ℕ)
-    → IsRowFor d c (row_of rows c))
+    → IsRowFor d c (client_row_of rows c))
     → AllOf (λ r. IsClient d r.client r) rows
 each_row d [] once each = tt
 each_row d (r ∷ rs) once each = (
-  subst (λ (b : Bool). IsRowFor d r.client (cond b (Some r) (row_of rs r.client))) (self_same r.client) (each r.client),
+  subst (λ (b : Bool). IsRowFor d r.client (cond b (Some r) (client_row_of rs r.client))) (self_same r.client)
+      (each r.client),
   each_row d rs once.1 (λ c. tail_for d r rs c (r.client == c) refl
-      (λ e. subst (λ (v : ℕ). row_of rs v ≡ None) (number_same r.client c e) (none_of rs r.client once.0)) (each c)),
+      (λ e. subst (λ (v : ℕ). client_row_of rs v ≡ None) (number_same r.client c e) (none_of rs r.client once.0))
+      (each c)),
 )
 
 live_are : (d : Effects) (rows : List ClientRow) → AllOf (λ r. IsClient d r.client r) rows

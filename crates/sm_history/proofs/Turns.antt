@@ -23,7 +23,8 @@ use Rattle.sm_history.specs.Effects.{Effects}
 use Rattle.sm_history.specs.Clients.{policy_at}
 use Rattle.sm_history.specs.Services.{service_at}
 use Rattle.sm_history.specs.Holdings.{node_at}
-use Rattle.sm_history.specs.Checks.{Check, Needs, Spares, Wants, holds, failed_check_of, answer_of, early_reply, first_failing}
+use Rattle.sm_history.specs.Checks.{Check, Needs, Spares, Wants, holds, failed_check_of, answer_of, early_reply}
+use Rattle.sm_history.specs.Checks.{first_failing}
 use Rattle.sm_history.specs.Histories.{History, effects_of, turn_of, client_of, found}
 use Rattle.sm_history.specs.Verdict.{verdict, answered, is_theirs, is_there, outcome_of, handing_checks}
 use Rattle.sm_history.specs.Verdict.{passes_to_client, all_pass_to_client}
@@ -53,7 +54,8 @@ first_plain : (p : Policy) (xs : List Check) (o : Outcome) → list_all plain xs
     → settles (answered (first_failing p xs) o) ≡ true
 first_plain p [] o all = refl
 first_plain p (x ∷ xs) o all =
-    elim (holds p x) as (λ b. settles (answered (if b then first_failing p xs else Some (failed_check_of x)) o) ≡ true) [
+    elim (holds p x)
+    as (λ b. settles (answered (if b then first_failing p xs else Some (failed_check_of x)) o) ≡ true) [
       | true ↦ first_plain p xs o (and_parts (plain x) (list_all plain xs) all).1
       | false ↦ plain_answer x (and_parts (plain x) (list_all plain xs) all).0
     ]

@@ -24,7 +24,8 @@ handed-same : (d : Effects) (c : ℕ) (n : Node) → version_at (handed d c n) �
 handed-same d c n = elim (n.owner.0 == c) as (λ b. version_at (if b then d else Gives c n (number_for d c n) ∷ d)
     ≡ version_at d) [ true ↦ refl | false ↦ refl ]
 
-told-same : (d : Effects) (n : Node) (w : Watch) (o : Option FailedCheck) → version_at (after_told d n w o) ≡ version_at d
+told-same : (d : Effects) (n : Node) (w : Watch) (o : Option FailedCheck)
+    → version_at (after_told d n w o) ≡ version_at d
 told-same d n w None = handed-same d w.client n
 told-same d n w (Some failing) = refl
 

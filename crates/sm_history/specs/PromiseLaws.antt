@@ -25,7 +25,7 @@ use Rattle.sm_history.specs.Verdict.{verdict, is_there}
 use Rattle.sm_history.specs.BookOrder.{Begins, IsLawfulBook, extended, sealed_book}
 use Rattle.sm_history.specs.Promises.{Submitted, Joined, Turned, Closed, NotClosed}
 use Rattle.sm_history.specs.PossibleReplies.{moves, ConnectReply, LeaveReply, InstallReply}
-use Rattle.sm_history.specs.Steps.{Steps, Seals, StaysOpen}
+use Rattle.sm_history.specs.Steps.{Steps, ClosesSegment, StaysOpen}
 use Rattle.sm_history.specs.Tokens.{Knows, Grows, Sees, token, turn}
 
 -- ---- books
@@ -166,7 +166,7 @@ ConnectTurns = (b after : Book) (old new : Knows) (who : Identity) (due : ℕ) (
 -- If a token sees a book that is sealed, and then the book after the seal, the call's promise holds.
 abbrev pub SealCloses : Type 0
 SealCloses = (b after : Book) (old between new : Knows) (segment : History) → Sees old b between
-    → Seals b segment after → Sees between after new → Closed old new segment
+    → ClosesSegment b segment after → Sees between after new → Closed old new segment
 
 -- If no segment was closed, it is enough that the token sees the book.
 abbrev pub OpenIsNotClosed : Type 0

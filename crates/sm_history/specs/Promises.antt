@@ -21,7 +21,7 @@ use Rattle.sm_history.specs.Records.{IsTrueSince}
 use Rattle.sm_history.specs.Verdict.{verdict}
 use Rattle.sm_history.specs.BookOrder.{Begins, IsLawfulBook, extended, sealed_book}
 use Rattle.sm_history.specs.PossibleReplies.{tells_turn, takes_memory}
-use Rattle.sm_history.specs.Steps.{made}
+use Rattle.sm_history.specs.Steps.{entry_made}
 use Rattle.sm_history.specs.Tokens.{Knows, Grows, turn}
 
 -- ---- changes
@@ -32,7 +32,7 @@ pub record Accepted (old new : Knows) (event : Event) (outcome : Outcome) : Type
   pub grows : Grows old new
   pub before : Book
   pub begins : Begins before old.seen
-  pub ends : new.seen ≡ extended before (made old.by (turn old) event outcome)
+  pub ends : new.seen ≡ extended before (entry_made old.by (turn old) event outcome)
   pub verdict_is : verdict before.places before.history old.by (turn old) event ≡ Done outcome
   pub one_more : turn new ≡ turn old + 1
 
@@ -65,8 +65,8 @@ Looks b by q reply = ((reply ≡ Refused Memory) × (takes_memory q ≡ true)) �
 
 -- No reader slot was free, and the token stays as it is; or the published history was entered, which begins with all
 -- that the token had seen, and the answer is given from it.
-abbrev pub Read : Knows → Knows → Query → Reply → Type 0
-Read old new q reply =
+abbrev pub Queried : Knows → Knows → Query → Reply → Type 0
+Queried old new q reply =
     ((reply ≡ Refused NoSeat) × (new ≡ old))
     ⊎ (Grows old new × (new.reads ≡ old.reads + 1) × Looks new.seen old.by q reply)
 
@@ -103,7 +103,7 @@ pub record Joined (old new : Knows) (who : Identity) : Type 0 where
   pub number : ℕ
   pub by : new.by ≡ Client (record { 0 = number })
   pub ends : new.seen ≡ extended before
-      (made Manager (turn_of before.history Manager) (Connect who) (Connected (record { 0 = number })))
+      (entry_made Manager (turn_of before.history Manager) (Connect who) (Connected (record { 0 = number })))
   pub verdict_is : verdict before.places before.history Manager (turn_of before.history Manager) (Connect who)
       ≡ Done (Connected (record { 0 = number }))
 

@@ -10,7 +10,7 @@ use Rattle.sm_history.specs.Effects.{Effects}
 use Rattle.sm_history.specs.Rows.{rows_at}
 use Rattle.sm_history.specs.Sound.{Sound}
 use Rattle.sm_history.specs.Lawful.{AreLawful, IsLawful}
-use Rattle.sm_history.specs.Openings.{Opening, nothing, turns_in}
+use Rattle.sm_history.specs.Openings.{Opening, blank_opening, turns_in}
 use Rattle.sm_history.specs.Histories.{History, effects_of, length_of, turn_of, client_of}
 use Rattle.sm_history.specs.Segments.{admins_of}
 use Rattle.sm_history.specs.Turning.{CountsTurns, admins_in}
@@ -31,7 +31,7 @@ pub record IsNext (h : History) (e : Entry) : Type 0 where
 
 -- This is a first segment without entries.
 abbrev pub start : ℕ → History
-start number = record { number = number; opening = nothing; entries = [] }
+start number = record { number = number; opening = blank_opening; entries = [] }
 
 -- The tables are those that some sound effects leave.
 abbrev pub AreLeft : Tables → Type 0
@@ -54,7 +54,7 @@ ComesAbout h = (places : ℕ) × IsLawful places h
 -- A replay has reached the end of entries, newest first: of no entries of a first segment, or of lawful ones.
 abbrev pub HasCome : ℕ → ℕ → Opening → List Entry → Replay → Type 0
 HasCome places number o es r =
-    (((o ≡ nothing) × (es ≡ [])) ⊎ AreLawful places number o es)
+    (((o ≡ blank_opening) × (es ≡ [])) ⊎ AreLawful places number o es)
     × TracksHistory (record { number = number; opening = o; entries = es }) r
 
 -- These are the entries of chunks in order.

@@ -53,14 +53,14 @@ placed_by Equal name x xs more = x ∷ xs
 placed_by Greater name x xs more = x ∷ more
 
 -- A name is inserted into names in rising byte order, unless it is there.
-abbrev pub placed : List ℕ → List (List ℕ) → List (List ℕ)
-placed name [] = name ∷ []
-placed name (x ∷ xs) = placed_by (slice_cmp nat_cmp name x) name x xs (placed name xs)
+abbrev pub inserted_name : List ℕ → List (List ℕ) → List (List ℕ)
+inserted_name name [] = name ∷ []
+inserted_name name (x ∷ xs) = placed_by (slice_cmp nat_cmp name x) name x xs (inserted_name name xs)
 
 -- A name, if there is one, is inserted.
 abbrev pub with_name : Option (List ℕ) → List (List ℕ) → List (List ℕ)
 with_name None names = names
-with_name (Some name) names = placed name names
+with_name (Some name) names = inserted_name name names
 
 -- These are the names that were ever added, each once, in rising byte order.
 abbrev pub names_added : Effects → List (List ℕ)

@@ -14,12 +14,12 @@ use Rattle.sm_history.specs.Verdict.{verdict}
 use Rattle.sm_history.specs.BookOrder.{sealed_book}
 
 -- This is the change that an actor made at this turn.
-abbrev pub made : By → ℕ → Event → Outcome → Entry
-made by turn event outcome = record { by = by; turn = turn; event = event; outcome = outcome }
+abbrev pub entry_made : By → ℕ → Event → Outcome → Entry
+entry_made by turn event outcome = record { by = by; turn = turn; event = event; outcome = outcome }
 
 -- This is the history after an answer: one more change if the event was done.
 abbrev pub history_after : History → By → ℕ → Event → Reply → History
-history_after h by turn event (Done outcome) = entered (made by turn event outcome) h
+history_after h by turn event (Done outcome) = entered (entry_made by turn event outcome) h
 history_after h by turn event GotNull = h
 history_after h by turn event (GotOwn o) = h
 history_after h by turn event (Looked v l a) = h
@@ -38,7 +38,7 @@ Steps old by turn event reply new =
     ⊎ ((reply ≡ verdict old.places old.history by turn event) × (new ≡ book_after old by turn event reply))
 
 -- The open segment was closed: it has changes, and the book goes on with the next one.
-pub record Seals (old : Book) (segment : History) (new : Book) : Type 0 where
+pub record ClosesSegment (old : Book) (segment : History) (new : Book) : Type 0 where
   pub segment_is : segment ≡ old.history
   pub some : old.history.entries ≢ []
   pub opens : new ≡ sealed_book old

@@ -35,8 +35,8 @@ abbrev pub IsPut : Slots → Slots → ℕ → Option Held → Type 0
 IsPut old new k x = (j : ℕ) → slot new j ≡ (if j == k then x else slot old j)
 
 -- This is the first row of a client.
-abbrev pub row_of : List ClientRow → ℕ → Option ClientRow
-row_of rows c = find (λ r. r.client == c) rows
+abbrev pub client_row_of : List ClientRow → ℕ → Option ClientRow
+client_row_of rows c = find (λ r. r.client == c) rows
 
 -- This is the first row of a name.
 abbrev pub row_in : List NamedRow → List ℕ → Option NamedRow
@@ -66,13 +66,13 @@ policy_of (Some p) = p
 
 -- Only the row of client c changed, to o.
 pub record IsChanged (rows rows' : List ClientRow) (c : ℕ) (o : Option ClientRow) : Type 0 where
-  pub own : row_of rows' c ≡ o
-  pub other : (k : ℕ) → (c == k) ≡ false → row_of rows' k ≡ row_of rows k
+  pub own : client_row_of rows' c ≡ o
+  pub other : (k : ℕ) → (c == k) ≡ false → client_row_of rows' k ≡ client_row_of rows k
 
 -- The row of client c has index i, so writing there changes only that client's row.
 pub record IsPlace (rows : List ClientRow) (c i : ℕ) : Type 0 where
   pub inside : i < length rows
-  pub here : (r : ClientRow) → row_of rows c ≡ Some (slice_index_or rows i r)
+  pub here : (r : ClientRow) → client_row_of rows c ≡ Some (slice_index_or rows i r)
   pub own : (r : ClientRow) → (slice_index_or rows i r).client ≡ c
   pub written : (r : ClientRow) → r.client ≡ c → IsChanged rows (slice_set rows i r) c (Some r)
 
@@ -161,7 +161,7 @@ IsRowFor d c (Some r) = IsClient d c r
 -- The rows are those of the live clients.
 pub record TracksClients (d : Effects) (rows : List ClientRow) : Type 0 where
   pub ids : clients_of rows ≡ live_clients d
-  pub each : (c : ℕ) → IsRowFor d c (row_of rows c)
+  pub each : (c : ℕ) → IsRowFor d c (client_row_of rows c)
 
 -- The rows are the services of names.
 pub record TracksNames (d : Effects) (rows : List NamedRow) : Type 0 where

@@ -259,9 +259,9 @@ notice_of_watch d w None = None
 notice_of_watch d w (Some s) = Some (notice_at d s.node w)
 
 -- This is the number of the handle for a service.
-abbrev pub number_of : Effects → ℕ → Option Service → ℕ
-number_of d c None = 0
-number_of d c (Some s) = number_for d c s.node
+abbrev pub handle_number : Effects → ℕ → Option Service → ℕ
+handle_number d c None = 0
+handle_number d c (Some s) = number_for d c s.node
 
 -- This is the first of some deliveries; an earlier check has made sure that there is one.
 abbrev pub taken : List Delivery → Delivery → Delivery
@@ -274,7 +274,7 @@ outcome_of d c (Open who policy) = Opened
 outcome_of d c (Connect who) = Connected (record { 0 = next_client d })
 outcome_of d c (Add name obj allow dump) = let n = found (resolve_at d c obj) in
     Added (notices_at (Adds name (service c n allow dump) ∷ d) n (watchers_at d name))
-outcome_of d c (Get name) = Granted (number_of d c (service_at d name))
+outcome_of d c (Get name) = Granted (handle_number d c (service_at d name))
 outcome_of d c (WatchName name object) =
     Watched (notice_of_watch (Watches (watch c name object) ∷ d) (watch c name object) (service_at d name))
 outcome_of d c (Unwatch name object) = Unwatched (count_by (same_watch (watch c name object)) (watches_at d))

@@ -6,7 +6,8 @@ ghost use Rattle.sm_history.specs.Effects.{Effects};
 ghost use Rattle.sm_history.specs.Holdings.{node_at};
 ghost use Rattle.sm_history.specs.Sound.{Sound};
 ghost use Rattle.sm_history.specs.Following.{MayFollow};
-ghost use Rattle.sm_history.specs.Tables.{slot, IsPut, given_slot, released_slot, row_of, IsPlace, TracksClients};
+ghost use Rattle.sm_history.specs.Tables.{slot, IsPut, given_slot, released_slot, client_row_of, IsPlace};
+ghost use Rattle.sm_history.specs.Tables.{TracksClients};
 
 use crate::delivery::BoxedDelivery;
 use sm_kinds::{Identity, Node};
@@ -87,7 +88,7 @@ fn first_of(rows: &[ClientRow], client: u32) -> Option<usize>
 
 /// Returns the index of a client's row.
 pub fn place_of(rows: &[ClientRow], client: u32) -> Option<usize>
-    ensures { MatchOption result (row_of rows.now client ≡ None) (IsPlace rows.now client) }
+    ensures { MatchOption result (client_row_of rows.now client ≡ None) (IsPlace rows.now client) }
 {
     first_of(rows, client)
 }

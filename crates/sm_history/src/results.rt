@@ -4,7 +4,8 @@ ghost use Rattle.std.specs.Prelude.{◌≡◌, MatchResult, MatchOption};
 ghost use Rattle.sm_history.specs.Verdict.{is_die};
 ghost use Rattle.sm_history.specs.declared.outcome.Outcome.TheVariants.{Connected, Died, Reloaded};
 ghost use Rattle.sm_history.specs.declared.reply.Reply.TheVariants.{Done, Refused};
-ghost use Rattle.sm_history.specs.PossibleReplies.{moves, refusal_moves, ConnectReply, LeaveReply, InstallReply, OfConnect};
+ghost use Rattle.sm_history.specs.PossibleReplies.{moves, refusal_moves, ConnectReply, LeaveReply, InstallReply};
+ghost use Rattle.sm_history.specs.PossibleReplies.{OfConnect};
 ghost use Rattle.sm_history.specs.PossibleReplies.{OfLeave, OfInstall};
 
 use crate::{Event, Failure, Outcome, Refusal, Reply};

@@ -26,7 +26,7 @@ impl Model for Rows {
 
 ghost use Rattle.std.specs.Prelude.{◌≡◌, map, IfOk};
 ghost use Rattle.std.specs.List.{flat_map};
-ghost use Rattle.sm_history.specs.Openings.{nothing};
+ghost use Rattle.sm_history.specs.Openings.{blank_opening};
 ghost use Rattle.sm_history.specs.Replaying.{AreLeft, StartsFrom};
 ghost use Rattle.sm_history.specs.Turning.{turn_rows};
 ghost use Rattle.sm_history.specs.Tables.{held_of, live_of, manager_of, policy_of, tables_of, waiting_of};
@@ -55,7 +55,7 @@ fn turns_of(alloc: Global, turns: &[TurnRow]) -> Result<Vec<TurnRow>, AllocError
 /// Returns empty tables.
 fn no_tables(alloc: Global) -> Tables
     ensures left { AreLeft result }
-    ensures nothing { tables_of result ≡ nothing.tables }
+    ensures nothing { tables_of result ≡ blank_opening.tables }
 {
     Tables {
         alloc,
@@ -72,7 +72,7 @@ fn no_tables(alloc: Global) -> Tables
 impl Rows {
     /// Returns the rows before the first change.
     pub fn nothing(alloc: Global) -> Rows
-        ensures { result ≡ nothing }
+        ensures { result ≡ blank_opening }
     {
         Rows {
             tables: no_tables(alloc),

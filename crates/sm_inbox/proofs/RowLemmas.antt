@@ -12,7 +12,7 @@ use Rattle.std.proofs.lemmas.List.Folds.{find_at, find-set, find_past, find-appe
 use Rattle.std.proofs.lemmas.List.Quantifiers.{position-Some}
 use Rattle.sm_history.specs.declared.delivery.Delivery.{Delivery}
 use Rattle.sm_inbox.specs.declared.inbox.Inbox.{Inbox}
-use Rattle.sm_inbox.specs.Rows.{row_of, room_in, waiting_in, IsChanged, IsPlace}
+use Rattle.sm_inbox.specs.Rows.{inbox_of, room_in, waiting_in, IsChanged, IsPlace}
 
 number_same : (a b : ℕ) → (a == b) ≡ true → a ≡ b
 number_same a b h = grind (arith, nat_tests)
@@ -49,11 +49,11 @@ past_end [] i le = refl
 past_end (r ∷ rs) zero le = absurd (omega (arith, le))
 past_end (r ∷ rs) (suc i) le = past_end rs i (omega (arith, le))
 
-pub no_row : (rows : List Inbox) (c : ℕ) → position (is_of c) rows ≡ None → row_of rows c ≡ None
+pub no_row : (rows : List Inbox) (c : ℕ) → position (is_of c) rows ≡ None → inbox_of rows c ≡ None
 no_row rows c h =
     elim (nat_lt (position_or_len (is_of c) rows) (length rows)) as (λ b. nat_lt (position_or_len (is_of c) rows)
     (length rows) ≡ b → (let o : Option ℕ = cond b (Some (position_or_len (is_of c) rows)) None in o) ≡ None →
-    row_of rows c ≡ None) [
+    inbox_of rows c ≡ None) [
       | true ↦ λ e f. cc
       | false ↦ λ e f. find_at (is_of c) rows ∙ past_end rows (position_or_len (is_of c) rows)
           (grind (arith, nat_tests))
@@ -80,43 +80,43 @@ is_place rows c i h =
     }
 
 pub by_position : (rows : List Inbox) (c : ℕ) (o : Option ℕ) → o ≡ position (is_of c) rows
-    → MatchOption o (row_of rows c ≡ None) (IsPlace rows c)
+    → MatchOption o (inbox_of rows c ≡ None) (IsPlace rows c)
 by_position rows c None e = no_row rows c (sym e)
 by_position rows c (Some i) e = is_place rows c i (sym e)
 
 -- What was read at a client's place is its row.
 pub row_read : (rows : List Inbox) (c i : ℕ) (r : Inbox) → IsPlace rows c i → r ≡ get_or rows i r
-    → row_of rows c ≡ Some r
+    → inbox_of rows c ≡ Some r
 row_read rows c i r at e = at.here r ∙ ap (λ x. Some x) (sym e)
 
 or_none : (o : Option Inbox) → option_or o None ≡ o
 or_none None = refl
 or_none (Some r) = refl
 
-pub row_pushed : (rows : List Inbox) (r : Inbox) → row_of rows r.client ≡ None
+pub row_pushed : (rows : List Inbox) (r : Inbox) → inbox_of rows r.client ≡ None
     → IsChanged rows (rows ++ r ∷ []) r.client (Some r)
 row_pushed rows r none = record {
   own = find-append (is_of r.client) rows (r ∷ []) ∙ rw (none, self_same r.client) refl;
-  other = λ k f. find-append (is_of k) rows (r ∷ []) ∙ rw f (or_none (row_of rows k));
+  other = λ k f. find-append (is_of k) rows (r ∷ []) ∙ rw f (or_none (inbox_of rows k));
 }
 
-none_left : (rows : List Inbox) (c : ℕ) → row_of (filter (λ r. not (r.client == c)) rows) c ≡ None
+none_left : (rows : List Inbox) (c : ℕ) → inbox_of (filter (λ r. not (r.client == c)) rows) c ≡ None
 none_left [] c = refl
 none_left (r ∷ rs) c =
     elim (r.client == c) as (λ b. (r.client == c) ≡ b →
-    row_of (if not b then r ∷ filter (λ x. not (x.client == c)) rs else filter (λ x. not (x.client == c)) rs) c
+    inbox_of (if not b then r ∷ filter (λ x. not (x.client == c)) rs else filter (λ x. not (x.client == c)) rs) c
     ≡ None) [
       | true ↦ λ e. none_left rs c
       | false ↦ λ e. rw e (none_left rs c)
     ] refl
 
 others_left : (rows : List Inbox) (c k : ℕ) → (c == k) ≡ false
-    → row_of (filter (λ r. not (r.client == c)) rows) k ≡ row_of rows k
+    → inbox_of (filter (λ r. not (r.client == c)) rows) k ≡ inbox_of rows k
 others_left [] c k f = refl
 others_left (r ∷ rs) c k f =
     elim (r.client == c) as (λ b. (r.client == c) ≡ b →
-    row_of (if not b then r ∷ filter (λ x. not (x.client == c)) rs else filter (λ x. not (x.client == c)) rs) k
-    ≡ row_of (r ∷ rs) k) [
+    inbox_of (if not b then r ∷ filter (λ x. not (x.client == c)) rs else filter (λ x. not (x.client == c)) rs) k
+    ≡ inbox_of (r ∷ rs) k) [
       | true ↦ λ e. rw (not_of r.client c k (number_same r.client c e) f) (others_left rs c k f)
       | false ↦ λ e. ap (λ (o : Option Inbox). cond (r.client == k) (Some r) o) (others_left rs c k f)
     ] refl
@@ -131,19 +131,19 @@ pub row_written : (rows : List Inbox) (c i : ℕ) (r r' : Inbox) → IsPlace row
 row_written rows c i r r' at e same = at.written r' (same ∙ ap (λ (x : Inbox). x.client) e ∙ at.own r)
 
 -- The place of a row was sought.
-pub sought : (rows : List Inbox) (c : ℕ) (o : Option ℕ) → MatchOption o (row_of rows c ≡ None) (IsPlace rows c)
-    → is_some o ≡ is_some (row_of rows c)
+pub sought : (rows : List Inbox) (c : ℕ) (o : Option ℕ) → MatchOption o (inbox_of rows c ≡ None) (IsPlace rows c)
+    → is_some o ≡ is_some (inbox_of rows c)
 sought rows c None none = sym (ap (λ (o : Option Inbox). is_some o) none)
-sought rows c (Some i) at = elim (row_of rows c) as (λ o. row_of rows c ≡ o → true ≡ is_some o) [
-  | None ↦ λ e. elim rows as (λ rs. IsPlace rs c i → row_of rs c ≡ None → true ≡ false) [
+sought rows c (Some i) at = elim (inbox_of rows c) as (λ o. inbox_of rows c ≡ o → true ≡ is_some o) [
+  | None ↦ λ e. elim rows as (λ rs. IsPlace rs c i → inbox_of rs c ≡ None → true ≡ false) [
     | [] ↦ λ a f. absurd (let lt = a.inside in omega (arith, lt))
     | r ∷ rs ↦ λ a f. let there = a.here r in cc
   ] at e
   | Some r ↦ λ e. refl
 ] refl
 
-pub none_sought : (rows : List Inbox) (c : ℕ) (o : Option ℕ) → MatchOption o (row_of rows c ≡ None) (IsPlace rows c)
-    → is_some o ≡ false → row_of rows c ≡ None
+pub none_sought : (rows : List Inbox) (c : ℕ) (o : Option ℕ) → MatchOption o (inbox_of rows c ≡ None) (IsPlace rows c)
+    → is_some o ≡ false → inbox_of rows c ≡ None
 none_sought rows c None none e = none
 none_sought rows c (Some i) at e = absurd (true≢false e)
 
@@ -158,7 +158,7 @@ waiting_read o r e = ap (λ v. length (waiting_in v)) e ∙ sym r.waiting.ok.0
 -- The room of the others stays where one row changed.
 pub room_others : (rows rows' : List Inbox) (c : ℕ) (o : Option Inbox) → IsChanged rows rows' c o → (k : ℕ)
     → (c == k) ≡ false
-    → room_in (row_of rows' k) ≡ room_in (row_of rows k)
+    → room_in (inbox_of rows' k) ≡ room_in (inbox_of rows k)
 room_others rows rows' c o ch k f = ap room_in (ch.other k f)
 
 pub lets_put : (n m : ℕ) → m ≡ 256 - n → (IsTrue (nat_lt n 256) → 0 < m) × (0 < m → IsTrue (nat_lt n 256))
@@ -174,8 +174,8 @@ room_open (Some r) e = refl
 -- ---- an inbox
 
 pub one_more : (rows : List Inbox) (c i : ℕ) (r r' : Inbox) (x : Delivery) → IsPlace rows c i → r ≡ get_or rows i r
-    → r'.client ≡ r.client → r'.waiting.items ≡ r.waiting.items ++ x ∷ [] → 0 < room_in (row_of rows c)
-    → room_in (row_of (set rows i r') c) + 1 ≡ room_in (row_of rows c)
+    → r'.client ≡ r.client → r'.waiting.items ≡ r.waiting.items ++ x ∷ [] → 0 < room_in (inbox_of rows c)
+    → room_in (inbox_of (set rows i r') c) + 1 ≡ room_in (inbox_of rows c)
 one_more rows c i r r' x at e same put lt =
     let n = ap (length {A = Delivery}) put ∙ length-append r.waiting.items (x ∷ []) in
     let old = ap room_in (row_read rows c i r at e) in
@@ -204,10 +204,10 @@ popped xs ys n (Some x) e some is = is
 pub room_kept : (rows : List Inbox) (c i : ℕ) (r r' : Inbox) → IsPlace rows c i → r ≡ get_or rows i r
     → r'.client ≡ r.client
     → r'.waiting.items ≡ drop 1 r.waiting.items → (k : ℕ)
-    → room_in (row_of rows k) ≤ room_in (row_of (set rows i r') k)
+    → room_in (inbox_of rows k) ≤ room_in (inbox_of (set rows i r') k)
 room_kept rows c i r r' at e same rest =
     let changed = row_written rows c i r r' at e same in
-    by_client (λ k. room_in (row_of rows k) ≤ room_in (row_of (set rows i r') k)) c
+    by_client (λ k. room_in (inbox_of rows k) ≤ room_in (inbox_of (set rows i r') k)) c
     (let n = ap (length {A = Delivery}) rest ∙ length-drop 1 r.waiting.items in
     let old = ap room_in (row_read rows c i r at e) in
     let new = ap room_in changed.own in
@@ -216,17 +216,17 @@ room_kept rows c i r r' at e same rest =
 
 -- The same clients have inboxes where what waits in one changed.
 pub open_written : (rows : List Inbox) (c i : ℕ) (r r' : Inbox) → IsPlace rows c i → r ≡ get_or rows i r
-    → r'.client ≡ r.client → (k : ℕ) → is_some (row_of (set rows i r') k) ≡ is_some (row_of rows k)
+    → r'.client ≡ r.client → (k : ℕ) → is_some (inbox_of (set rows i r') k) ≡ is_some (inbox_of rows k)
 open_written rows c i r r' at e same =
     let changed = row_written rows c i r r' at e same in
-    by_client (λ k. is_some (row_of (set rows i r') k) ≡ is_some (row_of rows k)) c
+    by_client (λ k. is_some (inbox_of (set rows i r') k) ≡ is_some (inbox_of rows k)) c
     (ap (λ (o : Option Inbox). is_some o) changed.own ∙
     sym (ap (λ (o : Option Inbox). is_some o) (row_read rows c i r at e)))
     (λ k f. ap (λ (o : Option Inbox). is_some o) (changed.other k f))
 
 pub open_pushed : (rows rows' : List Inbox) (c : ℕ) (r : Inbox) → IsChanged rows rows' c (Some r) → (k : ℕ)
-    → is_some (row_of rows k) ≡ true → is_some (row_of rows' k) ≡ true
+    → is_some (inbox_of rows k) ≡ true → is_some (inbox_of rows' k) ≡ true
 open_pushed rows rows' c r changed =
-    by_client (λ k. is_some (row_of rows k) ≡ true → is_some (row_of rows' k) ≡ true) c
+    by_client (λ k. is_some (inbox_of rows k) ≡ true → is_some (inbox_of rows' k) ≡ true) c
     (λ was. ap (λ (o : Option Inbox). is_some o) changed.own)
     (λ k f was. ap (λ (o : Option Inbox). is_some o) (changed.other k f) ∙ was)

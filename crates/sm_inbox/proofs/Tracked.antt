@@ -11,25 +11,25 @@ use Rattle.sm_history.specs.Inboxes.{inbox_at}
 use Rattle.sm_history.proofs.AfterInboxes.{inbox_delivers, inbox_takes, inbox_dies}
 use Rattle.sm_history.proofs.Sound.{taken_delivers, taken_takes}
 use Rattle.sm_inbox.specs.declared.inbox.Inbox.{Inbox}
-use Rattle.sm_inbox.specs.Rows.{row_of, waiting_in, IsChanged, IsPlace}
+use Rattle.sm_inbox.specs.Rows.{inbox_of, waiting_in, IsChanged, IsPlace}
 use Rattle.sm_inbox.specs.Tracking.{TracksRows}
 use Rattle.sm_inbox.proofs.RowLemmas.{by_client, self_same, row_pushed, row_read, row_written}
 
 pub tracks_same : (d : Effects) (rows rows' : List Inbox) (c : ℕ) (o : Option Inbox) → IsChanged rows rows' c o
-    → waiting_in o ≡ waiting_in (row_of rows c) → TracksRows d rows → TracksRows d rows'
+    → waiting_in o ≡ waiting_in (inbox_of rows c) → TracksRows d rows → TracksRows d rows'
 tracks_same d rows rows' c o ch e tr = record {
   taken = tr.taken;
-  queues = by_client (λ k. waiting_in (row_of rows' k) ≡ inbox_at d k) c (ap waiting_in ch.own ∙ e ∙ tr.queues c)
+  queues = by_client (λ k. waiting_in (inbox_of rows' k) ≡ inbox_at d k) c (ap waiting_in ch.own ∙ e ∙ tr.queues c)
       (λ k f. ap waiting_in (ch.other k f) ∙ tr.queues k);
 }
 
 pub tracks_delivers : (d : Effects) (rows rows' : List Inbox) (c : ℕ) (o : Option Inbox) (x : Delivery)
     → IsChanged rows rows' c o
-    → waiting_in o ≡ waiting_in (row_of rows c) ++ x ∷ [] → is_live d c ≡ true → TracksRows d rows
+    → waiting_in o ≡ waiting_in (inbox_of rows c) ++ x ∷ [] → is_live d c ≡ true → TracksRows d rows
     → TracksRows (Delivers c x ∷ d) rows'
 tracks_delivers d rows rows' c o x ch e live tr = record {
   taken = taken_delivers d c x tr.taken;
-  queues = by_client (λ k. waiting_in (row_of rows' k) ≡ inbox_at (Delivers c x ∷ d) k) c
+  queues = by_client (λ k. waiting_in (inbox_of rows' k) ≡ inbox_at (Delivers c x ∷ d) k) c
       (ap waiting_in ch.own ∙ e ∙ ap (λ xs. xs ++ x ∷ []) (tr.queues c) ∙
       sym (inbox_delivers d c x c tr.taken ∙ rw (self_same c, live) refl))
       (λ k f. ap waiting_in (ch.other k f) ∙ tr.queues k ∙ sym (inbox_delivers d c x k tr.taken ∙ rw f refl));
@@ -40,12 +40,12 @@ some_waits x xs ys e = let n = ap (length {A = Delivery}) e in grind (arith, nat
 
 pub tracks_takes : (d : Effects) (rows rows' : List Inbox) (c : ℕ) (o : Option Inbox) (x : Delivery)
     → IsChanged rows rows' c o
-    → waiting_in (row_of rows c) ≡ x ∷ waiting_in o → TracksRows d rows → TracksRows (Takes c ∷ d) rows'
+    → waiting_in (inbox_of rows c) ≡ x ∷ waiting_in o → TracksRows d rows → TracksRows (Takes c ∷ d) rows'
 tracks_takes d rows rows' c o x ch e tr =
     let there : inbox_at d c ≡ x ∷ waiting_in o = sym (tr.queues c) ∙ e in
     record {
       taken = taken_takes d c (some_waits x (waiting_in o) (inbox_at d c) there) tr.taken;
-      queues = by_client (λ k. waiting_in (row_of rows' k) ≡ inbox_at (Takes c ∷ d) k) c
+      queues = by_client (λ k. waiting_in (inbox_of rows' k) ≡ inbox_at (Takes c ∷ d) k) c
           (ap waiting_in ch.own ∙ sym (inbox_takes d c c ∙ rw (self_same c, there) refl))
           (λ k f. ap waiting_in (ch.other k f) ∙ tr.queues k ∙ sym (inbox_takes d c k ∙ rw f refl));
     }
@@ -54,13 +54,13 @@ pub tracks_dies : (d : Effects) (rows rows' : List Inbox) (c : ℕ) → IsChange
     → TracksRows (Dies c ∷ d) rows'
 tracks_dies d rows rows' c ch tr = record {
   taken = tr.taken;
-  queues = by_client (λ k. waiting_in (row_of rows' k) ≡ inbox_at (Dies c ∷ d) k) c
+  queues = by_client (λ k. waiting_in (inbox_of rows' k) ≡ inbox_at (Dies c ∷ d) k) c
       (ap waiting_in ch.own ∙ sym (inbox_dies d c c ∙ rw (self_same c) refl))
       (λ k f. ap waiting_in (ch.other k f) ∙ tr.queues k ∙ sym (inbox_dies d c k ∙ rw f refl));
 }
 
 -- A row of which nothing waits.
-pub tracks_pushed : (d : Effects) (rows : List Inbox) (r : Inbox) → row_of rows r.client ≡ None
+pub tracks_pushed : (d : Effects) (rows : List Inbox) (r : Inbox) → inbox_of rows r.client ≡ None
     → r.waiting.items ≡ []
     → TracksRows d rows → TracksRows d (rows ++ r ∷ [])
 tracks_pushed d rows r none empty tr = tracks_same d rows (rows ++ r ∷ []) r.client (Some r) (row_pushed rows r none)

@@ -7,7 +7,7 @@ ghost use Rattle.sm_history.specs.declared.effect.Effect.TheVariants.{Delivers, 
 ghost use Rattle.sm_history.specs.Effects.{Effects};
 ghost use Rattle.sm_history.specs.Clients.{is_live};
 ghost use Rattle.sm_history.specs.Inboxes.{inbox_at, has_inbox_room};
-ghost use Rattle.sm_inbox.specs.Tracking.{TracksInboxes, is_open, waiting_of, room_of};
+ghost use Rattle.sm_inbox.specs.Tracking.{TracksInboxes, is_open, deliveries_of, room_of};
 
 use crate::inbox::Inbox;
 use crate::places::place_of;
@@ -59,7 +59,7 @@ impl Inboxes {
         ensures opened { OnOk result (is_open self.new client ≡ true) }
         ensures still { (k : ℕ) → is_open self.old k ≡ true → is_open self.new k ≡ true }
         ensures room { OnOk result
-            (room_of self.new client ≡ MOST_DELIVERIES - length (waiting_of self.new client)) }
+            (room_of self.new client ≡ MOST_DELIVERIES - length (deliveries_of self.new client)) }
         ensures err { OnErr result (room_of self.new client ≡ room_of self.old client) }
         ensures others { (k : ℕ) → (client == k) ≡ false → room_of self.new k ≡ room_of self.old k }
     {
@@ -88,7 +88,7 @@ impl Inboxes {
 
     /// Returns the number of a client's deliveries.
     fn waiting(&self, client: u32) -> usize
-        ensures { result ≡ length (waiting_of self.now client) }
+        ensures { result ≡ length (deliveries_of self.now client) }
     {
         match place_of(&self.rows, client) {
             Some(i) => self.rows[i].waiting.len(),

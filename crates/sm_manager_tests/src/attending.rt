@@ -2,9 +2,9 @@
 
 use crate::manager_desk::ManagerDesk;
 use sm_engine::{Counted, Fault};
+use sm_history::NoGate;
 use sm_samples::{FailAt, OneByte, Pieces, Said, Talk};
 use sm_session::session;
-use sm_history::NoGate;
 use sm_wire::Kind;
 use std::alloc::Global;
 use std::io::Write;

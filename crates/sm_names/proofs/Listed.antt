@@ -8,21 +8,21 @@ use Rattle.sm_history.specs.Rising.{IsRising}
 use Rattle.sm_history.specs.Tables as tables
 use Rattle.sm_history.specs.Tables.{TracksNames as TracksNamed}
 use Rattle.sm_names.specs.declared.row.NameRow.{NameRow}
-use Rattle.sm_names.specs.Rows.{TracksRows, row_in, names_of, service_of}
+use Rattle.sm_names.specs.Rows.{TracksRows, name_row_in, row_names, row_service}
 use Rattle.sm_names.specs.Listed.{named, named_rows}
 
 service_listed : (rows : List NameRow) (name : List ℕ)
-    → tables.service_of (tables.row_in (named_rows rows) name) ≡ service_of (row_in rows name)
+    → tables.service_of (tables.row_in (named_rows rows) name) ≡ row_service (name_row_in rows name)
 service_listed [] name = refl
 service_listed (r ∷ rows) name =
     elim (bytes_eq r.name name) as (λ b. tables.service_of
     (let o : Option NamedRow = if b then Some (named r) else tables.row_in (named_rows rows) name in o)
-    ≡ service_of (let o : Option NameRow = if b then Some r else row_in rows name in o)) [
+    ≡ row_service (let o : Option NameRow = if b then Some r else name_row_in rows name in o)) [
       | true ↦ refl
       | false ↦ service_listed rows name
     ]
 
-names_listed : (rows : List NameRow) → tables.names_of (named_rows rows) ≡ names_of rows
+names_listed : (rows : List NameRow) → tables.names_of (named_rows rows) ≡ row_names rows
 names_listed [] = refl
 names_listed (r ∷ rows) = ap (λ (ns : List (List ℕ)). r.name ∷ ns) (names_listed rows)
 

@@ -11,7 +11,7 @@ ghost use Rattle.sm_history.specs.Queries.{names_by_mask};
 ghost use Rattle.sm_history.specs.Rising.{IsRising};
 ghost use Rattle.sm_history.specs.Tables.{TracksNames as TracksNamed};
 ghost use Rattle.sm_names.specs.Listed.{named, named_rows};
-ghost use Rattle.sm_names.specs.Rows.{names_of, IsPlace, IsGap, TracksRows, matching_names};
+ghost use Rattle.sm_names.specs.Rows.{row_names, IsPlace, IsGap, TracksRows, matching_names};
 
 use crate::row::NameRow;
 use sm_history::{NamedRow, Service};
@@ -27,7 +27,7 @@ pub struct Services {
 /// Returns the index of a name's row, or the index at which it would be inserted.
 fn place_of(rows: &[NameRow], name: &[u8]) -> Result<usize, usize>
     ensures within { IsSearchInRange result (length rows.now) }
-    ensures place { IsRising (names_of rows.now)
+    ensures place { IsRising (row_names rows.now)
         → MatchResult result (IsPlace rows.now name.now) (IsGap rows.now name.now) }
 {
     rows.binary_search_by(|row| row.name.bytes().cmp(name))

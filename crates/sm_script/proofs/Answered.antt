@@ -24,17 +24,18 @@ use Rattle.std.specs.List.{flat_map}
 use Rattle.sm_audit.specs.AuditLines.{audit_line}
 use Rattle.sm_wire.specs.declared.telling.Telling.{Telling}
 use Rattle.sm_wire.specs.declared.telling.Telling.TheVariants.{Whole}
-use Rattle.sm_wire.specs.Replies.{denials_text, policy_refused_text, told_text, told_of, told_in}
+use Rattle.sm_wire.specs.Replies.{denials_text, policy_refused_text, told_text, visible_reply, told_in}
 use Rattle.sm_engine.specs.Running.{Answered, GaveUp}
-use Rattle.sm_script.specs.Answering.{AnswersItem, AnswersNow, AnswersQuery, IsUnasked, Judges, Recorded, SealsNow}
+use Rattle.sm_script.specs.Answering.{ScriptAnswers, AnswersNow, AnswersQuery, IsUnasked, Judges, Recorded, SealsNow}
 use Rattle.sm_script.specs.Answering.{Told, asker_of, the_administrator}
 
 -- A request was judged, and its texts were added.
 pub told_request : {T E : Type 0} (result : Result T E) (old new : Recorded) (request : Request) (telling : Telling)
-    (replies replies_new audit audit_new : List ℕ) → ((reply : Reply) → told_of request reply ≡ told_in telling reply)
+    (replies replies_new audit audit_new : List ℕ)
+    → ((reply : Reply) → visible_reply request reply ≡ told_in telling reply)
     → OnOk result ((reply : Reply) × (noted : List Record) × Judges old request reply noted new
     × Told telling reply noted replies replies_new audit audit_new)
-    → OnOk result (Answered AnswersItem old (Asked request) replies replies_new audit audit_new new)
+    → OnOk result (Answered ScriptAnswers old (Asked request) replies replies_new audit audit_new new)
 told_request (Ok x) old new request telling replies replies_new audit audit_new tells found = record {
   reply = told_text (told_in telling found.0);
   lines = flat_map audit_line found.1;
@@ -47,10 +48,10 @@ told_request (Err e) old new request telling replies replies_new audit audit_new
 -- A request was judged, and its texts were lost.
 pub lost_request : {T E : Type 0} (result : Result T E) (old new : Recorded) (request : Request)
     → OnErr result ((reply : Reply) × (noted : List Record) × Judges old request reply noted new)
-    → OnErr result (GaveUp AnswersItem old (Asked request) new)
+    → OnErr result (GaveUp ScriptAnswers old (Asked request) new)
 lost_request (Ok x) old new request found = found
 lost_request (Err e) old new request found = inr (
-  told_text (told_of request found.0),
+  told_text (visible_reply request found.0),
   flat_map audit_line found.1,
   inl (found.0, found.1, found.2, refl, refl),
 )
@@ -60,7 +61,7 @@ pub told_look : {T E : Type 0} (result : Result T E) (old new : Recorded) (who :
     (replies replies_new audit audit_new : List ℕ)
     → OnOk result ((reply : Reply) × (noted : List Record) × AnswersQuery old (asker_of who) query reply noted new
     × Told Whole reply noted replies replies_new audit audit_new)
-    → OnOk result (Answered AnswersItem old (Asked (Look who query)) replies replies_new audit audit_new new)
+    → OnOk result (Answered ScriptAnswers old (Asked (Look who query)) replies replies_new audit audit_new new)
 told_look result old new (Some client) query replies replies_new audit audit_new found =
     told_request result old new (Look (Some client) query) Whole replies replies_new audit audit_new (λ r. refl) found
 told_look result old new None query replies replies_new audit audit_new found =
@@ -68,7 +69,7 @@ told_look result old new None query replies replies_new audit audit_new found =
 
 pub lost_look : {T E : Type 0} (result : Result T E) (old new : Recorded) (who : Option ClientId) (query : Query)
     → OnErr result ((reply : Reply) × (noted : List Record) × AnswersQuery old (asker_of who) query reply noted new)
-    → OnErr result (GaveUp AnswersItem old (Asked (Look who query)) new)
+    → OnErr result (GaveUp ScriptAnswers old (Asked (Look who query)) new)
 lost_look result old new (Some client) query found = lost_request result old new (Look (Some client) query) found
 lost_look result old new None query found = lost_request result old new (Look None query) found
 
@@ -76,7 +77,7 @@ lost_look result old new None query found = lost_request result old new (Look No
 pub unasked_request : {T E : Type 0} (result : Result T E) (old : Recorded) (request : Request)
     (replies replies_new audit : List ℕ) → IsUnasked request
     → OnOk result (replies_new ≡ replies ++ codes "malformed\n")
-    → OnOk result (Answered AnswersItem old (Asked request) replies replies_new audit audit old)
+    → OnOk result (Answered ScriptAnswers old (Asked request) replies replies_new audit audit old)
 unasked_request (Ok x) old request replies replies_new audit none replied = record {
   reply = codes "malformed\n";
   lines = [];
@@ -90,7 +91,7 @@ unasked_request (Err e) old request replies replies_new audit none replied = rep
 pub denials_request : {T E : Type 0} (result : Result T E) (old : Recorded) (replies replies_new audit : List ℕ)
     → OnOk result ((replies_new ≡ replies ++ denials_text old.ring)
     ⊎ (replies_new ≡ replies ++ told_text (Refused Memory)))
-    → OnOk result (Answered AnswersItem old (Asked Denials) replies replies_new audit audit old)
+    → OnOk result (Answered ScriptAnswers old (Asked Denials) replies replies_new audit audit old)
 denials_request (Ok x) old replies replies_new audit (inl replied) = record {
   reply = denials_text old.ring;
   lines = [];
@@ -110,7 +111,7 @@ denials_request (Err e) old replies replies_new audit found = found
 -- The open segment was to be closed, and the answer was written.
 pub seal_request : {T E : Type 0} (result : Result T E) (old new : Recorded) (replies replies_new audit : List ℕ)
     → OnOk result ((reply : Reply) × SealsNow old reply new × (replies_new ≡ replies ++ told_text reply))
-    → OnOk result (Answered AnswersItem old (Asked Seal) replies replies_new audit audit new)
+    → OnOk result (Answered ScriptAnswers old (Asked Seal) replies replies_new audit audit new)
 seal_request (Ok x) old new replies replies_new audit found = record {
   reply = told_text found.0;
   lines = [];
@@ -122,20 +123,20 @@ seal_request (Err e) old new replies replies_new audit found = found
 
 -- It was to be closed, and the answer was lost.
 pub lost_seal : {T E : Type 0} (result : Result T E) (old new : Recorded)
-    → OnErr result ((reply : Reply) × SealsNow old reply new) → OnErr result (GaveUp AnswersItem old (Asked Seal) new)
+    → OnErr result ((reply : Reply) × SealsNow old reply new) → OnErr result (GaveUp ScriptAnswers old (Asked Seal) new)
 lost_seal (Ok x) old new found = found
 lost_seal (Err e) old new found = inr (told_text found.0, [], inl (found.0, [], (found.1, refl), refl, refl))
 
 -- What changed nothing gave up.
 pub kept_request : {T E : Type 0} (result : Result T E) (old : Recorded) (request : Request)
-    → OnErr result (GaveUp AnswersItem old (Asked request) old)
+    → OnErr result (GaveUp ScriptAnswers old (Asked request) old)
 kept_request (Ok x) old request = tt
 kept_request (Err e) old request = inl refl
 
 reloads : (old new : Recorded) (texts : Texts) (policy : Policy) (reply : Reply) (noted : List Record)
     → prepared texts.rules texts.contexts ≡ Ok policy
     → AnswersNow old (Admin the_administrator) (Reload texts.expected policy) reply noted new
-    → AnswersItem old (OfPolicy texts) (told_text (told (Reload texts.expected policy) reply))
+    → ScriptAnswers old (OfPolicy texts) (told_text (told (Reload texts.expected policy) reply))
     (flat_map audit_line noted) new
 reloads old new texts policy reply noted reads judged = inl (record {
   policy = policy;
@@ -152,7 +153,7 @@ pub reload_lost : {T E : Type 0} (result : Result T E) (old new : Recorded) (tex
     (expected : ℕ) → prepared texts.rules texts.contexts ≡ Ok policy → expected ≡ texts.expected
     → OnErr result ((reply : Reply) × (noted : List Record)
     × AnswersNow old (Admin the_administrator) (Reload expected policy) reply noted new)
-    → OnErr result (GaveUp AnswersItem old (OfPolicy texts) new)
+    → OnErr result (GaveUp ScriptAnswers old (OfPolicy texts) new)
 reload_lost (Ok x) old new texts policy expected reads is found = found
 reload_lost (Err e) old new texts policy expected reads is found = inr (
   told_text found.0,
@@ -164,7 +165,7 @@ reload_lost (Err e) old new texts policy expected reads is found = inr (
 pub refused_answer : {T E : Type 0} (result : Result T E) (old : Recorded) (texts : Texts) (fault : PolicyFault)
     (replies replies_new audit : List ℕ) → Fails is_memory fault (prepared texts.rules texts.contexts)
     → OnOk result (replies_new ≡ replies ++ policy_refused_text fault)
-    → OnOk result (Answered AnswersItem old (OfPolicy texts) replies replies_new audit audit old)
+    → OnOk result (Answered ScriptAnswers old (OfPolicy texts) replies replies_new audit audit old)
 refused_answer (Ok x) old texts fault replies replies_new audit fails replied = record {
   reply = policy_refused_text fault;
   lines = [];

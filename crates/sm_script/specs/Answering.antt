@@ -128,12 +128,12 @@ AnswersRequest old request line lines new =
     ⊎ (IsUnasked request × (line ≡ codes "malformed\n") × (lines ≡ []) × (new ≡ old))
 
 -- Fewer bytes of replies, and of audit lines, may be held back until the items that came with theirs are answered.
-abbrev pub held_limit : ℕ
-held_limit = 65536
+abbrev pub script_held_limit : ℕ
+script_held_limit = 65536
 
 -- An item has these reply lines and these audit lines, and leaves this state.
-abbrev pub AnswersItem : Recorded → Item → List ℕ → List ℕ → Recorded → Type 0
-AnswersItem old (items.Asked request) line lines new = AnswersRequest old request line lines new
-AnswersItem old (items.Policy texts) line lines new = AnswersTexts old texts line lines new
-AnswersItem old items.Malformed line lines new = (line ≡ codes "malformed\n") × (lines ≡ []) × (new ≡ old)
-AnswersItem old items.LineTooLong line lines new = (line ≡ codes "fault long\n") × (lines ≡ []) × (new ≡ old)
+abbrev pub ScriptAnswers : Recorded → Item → List ℕ → List ℕ → Recorded → Type 0
+ScriptAnswers old (items.Asked request) line lines new = AnswersRequest old request line lines new
+ScriptAnswers old (items.Policy texts) line lines new = AnswersTexts old texts line lines new
+ScriptAnswers old items.Malformed line lines new = (line ≡ codes "malformed\n") × (lines ≡ []) × (new ≡ old)
+ScriptAnswers old items.LineTooLong line lines new = (line ≡ codes "fault long\n") × (lines ≡ []) × (new ≡ old)

@@ -16,7 +16,7 @@ use Rattle.sm_engine.specs.Running.{Served, never}
 use Rattle.sm_wire.specs.declared.kind.Kind.TheVariants.{Script}
 use Rattle.sm_script.specs.declared.script_fault.ScriptFault.{ScriptFault}
 use Rattle.sm_script.specs.declared.script_fault.ScriptFault.TheVariants.{Policy as PolicyRefused, Opening, Engine}
-use Rattle.sm_script.specs.Answering.{AnswersItem, Recorded, held_limit}
+use Rattle.sm_script.specs.Answering.{ScriptAnswers, Recorded, script_held_limit}
 
 -- This is the book of a manager that was just opened.
 abbrev pub opened_manager : ℕ → Policy → Book
@@ -54,7 +54,7 @@ pub record Ran (rules contexts : List ℕ) (places bound reads : ℕ) (result : 
   pub first : Recorded
   pub opened_first : Opens rules contexts places first
   pub last : Recorded
-  pub served : Served Script AnswersItem never held_limit result bound reads first r r_new w w_new a a_new last
+  pub served : Served Script ScriptAnswers never script_held_limit result bound reads first r r_new w w_new a a_new last
 
 -- A script has this result.
 abbrev pub RunsScript : Result (Unit {0}) ScriptFault → List ℕ → List ℕ → ℕ → ℕ → ℕ → Option (List ℕ) → Option (List ℕ)

@@ -3,7 +3,7 @@
 ghost use Rattle.std.specs.Prelude.{◌≡◌, OnOk, OnErr, Ok};
 ghost use Rattle.sm_wire.specs.declared.item.Item.TheVariants.{Asked, Policy};
 ghost use Rattle.sm_policy.specs.Preparing.{prepared};
-ghost use Rattle.sm_script.specs.Answering.{AnswersItem, held_limit, recorded};
+ghost use Rattle.sm_script.specs.Answering.{ScriptAnswers, script_held_limit, recorded};
 ghost use Rattle.sm_engine.specs.Running.{Answered, GaveUp, never};
 
 use crate::judging::{
@@ -36,11 +36,11 @@ impl Model for Script {
 }
 
 impl Machine for Script {
-    ghost answers = { AnswersItem };
+    ghost answers = { ScriptAnswers };
 
     ghost over = { never };
 
-    ghost hold_limit = { held_limit };
+    ghost hold_limit = { script_held_limit };
 
     fn answer(
         &mut self,
@@ -81,9 +81,9 @@ impl Script {
         replies: &mut Vec<u8>,
         audit: &mut Vec<u8>,
     ) -> Result<(), AllocError>
-        ensures ok { OnOk result (Answered AnswersItem self.old (Asked request) replies.old.items replies.new.items
+        ensures ok { OnOk result (Answered ScriptAnswers self.old (Asked request) replies.old.items replies.new.items
             audit.old.items audit.new.items self.new) }
-        ensures err { OnErr result (GaveUp AnswersItem self.old (Asked request) self.new) }
+        ensures err { OnErr result (GaveUp ScriptAnswers self.old (Asked request) self.new) }
     {
         let alloc = self.alloc;
         let telling = request.telling();
@@ -111,9 +111,9 @@ impl Script {
         replies: &mut Vec<u8>,
         audit: &mut Vec<u8>,
     ) -> Result<(), AllocError>
-        ensures ok { OnOk result (Answered AnswersItem self.old (Policy texts) replies.old.items replies.new.items
+        ensures ok { OnOk result (Answered ScriptAnswers self.old (Policy texts) replies.old.items replies.new.items
             audit.old.items audit.new.items self.new) }
-        ensures err { OnErr result (GaveUp AnswersItem self.old (Policy texts) self.new) }
+        ensures err { OnErr result (GaveUp ScriptAnswers self.old (Policy texts) self.new) }
     {
         match Prepared::from_texts(self.alloc, texts.rules(), texts.contexts()) {
             Ok(policy) => self.answer_reload(&texts, policy, replies, audit),
@@ -129,9 +129,9 @@ impl Script {
         audit: &mut Vec<u8>,
     ) -> Result<(), AllocError>
         requires { prepared texts.now.rules texts.now.contexts ≡ Ok policy }
-        ensures ok { OnOk result (Answered AnswersItem self.old (Policy texts.now) replies.old.items replies.new.items
+        ensures ok { OnOk result (Answered ScriptAnswers self.old (Policy texts.now) replies.old.items replies.new.items
             audit.old.items audit.new.items self.new) }
-        ensures err { OnErr result (GaveUp AnswersItem self.old (Policy texts.now) self.new) }
+        ensures err { OnErr result (GaveUp ScriptAnswers self.old (Policy texts.now) self.new) }
     {
         let alloc = self.alloc;
         let expected = texts.expected();

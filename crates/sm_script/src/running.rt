@@ -3,7 +3,7 @@
 ghost use Rattle.std.specs.Prelude.{◌≡◌, ◌<◌, ◌≤◌, ◌+◌, ◌-◌, min, [], OnOk, IfOk, MatchResult};
 ghost use Rattle.std.specs.Io.KnownBytes.{IsAtEnd};
 ghost use Rattle.sm_history.specs.Lawful.{MayOpen};
-ghost use Rattle.sm_engine.specs.Counts.{failures_of, calls_of, inner_of, greatest};
+ghost use Rattle.sm_engine.specs.Counts.{failures_of, calls_of, inner_of, greatest_count};
 ghost use Rattle.sm_core.specs.Opening.{the_manager};
 ghost use Rattle.sm_script.specs.Scripts.{opened_manager, MayNotOpen, Opens, NotRun, RunsScript, IfNotRun};
 
@@ -31,9 +31,9 @@ pub fn run_script<R: Read, W: Write, A: Write>(
     writer: &mut Counted<W>,
     audit: &mut Counted<A>,
 ) -> Result<(), ScriptFault>
-    requires reader { failures_of reader.old < greatest }
-    requires writer { failures_of writer.old < greatest }
-    requires audit { failures_of audit.old < greatest }
+    requires reader { failures_of reader.old < greatest_count }
+    requires writer { failures_of writer.old < greatest_count }
+    requires audit { failures_of audit.old < greatest_count }
     // The answers to the items of the input are written, each judged on the state after those before it.
     ensures ran { RunsScript result rules.now contexts.now places bound (calls_of reader.new - calls_of reader.old)
         (R.remaining (inner_of reader.old)) (R.remaining (inner_of reader.new))
@@ -45,7 +45,7 @@ pub fn run_script<R: Read, W: Write, A: Write>(
     ensures end { OnOk result (IsAtEnd (R.remaining (inner_of reader.new))) }
     ensures reads { calls_of reader.new ≤ calls_of reader.old + bound }
     ensures too_many { result ≡ Err (ScriptFault.Engine Fault.TooManyReads)
-        → calls_of reader.new ≡ min (calls_of reader.old + bound) greatest }
+        → calls_of reader.new ≡ min (calls_of reader.old + bound) greatest_count }
     ensures read_fault { result ≡ Err (ScriptFault.Engine Fault.ReadFault)
         → failures_of reader.old < failures_of reader.new }
     ensures write_fault { result ≡ Err (ScriptFault.Engine Fault.WriteFault)

@@ -11,7 +11,7 @@ use Rattle.sm_session.specs.declared.response.Response.{Response}
 use Rattle.sm_session.specs.declared.response.Response.TheVariants.{Replied, PolicyRefused, Denied}
 use Rattle.sm_session.specs.declared.session_state.SessionState.{SessionState}
 use Rattle.sm_session.specs.Responses.{response_text}
-use Rattle.sm_session.specs.Sessions.{Asks, TakesItem, is_asked, told_to}
+use Rattle.sm_session.specs.Sessions.{Asks, TakesItem, is_asked, reply_told}
 
 -- The line of an answer depends only on the visible part of a reply.
 pub response_text-same : (f g : Reply → Reply) → ((r : Reply) → f r ≡ g r) → (response : Response)
@@ -24,10 +24,10 @@ response_text-same f g same (Denied records) = refl
 -- An item in its place was asked.
 pub asked_once : {D : Type 0} (answers : D → Item → Response → D → Type 0) (old : SessionState D) (item : Item)
     (response : Response) (new : SessionState D) (told : Reply → Reply) → is_asked old.kind old.connected item ≡ true
-    → ((r : Reply) → told_to item r ≡ told r) → Asks answers old item response new
+    → ((r : Reply) → reply_told item r ≡ told r) → Asks answers old item response new
     → TakesItem answers old item (response_text told response) new
 asked_once answers old item response new told place tells asks =
-    rw place (response, asks, response_text-same told (told_to item) (λ r. sym (tells r)) response)
+    rw place (response, asks, response_text-same told (reply_told item) (λ r. sym (tells r)) response)
 
 -- A fault that had another cause.
 pub Served-memory : {S : Type 0} {kind : Kind} {answers : S → Item → List ℕ → List ℕ → S → Type 0} {over : S → Bool}

@@ -12,7 +12,7 @@ use Rattle.sm_wire.specs.declared.item.Item.{Item}
 use Rattle.sm_wire.specs.declared.item.Item.TheVariants.{Asked, Policy, Malformed, LineTooLong}
 use Rattle.sm_wire.specs.declared.kind.Kind.{Kind}
 use Rattle.sm_wire.specs.declared.kind.Kind.TheVariants.{Client, Admin, Script}
-use Rattle.sm_wire.specs.Replies.{told_of}
+use Rattle.sm_wire.specs.Replies.{visible_reply}
 use Rattle.sm_engine.specs.declared.fault.Fault.{Fault}
 use Rattle.sm_engine.specs.Running.{Served}
 use Rattle.sm_session.specs.declared.response.Response.{Response}
@@ -65,11 +65,11 @@ said_to Malformed = codes "malformed\n"
 said_to LineTooLong = codes "fault long\n"
 
 -- This is the visible part of a reply to the item.
-abbrev pub told_to : Item → Reply → Reply
-told_to (Asked request) reply = told_of request reply
-told_to (Policy texts) reply = reply
-told_to Malformed reply = reply
-told_to LineTooLong reply = reply
+abbrev pub reply_told : Item → Reply → Reply
+reply_told (Asked request) reply = visible_reply request reply
+reply_told (Policy texts) reply = reply
+reply_told Malformed reply = reply
+reply_told LineTooLong reply = reply
 
 -- An answer is a client's number.
 unfoldable pub is_connected : Response → Bool
@@ -109,7 +109,7 @@ abbrev pub AsksOnce : {D : Type 0} → (D → Item → Response → D → Type 0
     → SessionState D
     → Type 0
 AsksOnce answers old item text new = (response : Response) × Asks answers old item response new
-    × (text ≡ response_text (told_to item) response)
+    × (text ≡ response_text (reply_told item) response)
 
 -- Nothing was asked, and these words are written.
 abbrev pub SaysOnly : {D : Type 0} → SessionState D → List ℕ → List ℕ → SessionState D → Type 0
@@ -164,8 +164,8 @@ pub record Attends {D : Type 0} (kind : Kind) (answers : D → Item → Response
   pub left : Leaves leaves last new
 
 -- This text was appended to another.
-abbrev pub Adds : (List ℕ → Type 0) → List ℕ → List ℕ → Type 0
-Adds IsText old new = (text : List ℕ) × IsText text × (new ≡ old ++ text)
+abbrev pub Appends : (List ℕ → Type 0) → List ℕ → List ℕ → Type 0
+Appends IsText old new = (text : List ℕ) × IsText text × (new ≡ old ++ text)
 
 -- An item was answered and its text was lost because an allocation failed, or it wasn't answered.
 abbrev pub Loses : {S : Type 0} → (List ℕ → S → Type 0) → S → S → Type 0

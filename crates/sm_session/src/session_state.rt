@@ -5,7 +5,7 @@ ghost use Rattle.sm_history.specs.Verdict.{is_die};
 ghost use Rattle.sm_wire.specs.declared.request.Request.TheVariants.{Hello, Change};
 ghost use Rattle.sm_wire.specs.declared.item.Item.TheVariants.{Asked, Policy};
 ghost use Rattle.sm_session.specs.Sessions.{client_may, admin_may, may_ask, may_reload, is_asked, is_connected};
-ghost use Rattle.sm_session.specs.Sessions.{is_died, Asks, TakesItem, SitsThrough, Adds, Loses};
+ghost use Rattle.sm_session.specs.Sessions.{is_died, Asks, TakesItem, SitsThrough, Appends, Loses};
 
 use crate::desk::Desk;
 use crate::response::Response;
@@ -51,7 +51,7 @@ impl<D: Desk> SessionState<D> {
     ) -> Result<(), AllocError>
         requires can { D.can_answer self.old.desk }
         ensures can { D.can_answer self.new.desk }
-        ensures ok { OnOk result (Adds (λ text. SitsThrough D.answers self.old item text self.new)
+        ensures ok { OnOk result (Appends (λ text. SitsThrough D.answers self.old item text self.new)
             replies.old.items replies.new.items) }
         ensures err { OnErr result (Loses (SitsThrough D.answers self.old item) self.old self.new) }
     {
@@ -74,7 +74,7 @@ impl<D: Desk> SessionState<D> {
     ) -> Result<(), AllocError>
         requires can { D.can_answer self.old.desk }
         ensures can { D.can_answer self.new.desk }
-        ensures ok { OnOk result (Adds (λ text. TakesItem D.answers self.old (Asked request) text self.new)
+        ensures ok { OnOk result (Appends (λ text. TakesItem D.answers self.old (Asked request) text self.new)
             replies.old.items replies.new.items) }
         ensures err { OnErr result (Loses (TakesItem D.answers self.old (Asked request)) self.old self.new) }
     {
@@ -94,7 +94,7 @@ impl<D: Desk> SessionState<D> {
     ) -> Result<(), AllocError>
         requires can { D.can_answer self.old.desk }
         ensures can { D.can_answer self.new.desk }
-        ensures ok { OnOk result (Adds (λ text. TakesItem D.answers self.old (Policy texts.now) text self.new)
+        ensures ok { OnOk result (Appends (λ text. TakesItem D.answers self.old (Policy texts.now) text self.new)
             replies.old.items replies.new.items) }
         ensures err { OnErr result (Loses (TakesItem D.answers self.old (Policy texts.now)) self.old self.new) }
     {

@@ -1,7 +1,7 @@
 //! One connection's session.
 
 ghost use Rattle.std.specs.Prelude.{◌≡◌, ◌<◌, ◌≤◌, ◌+◌, ◌-◌, min, ◌⊎◌, true, if◌then◌else◌};
-ghost use Rattle.sm_engine.specs.Counts.{failures_of, calls_of, inner_of, greatest};
+ghost use Rattle.sm_engine.specs.Counts.{failures_of, calls_of, inner_of, greatest_count};
 ghost use Rattle.sm_session.specs.Sessions.{Attends};
 
 use crate::desk::Desk;
@@ -25,14 +25,14 @@ pub fn session<D: Desk, G: Gate, R: Read, W: Write>(
     bound: u32,
 ) -> (D, Result<(), Fault>)
     requires can { D.can_answer desk }
-    requires reader { failures_of reader.old < greatest }
-    requires writer { failures_of writer.old < greatest }
+    requires reader { failures_of reader.old < greatest_count }
+    requires writer { failures_of writer.old < greatest_count }
     ensures attends { Attends kind D.answers D.leaves result.1 bound (calls_of reader.new - calls_of reader.old) desk
         (R.remaining (inner_of reader.old)) (R.remaining (inner_of reader.new))
         (W.contents (inner_of writer.old)) (W.contents (inner_of writer.new)) result.0 }
     ensures reads { calls_of reader.new ≤ calls_of reader.old + bound }
     ensures too_many { result.1 ≡ Err Fault.TooManyReads
-        → calls_of reader.new ≡ min (calls_of reader.old + bound) greatest }
+        → calls_of reader.new ≡ min (calls_of reader.old + bound) greatest_count }
     ensures read_fault { result.1 ≡ Err Fault.ReadFault → failures_of reader.old < failures_of reader.new }
     ensures write_fault { result.1 ≡ Err Fault.WriteFault → failures_of writer.old < failures_of writer.new }
     ensures read_told { failures_of reader.old < failures_of reader.new → result.1 ≡ Err Fault.ReadFault }

@@ -5,7 +5,10 @@ ghost use Rattle.sm_core.specs.Opening.{opened};
 ghost use denote.Param.Send.{IsSend, IsSync};
 
 use sm_core::View;
-use sm_door::{Actor, Admin, Door, Gate, HistoryId, LockedManager, Naming, Published, Registry, Seat, Session, SharedView, UnnamedRegistry, ViewReader, ViewWriter};
+use sm_door::{
+    Actor, Admin, Door, Gate, HistoryId, LockedManager, Naming, Published, Registry, Seat, Session,
+    SharedView, UnnamedRegistry, ViewReader, ViewWriter,
+};
 use sm_history::{Answer, Event, NoGate, Outcome, Refusal, Reply, Segment};
 use sm_kinds::{Class, Context, Identity, Name, ObjRef, Perms, Places};
 use sm_policy::Prepared;

@@ -20,13 +20,13 @@ use Rattle.sm_wire.specs.declared.fast_path.FastRequest.{FastRequest}
 use Rattle.sm_wire.specs.declared.fast_path.Wanted.{Wanted}
 use Rattle.sm_wire.specs.declared.fast_path.Wanted.TheVariants.{List as Listing, Version, Get}
 use Rattle.sm_wire.specs.FieldSpelling.{SpellsName}
-use Rattle.sm_wire.specs.Number.{u32_max, number_of}
+use Rattle.sm_wire.specs.Number.{u32_max, parsed_number}
 use Rattle.sm_wire.specs.Values.{plain_name_of}
 use Rattle.sm_wire.specs.Grammar.{header_of, request_of}
 use Rattle.sm_wire.specs.Items.{item_of, line_end, scan_start}
 use Rattle.sm_wire.specs.FastPath.{asked_in, asked_by, plain_of, named_of, listed_of, checked_of, other_of, wanted_of}
 use Rattle.sm_wire.specs.FastPath.{request_by, numbered_of, fast_of}
-use Rattle.sm_wire.specs.Spelling.{SpellsRequest, SpellsFields, Spells, joined}
+use Rattle.sm_wire.specs.Spelling.{SpellsRequest, SpellsFields, Spells, joined_fields}
 use Rattle.sm_wire.proofs.SpellingLemmasFields.{bound, number_spelled, u32_small, word_chosen, if_true, other_byte}
 use Rattle.sm_wire.proofs.SpellingLemmasFields.{plain_spelled}
 use Rattle.sm_wire.proofs.SpellingLemmasLines.{line_read}
@@ -35,7 +35,7 @@ use Rattle.sm_wire.proofs.SpellingLemmasLines.{line_read}
 record Said (who : Option ClientId) (words : List ℕ) (wanted : Wanted) : Type 0 where
   pub first : List ℕ
   pub others : List (List ℕ)
-  pub joins : words ≡ joined (first ∷ others)
+  pub joins : words ≡ joined_fields (first ∷ others)
   pub spells : SpellsRequest who (first ∷ others) (asked_in who wanted)
 
 -- Words in two parts.
@@ -95,7 +95,7 @@ listed_said : (who : Option ClientId) (words : List ℕ) (wanted : Wanted) → t
     → listed_of (drop 5 words) ≡ Some wanted → Said who words wanted
 unfolding listed_of
 listed_said who words wanted front e =
-    let m = bound _ (number_of u32_max (drop 5 words)) wanted e in
+    let m = bound _ (parsed_number u32_max (drop 5 words)) wanted e in
     subst (λ w. Said who words w) (same_Some _ _ m.2) (record {
       first = codes "list";
       others = drop 5 words ∷ [];
@@ -157,10 +157,10 @@ numbered_asked : (line : List ℕ) (fast : FastRequest) → numbered_of line ≡
 unfolding numbered_of
 numbered_asked line fast e =
     let p = bound _ (position (λ (b : ℕ). b == 32) line) fast e in
-    let n = bound _ (number_of u32_max (take p.0 line)) fast p.2 in
+    let n = bound _ (parsed_number u32_max (take p.0 line)) fast p.2 in
     let s = words_spoken (Some (record { 0 = n.0 })) (drop (p.0 + 1) line) fast n.2 in
     let number = take p.0 line in
-    let all : line ≡ joined (number ∷ s.said.first ∷ s.said.others) =
+    let all : line ≡ joined_fields (number ∷ s.said.first ∷ s.said.others) =
     parted line p.0 p.1 ∙ ap (λ (l : List ℕ). number ++ 32 ∷ l) s.said.joins in
     subst (λ (q : FastRequest). request_of Script line ≡ Some (asked_by q)) s.is (line_read Script line _
     (subst (λ (l : List ℕ). Spells Script l (asked_in (Some (record { 0 = n.0 })) s.wanted)) (sym all)

@@ -12,7 +12,8 @@ use Rattle.sm_wire.specs.declared.frame_state.FrameState.{FrameState}
 use Rattle.sm_wire.specs.declared.frame_state.FrameState.TheVariants.{Line, Texts as TextsMode, Dead}
 use Rattle.sm_wire.specs.declared.reload_header.ReloadHeader.{ReloadHeader}
 use Rattle.sm_wire.specs.declared.ends.End.TheVariants.{At, Later, Never}
-use Rattle.sm_wire.specs.Items.{Step, Scan, Makes, scan_start, scan_dead, policy_item, line_end, line_step, text_step}
+use Rattle.sm_wire.specs.Items.{FrameStep, Scan, Makes, scan_start, scan_dead, policy_item, line_end, line_step}
+use Rattle.sm_wire.specs.Items.{text_step}
 use Rattle.sm_wire.specs.Items.{mode_step, byte_step, scan_after, items_after}
 use Rattle.sm_wire.specs.Ends.{EndsAs, IsWhole, whole_step, never_items}
 use Rattle.sm_wire.proofs.ItemLemmas.{items_after-append, scan_after-append}
@@ -48,8 +49,8 @@ module _ (kind : Kind) where
 
   leads_one : (s : Scan) (b : ℕ) (t : Scan) (is : List Item) → byte_step s b ≡ (t, is) → Leads s (b ∷ []) t is
   leads_one s b t is e = record {
-    scan = ap (λ (p : Step). p.0) e;
-    items = ap (λ (p : Step). p.1 ++ []) e ∙ append-nil is;
+    scan = ap (λ (p : FrameStep). p.0) e;
+    items = ap (λ (p : FrameStep). p.1 ++ []) e ∙ append-nil is;
   }
 
   -- The first n bytes and the next one.
@@ -72,9 +73,9 @@ module _ (kind : Kind) where
       let more : length xs ≤ 4096 - length (held ++ x ∷ []) = omega (arith, length-append held (x ∷ [])) in
       let rest = line_leads (held ++ x ∷ []) xs (λ k lt. plain (suc k) (omega arith)) more in
       record {
-        scan = ap (λ (s : Step). scan_after s.0 xs) one ∙ rest.scan
+        scan = ap (λ (s : FrameStep). scan_after s.0 xs) one ∙ rest.scan
             ∙ ap (λ (h : List ℕ). record { kind = kind; mode = Line; held = h }) (append_assoc held (x ∷ []) xs);
-        items = ap (λ (s : Step). s.1 ++ items_after s.0 xs) one ∙ rest.items;
+        items = ap (λ (s : FrameStep). s.1 ++ items_after s.0 xs) one ∙ rest.items;
       }
 
   -- The same, of the first bytes of some.
@@ -161,10 +162,10 @@ module _ (kind : Kind) where
       λ k some le is. later (suc k) (omega arith) (omega arith) (omega (arith, len, is)) in
       let rest = texts_lead a (held ++ x ∷ []) xs next in
       record {
-        scan = ap (λ (s : Step). scan_after s.0 xs) one ∙ rest.scan
+        scan = ap (λ (s : FrameStep). scan_after s.0 xs) one ∙ rest.scan
             ∙ ap (λ (h : List ℕ). record { kind = kind; mode = TextsMode a; held = h }) (append_assoc held
             (x ∷ []) xs);
-        items = ap (λ (s : Step). s.1 ++ items_after s.0 xs) one ∙ rest.items;
+        items = ap (λ (s : FrameStep). s.1 ++ items_after s.0 xs) one ∙ rest.items;
       }
 
   -- Bytes that end texts.

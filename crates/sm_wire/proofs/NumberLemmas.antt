@@ -11,7 +11,7 @@ use Rattle.std.specs.Char.{is_ascii_digit, digit_value}
 use Rattle.std.specs.Int.{IsInRange}
 use Rattle.std.specs.Fmt.{decimal}
 use Rattle.std.specs.Str.Parse.{AllDigits, digits_value, digits_value_after}
-use Rattle.sm_wire.specs.Number.{number_of, digits_after}
+use Rattle.sm_wire.specs.Number.{parsed_number, digits_after}
 
 if_some : {A : Type 0} (t : Bool) (x : Option A) (y : A) → (if t then x else None) ≡ Some y → (t ≡ true) × (x ≡ Some y)
 if_some true x y e = (refl, e)
@@ -71,7 +71,7 @@ decimal_zero : decimal 0 ≡ 48 ∷ []
 decimal_zero = decimal-digits_value (numerals_by_value _ tells_digits) (48 ∷ []) (omega arith, tt) (omega arith)
     (λ h. refl) (omega arith)
 
-pub one_number : (max n : ℕ) (text : List ℕ) → max < 2 ^ 64 → number_of max text ≡ Some n → (text ≡ decimal n)
+pub one_number : (max n : ℕ) (text : List ℕ) → max < 2 ^ 64 → parsed_number max text ≡ Some n → (text ≡ decimal n)
     × (n ≤ max)
 one_number max n [] small e = cc
 one_number max n (b ∷ []) small e = elim (cases_eq b 48) [
@@ -86,7 +86,7 @@ one_number max n (b ∷ c ∷ bs) small e = elim (cases_eq b 48) [
 
 -- Digits without a leading zero that write at most max are read.
 unread : (max : ℕ) (ds : List ℕ) → AllDigits 10 ds → 0 < length ds → (get_or ds 0 0 ≡ 48 → length ds ≡ 1)
-    → digits_value 10 ds ≤ max → number_of max ds ≡ Some (digits_value 10 ds)
+    → digits_value 10 ds ≤ max → parsed_number max ds ≡ Some (digits_value 10 ds)
 unread max [] d some lead le = absurd (omega arith)
 unread max (b ∷ []) d some lead le = elim (cases_eq b 48) [
   | inl z ↦ rw z refl
@@ -96,12 +96,12 @@ unread max (b ∷ c ∷ bs) d some lead le =
     let ne : b ≢ 48 = λ z. omega (arith, lead z) in
     is_no_zero b None (digits_after max 0 (b ∷ c ∷ bs)) ne ∙ heard max 0 (b ∷ c ∷ bs) d le
 
-pub its_spelling : (max n : ℕ) → max < 2 ^ 64 → n ≤ max → number_of max (decimal n) ≡ Some n
+pub its_spelling : (max n : ℕ) → max < 2 ^ 64 → n ≤ max → parsed_number max (decimal n) ≡ Some n
 its_spelling max n small le =
     let k = decimal_is_IsNumeral n (omega arith) in
     let lead : get_or (decimal n) 0 0 ≡ 48 → length (decimal n) ≡ 1 = leads n (omega arith) in
     let u = unread max (decimal n) k.0.1 k.0.0 lead (omega (arith, k.1)) in
-    subst (λ m. number_of max (decimal n) ≡ Some m) k.1 u
+    subst (λ m. parsed_number max (decimal n) ≡ Some m) k.1 u
   where
     leads : (n : ℕ) → n < 2 ^ 64 → get_or (decimal n) 0 0 ≡ 48 → length (decimal n) ≡ 1
     leads zero small e = ap length decimal_zero

@@ -31,7 +31,7 @@ use Rattle.sm_kinds.specs.declared.perms.Perms.{Perms}
 use Rattle.sm_kinds.specs.Contexts.{is_graphic, is_context, ends_behind_role, after_part}
 use Rattle.sm_kinds.specs.Permissions.{class_read, perm_read, bit}
 use Rattle.sm_ruletext.specs.Lexing.{is_word, is_word_byte}
-use Rattle.sm_wire.specs.Number.{u32_max, u64_max, number_of}
+use Rattle.sm_wire.specs.Number.{u32_max, u64_max, parsed_number}
 use Rattle.sm_wire.specs.Reading.{first_of_two}
 use Rattle.sm_wire.specs.Values.{plain_name_of, name_of, reference_of, own_object_of, own_number, references_of}
 use Rattle.sm_wire.specs.Values.{fitting_references, fitting_payload}
@@ -142,10 +142,10 @@ u64_small = omega arith
 
 -- Of numbers of at most max.
 module _ (max : ℕ) (small : max < 2 ^ 64) where
-  pub number_read : (t : List ℕ) (n : ℕ) → SpellsNumber max t n → number_of max t ≡ Some n
+  pub number_read : (t : List ℕ) (n : ℕ) → SpellsNumber max t n → parsed_number max t ≡ Some n
   number_read _ _ (SpellsNumber.digits n le) = its_spelling max n small le
 
-  pub number_spelled : (t : List ℕ) (n : ℕ) → number_of max t ≡ Some n → SpellsNumber max t n
+  pub number_spelled : (t : List ℕ) (n : ℕ) → parsed_number max t ≡ Some n → SpellsNumber max t n
   number_spelled t n e = let h = one_number max n t small e in rw (h.0) (SpellsNumber.digits n h.1)
 
   pub number_solid : (t : List ℕ) (n : ℕ) → SpellsNumber max t n → Solid t
@@ -323,15 +323,15 @@ reference_read _ _ (SpellsReference.handle digits n s) = rw (number_read u32_max
 reference_read _ _ SpellsReference.null = refl
 
 own_spelled : (b : ℕ) (bs : List ℕ) (r : ObjRef) → b ≡ 111
-    → option_and_then (λ n. Some (Own n)) (number_of u32_max bs) ≡ Some r → SpellsReference (b ∷ bs) r
+    → option_and_then (λ n. Some (Own n)) (parsed_number u32_max bs) ≡ Some r → SpellsReference (b ∷ bs) r
 own_spelled b bs r is e =
-    let h = bound (λ n. Some (Own n)) (number_of u32_max bs) r e in
+    let h = bound (λ n. Some (Own n)) (parsed_number u32_max bs) r e in
     rw (is, ← same_Some (Own h.0) r h.2) (SpellsReference.own bs h.0 (number_spelled u32_max u32_small bs h.0 h.1))
 
 handle_spelled : (b : ℕ) (bs : List ℕ) (r : ObjRef) → b ≡ 104
-    → option_and_then (λ n. Some (Handle n)) (number_of u32_max bs) ≡ Some r → SpellsReference (b ∷ bs) r
+    → option_and_then (λ n. Some (Handle n)) (parsed_number u32_max bs) ≡ Some r → SpellsReference (b ∷ bs) r
 handle_spelled b bs r is e =
-    let h = bound (λ n. Some (Handle n)) (number_of u32_max bs) r e in
+    let h = bound (λ n. Some (Handle n)) (parsed_number u32_max bs) r e in
     rw (is, ← same_Some (Handle h.0) r h.2)
     (SpellsReference.handle bs h.0 (number_spelled u32_max u32_small bs h.0 h.1))
 
@@ -347,8 +347,8 @@ unfolding reference_of
 reference_spelled [] r e = absurd (none-some r e)
 reference_spelled (b ∷ bs) r e =
     let nulls : Option ObjRef = if bytes_eq (b ∷ bs) (codes "null") then Some Null else None in
-    let handles : Option ObjRef = option_and_then (λ n. Some (Handle n)) (number_of u32_max bs) in
-    let owns : Option ObjRef = option_and_then (λ n. Some (Own n)) (number_of u32_max bs) in
+    let handles : Option ObjRef = option_and_then (λ n. Some (Handle n)) (parsed_number u32_max bs) in
+    let owns : Option ObjRef = option_and_then (λ n. Some (Own n)) (parsed_number u32_max bs) in
     elim (byte_chosen b 111 owns (if b == 104 then handles else nulls) r e) [
       | inl h ↦ own_spelled b bs r h.0 h.1
       | inr f ↦ elim (byte_chosen b 104 handles nulls r f) [

@@ -23,8 +23,8 @@ use Rattle.sm_wire.specs.declared.item.Item.TheVariants as items
 use Rattle.sm_wire.specs.declared.read_error.ReadError.{ReadError}
 use Rattle.sm_wire.specs.declared.read_error.ReadError.TheVariants.{Malformed, Memory}
 use Rattle.sm_wire.specs.Items.{item_of}
-use Rattle.sm_wire.specs.Reading.{Reads}
-use Rattle.sm_wire.specs.Number.{u32_max, u64_max, number_of}
+use Rattle.sm_wire.specs.Reading.{ReadsAs}
+use Rattle.sm_wire.specs.Number.{u32_max, u64_max, parsed_number}
 use Rattle.sm_wire.specs.Fields.{fields_of}
 use Rattle.sm_wire.specs.Values.{name_of, reference_of, own_object_of, call_references_of, payload_of, flag_of}
 use Rattle.sm_wire.specs.Values.{context_of, word_of, perm_of}
@@ -37,7 +37,7 @@ use Rattle.sm_wire.specs.Grammar.{standing_of, seal_of, journal_request_of}
 use Rattle.sm_wire.specs.Grammar.{client_fields_of, admin_fields_of, unnumbered_of, script_fields_of, fields_request_of}
 use Rattle.sm_wire.specs.Grammar.{request_of}
 use Rattle.sm_wire.specs.Spelling.{SpellsRequest, SpellsGreeting, SpellsAdmin, SpellsFields, Spells, SpellsNothing}
-use Rattle.sm_wire.specs.Spelling.{ReadsSpelled, joined}
+use Rattle.sm_wire.specs.Spelling.{ReadsSpelled, joined_fields}
 use Rattle.sm_wire.proofs.FieldLemmas.{fields_of-space, fields_of-plain}
 use Rattle.sm_wire.proofs.SpellingLemmasFields.{bound, word_chosen, first_chosen, Solid, solid_word, u32_small}
 use Rattle.sm_wire.proofs.SpellingLemmasFields.{u64_small}
@@ -66,11 +66,11 @@ Filled [] = ⊥
 Filled (f ∷ fs) = AllByRecursion Solid (f ∷ fs)
 
 fields_joined : (f : List ℕ) (fs : List (List ℕ)) → AllByRecursion Solid (f ∷ fs)
-    → fields_of (joined (f ∷ fs)) ≡ f ∷ fs
+    → fields_of (joined_fields (f ∷ fs)) ≡ f ∷ fs
 fields_joined f [] s = lone_field f s.0
-fields_joined f (g ∷ fs) s = behind_space f (joined (g ∷ fs)) s.0 ∙ ap (λ l. f ∷ l) (fields_joined g fs s.1)
+fields_joined f (g ∷ fs) s = behind_space f (joined_fields (g ∷ fs)) s.0 ∙ ap (λ l. f ∷ l) (fields_joined g fs s.1)
 
-filled_joined : (fs : List (List ℕ)) → Filled fs → fields_of (joined fs) ≡ fs
+filled_joined : (fs : List (List ℕ)) → Filled fs → fields_of (joined_fields fs) ≡ fs
 filled_joined [] s = absurd s
 filled_joined (f ∷ fs) s = fields_joined f fs s
 
@@ -150,7 +150,7 @@ module _ (who : Option ClientId) where
       let n = bound _ (name_of a) e is in
       let r = bound _ (reference_of b) e n.2 in
       let y = bound _ (flag_of c) e r.2 in
-      let m = bound _ (number_of u32_max d) e y.2 in
+      let m = bound _ (parsed_number u32_max d) e y.2 in
       rw (← same_Some (Add n.0 r.0 y.0 m.0) e m.2) (SpellsRequest.add a b c d n.0 r.0 y.0 m.0 (name_spelled a n.0 n.1)
       (reference_spelled b r.0 r.1) (flag_spelled c y.0 y.1) (number_spelled u32_max u32_small d m.0 m.1))
 
@@ -221,7 +221,7 @@ module _ (who : Option ClientId) where
   call_spelled [] e is = absurd (none-some e is)
   call_spelled (a ∷ []) e is = absurd (none-some e is)
   call_spelled (a ∷ b ∷ fs) e is =
-      let h = bound _ (number_of u32_max a) e is in
+      let h = bound _ (parsed_number u32_max a) e is in
       let p = bound _ (payload_of b) e h.2 in
       let r = bound _ (call_references_of fs) e p.2 in
       let s = call_references_spelled fs r.0 r.1 in
@@ -234,7 +234,7 @@ module _ (who : Option ClientId) where
   release_spelled [] e is = absurd (none-some e is)
   release_spelled (a ∷ b ∷ fs) e is = absurd (none-some e is)
   release_spelled (a ∷ []) e is =
-      let h = bound _ (number_of u32_max a) e is in
+      let h = bound _ (parsed_number u32_max a) e is in
       rw (← same_Some (Release h.0) e h.2) (SpellsRequest.release a h.0 (number_spelled u32_max u32_small a h.0 h.1))
 
   take_spelled : (fs : List (List ℕ)) (e : Event) → take_of fs ≡ Some e
@@ -310,7 +310,7 @@ module _ (who : Option ClientId) where
   list_spelled [] q is = absurd (none-some q is)
   list_spelled (a ∷ b ∷ fs) q is = absurd (none-some q is)
   list_spelled (a ∷ []) q is =
-      let m = bound _ (number_of u32_max a) q is in
+      let m = bound _ (parsed_number u32_max a) q is in
       rw (← same_Some (queries.List m.0) q m.2) (SpellsRequest.list a m.0 (number_spelled u32_max u32_small a m.0 m.1))
 
   version_spelled : (fs : List (List ℕ)) (q : Query) → version_of fs ≡ Some q
@@ -370,8 +370,8 @@ hello_spelled : (a b c : List ℕ) (r : Request) → hello_of a b c ≡ Some r
     → SpellsGreeting (codes "hello" ∷ a ∷ b ∷ c ∷ []) r
 unfolding hello_of
 hello_spelled a b c r is =
-    let p = bound _ (number_of u32_max a) r is in
-    let u = bound _ (number_of u32_max b) r p.2 in
+    let p = bound _ (parsed_number u32_max a) r is in
+    let u = bound _ (parsed_number u32_max b) r p.2 in
     let x = bound _ (context_of c) r u.2 in
     let k = context_spelled c x.0 x.1 in
     rw (← same_Some (Hello (record { pid = p.0; uid = u.0; context = x.0 })) r x.2, ← k.1)
@@ -423,9 +423,9 @@ sizes_spelled : (a b c : List ℕ) (r : Request) → sizes_of a b c ≡ Some r
     → SpellsAdmin (codes "reload" ∷ a ∷ b ∷ c ∷ []) r
 unfolding sizes_of
 sizes_spelled a b c r is =
-    let e = bound _ (number_of u64_max a) r is in
-    let x = bound _ (number_of u32_max b) r e.2 in
-    let y = bound _ (number_of u32_max c) r x.2 in
+    let e = bound _ (parsed_number u64_max a) r is in
+    let x = bound _ (parsed_number u32_max b) r e.2 in
+    let y = bound _ (parsed_number u32_max c) r x.2 in
     rw (← same_Some (Reload e.0 x.0 y.0) r y.2) (SpellsAdmin.reload a b c e.0 x.0 y.0
     (number_spelled u64_max u64_small a e.0 e.1) (number_spelled u32_max u32_small b x.0 x.1)
     (number_spelled u32_max u32_small c y.0 y.1))
@@ -570,7 +570,7 @@ numbered_spelled : (fs : List (List ℕ)) (r : Request) → client_line_of fs �
 unfolding client_line_of
 numbered_spelled [] r is = absurd (none-some r is)
 numbered_spelled (f ∷ fs) r is =
-    let n = bound _ (number_of u32_max f) r is in
+    let n = bound _ (parsed_number u32_max f) r is in
     SpellsFields.script_client f n.0 fs r (number_spelled u32_max u32_small f n.0 n.1)
     (request_spelled (Some (record { 0 = n.0 })) fs r n.2)
 
@@ -622,7 +622,7 @@ pub none_spelled : (kind : Kind) (line : List ℕ) → request_of kind line ≡ 
 none_spelled kind line e r s = none-some r (sym e ∙ line_read kind line r s)
 
 pub read_spelled : (kind : Kind) (line : List ℕ) (result : Result Request ReadError)
-    → Reads result (request_of kind line) → ReadsSpelled kind line result
+    → ReadsAs result (request_of kind line) → ReadsSpelled kind line result
 read_spelled kind line (Ok r) e = line_spelled kind line r e
 read_spelled kind line (Err Malformed) e = none_spelled kind line e
 read_spelled kind line (Err Memory) e = tt

@@ -8,7 +8,7 @@ use Rattle.sm_wire.specs.declared.frame_state.FrameState.{FrameState}
 use Rattle.sm_wire.specs.declared.frame_state.FrameState.TheVariants.{Line, Texts as TextsMode, Dead}
 use Rattle.sm_wire.specs.declared.ends.End.{End}
 use Rattle.sm_wire.specs.declared.ends.End.TheVariants.{At, Later, Never}
-use Rattle.sm_wire.specs.Items.{Step, Scan, line_limit, scan_start, scan_dead, line_end, policy_item}
+use Rattle.sm_wire.specs.Items.{FrameStep, Scan, line_limit, scan_start, scan_dead, line_end, policy_item}
 
 -- There is no newline among the first n bytes.
 abbrev pub IsPlain : List ℕ → ℕ → Type 0
@@ -42,7 +42,7 @@ IsWhole (TextsMode a) bytes = length bytes ≡ a.rules + a.contexts
 IsWhole Dead bytes = Unit {0}
 
 -- A whole item leads to this step.
-unfoldable pub whole_step : Kind → FrameState → List ℕ → Step
+unfoldable pub whole_step : Kind → FrameState → List ℕ → FrameStep
 whole_step kind Line bytes = line_end kind (take (length bytes - 1) bytes)
 whole_step kind (TextsMode a) bytes = (scan_start kind, policy_item a bytes ∷ [])
 whole_step kind Dead bytes = (scan_dead kind, [])

@@ -15,7 +15,7 @@ use Rattle.sm_wire.specs.declared.kind.Kind.TheVariants.{Client, Admin, Script}
 use Rattle.sm_wire.specs.declared.fast_path.FastRequest.{FastRequest}
 use Rattle.sm_wire.specs.declared.fast_path.Wanted.{Wanted}
 use Rattle.sm_wire.specs.declared.fast_path.Wanted.TheVariants.{List as Listing, Version, Get}
-use Rattle.sm_wire.specs.Number.{u32_max, number_of}
+use Rattle.sm_wire.specs.Number.{u32_max, parsed_number}
 use Rattle.sm_wire.specs.Reading.{◌>>=◌}
 
 -- This is such a line's content as a request.
@@ -40,7 +40,7 @@ named_of (b ∷ bs) = if b == 37 then None else plain_of (b ∷ bs)
 -- This parses MASK.
 unfoldable pub listed_of : List ℕ → Option Wanted
 listed_of mask = do
-  m ← number_of u32_max mask
+  m ← parsed_number u32_max mask
   Some (Listing m)
 
 -- This parses `check NAME`.
@@ -66,7 +66,7 @@ request_by client words = do
 unfoldable pub numbered_of : List ℕ → Option FastRequest
 numbered_of line = do
   place ← position (λ b. b == 32) line
-  n ← number_of u32_max (take place line)
+  n ← parsed_number u32_max (take place line)
   request_by (Some (record { 0 = n })) (drop (place + 1) line)
 
 -- This parses a line of this kind, if it is one of these.

@@ -13,7 +13,7 @@ use Rattle.sm_wire.specs.declared.request.Request.TheVariants.{Hello, Change, Lo
 use Rattle.sm_wire.specs.declared.reload_header.ReloadHeader.{ReloadHeader}
 use Rattle.sm_wire.specs.declared.kind.Kind.{Kind}
 use Rattle.sm_wire.specs.declared.kind.Kind.TheVariants.{Client, Admin, Script}
-use Rattle.sm_wire.specs.Number.{u32_max, u64_max, number_of}
+use Rattle.sm_wire.specs.Number.{u32_max, u64_max, parsed_number}
 use Rattle.sm_wire.specs.Fields.{fields_of}
 use Rattle.sm_wire.specs.Reading.{◌>>=◌, first_of_two}
 use Rattle.sm_wire.specs.Values.{name_of, reference_of, own_object_of, call_references_of, payload_of, flag_of}
@@ -25,7 +25,7 @@ add_of (name ∷ reference ∷ allow ∷ dump ∷ []) = do
   n ← name_of name
   r ← reference_of reference
   a ← flag_of allow
-  d ← number_of u32_max dump
+  d ← parsed_number u32_max dump
   Some (Add n r a d)
 add_of _ = None
 
@@ -63,7 +63,7 @@ unregister_of _ = None
 -- This parses `call N PAYLOAD REF ..`.
 unfoldable pub call_of : List (List ℕ) → Option Event
 call_of (handle ∷ payload ∷ references) = do
-  h ← number_of u32_max handle
+  h ← parsed_number u32_max handle
   p ← payload_of payload
   r ← call_references_of references
   Some (Call h p r)
@@ -72,7 +72,7 @@ call_of _ = None
 -- This parses `release N`.
 unfoldable pub release_of : List (List ℕ) → Option Event
 release_of (handle ∷ []) = do
-  h ← number_of u32_max handle
+  h ← parsed_number u32_max handle
   Some (Release h)
 release_of _ = None
 
@@ -111,7 +111,7 @@ event_of word fields = first_of_two (service_event_of word fields) (binder_event
 -- This parses `list MASK`.
 unfoldable pub list_of : List (List ℕ) → Option Query
 list_of (mask ∷ []) = do
-  m ← number_of u32_max mask
+  m ← parsed_number u32_max mask
   Some (queries.List m)
 list_of _ = None
 
@@ -147,14 +147,14 @@ client_request_of client _ = None
 unfoldable pub client_line_of : List (List ℕ) → Option Request
 client_line_of [] = None
 client_line_of (number ∷ rest) = do
-  n ← number_of u32_max number
+  n ← parsed_number u32_max number
   client_request_of (Some (record { 0 = n })) rest
 
 -- This parses the fields of a `hello` line.
 unfoldable pub hello_of : List ℕ → List ℕ → List ℕ → Option Request
 hello_of pid uid context = do
-  p ← number_of u32_max pid
-  u ← number_of u32_max uid
+  p ← parsed_number u32_max pid
+  u ← parsed_number u32_max uid
   c ← context_of context
   Some (Hello (record { pid = p; uid = u; context = c }))
 
@@ -180,9 +180,9 @@ explaining_of _ = None
 -- This parses the fields of a `reload` line.
 unfoldable pub sizes_of : List ℕ → List ℕ → List ℕ → Option Request
 sizes_of expected rules contexts = do
-  e ← number_of u64_max expected
-  r ← number_of u32_max rules
-  c ← number_of u32_max contexts
+  e ← parsed_number u64_max expected
+  r ← parsed_number u32_max rules
+  c ← parsed_number u32_max contexts
   Some (Reload e r c)
 
 -- This parses `reload EXPECTED R C`.

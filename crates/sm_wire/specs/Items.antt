@@ -41,8 +41,8 @@ abbrev pub IsDead : Scan → Type 0
 IsDead s = s.mode ≡ Dead
 
 -- A step has the scan after one byte, and the item that this byte completes.
-abbrev pub Step : Type 0
-Step = Scan × List Item
+abbrev pub FrameStep : Type 0
+FrameStep = Scan × List Item
 
 -- This is the item of a line.
 unfoldable pub item_of : Kind → List ℕ → Item
@@ -61,7 +61,7 @@ policy_item a bytes = Policy (record {
 })
 
 -- At the end of a `reload` line its files follow, if it announces any bytes.
-unfoldable pub text_start : Kind → ReloadHeader → Step
+unfoldable pub text_start : Kind → ReloadHeader → FrameStep
 text_start kind a =
     if nat_le a.rules text_limit && nat_le a.contexts text_limit
     then (if a.rules + a.contexts == 0 then (scan_start kind, policy_item a [] ∷ [])
@@ -69,32 +69,32 @@ text_start kind a =
     else (scan_dead kind, LineTooLong ∷ [])
 
 -- This is the step at the end of a line.
-unfoldable pub line_end : Kind → List ℕ → Step
+unfoldable pub line_end : Kind → List ℕ → FrameStep
 line_end kind line = ended (header_of kind line)
   where
-    ended : Option ReloadHeader → Step
+    ended : Option ReloadHeader → FrameStep
     ended (Some a) = text_start kind a
     ended None = (scan_start kind, item_of kind line ∷ [])
 
 -- This is the step of one more byte of a line.
-unfoldable pub line_step : Kind → List ℕ → ℕ → Step
+unfoldable pub line_step : Kind → List ℕ → ℕ → FrameStep
 line_step kind held b = if b == 10 then line_end kind held
     else (if nat_le line_limit (length held) then (scan_dead kind, LineTooLong ∷ [])
     else (record { kind = kind; mode = Line; held = held ++ b ∷ [] }, []))
 
 -- This is the step of one more byte of the files.
-unfoldable pub text_step : Kind → ReloadHeader → List ℕ → Step
+unfoldable pub text_step : Kind → ReloadHeader → List ℕ → FrameStep
 text_step kind a bytes = if length bytes == a.rules + a.contexts then (scan_start kind, policy_item a bytes ∷ [])
     else (record { kind = kind; mode = TextsMode a; held = bytes }, [])
 
 -- This is the step of one more byte.
-unfoldable pub mode_step : Kind → FrameState → List ℕ → ℕ → Step
+unfoldable pub mode_step : Kind → FrameState → List ℕ → ℕ → FrameStep
 mode_step kind Line held b = line_step kind held b
 mode_step kind (TextsMode a) held b = text_step kind a (held ++ b ∷ [])
 mode_step kind Dead held b = (scan_dead kind, [])
 
 -- This is the step of one more byte in a scan.
-abbrev pub byte_step : Scan → ℕ → Step
+abbrev pub byte_step : Scan → ℕ → FrameStep
 byte_step s b = mode_step s.kind s.mode s.held b
 
 -- This is the scan after the bytes.
@@ -116,7 +116,7 @@ abbrev pub rest_of : Kind → List ℕ → Scan
 rest_of kind bytes = scan_after (scan_start kind) bytes
 
 -- The code represents a step so: what is read next, the bytes of it so far, and one more item, if any.
-pub record Makes (s : Step) (kind : Kind) (mode : FrameState) (held : List ℕ) (old new : List Item) : Type 0 where
+pub record Makes (s : FrameStep) (kind : Kind) (mode : FrameState) (held : List ℕ) (old new : List Item) : Type 0 where
   pub scan : s.0 ≡ record { kind = kind; mode = mode; held = held }
   pub items : new ≡ old ++ s.1
 

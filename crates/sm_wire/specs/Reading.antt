@@ -14,7 +14,7 @@ first_of_two (Some r) other = Some r
 first_of_two None other = other
 
 -- The value is that of the grammar, and `Malformed` means that there is none; out of memory may come for any bytes.
-abbrev pub Reads : {A : Type 0} → Result A ReadError → Option A → Type 0
-Reads (Ok x) o = o ≡ Some x
-Reads (Err Malformed) o = o ≡ None
-Reads (Err Memory) o = Unit {0}
+abbrev pub ReadsAs : {A : Type 0} → Result A ReadError → Option A → Type 0
+ReadsAs (Ok x) o = o ≡ Some x
+ReadsAs (Err Malformed) o = o ≡ None
+ReadsAs (Err Memory) o = Unit {0}

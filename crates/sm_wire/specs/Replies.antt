@@ -173,13 +173,13 @@ unfoldable pub told_text : Reply → List ℕ
 told_text reply = answered_text reply ++ codes "\n"
 
 -- This is the visible part of a reply to a request.
-abbrev pub told_of : Request → Reply → Reply
-told_of (Hello who) reply = told (events.Connect who) reply
-told_of (Change client event) reply = told event reply
-told_of (Look client query) reply = reply
-told_of (Reload expected rules contexts) reply = reply
-told_of Denials reply = reply
-told_of Seal reply = reply
+abbrev pub visible_reply : Request → Reply → Reply
+visible_reply (Hello who) reply = told (events.Connect who) reply
+visible_reply (Change client event) reply = told event reply
+visible_reply (Look client query) reply = reply
+visible_reply (Reload expected rules contexts) reply = reply
+visible_reply Denials reply = reply
+visible_reply Seal reply = reply
 
 -- This is the visible part of a reply, by its visibility.
 abbrev pub told_in : Telling → Reply → Reply
@@ -188,7 +188,7 @@ told_in ToGet reply = told_to_get reply
 
 -- This is the line of a reply to a request.
 abbrev pub reply_text : Request → Reply → List ℕ
-reply_text request reply = told_text (told_of request reply)
+reply_text request reply = told_text (visible_reply request reply)
 
 -- This is `denials K`, and then K audit lines.
 unfoldable pub denials_text : List Record → List ℕ

@@ -81,13 +81,13 @@ pub data SpellsFields : Kind → List (List ℕ) → Request → Type 0 where
       → SpellsFields Script (number ∷ fields) request
 
 -- These are fields joined by single spaces.
-abbrev pub joined : List (List ℕ) → List ℕ
-joined fields = join_with_byte 32 fields
+abbrev pub joined_fields : List (List ℕ) → List ℕ
+joined_fields fields = join_with_byte 32 fields
 
 -- A line of this kind, without its newline, spells a request.
 pub data Spells : Kind → List ℕ → Request → Type 0 where
   line : (kind : Kind) (fields : List (List ℕ)) (request : Request) → SpellsFields kind fields request
-      → Spells kind (joined fields) request
+      → Spells kind (joined_fields fields) request
 
 -- A line of this kind, without its newline, spells no request.
 abbrev pub SpellsNothing : Kind → List ℕ → Type 0

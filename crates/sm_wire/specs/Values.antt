@@ -13,7 +13,7 @@ use Rattle.sm_kinds.specs.declared.perms.Perms.{Perms}
 use Rattle.sm_kinds.specs.Contexts.{is_graphic, is_context}
 use Rattle.sm_kinds.specs.Permissions.{perm_read}
 use Rattle.sm_ruletext.specs.Lexing.{is_word}
-use Rattle.sm_wire.specs.Number.{u32_max, number_of}
+use Rattle.sm_wire.specs.Number.{u32_max, parsed_number}
 use Rattle.sm_wire.specs.Reading.{◌>>=◌, first_of_two}
 
 -- This parses a name in plain bytes.
@@ -29,9 +29,9 @@ name_of (b ∷ bs) = if b == 37 then result_ok (decode_of bs) else plain_name_of
 unfoldable pub reference_of : List ℕ → Option ObjRef
 reference_of [] = None
 reference_of (b ∷ bs) = if b == 111 then (do
-  n ← number_of u32_max bs
+  n ← parsed_number u32_max bs
   Some (Own n)) else (if b == 104 then (do
-    n ← number_of u32_max bs
+    n ← parsed_number u32_max bs
     Some (Handle n)) else (if bytes_eq (b ∷ bs) (codes "null") then Some Null else None))
 
 -- This is the number of an object of the client's own.

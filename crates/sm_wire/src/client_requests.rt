@@ -1,7 +1,7 @@
 //! Requests of clients: a function for each production. Each takes the fields after its word.
 
 ghost use Rattle.std.specs.Prelude.{map};
-ghost use Rattle.sm_wire.specs.Reading.{Reads};
+ghost use Rattle.sm_wire.specs.Reading.{ReadsAs};
 ghost use Rattle.sm_wire.specs.Grammar.{add_of, get_of, watch_of, unwatch_of, unregister_of, call_of, release_of};
 ghost use Rattle.sm_wire.specs.Grammar.{take_of, bye_of, service_event_of, binder_event_of, event_of, list_of};
 ghost use Rattle.sm_wire.specs.Grammar.{version_of, query_of, look_of, change_of, client_request_of};
@@ -23,7 +23,7 @@ pub fn client_request(
     client: Option<ClientId>,
     fields: &[&[u8]],
 ) -> Result<Request, ReadError>
-    ensures { Reads result (client_request_of client (map (λ f. f.now) fields.now)) }
+    ensures { ReadsAs result (client_request_of client (map (λ f. f.now) fields.now)) }
 {
     let [word, fields @ ..] = fields else {
         return Err(ReadError::Malformed);
@@ -36,7 +36,7 @@ pub fn client_request(
 
 #[tactic(auto, unfolding(crate::specs::Grammar::look_of))]
 fn look(client: Option<ClientId>, word: &[u8], fields: &[&[u8]]) -> Result<Request, ReadError>
-    ensures { Reads result (look_of client word.now (map (λ f. f.now) fields.now)) }
+    ensures { ReadsAs result (look_of client word.now (map (λ f. f.now) fields.now)) }
 {
     let query = query(word, fields)?;
     Ok(Request::Look(client, query))
@@ -49,7 +49,7 @@ fn change(
     word: &[u8],
     fields: &[&[u8]],
 ) -> Result<Request, ReadError>
-    ensures { Reads result (change_of client word.now (map (λ f. f.now) fields.now)) }
+    ensures { ReadsAs result (change_of client word.now (map (λ f. f.now) fields.now)) }
 {
     let event = event(alloc, word, fields)?;
     Ok(Request::Change(client, event))
@@ -58,7 +58,7 @@ fn change(
 // Reads a query of a client.
 #[tactic(auto, unfolding(crate::specs::Grammar::query_of))]
 fn query(word: &[u8], fields: &[&[u8]]) -> Result<Query, ReadError>
-    ensures { Reads result (query_of word.now (map (λ f. f.now) fields.now)) }
+    ensures { ReadsAs result (query_of word.now (map (λ f. f.now) fields.now)) }
 {
     if word == b"list".as_slice() {
         list(fields)
@@ -72,7 +72,7 @@ fn query(word: &[u8], fields: &[&[u8]]) -> Result<Query, ReadError>
 // Reads `list MASK`.
 #[tactic(auto, unfolding(crate::specs::Grammar::list_of))]
 fn list(fields: &[&[u8]]) -> Result<Query, ReadError>
-    ensures { Reads result (list_of (map (λ f. f.now) fields.now)) }
+    ensures { ReadsAs result (list_of (map (λ f. f.now) fields.now)) }
 {
     let [mask] = fields else {
         return Err(ReadError::Malformed);
@@ -84,7 +84,7 @@ fn list(fields: &[&[u8]]) -> Result<Query, ReadError>
 // Reads `version`.
 #[tactic(auto, unfolding(crate::specs::Grammar::version_of))]
 fn version(fields: &[&[u8]]) -> Result<Query, ReadError>
-    ensures { Reads result (version_of (map (λ f. f.now) fields.now)) }
+    ensures { ReadsAs result (version_of (map (λ f. f.now) fields.now)) }
 {
     match fields {
         [] => Ok(Query::Version),
@@ -95,7 +95,7 @@ fn version(fields: &[&[u8]]) -> Result<Query, ReadError>
 // Reads a change of a client.
 #[tactic(auto, unfolding(crate::specs::Grammar::event_of))]
 fn event(alloc: Global, word: &[u8], fields: &[&[u8]]) -> Result<Event, ReadError>
-    ensures { Reads result (event_of word.now (map (λ f. f.now) fields.now)) }
+    ensures { ReadsAs result (event_of word.now (map (λ f. f.now) fields.now)) }
 {
     match service_event(alloc, word, fields) {
         Err(ReadError::Malformed) => binder_event(alloc, word, fields),
@@ -106,7 +106,7 @@ fn event(alloc: Global, word: &[u8], fields: &[&[u8]]) -> Result<Event, ReadErro
 // Reads a change that concerns names.
 #[tactic(auto, unfolding(crate::specs::Grammar::service_event_of))]
 fn service_event(alloc: Global, word: &[u8], fields: &[&[u8]]) -> Result<Event, ReadError>
-    ensures { Reads result (service_event_of word.now (map (λ f. f.now) fields.now)) }
+    ensures { ReadsAs result (service_event_of word.now (map (λ f. f.now) fields.now)) }
 {
     if word == b"add".as_slice() {
         add(alloc, fields)
@@ -128,7 +128,7 @@ fn service_event(alloc: Global, word: &[u8], fields: &[&[u8]]) -> Result<Event, 
 // Reads a change that concerns handles and deliveries.
 #[tactic(auto, unfolding(crate::specs::Grammar::binder_event_of))]
 fn binder_event(alloc: Global, word: &[u8], fields: &[&[u8]]) -> Result<Event, ReadError>
-    ensures { Reads result (binder_event_of word.now (map (λ f. f.now) fields.now)) }
+    ensures { ReadsAs result (binder_event_of word.now (map (λ f. f.now) fields.now)) }
 {
     if word == b"call".as_slice() {
         call(alloc, fields)
@@ -146,7 +146,7 @@ fn binder_event(alloc: Global, word: &[u8], fields: &[&[u8]]) -> Result<Event, R
 // Reads `add NAME REF ALLOW DUMP`.
 #[tactic(auto, unfolding(crate::specs::Grammar::add_of))]
 fn add(alloc: Global, fields: &[&[u8]]) -> Result<Event, ReadError>
-    ensures { Reads result (add_of (map (λ f. f.now) fields.now)) }
+    ensures { ReadsAs result (add_of (map (λ f. f.now) fields.now)) }
 {
     let [name, obj, allow_isolated, dump] = fields else {
         return Err(ReadError::Malformed);
@@ -166,7 +166,7 @@ fn add(alloc: Global, fields: &[&[u8]]) -> Result<Event, ReadError>
 // Reads `get NAME` or `check NAME`, which means the same.
 #[tactic(auto, unfolding(crate::specs::Grammar::get_of))]
 fn get(alloc: Global, fields: &[&[u8]]) -> Result<Event, ReadError>
-    ensures { Reads result (get_of (map (λ f. f.now) fields.now)) }
+    ensures { ReadsAs result (get_of (map (λ f. f.now) fields.now)) }
 {
     let [name] = fields else {
         return Err(ReadError::Malformed);
@@ -178,7 +178,7 @@ fn get(alloc: Global, fields: &[&[u8]]) -> Result<Event, ReadError>
 // Reads `watch NAME oN`.
 #[tactic(auto, unfolding(crate::specs::Grammar::watch_of))]
 fn watch(alloc: Global, fields: &[&[u8]]) -> Result<Event, ReadError>
-    ensures { Reads result (watch_of (map (λ f. f.now) fields.now)) }
+    ensures { ReadsAs result (watch_of (map (λ f. f.now) fields.now)) }
 {
     let [name, object] = fields else {
         return Err(ReadError::Malformed);
@@ -191,7 +191,7 @@ fn watch(alloc: Global, fields: &[&[u8]]) -> Result<Event, ReadError>
 // Reads `unwatch NAME oN`.
 #[tactic(auto, unfolding(crate::specs::Grammar::unwatch_of))]
 fn unwatch(alloc: Global, fields: &[&[u8]]) -> Result<Event, ReadError>
-    ensures { Reads result (unwatch_of (map (λ f. f.now) fields.now)) }
+    ensures { ReadsAs result (unwatch_of (map (λ f. f.now) fields.now)) }
 {
     let [name, object] = fields else {
         return Err(ReadError::Malformed);
@@ -204,7 +204,7 @@ fn unwatch(alloc: Global, fields: &[&[u8]]) -> Result<Event, ReadError>
 // Reads `unregister NAME REF`.
 #[tactic(auto, unfolding(crate::specs::Grammar::unregister_of))]
 fn unregister(alloc: Global, fields: &[&[u8]]) -> Result<Event, ReadError>
-    ensures { Reads result (unregister_of (map (λ f. f.now) fields.now)) }
+    ensures { ReadsAs result (unregister_of (map (λ f. f.now) fields.now)) }
 {
     let [name, obj] = fields else {
         return Err(ReadError::Malformed);
@@ -217,7 +217,7 @@ fn unregister(alloc: Global, fields: &[&[u8]]) -> Result<Event, ReadError>
 // Reads `call N PAYLOAD REF ..`.
 #[tactic(auto, unfolding(crate::specs::Grammar::call_of))]
 fn call(alloc: Global, fields: &[&[u8]]) -> Result<Event, ReadError>
-    ensures { Reads result (call_of (map (λ f. f.now) fields.now)) }
+    ensures { ReadsAs result (call_of (map (λ f. f.now) fields.now)) }
 {
     let [handle, payload, refs @ ..] = fields else {
         return Err(ReadError::Malformed);
@@ -235,7 +235,7 @@ fn call(alloc: Global, fields: &[&[u8]]) -> Result<Event, ReadError>
 // Reads `release N`.
 #[tactic(auto, unfolding(crate::specs::Grammar::release_of))]
 fn release(fields: &[&[u8]]) -> Result<Event, ReadError>
-    ensures { Reads result (release_of (map (λ f. f.now) fields.now)) }
+    ensures { ReadsAs result (release_of (map (λ f. f.now) fields.now)) }
 {
     let [handle] = fields else {
         return Err(ReadError::Malformed);
@@ -247,7 +247,7 @@ fn release(fields: &[&[u8]]) -> Result<Event, ReadError>
 // Reads `take`.
 #[tactic(auto, unfolding(crate::specs::Grammar::take_of))]
 fn take(fields: &[&[u8]]) -> Result<Event, ReadError>
-    ensures { Reads result (take_of (map (λ f. f.now) fields.now)) }
+    ensures { ReadsAs result (take_of (map (λ f. f.now) fields.now)) }
 {
     match fields {
         [] => Ok(Event::Take),
@@ -258,7 +258,7 @@ fn take(fields: &[&[u8]]) -> Result<Event, ReadError>
 // Reads `bye`.
 #[tactic(auto, unfolding(crate::specs::Grammar::bye_of))]
 fn bye(fields: &[&[u8]]) -> Result<Event, ReadError>
-    ensures { Reads result (bye_of (map (λ f. f.now) fields.now)) }
+    ensures { ReadsAs result (bye_of (map (λ f. f.now) fields.now)) }
 {
     match fields {
         [] => Ok(Event::Die),

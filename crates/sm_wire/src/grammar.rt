@@ -1,7 +1,7 @@
 //! Requests, parsed from the fields of a line: a function for each production.
 
 ghost use Rattle.std.specs.Prelude.{map};
-ghost use Rattle.sm_wire.specs.Reading.{Reads};
+ghost use Rattle.sm_wire.specs.Reading.{ReadsAs};
 ghost use Rattle.sm_wire.specs.Grammar.{client_line_of, hello_of, greeting_of, explain_of, explaining_of, denials_of};
 ghost use Rattle.sm_wire.specs.Grammar.{seal_of, journal_request_of, asking_of, standing_of, policy_request_of};
 ghost use Rattle.sm_wire.specs.Grammar.{unnumbered_of, client_fields_of, admin_fields_of, script_fields_of};
@@ -22,7 +22,7 @@ use std::alloc::Global;
 /// Parses a line of this kind. The line has no newline.
 #[tactic(auto, unfolding(crate::specs::Grammar::request_of))]
 pub fn request(alloc: Global, kind: Kind, line: &[u8]) -> Result<Request, ReadError>
-    ensures { Reads result (request_of kind line.now) }
+    ensures { ReadsAs result (request_of kind line.now) }
 {
     let mut fields = Vec::new(alloc);
     split_fields(line, &mut fields)?;
@@ -32,7 +32,7 @@ pub fn request(alloc: Global, kind: Kind, line: &[u8]) -> Result<Request, ReadEr
 /// Parses a line of this kind from its fields.
 #[tactic(auto, unfolding(crate::specs::Grammar::fields_request_of))]
 pub fn fields_request(alloc: Global, kind: Kind, fields: &[&[u8]]) -> Result<Request, ReadError>
-    ensures { Reads result (fields_request_of kind (map (λ f. f.now) fields.now)) }
+    ensures { ReadsAs result (fields_request_of kind (map (λ f. f.now) fields.now)) }
 {
     match kind {
         Kind::Client => client_fields(alloc, fields),
@@ -44,7 +44,7 @@ pub fn fields_request(alloc: Global, kind: Kind, fields: &[&[u8]]) -> Result<Req
 // Parses a line of a client's connection.
 #[tactic(auto, unfolding(crate::specs::Grammar::client_fields_of))]
 fn client_fields(alloc: Global, fields: &[&[u8]]) -> Result<Request, ReadError>
-    ensures { Reads result (client_fields_of (map (λ f. f.now) fields.now)) }
+    ensures { ReadsAs result (client_fields_of (map (λ f. f.now) fields.now)) }
 {
     match client_request(alloc, None, fields) {
         Err(ReadError::Malformed) => greeting(alloc, fields),
@@ -55,7 +55,7 @@ fn client_fields(alloc: Global, fields: &[&[u8]]) -> Result<Request, ReadError>
 // Parses a line of an administrator's connection.
 #[tactic(auto, unfolding(crate::specs::Grammar::admin_fields_of))]
 fn admin_fields(alloc: Global, fields: &[&[u8]]) -> Result<Request, ReadError>
-    ensures { Reads result (admin_fields_of (map (λ f. f.now) fields.now)) }
+    ensures { ReadsAs result (admin_fields_of (map (λ f. f.now) fields.now)) }
 {
     match standing(fields) {
         Err(ReadError::Malformed) => policy_request(alloc, fields),
@@ -66,7 +66,7 @@ fn admin_fields(alloc: Global, fields: &[&[u8]]) -> Result<Request, ReadError>
 // Parses a line of a script.
 #[tactic(auto, unfolding(crate::specs::Grammar::script_fields_of))]
 fn script_fields(alloc: Global, fields: &[&[u8]]) -> Result<Request, ReadError>
-    ensures { Reads result (script_fields_of (map (λ f. f.now) fields.now)) }
+    ensures { ReadsAs result (script_fields_of (map (λ f. f.now) fields.now)) }
 {
     match client_line(alloc, fields) {
         Err(ReadError::Malformed) => unnumbered(alloc, fields),
@@ -77,7 +77,7 @@ fn script_fields(alloc: Global, fields: &[&[u8]]) -> Result<Request, ReadError>
 // Parses a line of a script that doesn't begin with a client's number.
 #[tactic(auto, unfolding(crate::specs::Grammar::unnumbered_of))]
 fn unnumbered(alloc: Global, fields: &[&[u8]]) -> Result<Request, ReadError>
-    ensures { Reads result (unnumbered_of (map (λ f. f.now) fields.now)) }
+    ensures { ReadsAs result (unnumbered_of (map (λ f. f.now) fields.now)) }
 {
     match greeting(alloc, fields) {
         Err(ReadError::Malformed) => policy_request(alloc, fields),
@@ -88,7 +88,7 @@ fn unnumbered(alloc: Global, fields: &[&[u8]]) -> Result<Request, ReadError>
 // Parses an administrator's line that a script has, too.
 #[tactic(auto, unfolding(crate::specs::Grammar::policy_request_of))]
 fn policy_request(alloc: Global, fields: &[&[u8]]) -> Result<Request, ReadError>
-    ensures { Reads result (policy_request_of (map (λ f. f.now) fields.now)) }
+    ensures { ReadsAs result (policy_request_of (map (λ f. f.now) fields.now)) }
 {
     match reload(fields) {
         Err(ReadError::Malformed) => asking(alloc, fields),
@@ -99,7 +99,7 @@ fn policy_request(alloc: Global, fields: &[&[u8]]) -> Result<Request, ReadError>
 // Parses a question of an administrator about the policy in force, or a request to the journal.
 #[tactic(auto, unfolding(crate::specs::Grammar::asking_of))]
 fn asking(alloc: Global, fields: &[&[u8]]) -> Result<Request, ReadError>
-    ensures { Reads result (asking_of (map (λ f. f.now) fields.now)) }
+    ensures { ReadsAs result (asking_of (map (λ f. f.now) fields.now)) }
 {
     match explaining(alloc, fields) {
         Err(ReadError::Malformed) => journal_request(fields),
@@ -110,7 +110,7 @@ fn asking(alloc: Global, fields: &[&[u8]]) -> Result<Request, ReadError>
 // Parses an administrator's request to the journal.
 #[tactic(auto, unfolding(crate::specs::Grammar::journal_request_of))]
 fn journal_request(fields: &[&[u8]]) -> Result<Request, ReadError>
-    ensures { Reads result (journal_request_of (map (λ f. f.now) fields.now)) }
+    ensures { ReadsAs result (journal_request_of (map (λ f. f.now) fields.now)) }
 {
     match denials(fields) {
         Err(ReadError::Malformed) => seal(fields),
@@ -121,7 +121,7 @@ fn journal_request(fields: &[&[u8]]) -> Result<Request, ReadError>
 // Parses `denials`.
 #[tactic(auto, unfolding(crate::specs::Grammar::denials_of))]
 fn denials(fields: &[&[u8]]) -> Result<Request, ReadError>
-    ensures { Reads result (denials_of (map (λ f. f.now) fields.now)) }
+    ensures { ReadsAs result (denials_of (map (λ f. f.now) fields.now)) }
 {
     match fields {
         [word] if *word == b"denials".as_slice() => Ok(Request::Denials),
@@ -132,7 +132,7 @@ fn denials(fields: &[&[u8]]) -> Result<Request, ReadError>
 // Parses `seal`.
 #[tactic(auto, unfolding(crate::specs::Grammar::seal_of))]
 fn seal(fields: &[&[u8]]) -> Result<Request, ReadError>
-    ensures { Reads result (seal_of (map (λ f. f.now) fields.now)) }
+    ensures { ReadsAs result (seal_of (map (λ f. f.now) fields.now)) }
 {
     match fields {
         [word] if *word == b"seal".as_slice() => Ok(Request::Seal),
@@ -143,7 +143,7 @@ fn seal(fields: &[&[u8]]) -> Result<Request, ReadError>
 // Parses the administrator's `version`.
 #[tactic(auto, unfolding(crate::specs::Grammar::standing_of))]
 fn standing(fields: &[&[u8]]) -> Result<Request, ReadError>
-    ensures { Reads result (standing_of (map (λ f. f.now) fields.now)) }
+    ensures { ReadsAs result (standing_of (map (λ f. f.now) fields.now)) }
 {
     match fields {
         [word] if *word == b"version".as_slice() => Ok(Request::Look(None, Query::Version)),
@@ -154,7 +154,7 @@ fn standing(fields: &[&[u8]]) -> Result<Request, ReadError>
 // Parses `hello PID UID CONTEXT`.
 #[tactic(auto, unfolding(crate::specs::Grammar::greeting_of))]
 fn greeting(alloc: Global, fields: &[&[u8]]) -> Result<Request, ReadError>
-    ensures { Reads result (greeting_of (map (λ f. f.now) fields.now)) }
+    ensures { ReadsAs result (greeting_of (map (λ f. f.now) fields.now)) }
 {
     match fields {
         [word, a, b, c] if *word == b"hello".as_slice() => hello(alloc, a, b, c),
@@ -164,7 +164,7 @@ fn greeting(alloc: Global, fields: &[&[u8]]) -> Result<Request, ReadError>
 
 #[tactic(auto, unfolding(crate::specs::Grammar::hello_of))]
 fn hello(alloc: Global, pid: &[u8], uid: &[u8], context: &[u8]) -> Result<Request, ReadError>
-    ensures { Reads result (hello_of pid.now uid.now context.now) }
+    ensures { ReadsAs result (hello_of pid.now uid.now context.now) }
 {
     let pid = u32_field(pid)?;
     let uid = u32_field(uid)?;
@@ -175,7 +175,7 @@ fn hello(alloc: Global, pid: &[u8], uid: &[u8], context: &[u8]) -> Result<Reques
 // Parses `explain SOURCE TARGET CLASS PERM`.
 #[tactic(auto, unfolding(crate::specs::Grammar::explaining_of))]
 fn explaining(alloc: Global, fields: &[&[u8]]) -> Result<Request, ReadError>
-    ensures { Reads result (explaining_of (map (λ f. f.now) fields.now)) }
+    ensures { ReadsAs result (explaining_of (map (λ f. f.now) fields.now)) }
 {
     match fields {
         [word, a, b, c, d] if *word == b"explain".as_slice() => explain(alloc, a, b, c, d),
@@ -191,7 +191,7 @@ fn explain(
     class: &[u8],
     perm: &[u8],
 ) -> Result<Request, ReadError>
-    ensures { Reads result (explain_of source.now target.now class.now perm.now) }
+    ensures { ReadsAs result (explain_of source.now target.now class.now perm.now) }
 {
     let source = word_field(alloc, source)?;
     let target = word_field(alloc, target)?;
@@ -211,7 +211,7 @@ fn explain(
 // Parses `N REQUEST`.
 #[tactic(auto, unfolding(crate::specs::Grammar::client_line_of))]
 fn client_line(alloc: Global, fields: &[&[u8]]) -> Result<Request, ReadError>
-    ensures { Reads result (client_line_of (map (λ f. f.now) fields.now)) }
+    ensures { ReadsAs result (client_line_of (map (λ f. f.now) fields.now)) }
 {
     match fields {
         [] => Err(ReadError::Malformed),

@@ -3,7 +3,7 @@
 ghost use Rattle.std.specs.Prelude.{◌≡◌, ◌≢◌, ◌<◌, ◌≤◌, ◌^◌, ◌↔◌, ℕ, List, Some, None, ◌++◌, ◌∷◌, [], length};
 ghost use Rattle.std.specs.Fmt.{decimal};
 ghost use Rattle.std.specs.List.{AllByRecursion};
-ghost use Rattle.sm_wire.specs.Number.{number_of};
+ghost use Rattle.sm_wire.specs.Number.{parsed_number};
 ghost use Rattle.sm_wire.specs.declared.item.Item.TheVariants as items;
 ghost use Rattle.sm_wire.specs.declared.kind.Kind.{Kind};
 ghost use Rattle.sm_wire.specs.declared.reload_header.ReloadHeader.{ReloadHeader};
@@ -46,7 +46,7 @@ pub fn any_cut()
 /// A number has one spelling, decimal and without leading zeros, and is read if it is at most `max`.
 pub fn one_spelling()
     ensures { (max n : ℕ) (text : List ℕ) → max < 2 ^ 64
-        → (number_of max text ≡ Some n) ↔ ((text ≡ decimal n) × (n ≤ max)) }
+        → (parsed_number max text ≡ Some n) ↔ ((text ≡ decimal n) × (n ≤ max)) }
 {}
 
 /// Exactly the lines of the written grammar are read, each as the request that it spells. In a stream every other line

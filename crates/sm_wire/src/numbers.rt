@@ -2,14 +2,14 @@
 
 ghost use Rattle.std.specs.Prelude.{◌≡◌, ◌+◌, ◌*◌, ◌-◌, ◌≤◌, IfSome, nat_le, ◌&&◌, if◌then◌else◌};
 ghost use Rattle.std.specs.Char.{is_ascii_digit};
-ghost use Rattle.sm_wire.specs.Number.{u32_max, u64_max, number_of, digits_after};
-ghost use Rattle.sm_wire.specs.Reading.{Reads};
+ghost use Rattle.sm_wire.specs.Number.{u32_max, u64_max, parsed_number, digits_after};
+ghost use Rattle.sm_wire.specs.Reading.{ReadsAs};
 
 use crate::read_error::ReadError;
 
 /// Returns the number that the bytes spell, if it is at most `max`.
 pub fn number(bytes: &[u8], max: u64) -> Option<u64>
-    ensures value { result ≡ number_of max bytes.now }
+    ensures value { result ≡ parsed_number max bytes.now }
     ensures bound { IfSome result (λ n. n ≤ max) }
 {
     match bytes {
@@ -46,7 +46,7 @@ fn grown(n: u64, digit: u8, max: u64) -> Option<u64>
 
 /// Parses a number of at most 32 bits.
 pub fn u32_field(field: &[u8]) -> Result<u32, ReadError>
-    ensures { Reads result (number_of u32_max field.now) }
+    ensures { ReadsAs result (parsed_number u32_max field.now) }
 {
     match number(field, 0xffff_ffff) {
         Some(n) => Ok(n as u32),
@@ -56,7 +56,7 @@ pub fn u32_field(field: &[u8]) -> Result<u32, ReadError>
 
 /// Parses a number of at most 64 bits.
 pub fn u64_field(field: &[u8]) -> Result<u64, ReadError>
-    ensures { Reads result (number_of u64_max field.now) }
+    ensures { ReadsAs result (parsed_number u64_max field.now) }
 {
     match number(field, 0xffff_ffff_ffff_ffff) {
         Some(n) => Ok(n),

@@ -1,7 +1,7 @@
 //! Headers of `reload` lines.
 
 ghost use Rattle.std.specs.Prelude.{◌≡◌, ◌+◌, map};
-ghost use Rattle.sm_wire.specs.Reading.{Reads};
+ghost use Rattle.sm_wire.specs.Reading.{ReadsAs};
 ghost use Rattle.sm_wire.specs.Grammar.{sizes_of, reload_of};
 
 use crate::numbers::{u32_field, u64_field};
@@ -29,7 +29,7 @@ impl ReloadHeader {
 /// Reads `reload EXPECTED R C`.
 #[tactic(auto, unfolding(crate::specs::Grammar::reload_of))]
 pub fn reload(fields: &[&[u8]]) -> Result<Request, ReadError>
-    ensures { Reads result (reload_of (map (λ f. f.now) fields.now)) }
+    ensures { ReadsAs result (reload_of (map (λ f. f.now) fields.now)) }
 {
     match fields {
         [word, a, b, c] if *word == b"reload".as_slice() => sizes(a, b, c),
@@ -39,7 +39,7 @@ pub fn reload(fields: &[&[u8]]) -> Result<Request, ReadError>
 
 #[tactic(auto, unfolding(crate::specs::Grammar::sizes_of))]
 fn sizes(expected: &[u8], rules: &[u8], contexts: &[u8]) -> Result<Request, ReadError>
-    ensures { Reads result (sizes_of expected.now rules.now contexts.now) }
+    ensures { ReadsAs result (sizes_of expected.now rules.now contexts.now) }
 {
     let expected = u64_field(expected)?;
     let rules = u32_field(rules)?;

@@ -3,10 +3,10 @@
 ghost use Rattle.std.specs.Prelude.{◌≡◌};
 ghost use Rattle.sm_history.specs.declared.reply.Reply.{Reply};
 ghost use Rattle.sm_history.specs.Told.{told};
-ghost use Rattle.sm_wire.specs.Reading.{Reads};
+ghost use Rattle.sm_wire.specs.Reading.{ReadsAs};
 ghost use Rattle.sm_wire.specs.Grammar.{request_of};
 ghost use Rattle.sm_wire.specs.Spelling.{ReadsSpelled};
-ghost use Rattle.sm_wire.specs.Replies.{told_of, told_in};
+ghost use Rattle.sm_wire.specs.Replies.{visible_reply, told_in};
 
 use crate::grammar::request;
 use crate::kind::Kind;
@@ -41,7 +41,7 @@ pub enum Request {
 impl Request {
     /// Parses a line of this kind, given without its newline.
     pub fn read(alloc: Global, kind: Kind, line: &[u8]) -> Result<Request, ReadError>
-        ensures reads { Reads result (request_of kind line.now) }
+        ensures reads { ReadsAs result (request_of kind line.now) }
         ensures spelled { ReadsSpelled kind line.now result }
     {
         request(alloc, kind, line)
@@ -49,7 +49,7 @@ impl Request {
 
     /// Returns how much of the reply is visible to whoever asked.
     pub fn telling(&self) -> Telling
-        ensures { (reply : Reply) → told_of self.now reply ≡ told_in result reply }
+        ensures { (reply : Reply) → visible_reply self.now reply ≡ told_in result reply }
     {
         match self {
             Request::Change(_, event) => event_telling(event),

@@ -4,7 +4,7 @@ ghost use Rattle.std.specs.Prelude.{map};
 ghost use Rattle.std.specs.Result.{result_ok, result_map_both};
 ghost use Rattle.hex.specs.Hex.{decode_of};
 ghost use Rattle.sm_kinds.specs.Permissions.{class_read};
-ghost use Rattle.sm_wire.specs.Reading.{Reads};
+ghost use Rattle.sm_wire.specs.Reading.{ReadsAs};
 ghost use Rattle.sm_wire.specs.Values.{plain_name_of, name_of, reference_of, own_object_of, call_references_of};
 ghost use Rattle.sm_wire.specs.Values.{fitting_payload, fitting_references, hex_payload_of, payload_of, flag_of};
 ghost use Rattle.sm_wire.specs.Values.{context_of, word_of, perm_of};
@@ -21,7 +21,7 @@ use std::alloc::Global;
 // Parses NAME: plain bytes, or `%` and two hexadecimal digits for each byte.
 #[tactic(auto, unfolding(crate::specs::Values::name_of))]
 pub fn name_field(alloc: Global, field: &[u8]) -> Result<Name, ReadError>
-    ensures { Reads result (name_of field.now) }
+    ensures { ReadsAs result (name_of field.now) }
 {
     match field {
         [] => Err(ReadError::Malformed),
@@ -31,7 +31,7 @@ pub fn name_field(alloc: Global, field: &[u8]) -> Result<Name, ReadError>
 }
 
 fn hex_name(alloc: Global, digits: &[u8]) -> Result<Name, ReadError>
-    ensures { Reads result (result_ok (decode_of digits.now)) }
+    ensures { ReadsAs result (result_ok (decode_of digits.now)) }
 {
     let bytes = hex_bytes(alloc, digits)?;
     Ok(Name::new(alloc, &bytes)?)
@@ -39,7 +39,7 @@ fn hex_name(alloc: Global, digits: &[u8]) -> Result<Name, ReadError>
 
 // Parses two hexadecimal digits for each byte.
 fn hex_bytes(alloc: Global, digits: &[u8]) -> Result<Vec<u8>, ReadError>
-    ensures { Reads (result_map_both (λ bytes. bytes.items) (λ e. e) result) (result_ok (decode_of digits.now)) }
+    ensures { ReadsAs (result_map_both (λ bytes. bytes.items) (λ e. e) result) (result_ok (decode_of digits.now)) }
 {
     match hex::decode(alloc, digits) {
         Ok(bytes) => Ok(bytes),
@@ -50,7 +50,7 @@ fn hex_bytes(alloc: Global, digits: &[u8]) -> Result<Vec<u8>, ReadError>
 
 #[tactic(auto, unfolding(crate::specs::Values::plain_name_of))]
 fn plain_name(alloc: Global, field: &[u8]) -> Result<Name, ReadError>
-    ensures { Reads result (plain_name_of field.now) }
+    ensures { ReadsAs result (plain_name_of field.now) }
 {
     if !all_graphic(field) {
         return Err(ReadError::Malformed);
@@ -61,7 +61,7 @@ fn plain_name(alloc: Global, field: &[u8]) -> Result<Name, ReadError>
 // Parses a word of a policy source.
 #[tactic(auto, unfolding(crate::specs::Values::word_of))]
 pub fn word_field(alloc: Global, field: &[u8]) -> Result<Name, ReadError>
-    ensures { Reads result (word_of field.now) }
+    ensures { ReadsAs result (word_of field.now) }
 {
     if !is_word(field) {
         return Err(ReadError::Malformed);
@@ -70,7 +70,7 @@ pub fn word_field(alloc: Global, field: &[u8]) -> Result<Name, ReadError>
 }
 
 pub fn class_field(field: &[u8]) -> Result<Class, ReadError>
-    ensures { Reads result (class_read field.now) }
+    ensures { ReadsAs result (class_read field.now) }
 {
     match Class::read(field) {
         Some(class) => Ok(class),
@@ -81,7 +81,7 @@ pub fn class_field(field: &[u8]) -> Result<Class, ReadError>
 // Parses a permission of either class.
 #[tactic(auto, unfolding(crate::specs::Values::perm_of))]
 pub fn perm_field(field: &[u8]) -> Result<Perms, ReadError>
-    ensures { Reads result (perm_of field.now) }
+    ensures { ReadsAs result (perm_of field.now) }
 {
     if let Some(perm) = Perms::read(Class::ServiceManager, field) {
         return Ok(perm);
@@ -95,7 +95,7 @@ pub fn perm_field(field: &[u8]) -> Result<Perms, ReadError>
 // Parses REF: `oN`, `hN` or `null`.
 #[tactic(auto, unfolding(crate::specs::Values::reference_of))]
 pub fn reference_field(field: &[u8]) -> Result<ObjRef, ReadError>
-    ensures { Reads result (reference_of field.now) }
+    ensures { ReadsAs result (reference_of field.now) }
 {
     match field {
         [b'o', digits @ ..] => Ok(ObjRef::Own(u32_field(digits)?)),
@@ -108,7 +108,7 @@ pub fn reference_field(field: &[u8]) -> Result<ObjRef, ReadError>
 // Parses `oN`, the form of REF that names an object of the client's own.
 #[tactic(auto, unfolding(crate::specs::Values::own_object_of))]
 pub fn own_object_field(field: &[u8]) -> Result<u32, ReadError>
-    ensures { Reads result (own_object_of field.now) }
+    ensures { ReadsAs result (own_object_of field.now) }
 {
     match reference_field(field)? {
         ObjRef::Own(object) => Ok(object),
@@ -118,7 +118,7 @@ pub fn own_object_field(field: &[u8]) -> Result<u32, ReadError>
 }
 
 fn references(list: Vec<ObjRef>) -> Result<Refs, ReadError>
-    ensures { Reads result (fitting_references list.items) }
+    ensures { ReadsAs result (fitting_references list.items) }
 {
     match Refs::from_vec(list) {
         Some(refs) => Ok(refs),
@@ -129,7 +129,7 @@ fn references(list: Vec<ObjRef>) -> Result<Refs, ReadError>
 // Parses at most 16 REF.
 #[tactic(auto, unfolding(crate::specs::Values::call_references_of))]
 pub fn reference_fields(alloc: Global, fields: &[&[u8]]) -> Result<Refs, ReadError>
-    ensures { Reads result (call_references_of (map (λ f. f.now) fields.now)) }
+    ensures { ReadsAs result (call_references_of (map (λ f. f.now) fields.now)) }
 {
     let mut list = Vec::new(alloc);
     for field in fields {
@@ -144,7 +144,7 @@ pub fn reference_fields(alloc: Global, fields: &[&[u8]]) -> Result<Refs, ReadErr
 // Parses PAYLOAD: `-` for no bytes, or two hexadecimal digits for each of at most 1,024 bytes.
 #[tactic(auto, unfolding(crate::specs::Values::payload_of))]
 pub fn payload_field(alloc: Global, field: &[u8]) -> Result<Payload, ReadError>
-    ensures { Reads result (payload_of field.now) }
+    ensures { ReadsAs result (payload_of field.now) }
 {
     match field {
         [] => Err(ReadError::Malformed),
@@ -155,13 +155,13 @@ pub fn payload_field(alloc: Global, field: &[u8]) -> Result<Payload, ReadError>
 
 #[tactic(auto, unfolding(crate::specs::Values::hex_payload_of))]
 fn hex_payload(alloc: Global, digits: &[u8]) -> Result<Payload, ReadError>
-    ensures { Reads result (hex_payload_of digits.now) }
+    ensures { ReadsAs result (hex_payload_of digits.now) }
 {
     payload(hex_bytes(alloc, digits)?)
 }
 
 fn payload(bytes: Vec<u8>) -> Result<Payload, ReadError>
-    ensures { Reads result (fitting_payload bytes.items) }
+    ensures { ReadsAs result (fitting_payload bytes.items) }
 {
     match Payload::from_vec(bytes) {
         Ok(payload) => Ok(payload),
@@ -173,7 +173,7 @@ fn payload(bytes: Vec<u8>) -> Result<Payload, ReadError>
 // Parses ALLOW: `0` or `1`.
 #[tactic(auto, unfolding(crate::specs::Values::flag_of))]
 pub fn flag_field(field: &[u8]) -> Result<bool, ReadError>
-    ensures { Reads result (flag_of field.now) }
+    ensures { ReadsAs result (flag_of field.now) }
 {
     match field {
         b"0" => Ok(false),
@@ -184,7 +184,7 @@ pub fn flag_field(field: &[u8]) -> Result<bool, ReadError>
 
 #[tactic(auto, unfolding(crate::specs::Values::context_of))]
 pub fn context_field(alloc: Global, field: &[u8]) -> Result<Context, ReadError>
-    ensures { Reads result (context_of field.now) }
+    ensures { ReadsAs result (context_of field.now) }
 {
     match Context::read(alloc, field) {
         Ok(context) => Ok(context),

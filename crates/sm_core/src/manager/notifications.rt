@@ -11,7 +11,8 @@ ghost use Rattle.sm_history.specs.Notices.{notice_at, told_of, first_missing, af
 ghost use Rattle.sm_history.specs.Records.{left_by_notices};
 ghost use Rattle.sm_core.specs.Judging.{AllPass, Halts};
 ghost use Rattle.sm_core.specs.Judging as spec;
-ghost use Rattle.sm_core.specs.Notifications.{told_checks, left_at, AreNotifications, GoesOn, GoesFar, MayPrecede, Tells};
+ghost use Rattle.sm_core.specs.Notifications.{told_checks, left_at, AreNotifications, GoesOn, GoesFar, MayPrecede};
+ghost use Rattle.sm_core.specs.Notifications.{Tells};
 ghost use Rattle.sm_core.specs.Managed.{effects_in, moment_in};
 
 use crate::manager::replying::reason;

@@ -5,7 +5,7 @@ ghost use Rattle.sm_history.specs.declared.by.By.{By};
 ghost use Rattle.sm_history.specs.declared.refusal.Refusal.TheVariants.{Memory, Empty as IsEmpty};
 ghost use Rattle.sm_history.specs.Segments.{rows_of, sealed};
 ghost use Rattle.sm_history.specs.BookOrder.{sealed_book};
-ghost use Rattle.sm_history.specs.Steps.{Seals, StaysOpen};
+ghost use Rattle.sm_history.specs.Steps.{ClosesSegment, StaysOpen};
 ghost use Rattle.sm_core.specs.Managed.{IsSame};
 ghost use Rattle.sm_core.specs.SealReady.{IsReadySeal};
 
@@ -25,7 +25,7 @@ impl Manager {
     ///
     /// `Empty` if the segment has no changes, `Memory` if an allocation fails.
     pub fn seal(&mut self) -> Result<Segment, Refusal>
-        ensures seals { MatchResult result (λ s. Seals self.old.book s self.new.book)
+        ensures seals { MatchResult result (λ s. ClosesSegment self.old.book s self.new.book)
             (λ r. StaysOpen self.old.book r self.new.book) }
         ensures ring { self.new.ring ≡ self.old.ring }
     {

@@ -4,7 +4,7 @@ use Rattle.std.proofs.lemmas.List.{length-take-le}
 use Rattle.std.proofs.lemmas.Result.{IfErr-at_err, err_from_is_err_and}
 use Rattle.std.specs.Io.KnownBytes.{Consumes}
 use Rattle.std.specs.Prelude.{min}
-use Rattle.sm_engine.specs.Counts.{greatest}
+use Rattle.sm_engine.specs.Counts.{greatest_count}
 use Rattle.sm_engine.specs.declared.fault.Fault.{Fault}
 use Rattle.sm_engine.specs.declared.fault.Fault.TheVariants.{WriteFault, ReadFault, Memory}
 use Rattle.sm_engine.proofs.ServeLemmas.{sofar_start, sofar_next, served_long, served_stop, served_read_fault}
@@ -12,10 +12,11 @@ use Rattle.sm_engine.proofs.ServeLemmas.{served_enough, served_at_end, served_ov
 use Rattle.sm_engine.proofs.running.run.Goals as goal
 
 -- The number of reads.
-few : (old before now n : ℕ) → before ≡ min (old + n) greatest → now ≡ min (before + 1) greatest → now - old ≤ n + 1
+few : (old before now n : ℕ) → before ≡ min (old + n) greatest_count → now ≡ min (before + 1) greatest_count
+    → now - old ≤ n + 1
 few old before now n e f = omega arith
 
-enough : (old now n : ℕ) → now ≡ min (old + n) greatest → now - old ≤ n
+enough : (old now n : ℕ) → now ≡ min (old + n) greatest_count → now - old ≤ n
 enough old now n e = omega arith
 
 -- A read that gave something.

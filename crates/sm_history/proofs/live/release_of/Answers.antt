@@ -1,11 +1,12 @@
 use Rattle.std.proofs.Common.{◌≡◌, None, ap}
-use Rattle.sm_history.specs.Tables.{row_of}
+use Rattle.sm_history.specs.Tables.{client_row_of}
 use Rattle.sm_history.proofs.AfterClientRows.{live_row, tracks_releases}
 use Rattle.sm_history.proofs.live.release_of.Goals as goal
 
 pub returns-in_default : goal.returns-in_default
 returns-in_default c d n s tr there may =
-    let none : row_of c.args.live.now.items c.args.client ≡ None = rw (← c.deref.ensures.value) c.in_default.ensures in
+    let none : client_row_of c.args.live.now.items c.args.client ≡ None =
+    rw (← c.deref.ensures.value) c.in_default.ensures in
     absurd (live_row d c.args.live.now.items c.args.client tr may.0 none)
 
 pub returns : goal.returns

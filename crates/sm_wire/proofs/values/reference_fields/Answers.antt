@@ -5,7 +5,7 @@ use Rattle.std.proofs.lemmas.List.{at_drop_more, at_drop_all}
 use Rattle.sm_kinds.specs.declared.number.ObjRef.{ObjRef}
 use Rattle.sm_wire.specs.declared.read_error.ReadError.{ReadError}
 use Rattle.sm_wire.specs.declared.read_error.ReadError.TheVariants.{Malformed, Memory}
-use Rattle.sm_wire.specs.Reading.{Reads}
+use Rattle.sm_wire.specs.Reading.{ReadsAs}
 use Rattle.sm_wire.specs.Values.{reference_of, references_of, call_references_of, fitting_references}
 use Rattle.sm_wire.proofs.values.reference_fields.Goals as goal
 
@@ -45,9 +45,9 @@ more fields i d list all r l e is inv =
 
 -- What is no reference.
 refused : (e : ReadError) (fields : List (Bor (List ℕ))) (i : ℕ) (d : Bor (List ℕ)) (list : List ObjRef)
-    → i < length fields → Reads {A = ObjRef} (Err e) (reference_of (get_or fields i d).now)
+    → i < length fields → ReadsAs {A = ObjRef} (Err e) (reference_of (get_or fields i d).now)
     → read fields ≡ behind list (read (drop i fields))
-    → Reads {A = List ObjRef} (Err e) (call_references_of (map (λ f. f.now) fields))
+    → ReadsAs {A = List ObjRef} (Err e) (call_references_of (map (λ f. f.now) fields))
 unfolding call_references_of
 refused Malformed fields i d list l none inv =
     let here : read (drop i fields) ≡ read (get_or fields i d ∷ drop

@@ -3,7 +3,7 @@ use Rattle.sm_history.specs.declared.by.By.{By}
 use Rattle.sm_history.specs.Histories.{turn_of}
 use Rattle.sm_history.specs.Replaying.{ComesAbout}
 use Rattle.sm_history.specs.Segments.{admins_of, sealed}
-use Rattle.sm_core.specs.Counting.{admins_in, made}
+use Rattle.sm_core.specs.Counting.{counted_admins, change_count}
 use Rattle.sm_core.specs.Managed.{Managed}
 use Rattle.sm_core.specs.Journals.{Written}
 use Rattle.sm_core.proofs.KeptSealed.{kept_sealed}
@@ -15,11 +15,11 @@ invariant_of-self c =
     let opens : c.args.ready.journal.history ≡ sealed c.self.inside.journal.history =
     subst (λ (m : Managed). c.args.ready.journal.history ≡ sealed m.book.history) (sym c.self.view_is)
     c.requires.opens in
-    let turns : (by : By) → made c.args.ready.turns by ≡ turn_of (sealed c.self.inside.journal.history) by =
-    subst (λ (m : Managed). (by : By) → made c.args.ready.turns by ≡ turn_of (sealed m.book.history) by)
+    let turns : (by : By) → change_count c.args.ready.turns by ≡ turn_of (sealed c.self.inside.journal.history) by =
+    subst (λ (m : Managed). (by : By) → change_count c.args.ready.turns by ≡ turn_of (sealed m.book.history) by)
     (sym c.self.view_is) c.requires.turns in
-    let admins : admins_in c.args.ready.turns ≡ admins_of (sealed c.self.inside.journal.history) =
-    subst (λ (m : Managed). admins_in c.args.ready.turns ≡ admins_of (sealed m.book.history)) (sym c.self.view_is)
+    let admins : counted_admins c.args.ready.turns ≡ admins_of (sealed c.self.inside.journal.history) =
+    subst (λ (m : Managed). counted_admins c.args.ready.turns ≡ admins_of (sealed m.book.history)) (sym c.self.view_is)
     c.requires.admins in
     kept_sealed c.self.inside.places c.self.inside.journal.history c.replace-closed.new.dest.history
     c.self.inside.turns c.args.ready.turns c.self.inside.state c.self.inside.ring c.self.invariant some

@@ -2,7 +2,7 @@ use Rattle.std.proofs.Common.{◌≡◌, drop}
 use Rattle.sm_history.specs.Histories.{effects_of}
 use Rattle.sm_history.specs.Records.{moment_of}
 use Rattle.sm_history.specs.Verdict.{all_pass_to_client}
-use Rattle.sm_core.specs.Judging.{asked}
+use Rattle.sm_core.specs.Judging.{after_checks}
 use Rattle.sm_core.proofs.CallChecks.{NamesOn}
 use Rattle.sm_core.proofs.manager.Manager.judge_references.Given as goal
 
@@ -13,7 +13,7 @@ invariant-loop-obj l =
     let d = effects_of l.self.book.history in
     let c = l.row.id in
     record {
-      passed : asked m l.initial.notes (all_pass_to_client d c l.receiver l.refs)
-          ≡ asked m l.notes (all_pass_to_client d c l.receiver (drop l.obj-index l.refs));
+      passed : after_checks m l.initial.notes (all_pass_to_client d c l.receiver l.refs)
+          ≡ after_checks m l.notes (all_pass_to_client d c l.receiver (drop l.obj-index l.refs));
       names : NamesOn d c l.refs (drop l.obj-index l.refs) l.named.items;
     }

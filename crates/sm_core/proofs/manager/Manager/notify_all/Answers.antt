@@ -36,11 +36,13 @@ loop-watch-preserved c =
           (c.push_reserved.ensures.items
           ∙ ap (λ (xs : List Notice). xs ++ c.in_ok-notice.notice ∷ []) c.reserve.ensures.items)
           c.loop-watch.invariant.notices;
-      records = records_further (moment_of c.args.self.now.book.history) (followed d c.loop-watch.notifications.effects.items)
+      records = records_further (moment_of c.args.self.now.book.history)
+          (followed d c.loop-watch.notifications.effects.items)
           (followed d c.notify.new.notifications.effects.items) c.args.node (drop i ws) (drop (i + 1) ws) w
           c.loop-watch.notifications.records c.notify.new.notifications.records _ is on.records on.after
           c.loop-watch.invariant.records;
       after = after_further (followed d c.loop-watch.notifications.effects.items)
-          (followed d c.notify.new.notifications.effects.items) c.args.node (drop i ws) (drop (i + 1) ws) w _ is on.after
+          (followed d c.notify.new.notifications.effects.items) c.args.node (drop i ws) (drop (i + 1) ws) w _
+          is on.after
           c.loop-watch.invariant.after;
     }

@@ -19,7 +19,8 @@ invariant-loop-watch l = record {
       ≡ notices_at (followed (effects_of l.self.book.history) l.initial.notifications.effects.items) l.node l.watches;
   after : after_notices (followed (effects_of l.self.book.history) l.notifications.effects.items) l.node
       (drop l.watch-index l.watches)
-      ≡ after_notices (followed (effects_of l.self.book.history) l.initial.notifications.effects.items) l.node l.watches;
+      ≡ after_notices (followed (effects_of l.self.book.history) l.initial.notifications.effects.items) l.node
+      l.watches;
   records : l.notifications.records ++ left_by_notices (moment_of l.self.book.history)
       (followed (effects_of l.self.book.history) l.notifications.effects.items) l.node (drop l.watch-index l.watches)
       ≡ l.initial.notifications.records ++ left_by_notices (moment_of l.self.book.history)

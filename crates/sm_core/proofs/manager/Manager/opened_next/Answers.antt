@@ -5,8 +5,8 @@ use Rattle.sm_history.specs.Segments.{rows_of}
 use Rattle.sm_core.specs.Managed.{Managed}
 use Rattle.sm_core.specs.SealReady.{IsReadySeal}
 use Rattle.sm_core.specs.declared.client.LiveClient.{LiveClient}
-use Rattle.sm_core.specs.Counting.{made, made_sealed}
-use Rattle.sm_core.specs.Journals.{segment}
+use Rattle.sm_core.specs.Counting.{change_count, made_sealed}
+use Rattle.sm_core.specs.Journals.{journal_segment}
 use Rattle.sm_core.proofs.KeptSealed.{small_number}
 use Rattle.sm_core.proofs.SealedTurns.{admins_sealed, ids, turns_sealed}
 use Rattle.sm_core.proofs.manager.Manager.opened_next.Goals as goal
@@ -26,7 +26,7 @@ returns c =
     let opening : c.in_ok-opening.opening ≡ rows_of h =
     subst (λ (m : Managed). c.in_ok-opening.opening ≡ rows_of m.book.history) (sym c.self.view_is)
     c.in_ok-opening.ensures in
-    let counts : (by : By) → made c.in_ok-turns.turns by
+    let counts : (by : By) → change_count c.in_ok-turns.turns by
     ≡ made_sealed (ids c.self.inside.state.clients.items) c.self.inside.state.next c.self.inside.turns by =
     λ by. c.in_ok-turns.ensures.turns by
     ∙ ap (λ (rs : List LiveClient). made_sealed (ids rs) c.self.inside.state.next c.self.inside.turns by)
@@ -35,8 +35,8 @@ returns c =
     c.self.view_is (record {
       some = some;
       opens = c.in_ok-journal.ensures
-          ∙ ap (λ (n : ℕ). segment (n + 1) c.in_ok-opening.opening []) c.number.ensures
-          ∙ ap (λ (o : Opening). segment (h.number + 1) o []) opening;
+          ∙ ap (λ (n : ℕ). journal_segment (n + 1) c.in_ok-opening.opening []) c.number.ensures
+          ∙ ap (λ (o : Opening). journal_segment (h.number + 1) o []) opening;
       turns = turns_sealed h c.self.inside.turns c.in_ok-turns.turns c.self.inside.state.clients.items
           c.self.inside.state.next k.stands.sound k.turns_are k.stands.clients k.stands.next counts;
       admins = c.in_ok-turns.ensures.admins ∙ k.admins_are ∙ sym (admins_sealed h);

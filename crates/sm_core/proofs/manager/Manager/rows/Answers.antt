@@ -6,7 +6,7 @@ use Rattle.sm_history.specs.Rows.{Rows, rows_at}
 use Rattle.sm_history.specs.Segments.{actors_of, rows_of, turn_row}
 use Rattle.sm_history.proofs.TableRows.{tables_are}
 use Rattle.sm_core.specs.declared.client.LiveClient.{LiveClient}
-use Rattle.sm_core.specs.Counting.{admins_in, client_of, row_for}
+use Rattle.sm_core.specs.Counting.{counted_admins, as_client, row_for}
 use Rattle.sm_core.specs.Managed.{Managed}
 use Rattle.sm_core.proofs.SealedTurns.{actor_rows, ids}
 use Rattle.sm_core.proofs.manager.Manager.rows.Goals as goal
@@ -26,7 +26,7 @@ returns c =
     let turns : c.in_ok-turns.turns.items ≡ map (turn_row h) (actors_of h) =
     c.in_ok-turns.ensures
     ∙ ap (λ (rs : List LiveClient). map (row_for c.self.inside.turns)
-    (Manager ∷ map client_of (ids rs) ++ admins_in c.self.inside.turns)) c.deref.ensures.value
+    (Manager ∷ map as_client (ids rs) ++ counted_admins c.self.inside.turns)) c.deref.ensures.value
     ∙ actor_rows h c.self.inside.turns c.self.inside.state.clients.items k.turns_are k.admins_are k.stands.clients in
     let length : c.length-length.result ≡ length_of h =
     c.length-length.ensures ∙ sym (ap (λ (m : Managed). length_of m.book.history) c.self.view_is) in

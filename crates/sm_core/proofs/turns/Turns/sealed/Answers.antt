@@ -3,7 +3,7 @@ use Rattle.std.proofs.Common.{map}
 use Rattle.std.specs.Prelude.{nat_lt, slice_index_or}
 use Rattle.sm_history.specs.declared.by.By.TheVariants.{Manager, Client, Admin}
 use Rattle.std.specs.List.{list_any}
-use Rattle.sm_core.specs.Counting.{admin_of, made}
+use Rattle.sm_core.specs.Counting.{admin_of, change_count}
 use Rattle.sm_core.proofs.SealedTurns.{ids, sealed_client}
 use Rattle.sm_core.proofs.turns.Turns.sealed.Goals as goal
 
@@ -11,7 +11,7 @@ pub returns-clause-turns : goal.returns-clause-turns
 returns-clause-turns c Manager = refl
 returns-clause-turns c (Client k) =
     sealed_client (nat_lt k.0 c.args.next) (list_any (λ n. n == k.0) (ids c.args.live.now)) _ _
-    (made c.args.self.now (Client k)) (c.in_ok-older.ensures k.0)
+    (change_count c.args.self.now (Client k)) (c.in_ok-older.ensures k.0)
     (ap (λ (ns : List ℕ). slice_index_or ns (k.0 - c.args.next) 0) c.new.ensures.items)
 returns-clause-turns c (Admin a) = c.in_ok-admins.ensures.gets a.0
 

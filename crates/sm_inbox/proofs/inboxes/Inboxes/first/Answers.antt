@@ -1,13 +1,13 @@
 use Rattle.std.proofs.Common.{◌≡◌, ◌∷◌, [], List, None, ap, sym, ◌∙◌, drop, subst}
 use Rattle.std.specs.Prelude.{MatchOption}
 use Rattle.sm_history.specs.declared.delivery.Delivery.{Delivery}
-use Rattle.sm_inbox.specs.Rows.{row_of, waiting_in}
+use Rattle.sm_inbox.specs.Rows.{inbox_of, waiting_in}
 use Rattle.sm_inbox.proofs.RowLemmas.{row_read, front_is}
 use Rattle.sm_inbox.proofs.inboxes.Inboxes.first.Goals as goal
 
 pub returns-in_err-i : goal.returns-in_err-i
 returns-in_err-i c d tr =
-    let none : row_of c.args.self.now.rows.items c.args.client ≡ None =
+    let none : inbox_of c.args.self.now.rows.items c.args.client ≡ None =
     rw (← c.deref.ensures.value) c.in_err-i.ensures in
     rw c.from_residual.ensures (sym (tr.queues c.args.client) ∙ ap waiting_in none)
 

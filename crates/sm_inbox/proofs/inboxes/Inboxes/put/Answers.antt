@@ -1,12 +1,12 @@
 use Rattle.std.proofs.Common.{◌≡◌, ◌++◌, ◌∷◌, [], None, ap, sym, ◌∙◌, arith, refl}
-use Rattle.sm_inbox.specs.Rows.{row_of, room_in, waiting_in}
+use Rattle.sm_inbox.specs.Rows.{inbox_of, room_in, waiting_in}
 use Rattle.sm_inbox.proofs.RowLemmas.{row_read, row_written, room_read, room_others, one_more, open_written}
 use Rattle.sm_inbox.proofs.Tracked.{tracks_delivers}
 use Rattle.sm_inbox.proofs.inboxes.Inboxes.put.Goals as goal
 
 pub unreachable-requires : goal.unreachable-requires
 unreachable-requires c =
-    let none : row_of c.args.self.now.rows.items c.args.client ≡ None =
+    let none : inbox_of c.args.self.now.rows.items c.args.client ≡ None =
     rw (← c.deref.ensures.value) c.in_default.ensures in
     let zero = ap room_in none in
     absurd (omega (arith, c.requires, zero))

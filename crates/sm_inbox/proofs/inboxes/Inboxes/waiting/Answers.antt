@@ -1,5 +1,5 @@
 use Rattle.std.proofs.Common.{◌≡◌, None, ap, sym, ◌∙◌, length}
-use Rattle.sm_inbox.specs.Rows.{row_of, waiting_in}
+use Rattle.sm_inbox.specs.Rows.{inbox_of, waiting_in}
 use Rattle.sm_inbox.proofs.RowLemmas.{row_read, waiting_read}
 use Rattle.sm_inbox.proofs.inboxes.Inboxes.waiting.Goals as goal
 
@@ -11,6 +11,6 @@ returns-in-Some c =
 
 pub returns-in-None : goal.returns-in-None
 returns-in-None c =
-    let none : row_of c.args.self.now.rows.items c.args.client ≡ None =
+    let none : inbox_of c.args.self.now.rows.items c.args.client ≡ None =
     rw (← c.deref.ensures.value) c.in-None.ensures in
     sym (ap (λ o. length (waiting_in o)) none)

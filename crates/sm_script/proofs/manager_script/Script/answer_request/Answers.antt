@@ -4,7 +4,7 @@ use Rattle.sm_wire.specs.declared.request.Request.{Request}
 use Rattle.sm_wire.specs.declared.request.Request.TheVariants.{Hello, Change, Look, Seal}
 use Rattle.sm_wire.specs.declared.telling.Telling.TheVariants.{Whole}
 use Rattle.sm_engine.specs.Running.{GaveUp}
-use Rattle.sm_script.specs.Answering.{AnswersItem, Recorded, recorded}
+use Rattle.sm_script.specs.Answering.{ScriptAnswers, Recorded, recorded}
 use Rattle.sm_script.proofs.Answered.{told_request, told_look, unasked_request, denials_request, seal_request}
 use Rattle.sm_script.proofs.Answered.{lost_request, lost_look, lost_seal, kept_request}
 use Rattle.sm_script.proofs.manager_script.Script.answer_request.Goals as goal
@@ -48,7 +48,7 @@ returns-clause-ok c = elim c.match-request.branch [
 
 -- The same of equal parts.
 carried : {T E : Type 0} (r r' : Result T E) (s s' m m' : Recorded) (q q' : Request) → r ≡ r' → s ≡ s' → m ≡ m'
-    → q ≡ q' → OnErr r' (GaveUp AnswersItem s' (Asked q') m') → OnErr r (GaveUp AnswersItem s (Asked q) m)
+    → q ≡ q' → OnErr r' (GaveUp ScriptAnswers s' (Asked q') m') → OnErr r (GaveUp ScriptAnswers s (Asked q) m)
 carried r r' s s' m m' q q' e f g h p = rw (e, f, g, h) p
 
 -- Each request was judged, and its texts were lost.
