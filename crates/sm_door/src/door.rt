@@ -34,6 +34,7 @@ use crate::seat::Seat;
 use crate::session::Session;
 use crate::shared_view::SharedView;
 use crate::token::Token;
+use crossbeam_utils::Backoff;
 use left_right::Absorb;
 use sm_core::{Manager, View};
 use sm_history::{
@@ -44,6 +45,9 @@ use sm_kinds::{Class, Identity, Name, Perms, Places};
 use sm_policy::Prepared;
 use std::alloc::{AllocError, Global};
 use std::sync::{Arc, Mutex, MutexGuard, Wait};
+
+/// How often a thread tries to take the lock before it sleeps. The pauses in between grow to 64 turns each.
+const ATTEMPTS: u32 = 16;
 
 /// The manager behind one lock. A door isn't dropped: its owner ends it by `close`.
 pub struct Door<J: Naming, G: Gate>
@@ -112,6 +116,19 @@ impl<J: Naming, G: Gate + Drop> Door<J, G> {
         &self.gate
     }
 
+    /// Takes the lock. A change takes less time than a thread needs to wake up, so this tries for some microseconds
+    /// before it sleeps. `Mutex::lock` alone sleeps as soon as another thread does.
+    fn lock<R: Wait>(&self, rt: &R) -> MutexGuard<'_, LockedManager<J>> {
+        let backoff = Backoff::new();
+        for _ in 0..ATTEMPTS {
+            if let Some(guard) = self.locked.try_lock() {
+                return guard;
+            }
+            backoff.spin();
+        }
+        self.locked.lock(rt)
+    }
+
     /// Connects a process, by a change of the manager's. On error (`TooManyClients`, `JournalFull` or `Memory`) the
     /// seat comes back, and has seen the history that refused.
     pub fn connect<R: Wait>(
@@ -123,7 +140,7 @@ impl<J: Naming, G: Gate + Drop> Door<J, G> {
         ensures { MatchResult result (λ s. Joined seat s who) (λ r. OfConnect r.0 × Turned seat r.1 who r.0) }
     {
         let mut seat = seat;
-        let mut guard = self.locked.lock(rt);
+        let mut guard = self.lock(rt);
         self.gate.inside();
         let locked = &mut *guard;
         let due = locked.turn(By::Manager);
@@ -154,7 +171,7 @@ impl<J: Naming, G: Gate + Drop> Door<J, G> {
         ensures logged { Logged me.old me.new event result.0 result.1.items }
         ensures by { me.new.by ≡ me.old.by }
     {
-        let mut guard = self.locked.lock(rt);
+        let mut guard = self.lock(rt);
         self.gate.inside();
         let locked = &mut *guard;
         let (reply, records) = locked.step(rt, me.by(), me.due(), event);
@@ -245,7 +262,7 @@ impl<J: Naming, G: Gate + Drop> Door<J, G> {
     pub fn denials<R: Wait>(&self, rt: &R, me: &mut Admin<J>) -> Result<Vec<Record>, AllocError>
         ensures { MatchResult result (λ v. TellsRecords me.old me.new v.items) (λ _. me.new ≡ me.old) }
     {
-        let guard = self.locked.lock(rt);
+        let guard = self.lock(rt);
         let locked = &*guard;
         match locked.records() {
             Ok(records) => {
@@ -271,7 +288,7 @@ impl<J: Naming, G: Gate + Drop> Door<J, G> {
     fn seal_for<R: Wait>(&self, rt: &R, me: &mut Actor<J>) -> Result<Segment, Refusal>
         ensures { MatchResult result (λ s. Closed me.old me.new s) (λ r. NotClosed me.old me.new r) }
     {
-        let mut guard = self.locked.lock(rt);
+        let mut guard = self.lock(rt);
         self.gate.inside();
         let locked = &mut *guard;
         me.see(rt, locked);
@@ -311,7 +328,7 @@ impl<J: Naming, G: Gate + Drop> Door<J, G> {
         ensures other { Grows other.old other.new }
         ensures same { one.new.seen ≡ other.new.seen }
     {
-        let guard = self.locked.lock(rt);
+        let guard = self.lock(rt);
         let locked = &*guard;
         one.see(rt, locked);
         other.see(rt, locked);

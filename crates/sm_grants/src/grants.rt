@@ -10,12 +10,11 @@ ghost use Rattle.sm_history.specs.Effects.{Effects, same_node};
 ghost use Rattle.sm_history.specs.declared.effect.Effect.TheVariants.{Gives, Releases, Dies};
 ghost use Rattle.sm_history.specs.Clients.{is_live};
 ghost use Rattle.sm_history.specs.Holdings.{refs_at, resolve_at, node_at, number_for, fits_handles, is_in_use};
-ghost use Rattle.sm_history.specs.Tables.{Slots, slot};
+ghost use Rattle.sm_history.specs.Tables.{Slots, slot, slot_at};
 ghost use Rattle.sm_grants.specs.Slots.{node_of, held_in, is_in, IsAbsent, IsNumberFor};
 ghost use Rattle.sm_grants.specs.Highest.{highest};
 ghost use Rattle.sm_grants.specs.Several.{after_grants, numbers_for, new_among, with_grant, Along};
 ghost use Rattle.sm_grants.specs.Holders.{holders_at};
-ghost use Rattle.sm_history.specs.Tables.{slot as row_slot, slot_at};
 
 use crate::handles::Handles;
 use crate::place::place_of;
@@ -177,7 +176,7 @@ impl Grants {
     /// An error if an allocation fails.
     pub fn listed(&self, alloc: Global, client: u32) -> Result<Vec<Option<Held>>, AllocError>
         ensures { IfOk result
-            (λ v. (d : Effects) → Tracks d self.now → (k : ℕ) → row_slot v.items k ≡ slot_at d client k) }
+            (λ v. (d : Effects) → Tracks d self.now → (k : ℕ) → slot v.items k ≡ slot_at d client k) }
     {
         match handles_of(&self.rows, client) {
             Some(handles) => handles.listed(alloc),

@@ -35,9 +35,8 @@ ghost use Rattle.std.specs.Prelude.{◌≡◌, ℕ, ◌+◌, ◌-◌, ◌≤◌,
 ghost use Rattle.std.specs.Prelude.{None, [], ◌↔◌, IfOk, IsOk, IsSome, max, IfNone, IfSome, IsTrue, nat_lt, OnOk};
 ghost use Rattle.std.specs.Prelude.{MatchOption};
 ghost use Rattle.sm_grants.specs.Listed.{listed_slots};
-ghost use Rattle.sm_history.specs.Tables.{slot, IsPut};
+ghost use Rattle.sm_history.specs.Tables.{slot, IsPut, released_slot};
 ghost use Rattle.sm_grants.specs.Slots.{node_of, count_of, held_in, is_in, IsAbsent, IsFirstFree};
-ghost use Rattle.sm_history.specs.Tables.{released_slot};
 ghost use Rattle.sm_grants.specs.Slots.{granted_slot, IsGranted, IsNumberFor};
 
 use crate::slots::{add_one, empty, fill, take_one};
