@@ -11,7 +11,7 @@ use Rattle.sm_history.specs.Books.{Book}
 use Rattle.sm_history.specs.Histories.{turn_of}
 use Rattle.sm_history.specs.Verdict.{verdict}
 use Rattle.sm_history.specs.BookOrder.{Begins, IsLawfulBook, extended}
-use Rattle.sm_history.specs.Promises.{Accepted, Kept, NotMade, Submitted}
+use Rattle.sm_history.specs.Promises.{Accepted, NotDone, NotMade, Submitted}
 use Rattle.sm_history.specs.PossibleReplies.{moves, tells_turn}
 use Rattle.sm_history.specs.Steps.{Steps, entry_made}
 use Rattle.sm_history.specs.Tokens.{Knows, Sees, turn}
@@ -39,7 +39,7 @@ module _ (b after : Book) (old new : Knows) (event : Event) (sees : Sees old aft
   counted same i = turn_of ((sees.1 ∙ same) i).history (sees.0.by i)
 
   kept : (r : Reply) → r ≢ Refused (Failed NotYours) → r ≡ verdict b.places b.history old.by (turn old) event
-      → after ≡ b → Kept old new event r
+      → after ≡ b → NotDone old new event r
   kept r not v same = record {
     grows = sees.0;
     verdict_is =

@@ -38,7 +38,7 @@ pub record Accepted (old new : Knows) (event : Event) (outcome : Outcome) : Type
 
 -- The event wasn't done: the answer is the verdict of the history that the token sees now. It has as many changes of
 -- this actor as before; or another number, which is in the answer; or the actor isn't connected any more.
-pub record Kept (old new : Knows) (event : Event) (reply : Reply) : Type 0 where
+pub record NotDone (old new : Knows) (event : Event) (reply : Reply) : Type 0 where
   pub grows : Grows old new
   pub verdict_is : reply ≡ verdict new.seen.places new.seen.history old.by (turn old) event
   pub same_turn : tells_turn reply ≡ true → turn new ≡ turn old
@@ -46,7 +46,7 @@ pub record Kept (old new : Knows) (event : Event) (reply : Reply) : Type 0 where
 
 -- No change was made: an allocation failed, and the token stays as it is; or the event wasn't done.
 abbrev pub NotMade : Knows → Knows → Event → Reply → Type 0
-NotMade old new event reply = ((reply ≡ Refused Memory) × (new ≡ old)) ⊎ Kept old new event reply
+NotMade old new event reply = ((reply ≡ Refused Memory) × (new ≡ old)) ⊎ NotDone old new event reply
 
 -- This is what a token knows after its actor's event was answered.
 abbrev pub Submitted : Knows → Knows → Event → Reply → Type 0
