@@ -45,7 +45,7 @@ look_wants b by q new s reply halts (inl w) takes = inl (w, takes)
 look_wants b by q new s reply (inl w) (inr is) takes = inl (is ∙ ap answer_of w, takes)
 look_wants b by q new s reply (inr e) (inr is) takes = inr (stopped_reply b by q new s reply e is)
 
--- Else only the asker stops it.
+-- Otherwise only the asker's checks refuse it.
 look_asked : (b : Book) (by : By) (q : Query) (new : List Record) (s : FailedCheck) (reply : Reply) (f : Failure)
     → Halts (moment_of b.history) [] new (checks_of_query b.history by q) s → s ≡ Unmet (Refuses (Failed f))
     → reply ≡ answer_of s → Looks b by q reply
@@ -83,7 +83,7 @@ pub event_left : (places : ℕ) (h : History) (by : By) (turn : ℕ) (event : Ev
 event_left places h by turn event new s (inl w) other = absurd (other w)
 event_left places h by turn event new s (inr e) other = stop_records places h by turn event new s e
 
--- A stop that isn't called a failed allocation is none.
+-- A failed check that isn't reported as a failed allocation is none.
 pub not_wanted : (b : Bool) (s : FailedCheck) → (IsTrue b ↔ (s ≡ wanted)) → b ≡ false → s ≡ wanted → ⊥
 not_wanted b s both isnt w = true≢false (sym (both.1 w) ∙ isnt)
 

@@ -23,7 +23,7 @@ early_answer (plain.VersionMoved version) = answered.Refused (refused.VersionMov
 early_answer plain.JournalFull = answered.Refused refused.JournalFull
 early_answer plain.Memory = answered.Refused refused.Memory
 
--- This is the stop that is stored.
+-- This is the failed check that is stored.
 abbrev pub stored_check : Stored → FailedCheck
 stored_check (held.Plain p) = Unmet (early_answer p)
 stored_check (held.Whole s) = box_value s

@@ -9,7 +9,7 @@ use sm_history::{Exception, FailedCheck, Failure};
 use std::alloc::Global;
 use std::marker::Model;
 
-/// A condition without texts, and the answer if it fails: `Instead`, without its denials.
+/// The answer to a condition that failed, where it has no texts: `EarlyAnswer` without its denials.
 #[derive(Clone, Copy, Debug, PartialEq, Eq)]
 pub enum Plain {
     /// A Get found nothing.
@@ -34,7 +34,7 @@ pub enum Plain {
     Memory,
 }
 
-/// How a stop is stored.
+/// How a failed check is stored.
 #[derive(Drop)]
 pub enum Stored {
     /// Inline.
@@ -43,8 +43,8 @@ pub enum Stored {
     Whole(Box<FailedCheck>),
 }
 
-/// Why a request makes no change. Contracts see the stop. Each judgement passes it on, so it is small: only a stop with
-/// texts is boxed.
+/// Why a request makes no change. Contracts see the failed check. Each judgement passes it on, so it is small: only a
+/// failed check with texts is boxed.
 pub struct SmallFailedCheck {
     held: Stored,
 }
@@ -66,7 +66,7 @@ impl Drop for SmallFailedCheck {
 }
 
 impl SmallFailedCheck {
-    /// Makes a stop without texts.
+    /// Makes a failed check without texts.
     #[inline]
     pub fn unmet(plain: Plain) -> SmallFailedCheck
         ensures { result ≡ Unmet (early_answer plain) }
@@ -76,7 +76,7 @@ impl SmallFailedCheck {
         }
     }
 
-    /// Boxes a stop with texts; if that fails, makes the stop for a failed allocation.
+    /// Boxes a failed check with texts. If that fails, returns the one for a failed allocation.
     pub fn whole(alloc: Global, stop: FailedCheck) -> SmallFailedCheck
         ensures { (result ≡ spec.wanted) ⊎ (result ≡ stop) }
     {
@@ -88,14 +88,14 @@ impl SmallFailedCheck {
         }
     }
 
-    /// Returns how the stop is stored.
+    /// Returns how the failed check is stored.
     pub fn held(&self) -> &Stored
         ensures { stored_check result.now ≡ self.now }
     {
         &self.held
     }
 
-    /// Returns how the stop is stored.
+    /// Returns how the failed check is stored.
     pub fn into_stored(self) -> Stored
         ensures { stored_check result ≡ self }
     {

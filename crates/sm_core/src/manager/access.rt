@@ -23,7 +23,7 @@ use sm_kinds::{Class, Context, Identity, Name, Perms};
 use sm_policy::Decision;
 use std::alloc::{AllocError, Global};
 
-/// Returns the stop for a missing allow rule from a process to a context; has the name if the context is its label.
+/// Returns the failed check of an access that no allow rule grants. Has the name if the target is its label.
 #[cold]
 #[inline(never)]
 fn unruled(
@@ -147,7 +147,7 @@ impl Manager {
         })
     }
 
-    /// Returns the stop for a failed clause on the user number, and appends its record.
+    /// Returns the failed check of a clause on the user number, and appends its record.
     #[cold]
     #[inline(never)]
     pub fn barred(
@@ -166,7 +166,7 @@ impl Manager {
         }
     }
 
-    /// The same, or the stop for a failed allocation.
+    /// The same, or the one for a failed allocation.
     #[tactic(auto, unfolding(crate::specs::Judging::clause_noted))]
     fn bars(
         &self,

@@ -24,7 +24,7 @@ use crate::small_failed_check::{Plain, SmallFailedCheck};
 use sm_history::{Effect, Failure, Given, Notice, Outcome, Told, Watch};
 use sm_kinds::{ClientId, Name, Node};
 
-/// Returns the stop for a watcher whose inbox or handles have no room.
+/// Returns the failed check of a watcher whose inbox or handles have no room.
 fn full() -> SmallFailedCheck
     ensures { result ≡ spec.full }
 {

@@ -20,7 +20,7 @@ use crate::small_failed_check::{Plain, SmallFailedCheck};
 use sm_history::{Effect, Exception, Outcome};
 use sm_kinds::{Name, Node, ObjRef};
 
-/// Returns the stop for a call that fails with a Binder exception.
+/// Returns the failed check of a call that fails with a Binder exception.
 fn failed(exception: Exception) -> SmallFailedCheck
     ensures { result ≡ Unmet (Refused (Excepted exception)) }
 {
