@@ -1,7 +1,7 @@
 use Rattle.sm_history.proofs.BookOrder.{book_itself, book_before, book_behind, book_through, one_more, before_change}
 use Rattle.sm_history.proofs.TokensGrow.{no_less, goes_on, no_change}
 use Rattle.sm_history.proofs.Staying.{client_stays}
-use Rattle.sm_history.proofs.laws.books.Goals as goal
+use Rattle.sm_history.proofs.promises.books.Goals as goal
 
 pub returns-clause-itself : goal.returns-clause-itself
 returns-clause-itself c = book_itself

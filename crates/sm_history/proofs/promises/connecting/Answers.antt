@@ -1,5 +1,5 @@
 use Rattle.sm_history.proofs.Joining.{connect_answered, sees_alike, joins, turns_away}
-use Rattle.sm_history.proofs.laws.connecting.Goals as goal
+use Rattle.sm_history.proofs.promises.connecting.Goals as goal
 
 pub returns-clause-answered : goal.returns-clause-answered
 returns-clause-answered c = connect_answered

@@ -1,5 +1,5 @@
 use Rattle.sm_history.proofs.TokensGrow.{token_goes_on}
-use Rattle.sm_history.proofs.laws.growing.Goals as goal
+use Rattle.sm_history.proofs.promises.growing.Goals as goal
 
 pub returns : goal.returns
 returns c = token_goes_on

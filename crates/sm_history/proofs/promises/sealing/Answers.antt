@@ -1,5 +1,5 @@
 use Rattle.sm_history.proofs.SealedTokens.{closes, stays_open}
-use Rattle.sm_history.proofs.laws.sealing.Goals as goal
+use Rattle.sm_history.proofs.promises.sealing.Goals as goal
 
 pub returns-clause-closed : goal.returns-clause-closed
 returns-clause-closed c = closes

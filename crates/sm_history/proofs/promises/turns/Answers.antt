@@ -1,5 +1,5 @@
 use Rattle.sm_history.proofs.Turns.{done_in_turn, out_of_turn, others_in_turn, not_yours}
-use Rattle.sm_history.proofs.laws.turns.Goals as goal
+use Rattle.sm_history.proofs.promises.turns.Goals as goal
 
 pub returns-clause-done : goal.returns-clause-done
 returns-clause-done c = done_in_turn
