@@ -1,7 +1,6 @@
 -- What readers see of a manager crosses to other threads, and threads share it.
 use denote.Param.Send as cross
-use denote.Param.Send.{IsSend, IsSync, sendable, recorded_send, recorded_sync, struct_send, struct_sync, enum_send}
-use denote.Param.Send.{enum_sync}
+use denote.Param.Send.{IsSend, IsSync, sendable, recorded_send, recorded_sync, struct_send, struct_sync}
 use denote.Struct.Field as Field
 use denote.Struct.Declared as struct
 use Rattle.std.proofs.Crossing.{crosses, Arc-send, Arc-sync, Vec-send, Vec-sync}

@@ -22,7 +22,7 @@ use Rattle.sm_grants.specs.Tracking.{TracksSlots}
 use Rattle.sm_grants.specs.Rows.{TracksRows, slots_of}
 use Rattle.sm_grants.specs.declared.rows.ClientHandles.{ClientHandles}
 use Rattle.sm_names.specs.declared.names.Names.{Names}
-use Rattle.sm_names.specs.declared.row.NameRow.{NameRow}
+use Rattle.sm_history.specs.declared.named_row.NamedRow.{NamedRow}
 use Rattle.sm_names.specs.Rows.{TracksRows as TracksServices}
 use Rattle.sm_names.specs.Tracking.{TracksNames}
 use Rattle.sm_inbox.specs.declared.inboxes.Inboxes.{Inboxes}
@@ -64,7 +64,7 @@ grants_alike d e rows a s tr = record {
   once = tr.once;
 }
 
-pub services_alike : (d e : Effects) (rows : List NameRow) → Agree d e → TracksServices d rows
+pub services_alike : (d e : Effects) (rows : List NamedRow) → Agree d e → TracksServices d rows
     → TracksServices e rows
 services_alike d e rows a tr = record {
   services = λ name. tr.services name ∙ a.services name;

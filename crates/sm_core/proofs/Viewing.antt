@@ -30,7 +30,7 @@ use Rattle.sm_core.specs.Kept.{Kept}
 use Rattle.sm_core.specs.Stands.{Stands}
 use Rattle.sm_history.proofs.AfterNames.{service_connects}
 use Rattle.sm_history.proofs.Counted.{apart_sound}
-use Rattle.sm_names.specs.declared.row.NameRow.{NameRow}
+use Rattle.sm_history.specs.declared.named_row.NamedRow.{NamedRow}
 use Rattle.sm_names.specs.Rows.{TracksRows}
 use Rattle.sm_names.proofs.Others.{same_rows}
 use Rattle.sm_core.specs.declared.principals.Principals.{Principals}
@@ -63,7 +63,7 @@ same_principals (Delivers c x) d p h s =
 same_principals (Takes c) d p h s =
     record { manager = s.manager; policy = s.policy; version = s.version; clients = s.clients }
 
-pub same_services : (x : Effect) (d : Effects) (rows : List NameRow) → moves_services x ≡ false → Sound d
+pub same_services : (x : Effect) (d : Effects) (rows : List NamedRow) → moves_services x ≡ false → Sound d
     → MayFollowApart d x → TracksRows d rows → TracksRows (x ∷ d) rows
 same_services (Adds name t) d rows h s m tr = absurd (true≢false h)
 same_services (Removes name) d rows h s m tr = absurd (true≢false h)
@@ -97,7 +97,7 @@ principals_stay (x ∷ xs) d p h s =
     principals_stay xs (x ∷ d) p (none_rest (moves_principals x) (list_any moves_principals xs) h)
     (same_principals x d p (none_first (moves_principals x) (list_any moves_principals xs) h) s)
 
-pub services_stay : (xs : List Effect) (d : Effects) (rows : List NameRow) → list_any moves_services xs ≡ false
+pub services_stay : (xs : List Effect) (d : Effects) (rows : List NamedRow) → list_any moves_services xs ≡ false
     → Sound d → MayAllApart d xs → TracksRows d rows → TracksRows (followed d xs) rows
 services_stay [] d rows h s m tr = tr
 services_stay (x ∷ xs) d rows h s m tr =

@@ -1,6 +1,6 @@
 //! Table calls for judged events, which have made sure that the table can take them.
 
-ghost use Rattle.std.specs.Prelude.{◌≡◌, ◌≤◌, ◌<◌, ◌+◌, ◌-◌, ◌^◌, ◌==◌, ℕ, true, false, nat_lt, ◌∷◌, length, OnOk};
+ghost use Rattle.std.specs.Prelude.{◌≡◌, ◌≤◌, ◌<◌, ◌+◌, ◌-◌, ◌==◌, ℕ, true, false, nat_lt, ◌∷◌, length, OnOk};
 ghost use Rattle.std.specs.List.{list_any};
 ghost use Rattle.sm_history.specs.Effects.{Effects};
 ghost use Rattle.sm_history.specs.declared.effect.Effect.TheVariants.{Gives, Releases, Delivers, Takes, Watches};

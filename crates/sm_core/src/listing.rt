@@ -1,6 +1,6 @@
 //! The tables of a manager, as rows.
 
-ghost use Rattle.std.specs.Prelude.{◌≡◌, IfOk};
+ghost use Rattle.std.specs.Prelude.{IfOk};
 ghost use Rattle.sm_history.specs.Effects.{Effects};
 ghost use Rattle.sm_history.specs.Tables.{TracksTables};
 ghost use Rattle.sm_grants.specs.Rows.{Tracks};

@@ -1,5 +1,5 @@
 -- From one step of the manager, and the book that is seen after it, to the records that come with its answer.
-use Rattle.std.proofs.Common.{◌≡◌, ◌⊎◌, true, false, true≢false, List, [], refl, sym, ◌∙◌, subst, ⊎_elim}
+use Rattle.std.proofs.Common.{◌≡◌, ◌⊎◌, true, false, true≢false, List, refl, sym, ◌∙◌, subst, ⊎_elim}
 use Rattle.sm_history.specs.declared.event.Event.{Event}
 use Rattle.sm_history.specs.declared.outcome.Outcome.{Outcome}
 use Rattle.sm_history.specs.declared.records.Record.{Record}

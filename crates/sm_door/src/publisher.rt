@@ -43,8 +43,8 @@ where
         (λ w. arc_value w.desk.shown.value.shared_view ≡ arc_value p.shared_view) };
 }
 
-/// Publishes a shared view. On an error readers find what they found, and the shared view that stays pending is overtaken by the
-/// next.
+/// Publishes a shared view. On an error readers find what they found, and the next shared view overtakes the one that
+/// stays pending.
 fn show<J: Naming, R: Wait>(
     rt: &R,
     mut writer: ViewWriter<J>,
@@ -120,8 +120,8 @@ impl<J: Naming> Publisher<J> {
         }
     }
 
-    /// A reader enters until it finds the publisher's own shared view, whose book begins with all that the reader had seen.
-    /// The first entry does, since nobody else can publish.
+    /// A reader enters until it finds the publisher's own shared view, whose book begins with all that the reader had
+    /// seen. The first entry does, since nobody else can publish.
     pub(crate) fn inform<R: Wait>(&self, rt: &R, mut reader: ViewReader<J>) -> ViewReader<J>
         ensures seen { (place_view result.place).seen ≡ self.now }
         ensures begins { Begins self.now (place_view reader.place).seen }

@@ -1,6 +1,4 @@
 //! Common parts of sessions and administrators' tokens.
-
-ghost use Rattle.std.specs.Prelude.{◌≡◌};
 ghost use Rattle.sm_history.specs.declared.query.Query.TheVariants.{Version};
 ghost use Rattle.sm_history.specs.Promises.{Queried};
 ghost use Rattle.sm_history.specs.Tokens.{Knows};

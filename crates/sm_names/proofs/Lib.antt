@@ -3,4 +3,3 @@ pub mod Tracked
 pub mod WatchLemmas
 pub mod TrackedWatches
 pub mod Others
-pub mod Listed

@@ -15,7 +15,7 @@ use Rattle.sm_history.specs.Sound.{IsFresh, IsOwned}
 use Rattle.sm_history.proofs.Sound.{is_new}
 use Rattle.sm_history.proofs.AfterNames.{service_connects}
 use Rattle.sm_history.proofs.AfterWatches.{watches_connects}
-use Rattle.sm_names.specs.declared.row.NameRow.{NameRow}
+use Rattle.sm_history.specs.declared.named_row.NamedRow.{NamedRow}
 use Rattle.sm_names.specs.declared.names.Names.{Names}
 use Rattle.sm_names.specs.Rows.{TracksRows}
 use Rattle.sm_names.specs.Watching.{TracksList}
@@ -31,7 +31,7 @@ is_heard (Watches w) = true
 is_heard (Unwatches w) = true
 is_heard x = false
 
-pub same_rows : (x : Effect) (d : Effects) (rows : List NameRow)
+pub same_rows : (x : Effect) (d : Effects) (rows : List NamedRow)
     → ((name : List ℕ) → service_at (x ∷ d) name ≡ service_at d name)
     → TracksRows d rows → TracksRows (x ∷ d) rows
 same_rows x d rows same tr = record { services = λ name. tr.services name ∙ sym (same name); rises = tr.rises }

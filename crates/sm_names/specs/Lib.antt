@@ -1,4 +1,3 @@
 pub mod Rows
 pub mod Watching
 pub mod Tracking
-pub mod Listed

@@ -4,7 +4,6 @@
 #![tactic(auto)]
 
 mod names;
-mod row;
 mod services;
 mod watch_list;
 mod watch_order;

@@ -1,6 +1,6 @@
 //! Services under their names.
 
-ghost use Rattle.std.specs.Prelude.{◌≡◌, ◌≤◌, ◌<◌, ◌+◌, ℕ, true, [], ◌∷◌, length, nat_lt, IfOk, OnOk, MatchResult};
+ghost use Rattle.std.specs.Prelude.{◌≡◌, ◌≤◌, ◌<◌, ◌+◌, true, [], ◌∷◌, length, nat_lt, IfOk, OnOk, MatchResult};
 ghost use Rattle.std.specs.Vec.{vec_capacity};
 ghost use Rattle.std.specs.List.Sorted.{IsSearchInRange};
 ghost use Rattle.sm_history.specs.declared.effect.Effect.TheVariants.{Adds, Removes, Dies};
@@ -9,11 +9,9 @@ ghost use Rattle.sm_history.specs.Clients.{is_live};
 ghost use Rattle.sm_history.specs.Services.{service_at, current_names};
 ghost use Rattle.sm_history.specs.Queries.{names_by_mask};
 ghost use Rattle.sm_history.specs.Rising.{IsRising};
-ghost use Rattle.sm_history.specs.Tables.{TracksNames as TracksNamed};
-ghost use Rattle.sm_names.specs.Listed.{named, named_rows};
-ghost use Rattle.sm_names.specs.Rows.{row_names, IsPlace, IsGap, TracksRows, matching_names};
+ghost use Rattle.sm_history.specs.Tables.{names_of, IsNamePlace, IsNameGap};
+ghost use Rattle.sm_names.specs.Rows.{TracksRows, matching_names};
 
-use crate::row::NameRow;
 use sm_history::{NamedRow, Service};
 use sm_kinds::Name;
 use std::alloc::{AllocError, Global};
@@ -21,53 +19,33 @@ use std::alloc::{AllocError, Global};
 /// The names that have a service, in rising byte order.
 #[derive(Drop)]
 pub struct Services {
-    rows: Vec<NameRow>,
+    rows: Vec<NamedRow>,
 }
 
 /// Returns the index of a name's row, or the index at which it would be inserted.
-fn place_of(rows: &[NameRow], name: &[u8]) -> Result<usize, usize>
+fn place_of(rows: &[NamedRow], name: &[u8]) -> Result<usize, usize>
     ensures within { IsSearchInRange result (length rows.now) }
-    ensures place { IsRising (row_names rows.now)
-        → MatchResult result (IsPlace rows.now name.now) (IsGap rows.now name.now) }
+    ensures place { IsRising (names_of rows.now)
+        → MatchResult result (IsNamePlace rows.now name.now) (IsNameGap rows.now name.now) }
 {
     rows.binary_search_by(|row| row.name.bytes().cmp(name))
 }
 
 /// Copies rows; their names are shared. Returns an error if an allocation fails.
-fn copies_of(alloc: Global, rows: &[NameRow]) -> Result<Vec<NameRow>, AllocError>
+fn copies_of(alloc: Global, rows: &[NamedRow]) -> Result<Vec<NamedRow>, AllocError>
     ensures { IfOk result (λ v. v.items ≡ rows.now) }
 {
     let mut copies = Vec::with_capacity(alloc, rows.len())?;
     for row in rows {
         let name = row.name.clone()?;
         let service = row.service;
-        copies.push(NameRow { name, service })?;
+        copies.push(NamedRow { name, service })?;
     }
     Ok(copies)
 }
 
-/// Copies rows for a segment; their names are shared. Returns an error if an allocation fails.
-fn listed_of(alloc: Global, rows: &[NameRow]) -> Result<Vec<NamedRow>, AllocError>
-    ensures { IfOk result (λ v. v.items ≡ named_rows rows.now) }
-{
-    let mut list = Vec::with_capacity(alloc, rows.len())?;
-    for row in rows {
-        list.push(listed(row)?)?;
-    }
-    Ok(list)
-}
-
-/// Copies a row for a segment; its name is shared. Returns an error if an allocation fails.
-fn listed(row: &NameRow) -> Result<NamedRow, AllocError>
-    ensures { IfOk result (λ r. r ≡ named row.now) }
-{
-    let name = row.name.clone()?;
-    let service = row.service;
-    Ok(NamedRow { name, service })
-}
-
 /// Returns the names whose dump flags share a bit with a mask.
-fn matching(alloc: Global, rows: &[NameRow], mask: u32) -> Result<Vec<Name>, AllocError>
+fn matching(alloc: Global, rows: &[NamedRow], mask: u32) -> Result<Vec<Name>, AllocError>
     ensures { IfOk result (λ v. v.items ≡ matching_names mask rows.now) }
 {
     let mut names = Vec::with_capacity(alloc, rows.len())?;
@@ -109,9 +87,9 @@ impl Services {
     ///
     /// An error if an allocation fails.
     pub fn listed(&self, alloc: Global) -> Result<Vec<NamedRow>, AllocError>
-        ensures { IfOk result (λ v. (d : Effects) → TracksRows d self.now.rows.items → TracksNamed d v.items) }
+        ensures { IfOk result (λ v. (d : Effects) → TracksRows d self.now.rows.items → TracksRows d v.items) }
     {
-        listed_of(alloc, &self.rows)
+        copies_of(alloc, &self.rows)
     }
 
     /// Makes room for `n` more names.
@@ -179,7 +157,7 @@ impl Services {
                 self.rows[i].service = service;
             }
             Err(i) => {
-                let row = NameRow { name, service };
+                let row = NamedRow { name, service };
                 match self.rows.insert(i, row) {
                     Ok(()) => {}
                     Err(_) => unreachable!(),

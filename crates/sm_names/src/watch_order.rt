@@ -1,6 +1,6 @@
 //! Watches by age.
 
-ghost use Rattle.std.specs.Prelude.{◌≡◌, ◌≤◌, ◌<◌, ◌+◌, ℕ, true, [], ◌∷◌, length, nat_lt, IfOk, OnOk};
+ghost use Rattle.std.specs.Prelude.{◌≡◌, ◌≤◌, ◌<◌, ◌+◌, true, [], ◌∷◌, length, nat_lt, IfOk, OnOk};
 ghost use Rattle.std.specs.Vec.{vec_capacity};
 ghost use Rattle.sm_history.specs.declared.effect.Effect.TheVariants.{Watches, Unwatches, Dies};
 ghost use Rattle.sm_history.specs.Effects.{Effects};

@@ -1,7 +1,5 @@
 //! Whole runs: a check, a script and a session.
 
-ghost use Rattle.std.specs.Prelude.{◌≡◌};
-
 use crate::outcome::same_text;
 use sm_check::check;
 use sm_engine::{Counted, Fault};

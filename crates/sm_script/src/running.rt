@@ -1,6 +1,6 @@
 //! Runs scripts.
 
-ghost use Rattle.std.specs.Prelude.{◌≡◌, ◌<◌, ◌≤◌, ◌+◌, ◌-◌, min, [], OnOk, IfOk, MatchResult};
+ghost use Rattle.std.specs.Prelude.{◌≡◌, ◌<◌, ◌≤◌, ◌+◌, ◌-◌, min, [], OnOk, MatchResult};
 ghost use Rattle.std.specs.Io.KnownBytes.{IsAtEnd};
 ghost use Rattle.sm_history.specs.Lawful.{MayOpen};
 ghost use Rattle.sm_engine.specs.Counts.{failures_of, calls_of, inner_of, greatest_count};

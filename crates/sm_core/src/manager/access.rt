@@ -1,6 +1,6 @@
 //! Access checks: each check of an allow rule, as in AOSP's `Access.cpp`. All rule checks go through these functions.
 
-ghost use Rattle.std.specs.Prelude.{◌≡◌, ◌⊎◌, ℕ, List, [], ◌∷◌, ◌++◌, None, Some, option_map, IfOk, MatchResult};
+ghost use Rattle.std.specs.Prelude.{◌≡◌, ◌⊎◌, [], ◌∷◌, ◌++◌, None, Some, option_map, IfOk, MatchResult};
 ghost use Rattle.sm_kinds.specs.Contexts.{type_of};
 ghost use Rattle.sm_kinds.specs.declared.class.Class.TheVariants.{Binder, ServiceManager};
 ghost use Rattle.sm_policy.specs.Policy.{allowed, decision, type_index};

@@ -3,8 +3,8 @@
 ghost use Rattle.std.specs.Prelude.{◌≡◌, true, false, length, IfOk, IfErr, MatchResult};
 ghost use Rattle.sm_history.specs.declared.query.Query.TheVariants.{List as ListNames};
 ghost use Rattle.sm_history.specs.declared.reply.Reply.TheVariants.{Looked};
-ghost use Rattle.sm_history.specs.Clients.{is_live, policy_at, version_at};
-ghost use Rattle.sm_history.specs.Histories.{length_of, client_of};
+ghost use Rattle.sm_history.specs.Clients.{is_live, version_at};
+ghost use Rattle.sm_history.specs.Histories.{length_of};
 ghost use Rattle.sm_history.specs.Queries.{names_by_mask, is_their_query, query_checks, checks_of_query, found_out};
 ghost use Rattle.sm_core.specs.Managed.{effects_in, moment_in, look_leaves};
 ghost use Rattle.sm_core.specs.Judging.{AllPass, Halts, IsAskerStop};

@@ -2,7 +2,7 @@
 
 ghost use Rattle.std.specs.Prelude.{◌≡◌, ◌==◌, true, false, [], ◌∷◌, Some, MatchOption, MatchResult};
 ghost use Rattle.std.specs.List.{list_all};
-ghost use Rattle.sm_history.specs.Clients.{is_live, policy_at};
+ghost use Rattle.sm_history.specs.Clients.{is_live};
 ghost use Rattle.sm_history.specs.Holdings.{fits_handles, given_to, handed};
 ghost use Rattle.sm_history.specs.Services.{watchers_at};
 ghost use Rattle.sm_history.specs.declared.outcome.Outcome.TheVariants.{Added, Watched};

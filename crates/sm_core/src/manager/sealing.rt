@@ -1,7 +1,6 @@
 //! Seals.
 
-ghost use Rattle.std.specs.Prelude.{◌≡◌, ◌≢◌, ◌≤◌, ◌+◌, ◌⊎◌, [], IfOk, IfErr, MatchResult};
-ghost use Rattle.sm_history.specs.declared.by.By.{By};
+ghost use Rattle.std.specs.Prelude.{◌≡◌, ◌≢◌, ◌+◌, ◌⊎◌, [], IfOk, IfErr, MatchResult};
 ghost use Rattle.sm_history.specs.declared.refusal.Refusal.TheVariants.{Memory, Empty as IsEmpty};
 ghost use Rattle.sm_history.specs.Segments.{rows_of, sealed};
 ghost use Rattle.sm_history.specs.BookOrder.{sealed_book};

@@ -5,7 +5,7 @@ ghost use Rattle.sm_history.specs.declared.event.Event.TheVariants.{Unregister};
 ghost use Rattle.sm_history.specs.declared.failed_check.FailedCheck.TheVariants.{Unmet};
 ghost use Rattle.sm_history.specs.declared.failed_check.EarlyAnswer.TheVariants.{Refused};
 ghost use Rattle.sm_history.specs.declared.refusal.Refusal.TheVariants.{Exception as Excepted};
-ghost use Rattle.sm_history.specs.Clients.{is_live, policy_at};
+ghost use Rattle.sm_history.specs.Clients.{is_live};
 ghost use Rattle.sm_history.specs.Holdings.{is_in_use};
 ghost use Rattle.sm_core.specs.Tables.{client_row};
 ghost use Rattle.sm_core.specs.Judging.{AllPass, Halts, Judged, removal_checks};

@@ -3,7 +3,7 @@
 ghost use Rattle.std.specs.Prelude.{◌≡◌, ◌≤◌, true, length, count_by, nat_lt, MatchResult};
 ghost use Rattle.std.specs.List.{list_any};
 ghost use Rattle.sm_history.specs.declared.event.Event.TheVariants.{Unwatch, Watch as WatchName};
-ghost use Rattle.sm_history.specs.Clients.{is_live, policy_at};
+ghost use Rattle.sm_history.specs.Clients.{is_live};
 ghost use Rattle.sm_history.specs.Histories.{watch};
 ghost use Rattle.sm_history.specs.Services.{same_watch, watches_at};
 ghost use Rattle.sm_history.specs.declared.limits.TheConstants.{MOST_WATCHES};

@@ -1,4 +1,4 @@
-use Rattle.std.proofs.Common.{◌∙◌, subst, sym}
+use Rattle.std.proofs.Common.{subst, sym}
 use Rattle.sm_history.specs.Books.{Book}
 use Rattle.sm_history.specs.BookOrder.{Begins}
 use Rattle.sm_history.proofs.BookOrder.{book_behind}

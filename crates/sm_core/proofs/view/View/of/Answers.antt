@@ -4,7 +4,7 @@ use Rattle.sm_core.specs.Journals.{Written}
 use Rattle.sm_core.specs.Viewing.{Viewed, StandPrincipals}
 use Rattle.sm_core.specs.declared.principals.Principals.{Principals}
 use Rattle.sm_names.specs.Rows.{TracksRows}
-use Rattle.sm_names.specs.declared.row.NameRow.{NameRow}
+use Rattle.sm_history.specs.declared.named_row.NamedRow.{NamedRow}
 use Rattle.sm_names.specs.declared.services.Services.{Services}
 use Rattle.sm_core.proofs.Viewing.{viewed_now}
 use Rattle.sm_core.proofs.Small.{small_length}
@@ -27,5 +27,5 @@ invariant_of-result c =
     c.length.ensures
     (λ d s. subst (λ (p : Principals). StandPrincipals d p) (sym c.in_ok-principals.ensures.ok)
     (c.in_ok-of.ensures.stand d s))
-    (λ d s. subst (λ (rs : List NameRow). TracksRows d rs) (sym rows) (c.services.ensures d s.names))
+    (λ d s. subst (λ (rs : List NamedRow). TracksRows d rs) (sym rows) (c.services.ensures d s.names))
     c.in_ok-turn_counts.ensures)

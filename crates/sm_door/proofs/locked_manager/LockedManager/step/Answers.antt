@@ -1,6 +1,5 @@
-use Rattle.std.proofs.Common.{rules, ◌≡◌, ◌∙◌, List, subst, sym}
+use Rattle.std.proofs.Common.{◌≡◌, ◌∙◌, subst, sym}
 use Rattle.sm_history.specs.Books.{Book}
-use Rattle.sm_history.specs.declared.records.Record.{Record}
 use Rattle.sm_core.specs.Managed.{ring_after, step_leaves}
 use Rattle.sm_history.specs.Steps.{Steps}
 use Rattle.sm_door.specs.Locked.{Locked}

@@ -1,6 +1,6 @@
 use Rattle.std.proofs.Common.{List, ℕ, length, sym, ap, ◌∙◌}
 use Rattle.std.proofs.lemmas.List.{length-map}
-use Rattle.sm_names.specs.declared.row.NameRow.{NameRow}
+use Rattle.sm_history.specs.declared.named_row.NamedRow.{NamedRow}
 use Rattle.sm_names.proofs.Tracked.{names_are}
 use Rattle.sm_names.proofs.services.Services.len.Goals as goal
 
@@ -9,5 +9,5 @@ returns c d tr =
     let rows = c.args.self.now.rows in
     c.len.ensures
     ∙ rows.ok.0
-    ∙ sym (length-map rows.items (λ (r : NameRow). r.name))
+    ∙ sym (length-map rows.items (λ (r : NamedRow). r.name))
     ∙ ap (length {A = List ℕ}) (names_are d rows.items tr)

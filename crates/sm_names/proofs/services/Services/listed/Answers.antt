@@ -1,10 +1,10 @@
-use Rattle.std.proofs.Common.{ap, ◌∙◌}
+use Rattle.std.proofs.Common.{◌∙◌, sym, subst, List}
 use Rattle.std.proofs.lemmas.Result.{IfOk-weaker}
-use Rattle.sm_names.specs.Listed.{named_rows}
-use Rattle.sm_names.proofs.Listed.{tracks_listed}
+use Rattle.sm_history.specs.declared.named_row.NamedRow.{NamedRow}
+use Rattle.sm_names.specs.Rows.{TracksRows}
 use Rattle.sm_names.proofs.services.Services.listed.Goals as goal
 
 pub returns : goal.returns
-returns c = IfOk-weaker c.listed_of.result _ _
-    (λ v is d tr. tracks_listed d c.args.self.now.rows.items v.items
-    (is ∙ ap named_rows c.deref.ensures.value) tr) c.listed_of.ensures
+returns c = IfOk-weaker c.copies_of.result _ _
+    (λ v is d tr. subst (λ (l : List NamedRow). TracksRows d l) (sym (is ∙ c.deref.ensures.value)) tr)
+    c.copies_of.ensures
