@@ -40,6 +40,7 @@ use Rattle.sm_policy.specs.contracts.prepared.Prepared as Prepared
 use Rattle.sm_history.specs.contracts.tables.Tables as Tables
 use Rattle.sm_history.specs.contracts.rows.Rows as Rows
 use Rattle.sm_history.specs.contracts.rows.Rows.TheInside as RowsInside
+use Rattle.sm_core.specs.contracts.principals.Principals as Principals
 use Rattle.sm_core.specs.contracts.state.State as State
 use Rattle.sm_core.specs.contracts.manager.Manager as Manager
 use Rattle.sm_core.specs.contracts.manager.Manager.TheInside as ManagerInside
@@ -157,24 +158,15 @@ journal_send =
       ),
     )))
 
+principals_send : IsSend Principals.the_field.row
+principals_send =
+    struct_send (struct.shape Principals.the_type)
+    (Process.the_field_send, (prepared_send, (u64_send, (Vec-send LiveClient.the_row client_send, tt))))
+
 state_send : IsSend State.the_field.row
 state_send =
-    struct_send (struct.shape State.the_type) (
-      Process.the_field_send,
-      (
-        prepared_send,
-        (
-          u64_send,
-          (
-            u64_send,
-            (
-              Vec-send LiveClient.the_row client_send,
-              (Names.the_field_send, (Grants.the_field_send, (Inboxes.the_field_send, tt))),
-            ),
-          ),
-        ),
-      ),
-    )
+    struct_send (struct.shape State.the_type)
+    (principals_send, (u64_send, (Names.the_field_send, (Grants.the_field_send, (Inboxes.the_field_send, tt)))))
 
 pub manager_send : IsSend Manager.the_row
 manager_send =

@@ -90,7 +90,7 @@ next_followed d (x ∷ xs) m =
 pub numbers_after : (places : ℕ) (h : History) (s : State) (e : Entry) (xs : List Effect) → IsLawful places h
     → Stands (effects_of h) s → verdict places h e.by e.turn e.event ≡ Done e.outcome → HasSoundPolicy e.event
     → followed (effects_of h) xs ≡ after_event (effects_of h) (client_of e.by) e.event → MayAllApart (effects_of h) xs
-    → (s.version + sets_in xs < GREATEST) × (s.next + connects_in xs < GREATEST)
+    → (s.principals.version + sets_in xs < GREATEST) × (s.next + connects_in xs < GREATEST)
 numbers_after places h s e xs lawful stands done sound is may =
     let d = effects_of h in
     let lawful' : IsLawful places (entered e h) = inr (lawful, done, sound) in
@@ -101,6 +101,6 @@ numbers_after places h s e xs lawful stands done sound is may =
     sym (ap version_at is) ∙ version_followed d xs may in
     let further : next_client (after_event d (client_of e.by) e.event) ≡ next_client d + connects_in xs =
     sym (ap next_client is) ∙ next_followed d xs may in
-    let has = stands.version in
+    let has = stands.principals.version in
     let comes = stands.next in
     (omega (arith, fits, version, more, has), omega (arith, fits, next, further, comes))

@@ -31,9 +31,8 @@ use Rattle.sm_core.specs.declared.client.LiveClient.{LiveClient}
 use Rattle.sm_core.specs.declared.principals.Principals.{Principals}
 use Rattle.sm_core.specs.declared.process.Process.{Process}
 use Rattle.sm_core.specs.declared.state.State.{State}
-use Rattle.sm_core.specs.Stands.{Stands}
+use Rattle.sm_core.specs.Stands.{Stands, StandPrincipals}
 use Rattle.sm_core.specs.Tables.{process_under, process_at, client_row, client_rows}
-use Rattle.sm_core.specs.Viewing.{StandPrincipals}
 
 lt_test : (a : ℕ) → 0 < a → nat_lt 0 a ≡ true
 lt_test a h = grind (arith, nat_tests)
@@ -120,11 +119,8 @@ principals_alike d e p a s = record {
 pub stands_alike : (d e : Effects) (s : State) → Agree d e → Sound e → Stands d s → Stands e s
 stands_alike d e s a sound t = record {
   sound = sound;
-  manager = t.manager ∙ process_alike d e (manager_at d) a ∙ ap (process_at e) a.manager;
-  policy = t.policy ∙ a.policy;
-  version = t.version ∙ a.version;
+  principals = principals_alike d e s.principals a t.principals;
   next = t.next ∙ ap (λ (n : ℕ). n + 1) a.clients;
-  clients = t.clients ∙ rows_alike d e a;
   names = names_alike d e s.names a t.names;
   grants = grants_alike d e s.grants.rows.items a sound t.grants;
   inboxes = inboxes_alike d e s.inboxes a sound t.inboxes;

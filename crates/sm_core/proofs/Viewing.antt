@@ -18,6 +18,7 @@ use Rattle.sm_history.specs.declared.by.By.{By}
 use Rattle.sm_history.specs.declared.limits.TheConstants.{GREATEST}
 use Rattle.sm_history.proofs.Fits.{fits_any}
 use Rattle.sm_history.proofs.Induction.{sound_lawful}
+use Rattle.sm_history.proofs.HistoryLaws.{turns_small}
 use Rattle.sm_history.proofs.NumbersFit.{numbers_fit, sealed_lawful, sealed_fits}
 use Rattle.sm_history.proofs.RowsSound.{sim_rows}
 use Rattle.sm_history.proofs.LawfulLaws.{turn_more, turn_same}
@@ -27,19 +28,20 @@ use Rattle.sm_core.specs.declared.state.State.{State}
 use Rattle.sm_core.specs.declared.turns.Turns.{Turns}
 use Rattle.sm_core.specs.Counting.{change_count}
 use Rattle.sm_core.specs.Kept.{Kept}
-use Rattle.sm_core.specs.Stands.{Stands}
+use Rattle.sm_core.specs.Stands.{StandPrincipals, sets_in}
 use Rattle.sm_history.proofs.AfterNames.{service_connects}
 use Rattle.sm_history.proofs.Counted.{apart_sound}
 use Rattle.sm_history.specs.declared.named_row.NamedRow.{NamedRow}
 use Rattle.sm_names.specs.Rows.{TracksRows}
+use Rattle.sm_names.specs.Tracking.{TracksNames}
 use Rattle.sm_names.proofs.Others.{same_rows}
 use Rattle.sm_core.specs.declared.principals.Principals.{Principals}
 use Rattle.sm_core.proofs.StandsAlike.{principals_alike, services_alike}
-use Rattle.sm_core.specs.Viewing.{IsComing, StandPrincipals, Viewed, counted_in, moves_principals, moves_services}
+use Rattle.sm_core.specs.Viewing.{IsComing, Viewed, counted_in, moves_principals, moves_services}
 
 -- ---- effects that a part doesn't hear of
 
-same_principals : (x : Effect) (d : Effects) (p : Principals) → moves_principals x ≡ false → StandPrincipals d p
+pub same_principals : (x : Effect) (d : Effects) (p : Principals) → moves_principals x ≡ false → StandPrincipals d p
     → StandPrincipals (x ∷ d) p
 same_principals (Opens who) d p h s = absurd (true≢false h)
 same_principals (Sets policy) d p h s = absurd (true≢false h)
@@ -62,6 +64,16 @@ same_principals (Delivers c x) d p h s =
     record { manager = s.manager; policy = s.policy; version = s.version; clients = s.clients }
 same_principals (Takes c) d p h s =
     record { manager = s.manager; policy = s.policy; version = s.version; clients = s.clients }
+
+-- Where only the room for more clients is another, they stay.
+pub same_but_room : (d : Effects) (p q : Principals) → q.manager ≡ p.manager → q.policy ≡ p.policy
+    → q.version ≡ p.version → q.clients.items ≡ p.clients.items → StandPrincipals d p → StandPrincipals d q
+same_but_room d p q manager policy version clients s = record {
+  manager = manager ∙ s.manager;
+  policy = policy ∙ s.policy;
+  version = version ∙ s.version;
+  clients = clients ∙ s.clients;
+}
 
 pub same_services : (x : Effect) (d : Effects) (rows : List NamedRow) → moves_services x ≡ false → Sound d
     → MayFollowApart d x → TracksRows d rows → TracksRows (x ∷ d) rows
@@ -127,8 +139,8 @@ gone P d xs left is g = subst P (ap (followed g.0) (sym is) ∙ g.4) g.2
 pub viewed_now : (places : ℕ) (h : History) (turns : Turns) (s : State) (len : ℕ) (principals : Principals)
     (services : Services) (base : Turns) (since : List TurnRow)
     → Kept places h turns s [] → len ≡ length_of h
-    → ((d : Effects) → Stands d s → StandPrincipals d principals)
-    → ((d : Effects) → Stands d s → TracksRows d services.rows.items)
+    → ((d : Effects) → StandPrincipals d s.principals → StandPrincipals d principals)
+    → ((d : Effects) → TracksNames d s.names → TracksRows d services.rows.items)
     → ((b : By) → counted_in base since b ≡ change_count turns b)
     → Viewed places h len principals services base since
 viewed_now places h turns s len principals services base since k is asks named counts = record {
@@ -136,38 +148,41 @@ viewed_now places h turns s len principals services base since k is asks named c
   fits = k.fits;
   few = k.few;
   length_is = is;
-  asks = asks (effects_of h) k.stands;
-  named = named (effects_of h) k.stands;
+  asks = asks (effects_of h) k.stands.principals;
+  named = named (effects_of h) k.stands.names;
   turns = λ by. counts by ∙ k.turns_are by;
 }
 
 -- The parts of a view of what there is once an event is committed.
-pub viewed_more : (places : ℕ) (h : History) (turns : Turns) (s : State) (r : Ready) (len : ℕ)
+pub viewed_more : (places : ℕ) (h : History) (turns : Turns) (r : Ready) (len : ℕ)
     (principals principals' : Principals) (services services' : Services) (base base' : Turns)
     (since since' : List TurnRow)
-    → Kept places h turns s [] → IsComing places h s.version r → Viewed places h len principals services base since
-    → ((d : Effects) → Stands d s → StandPrincipals d principals → MayAllApart d r.effects.items
+    → ((b : By) → change_count turns b ≡ turn_of h b) → IsComing places h r
+    → Viewed places h len principals services base since
+    → ((d : Effects) → Sound d → StandPrincipals d principals → MayAllApart d r.effects.items
     → StandPrincipals (followed d r.effects.items) principals')
     → ((d : Effects) → Sound d → TracksRows d services.rows.items → MayAllApart d r.effects.items
     → TracksRows (followed d r.effects.items) services'.rows.items)
     → ((b : By) → counted_in base' since' b
     ≡ (if is_same b r.entry.by then change_count turns b + 1 else change_count turns b))
     → Viewed places (entered r.entry h) (len + 1) principals' services' base' since'
-viewed_more places h turns s r len principals principals' services services' base base' since
-    since' k coming v asks named
-    counts = let e = r.entry in let d = effects_of h in record {
-      lawful = inr (k.lawful, coming.done, coming.sound);
-      fits = fits_any places h e.by e.turn e.event e.outcome k.stands.sound k.fits coming.done;
-      few = k.few;
+viewed_more places h turns r len principals principals' services services' base base' since since' turns_are
+    coming v asks named counts =
+    let e = r.entry in
+    let d = effects_of h in
+    let sound = sound_lawful places h v.lawful in record {
+      lawful = inr (v.lawful, coming.done, coming.sound);
+      fits = fits_any places h e.by e.turn e.event e.outcome sound v.fits coming.done;
+      few = v.few;
       length_is = let was = v.length_is in omega (arith, was);
-      asks = subst (λ (x : Effects). StandPrincipals x principals') coming.effects (asks d k.stands v.asks coming.may);
+      asks = subst (λ (x : Effects). StandPrincipals x principals') coming.effects (asks d sound v.asks coming.may);
       named = subst (λ (x : Effects). TracksRows x services'.rows.items) coming.effects
-          (named d k.stands.sound v.named coming.may);
+          (named d sound v.named coming.may);
       turns = λ by. counts by
           ∙ elim (is_same by e.by) as (λ t. is_same by e.by ≡ t →
           (if t then change_count turns by + 1 else change_count turns by) ≡ turn_of (entered e h) by) [
-            | true ↦ λ q. ap (λ (n : ℕ). n + 1) (k.turns_are by) ∙ sym (turn_same e h by q)
-            | false ↦ λ q. k.turns_are by ∙ sym (turn_more e h by q)
+            | true ↦ λ q. ap (λ (n : ℕ). n + 1) (turns_are by) ∙ sym (turn_same e h by q)
+            | false ↦ λ q. turns_are by ∙ sym (turn_more e h by q)
           ] refl;
     }
 
@@ -197,3 +212,20 @@ viewed_length places h len principals services base since v =
     let fits = (numbers_fit places h v.lawful).lengths in
     let is = v.length_is in
     omega (arith, fits, is)
+
+-- The counts of changes are, too.
+pub viewed_turns : (places : ℕ) (h : History) (len : ℕ) (principals : Principals) (services : Services) (base : Turns)
+    (since : List TurnRow) (by : By) → Viewed places h len principals services base since → turn_of h by < GREATEST
+viewed_turns places h len principals services base since by v =
+    let few = turns_small places h v.lawful by in
+    let small = (numbers_fit places h v.lawful).lengths in
+    omega (arith, few, small)
+
+-- The version of a view and the policies that an event sets are below the greatest number.
+pub viewed_version : (places : ℕ) (h : History) (len : ℕ) (principals : Principals) (services : Services)
+    (base : Turns) (since : List TurnRow) (r : Ready) → Viewed places h len principals services base since
+    → IsComing places h r → principals.version + sets_in r.effects.items < GREATEST
+viewed_version places h len principals services base since r v coming =
+    let is = v.asks.version in
+    let small = coming.numbers in
+    omega (arith, is, small)

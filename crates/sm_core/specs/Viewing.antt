@@ -1,21 +1,11 @@
 -- Views and their parts.
-use Rattle.std.specs.Prelude.{ℕ, ◌≡◌, ◌≤◌, ◌<◌, ◌+◌, ◌⊎◌, Bool, true, false, List, Option, Some, None, filter, find}
+use Rattle.std.specs.Prelude.{ℕ, ◌≡◌, ◌≤◌, ◌<◌, ◌+◌, Bool, true, false, List, Option, Some, None, filter, find}
 use Rattle.std.specs.Prelude.{not, option_map, unwrap_or}
-use Rattle.sm_kinds.specs.Contexts.{type_of}
-use Rattle.sm_kinds.specs.declared.class.Class.{Class}
-use Rattle.sm_kinds.specs.declared.class.Class.TheVariants.{Binder, ServiceManager}
-use Rattle.sm_kinds.specs.declared.identity.Identity.{Identity}
-use Rattle.sm_kinds.specs.declared.perms.Perms.{Perms}
-use Rattle.sm_policy.specs.Policy.{allowed}
-use Rattle.sm_history.specs.Checks.{calling, listing, rule_denial}
-use Rattle.sm_history.specs.declared.refusal.Refusal.{Refusal}
-use Rattle.sm_history.specs.declared.refusal.Refusal.TheVariants.{Denied, Memory}
 use Rattle.sm_history.specs.declared.by.By.{By}
 use Rattle.sm_history.specs.declared.entry.Entry.{Entry}
 use Rattle.sm_history.specs.declared.effect.Effect.{Effect}
 use Rattle.sm_history.specs.declared.effect.Effect.TheVariants.{Opens, Sets, Connects, Dies, Adds, Removes, Resumes}
-use Rattle.sm_history.specs.Effects.{Effects}
-use Rattle.sm_history.specs.Clients.{policy_at, version_at, manager_at}
+use Rattle.sm_history.specs.Clients.{version_at}
 use Rattle.sm_history.specs.declared.reply.Reply.TheVariants.{Done}
 use Rattle.sm_history.specs.Following.{MayAllApart, followed}
 use Rattle.sm_history.specs.Histories.{History, after_event, client_of, effects_of, entered, length_of, turn_of}
@@ -30,21 +20,13 @@ use Rattle.sm_core.specs.declared.principals.Principals.{Principals}
 use Rattle.sm_core.specs.declared.ready.Ready.{Ready}
 use Rattle.sm_core.specs.declared.turns.Turns.{Turns}
 use Rattle.sm_core.specs.Counting.{change_count}
-use Rattle.sm_core.specs.Stands.{sets_in}
+use Rattle.sm_core.specs.Stands.{StandPrincipals, sets_in}
 use Rattle.sm_history.specs.declared.limits.TheConstants.{GREATEST}
-use Rattle.sm_core.specs.Tables.{process_at, client_rows}
 
 -- This is a history with the next change, if there is one.
 abbrev pub with_next : {S : Type 0} → (S → Entry) → Option S → History → History
 with_next value None h = h
 with_next value (Some s) h = entered (value s) h
-
--- The manager's process and those of the live clients, under the policy in force, are those of the effects.
-pub record StandPrincipals (d : Effects) (p : Principals) : Type 0 where
-  pub manager : p.manager ≡ process_at d (manager_at d)
-  pub policy : p.policy ≡ policy_at d
-  pub version : p.version ≡ version_at d
-  pub clients : p.clients.items ≡ client_rows d
 
 -- An effect changes the processes or the policy.
 abbrev pub moves_principals : Effect → Bool
@@ -61,29 +43,6 @@ moves_services (Adds name s) = true
 moves_services (Removes name) = true
 moves_services (Dies c) = true
 moves_services _ = false
-
--- A rule grants a process a permission on the manager's context.
-abbrev pub IsGiven : Effects → Identity → Class → Perms → Type 0
-IsGiven d who class perm =
-    allowed (policy_at d) (type_of who.context) (type_of (manager_at d).context) class perm ≡ true
-
--- No rule does, and that is the denial; or an allocation failed.
-abbrev pub IsMissing : Effects → Identity → Class → Perms → Refusal → Type 0
-IsMissing d who class perm refusal =
-    (refusal ≡ Memory)
-    ⊎ ((allowed (policy_at d) (type_of who.context) (type_of (manager_at d).context) class perm ≡ false)
-    × (refusal ≡ Denied (rule_denial class perm who (manager_at d).context)))
-
--- A process may list the names.
-pub record MayList (d : Effects) (who : Identity) : Type 0 where
-  pub calls : IsGiven d who Binder calling
-  pub lists : IsGiven d who ServiceManager listing
-
--- This is the denial of the first of the two rules that is missing.
-abbrev pub MayNotList : Effects → Identity → Refusal → Type 0
-MayNotList d who refusal =
-    IsMissing d who Binder calling refusal
-    ⊎ (IsGiven d who Binder calling × IsMissing d who ServiceManager listing refusal)
 
 -- The number in an actor's row, where rows have one of that actor.
 abbrev pub listed_turns : List TurnRow → By → Option ℕ
@@ -108,11 +67,11 @@ pub record Viewed (places : ℕ) (h : History) (length : ℕ) (principals : Prin
   pub named : TracksRows (effects_of h) services.rows.items
   pub turns : (by : By) → counted_in base since by ≡ turn_of h by
 
--- What is asked of an event that is ready, after this history and with a policy of this number in force.
-pub record IsComing (places : ℕ) (h : History) (version : ℕ) (r : Ready) : Type 0 where
+-- What is asked of an event that is ready, after this history.
+pub record IsComing (places : ℕ) (h : History) (r : Ready) : Type 0 where
   pub done : verdict places h r.entry.by r.entry.turn r.entry.event ≡ Done r.entry.outcome
   pub sound : HasSoundPolicy r.entry.event
   pub effects : followed (effects_of h) r.effects.items
       ≡ after_event (effects_of h) (client_of r.entry.by) r.entry.event
   pub may : MayAllApart (effects_of h) r.effects.items
-  pub numbers : version + sets_in r.effects.items < GREATEST
+  pub numbers : version_at (effects_of h) + sets_in r.effects.items < GREATEST

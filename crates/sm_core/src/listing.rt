@@ -61,16 +61,17 @@ fn listed_clients(
 pub fn tables_of(alloc: Global, state: &State) -> Result<Tables, AllocError>
     ensures { IfOk result (λ t. (d : Effects) → Stands d state.now → TracksTables d t) }
 {
-    let who = state.manager.who.clone()?;
-    let policy = state.policy.share()?;
-    let live = listed_clients(alloc, &state.grants, &state.inboxes, &state.clients)?;
+    let principals = &state.principals;
+    let who = principals.manager.who.clone()?;
+    let policy = principals.policy.share()?;
+    let live = listed_clients(alloc, &state.grants, &state.inboxes, &principals.clients)?;
     let names = state.names.services().listed(alloc)?;
     let watches = state.names.listed_watches(alloc)?;
     Ok(Tables {
         alloc,
         manager: Some(who),
         policy: Some(policy),
-        version: state.version,
+        version: principals.version,
         clients: state.next.saturating_sub(1),
         live,
         names,

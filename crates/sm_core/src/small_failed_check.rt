@@ -43,6 +43,13 @@ pub enum Stored {
     Whole(Box<FailedCheck>),
 }
 
+/// Returns the failed check for a failed allocation.
+pub fn wanted() -> SmallFailedCheck
+    ensures { result ≡ spec.wanted }
+{
+    SmallFailedCheck::unmet(Plain::Memory)
+}
+
 /// Why a request makes no change. Contracts see the failed check. Each judgement passes it on, so it is small: only a
 /// failed check with texts is boxed.
 pub struct SmallFailedCheck {
@@ -84,7 +91,7 @@ impl SmallFailedCheck {
             Ok(stop) => SmallFailedCheck {
                 held: Stored::Whole(stop),
             },
-            Err(_) => SmallFailedCheck::unmet(Plain::Memory),
+            Err(_) => wanted(),
         }
     }
 

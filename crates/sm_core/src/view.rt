@@ -13,20 +13,20 @@ ghost use Rattle.sm_names.specs.Rows.{TracksRows};
 ghost use Rattle.sm_core.specs.Counting.{change_count};
 ghost use Rattle.sm_core.specs.Kept.{Kept};
 ghost use Rattle.sm_core.specs.Managed.{look_leaves};
-ghost use Rattle.sm_core.specs.Stands.{Stands, sets_in};
-ghost use Rattle.sm_core.specs.Viewing.{IsComing, StandPrincipals};
+ghost use Rattle.sm_core.specs.Stands.{StandPrincipals, sets_in};
+ghost use Rattle.sm_core.specs.Viewing.{IsComing};
 ghost use Rattle.sm_history.specs.BookOrder.{IsLawfulBook};
 ghost use Rattle.sm_history.specs.Promises.{Looks};
 
 use crate::journal::Journal;
 use crate::listed::{moves_any_services, services_after};
-use crate::manager::replying::is_memory;
 use crate::principals::{Principals, moves_any_principals};
+use crate::query_tables::QueryTables;
 use crate::ready::Ready;
 use crate::state::State;
 use crate::turn_counts::TurnCounts;
 use crate::turns::Turns;
-use sm_history::{By, Effect, Entry, Query, Record, Refusal, Reply};
+use sm_history::{By, Effect, Entry, Query, Record, Reply};
 use sm_names::Services;
 use std::alloc::{AllocError, Global};
 use std::marker::Model;
@@ -37,17 +37,16 @@ use std::sync::Arc;
 fn next_principals(
     alloc: Global,
     last: &Arc<Principals>,
-    state: &State,
     effects: &[Effect],
 ) -> Result<Arc<Principals>, AllocError>
-    requires { state.now.version + sets_in effects.now < GREATEST }
-    ensures { IfOk result (λ p. (d : Effects) → Stands d state.now → StandPrincipals d (arc_value last.now)
+    requires { (arc_value last.now).version + sets_in effects.now < GREATEST }
+    ensures { IfOk result (λ p. (d : Effects) → Sound d → StandPrincipals d (arc_value last.now)
         → MayAllApart d effects.now → StandPrincipals (followed d effects.now) (arc_value p)) }
 {
     if !moves_any_principals(effects) {
         return Arc::try_clone(last);
     }
-    Ok(Arc::new(alloc, Principals::after(alloc, state, effects)?)?)
+    Ok(Arc::new(alloc, last.after(alloc, effects)?)?)
 }
 
 /// Returns the services after these effects: those of the present view, if no effect changes them.
@@ -109,7 +108,7 @@ impl View {
         requires { Kept places journal.now.history turns.now state.now [] }
         ensures { IfOk result (λ v. v ≡ record { places = places; history = journal.now.history }) }
     {
-        let principals = Arc::new(alloc, Principals::of(alloc, state)?)?;
+        let principals = Arc::new(alloc, state.principals.copy(alloc)?)?;
         let services = Arc::new(alloc, state.names.services().copy(alloc, 0)?)?;
         let turn_counts = TurnCounts::of(alloc, turns)?;
         Ok(View {
@@ -124,23 +123,22 @@ impl View {
         })
     }
 
-    /// Returns the view after a ready event is committed. Parts that the event doesn't change are shared with this
-    /// view, which is of the present state.
+    /// Returns the view after a ready event is committed. `journal` is the present segment, `turns` are its counts. Parts
+    /// that the event doesn't change are shared with this view, which is of the present state.
     pub(crate) fn after(
         &self,
         journal: &Journal,
-        state: &State,
         turns: &Turns,
         ready: &Ready,
     ) -> Result<View, AllocError>
-        requires kept { Kept self.now.places journal.now.history turns.now state.now [] }
-        requires now { self.now.history ≡ journal.now.history }
-        requires coming { IsComing self.now.places journal.now.history state.now.version ready.now }
+        requires history { journal.now.history ≡ self.now.history }
+        requires turns { (by : By) → change_count turns.now by ≡ turn_of self.now.history by }
+        requires coming { IsComing self.now.places self.now.history ready.now }
         ensures { IfOk result
-            (λ v. v ≡ record { places = self.now.places; history = entered ready.now.entry journal.now.history }) }
+            (λ v. v ≡ record { places = self.now.places; history = entered ready.now.entry self.now.history }) }
     {
         let alloc = self.alloc;
-        let principals = next_principals(alloc, &self.principals, state, &ready.effects)?;
+        let principals = next_principals(alloc, &self.principals, &ready.effects)?;
         let services = next_services(alloc, &self.services, &ready.effects)?;
         let turn_counts = self.turn_counts.after(alloc, turns, ready.entry.by)?;
         Ok(View {
@@ -208,17 +206,15 @@ impl View {
         ensures looks { Looks self.now by query result.0 }
         ensures records { result.1.items ≡ look_leaves self.now by query result.0 }
     {
-        let alloc = self.alloc;
-        let length = self.length;
-        let Ok(records) = self.principals.records(alloc, length, by, &query) else {
-            return (Reply::Refused(Refusal::Memory), Vec::new(alloc));
+        let tables = QueryTables {
+            alloc: self.alloc,
+            places: self.places,
+            length: self.length,
+            principals: &self.principals,
+            services: &self.services,
+            journal: &self.journal,
+            next: &self.next,
         };
-        let reply = self
-            .principals
-            .answer(alloc, &self.services, length, by, query);
-        if is_memory(&reply) {
-            return (reply, Vec::new(alloc));
-        }
-        (reply, records)
+        tables.look_recorded(by, &query)
     }
 }

@@ -17,12 +17,12 @@ ghost use Rattle.sm_core.specs.Calling.{Sends, gives_of, passing_checks, target_
 ghost use Rattle.sm_core.specs.Managed.{effects_in, moment_in};
 
 use crate::client::LiveClient;
-use crate::manager::{Manager, wanted};
+use crate::manager::Manager;
 use crate::notes::Notes;
 use crate::plan::Plan;
-use crate::small_failed_check::{Plain, SmallFailedCheck};
+use crate::small_failed_check::{Plain, SmallFailedCheck, wanted};
 use sm_history::{BoxedDelivery, Delivery, Effect, Failure, Given, GivenRefs, Message, Outcome};
-use sm_kinds::{Identity, Node, ObjRef, Payload, Refs};
+use sm_kinds::{Identity, Node, ObjRef, Payload, Perms, Refs};
 use std::alloc::{AllocError, Global};
 
 /// Returns the objects that a receiver doesn't own, for which it needs handles.
@@ -163,7 +163,7 @@ impl Manager {
         let Some(owner) = self.client_row(node.owner.0) else {
             return Err(SmallFailedCheck::unmet(Plain::Dead));
         };
-        if let Err(stop) = self.can_call_client(&row.process, &owner.process, notes) {
+        if let Err(stop) = self.check_to_client(&row.process, &owner.process, Perms::CALL, notes) {
             return Err(stop);
         }
         Ok(node)
@@ -246,7 +246,7 @@ impl Manager {
         let Some(other) = self.client_row(receiver) else {
             unreachable!();
         };
-        self.can_transfer_to_client(&row.process, &other.process, notes)?;
+        self.check_to_client(&row.process, &other.process, Perms::TRANSFER, notes)?;
         Ok(node)
     }
 

@@ -1,44 +1,23 @@
 //! Queries, which change nothing.
 
-ghost use Rattle.std.specs.Prelude.{◌≡◌, true, false, length, IfOk, IfErr, MatchResult};
-ghost use Rattle.sm_history.specs.declared.query.Query.TheVariants.{List as ListNames};
-ghost use Rattle.sm_history.specs.declared.reply.Reply.TheVariants.{Looked};
-ghost use Rattle.sm_history.specs.Clients.{is_live, version_at};
-ghost use Rattle.sm_history.specs.Histories.{length_of};
-ghost use Rattle.sm_history.specs.Queries.{names_by_mask, is_their_query, query_checks, checks_of_query, found_out};
-ghost use Rattle.sm_core.specs.Managed.{effects_in, moment_in, look_leaves};
-ghost use Rattle.sm_core.specs.Judging.{AllPass, Halts, IsAskerStop};
-ghost use Rattle.sm_core.specs.Tables.{client_row};
+ghost use Rattle.std.specs.Prelude.{◌≡◌, IfOk};
 ghost use Rattle.sm_history.specs.Promises.{Looks};
-ghost use Rattle.sm_history.specs.PossibleReplies.{takes_memory};
+ghost use Rattle.sm_history.specs.Records.{query_records};
+ghost use Rattle.sm_core.specs.Managed.{look_leaves};
 
-use crate::caller::Caller;
-use crate::client::LiveClient;
-use crate::manager::replying::{answer, is_memory};
-use crate::manager::{Manager, wanted};
-use crate::notes::Notes;
-use crate::small_failed_check::{Plain, SmallFailedCheck};
-use sm_history::{Answer, By, Failure, NameList, Query, Record, Reply};
-use sm_kinds::Name;
+use crate::manager::Manager;
+use crate::manager::replying::is_memory;
+use crate::query_tables::QueryTables;
+use sm_history::{By, Query, Record, Reply};
 use std::alloc::AllocError;
-
-/// Returns whether an actor may ask a query.
-pub fn may_ask(by: By, query: &Query) -> bool
-    ensures { result ≡ is_their_query by query.now }
-{
-    match by {
-        By::Manager => false,
-        By::Client(_) => !matches!(query, Query::Explain { .. }),
-        By::Admin(_) => !matches!(query, Query::List(_)),
-    }
-}
+use std::snapshot::Snapshot;
 
 impl Manager {
     /// Answers a query, on the present history.
     pub fn look(&self, by: By, query: Query) -> Reply
         ensures { Looks self.now.book by query result }
     {
-        let (reply, _records) = self.look_recorded(by, query);
+        let (reply, _records) = self.answered(by, &query);
         reply
     }
 
@@ -47,97 +26,35 @@ impl Manager {
         ensures looks { Looks self.now.book by query result.0 }
         ensures records { result.1.items ≡ look_leaves self.now.book by query result.0 }
     {
-        let mut notes = Notes::none(self.alloc);
-        match self.judge_query(by, &query, &mut notes) {
-            Ok(found) => (self.looked(found), notes.into_list()),
-            Err(stop) => {
-                let reply = answer(self.alloc, stop);
-                if is_memory(&reply) {
-                    return (reply, Vec::new(self.alloc));
-                }
-                (reply, notes.into_list())
-            }
-        }
+        self.answered(by, &query)
     }
 
-    /// Returns a result with the version and the length.
-    fn looked(&self, found: Answer) -> Reply
-        ensures { result ≡ Looked (version_at (effects_in self.now)) (length_of self.now.book.history) found }
+    /// Returns the records of a query. Returns an error if an allocation fails.
+    pub fn look_records(&self, by: By, query: &Query) -> Result<Vec<Record>, AllocError>
+        ensures { IfOk result (λ v. v.items ≡ query_records self.now.book.history by query.now) }
     {
-        Reply::Looked {
-            version: self.state.version,
+        let (reply, records) = self.answered(by, query);
+        if is_memory(&reply) {
+            return Err(AllocError);
+        }
+        Ok(records)
+    }
+
+    /// Returns the answer to a query, and its records.
+    fn answered(&self, by: By, query: &Query) -> (Reply, Vec<Record>)
+        ensures looks { Looks self.now.book by query.now result.0 }
+        ensures records { result.1.items ≡ look_leaves self.now.book by query.now result.0 }
+    {
+        let journal = Snapshot::of(&self.journal);
+        let tables = QueryTables {
+            alloc: self.alloc,
+            places: self.places,
             length: self.length(),
-            answer: found,
-        }
-    }
-
-    /// Returns why a query is refused, or its result.
-    pub fn judge_query(
-        &self,
-        by: By,
-        query: &Query,
-        notes: &mut Notes,
-    ) -> Result<Answer, SmallFailedCheck>
-        ensures judged { MatchResult result
-            (λ found. AllPass (moment_in self.now) notes.old notes.new
-            (checks_of_query self.now.book.history by query.now)
-            × (found ≡ found_out (effects_in self.now) query.now))
-            (Halts (moment_in self.now) notes.old notes.new (checks_of_query self.now.book.history by query.now)) }
-        ensures asker { takes_memory query.now ≡ false → IfErr result IsAskerStop }
-    {
-        if !may_ask(by, query) {
-            return Err(SmallFailedCheck::unmet(Plain::Failed(Failure::NotYours)));
-        }
-        let Some(caller) = self.caller(by) else {
-            return Err(SmallFailedCheck::unmet(Plain::Failed(Failure::NotConnected)));
+            principals: &self.state.principals,
+            services: self.state.names.services(),
+            journal: &journal,
+            next: &None,
         };
-        match query {
-            Query::List(mask) => match caller {
-                Caller::Client(row) => self.list(row, *mask, notes),
-                Caller::Manager => unreachable!(),
-                Caller::Admin(_) => unreachable!(),
-            },
-            Query::Version => Ok(Answer::Version),
-            Query::Explain {
-                source,
-                target,
-                class,
-                perm,
-            } => {
-                let policy = &self.state.policy;
-                Ok(Answer::Why(policy.why(source.bytes(), target.bytes(), *class, *perm)))
-            }
-        }
-    }
-
-    /// Judges a list (`listServices`): `list` is checked against the manager's own context.
-    fn list(
-        &self,
-        row: &LiveClient,
-        mask: u32,
-        notes: &mut Notes,
-    ) -> Result<Answer, SmallFailedCheck>
-        requires live { is_live (effects_in self.now) row.now.id ≡ true }
-        requires row { row.now ≡ client_row (effects_in self.now) row.now.id }
-        ensures { MatchResult result
-            (λ found. AllPass (moment_in self.now) notes.old notes.new
-            (query_checks (effects_in self.now) row.now.id (ListNames mask))
-            × (found ≡ found_out (effects_in self.now) (ListNames mask)))
-            (Halts (moment_in self.now) notes.old notes.new
-            (query_checks (effects_in self.now) row.now.id (ListNames mask))) }
-    {
-        self.can_call_manager(&row.process, notes)?;
-        self.can_list(&row.process, notes)?;
-        match self.names_by_mask(mask) {
-            Ok(names) => Ok(Answer::Names(NameList::new(names))),
-            Err(_) => Err(wanted()),
-        }
-    }
-
-    /// Returns the names whose dump flags share a bit with the mask, in rising byte order.
-    fn names_by_mask(&self, mask: u32) -> Result<Vec<Name>, AllocError>
-        ensures { IfOk result (λ v. v.items ≡ names_by_mask (effects_in self.now) mask) }
-    {
-        self.state.names.by_mask(self.alloc, mask)
+        tables.look_recorded(by, query)
     }
 }

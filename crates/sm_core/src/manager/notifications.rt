@@ -15,14 +15,14 @@ ghost use Rattle.sm_core.specs.Notifications.{told_checks, left_at, AreNotificat
 ghost use Rattle.sm_core.specs.Notifications.{Tells};
 ghost use Rattle.sm_core.specs.Managed.{effects_in, moment_in};
 
+use crate::manager::Manager;
 use crate::manager::replying::reason;
-use crate::manager::{Manager, wanted};
 use crate::notes::Notes;
 use crate::notifications::{Notifications, boxed_twice, listed_twice};
 use crate::plan::Plan;
-use crate::small_failed_check::{Plain, SmallFailedCheck};
+use crate::small_failed_check::{Plain, SmallFailedCheck, wanted};
 use sm_history::{Effect, Failure, Given, Notice, Outcome, Told, Watch};
-use sm_kinds::{ClientId, Name, Node};
+use sm_kinds::{ClientId, Name, Node, Perms};
 
 /// Returns the failed check of a watcher whose inbox or handles have no room.
 fn full() -> SmallFailedCheck
@@ -87,9 +87,9 @@ impl Manager {
         let Some(row) = self.client_row(watch.client) else {
             unreachable!();
         };
-        self.can_find(&row.process, &watch.name, notes)?;
-        self.can_call_from_manager(&row.process, notes)?;
-        self.can_transfer_from_manager(&row.process, notes)?;
+        self.check_to_label(&row.process, &watch.name, Perms::FIND, notes)?;
+        self.check_from_manager(&row.process, Perms::CALL, notes)?;
+        self.check_from_manager(&row.process, Perms::TRANSFER, notes)?;
         if left == 0 {
             return Err(full());
         }

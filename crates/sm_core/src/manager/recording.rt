@@ -2,13 +2,13 @@
 
 ghost use Rattle.std.specs.Prelude.{◌≡◌, ◌≤◌, length, IfOk};
 ghost use Rattle.sm_audit.specs.declared.ring.TheConstants.{MOST_RECORDS};
-ghost use Rattle.sm_history.specs.Records.{records, query_records};
+ghost use Rattle.sm_history.specs.Records.{records};
 
 use crate::manager::Manager;
 use crate::manager::replying::is_wanted;
 use crate::notes::Notes;
 use crate::plan::Plan;
-use sm_history::{By, Event, Query, Record};
+use sm_history::{By, Event, Record};
 use std::alloc::AllocError;
 
 impl Manager {
@@ -36,22 +36,6 @@ impl Manager {
                 } = plan;
                 notes.and(records)
             }
-            Err(stop) => {
-                if is_wanted(&stop) {
-                    return Err(AllocError);
-                }
-                Ok(notes.into_list())
-            }
-        }
-    }
-
-    /// Returns the records of a query. Returns an error if an allocation fails.
-    pub fn look_records(&self, by: By, query: &Query) -> Result<Vec<Record>, AllocError>
-        ensures { IfOk result (λ v. v.items ≡ query_records self.now.book.history by query.now) }
-    {
-        let mut notes = Notes::none(self.alloc);
-        match self.judge_query(by, query, &mut notes) {
-            Ok(_) => Ok(notes.into_list()),
             Err(stop) => {
                 if is_wanted(&stop) {
                     return Err(AllocError);

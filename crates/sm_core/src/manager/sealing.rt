@@ -62,7 +62,7 @@ impl Manager {
         let alloc = self.alloc;
         let turns = self
             .turns
-            .sealed(alloc, self.state.next, &self.state.clients)?;
+            .sealed(alloc, self.state.next, &self.state.principals.clients)?;
         let opening = self.rows()?;
         let journal = Journal::begin(alloc, self.journal.number() + 1, opening)?;
         Ok(ReadySeal { journal, turns })
@@ -74,7 +74,7 @@ impl Manager {
     {
         let alloc = self.alloc;
         let tables = tables_of(alloc, &self.state)?;
-        let turns = self.turns.rows(alloc, &self.state.clients)?;
+        let turns = self.turns.rows(alloc, &self.state.principals.clients)?;
         let length = self.length();
         Ok(Rows::new(tables, turns, length))
     }

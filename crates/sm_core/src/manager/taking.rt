@@ -9,11 +9,11 @@ ghost use Rattle.sm_history.specs.declared.records.Record.{Record};
 ghost use Rattle.sm_core.specs.Judging.{Judged};
 ghost use Rattle.sm_core.specs.Managed.{effects_in};
 
+use crate::manager::Manager;
 use crate::manager::judging::one;
-use crate::manager::{Manager, wanted};
 use crate::notes::Notes;
 use crate::plan::Plan;
-use crate::small_failed_check::{Plain, SmallFailedCheck};
+use crate::small_failed_check::{Plain, SmallFailedCheck, wanted};
 use sm_history::{BoxedDelivery, Effect, Outcome};
 
 impl Manager {

@@ -12,13 +12,13 @@ ghost use Rattle.sm_core.specs.Judging.{AllPass, Halts, Judged, removal_checks};
 ghost use Rattle.sm_core.specs.Managed.{effects_in, moment_in};
 
 use crate::client::LiveClient;
+use crate::manager::Manager;
 use crate::manager::judging::one;
-use crate::manager::{Manager, wanted};
 use crate::notes::Notes;
 use crate::plan::Plan;
-use crate::small_failed_check::{Plain, SmallFailedCheck};
+use crate::small_failed_check::{Plain, SmallFailedCheck, wanted};
 use sm_history::{Effect, Exception, Outcome};
-use sm_kinds::{Name, Node, ObjRef};
+use sm_kinds::{Name, Node, ObjRef, Perms};
 
 /// Returns the failed check of a call that fails with a Binder exception.
 fn failed(exception: Exception) -> SmallFailedCheck
@@ -40,7 +40,7 @@ impl Manager {
         requires row { row.now ≡ client_row (effects_in self.now) row.now.id }
         ensures { Judged self.now.book.history notes.old notes.new row.now.id (Unregister name.now obj) result }
     {
-        self.can_call_manager(&row.process, notes)?;
+        self.check_to_manager(&row.process, Perms::CALL, notes)?;
         let node = self.judge_reference(row, obj, notes)?;
         if let Err(stop) = self.judge_removal(row, name, node, notes) {
             return Err(stop);
@@ -75,7 +75,7 @@ impl Manager {
         let Some(node) = node else {
             return Err(failed(Exception::NullBinder));
         };
-        self.can_add(&row.process, name, notes)?;
+        self.check_to_label(&row.process, name, Perms::ADD, notes)?;
         let Some(service) = self.service(name.bytes()) else {
             return Err(failed(Exception::NotRegistered));
         };

@@ -35,6 +35,6 @@ impl Manager {
     {
         // Reads a field, so that the invariant is known: see docs/PROOFS.md.
         let _ = &self.places;
-        last.after(&self.journal, &self.state, &self.turns, ready)
+        last.after(&self.journal, &self.turns, ready)
     }
 }

@@ -14,13 +14,13 @@ ghost use Rattle.sm_core.specs.Judging as spec;
 ghost use Rattle.sm_core.specs.Managed.{effects_in, moment_in};
 
 use crate::client::LiveClient;
+use crate::manager::Manager;
 use crate::manager::judging::one;
-use crate::manager::{Manager, wanted};
 use crate::notes::Notes;
 use crate::plan::Plan;
-use crate::small_failed_check::{Plain, SmallFailedCheck};
+use crate::small_failed_check::{Plain, SmallFailedCheck, wanted};
 use sm_history::{Denial, Effect, Exception, MOST_WATCHES, Outcome, Watch, WatchPair};
-use sm_kinds::{Name, is_isolated, valid_name};
+use sm_kinds::{Name, Perms, is_isolated, valid_name};
 
 /// Makes the watch of a name by a client's object.
 fn watch_of(client: u32, name: &Name, object: u32) -> Result<Watch, SmallFailedCheck>
@@ -90,12 +90,12 @@ impl Manager {
             × (nat_lt (length (watches_at (effects_in self.now))) MOST_WATCHES ≡ true))
             (Halts (moment_in self.now) notes.old notes.new (watch_checks (effects_in self.now) row.now.id name.now)) }
     {
-        self.can_call_manager(&row.process, notes)?;
-        self.can_transfer_to_manager(&row.process, notes)?;
-        self.can_find(&row.process, name, notes)?;
+        self.check_to_manager(&row.process, Perms::CALL, notes)?;
+        self.check_to_manager(&row.process, Perms::TRANSFER, notes)?;
+        self.check_to_label(&row.process, name, Perms::FIND, notes)?;
         if is_isolated(row.process.who.uid) {
             let denial = Denial::Isolated(row.process.who.uid);
-            return Err(self.barred(denial, &row.process.who, name, notes));
+            return Err(self.access().barred(denial, &row.process.who, name, notes));
         }
         if !valid_name(name.bytes()) {
             return Err(SmallFailedCheck::unmet(Plain::Exception(Exception::InvalidName)));
@@ -126,9 +126,9 @@ impl Manager {
         requires row { row.now ≡ client_row (effects_in self.now) row.now.id }
         ensures { Judged self.now.book.history notes.old notes.new row.now.id (Unwatch name.now object) result }
     {
-        self.can_call_manager(&row.process, notes)?;
-        self.can_transfer_to_manager(&row.process, notes)?;
-        self.can_find(&row.process, name, notes)?;
+        self.check_to_manager(&row.process, Perms::CALL, notes)?;
+        self.check_to_manager(&row.process, Perms::TRANSFER, notes)?;
+        self.check_to_label(&row.process, name, Perms::FIND, notes)?;
         if !self.is_watching(row.id, name.bytes(), object) {
             return Err(SmallFailedCheck::unmet(Plain::Exception(Exception::NothingToUnregister)));
         }

@@ -27,7 +27,7 @@ returns c =
     subst (λ (m : Managed). c.in_ok-opening.opening ≡ rows_of m.book.history) (sym c.self.view_is)
     c.in_ok-opening.ensures in
     let counts : (by : By) → change_count c.in_ok-turns.turns by
-    ≡ made_sealed (ids c.self.inside.state.clients.items) c.self.inside.state.next c.self.inside.turns by =
+    ≡ made_sealed (ids c.self.inside.state.principals.clients.items) c.self.inside.state.next c.self.inside.turns by =
     λ by. c.in_ok-turns.ensures.turns by
     ∙ ap (λ (rs : List LiveClient). made_sealed (ids rs) c.self.inside.state.next c.self.inside.turns by)
     c.deref.ensures.value in
@@ -37,7 +37,7 @@ returns c =
       opens = c.in_ok-journal.ensures
           ∙ ap (λ (n : ℕ). journal_segment (n + 1) c.in_ok-opening.opening []) c.number.ensures
           ∙ ap (λ (o : Opening). journal_segment (h.number + 1) o []) opening;
-      turns = turns_sealed h c.self.inside.turns c.in_ok-turns.turns c.self.inside.state.clients.items
-          c.self.inside.state.next k.stands.sound k.turns_are k.stands.clients k.stands.next counts;
+      turns = turns_sealed h c.self.inside.turns c.in_ok-turns.turns c.self.inside.state.principals.clients.items
+          c.self.inside.state.next k.stands.sound k.turns_are k.stands.principals.clients k.stands.next counts;
       admins = c.in_ok-turns.ensures.admins ∙ k.admins_are ∙ sym (admins_sealed h);
     })

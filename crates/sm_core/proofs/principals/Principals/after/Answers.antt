@@ -1,6 +1,6 @@
 use Rattle.std.proofs.Common.{◌≡◌, ◌+◌, ◌∷◌, drop, ap, ◌∙◌, rules, suc, arith}
 use Rattle.std.proofs.Math.Seq.{drop-cons}
-use Rattle.sm_core.specs.Viewing.{StandPrincipals}
+use Rattle.sm_core.specs.Stands.{StandPrincipals}
 use Rattle.sm_core.proofs.Numbers.{sets_first}
 use Rattle.sm_core.proofs.Viewing.{goes_on}
 use Rattle.sm_core.proofs.principals.Principals.after.Goals as goal
@@ -33,7 +33,7 @@ loop-effect-preserved c =
           let grown = c.follow.ensures.version in
           let first = sets_first x (drop (i + 1) xs) in
           omega (arith, s, grown, first);
-      stand = λ d s m. goes_on (λ e. StandPrincipals e c.loop-effect.principals)
+      stand = λ d sound s m. goes_on (λ e. StandPrincipals e c.loop-effect.principals)
           (λ e. StandPrincipals e c.follow.new.self) d xs (drop i xs) (drop (i + 1) xs) x left
-          c.in_ok-follow.ensures.stand (c.loop-effect.invariant.stand d s m);
+          c.in_ok-follow.ensures.stand (c.loop-effect.invariant.stand d sound s m);
     }

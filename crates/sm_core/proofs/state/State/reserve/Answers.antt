@@ -1,14 +1,12 @@
-use Rattle.std.proofs.Common.{◌∙◌}
+use Rattle.std.proofs.Common.{refl}
+use Rattle.sm_core.proofs.Viewing.{same_but_room}
 use Rattle.sm_core.proofs.state.State.reserve.Goals as goal
 
 pub returns-in_err-reserve-2-clause-stands : goal.returns-in_err-reserve-2-clause-stands
 returns-in_err-reserve-2-clause-stands c = λ d s. record {
   sound = s.sound;
-  manager = s.manager;
-  policy = s.policy;
-  version = s.version;
+  principals = same_but_room d _ _ refl refl refl c.reserve.ensures.items s.principals;
   next = s.next;
-  clients = c.reserve.ensures.items ∙ s.clients;
   names = c.reserve-2.ensures.tracks d s.names;
   grants = s.grants;
   inboxes = s.inboxes;
@@ -19,11 +17,8 @@ returns-in_err-reserve-2-clause-stands c = λ d s. record {
 pub returns-in_err-reserve_handles-clause-stands : goal.returns-in_err-reserve_handles-clause-stands
 returns-in_err-reserve_handles-clause-stands c = λ d s. record {
   sound = s.sound;
-  manager = s.manager;
-  policy = s.policy;
-  version = s.version;
+  principals = same_but_room d _ _ refl refl refl c.reserve.ensures.items s.principals;
   next = s.next;
-  clients = c.reserve.ensures.items ∙ s.clients;
   names = c.reserve-2.ensures.tracks d s.names;
   grants = c.reserve_handles.ensures.same d s.grants;
   inboxes = s.inboxes;
@@ -34,11 +29,8 @@ returns-in_err-reserve_handles-clause-stands c = λ d s. record {
 pub returns-clause-stands : goal.returns-clause-stands
 returns-clause-stands c = λ d s. record {
   sound = s.sound;
-  manager = s.manager;
-  policy = s.policy;
-  version = s.version;
+  principals = same_but_room d _ _ refl refl refl c.reserve.ensures.items s.principals;
   next = s.next;
-  clients = c.reserve.ensures.items ∙ s.clients;
   names = c.reserve-2.ensures.tracks d s.names;
   grants = c.reserve_handles.ensures.same d s.grants;
   inboxes = c.reserve_inboxes.ensures.same d s.inboxes;

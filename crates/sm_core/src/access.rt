@@ -1,0 +1,312 @@
+//! Access checks: each check of an allow rule, as in AOSP's `Access.cpp`. All rule checks go through these functions.
+
+ghost use Rattle.std.specs.Prelude.{◌≡◌, ◌⊎◌, [], ◌∷◌, ◌++◌, None, Some, option_map, IfOk, MatchResult};
+ghost use Rattle.sm_kinds.specs.Contexts.{type_of};
+ghost use Rattle.sm_kinds.specs.declared.class.Class.TheVariants.{ServiceManager};
+ghost use Rattle.sm_policy.specs.Policy.{allowed, decision, label_of, type_index};
+ghost use Rattle.sm_history.specs.Checks.{rule_denial};
+ghost use Rattle.sm_history.specs.Records.{rule_record};
+ghost use Rattle.sm_history.specs.declared.failed_check.FailedCheck.TheVariants.{Unruled, Barred};
+ghost use Rattle.sm_core.specs.Judging.{IsRuled, noted, clause_noted};
+ghost use Rattle.sm_core.specs.Judging as spec;
+ghost use Rattle.sm_core.specs.Tables.{process_under};
+
+use crate::notes::Notes;
+use crate::principals::Principals;
+use crate::process::Process;
+use crate::small_failed_check::{SmallFailedCheck, wanted};
+use sm_history::{Denial, FailedCheck, Record};
+use sm_kinds::{Class, Context, Identity, Name, Perms};
+use sm_policy::{Decision, Prepared};
+use std::alloc::{AllocError, Global};
+use std::marker::Model;
+
+/// Returns the denial of a missing rule.
+pub fn denial(
+    alloc: Global,
+    class: Class,
+    perm: Perms,
+    who: &Identity,
+    target: &Context,
+) -> Result<Denial, AllocError>
+    ensures { IfOk result (λ d. d ≡ rule_denial class perm who.now target.now) }
+{
+    let source = Name::new(alloc, who.context.type_name())?;
+    let target = Name::new(alloc, target.type_name())?;
+    Ok(Denial::Rule {
+        source,
+        target,
+        class,
+        perm,
+    })
+}
+
+/// Returns the failed check of an access that no allow rule grants. Has the name if the target is its label.
+#[cold]
+#[inline(never)]
+fn unruled(
+    alloc: Global,
+    who: &Identity,
+    target: &Context,
+    name: Option<&Name>,
+    class: Class,
+    perm: Perms,
+) -> SmallFailedCheck
+    ensures { (result ≡ spec.wanted)
+        ⊎ (result ≡ Unruled class perm who.now target.now (option_map (λ n. n.now) name.entry)) }
+{
+    let Ok(who) = who.clone() else {
+        return wanted();
+    };
+    let Ok(target) = target.clone() else {
+        return wanted();
+    };
+    let name = match name {
+        None => None,
+        Some(name) => match name.clone() {
+            Ok(name) => Some(name),
+            Err(_) => return wanted(),
+        },
+    };
+    let stop = FailedCheck::Unruled {
+        class,
+        perm,
+        who,
+        target,
+        name,
+    };
+    SmallFailedCheck::whole(alloc, stop)
+}
+
+/// What a check of an allow rule reads. Contracts see the moment: the number of changes so far, and the policy in force
+/// with its number.
+#[derive(Drop)]
+pub struct Access<'a> {
+    alloc: Global,
+    length: u64,
+    version: u64,
+    policy: &'a Prepared,
+}
+
+impl<'a> Model for Access<'a> {
+    ghost use Rattle.sm_history.specs.Records.{Moment};
+
+    ghost Value = { Moment };
+
+    ghost view = { λ a. record { at = a.length; version = a.version; policy = a.policy.now } };
+}
+
+impl<'a> Access<'a> {
+    /// Returns what checks read after `length` changes.
+    pub fn new(alloc: Global, length: u64, principals: &'a Principals) -> Access<'a>
+        ensures { result ≡ record { at = length; version = principals.now.version; policy = principals.now.policy } }
+    {
+        Access {
+            alloc,
+            length,
+            version: principals.version,
+            policy: &principals.policy,
+        }
+    }
+
+    /// Appends the audit record of a decision, if there is one.
+    #[tactic(auto, unfolding(crate::specs::Judging::noted))]
+    fn audit(
+        &self,
+        made: Decision,
+        who: &Identity,
+        target: &Context,
+        name: Option<&Name>,
+        class: Class,
+        perm: Perms,
+        notes: &mut Notes,
+    ) -> Result<(), SmallFailedCheck>
+        requires { made ≡ decision self.now.policy (type_of who.now.context)
+            (type_of target.now) class perm }
+        ensures { MatchResult result
+            (λ done. notes.new ≡ noted self.now notes.old class perm who.now target.now
+            (option_map (λ n. n.now) name.entry))
+            (λ s. s ≡ spec.wanted) }
+    {
+        if !made.audited {
+            return Ok(());
+        }
+        self.record(made.allowed, who, target, name, class, perm, notes)
+    }
+
+    /// Appends the record of a missing rule. Few checks have one, so this is out of line.
+    #[cold]
+    #[inline(never)]
+    fn record(
+        &self,
+        permissive: bool,
+        who: &Identity,
+        target: &Context,
+        name: Option<&Name>,
+        class: Class,
+        perm: Perms,
+        notes: &mut Notes,
+    ) -> Result<(), SmallFailedCheck>
+        requires { permissive
+            ≡ allowed self.now.policy (type_of who.now.context) (type_of target.now) class perm }
+        ensures { MatchResult result
+            (λ done. notes.new ≡ notes.old
+            ++ rule_record self.now class perm who.now target.now (option_map (λ n. n.now) name.entry) ∷ [])
+            (λ s. s ≡ spec.wanted) }
+    {
+        let Ok(denied) = self.missing(who, target, name, class, perm, permissive) else {
+            return Err(wanted());
+        };
+        match notes.note(denied) {
+            Ok(()) => Ok(()),
+            Err(_) => Err(wanted()),
+        }
+    }
+
+    /// Returns the record of a missing rule.
+    fn missing(
+        &self,
+        who: &Identity,
+        target: &Context,
+        name: Option<&Name>,
+        class: Class,
+        perm: Perms,
+        permissive: bool,
+    ) -> Result<Record, AllocError>
+        requires { permissive
+            ≡ allowed self.now.policy (type_of who.now.context) (type_of target.now) class perm }
+        ensures { IfOk result
+            (λ r. r ≡ rule_record self.now class perm who.now target.now
+            (option_map (λ n. n.now) name.entry)) }
+    {
+        let denial = denial(self.alloc, class, perm, who, target)?;
+        let name = match name {
+            None => None,
+            Some(name) => Some(name.clone()?),
+        };
+        Ok(Record {
+            length: self.length,
+            version: self.version,
+            denial,
+            permissive,
+            who: who.clone()?,
+            target: Some(target.clone()?),
+            name,
+        })
+    }
+
+    /// Returns the failed check of a clause on the user number, and appends its record.
+    #[cold]
+    #[inline(never)]
+    pub fn barred(
+        &self,
+        denial: Denial,
+        who: &Identity,
+        name: &Name,
+        notes: &mut Notes,
+    ) -> SmallFailedCheck
+        ensures { (result ≡ spec.wanted) ⊎ ((result ≡ Barred denial who.now name.now)
+            × (notes.new ≡ clause_noted self.now notes.old denial who.now name.now)) }
+    {
+        match self.bars(denial, who, name, notes) {
+            Ok(stop) => SmallFailedCheck::whole(self.alloc, stop),
+            Err(_) => wanted(),
+        }
+    }
+
+    /// The same, or the one for a failed allocation.
+    #[tactic(auto, unfolding(crate::specs::Judging::clause_noted))]
+    fn bars(
+        &self,
+        denial: Denial,
+        who: &Identity,
+        name: &Name,
+        notes: &mut Notes,
+    ) -> Result<FailedCheck, AllocError>
+        ensures { IfOk result (λ s. (s ≡ Barred denial who.now name.now)
+            × (notes.new ≡ clause_noted self.now notes.old denial who.now name.now)) }
+    {
+        let noted = denial.clone()?;
+        notes.note(Record {
+            length: self.length,
+            version: self.version,
+            denial: noted,
+            permissive: false,
+            who: who.clone()?,
+            target: None,
+            name: Some(name.clone()?),
+        })?;
+        Ok(FailedCheck::Barred {
+            denial,
+            who: who.clone()?,
+            name: name.clone()?,
+        })
+    }
+
+    /// Checks that an allow rule grants a permission from a process to another one.
+    pub fn to_process(
+        &self,
+        source: &Process,
+        target: &Process,
+        class: Class,
+        perm: Perms,
+        notes: &mut Notes,
+    ) -> Result<(), SmallFailedCheck>
+        requires source { source.now ≡ process_under self.now.policy source.now.who }
+        requires target { target.now ≡ process_under self.now.policy target.now.who }
+        ensures { IsRuled self.now notes.old notes.new class perm source.now.who
+            target.now.who.context None result }
+    {
+        let context = &target.who.context;
+        self.needs(source, context, target.index, None, class, perm, notes)
+    }
+
+    /// Checks that an allow rule grants a permission of the service manager from a process to the label of a name.
+    pub fn to_label(
+        &self,
+        source: &Process,
+        name: &Name,
+        perm: Perms,
+        notes: &mut Notes,
+    ) -> Result<(), SmallFailedCheck>
+        requires { source.now ≡ process_under self.now.policy source.now.who }
+        ensures { IsRuled self.now notes.old notes.new ServiceManager perm source.now.who
+            (label_of self.now.policy name.now) (Some name.now) result }
+    {
+        let label = self.policy.labelled(name.bytes());
+        self.needs(
+            source,
+            label.context,
+            Some(label.index),
+            Some(name),
+            Class::ServiceManager,
+            perm,
+            notes,
+        )
+    }
+
+    /// Checks that an allow rule grants a permission from a process to a context, whose type has this number; the name
+    /// is there if the context is its label.
+    fn needs(
+        &self,
+        source: &Process,
+        target: &Context,
+        index: Option<u16>,
+        name: Option<&Name>,
+        class: Class,
+        perm: Perms,
+        notes: &mut Notes,
+    ) -> Result<(), SmallFailedCheck>
+        requires source { source.now ≡ process_under self.now.policy source.now.who }
+        requires target { index ≡ type_index self.now.policy (type_of target.now) }
+        ensures { IsRuled self.now notes.old notes.new class perm source.now.who target.now
+            (option_map (λ n. n.now) name.entry) result }
+    {
+        let decision = self.policy.decide_at(source.index, index, class, perm);
+        self.audit(decision, &source.who, target, name, class, perm, notes)?;
+        if decision.allowed {
+            return Ok(());
+        }
+        Err(unruled(self.alloc, &source.who, target, name, class, perm))
+    }
+}
