@@ -26,7 +26,8 @@ use Rattle.sm_wire.specs.Grammar.{header_of, request_of}
 use Rattle.sm_wire.specs.Items.{item_of, line_end, scan_start}
 use Rattle.sm_wire.specs.FastPath.{asked_in, asked_by, plain_of, named_of, listed_of, checked_of, other_of, wanted_of}
 use Rattle.sm_wire.specs.FastPath.{request_by, numbered_of, fast_of}
-use Rattle.sm_wire.specs.Spelling.{SpellsRequest, SpellsFields, Spells, joined_fields}
+use Rattle.sm_wire.specs.LineTable.{client_lines}
+use Rattle.sm_wire.specs.Spelling.{SpellsLine, Spells, joined_fields}
 use Rattle.sm_wire.proofs.SpellingLemmasFields.{bound, number_spelled, u32_small, word_chosen, if_true, other_byte}
 use Rattle.sm_wire.proofs.SpellingLemmasFields.{plain_spelled}
 use Rattle.sm_wire.proofs.SpellingLemmasLines.{line_read}
@@ -36,7 +37,7 @@ record Said (who : Option ClientId) (words : List ℕ) (wanted : Wanted) : Type 
   pub first : List ℕ
   pub others : List (List ℕ)
   pub joins : words ≡ joined_fields (first ∷ others)
-  pub spells : SpellsRequest who (first ∷ others) (asked_in who wanted)
+  pub spells : SpellsLine (client_lines who) (first ∷ others) (asked_in who wanted)
 
 -- Words in two parts.
 parts : (n : ℕ) (words front : List ℕ) → take n words ≡ front → words ≡ front ++ drop n words
@@ -73,7 +74,7 @@ got_said who words wanted front e =
       first = codes "get";
       others = drop 4 words ∷ [];
       joins = parts 4 words (codes "get ") front;
-      spells = SpellsRequest.get (drop 4 words) (drop 4 words) n.spells;
+      spells = inl (refl, (drop 4 words, n.spells, refl));
     })
 
 checked_said : (who : Option ClientId) (words : List ℕ) (wanted : Wanted) → checked_of words ≡ Some wanted
@@ -86,7 +87,7 @@ checked_said who words wanted e =
             first = codes "check";
             others = drop 6 words ∷ [];
             joins = parts 6 words (codes "check ") h.0;
-            spells = SpellsRequest.check (drop 6 words) (drop 6 words) n.spells;
+            spells = inr (inl (refl, (drop 6 words, n.spells, refl)));
           })
       | inr h ↦ absurd (none-some wanted h)
     ]
@@ -100,7 +101,7 @@ listed_said who words wanted front e =
       first = codes "list";
       others = drop 5 words ∷ [];
       joins = parts 5 words (codes "list ") front;
-      spells = SpellsRequest.list (drop 5 words) m.0 (number_spelled u32_max u32_small (drop 5 words) m.0 m.1);
+      spells = inr (inr (inl (refl, (m.0, number_spelled u32_max u32_small (drop 5 words) m.0 m.1, refl))));
     })
 
 other_said : (who : Option ClientId) (words : List ℕ) (wanted : Wanted) → other_of words ≡ Some wanted
@@ -111,7 +112,7 @@ other_said who words wanted e = elim (word_chosen words (codes "version") (Some 
     first = codes "version";
     others = [];
     joins = h.0;
-    spells = SpellsRequest.version;
+    spells = inr (inr (inr (inl (refl, refl))));
   })
   | inr f ↦ elim (word_chosen (take 5 words) (codes "list ") (listed_of (drop 5 words)) (checked_of words) wanted f) [
     | inl h ↦ listed_said who words wanted h.0 h.1
@@ -165,8 +166,7 @@ numbered_asked line fast e =
     subst (λ (q : FastRequest). request_of Script line ≡ Some (asked_by q)) s.is (line_read Script line _
     (subst (λ (l : List ℕ). Spells Script l (asked_in (Some (record { 0 = n.0 })) s.wanted)) (sym all)
     (Spells.line Script (number ∷ s.said.first ∷ s.said.others) _
-    (SpellsFields.script_client number n.0 (s.said.first ∷ s.said.others) _
-    (number_spelled u32_max u32_small number n.0 n.1) s.said.spells))))
+    (inl (n.0, number_spelled u32_max u32_small number n.0 n.1, s.said.spells)))))
 
 client_asked : (line : List ℕ) (fast : FastRequest) → request_by None line ≡ Some fast
     → request_of Client line ≡ Some (asked_by fast)
@@ -175,7 +175,7 @@ client_asked line fast e =
     subst (λ (q : FastRequest). request_of Client line ≡ Some (asked_by q)) s.is (line_read Client line _
     (subst (λ (l : List ℕ). Spells Client l (asked_in None s.wanted)) (sym s.said.joins)
     (Spells.line Client (s.said.first ∷ s.said.others) _
-    (SpellsFields.client (s.said.first ∷ s.said.others) _ s.said.spells))))
+    (inl s.said.spells))))
 
 pub fast_asked : (kind : Kind) (line : List ℕ) (fast : FastRequest) → fast_of kind line ≡ Some fast
     → request_of kind line ≡ Some (asked_by fast)

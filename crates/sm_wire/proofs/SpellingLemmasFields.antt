@@ -86,7 +86,7 @@ solid_pass f fails (b ∷ bs) e =
     let h = and_parts (f b) (list_all f bs) e in
     (λ is. true≢false (sym h.0 ∙ ap f is ∙ fails), solid_pass f fails bs h.1)
 
-abbrev no_space : ℕ → Bool
+abbrev pub no_space : ℕ → Bool
 no_space b = not (b == 32)
 
 fails_no_space : no_space 32 ≡ false

@@ -1,53 +1,45 @@
 -- What spells a request is read as it, and what is read is spelled so.
-use Rattle.std.proofs.Common.{◌≡◌, ℕ, inl, inr, List, [], ◌∷◌, ◌++◌, Option, Some, None, Result, Ok, Err, refl, sym}
-use Rattle.std.proofs.Common.{ap, subst, ◌∙◌}
-use Rattle.std.specs.Prelude.{codes}
-use Rattle.std.specs.List.{AllByRecursion}
+use Rattle.std.proofs.Common.{◌≡◌, ℕ, inl, inr, Bool, true, false, ◌&&◌, not, ◌==◌, List, [], ◌∷◌, ◌++◌, Option, Some}
+use Rattle.std.proofs.Common.{None, Result, Ok, Err, refl, sym, ap, subst, ◌∙◌, if◌then◌else◌, true≢false}
+use Rattle.std.specs.Prelude.{codes, is_some}
+use Rattle.std.specs.List.{AllByRecursion, list_all}
+use Rattle.std.specs.Str.{bytes_eq}
+use Rattle.std.proofs.lemmas.Bool.{and_parts}
 use Rattle.std.proofs.lemmas.List.Splits.{join_with_byte-slice_split}
 use Rattle.std.proofs.lemmas.Option.{same_Some, none-some}
-use Rattle.sm_kinds.specs.declared.class.Class.{Class}
+use Rattle.std.proofs.lemmas.Slice.Eq.{bytes_eq-Decides}
 use Rattle.sm_kinds.specs.declared.number.ClientId.{ClientId}
 use Rattle.sm_kinds.specs.declared.number.ObjRef.TheVariants.{Own}
-use Rattle.sm_kinds.specs.declared.perms.Perms.{Perms}
 use Rattle.sm_kinds.specs.Permissions.{class_read}
-use Rattle.sm_history.specs.declared.event.Event.{Event}
-use Rattle.sm_history.specs.declared.event.Event.TheVariants.{Add, Get, Watch, Unwatch, Unregister, Call, Release}
-use Rattle.sm_history.specs.declared.event.Event.TheVariants.{Take, Die}
-use Rattle.sm_history.specs.declared.query.Query.{Query}
-use Rattle.sm_history.specs.declared.query.Query.TheVariants as queries
 use Rattle.sm_wire.specs.declared.request.Request.{Request}
-use Rattle.sm_wire.specs.declared.request.Request.TheVariants.{Hello, Change, Look, Reload, Denials, Seal}
 use Rattle.sm_wire.specs.declared.kind.Kind.{Kind}
 use Rattle.sm_wire.specs.declared.kind.Kind.TheVariants.{Client, Admin, Script}
 use Rattle.sm_wire.specs.declared.item.Item.TheVariants as items
 use Rattle.sm_wire.specs.declared.read_error.ReadError.{ReadError}
 use Rattle.sm_wire.specs.declared.read_error.ReadError.TheVariants.{Malformed, Memory}
 use Rattle.sm_wire.specs.Items.{item_of}
-use Rattle.sm_wire.specs.Reading.{ReadsAs}
+use Rattle.sm_wire.specs.Reading.{ReadsAs, first_of_two}
 use Rattle.sm_wire.specs.Number.{u32_max, u64_max, parsed_number}
 use Rattle.sm_wire.specs.Fields.{fields_of}
 use Rattle.sm_wire.specs.Values.{name_of, reference_of, own_object_of, call_references_of, payload_of, flag_of}
 use Rattle.sm_wire.specs.Values.{context_of, word_of, perm_of}
-use Rattle.sm_wire.specs.Grammar.{add_of, get_of, watch_of, unwatch_of, unregister_of, call_of, release_of, take_of}
-use Rattle.sm_wire.specs.Grammar.{bye_of}
-use Rattle.sm_wire.specs.Grammar.{service_event_of, binder_event_of, event_of, list_of, version_of, query_of, look_of}
-use Rattle.sm_wire.specs.Grammar.{change_of, client_request_of, client_line_of, hello_of, greeting_of, explain_of}
-use Rattle.sm_wire.specs.Grammar.{explaining_of, sizes_of, reload_of, denials_of, asking_of, policy_request_of}
-use Rattle.sm_wire.specs.Grammar.{standing_of, seal_of, journal_request_of}
-use Rattle.sm_wire.specs.Grammar.{client_fields_of, admin_fields_of, unnumbered_of, script_fields_of, fields_request_of}
-use Rattle.sm_wire.specs.Grammar.{request_of}
-use Rattle.sm_wire.specs.Spelling.{SpellsRequest, SpellsGreeting, SpellsAdmin, SpellsFields, Spells, SpellsNothing}
-use Rattle.sm_wire.specs.Spelling.{ReadsSpelled, joined_fields}
+use Rattle.sm_wire.specs.LineTable.{Field, Value, Maker, Production, client_lines, greeting_lines, standing_lines}
+use Rattle.sm_wire.specs.LineTable.{admin_lines}
+use Rattle.sm_wire.specs.Grammar.{value_of, has_fields, made_of, parsed_by, line_of, lines_of, client_line_of}
+use Rattle.sm_wire.specs.Grammar.{client_fields_of, admin_fields_of, unnumbered_of, script_fields_of}
+use Rattle.sm_wire.specs.Grammar.{fields_request_of, request_of}
+use Rattle.sm_wire.specs.Spelling.{SpellsField, SpellsMade, SpellsLine, SpellsNumbered, SpellsFields, Spells}
+use Rattle.sm_wire.specs.Spelling.{SpellsNothing, ReadsSpelled, joined_fields}
 use Rattle.sm_wire.proofs.FieldLemmas.{fields_of-space, fields_of-plain}
-use Rattle.sm_wire.proofs.SpellingLemmasFields.{bound, word_chosen, first_chosen, Solid, solid_word, u32_small}
-use Rattle.sm_wire.proofs.SpellingLemmasFields.{u64_small}
-use Rattle.sm_wire.proofs.SpellingLemmasFields.{number_read, number_spelled, number_solid, name_read, name_spelled}
-use Rattle.sm_wire.proofs.SpellingLemmasFields.{name_solid, reference_read, reference_spelled, reference_solid}
-use Rattle.sm_wire.proofs.SpellingLemmasFields.{object_read, object_spelled, references_solid, call_references_read}
-use Rattle.sm_wire.proofs.SpellingLemmasFields.{call_references_spelled, payload_read, payload_spelled, payload_solid}
-use Rattle.sm_wire.proofs.SpellingLemmasFields.{flag_read, flag_spelled, flag_solid, class_read_so, class_spelled}
-use Rattle.sm_wire.proofs.SpellingLemmasFields.{class_solid, perm_read_so, perm_spelled, perm_solid, context_read}
-use Rattle.sm_wire.proofs.SpellingLemmasFields.{context_spelled, context_solid, word_read, word_spelled, word_solid}
+use Rattle.sm_wire.proofs.SpellingLemmasFields.{Solid, bound, first_chosen, word_chosen, solid_word, no_space}
+use Rattle.sm_wire.proofs.SpellingLemmasFields.{u32_small, u64_small, number_read, number_spelled, number_solid}
+use Rattle.sm_wire.proofs.SpellingLemmasFields.{name_read, name_spelled, name_solid, reference_read, reference_spelled}
+use Rattle.sm_wire.proofs.SpellingLemmasFields.{reference_solid, object_read, object_spelled, call_references_read}
+use Rattle.sm_wire.proofs.SpellingLemmasFields.{call_references_spelled, references_solid, payload_read}
+use Rattle.sm_wire.proofs.SpellingLemmasFields.{payload_spelled, payload_solid, flag_read, flag_spelled, flag_solid}
+use Rattle.sm_wire.proofs.SpellingLemmasFields.{class_read_so, class_spelled, class_solid, perm_read_so, perm_spelled}
+use Rattle.sm_wire.proofs.SpellingLemmasFields.{perm_solid, context_read, context_spelled, context_solid, word_read}
+use Rattle.sm_wire.proofs.SpellingLemmasFields.{word_spelled, word_solid}
 use Rattle.sm_wire.proofs.SpellingLemmasContexts.{context_judged, context_written}
 
 -- ---- fields
@@ -74,522 +66,282 @@ filled_joined : (fs : List (List ℕ)) → Filled fs → fields_of (joined_field
 filled_joined [] s = absurd s
 filled_joined (f ∷ fs) s = fields_joined f fs s
 
--- ---- what a client asks for: what is spelled so is read
+-- ---- a field of any kind
 
--- At any client.
-module _ (who : Option ClientId) where
-  request_read : (fs : List (List ℕ)) (r : Request) → SpellsRequest who fs r → client_request_of who fs ≡ Some r
-  unfolding client_request_of look_of query_of change_of event_of service_event_of binder_event_of list_of version_of
-      add_of get_of watch_of unwatch_of unregister_of call_of release_of take_of bye_of
-  request_read _ _ (SpellsRequest.add name reference allow dump n r a d s t u v) = rw (
-    name_read name n s,
-    reference_read reference r t,
-    flag_read allow a u,
-    number_read u32_max u32_small dump d v,
-  ) refl
-  request_read _ _ (SpellsRequest.get name n s) = rw (name_read name n s) refl
-  request_read _ _ (SpellsRequest.check name n s) = rw (name_read name n s) refl
-  request_read _ _ (SpellsRequest.watch name object n o s t) = rw (name_read name n s, object_read object o t) refl
-  request_read _ _ (SpellsRequest.unwatch name object n o s t) = rw (name_read name n s, object_read object o t) refl
-  request_read _ _ (SpellsRequest.unregister name reference n r s t) =
-      rw (name_read name n s, reference_read reference r t) refl
-  request_read _ _ (SpellsRequest.call handle payload p references h r s t u le) = rw (
-    number_read u32_max u32_small handle h s,
-    payload_read payload p t,
-    call_references_read references r u le,
-  ) refl
-  request_read _ _ (SpellsRequest.release handle h s) = rw (number_read u32_max u32_small handle h s) refl
-  request_read _ _ SpellsRequest.take = refl
-  request_read _ _ SpellsRequest.bye = refl
-  request_read _ _ (SpellsRequest.list mask m s) = rw (number_read u32_max u32_small mask m s) refl
-  request_read _ _ SpellsRequest.version = refl
+value_read : (f : Field) (t : List ℕ) (v : Value f) → SpellsField f t v → value_of f t ≡ Some v
+value_read Field.name t v s = name_read t v s
+value_read Field.reference t v s = reference_read t v s
+value_read Field.object t v s = object_read t v s
+value_read Field.flag t v s = flag_read t v s
+value_read Field.number t v s = number_read u32_max u32_small t v s
+value_read Field.long t v s = number_read u64_max u64_small t v s
+value_read Field.payload t v s = payload_read t v s
+value_read Field.context t v s = context_read t (context_judged t s.0) ∙ ap (λ x. Some x) s.1
+value_read Field.word t v s = word_read t s.0 ∙ ap (λ x. Some x) s.1
+value_read Field.class t v s = class_read_so t v s
+value_read Field.perm t v s = perm_read_so t v s
 
-  request_filled : (fs : List (List ℕ)) (r : Request) → SpellsRequest who fs r → Filled fs
-  request_filled _ _ (SpellsRequest.add name reference allow dump n r a d s t u v) = (
-    solid_word (codes "add") refl,
-    (
-      name_solid name n s,
-      (reference_solid reference r t, (flag_solid allow a u, (number_solid u32_max u32_small dump d v, tt))),
-    ),
-  )
-  request_filled _ _ (SpellsRequest.get name n s) = (solid_word (codes "get") refl, (name_solid name n s, tt))
-  request_filled _ _ (SpellsRequest.check name n s) = (solid_word (codes "check") refl, (name_solid name n s, tt))
-  request_filled _ _ (SpellsRequest.watch name object n o s t) =
-      (solid_word (codes "watch") refl, (name_solid name n s, (reference_solid object (Own o) t, tt)))
-  request_filled _ _ (SpellsRequest.unwatch name object n o s t) =
-      (solid_word (codes "unwatch") refl, (name_solid name n s, (reference_solid object (Own o) t, tt)))
-  request_filled _ _ (SpellsRequest.unregister name reference n r s t) =
-      (solid_word (codes "unregister") refl, (name_solid name n s, (reference_solid reference r t, tt)))
-  request_filled _ _ (SpellsRequest.call handle payload p references h r s t u le) = (
-    solid_word (codes "call") refl,
-    (number_solid u32_max u32_small handle h s, (payload_solid payload p t, references_solid references r u)),
-  )
-  request_filled _ _ (SpellsRequest.release handle h s) =
-      (solid_word (codes "release") refl, (number_solid u32_max u32_small handle h s, tt))
-  request_filled _ _ SpellsRequest.take = (solid_word (codes "take") refl, tt)
-  request_filled _ _ SpellsRequest.bye = (solid_word (codes "bye") refl, tt)
-  request_filled _ _ (SpellsRequest.list mask m s) =
-      (solid_word (codes "list") refl, (number_solid u32_max u32_small mask m s, tt))
-  request_filled _ _ SpellsRequest.version = (solid_word (codes "version") refl, tt)
+value_spelled : (f : Field) (t : List ℕ) (v : Value f) → value_of f t ≡ Some v → SpellsField f t v
+value_spelled Field.name t v e = name_spelled t v e
+value_spelled Field.reference t v e = reference_spelled t v e
+value_spelled Field.object t v e = object_spelled t v e
+value_spelled Field.flag t v e = flag_spelled t v e
+value_spelled Field.number t v e = number_spelled u32_max u32_small t v e
+value_spelled Field.long t v e = number_spelled u64_max u64_small t v e
+value_spelled Field.payload t v e = payload_spelled t v e
+value_spelled Field.context t v e = let s = context_spelled t v e in (context_written t s.0, s.1)
+value_spelled Field.word t v e = word_spelled t v e
+value_spelled Field.class t v e = class_spelled t v e
+value_spelled Field.perm t v e = perm_spelled t v e
 
-  -- ---- what a client asks for: what is read is spelled so
+value_solid : (f : Field) (t : List ℕ) (v : Value f) → SpellsField f t v → Solid t
+value_solid Field.name t v s = name_solid t v s
+value_solid Field.reference t v s = reference_solid t v s
+value_solid Field.object t v s = reference_solid t (Own v) s
+value_solid Field.flag t v s = flag_solid t v s
+value_solid Field.number t v s = number_solid u32_max u32_small t v s
+value_solid Field.long t v s = number_solid u64_max u64_small t v s
+value_solid Field.payload t v s = payload_solid t v s
+value_solid Field.context t v s = context_solid t (context_judged t s.0)
+value_solid Field.word t v s = word_solid t s.0
+value_solid Field.class t v s = class_solid t v s
+value_solid Field.perm t v s = perm_solid t v s
 
-  word_like : (w v : List ℕ) (fs : List (List ℕ)) (r : Request) → w ≡ v → SpellsRequest who (v ∷ fs) r
-      → SpellsRequest who (w ∷ fs) r
-  word_like w v fs r e s = rw e s
+-- ---- the fields behind a word
 
-  add_spelled : (fs : List (List ℕ)) (e : Event) → add_of fs ≡ Some e
-      → SpellsRequest who (codes "add" ∷ fs) (Change who e)
-  unfolding add_of
-  add_spelled [] e is = absurd (none-some e is)
-  add_spelled (a ∷ []) e is = absurd (none-some e is)
-  add_spelled (a ∷ b ∷ []) e is = absurd (none-some e is)
-  add_spelled (a ∷ b ∷ c ∷ []) e is = absurd (none-some e is)
-  add_spelled (a ∷ b ∷ c ∷ d ∷ f ∷ fs) e is = absurd (none-some e is)
-  add_spelled (a ∷ b ∷ c ∷ d ∷ []) e is =
-      let n = bound _ (name_of a) e is in
-      let r = bound _ (reference_of b) e n.2 in
-      let y = bound _ (flag_of c) e r.2 in
-      let m = bound _ (parsed_number u32_max d) e y.2 in
-      rw (← same_Some (Add n.0 r.0 y.0 m.0) e m.2) (SpellsRequest.add a b c d n.0 r.0 y.0 m.0 (name_spelled a n.0 n.1)
-      (reference_spelled b r.0 r.1) (flag_spelled c y.0 y.1) (number_spelled u32_max u32_small d m.0 m.1))
+made_fits : (fs : List Field) (more : Bool) (make : Maker fs more) (ts : List (List ℕ)) (r : Request)
+    → SpellsMade fs more make ts r → has_fields fs more ts ≡ true
+made_fits [] false make [] r s = refl
+made_fits [] false make (t ∷ ts) r s = absurd s
+made_fits [] true make [] r s = refl
+made_fits [] true make (t ∷ ts) r s = refl
+made_fits (f ∷ fs) more make [] r s = absurd s
+made_fits (f ∷ fs) more make (t ∷ ts) r s = made_fits fs more (make s.0) ts r s.2
 
-  -- The name that is asked for.
-  asked_name : (fs : List (List ℕ)) (e : Event) → get_of fs ≡ Some e
-      → (a n : List ℕ) × (fs ≡ a ∷ []) × (name_of a ≡ Some n) × (Get n ≡ e)
-  unfolding get_of
-  asked_name [] e is = absurd (none-some e is)
-  asked_name (a ∷ b ∷ fs) e is = absurd (none-some e is)
-  asked_name (a ∷ []) e is =
-      let n = bound _ (name_of a) e is in (a, n.0, refl, n.1, same_Some (Get n.0) e n.2)
+made_read : (fs : List Field) (more : Bool) (make : Maker fs more) (ts : List (List ℕ)) (r : Request)
+    → SpellsMade fs more make ts r → made_of fs more make ts ≡ Some r
+made_read [] false make [] r s = ap (λ x. Some x) s
+made_read [] false make (t ∷ ts) r s = absurd s
+made_read [] true make ts r s = rw (call_references_read ts s.0 s.1 s.2) (ap (λ x. Some x) s.3)
+made_read (f ∷ fs) more make [] r s = absurd s
+made_read (f ∷ fs) more make (t ∷ ts) r s = rw (value_read f t s.0 s.1) (made_read fs more (make s.0) ts r s.2)
 
-  asks_name : (w a n : List ℕ) (fs : List (List ℕ)) (e : Event) → fs ≡ a ∷ [] → Get n ≡ e
-      → SpellsRequest who (w ∷ a ∷ []) (Change who (Get n)) → SpellsRequest who (w ∷ fs) (Change who e)
-  asks_name w a n fs e p q s = rw (p, ← q) s
+made_spelled : (fs : List Field) (more : Bool) (make : Maker fs more) (ts : List (List ℕ)) (r : Request)
+    → has_fields fs more ts ≡ true → made_of fs more make ts ≡ Some r → SpellsMade fs more make ts r
+made_spelled [] false make [] r h e = same_Some make r e
+made_spelled [] false make (t ∷ ts) r h e = absurd (true≢false (sym h))
+made_spelled [] true make ts r h e =
+    let rs = bound _ (call_references_of ts) r e in
+    let s = call_references_spelled ts rs.0 rs.1 in
+    (rs.0, s.0, s.1, same_Some (make rs.0) r rs.2)
+made_spelled (f ∷ fs) more make [] r h e = absurd (none-some r e)
+made_spelled (f ∷ fs) more make (t ∷ ts) r h e =
+    let v = bound (λ (v : Value f). made_of fs more (make v) ts) (value_of f t) r e in
+    (v.0, value_spelled f t v.0 v.1, made_spelled fs more (make v.0) ts r h v.2)
 
-  get_spelled : (fs : List (List ℕ)) (e : Event) → get_of fs ≡ Some e
-      → SpellsRequest who (codes "get" ∷ fs) (Change who e)
-  get_spelled fs e is =
-      let g = asked_name fs e is in
-      asks_name (codes "get") g.0 g.1 fs e g.2 g.4 (SpellsRequest.get g.0 g.1 (name_spelled g.0 g.1 g.3))
+made_solid : (fs : List Field) (more : Bool) (make : Maker fs more) (ts : List (List ℕ)) (r : Request)
+    → SpellsMade fs more make ts r → AllByRecursion Solid ts
+made_solid [] false make [] r s = tt
+made_solid [] false make (t ∷ ts) r s = absurd s
+made_solid [] true make ts r s = references_solid ts s.0 s.1
+made_solid (f ∷ fs) more make [] r s = absurd s
+made_solid (f ∷ fs) more make (t ∷ ts) r s = (value_solid f t s.0 s.1, made_solid fs more (make s.0) ts r s.2)
 
-  check_spelled : (fs : List (List ℕ)) (e : Event) → get_of fs ≡ Some e
-      → SpellsRequest who (codes "check" ∷ fs) (Change who e)
-  check_spelled fs e is =
-      let g = asked_name fs e is in
-      asks_name (codes "check") g.0 g.1 fs e g.2 g.4 (SpellsRequest.check g.0 g.1 (name_spelled g.0 g.1 g.3))
+line_is : (p : Production) (ts : List (List ℕ)) (r : Request) → SpellsMade p.fields p.more p.make ts r
+    → line_of p ts ≡ Some r
+unfolding parsed_by
+line_is p ts r s = rw (made_fits p.fields p.more p.make ts r s) (made_read p.fields p.more p.make ts r s)
 
-  watch_spelled : (fs : List (List ℕ)) (e : Event) → watch_of fs ≡ Some e
-      → SpellsRequest who (codes "watch" ∷ fs) (Change who e)
-  unfolding watch_of
-  watch_spelled [] e is = absurd (none-some e is)
-  watch_spelled (a ∷ []) e is = absurd (none-some e is)
-  watch_spelled (a ∷ b ∷ c ∷ fs) e is = absurd (none-some e is)
-  watch_spelled (a ∷ b ∷ []) e is =
-      let n = bound _ (name_of a) e is in
-      let o = bound _ (own_object_of b) e n.2 in
-      rw (← same_Some (Watch n.0 o.0) e o.2)
-      (SpellsRequest.watch a b n.0 o.0 (name_spelled a n.0 n.1) (object_spelled b o.0 o.1))
+line_so : (p : Production) (ts : List (List ℕ)) (r : Request) → line_of p ts ≡ Some r
+    → SpellsMade p.fields p.more p.make ts r
+unfolding parsed_by
+line_so p ts r e = by (has_fields p.fields p.more ts) refl e
+  where
+    by : (b : Bool) → has_fields p.fields p.more ts ≡ b
+        → (if b then made_of p.fields p.more p.make ts else None) ≡ Some r → SpellsMade p.fields p.more p.make ts r
+    by true h q = made_spelled p.fields p.more p.make ts r h q
+    by false h q = absurd (none-some r q)
 
-  unwatch_spelled : (fs : List (List ℕ)) (e : Event) → unwatch_of fs ≡ Some e
-      → SpellsRequest who (codes "unwatch" ∷ fs) (Change who e)
-  unfolding unwatch_of
-  unwatch_spelled [] e is = absurd (none-some e is)
-  unwatch_spelled (a ∷ []) e is = absurd (none-some e is)
-  unwatch_spelled (a ∷ b ∷ c ∷ fs) e is = absurd (none-some e is)
-  unwatch_spelled (a ∷ b ∷ []) e is =
-      let n = bound _ (name_of a) e is in
-      let o = bound _ (own_object_of b) e n.2 in
-      rw (← same_Some (Unwatch n.0 o.0) e o.2)
-      (SpellsRequest.unwatch a b n.0 o.0 (name_spelled a n.0 n.1) (object_spelled b o.0 o.1))
+-- ---- tables
 
-  unregister_spelled : (fs : List (List ℕ)) (e : Event) → unregister_of fs ≡ Some e
-      → SpellsRequest who (codes "unregister" ∷ fs) (Change who e)
-  unfolding unregister_of
-  unregister_spelled [] e is = absurd (none-some e is)
-  unregister_spelled (a ∷ []) e is = absurd (none-some e is)
-  unregister_spelled (a ∷ b ∷ c ∷ fs) e is = absurd (none-some e is)
-  unregister_spelled (a ∷ b ∷ []) e is =
-      let n = bound _ (name_of a) e is in
-      let r = bound _ (reference_of b) e n.2 in
-      rw (← same_Some (Unregister n.0 r.0) e r.2)
-      (SpellsRequest.unregister a b n.0 r.0 (name_spelled a n.0 n.1) (reference_spelled b r.0 r.1))
+-- No line of a table begins with this word.
+abbrev lacks : List ℕ → List Production → Bool
+lacks w ps = list_all (λ p. not (bytes_eq w p.word)) ps
 
-  call_spelled : (fs : List (List ℕ)) (e : Event) → call_of fs ≡ Some e
-      → SpellsRequest who (codes "call" ∷ fs) (Change who e)
-  unfolding call_of
-  call_spelled [] e is = absurd (none-some e is)
-  call_spelled (a ∷ []) e is = absurd (none-some e is)
-  call_spelled (a ∷ b ∷ fs) e is =
-      let h = bound _ (parsed_number u32_max a) e is in
-      let p = bound _ (payload_of b) e h.2 in
-      let r = bound _ (call_references_of fs) e p.2 in
-      let s = call_references_spelled fs r.0 r.1 in
-      rw (← same_Some (Call h.0 p.0 r.0) e r.2) (SpellsRequest.call a b p.0 fs h.0 r.0
-      (number_spelled u32_max u32_small a h.0 h.1) (payload_spelled b p.0 p.1) s.0 s.1)
+-- No line of a table begins with the word of another line, and no word has a space.
+abbrev is_table : List Production → Bool
+is_table [] = true
+is_table (p ∷ ps) = (list_all no_space p.word && lacks p.word ps) && is_table ps
 
-  release_spelled : (fs : List (List ℕ)) (e : Event) → release_of fs ≡ Some e
-      → SpellsRequest who (codes "release" ∷ fs) (Change who e)
-  unfolding release_of
-  release_spelled [] e is = absurd (none-some e is)
-  release_spelled (a ∷ b ∷ fs) e is = absurd (none-some e is)
-  release_spelled (a ∷ []) e is =
-      let h = bound _ (parsed_number u32_max a) e is in
-      rw (← same_Some (Release h.0) e h.2) (SpellsRequest.release a h.0 (number_spelled u32_max u32_small a h.0 h.1))
+-- No line of one table begins with the word of a line of another.
+abbrev apart : List Production → List Production → Bool
+apart ps qs = list_all (λ q. lacks q.word ps) qs
 
-  take_spelled : (fs : List (List ℕ)) (e : Event) → take_of fs ≡ Some e
-      → SpellsRequest who (codes "take" ∷ fs) (Change who e)
-  unfolding take_of
-  take_spelled [] e is = rw (← same_Some Take e is) SpellsRequest.take
-  take_spelled (a ∷ fs) e is = absurd (none-some e is)
+same_word : (w v : List ℕ) → w ≡ v → bytes_eq w v ≡ true
+same_word w v e = (bytes_eq-Decides w v).1 e
 
-  bye_spelled : (fs : List (List ℕ)) (e : Event) → bye_of fs ≡ Some e
-      → SpellsRequest who (codes "bye" ∷ fs) (Change who e)
-  unfolding bye_of
-  bye_spelled [] e is = rw (← same_Some Die e is) SpellsRequest.bye
-  bye_spelled (a ∷ fs) e is = absurd (none-some e is)
+unlike : (b : Bool) → not b ≡ true → b ≡ false
+unlike true e = absurd (true≢false (sym e))
+unlike false e = refl
 
-  service_spelled : (w : List ℕ) (fs : List (List ℕ)) (e : Event) → service_event_of w fs ≡ Some e
-      → SpellsRequest who (w ∷ fs) (Change who e)
-  unfolding service_event_of
-  service_spelled w fs e is =
-      let r = Change who e in
-      elim (word_chosen w (codes "add") (add_of fs) _ e is) [
-        | inl h ↦ word_like w (codes "add") fs r h.0 (add_spelled fs e h.1)
-        | inr i ↦ elim (word_chosen w (codes "get") (get_of fs) _ e i) [
-          | inl h ↦ word_like w (codes "get") fs r h.0 (get_spelled fs e h.1)
-          | inr j ↦ elim (word_chosen w (codes "check") (get_of fs) _ e j) [
-            | inl h ↦ word_like w (codes "check") fs r h.0 (check_spelled fs e h.1)
-            | inr k ↦ elim (word_chosen w (codes "watch") (watch_of fs) _ e k) [
-              | inl h ↦ word_like w (codes "watch") fs r h.0 (watch_spelled fs e h.1)
-              | inr l ↦ elim (word_chosen w (codes "unwatch") (unwatch_of fs) _ e l) [
-                | inl h ↦ word_like w (codes "unwatch") fs r h.0 (unwatch_spelled fs e h.1)
-                | inr m ↦ elim (word_chosen w (codes "unregister") (unregister_of fs) _ e m) [
-                  | inl h ↦ word_like w (codes "unregister") fs r h.0 (unregister_spelled fs e h.1)
-                  | inr n ↦ absurd (none-some e n)
-                ]
-              ]
-            ]
-          ]
-        ]
-      ]
+-- A word of a line in a table isn't one that the table lacks.
+spelled_other : (ps : List Production) (v w : List ℕ) (ts : List (List ℕ)) (r : Request) → lacks v ps ≡ true
+    → SpellsLine ps (w ∷ ts) r → bytes_eq w v ≡ false
+spelled_other [] v w ts r l s = absurd s
+spelled_other (p ∷ ps) v w ts r l (inl s) =
+    let l' = and_parts (not (bytes_eq v p.word)) (lacks v ps) l in
+    by (bytes_eq w v) refl
+  where
+    by : (b : Bool) → bytes_eq w v ≡ b → bytes_eq w v ≡ false
+    by true e =
+        let is = (bytes_eq-Decides w v).0 e in
+        absurd (true≢false (sym (same_word v p.word (sym is ∙ s.0))
+        ∙ unlike (bytes_eq v p.word) (and_parts (not (bytes_eq v p.word)) (lacks v ps) l).0))
+    by false e = e
+spelled_other (p ∷ ps) v w ts r l (inr s) =
+    spelled_other ps v w ts r (and_parts (not (bytes_eq v p.word)) (lacks v ps) l).1 s
 
-  binder_spelled : (w : List ℕ) (fs : List (List ℕ)) (e : Event) → binder_event_of w fs ≡ Some e
-      → SpellsRequest who (w ∷ fs) (Change who e)
-  unfolding binder_event_of
-  binder_spelled w fs e is =
-      let r = Change who e in
-      elim (word_chosen w (codes "call") (call_of fs) _ e is) [
-        | inl h ↦ word_like w (codes "call") fs r h.0 (call_spelled fs e h.1)
-        | inr i ↦ elim (word_chosen w (codes "release") (release_of fs) _ e i) [
-          | inl h ↦ word_like w (codes "release") fs r h.0 (release_spelled fs e h.1)
-          | inr j ↦ elim (word_chosen w (codes "take") (take_of fs) _ e j) [
-            | inl h ↦ word_like w (codes "take") fs r h.0 (take_spelled fs e h.1)
-            | inr k ↦ elim (word_chosen w (codes "bye") (bye_of fs) _ e k) [
-              | inl h ↦ word_like w (codes "bye") fs r h.0 (bye_spelled fs e h.1)
-              | inr l ↦ absurd (none-some e l)
-            ]
-          ]
-        ]
-      ]
+lines_is : (ps : List Production) (ts : List (List ℕ)) (r : Request) → is_table ps ≡ true → SpellsLine ps ts r
+    → lines_of ps ts ≡ Some r
+unfolding lines_of
+lines_is [] ts r a s = absurd s
+lines_is (p ∷ ps) [] r a s = absurd s
+lines_is (p ∷ ps) (w ∷ ts) r a (inl s) = rw (same_word w p.word s.0) (line_is p ts r s.1)
+lines_is (p ∷ ps) (w ∷ ts) r a (inr s) =
+    let parts = and_parts (list_all no_space p.word && lacks p.word ps) (is_table ps) a in
+    let l = (and_parts (list_all no_space p.word) (lacks p.word ps) parts.0).1 in
+    rw (spelled_other ps p.word w ts r l s) (lines_is ps (w ∷ ts) r parts.1 s)
 
-  change_spelled : (w : List ℕ) (fs : List (List ℕ)) (r : Request) → change_of who w fs ≡ Some r
-      → SpellsRequest who (w ∷ fs) r
-  unfolding change_of event_of
-  change_spelled w fs r is =
-      let e = bound (λ event. Some (Change who event)) (event_of w fs) r is in
-      rw (← same_Some (Change who e.0) r e.2)
-      (elim (first_chosen (service_event_of w fs) (binder_event_of w fs) e.0 e.1) [
-        | inl h ↦ service_spelled w fs e.0 h
-        | inr h ↦ binder_spelled w fs e.0 h
-      ])
-
-  list_spelled : (fs : List (List ℕ)) (q : Query) → list_of fs ≡ Some q
-      → SpellsRequest who (codes "list" ∷ fs) (Look who q)
-  unfolding list_of
-  list_spelled [] q is = absurd (none-some q is)
-  list_spelled (a ∷ b ∷ fs) q is = absurd (none-some q is)
-  list_spelled (a ∷ []) q is =
-      let m = bound _ (parsed_number u32_max a) q is in
-      rw (← same_Some (queries.List m.0) q m.2) (SpellsRequest.list a m.0 (number_spelled u32_max u32_small a m.0 m.1))
-
-  version_spelled : (fs : List (List ℕ)) (q : Query) → version_of fs ≡ Some q
-      → SpellsRequest who (codes "version" ∷ fs) (Look who q)
-  unfolding version_of
-  version_spelled [] q is = rw (← same_Some queries.Version q is) SpellsRequest.version
-  version_spelled (a ∷ fs) q is = absurd (none-some q is)
-
-  query_spelled : (w : List ℕ) (fs : List (List ℕ)) (q : Query) → query_of w fs ≡ Some q
-      → SpellsRequest who (w ∷ fs) (Look who q)
-  unfolding query_of
-  query_spelled w fs q is =
-      let r = Look who q in
-      elim (word_chosen w (codes "list") (list_of fs) _ q is) [
-        | inl h ↦ word_like w (codes "list") fs r h.0 (list_spelled fs q h.1)
-        | inr i ↦ elim (word_chosen w (codes "version") (version_of fs) _ q i) [
-          | inl h ↦ word_like w (codes "version") fs r h.0 (version_spelled fs q h.1)
-          | inr j ↦ absurd (none-some q j)
-        ]
-      ]
-
-  look_spelled : (w : List ℕ) (fs : List (List ℕ)) (r : Request) → look_of who w fs ≡ Some r
-      → SpellsRequest who (w ∷ fs) r
-  unfolding look_of
-  look_spelled w fs r is =
-      let q = bound (λ query. Some (Look who query)) (query_of w fs) r is in
-      rw (← same_Some (Look who q.0) r q.2) (query_spelled w fs q.0 q.1)
-
-  request_spelled : (fs : List (List ℕ)) (r : Request) → client_request_of who fs ≡ Some r → SpellsRequest who fs r
-  unfolding client_request_of
-  request_spelled [] r is = absurd (none-some r is)
-  request_spelled (w ∷ fs) r is = elim (first_chosen (look_of who w fs) (change_of who w fs) r is) [
-    | inl h ↦ look_spelled w fs r h
-    | inr h ↦ change_spelled w fs r h
-  ]
-
--- ---- the line by which a process connects
-
-greeting_read : (fs : List (List ℕ)) (r : Request) → SpellsGreeting fs r → greeting_of fs ≡ Some r
-unfolding greeting_of hello_of
-greeting_read _ _ (SpellsGreeting.hello pid uid context p u s t c) = rw (
-  number_read u32_max u32_small pid p s,
-  number_read u32_max u32_small uid u t,
-  context_read context (context_judged context c),
-) refl
-
-greeting_filled : (fs : List (List ℕ)) (r : Request) → SpellsGreeting fs r → Filled fs
-greeting_filled _ _ (SpellsGreeting.hello pid uid context p u s t c) = (
-  solid_word (codes "hello") refl,
-  (
-    number_solid u32_max u32_small pid p s,
-    (number_solid u32_max u32_small uid u t, (context_solid context (context_judged context c), tt)),
-  ),
-)
-
-hello_spelled : (a b c : List ℕ) (r : Request) → hello_of a b c ≡ Some r
-    → SpellsGreeting (codes "hello" ∷ a ∷ b ∷ c ∷ []) r
-unfolding hello_of
-hello_spelled a b c r is =
-    let p = bound _ (parsed_number u32_max a) r is in
-    let u = bound _ (parsed_number u32_max b) r p.2 in
-    let x = bound _ (context_of c) r u.2 in
-    let k = context_spelled c x.0 x.1 in
-    rw (← same_Some (Hello (record { pid = p.0; uid = u.0; context = x.0 })) r x.2, ← k.1)
-    (SpellsGreeting.hello a b c p.0 u.0 (number_spelled u32_max u32_small a p.0 p.1)
-    (number_spelled u32_max u32_small b u.0 u.1) (context_written c k.0))
-
-greeting_spelled : (fs : List (List ℕ)) (r : Request) → greeting_of fs ≡ Some r → SpellsGreeting fs r
-unfolding greeting_of
-greeting_spelled [] r is = absurd (none-some r is)
-greeting_spelled (w ∷ []) r is = absurd (none-some r is)
-greeting_spelled (w ∷ a ∷ []) r is = absurd (none-some r is)
-greeting_spelled (w ∷ a ∷ b ∷ []) r is = absurd (none-some r is)
-greeting_spelled (w ∷ a ∷ b ∷ c ∷ d ∷ fs) r is = absurd (none-some r is)
-greeting_spelled (w ∷ a ∷ b ∷ c ∷ []) r is = elim (word_chosen w (codes "hello") (hello_of a b c) None r is) [
-  | inl h ↦ rw (h.0) (hello_spelled a b c r h.1)
-  | inr h ↦ absurd (none-some r h)
+lines_so : (ps : List Production) (ts : List (List ℕ)) (r : Request) → lines_of ps ts ≡ Some r → SpellsLine ps ts r
+unfolding lines_of
+lines_so [] ts r e = absurd (none-some r e)
+lines_so (p ∷ ps) [] r e = absurd (none-some r e)
+lines_so (p ∷ ps) (w ∷ ts) r e = elim (word_chosen w p.word (line_of p ts) (lines_of ps (w ∷ ts)) r e) [
+  | inl h ↦ inl (h.0, line_so p ts r h.1)
+  | inr h ↦ inr (lines_so ps (w ∷ ts) r h)
 ]
 
--- ---- the administrator's lines that a script has, too
+-- A table reads no line whose word it lacks.
+lacking : (ps : List Production) (w : List ℕ) (ts : List (List ℕ)) → lacks w ps ≡ true → lines_of ps (w ∷ ts) ≡ None
+unfolding lines_of
+lacking [] w ts l = refl
+lacking (p ∷ ps) w ts l =
+    let l' = and_parts (not (bytes_eq w p.word)) (lacks w ps) l in
+    rw (unlike (bytes_eq w p.word) l'.0) (lacking ps w ts l'.1)
 
-admin_read : (fs : List (List ℕ)) (r : Request) → SpellsAdmin fs r → policy_request_of fs ≡ Some r
-unfolding policy_request_of reload_of sizes_of asking_of explaining_of explain_of journal_request_of denials_of seal_of
-admin_read _ _ (SpellsAdmin.reload expected rules contexts e r c s t u) = rw (
-  number_read u64_max u64_small expected e s,
-  number_read u32_max u32_small rules r t,
-  number_read u32_max u32_small contexts c u,
-) refl
-admin_read _ _ (SpellsAdmin.explain source target class perm c p s t u v) =
-    rw (word_read source s, word_read target t, class_read_so class c u, perm_read_so perm p v) refl
-admin_read _ _ SpellsAdmin.denials = refl
-admin_read _ _ SpellsAdmin.seal = refl
+-- A table reads no line of another one that is apart.
+lines_apart : (ps qs : List Production) (ts : List (List ℕ)) (r : Request) → apart ps qs ≡ true → SpellsLine qs ts r
+    → lines_of ps ts ≡ None
+lines_apart ps [] ts r a s = absurd s
+lines_apart ps (q ∷ qs) [] r a s = absurd s
+lines_apart ps (q ∷ qs) (w ∷ ts) r a (inl s) =
+    rw (s.0) (lacking ps q.word ts (and_parts (lacks q.word ps) (apart ps qs) a).0)
+lines_apart ps (q ∷ qs) (w ∷ ts) r a (inr s) =
+    lines_apart ps qs (w ∷ ts) r (and_parts (lacks q.word ps) (apart ps qs) a).1 s
 
-admin_filled : (fs : List (List ℕ)) (r : Request) → SpellsAdmin fs r → Filled fs
-admin_filled _ _ (SpellsAdmin.reload expected rules contexts e r c s t u) = (
-  solid_word (codes "reload") refl,
-  (
-    number_solid u64_max u64_small expected e s,
-    (number_solid u32_max u32_small rules r t, (number_solid u32_max u32_small contexts c u, tt)),
-  ),
-)
-admin_filled _ _ (SpellsAdmin.explain source target class perm c p s t u v) = (
-  solid_word (codes "explain") refl,
-  (word_solid source s, (word_solid target t, (class_solid class c u, (perm_solid perm p v, tt)))),
-)
-admin_filled _ _ SpellsAdmin.denials = (solid_word (codes "denials") refl, tt)
-admin_filled _ _ SpellsAdmin.seal = (solid_word (codes "seal") refl, tt)
-
-sizes_spelled : (a b c : List ℕ) (r : Request) → sizes_of a b c ≡ Some r
-    → SpellsAdmin (codes "reload" ∷ a ∷ b ∷ c ∷ []) r
-unfolding sizes_of
-sizes_spelled a b c r is =
-    let e = bound _ (parsed_number u64_max a) r is in
-    let x = bound _ (parsed_number u32_max b) r e.2 in
-    let y = bound _ (parsed_number u32_max c) r x.2 in
-    rw (← same_Some (Reload e.0 x.0 y.0) r y.2) (SpellsAdmin.reload a b c e.0 x.0 y.0
-    (number_spelled u64_max u64_small a e.0 e.1) (number_spelled u32_max u32_small b x.0 x.1)
-    (number_spelled u32_max u32_small c y.0 y.1))
-
-reload_spelled : (fs : List (List ℕ)) (r : Request) → reload_of fs ≡ Some r → SpellsAdmin fs r
-unfolding reload_of
-reload_spelled [] r is = absurd (none-some r is)
-reload_spelled (w ∷ []) r is = absurd (none-some r is)
-reload_spelled (w ∷ a ∷ []) r is = absurd (none-some r is)
-reload_spelled (w ∷ a ∷ b ∷ []) r is = absurd (none-some r is)
-reload_spelled (w ∷ a ∷ b ∷ c ∷ d ∷ fs) r is = absurd (none-some r is)
-reload_spelled (w ∷ a ∷ b ∷ c ∷ []) r is = elim (word_chosen w (codes "reload") (sizes_of a b c) None r is) [
-  | inl h ↦ rw (h.0) (sizes_spelled a b c r h.1)
-  | inr h ↦ absurd (none-some r h)
-]
-
-explains : (a b c d source target : List ℕ) (k : Class) (p : Perms) (r : Request) → a ≡ source → b ≡ target
-    → Look None (queries.Explain source target k p) ≡ r
-    → SpellsAdmin (codes "explain" ∷ a ∷ b ∷ c ∷ d ∷ []) (Look None (queries.Explain a b k p))
-    → SpellsAdmin (codes "explain" ∷ a ∷ b ∷ c ∷ d ∷ []) r
-explains a b c d source target k p r e f is s = rw (← is, ← e, ← f) s
-
-explain_spelled : (a b c d : List ℕ) (r : Request) → explain_of a b c d ≡ Some r
-    → SpellsAdmin (codes "explain" ∷ a ∷ b ∷ c ∷ d ∷ []) r
-unfolding explain_of
-explain_spelled a b c d r is =
-    let s = bound _ (word_of a) r is in
-    let t = bound _ (word_of b) r s.2 in
-    let k = bound _ (class_read c) r t.2 in
-    let p = bound _ (perm_of d) r k.2 in
-    let source = word_spelled a s.0 s.1 in
-    let target = word_spelled b t.0 t.1 in
-    explains a b c d s.0 t.0 k.0 p.0 r source.1 target.1
-    (same_Some (Look None (queries.Explain s.0 t.0 k.0 p.0)) r p.2)
-    (SpellsAdmin.explain a b c d k.0 p.0 source.0 target.0 (class_spelled c k.0 k.1) (perm_spelled d p.0 p.1))
-
-explaining_spelled : (fs : List (List ℕ)) (r : Request) → explaining_of fs ≡ Some r → SpellsAdmin fs r
-unfolding explaining_of
-explaining_spelled [] r is = absurd (none-some r is)
-explaining_spelled (w ∷ []) r is = absurd (none-some r is)
-explaining_spelled (w ∷ a ∷ []) r is = absurd (none-some r is)
-explaining_spelled (w ∷ a ∷ b ∷ []) r is = absurd (none-some r is)
-explaining_spelled (w ∷ a ∷ b ∷ c ∷ []) r is = absurd (none-some r is)
-explaining_spelled (w ∷ a ∷ b ∷ c ∷ d ∷ f ∷ fs) r is = absurd (none-some r is)
-explaining_spelled (w ∷ a ∷ b ∷ c ∷ d ∷ []) r is =
-    elim (word_chosen w (codes "explain") (explain_of a b c d) None r is) [
-      | inl h ↦ rw (h.0) (explain_spelled a b c d r h.1)
-      | inr h ↦ absurd (none-some r h)
-    ]
-
-denials_spelled : (fs : List (List ℕ)) (r : Request) → denials_of fs ≡ Some r → SpellsAdmin fs r
-unfolding denials_of
-denials_spelled [] r is = absurd (none-some r is)
-denials_spelled (w ∷ a ∷ fs) r is = absurd (none-some r is)
-denials_spelled (w ∷ []) r is = elim (word_chosen w (codes "denials") (Some Denials) None r is) [
-  | inl h ↦ rw (h.0, ← same_Some Denials r h.1) SpellsAdmin.denials
-  | inr h ↦ absurd (none-some r h)
-]
-
-seal_spelled : (fs : List (List ℕ)) (r : Request) → seal_of fs ≡ Some r → SpellsAdmin fs r
-unfolding seal_of
-seal_spelled [] r is = absurd (none-some r is)
-seal_spelled (w ∷ a ∷ fs) r is = absurd (none-some r is)
-seal_spelled (w ∷ []) r is = elim (word_chosen w (codes "seal") (Some Seal) None r is) [
-  | inl h ↦ rw (h.0, ← same_Some Seal r h.1) SpellsAdmin.seal
-  | inr h ↦ absurd (none-some r h)
-]
-
-journal_spelled : (fs : List (List ℕ)) (r : Request) → journal_request_of fs ≡ Some r → SpellsAdmin fs r
-unfolding journal_request_of
-journal_spelled fs r is = elim (first_chosen (denials_of fs) (seal_of fs) r is) [
-  | inl h ↦ denials_spelled fs r h
-  | inr h ↦ seal_spelled fs r h
-]
-
-admin_spelled : (fs : List (List ℕ)) (r : Request) → policy_request_of fs ≡ Some r → SpellsAdmin fs r
-unfolding policy_request_of asking_of
-admin_spelled fs r is = elim (first_chosen (reload_of fs) (asking_of fs) r is) [
-  | inl h ↦ reload_spelled fs r h
-  | inr i ↦ elim (first_chosen (explaining_of fs) (journal_request_of fs) r i) [
-    | inl h ↦ explaining_spelled fs r h
-    | inr h ↦ journal_spelled fs r h
-  ]
-]
+lines_filled : (ps : List Production) (ts : List (List ℕ)) (r : Request) → is_table ps ≡ true → SpellsLine ps ts r
+    → Filled ts
+lines_filled [] ts r a s = absurd s
+lines_filled (p ∷ ps) [] r a s = absurd s
+lines_filled (p ∷ ps) (w ∷ ts) r a (inl s) =
+    let parts = and_parts (list_all no_space p.word && lacks p.word ps) (is_table ps) a in
+    let plain = (and_parts (list_all no_space p.word) (lacks p.word ps) parts.0).0 in
+    rw (s.0) (solid_word p.word plain, made_solid p.fields p.more p.make ts r s.1)
+lines_filled (p ∷ ps) (w ∷ ts) r a (inr s) =
+    lines_filled ps (w ∷ ts) r (and_parts (list_all no_space p.word && lacks p.word ps) (is_table ps) a).1 s
 
 -- ---- lines of each kind
 
--- A line by which a process connects is no other line.
-greeting_alone : (fs : List (List ℕ)) (r : Request) → SpellsGreeting fs r
-    → (client_request_of None fs ≡ None) × (client_line_of fs ≡ None)
-unfolding client_request_of look_of query_of change_of event_of service_event_of binder_event_of client_line_of
-greeting_alone _ _ (SpellsGreeting.hello pid uid context p u s t c) = (refl, refl)
+-- The words of lines without a client's number aren't numbers.
+abbrev unnumbered_words : List Production → Bool
+unnumbered_words ps = list_all (λ p. not (is_some (parsed_number u32_max p.word))) ps
 
--- A line that an administrator and a script have is no other line.
-admin_alone : (fs : List (List ℕ)) (r : Request) → SpellsAdmin fs r
-    → (standing_of fs ≡ None) × (greeting_of fs ≡ None) × (client_line_of fs ≡ None)
-unfolding standing_of greeting_of client_line_of
-admin_alone _ _ (SpellsAdmin.reload expected rules contexts e r c s t u) = (refl, refl, refl)
-admin_alone _ _ (SpellsAdmin.explain source target class perm c p s t u v) = (refl, refl, refl)
-admin_alone _ _ SpellsAdmin.denials = (refl, refl, refl)
-admin_alone _ _ SpellsAdmin.seal = (refl, refl, refl)
+no_number : (o : Option ℕ) → not (is_some o) ≡ true → o ≡ None
+no_number None e = refl
+no_number (Some n) e = absurd (true≢false (sym e))
 
-fields_read : (kind : Kind) (fs : List (List ℕ)) (r : Request) → SpellsFields kind fs r
-    → fields_request_of kind fs ≡ Some r
-unfolding fields_request_of client_fields_of admin_fields_of script_fields_of unnumbered_of standing_of client_line_of
-fields_read _ _ _ (SpellsFields.greeting fs r s) = rw ((greeting_alone fs r s).0) (greeting_read fs r s)
-fields_read _ _ _ (SpellsFields.client fs r s) = rw (request_read None fs r s) refl
-fields_read _ _ _ (SpellsFields.admin fs r s) = rw ((admin_alone fs r s).0) (admin_read fs r s)
-fields_read _ _ _ SpellsFields.version = refl
-fields_read _ _ _ (SpellsFields.script_greeting fs r s) =
-    rw ((greeting_alone fs r s).1, greeting_read fs r s) refl
-fields_read _ _ _ (SpellsFields.script_admin fs r s) =
-    let alone = admin_alone fs r s in rw (alone.2, alone.1) (admin_read fs r s)
-fields_read _ _ _ (SpellsFields.script_client number n fs r s t) =
-    rw (number_read u32_max u32_small number n s, request_read (Some (record { 0 = n })) fs r t) refl
+not_numbered : (ps : List Production) (ts : List (List ℕ)) (r : Request) → unnumbered_words ps ≡ true
+    → SpellsLine ps ts r → client_line_of ts ≡ None
+unfolding client_line_of
+not_numbered [] ts r a s = absurd s
+not_numbered (p ∷ ps) [] r a s = absurd s
+not_numbered (p ∷ ps) (w ∷ ts) r a (inl s) =
+    rw (
+      s.0,
+      no_number (parsed_number u32_max p.word)
+          (and_parts (not (is_some (parsed_number u32_max p.word))) (unnumbered_words ps) a).0,
+    ) refl
+not_numbered (p ∷ ps) (w ∷ ts) r a (inr s) =
+    not_numbered ps (w ∷ ts) r (and_parts (not (is_some (parsed_number u32_max p.word))) (unnumbered_words ps) a).1 s
+
+numbered_is : (ts : List (List ℕ)) (r : Request) → SpellsNumbered ts r → client_line_of ts ≡ Some r
+unfolding client_line_of
+numbered_is [] r s = absurd s
+numbered_is (t ∷ ts) r s =
+    rw (number_read u32_max u32_small t s.0 s.1) (lines_is (client_lines (Some (record { 0 = s.0 }))) ts r refl s.2)
+
+numbered_so : (ts : List (List ℕ)) (r : Request) → client_line_of ts ≡ Some r → SpellsNumbered ts r
+unfolding client_line_of
+numbered_so [] r e = absurd (none-some r e)
+numbered_so (t ∷ ts) r e =
+    let n = bound _ (parsed_number u32_max t) r e in (
+      n.0,
+      number_spelled u32_max u32_small t n.0 n.1,
+      lines_so (client_lines (Some (record { 0 = n.0 }))) ts r n.2,
+    )
 
 more_filled : (f : List ℕ) (fs : List (List ℕ)) → Solid f → Filled fs → Filled (f ∷ fs)
 more_filled f [] s h = absurd h
 more_filled f (g ∷ fs) s h = (s, h)
 
+numbered_filled : (ts : List (List ℕ)) (r : Request) → SpellsNumbered ts r → Filled ts
+numbered_filled [] r s = absurd s
+numbered_filled (t ∷ ts) r s =
+    more_filled t ts (number_solid u32_max u32_small t s.0 s.1)
+    (lines_filled (client_lines (Some (record { 0 = s.0 }))) ts r refl s.2)
+
+fields_read : (kind : Kind) (fs : List (List ℕ)) (r : Request) → SpellsFields kind fs r
+    → fields_request_of kind fs ≡ Some r
+unfolding fields_request_of client_fields_of admin_fields_of script_fields_of unnumbered_of
+fields_read Client fs r (inl s) = rw (lines_is (client_lines None) fs r refl s) refl
+fields_read Client fs r (inr s) =
+    rw (lines_apart (client_lines None) greeting_lines fs r refl s) (lines_is greeting_lines fs r refl s)
+fields_read Admin fs r (inl s) = rw (lines_is standing_lines fs r refl s) refl
+fields_read Admin fs r (inr s) =
+    rw (lines_apart standing_lines admin_lines fs r refl s) (lines_is admin_lines fs r refl s)
+fields_read Script fs r (inl s) = rw (numbered_is fs r s) refl
+fields_read Script fs r (inr (inl s)) =
+    rw (not_numbered greeting_lines fs r refl s, lines_is greeting_lines fs r refl s) refl
+fields_read Script fs r (inr (inr s)) =
+    rw (not_numbered admin_lines fs r refl s, lines_apart greeting_lines admin_lines fs r refl s)
+    (lines_is admin_lines fs r refl s)
+
 fields_filled : (kind : Kind) (fs : List (List ℕ)) (r : Request) → SpellsFields kind fs r → Filled fs
-fields_filled _ _ _ (SpellsFields.greeting fs r s) = greeting_filled fs r s
-fields_filled _ _ _ (SpellsFields.client fs r s) = request_filled None fs r s
-fields_filled _ _ _ (SpellsFields.admin fs r s) = admin_filled fs r s
-fields_filled _ _ _ SpellsFields.version = (solid_word (codes "version") refl, tt)
-fields_filled _ _ _ (SpellsFields.script_greeting fs r s) = greeting_filled fs r s
-fields_filled _ _ _ (SpellsFields.script_admin fs r s) = admin_filled fs r s
-fields_filled _ _ _ (SpellsFields.script_client number n fs r s t) =
-    more_filled number fs (number_solid u32_max u32_small number n s) (request_filled (Some (record { 0 = n })) fs r t)
-
-standing_spelled : (fs : List (List ℕ)) (r : Request) → standing_of fs ≡ Some r → SpellsFields Admin fs r
-unfolding standing_of
-standing_spelled [] r is = absurd (none-some r is)
-standing_spelled (w ∷ a ∷ fs) r is = absurd (none-some r is)
-standing_spelled (w ∷ []) r is =
-    elim (word_chosen w (codes "version") (Some (Look None queries.Version)) None r is) [
-      | inl h ↦ rw (h.0, ← same_Some (Look None queries.Version) r h.1) SpellsFields.version
-      | inr h ↦ absurd (none-some r h)
-    ]
-
-numbered_spelled : (fs : List (List ℕ)) (r : Request) → client_line_of fs ≡ Some r → SpellsFields Script fs r
-unfolding client_line_of
-numbered_spelled [] r is = absurd (none-some r is)
-numbered_spelled (f ∷ fs) r is =
-    let n = bound _ (parsed_number u32_max f) r is in
-    SpellsFields.script_client f n.0 fs r (number_spelled u32_max u32_small f n.0 n.1)
-    (request_spelled (Some (record { 0 = n.0 })) fs r n.2)
+fields_filled Client fs r (inl s) = lines_filled (client_lines None) fs r refl s
+fields_filled Client fs r (inr s) = lines_filled greeting_lines fs r refl s
+fields_filled Admin fs r (inl s) = lines_filled standing_lines fs r refl s
+fields_filled Admin fs r (inr s) = lines_filled admin_lines fs r refl s
+fields_filled Script fs r (inl s) = numbered_filled fs r s
+fields_filled Script fs r (inr (inl s)) = lines_filled greeting_lines fs r refl s
+fields_filled Script fs r (inr (inr s)) = lines_filled admin_lines fs r refl s
 
 fields_spelled : (kind : Kind) (fs : List (List ℕ)) (r : Request) → fields_request_of kind fs ≡ Some r
     → SpellsFields kind fs r
 unfolding fields_request_of client_fields_of admin_fields_of script_fields_of unnumbered_of
-fields_spelled Client fs r is = elim (first_chosen (client_request_of None fs) (greeting_of fs) r is) [
-  | inl h ↦ SpellsFields.client fs r (request_spelled None fs r h)
-  | inr h ↦ SpellsFields.greeting fs r (greeting_spelled fs r h)
-]
-fields_spelled Admin fs r is = elim (first_chosen (standing_of fs) (policy_request_of fs) r is) [
-  | inl h ↦ standing_spelled fs r h
-  | inr h ↦ SpellsFields.admin fs r (admin_spelled fs r h)
+fields_spelled Client fs r is =
+    elim (first_chosen (lines_of (client_lines None) fs) (lines_of greeting_lines fs) r is) [
+      | inl h ↦ inl (lines_so (client_lines None) fs r h)
+      | inr h ↦ inr (lines_so greeting_lines fs r h)
+    ]
+fields_spelled Admin fs r is = elim (first_chosen (lines_of standing_lines fs) (lines_of admin_lines fs) r is) [
+  | inl h ↦ inl (lines_so standing_lines fs r h)
+  | inr h ↦ inr (lines_so admin_lines fs r h)
 ]
 fields_spelled Script fs r is = elim (first_chosen (client_line_of fs) (unnumbered_of fs) r is) [
-  | inl h ↦ numbered_spelled fs r h
-  | inr i ↦ elim (first_chosen (greeting_of fs) (policy_request_of fs) r i) [
-    | inl h ↦ SpellsFields.script_greeting fs r (greeting_spelled fs r h)
-    | inr h ↦ SpellsFields.script_admin fs r (admin_spelled fs r h)
+  | inl h ↦ inl (numbered_so fs r h)
+  | inr i ↦ elim (first_chosen (lines_of greeting_lines fs) (lines_of admin_lines fs) r i) [
+    | inl h ↦ inr (inl (lines_so greeting_lines fs r h))
+    | inr h ↦ inr (inr (lines_so admin_lines fs r h))
   ]
 ]
 

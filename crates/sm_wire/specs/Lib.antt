@@ -2,6 +2,7 @@ pub mod Number
 pub mod Fields
 pub mod Reading
 pub mod Values
+pub mod LineTable
 pub mod Grammar
 pub mod FastPath
 pub mod FieldSpelling

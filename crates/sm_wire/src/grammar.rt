@@ -1,13 +1,13 @@
-//! Requests, parsed from the fields of a line: a function for each production.
+//! Requests, parsed from the fields of a line, by the kind of the stream.
 
 ghost use Rattle.std.specs.Prelude.{map};
 ghost use Rattle.sm_wire.specs.Reading.{ReadsAs};
-ghost use Rattle.sm_wire.specs.Grammar.{client_line_of, hello_of, greeting_of, explain_of, explaining_of, denials_of};
-ghost use Rattle.sm_wire.specs.Grammar.{seal_of, journal_request_of, asking_of, standing_of, policy_request_of};
-ghost use Rattle.sm_wire.specs.Grammar.{unnumbered_of, client_fields_of, admin_fields_of, script_fields_of};
-ghost use Rattle.sm_wire.specs.Grammar.{fields_request_of, request_of};
+ghost use Rattle.sm_wire.specs.LineTable.{hello_line, explain_line, denials_line, seal_line};
+ghost use Rattle.sm_wire.specs.LineTable.{greeting_lines, standing_lines, admin_lines};
+ghost use Rattle.sm_wire.specs.Grammar.{line_of, lines_of, client_line_of, unnumbered_of, client_fields_of};
+ghost use Rattle.sm_wire.specs.Grammar.{admin_fields_of, script_fields_of, fields_request_of, request_of};
 
-use crate::client_requests::client_request;
+use crate::client_requests::{client_request, version};
 use crate::fields::split_fields;
 use crate::kind::Kind;
 use crate::numbers::u32_field;
@@ -85,87 +85,70 @@ fn unnumbered(alloc: Global, fields: &[&[u8]]) -> Result<Request, ReadError>
     }
 }
 
-// Parses an administrator's line that a script has, too.
-#[tactic(auto, unfolding(crate::specs::Grammar::policy_request_of))]
-fn policy_request(alloc: Global, fields: &[&[u8]]) -> Result<Request, ReadError>
-    ensures { ReadsAs result (policy_request_of (map (λ f. f.now) fields.now)) }
+// Parses `N REQUEST`.
+#[tactic(auto, unfolding(crate::specs::Grammar::client_line_of))]
+fn client_line(alloc: Global, fields: &[&[u8]]) -> Result<Request, ReadError>
+    ensures { ReadsAs result (client_line_of (map (λ f. f.now) fields.now)) }
 {
-    match reload(fields) {
-        Err(ReadError::Malformed) => asking(alloc, fields),
-        other => other,
-    }
-}
-
-// Parses a question of an administrator about the policy in force, or a request to the journal.
-#[tactic(auto, unfolding(crate::specs::Grammar::asking_of))]
-fn asking(alloc: Global, fields: &[&[u8]]) -> Result<Request, ReadError>
-    ensures { ReadsAs result (asking_of (map (λ f. f.now) fields.now)) }
-{
-    match explaining(alloc, fields) {
-        Err(ReadError::Malformed) => journal_request(fields),
-        other => other,
-    }
-}
-
-// Parses an administrator's request to the journal.
-#[tactic(auto, unfolding(crate::specs::Grammar::journal_request_of))]
-fn journal_request(fields: &[&[u8]]) -> Result<Request, ReadError>
-    ensures { ReadsAs result (journal_request_of (map (λ f. f.now) fields.now)) }
-{
-    match denials(fields) {
-        Err(ReadError::Malformed) => seal(fields),
-        other => other,
-    }
-}
-
-// Parses `denials`.
-#[tactic(auto, unfolding(crate::specs::Grammar::denials_of))]
-fn denials(fields: &[&[u8]]) -> Result<Request, ReadError>
-    ensures { ReadsAs result (denials_of (map (λ f. f.now) fields.now)) }
-{
-    match fields {
-        [word] if *word == b"denials".as_slice() => Ok(Request::Denials),
-        _ => Err(ReadError::Malformed),
-    }
-}
-
-// Parses `seal`.
-#[tactic(auto, unfolding(crate::specs::Grammar::seal_of))]
-fn seal(fields: &[&[u8]]) -> Result<Request, ReadError>
-    ensures { ReadsAs result (seal_of (map (λ f. f.now) fields.now)) }
-{
-    match fields {
-        [word] if *word == b"seal".as_slice() => Ok(Request::Seal),
-        _ => Err(ReadError::Malformed),
-    }
+    let [number, rest @ ..] = fields else {
+        return Err(ReadError::Malformed);
+    };
+    let client = ClientId(u32_field(number)?);
+    client_request(alloc, Some(client), rest)
 }
 
 // Parses the administrator's `version`.
-#[tactic(auto, unfolding(crate::specs::Grammar::standing_of))]
+#[tactic(auto, unfolding(crate::specs::Grammar::lines_of))]
 fn standing(fields: &[&[u8]]) -> Result<Request, ReadError>
-    ensures { ReadsAs result (standing_of (map (λ f. f.now) fields.now)) }
+    ensures { ReadsAs result (lines_of standing_lines (map (λ f. f.now) fields.now)) }
 {
     match fields {
-        [word] if *word == b"version".as_slice() => Ok(Request::Look(None, Query::Version)),
+        [word, rest @ ..] if *word == b"version".as_slice() => version(None, rest),
         _ => Err(ReadError::Malformed),
+    }
+}
+
+// Parses the line by which a process connects.
+#[tactic(auto, unfolding(crate::specs::Grammar::lines_of))]
+fn greeting(alloc: Global, fields: &[&[u8]]) -> Result<Request, ReadError>
+    ensures { ReadsAs result (lines_of greeting_lines (map (λ f. f.now) fields.now)) }
+{
+    match fields {
+        [word, rest @ ..] if *word == b"hello".as_slice() => hello(alloc, rest),
+        _ => Err(ReadError::Malformed),
+    }
+}
+
+// Parses an administrator's line that a script has, too.
+#[tactic(auto, unfolding(crate::specs::Grammar::lines_of))]
+fn policy_request(alloc: Global, fields: &[&[u8]]) -> Result<Request, ReadError>
+    ensures { ReadsAs result (lines_of admin_lines (map (λ f. f.now) fields.now)) }
+{
+    let [word, rest @ ..] = fields else {
+        return Err(ReadError::Malformed);
+    };
+    let word = *word;
+    if word == b"reload".as_slice() {
+        reload(rest)
+    } else if word == b"explain".as_slice() {
+        explain(alloc, rest)
+    } else if word == b"denials".as_slice() {
+        denials(rest)
+    } else if word == b"seal".as_slice() {
+        seal(rest)
+    } else {
+        Err(ReadError::Malformed)
     }
 }
 
 // Parses `hello PID UID CONTEXT`.
-#[tactic(auto, unfolding(crate::specs::Grammar::greeting_of))]
-fn greeting(alloc: Global, fields: &[&[u8]]) -> Result<Request, ReadError>
-    ensures { ReadsAs result (greeting_of (map (λ f. f.now) fields.now)) }
+#[tactic(auto, unfolding(crate::specs::Grammar::parsed_by))]
+fn hello(alloc: Global, fields: &[&[u8]]) -> Result<Request, ReadError>
+    ensures { ReadsAs result (line_of hello_line (map (λ f. f.now) fields.now)) }
 {
-    match fields {
-        [word, a, b, c] if *word == b"hello".as_slice() => hello(alloc, a, b, c),
-        _ => Err(ReadError::Malformed),
-    }
-}
-
-#[tactic(auto, unfolding(crate::specs::Grammar::hello_of))]
-fn hello(alloc: Global, pid: &[u8], uid: &[u8], context: &[u8]) -> Result<Request, ReadError>
-    ensures { ReadsAs result (hello_of pid.now uid.now context.now) }
-{
+    let [pid, uid, context] = fields else {
+        return Err(ReadError::Malformed);
+    };
     let pid = u32_field(pid)?;
     let uid = u32_field(uid)?;
     let context = context_field(alloc, context)?;
@@ -173,51 +156,40 @@ fn hello(alloc: Global, pid: &[u8], uid: &[u8], context: &[u8]) -> Result<Reques
 }
 
 // Parses `explain SOURCE TARGET CLASS PERM`.
-#[tactic(auto, unfolding(crate::specs::Grammar::explaining_of))]
-fn explaining(alloc: Global, fields: &[&[u8]]) -> Result<Request, ReadError>
-    ensures { ReadsAs result (explaining_of (map (λ f. f.now) fields.now)) }
+#[tactic(auto, unfolding(crate::specs::Grammar::parsed_by))]
+fn explain(alloc: Global, fields: &[&[u8]]) -> Result<Request, ReadError>
+    ensures { ReadsAs result (line_of explain_line (map (λ f. f.now) fields.now)) }
+{
+    let [source, target, class, perm] = fields else {
+        return Err(ReadError::Malformed);
+    };
+    let query = Query::Explain {
+        source: word_field(alloc, source)?,
+        target: word_field(alloc, target)?,
+        class: class_field(class)?,
+        perm: perm_field(perm)?,
+    };
+    Ok(Request::Look(None, query))
+}
+
+// Parses `denials`.
+#[tactic(auto, unfolding(crate::specs::Grammar::parsed_by))]
+fn denials(fields: &[&[u8]]) -> Result<Request, ReadError>
+    ensures { ReadsAs result (line_of denials_line (map (λ f. f.now) fields.now)) }
 {
     match fields {
-        [word, a, b, c, d] if *word == b"explain".as_slice() => explain(alloc, a, b, c, d),
+        [] => Ok(Request::Denials),
         _ => Err(ReadError::Malformed),
     }
 }
 
-#[tactic(auto, unfolding(crate::specs::Grammar::explain_of))]
-fn explain(
-    alloc: Global,
-    source: &[u8],
-    target: &[u8],
-    class: &[u8],
-    perm: &[u8],
-) -> Result<Request, ReadError>
-    ensures { ReadsAs result (explain_of source.now target.now class.now perm.now) }
-{
-    let source = word_field(alloc, source)?;
-    let target = word_field(alloc, target)?;
-    let class = class_field(class)?;
-    let perm = perm_field(perm)?;
-    Ok(Request::Look(
-        None,
-        Query::Explain {
-            source,
-            target,
-            class,
-            perm,
-        },
-    ))
-}
-
-// Parses `N REQUEST`.
-#[tactic(auto, unfolding(crate::specs::Grammar::client_line_of))]
-fn client_line(alloc: Global, fields: &[&[u8]]) -> Result<Request, ReadError>
-    ensures { ReadsAs result (client_line_of (map (λ f. f.now) fields.now)) }
+// Parses `seal`.
+#[tactic(auto, unfolding(crate::specs::Grammar::parsed_by))]
+fn seal(fields: &[&[u8]]) -> Result<Request, ReadError>
+    ensures { ReadsAs result (line_of seal_line (map (λ f. f.now) fields.now)) }
 {
     match fields {
-        [] => Err(ReadError::Malformed),
-        [number, rest @ ..] => {
-            let client = ClientId(u32_field(number)?);
-            client_request(alloc, Some(client), rest)
-        }
+        [] => Ok(Request::Seal),
+        _ => Err(ReadError::Malformed),
     }
 }

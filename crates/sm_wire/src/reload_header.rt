@@ -2,7 +2,8 @@
 
 ghost use Rattle.std.specs.Prelude.{◌≡◌, ◌+◌, map};
 ghost use Rattle.sm_wire.specs.Reading.{ReadsAs};
-ghost use Rattle.sm_wire.specs.Grammar.{sizes_of, reload_of};
+ghost use Rattle.sm_wire.specs.LineTable.{reload_line};
+ghost use Rattle.sm_wire.specs.Grammar.{line_of};
 
 use crate::numbers::{u32_field, u64_field};
 use crate::read_error::ReadError;
@@ -26,21 +27,14 @@ impl ReloadHeader {
     }
 }
 
-/// Reads `reload EXPECTED R C`.
-#[tactic(auto, unfolding(crate::specs::Grammar::reload_of))]
+/// Reads the fields of `reload EXPECTED R C`.
+#[tactic(auto, unfolding(crate::specs::Grammar::parsed_by))]
 pub fn reload(fields: &[&[u8]]) -> Result<Request, ReadError>
-    ensures { ReadsAs result (reload_of (map (λ f. f.now) fields.now)) }
+    ensures { ReadsAs result (line_of reload_line (map (λ f. f.now) fields.now)) }
 {
-    match fields {
-        [word, a, b, c] if *word == b"reload".as_slice() => sizes(a, b, c),
-        _ => Err(ReadError::Malformed),
-    }
-}
-
-#[tactic(auto, unfolding(crate::specs::Grammar::sizes_of))]
-fn sizes(expected: &[u8], rules: &[u8], contexts: &[u8]) -> Result<Request, ReadError>
-    ensures { ReadsAs result (sizes_of expected.now rules.now contexts.now) }
-{
+    let [expected, rules, contexts] = fields else {
+        return Err(ReadError::Malformed);
+    };
     let expected = u64_field(expected)?;
     let rules = u32_field(rules)?;
     let contexts = u32_field(contexts)?;
