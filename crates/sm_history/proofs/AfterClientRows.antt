@@ -42,6 +42,10 @@ pub record SameClient (d e : Effects) (c : ℕ) : Type 0 where
   pub held : (k : ℕ) → slot_at e c k ≡ slot_at d c k
   pub waiting : inbox_at e c ≡ inbox_at d c
 
+-- The row of client c has index i.
+abbrev pub IsClientPlace : List ClientRow → ℕ → ℕ → Type 0
+IsClientPlace rows c i = IsPlace (λ (r : ClientRow). r.client) rows c i
+
 pub client_stays : (d e : Effects) (c : ℕ) (r : ClientRow) → SameClient d e c → IsClient d c r → IsClient e c r
 client_stays d e c r s i = record {
   who = i.who ∙ sym s.who;
@@ -70,17 +74,17 @@ ids_set (x ∷ xs) (suc i) r r' lt at same = ap (λ (ks : List ℕ). x.client �
     (arith, lt)) at same)
 
 -- One client's row was written, and the others are as they were.
-pub tracks_written : (d e : Effects) (rows : List ClientRow) (c i : ℕ) (r r' : ClientRow) → IsPlace rows c i
+pub tracks_written : (d e : Effects) (rows : List ClientRow) (c i : ℕ) (r r' : ClientRow) → IsClientPlace rows c i
     → r ≡ get_or rows i r → r'.client ≡ r.client → live_clients e ≡ live_clients d
     → ((k : ℕ) → (c == k) ≡ false → SameClient d e k) → (IsClient d c r → IsClient e c r') → TracksClients d rows
     → TracksClients e (set rows i r')
 tracks_written d e rows c i r r' place at same list others own tr =
-    let changed = row_written rows c i r r' place at same in
+    let changed = row_written _ rows c i r r' place at same in
     record {
       ids = ids_set rows i r r' place.inside at same ∙ tr.ids ∙ sym list;
       each = by_client (λ k. IsRowFor e k (client_row_of (set rows i r') k)) c
           (subst (IsRowFor e c) (sym changed.own)
-          (own (subst (IsRowFor d c) (row_read rows c i r place at) (tr.each c))))
+          (own (subst (IsRowFor d c) (row_read _ rows c i r place at) (tr.each c))))
           (λ k f. subst (IsRowFor e k) (sym (changed.other k f))
           (row_stays d e k (client_row_of rows k) (others k f) (tr.each k)));
     }
@@ -191,7 +195,7 @@ tracks_connects d n who rows r s is own process held waiting tr =
     let e = Connects n who ∷ d in
     let new = is_new d n is s.fresh in
     let none = not_live d rows n tr (none_live d n new) in
-    let changed = row_pushed rows r (ap (client_row_of rows) own ∙ none) in
+    let changed = row_pushed _ rows r (ap (client_row_of rows) own ∙ none) in
     record {
       ids = ids_more rows r ∙ ap (λ (k : ℕ). clients_of rows ++ k ∷ []) own ∙ ap (λ (ks : List ℕ). ks ++ n ∷ []) tr.ids
           ∙ sym (list_connects d n who new);
@@ -236,7 +240,7 @@ pub tracks_dies : (d : Effects) (c : ℕ) (rows : List ClientRow) → Sound d �
 tracks_dies d c rows s live tr =
     let e = Dies c ∷ d in
     let left = filter (λ (r : ClientRow). not (r.client == c)) rows in
-    let changed = row_gone rows c in
+    let changed = row_gone _ rows c in
     record {
       ids = ids_gone rows c ∙ filter_turned c (clients_of rows) ∙ ap (filter (λ k. not (c == k))) tr.ids
           ∙ sym (list_dies d c);
@@ -356,7 +360,7 @@ client_gives d c n number r r' s may who waiting put i =
     }
 
 pub tracks_gives : (d : Effects) (rows : List ClientRow) (c i : ℕ) (n : Node) (number : ℕ) (r r' : ClientRow) → Sound d
-    → MayGive d c n number → IsPlace rows c i → r ≡ get_or rows i r → r'.client ≡ r.client → r'.who ≡ r.who
+    → MayGive d c n number → IsClientPlace rows c i → r ≡ get_or rows i r → r'.client ≡ r.client → r'.who ≡ r.who
     → r'.waiting.items ≡ r.waiting.items
     → IsPut r.held.items r'.held.items number (given_slot n (slot r.held.items number)) → TracksClients d rows
     → TracksClients (Gives c n number ∷ d) (set rows i r')
@@ -459,7 +463,7 @@ client_releases d c n number r r' s may at who waiting put i =
 
 pub tracks_releases : (d : Effects) (rows : List ClientRow) (c i : ℕ) (n : Node) (number : ℕ) (r r' : ClientRow)
     → Sound d
-    → MayFollow d (Releases c n) → node_at d c number ≡ Some n → IsPlace rows c i → r ≡ get_or rows i r
+    → MayFollow d (Releases c n) → node_at d c number ≡ Some n → IsClientPlace rows c i → r ≡ get_or rows i r
     → r'.client ≡ r.client → r'.who ≡ r.who → r'.waiting.items ≡ r.waiting.items
     → IsPut r.held.items r'.held.items number (released_slot (slot r.held.items number)) → TracksClients d rows
     → TracksClients (Releases c n ∷ d) (set rows i r')
@@ -471,7 +475,7 @@ tracks_releases d rows c i n number r r' s may there place at same who waiting p
 -- ---- deliveries
 
 pub tracks_delivers : (d : Effects) (rows : List ClientRow) (c i : ℕ) (x : Delivery) (r r' : ClientRow) → Sound d
-    → is_live d c ≡ true → IsPlace rows c i → r ≡ get_or rows i r → r'.client ≡ r.client → r'.who ≡ r.who
+    → is_live d c ≡ true → IsClientPlace rows c i → r ≡ get_or rows i r → r'.client ≡ r.client → r'.who ≡ r.who
     → r'.held.items ≡ r.held.items → r'.waiting.items ≡ r.waiting.items ++ x ∷ [] → TracksClients d rows
     → TracksClients (Delivers c x ∷ d) (set rows i r')
 tracks_delivers d rows c i x r r' s live place at same who held waiting tr =
@@ -486,7 +490,7 @@ tracks_delivers d rows c i x r r' s live place at same who held waiting tr =
     }) tr
 
 pub tracks_takes : (d : Effects) (rows : List ClientRow) (c i : ℕ) (r r' : ClientRow)
-    → IsPlace rows c i → r ≡ get_or rows i r → r'.client ≡ r.client → r'.who ≡ r.who
+    → IsClientPlace rows c i → r ≡ get_or rows i r → r'.client ≡ r.client → r'.who ≡ r.who
     → r'.held.items ≡ r.held.items → r'.waiting.items ≡ drop 1 r.waiting.items → TracksClients d rows
     → TracksClients (Takes c ∷ d) (set rows i r')
 tracks_takes d rows c i r r' place at same who held waiting tr =

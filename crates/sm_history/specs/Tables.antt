@@ -64,17 +64,17 @@ abbrev pub policy_of : Option Policy → Policy
 policy_of None = no_policy
 policy_of (Some p) = p
 
--- Only the row of client c changed, to o.
-pub record IsChanged (rows rows' : List ClientRow) (c : ℕ) (o : Option ClientRow) : Type 0 where
-  pub own : client_row_of rows' c ≡ o
-  pub other : (k : ℕ) → (c == k) ≡ false → client_row_of rows' k ≡ client_row_of rows k
+-- Only the row of client c changed, to o. `key` is the client of a row.
+pub record IsChanged {R : Type 0} (key : R → ℕ) (rows rows' : List R) (c : ℕ) (o : Option R) : Type 0 where
+  pub own : find (λ r. key r == c) rows' ≡ o
+  pub other : (k : ℕ) → (c == k) ≡ false → find (λ r. key r == k) rows' ≡ find (λ r. key r == k) rows
 
 -- The row of client c has index i, so writing there changes only that client's row.
-pub record IsPlace (rows : List ClientRow) (c i : ℕ) : Type 0 where
+pub record IsPlace {R : Type 0} (key : R → ℕ) (rows : List R) (c i : ℕ) : Type 0 where
   pub inside : i < length rows
-  pub here : (r : ClientRow) → client_row_of rows c ≡ Some (slice_index_or rows i r)
-  pub own : (r : ClientRow) → (slice_index_or rows i r).client ≡ c
-  pub written : (r : ClientRow) → r.client ≡ c → IsChanged rows (slice_set rows i r) c (Some r)
+  pub here : (r : R) → find (λ r. key r == c) rows ≡ Some (slice_index_or rows i r)
+  pub own : (r : R) → key (slice_index_or rows i r) ≡ c
+  pub written : (r : R) → key r ≡ c → IsChanged key rows (slice_set rows i r) c (Some r)
 
 -- Only the row of a name changed, to o, and the names still rise.
 pub record IsNameChanged (rows rows' : List NamedRow) (name : List ℕ) (o : Option NamedRow) : Type 0 where

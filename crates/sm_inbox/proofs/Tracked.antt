@@ -11,11 +11,13 @@ use Rattle.sm_history.specs.Inboxes.{inbox_at}
 use Rattle.sm_history.proofs.AfterInboxes.{inbox_delivers, inbox_takes, inbox_dies}
 use Rattle.sm_history.proofs.Sound.{taken_delivers, taken_takes}
 use Rattle.sm_inbox.specs.declared.inbox.Inbox.{Inbox}
-use Rattle.sm_inbox.specs.Rows.{inbox_of, waiting_in, IsChanged, IsPlace}
+use Rattle.sm_history.specs.Tables.{IsChanged, IsPlace}
+use Rattle.sm_inbox.proofs.RowLemmas.{client}
+use Rattle.sm_inbox.specs.Rows.{inbox_of, waiting_in}
 use Rattle.sm_inbox.specs.Tracking.{TracksRows}
-use Rattle.sm_inbox.proofs.RowLemmas.{by_client, self_same, row_pushed, row_read, row_written}
+use Rattle.sm_history.proofs.ClientRows.{by_client, self_same, row_pushed, row_read, row_written}
 
-pub tracks_same : (d : Effects) (rows rows' : List Inbox) (c : ℕ) (o : Option Inbox) → IsChanged rows rows' c o
+pub tracks_same : (d : Effects) (rows rows' : List Inbox) (c : ℕ) (o : Option Inbox) → IsChanged client rows rows' c o
     → waiting_in o ≡ waiting_in (inbox_of rows c) → TracksRows d rows → TracksRows d rows'
 tracks_same d rows rows' c o ch e tr = record {
   taken = tr.taken;
@@ -24,7 +26,7 @@ tracks_same d rows rows' c o ch e tr = record {
 }
 
 pub tracks_delivers : (d : Effects) (rows rows' : List Inbox) (c : ℕ) (o : Option Inbox) (x : Delivery)
-    → IsChanged rows rows' c o
+    → IsChanged client rows rows' c o
     → waiting_in o ≡ waiting_in (inbox_of rows c) ++ x ∷ [] → is_live d c ≡ true → TracksRows d rows
     → TracksRows (Delivers c x ∷ d) rows'
 tracks_delivers d rows rows' c o x ch e live tr = record {
@@ -39,7 +41,7 @@ some_waits : (x : Delivery) (xs ys : List Delivery) → ys ≡ x ∷ xs → nat_
 some_waits x xs ys e = let n = ap (length {A = Delivery}) e in grind (arith, nat_tests)
 
 pub tracks_takes : (d : Effects) (rows rows' : List Inbox) (c : ℕ) (o : Option Inbox) (x : Delivery)
-    → IsChanged rows rows' c o
+    → IsChanged client rows rows' c o
     → waiting_in (inbox_of rows c) ≡ x ∷ waiting_in o → TracksRows d rows → TracksRows (Takes c ∷ d) rows'
 tracks_takes d rows rows' c o x ch e tr =
     let there : inbox_at d c ≡ x ∷ waiting_in o = sym (tr.queues c) ∙ e in
@@ -50,7 +52,8 @@ tracks_takes d rows rows' c o x ch e tr =
           (λ k f. ap waiting_in (ch.other k f) ∙ tr.queues k ∙ sym (inbox_takes d c k ∙ rw f refl));
     }
 
-pub tracks_dies : (d : Effects) (rows rows' : List Inbox) (c : ℕ) → IsChanged rows rows' c None → TracksRows d rows
+pub tracks_dies : (d : Effects) (rows rows' : List Inbox) (c : ℕ) → IsChanged client rows rows' c None
+    → TracksRows d rows
     → TracksRows (Dies c ∷ d) rows'
 tracks_dies d rows rows' c ch tr = record {
   taken = tr.taken;
@@ -63,26 +66,26 @@ tracks_dies d rows rows' c ch tr = record {
 pub tracks_pushed : (d : Effects) (rows : List Inbox) (r : Inbox) → inbox_of rows r.client ≡ None
     → r.waiting.items ≡ []
     → TracksRows d rows → TracksRows d (rows ++ r ∷ [])
-tracks_pushed d rows r none empty tr = tracks_same d rows (rows ++ r ∷ []) r.client (Some r) (row_pushed rows r none)
+tracks_pushed d rows r none empty tr = tracks_same d rows (rows ++ r ∷ []) r.client (Some r) (row_pushed _ rows r none)
     (empty ∙ sym (ap waiting_in none)) tr
 
 -- What a take found, and left.
 pub tracks_popped : (d : Effects) (rows : List Inbox) (c i : ℕ) (r r' : Inbox) (o : Option Delivery)
-    → IsPlace rows c i
+    → IsPlace client rows c i
     → r ≡ get_or rows i r → r'.client ≡ r.client
     → MatchOption o ((r.waiting.items ≡ []) × (r'.waiting.items ≡ [])) (λ x. r.waiting.items ≡ x ∷ r'.waiting.items) →
     TracksRows d rows
     → MatchOption o ((inbox_at d c ≡ []) × TracksRows d (set rows i r'))
     (λ x. (inbox_at d c ≡ x ∷ drop 1 (inbox_at d c)) × TracksRows (Takes c ∷ d) (set rows i r'))
 tracks_popped d rows c i r r' None at e same left tr =
-    let there = ap waiting_in (row_read rows c i r at e) in (
+    let there = ap waiting_in (row_read _ rows c i r at e) in (
       sym (tr.queues c) ∙ there ∙ left.0,
-      tracks_same d rows (set rows i r') c (Some r') (row_written rows c i r r' at e same)
+      tracks_same d rows (set rows i r') c (Some r') (row_written _ rows c i r r' at e same)
           (left.1 ∙ sym (there ∙ left.0)) tr,
     )
 tracks_popped d rows c i r r' (Some x) at e same left tr =
-    let there = ap waiting_in (row_read rows c i r at e) in
+    let there = ap waiting_in (row_read _ rows c i r at e) in
     let found : inbox_at d c ≡ x ∷ r'.waiting.items = sym (tr.queues c) ∙ there ∙ left in (
       found ∙ ap (λ ys. x ∷ ys) (sym (ap (drop 1) found)),
-      tracks_takes d rows (set rows i r') c (Some r') x (row_written rows c i r r' at e same) (there ∙ left) tr,
+      tracks_takes d rows (set rows i r') c (Some r') x (row_written _ rows c i r r' at e same) (there ∙ left) tr,
     )

@@ -1,7 +1,8 @@
 //! The index of a client's inbox.
 
 ghost use Rattle.std.specs.Prelude.{◌≡◌, ◌==◌, MatchOption, None, position};
-ghost use Rattle.sm_inbox.specs.Rows.{inbox_of, IsPlace};
+ghost use Rattle.sm_history.specs.Tables.{IsPlace};
+ghost use Rattle.sm_inbox.specs.Rows.{inbox_of};
 
 use crate::inbox::Inbox;
 
@@ -13,7 +14,7 @@ fn first_of(rows: &[Inbox], client: u32) -> Option<usize>
 
 /// Returns the index of a client's inbox.
 pub fn place_of(rows: &[Inbox], client: u32) -> Option<usize>
-    ensures { MatchOption result (inbox_of rows.now client ≡ None) (IsPlace rows.now client) }
+    ensures { MatchOption result (inbox_of rows.now client ≡ None) (IsPlace (λ r. r.client) rows.now client) }
 {
     first_of(rows, client)
 }

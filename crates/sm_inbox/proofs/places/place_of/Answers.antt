@@ -1,5 +1,5 @@
-use Rattle.sm_inbox.proofs.RowLemmas.{by_position}
+use Rattle.sm_history.proofs.ClientRows.{by_position}
 use Rattle.sm_inbox.proofs.places.place_of.Goals as goal
 
 pub returns : goal.returns
-returns c = by_position c.args.rows.now c.args.client c.first_of.result c.first_of.ensures
+returns c = by_position _ c.args.rows.now c.args.client c.first_of.result c.first_of.ensures

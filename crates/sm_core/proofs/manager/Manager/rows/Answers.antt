@@ -27,7 +27,8 @@ returns c =
     c.in_ok-turns.ensures
     ∙ ap (λ (rs : List LiveClient). map (row_for c.self.inside.turns)
     (Manager ∷ map as_client (ids rs) ++ counted_admins c.self.inside.turns)) c.deref.ensures.value
-    ∙ actor_rows h c.self.inside.turns c.self.inside.state.principals.clients.items k.turns_are k.admins_are k.stands.principals.clients in
+    ∙ actor_rows h c.self.inside.turns c.self.inside.state.principals.clients.items k.turns_are k.admins_are
+    k.stands.principals.clients in
     let length : c.length-length.result ≡ length_of h =
     c.length-length.ensures ∙ sym (ap (λ (m : Managed). length_of m.book.history) c.self.view_is) in
     c.new.ensures

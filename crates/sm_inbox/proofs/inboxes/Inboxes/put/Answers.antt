@@ -1,6 +1,7 @@
 use Rattle.std.proofs.Common.{◌≡◌, ◌++◌, ◌∷◌, [], None, ap, sym, ◌∙◌, arith, refl}
 use Rattle.sm_inbox.specs.Rows.{inbox_of, room_in, waiting_in}
-use Rattle.sm_inbox.proofs.RowLemmas.{row_read, row_written, room_read, room_others, one_more, open_written}
+use Rattle.sm_history.proofs.ClientRows.{row_read, row_written}
+use Rattle.sm_inbox.proofs.RowLemmas.{room_read, room_others, one_more, open_written}
 use Rattle.sm_inbox.proofs.Tracked.{tracks_delivers}
 use Rattle.sm_inbox.proofs.inboxes.Inboxes.put.Goals as goal
 
@@ -14,7 +15,7 @@ unreachable-requires c =
 pub push_back_reserved-requires : goal.push_back_reserved-requires
 push_back_reserved-requires c =
     let at = rw c.deref.ensures.value at c.in-Some.ensures in
-    let there = row_read c.args.self.now.rows.items c.args.client c.in-Some.i c.index_mut-row.result.now at
+    let there = row_read _ c.args.self.now.rows.items c.args.client c.in-Some.i c.index_mut-row.result.now at
     c.index_mut-row.ensures.value in
     let room = room_read _ c.index_mut-row.result.now there in
     let places = c.index_mut-row.result.now.has_places in
@@ -24,9 +25,9 @@ pub returns-clause-tracks : goal.returns-clause-tracks
 returns-clause-tracks c d tr live =
     let rows = c.args.self.now.rows.items in
     let at = rw c.deref.ensures.value at c.in-Some.ensures in
-    let there = row_read rows c.args.client c.in-Some.i c.index_mut-row.result.now at c.index_mut-row.ensures.value in
+    let there = row_read _ rows c.args.client c.in-Some.i c.index_mut-row.result.now at c.index_mut-row.ensures.value in
     tracks_delivers d rows _ c.args.client _ c.args.delivery
-    (row_written rows c.args.client c.in-Some.i c.index_mut-row.result.now _ at c.index_mut-row.ensures.value refl)
+    (row_written _ rows c.args.client c.in-Some.i c.index_mut-row.result.now _ at c.index_mut-row.ensures.value refl)
     (c.push_back_reserved.ensures.items ∙ sym (ap (λ o. waiting_in o ++ c.args.delivery ∷ []) there)) live tr
 
 pub returns-clause-room : goal.returns-clause-room
@@ -40,7 +41,7 @@ returns-clause-others c k f =
     let rows = c.args.self.now.rows.items in
     let at = rw c.deref.ensures.value at c.in-Some.ensures in
     room_others _ _ c.args.client _
-    (row_written rows c.args.client c.in-Some.i c.index_mut-row.result.now _ at c.index_mut-row.ensures.value
+    (row_written _ rows c.args.client c.in-Some.i c.index_mut-row.result.now _ at c.index_mut-row.ensures.value
     refl) k f
 
 pub returns-clause-still : goal.returns-clause-still

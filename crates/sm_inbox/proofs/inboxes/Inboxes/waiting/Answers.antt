@@ -1,12 +1,13 @@
 use Rattle.std.proofs.Common.{◌≡◌, None, ap, sym, ◌∙◌, length}
 use Rattle.sm_inbox.specs.Rows.{inbox_of, waiting_in}
-use Rattle.sm_inbox.proofs.RowLemmas.{row_read, waiting_read}
+use Rattle.sm_history.proofs.ClientRows.{row_read}
+use Rattle.sm_inbox.proofs.RowLemmas.{waiting_read}
 use Rattle.sm_inbox.proofs.inboxes.Inboxes.waiting.Goals as goal
 
 pub returns-in-Some : goal.returns-in-Some
 returns-in-Some c =
     let at = rw c.deref.ensures.value at c.in-Some.ensures in
-    let there = row_read c.args.self.now.rows.items c.args.client c.in-Some.i c.index.result.now at c.index.ensures in
+    let there = row_read _ c.args.self.now.rows.items c.args.client c.in-Some.i c.index.result.now at c.index.ensures in
     c.len.ensures ∙ sym (waiting_read _ c.index.result.now there)
 
 pub returns-in-None : goal.returns-in-None
