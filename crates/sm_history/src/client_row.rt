@@ -1,13 +1,7 @@
 //! A live client's row in the tables of a replay.
 
-ghost use Rattle.std.specs.Prelude.{◌≡◌, ◌==◌, ◌++◌, ◌∷◌, [], None, drop, position, MatchOption, OnOk};
-ghost use Rattle.sm_history.specs.declared.effect.Effect.TheVariants.{Delivers, Gives, Releases, Takes};
-ghost use Rattle.sm_history.specs.Effects.{Effects};
-ghost use Rattle.sm_history.specs.Holdings.{node_at};
-ghost use Rattle.sm_history.specs.Sound.{Sound};
-ghost use Rattle.sm_history.specs.Following.{MayFollow};
+ghost use Rattle.std.specs.Prelude.{◌≡◌, ◌==◌, None, position, MatchOption, OnOk};
 ghost use Rattle.sm_history.specs.Tables.{slot, IsPut, given_slot, released_slot, client_row_of, IsPlace};
-ghost use Rattle.sm_history.specs.Tables.{TracksClients};
 
 use crate::delivery::BoxedDelivery;
 use sm_kinds::{Identity, Node};

@@ -1,7 +1,7 @@
 //! The inboxes of all clients.
 
 ghost use Rattle.std.specs.Prelude.{◌≡◌, ℕ, ◌+◌, ◌-◌, ◌≤◌, ◌<◌, ◌==◌, ◌↔◌, true, false, [], ◌∷◌, drop, length, IsTrue};
-ghost use Rattle.std.specs.Prelude.{IsOk, IfOk, OnOk, OnErr, IfNone, MatchOption};
+ghost use Rattle.std.specs.Prelude.{IsOk, IfOk, OnOk, OnErr, MatchOption};
 ghost use Rattle.sm_history.specs.declared.limits.TheConstants.{MOST_DELIVERIES};
 ghost use Rattle.sm_history.specs.declared.effect.Effect.TheVariants.{Delivers, Takes, Dies};
 ghost use Rattle.sm_history.specs.Effects.{Effects};

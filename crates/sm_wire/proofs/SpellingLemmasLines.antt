@@ -1,16 +1,14 @@
 -- What spells a request is read as it, and what is read is spelled so.
-use Rattle.std.proofs.Common.{◌≡◌, ℕ, inl, inr, Bool, true, false, ◌&&◌, not, ◌==◌, List, [], ◌∷◌, ◌++◌, Option, Some}
+use Rattle.std.proofs.Common.{◌≡◌, ℕ, inl, inr, Bool, true, false, ◌&&◌, not, List, [], ◌∷◌, ◌++◌, Option, Some}
 use Rattle.std.proofs.Common.{None, Result, Ok, Err, refl, sym, ap, subst, ◌∙◌, if◌then◌else◌, true≢false}
-use Rattle.std.specs.Prelude.{codes, is_some}
+use Rattle.std.specs.Prelude.{is_some}
 use Rattle.std.specs.List.{AllByRecursion, list_all}
 use Rattle.std.specs.Str.{bytes_eq}
 use Rattle.std.proofs.lemmas.Bool.{and_parts}
 use Rattle.std.proofs.lemmas.List.Splits.{join_with_byte-slice_split}
 use Rattle.std.proofs.lemmas.Option.{same_Some, none-some}
 use Rattle.std.proofs.lemmas.Slice.Eq.{bytes_eq-Decides}
-use Rattle.sm_kinds.specs.declared.number.ClientId.{ClientId}
 use Rattle.sm_kinds.specs.declared.number.ObjRef.TheVariants.{Own}
-use Rattle.sm_kinds.specs.Permissions.{class_read}
 use Rattle.sm_wire.specs.declared.request.Request.{Request}
 use Rattle.sm_wire.specs.declared.kind.Kind.{Kind}
 use Rattle.sm_wire.specs.declared.kind.Kind.TheVariants.{Client, Admin, Script}
@@ -18,11 +16,10 @@ use Rattle.sm_wire.specs.declared.item.Item.TheVariants as items
 use Rattle.sm_wire.specs.declared.read_error.ReadError.{ReadError}
 use Rattle.sm_wire.specs.declared.read_error.ReadError.TheVariants.{Malformed, Memory}
 use Rattle.sm_wire.specs.Items.{item_of}
-use Rattle.sm_wire.specs.Reading.{ReadsAs, first_of_two}
+use Rattle.sm_wire.specs.Reading.{ReadsAs}
 use Rattle.sm_wire.specs.Number.{u32_max, u64_max, parsed_number}
 use Rattle.sm_wire.specs.Fields.{fields_of}
-use Rattle.sm_wire.specs.Values.{name_of, reference_of, own_object_of, call_references_of, payload_of, flag_of}
-use Rattle.sm_wire.specs.Values.{context_of, word_of, perm_of}
+use Rattle.sm_wire.specs.Values.{call_references_of}
 use Rattle.sm_wire.specs.LineTable.{Field, Value, Maker, Production, client_lines, greeting_lines, standing_lines}
 use Rattle.sm_wire.specs.LineTable.{admin_lines}
 use Rattle.sm_wire.specs.Grammar.{value_of, has_fields, made_of, parsed_by, line_of, lines_of, client_line_of}
