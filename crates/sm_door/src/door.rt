@@ -46,7 +46,8 @@ use sm_policy::Prepared;
 use std::alloc::{AllocError, Global};
 use std::sync::{Arc, Mutex, MutexGuard, Wait};
 
-/// How often a thread tries to take the lock before it sleeps. The pauses in between grow to 64 turns each.
+/// How often a thread tries to take the lock before it sleeps. Between two tries it spins, longer each time, up to 64
+/// iterations.
 const ATTEMPTS: u32 = 16;
 
 /// The manager behind one lock. A door isn't dropped: its owner ends it by `close`.
