@@ -1,11 +1,10 @@
 //! Requests of clients: a function for each line of the table. Each takes the fields after its word.
 
-ghost use Rattle.std.specs.Prelude.{map};
+ghost use Rattle.std.specs.Prelude.{false, [], map};
 ghost use Rattle.sm_wire.specs.Reading.{ReadsAs};
-ghost use Rattle.sm_wire.specs.LineTable.{get_line, list_line, version_line, add_line, watch_line, unwatch_line};
-ghost use Rattle.sm_wire.specs.LineTable.{unregister_line, call_line, release_line, take_line, bye_line};
-ghost use Rattle.sm_wire.specs.LineTable.{binder_lines, client_lines};
-ghost use Rattle.sm_wire.specs.Grammar.{line_of, lines_of};
+ghost use Rattle.sm_wire.specs.LineTable.{get_line, list_line, add_line, watch_line, unwatch_line, unregister_line};
+ghost use Rattle.sm_wire.specs.LineTable.{call_line, release_line, binder_lines, client_lines};
+ghost use Rattle.sm_wire.specs.Grammar.{line_of, lines_of, parsed_by};
 
 use crate::numbers::u32_field;
 use crate::read_error::ReadError;
@@ -37,7 +36,7 @@ pub fn client_request(
     } else if word == b"list".as_slice() {
         list(client, rest)
     } else if word == b"version".as_slice() {
-        version(client, rest)
+        bare(rest, Request::Look(client, Query::Version))
     } else if word == b"add".as_slice() {
         add(alloc, client, rest)
     } else if word == b"watch".as_slice() {
@@ -69,12 +68,23 @@ fn binder_request(
     } else if word == b"release".as_slice() {
         release(client, rest)
     } else if word == b"take".as_slice() {
-        take(client, rest)
+        bare(rest, Request::Change(client, Event::Take))
     } else if word == b"bye".as_slice() {
-        bye(client, rest)
+        bare(rest, Request::Change(client, Event::Die))
     } else {
         Err(ReadError::Malformed)
     }
+}
+
+/// Reads the fields of a line that has none, which makes this request.
+#[tactic(auto, unfolding(crate::specs::Grammar::parsed_by))]
+pub fn bare(fields: &[&[u8]], request: Request) -> Result<Request, ReadError>
+    ensures { ReadsAs result (parsed_by [] false request (map (λ f. f.now) fields.now)) }
+{
+    if fields.is_empty() {
+        return Ok(request);
+    }
+    Err(ReadError::Malformed)
 }
 
 // Reads `get NAME` or `check NAME`, which means the same.
@@ -99,17 +109,6 @@ fn list(client: Option<ClientId>, fields: &[&[u8]]) -> Result<Request, ReadError
     };
     let mask = u32_field(mask)?;
     Ok(Request::Look(client, Query::List(mask)))
-}
-
-// Reads `version`.
-#[tactic(auto, unfolding(crate::specs::Grammar::parsed_by))]
-pub fn version(client: Option<ClientId>, fields: &[&[u8]]) -> Result<Request, ReadError>
-    ensures { ReadsAs result (line_of (version_line client) (map (λ f. f.now) fields.now)) }
-{
-    match fields {
-        [] => Ok(Request::Look(client, Query::Version)),
-        _ => Err(ReadError::Malformed),
-    }
 }
 
 // Reads `add NAME REF ALLOW DUMP`.
@@ -198,26 +197,4 @@ fn release(client: Option<ClientId>, fields: &[&[u8]]) -> Result<Request, ReadEr
     };
     let handle = u32_field(handle)?;
     Ok(Request::Change(client, Event::Release { handle }))
-}
-
-// Reads `take`.
-#[tactic(auto, unfolding(crate::specs::Grammar::parsed_by))]
-fn take(client: Option<ClientId>, fields: &[&[u8]]) -> Result<Request, ReadError>
-    ensures { ReadsAs result (line_of (take_line client) (map (λ f. f.now) fields.now)) }
-{
-    match fields {
-        [] => Ok(Request::Change(client, Event::Take)),
-        _ => Err(ReadError::Malformed),
-    }
-}
-
-// Reads `bye`.
-#[tactic(auto, unfolding(crate::specs::Grammar::parsed_by))]
-fn bye(client: Option<ClientId>, fields: &[&[u8]]) -> Result<Request, ReadError>
-    ensures { ReadsAs result (line_of (bye_line client) (map (λ f. f.now) fields.now)) }
-{
-    match fields {
-        [] => Ok(Request::Change(client, Event::Die)),
-        _ => Err(ReadError::Malformed),
-    }
 }

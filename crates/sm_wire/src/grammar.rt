@@ -2,12 +2,11 @@
 
 ghost use Rattle.std.specs.Prelude.{map};
 ghost use Rattle.sm_wire.specs.Reading.{ReadsAs};
-ghost use Rattle.sm_wire.specs.LineTable.{hello_line, explain_line, denials_line, seal_line};
-ghost use Rattle.sm_wire.specs.LineTable.{greeting_lines, standing_lines, admin_lines};
+ghost use Rattle.sm_wire.specs.LineTable.{hello_line, explain_line, greeting_lines, standing_lines, admin_lines};
 ghost use Rattle.sm_wire.specs.Grammar.{line_of, lines_of, client_line_of, unnumbered_of, client_fields_of};
 ghost use Rattle.sm_wire.specs.Grammar.{admin_fields_of, script_fields_of, fields_request_of, request_of};
 
-use crate::client_requests::{client_request, version};
+use crate::client_requests::{bare, client_request};
 use crate::fields::split_fields;
 use crate::kind::Kind;
 use crate::numbers::u32_field;
@@ -103,7 +102,10 @@ fn standing(fields: &[&[u8]]) -> Result<Request, ReadError>
     ensures { ReadsAs result (lines_of standing_lines (map (λ f. f.now) fields.now)) }
 {
     match fields {
-        [word, rest @ ..] if *word == b"version".as_slice() => version(None, rest),
+        [word, rest @ ..] if *word == b"version".as_slice() => bare(
+            rest,
+            Request::Look(None, Query::Version),
+        ),
         _ => Err(ReadError::Malformed),
     }
 }
@@ -133,9 +135,9 @@ fn policy_request(alloc: Global, fields: &[&[u8]]) -> Result<Request, ReadError>
     } else if word == b"explain".as_slice() {
         explain(alloc, rest)
     } else if word == b"denials".as_slice() {
-        denials(rest)
+        bare(rest, Request::Denials)
     } else if word == b"seal".as_slice() {
-        seal(rest)
+        bare(rest, Request::Seal)
     } else {
         Err(ReadError::Malformed)
     }
@@ -170,26 +172,4 @@ fn explain(alloc: Global, fields: &[&[u8]]) -> Result<Request, ReadError>
         perm: perm_field(perm)?,
     };
     Ok(Request::Look(None, query))
-}
-
-// Parses `denials`.
-#[tactic(auto, unfolding(crate::specs::Grammar::parsed_by))]
-fn denials(fields: &[&[u8]]) -> Result<Request, ReadError>
-    ensures { ReadsAs result (line_of denials_line (map (λ f. f.now) fields.now)) }
-{
-    match fields {
-        [] => Ok(Request::Denials),
-        _ => Err(ReadError::Malformed),
-    }
-}
-
-// Parses `seal`.
-#[tactic(auto, unfolding(crate::specs::Grammar::parsed_by))]
-fn seal(fields: &[&[u8]]) -> Result<Request, ReadError>
-    ensures { ReadsAs result (line_of seal_line (map (λ f. f.now) fields.now)) }
-{
-    match fields {
-        [] => Ok(Request::Seal),
-        _ => Err(ReadError::Malformed),
-    }
 }
