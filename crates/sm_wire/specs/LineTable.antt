@@ -38,8 +38,7 @@ Value Field.word = List ℕ
 Value Field.class = Class
 Value Field.perm = Perms
 
--- From the values of its fields, and of any number of REF behind them where the line may have these, a line makes its
--- request.
+-- A line makes its request from the values of its fields, and from the references behind them if it may have some.
 abbrev pub Maker : List Field → Bool → Type 0
 Maker [] false = Request
 Maker [] true = List ObjRef → Request
@@ -52,47 +51,47 @@ pub record Production : Type 0 where
   pub more : Bool
   pub make : Maker fields more
 
--- A line has no REF behind its fields.
+-- This is a line without REF behind its fields.
 abbrev pub line : (text : List ℕ) (fields : List Field) → Maker fields false → Production
 line text fields make = record { word = text; fields = fields; more = false; make = make }
 
--- `get NAME`
+-- This is `get NAME`.
 abbrev pub get_line : Option ClientId → Production
 get_line who = line (codes "get") (Field.name ∷ []) (λ name. Change who (Get name))
 
--- `check NAME`, which means the same
+-- This is `check NAME`, which means the same.
 abbrev pub check_line : Option ClientId → Production
 check_line who = line (codes "check") (Field.name ∷ []) (λ name. Change who (Get name))
 
--- `list MASK`
+-- This is `list MASK`.
 abbrev pub list_line : Option ClientId → Production
 list_line who = line (codes "list") (Field.number ∷ []) (λ mask. Look who (queries.List mask))
 
--- `version`
+-- This is `version`.
 abbrev pub version_line : Option ClientId → Production
 version_line who = line (codes "version") [] (Look who queries.Version)
 
--- `add NAME REF ALLOW DUMP`
+-- This is `add NAME REF ALLOW DUMP`.
 abbrev pub add_line : Option ClientId → Production
 add_line who = line (codes "add") (Field.name ∷ Field.reference ∷ Field.flag ∷ Field.number ∷ [])
     (λ name reference allow dump. Change who (Add name reference allow dump))
 
--- `watch NAME oN`
+-- This is `watch NAME oN`.
 abbrev pub watch_line : Option ClientId → Production
 watch_line who = line (codes "watch") (Field.name ∷ Field.object ∷ [])
     (λ name object. Change who (Watch name object))
 
--- `unwatch NAME oN`
+-- This is `unwatch NAME oN`.
 abbrev pub unwatch_line : Option ClientId → Production
 unwatch_line who = line (codes "unwatch") (Field.name ∷ Field.object ∷ [])
     (λ name object. Change who (Unwatch name object))
 
--- `unregister NAME REF`
+-- This is `unregister NAME REF`.
 abbrev pub unregister_line : Option ClientId → Production
 unregister_line who = line (codes "unregister") (Field.name ∷ Field.reference ∷ [])
     (λ name reference. Change who (Unregister name reference))
 
--- `call N PAYLOAD REF ..`, with at most 16 REF
+-- This is `call N PAYLOAD REF ..`, with at most 16 REF.
 abbrev pub call_line : Option ClientId → Production
 call_line who = record {
   word = codes "call";
@@ -101,59 +100,59 @@ call_line who = record {
   make = λ handle payload references. Change who (Call handle payload references);
 }
 
--- `release N`
+-- This is `release N`.
 abbrev pub release_line : Option ClientId → Production
 release_line who = line (codes "release") (Field.number ∷ []) (λ handle. Change who (Release handle))
 
--- `take`
+-- This is `take`.
 abbrev pub take_line : Option ClientId → Production
 take_line who = line (codes "take") [] (Change who Take)
 
--- `bye`
+-- This is `bye`.
 abbrev pub bye_line : Option ClientId → Production
 bye_line who = line (codes "bye") [] (Change who Die)
 
--- `hello PID UID CONTEXT`
+-- This is `hello PID UID CONTEXT`.
 abbrev pub hello_line : Production
 hello_line = line (codes "hello") (Field.number ∷ Field.number ∷ Field.context ∷ [])
     (λ pid uid context. Hello (record { pid = pid; uid = uid; context = context }))
 
--- `reload EXPECTED R C`
+-- This is `reload EXPECTED R C`.
 abbrev pub reload_line : Production
 reload_line = line (codes "reload") (Field.long ∷ Field.number ∷ Field.number ∷ [])
     (λ expected rules contexts. Reload expected rules contexts)
 
--- `explain SOURCE TARGET CLASS PERM`
+-- This is `explain SOURCE TARGET CLASS PERM`.
 abbrev pub explain_line : Production
 explain_line = line (codes "explain") (Field.word ∷ Field.word ∷ Field.class ∷ Field.perm ∷ [])
     (λ source target class perm. Look None (queries.Explain source target class perm))
 
--- `denials`
+-- This is `denials`.
 abbrev pub denials_line : Production
 denials_line = line (codes "denials") [] Denials
 
--- `seal`
+-- This is `seal`.
 abbrev pub seal_line : Production
 seal_line = line (codes "seal") [] Seal
 
--- A client's lines that concern handles and deliveries.
+-- These are a client's lines that concern handles and deliveries.
 abbrev pub binder_lines : Option ClientId → List Production
 binder_lines who = call_line who ∷ release_line who ∷ take_line who ∷ bye_line who ∷ []
 
--- A client's lines that concern names, and the former.
+-- These are all of a client's lines.
 abbrev pub client_lines : Option ClientId → List Production
 client_lines who =
     get_line who ∷ check_line who ∷ list_line who ∷ version_line who ∷ add_line who ∷ watch_line who
     ∷ unwatch_line who ∷ unregister_line who ∷ binder_lines who
 
--- The line by which a process connects.
+-- This is the line by which a process connects.
 abbrev pub greeting_lines : List Production
 greeting_lines = hello_line ∷ []
 
--- An administrator's line that a script doesn't have.
+-- This is an administrator's line that a script doesn't have.
 abbrev pub standing_lines : List Production
 standing_lines = version_line None ∷ []
 
--- An administrator's lines that a script has, too.
+-- These are an administrator's lines that a script has, too.
 abbrev pub admin_lines : List Production
 admin_lines = reload_line ∷ explain_line ∷ denials_line ∷ seal_line ∷ []
