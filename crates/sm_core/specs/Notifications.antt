@@ -1,8 +1,7 @@
 -- Notifying watchers, in terms of the state before the first notice.
-use Rattle.std.specs.Prelude.{ℕ, ◌-◌, ◌≡◌, true, false, ◌&&◌, nat_lt, nat_eq}
+use Rattle.std.specs.Prelude.{ℕ, ◌-◌, ◌≡◌, true, false, ◌&&◌, nat_lt}
 use Rattle.std.specs.Prelude.{List, [], ◌∷◌, ◌++◌, Option, length, unwrap_or}
 use Rattle.std.specs.List.{list_any}
-use Rattle.std.specs.HashMap.{get}
 use Rattle.sm_kinds.specs.declared.number.Node.{Node}
 use Rattle.sm_history.specs.declared.failed_check.EarlyAnswer.TheVariants.{Refused}
 use Rattle.sm_history.specs.declared.refusal.Refusal.TheVariants.{Failed}
@@ -25,6 +24,7 @@ use Rattle.sm_history.specs.Records.{Moment, left_by_all, left_by_notices}
 use Rattle.sm_history.specs.Notices.{notice_checks, after_notice, after_notices}
 use Rattle.sm_history.specs.Sound.{Sound}
 use Rattle.sm_core.specs.Stands.{is_death}
+use Rattle.sm_core.specs.InboxRooms.{left_of}
 use Rattle.sm_core.specs.declared.plan.Plan.{Plan}
 use Rattle.sm_core.specs.declared.notifications.Notifications.{Notifications}
 
@@ -68,7 +68,7 @@ pub record MayTell (d : Effects) (n : Node) (xs : List Effect) : Type 0 where
 
 -- This many deliveries still fit into an inbox of a notified client.
 abbrev pub left_in : Notifications → ℕ → Option ℕ
-left_in t c = get nat_eq t.left c
+left_in t c = left_of t.left.rows.items c
 
 -- This many deliveries still fit into a client's inbox.
 abbrev pub left_at : Effects → Notifications → ℕ → ℕ

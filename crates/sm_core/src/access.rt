@@ -9,7 +9,7 @@ ghost use Rattle.sm_history.specs.Records.{rule_record};
 ghost use Rattle.sm_history.specs.declared.failed_check.FailedCheck.TheVariants.{Unruled, Barred};
 ghost use Rattle.sm_core.specs.Judging.{IsRuled, noted, clause_noted};
 ghost use Rattle.sm_core.specs.Judging as spec;
-ghost use Rattle.sm_core.specs.Tables.{process_under};
+ghost use Rattle.sm_core.specs.Tables.{process_under, IsLabelUnder};
 
 use crate::notes::Notes;
 use crate::principals::Principals;
@@ -17,7 +17,7 @@ use crate::process::Process;
 use crate::small_failed_check::{SmallFailedCheck, wanted};
 use sm_history::{Denial, FailedCheck, Record};
 use sm_kinds::{Class, Context, Identity, Name, Perms};
-use sm_policy::{Decision, Prepared};
+use sm_policy::{Decision, Label, Prepared};
 use std::alloc::{AllocError, Global};
 use std::marker::Model;
 
@@ -266,14 +266,15 @@ impl<'a> Access<'a> {
         &self,
         source: &Process,
         name: &Name,
+        label: Label<'_>,
         perm: Perms,
         notes: &mut Notes,
     ) -> Result<(), SmallFailedCheck>
-        requires { source.now ≡ process_under self.now.policy source.now.who }
+        requires source { source.now ≡ process_under self.now.policy source.now.who }
+        requires label { IsLabelUnder self.now.policy name.now label }
         ensures { IsRuled self.now notes.old notes.new ServiceManager perm source.now.who
             (label_of self.now.policy name.now) (Some name.now) result }
     {
-        let label = self.policy.labelled(name.bytes());
         self.needs(
             source,
             label.context,

@@ -22,8 +22,8 @@ use sm_kinds::Node;
 use sm_names::Names;
 use std::alloc::AllocError;
 
-/// Grants an object once more.
-pub fn give(grants: &mut Grants, client: u32, node: Node)
+/// Grants an object once more, which has this number.
+pub fn give(grants: &mut Grants, client: u32, node: Node, number: u32)
     ensures tracks { (d : Effects) (r : ℕ) → Tracks d grants.old → is_live d client ≡ true
         → r ≡ number_for d client node
         → fits_handles (Gives client node r ∷ d) client ≡ true → 0 < spare_for grants.old client
@@ -32,7 +32,7 @@ pub fn give(grants: &mut Grants, client: u32, node: Node)
     ensures spare { spare_for grants.old client ≤ spare_for grants.new client + 1 }
     ensures others { (k : ℕ) → (client == k) ≡ false → spare_for grants.new k ≡ spare_for grants.old k }
 {
-    let _ = grants.grant(client, node);
+    let _ = grants.grant(client, node, number);
 }
 
 /// Releases one grant of an object.

@@ -6,20 +6,20 @@ ghost use Rattle.sm_history.specs.Effects.{Effects};
 ghost use Rattle.sm_history.specs.declared.effect.Effect.TheVariants.{Delivers};
 ghost use Rattle.sm_core.specs.Notifications.{gives_of, told_to, left_in, MayPrecede, AreNotifications};
 
+use crate::inbox_rooms::InboxRooms;
 use crate::notes::Notes;
 use sm_history::{
     BoxedDelivery, BoxedNotice, Delivery, Effect, Given, Message, Notice, Notices, Watch,
 };
 use sm_kinds::Node;
 use std::alloc::{AllocError, Global};
-use std::collections::HashMap;
 
 /// The notices to watchers so far: their effects in order, the number of deliveries for which the inbox of each
 /// notified client still has room, and the records of the checks.
 #[derive(Drop)]
 pub struct Notifications {
     pub effects: Vec<Effect>,
-    pub left: HashMap<u32, usize>,
+    pub left: InboxRooms,
     pub records: Notes,
 }
 
@@ -35,21 +35,22 @@ fn registration(alloc: Global, watch: &Watch, given: Given) -> Result<BoxedDeliv
     BoxedDelivery::new(alloc, delivery)
 }
 
-/// Boxes a notice twice.
+/// Shares a notice between two owners.
 pub fn boxed_twice(alloc: Global, notice: Notice) -> Result<(BoxedNotice, BoxedNotice), AllocError>
     ensures { IfOk result (λ both. (both.0 ≡ notice) × (both.1 ≡ notice)) }
 {
-    let copy = BoxedNotice::new(alloc, notice.clone()?)?;
     let first = BoxedNotice::new(alloc, notice)?;
-    Ok((first, copy))
+    let second = first.clone()?;
+    Ok((first, second))
 }
 
-/// Copies notices.
-pub fn listed_twice(notices: Vec<Notice>) -> Result<(Notices, Notices), AllocError>
+/// Shares notices between two owners.
+pub fn listed_twice(alloc: Global, notices: Vec<Notice>) -> Result<(Notices, Notices), AllocError>
     ensures { IfOk result (λ both. (both.0 ≡ notices.items) × (both.1 ≡ notices.items)) }
 {
-    let copies = notices.clone()?;
-    Ok((Notices::new(notices), Notices::new(copies)))
+    let first = Notices::new(alloc, notices)?;
+    let second = first.clone()?;
+    Ok((first, second))
 }
 
 /// Grants a handle to a client, unless the object is its own.
@@ -79,7 +80,7 @@ impl Notifications {
     {
         Notifications {
             effects,
-            left: HashMap::new(alloc),
+            left: InboxRooms::new(alloc),
             records: Notes::none(alloc),
         }
     }
@@ -104,7 +105,7 @@ impl Notifications {
     {
         let delivery = registration(alloc, watch, given)?;
         let told = delivery.clone()?;
-        self.left.insert(watch.client, left - 1)?;
+        self.left.set(watch.client, left - 1)?;
         give(&mut self.effects, watch.client, node, given)?;
         self.effects.push(Effect::Delivers {
             client: watch.client,

@@ -1,11 +1,11 @@
 //! The answers to queries, which change nothing.
 
-ghost use Rattle.std.specs.Prelude.{◌≡◌, false, IfErr, MatchResult};
+ghost use Rattle.std.specs.Prelude.{◌≡◌, false, IfErr, IfOk, MatchResult};
 ghost use Rattle.sm_history.specs.Clients.{version_at};
 ghost use Rattle.sm_history.specs.Histories.{effects_of, length_of};
 ghost use Rattle.sm_history.specs.PossibleReplies.{takes_memory};
 ghost use Rattle.sm_history.specs.Promises.{Looks};
-ghost use Rattle.sm_history.specs.Queries.{is_their_query, list_checks, checks_of_query, found_out};
+ghost use Rattle.sm_history.specs.Queries.{is_their_query, list_checks, checks_of_query, found_out, names_by_mask};
 ghost use Rattle.sm_history.specs.Records.{moment_of};
 ghost use Rattle.sm_history.specs.declared.query.Query.TheVariants.{List as ListNames};
 ghost use Rattle.sm_history.specs.declared.reply.Reply.TheVariants.{Looked};
@@ -21,10 +21,10 @@ use crate::manager::replying::{answer, is_memory};
 use crate::notes::Notes;
 use crate::principals::Principals;
 use crate::small_failed_check::{Plain, SmallFailedCheck, wanted};
-use sm_history::{Answer, By, Entry, Failure, NameList, Query, Record, Reply};
+use sm_history::{Answer, BoxedNames, By, Entry, Failure, Query, Record, Reply};
 use sm_kinds::{Class, Perms};
 use sm_names::Services;
-use std::alloc::Global;
+use std::alloc::{AllocError, Global};
 use std::marker::Model;
 use std::snapshot::Snapshot;
 
@@ -106,7 +106,8 @@ impl<'a> QueryTables<'a> {
         notes: &mut Notes,
     ) -> Result<Answer, SmallFailedCheck>
         ensures judged { MatchResult result
-            (λ found. AllPass (moment_of self.now.history) notes.old notes.new (checks_of_query self.now.history by query.now)
+            (λ found. AllPass (moment_of self.now.history) notes.old notes.new
+            (checks_of_query self.now.history by query.now)
             × (found ≡ found_out (effects_of self.now.history) query.now))
             (Halts (moment_of self.now.history) notes.old notes.new (checks_of_query self.now.history by query.now)) }
         ensures asker { takes_memory query.now ≡ false → IfErr result IsAskerStop }
@@ -145,18 +146,28 @@ impl<'a> QueryTables<'a> {
     ) -> Result<Answer, SmallFailedCheck>
         requires { row.now ≡ client_row (effects_of self.now.history) row.now.id }
         ensures { MatchResult result
-            (λ found. AllPass (moment_of self.now.history) notes.old notes.new (list_checks (effects_of self.now.history) row.now.id)
+            (λ found. AllPass (moment_of self.now.history) notes.old notes.new
+            (list_checks (effects_of self.now.history) row.now.id)
             × (found ≡ found_out (effects_of self.now.history) (ListNames mask)))
-            (Halts (moment_of self.now.history) notes.old notes.new (list_checks (effects_of self.now.history) row.now.id)) }
+            (Halts (moment_of self.now.history) notes.old notes.new
+            (list_checks (effects_of self.now.history) row.now.id)) }
     {
         let access = Access::new(self.alloc, self.length, self.principals);
         let who = &row.process;
         let manager = &self.principals.manager;
         access.to_process(who, manager, Class::Binder, Perms::CALL, notes)?;
         access.to_process(who, manager, Class::ServiceManager, Perms::LIST, notes)?;
-        match self.services.by_mask(self.alloc, mask) {
-            Ok(names) => Ok(Answer::Names(NameList::new(names))),
+        match self.names(mask) {
+            Ok(names) => Ok(Answer::Names(names)),
             Err(_) => Err(wanted()),
         }
+    }
+
+    /// Returns the names whose dump flags share a bit with a mask, in rising byte order.
+    fn names(&self, mask: u32) -> Result<BoxedNames, AllocError>
+        ensures { IfOk result (λ names. names ≡ names_by_mask (effects_of self.now.history) mask) }
+    {
+        let names = self.services.by_mask(self.alloc, mask)?;
+        BoxedNames::new(self.alloc, names)
     }
 }

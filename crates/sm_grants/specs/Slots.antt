@@ -1,8 +1,7 @@
 -- One client's handles: the slot at i has what is held under the number i + 1.
 use Rattle.std.specs.Prelude.{ℕ, ◌+◌, ◌-◌, ◌/◌, ◌≡◌, ◌≤◌, ◌<◌, Bool, true, ◌&&◌, ◌==◌, List, [], ◌∷◌, Option, Some}
-use Rattle.std.specs.Prelude.{None, is_some, length, count_by, if◌then◌else◌, nat_le}
+use Rattle.std.specs.Prelude.{None, is_some, length, count_by}
 use Rattle.std.specs.List.{list_any}
-use Rattle.std.proofs.Common.{get_or}
 use Rattle.sm_kinds.specs.declared.number.Node.{Node}
 use Rattle.sm_bits.specs.Bits.{has}
 use Rattle.sm_history.specs.Effects.{same_node}

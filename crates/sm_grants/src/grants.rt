@@ -77,8 +77,9 @@ impl Grants {
     }
 
     /// Grants an object that the client doesn't own once, and returns the number of its handle. Returns `None` and
-    /// changes nothing if there is no number or memory for it, or its count is at its greatest value.
-    pub fn grant(&mut self, client: u32, node: Node) -> Option<u32>
+    /// changes nothing if there is no number or memory for it, or its count is at its greatest value. An object that
+    /// has the number `near` is found fastest; any number gives the same result.
+    pub fn grant(&mut self, client: u32, node: Node, near: u32) -> Option<u32>
         ensures ready { IsSome result ↔ CanGrant self.old client node }
         ensures unchanged { IfNone result (self.new.rows.items ≡ self.old.rows.items) }
         ensures tracks { (d : Effects) → Tracks d self.old → is_live d client ≡ true
@@ -91,7 +92,7 @@ impl Grants {
             return None;
         };
         let row = &mut self.rows[i];
-        let Some(number) = row.handles.grant(node) else {
+        let Some(number) = row.handles.grant(near, node) else {
             return None;
         };
         self.bound = self.bound.saturating_add(1);

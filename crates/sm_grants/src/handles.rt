@@ -46,6 +46,19 @@ use sm_kinds::Node;
 use std::alloc::{AllocError, Global};
 use std::collections::HashMap;
 
+/// Returns whether an object is held under a number.
+fn has_number(slots: &[Option<Held>], number: u32, node: Node) -> bool
+    ensures { IsTrue result → (0 < number) × (node_of (slot slots.now (number - 1)) ≡ Some node) }
+{
+    if number == 0 {
+        return false;
+    }
+    match slots.get(number as usize - 1).copied().flatten() {
+        Some(held) => held.node.owner.0 == node.owner.0 && held.node.object == node.object,
+        None => false,
+    }
+}
+
 impl Handles {
     /// Makes an empty table.
     ///
@@ -94,6 +107,20 @@ impl Handles {
             → node_of (slot self.now.slots j) ≡ Some node → i ≡ j }
     {
         self.numbers.get(&(node.owner.0, node.object)).copied()
+    }
+
+    /// Returns the slot of an object. If the object has this number, its hash isn't needed.
+    fn index_by(&self, number: u32, node: Node) -> Option<u32>
+        ensures found { MatchOption result (IsAbsent self.now.slots node)
+            (λ i. node_of (slot self.now.slots i) ≡ Some node) }
+        ensures small { IfSome result (λ i. i < MOST_HANDLES) }
+        ensures alone { (i j : ℕ) → node_of (slot self.now.slots i) ≡ Some node
+            → node_of (slot self.now.slots j) ≡ Some node → i ≡ j }
+    {
+        if has_number(&self.slots, number, node) {
+            return Some(number - 1);
+        }
+        self.index_of(node)
     }
 
     /// Returns whether an object is held.
@@ -217,8 +244,9 @@ impl Handles {
     }
 
     /// Grants an object once, and returns its number, or else the least free one. Returns `None` and changes nothing if
-    /// there is no number or memory for it, or its count is at its greatest value.
-    pub fn grant(&mut self, node: Node) -> Option<u32>
+    /// there is no number or memory for it, or its count is at its greatest value. An object that has the number `near`
+    /// is found without its hash.
+    pub fn grant(&mut self, near: u32, node: Node) -> Option<u32>
         ensures placed { IsSome result → IsAbsent self.old.slots node → (held_in self.old.slots < MOST_HANDLES)
             × (0 < self.old.spare) }
         ensures few { IsSome result → (i : ℕ) → node_of (slot self.old.slots i) ≡ Some node
@@ -230,7 +258,7 @@ impl Handles {
         ensures unchanged { IfNone result (self.new ≡ self.old) }
         ensures spare { self.old.spare ≤ self.new.spare + 1 }
     {
-        match self.index_of(node) {
+        match self.index_by(near, node) {
             Some(i) => {
                 if !self.can_count(i as usize) {
                     return None;

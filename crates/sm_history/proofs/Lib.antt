@@ -57,6 +57,7 @@ pub mod BookOrder
 pub mod TokensGrow
 pub mod Turns
 pub mod PossibleReplies
+pub mod SpannedNames
 pub mod Submitting
 pub mod Leaving
 pub mod Joining

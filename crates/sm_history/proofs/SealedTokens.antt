@@ -1,5 +1,5 @@
 -- From one seal, and the books that are seen before and after it, to what a call promises.
-use Rattle.std.proofs.Common.{◌≡◌, ◌⊎◌, inl, inr, ⊎_elim, sym, ap, subst, ◌∙◌}
+use Rattle.std.proofs.Common.{inl, inr, ⊎_elim, sym, ap, subst, ◌∙◌}
 use Rattle.sm_history.specs.declared.refusal.Refusal.{Refusal}
 use Rattle.sm_history.specs.Books.{Book}
 use Rattle.sm_history.specs.Histories.{History}

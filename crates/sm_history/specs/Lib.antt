@@ -12,6 +12,8 @@ pub mod Notices
 pub mod Histories
 pub mod Verdict
 pub mod Queries
+pub mod NameLists
+pub mod OptionalLists
 pub mod Lawful
 pub mod Agreeing
 pub mod Rows

@@ -26,6 +26,7 @@ mod gate;
 pub mod laws;
 mod limits;
 mod live;
+mod name_list;
 mod named_row;
 mod notice;
 mod outcome;
@@ -57,13 +58,14 @@ pub use gate::{Gate, NoGate};
 pub use limits::{
     GREATEST, LAST_CLIENT, MOST_CLIENTS, MOST_DELIVERIES, MOST_HANDLES, MOST_NAMES, MOST_WATCHES,
 };
+pub use name_list::{BoxedNames, NameList};
 pub use named_row::NamedRow;
 pub use notice::{BoxedNotice, Notice, Notices, Reason, Told};
 pub use outcome::Outcome;
 pub use query::Query;
 pub use records::Record;
 pub use refusal::{Exception, Failure, Refusal};
-pub use reply::{Answer, NameList, Reply};
+pub use reply::{Answer, Reply};
 pub use results::{connected, installed, is_death, left, moves};
 pub use rows::Rows;
 pub use segment::Segment;

@@ -109,7 +109,7 @@ fn refused(refusal: &Refusal) -> Seen {
 
 fn looked(version: u64, length: u64, answer: &Answer) -> Seen {
     match answer {
-        Answer::Names(names) => Seen::Names(version, length, names.list().len()),
+        Answer::Names(names) => Seen::Names(version, length, names.names().len()),
         Answer::Version => Seen::Version(version, length),
         Answer::Why(_) => Seen::Another,
     }

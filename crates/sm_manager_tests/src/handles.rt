@@ -15,7 +15,7 @@ fn object(owner: u32, object: u32) -> Node {
 /// A grant as the manager makes it: 0 where there is no room.
 fn give(rt: &impl Abort, grants: &mut Grants, client: u32, node: Node) -> u32 {
     grants.reserve(client, 1).ok().expect(rt, "memory");
-    grants.grant(client, node).unwrap_or(0)
+    grants.grant(client, node, 0).unwrap_or(0)
 }
 
 #[test]

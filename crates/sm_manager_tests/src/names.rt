@@ -45,8 +45,9 @@ fn watch(rt: &impl Abort, names: &mut Names, watch: WatchPair) {
 /// The names whose services have a bit of the mask, with a blank behind each.
 fn listed(rt: &impl Abort, names: &Names, alloc: Global, mask: u32) -> Vec<u8> {
     let mut text = Vec::new(alloc);
-    for name in &names.by_mask(alloc, mask).ok().expect(rt, "memory") {
-        text.extend_from_slice(name.bytes())
+    let names = names.by_mask(alloc, mask).ok().expect(rt, "memory");
+    for i in 0..names.len() {
+        text.extend_from_slice(names.name(i))
             .ok()
             .expect(rt, "memory");
         text.push(b' ').ok().expect(rt, "memory");

@@ -15,7 +15,7 @@ ghost use Rattle.sm_names.specs.Tracking.{TracksNames, HasRoom, watch_count};
 use crate::services::Services;
 use crate::watch_list::WatchList;
 use crate::watch_order::WatchOrder;
-use sm_history::{MOST_NAMES, MOST_WATCHES, Service, Watch, WatchPair};
+use sm_history::{MOST_NAMES, MOST_WATCHES, NameList, Service, Watch, WatchPair};
 use sm_kinds::Name;
 use std::alloc::{AllocError, Global};
 
@@ -82,9 +82,9 @@ impl Names {
     /// # Errors
     ///
     /// An error if an allocation fails.
-    pub fn by_mask(&self, alloc: Global, mask: u32) -> Result<Vec<Name>, AllocError>
-        ensures { IfOk result (λ v. (d : Effects) → TracksNames d self.now
-            → v.items ≡ names_by_mask d mask) }
+    pub fn by_mask(&self, alloc: Global, mask: u32) -> Result<NameList, AllocError>
+        ensures { IfOk result (λ names. (d : Effects) → TracksNames d self.now
+            → names ≡ names_by_mask d mask) }
     {
         self.services.by_mask(alloc, mask)
     }

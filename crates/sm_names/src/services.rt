@@ -12,7 +12,7 @@ ghost use Rattle.sm_history.specs.Rising.{IsRising};
 ghost use Rattle.sm_history.specs.Tables.{names_of, IsNamePlace, IsNameGap};
 ghost use Rattle.sm_names.specs.Rows.{TracksRows, matching_names};
 
-use sm_history::{NamedRow, Service};
+use sm_history::{NameList, NamedRow, Service};
 use sm_kinds::Name;
 use std::alloc::{AllocError, Global};
 
@@ -45,13 +45,13 @@ fn copies_of(alloc: Global, rows: &[NamedRow]) -> Result<Vec<NamedRow>, AllocErr
 }
 
 /// Returns the names whose dump flags share a bit with a mask.
-fn matching(alloc: Global, rows: &[NamedRow], mask: u32) -> Result<Vec<Name>, AllocError>
-    ensures { IfOk result (λ v. v.items ≡ matching_names mask rows.now) }
+fn matching(alloc: Global, rows: &[NamedRow], mask: u32) -> Result<NameList, AllocError>
+    ensures { IfOk result (λ names. names ≡ matching_names mask rows.now) }
 {
-    let mut names = Vec::with_capacity(alloc, rows.len())?;
+    let mut names = NameList::with_capacity(alloc, rows.len())?;
     for row in rows {
         if row.service.dump & mask != 0 {
-            names.push(row.name.clone()?)?;
+            names.push(row.name.bytes())?;
         }
     }
     Ok(names)
@@ -136,9 +136,9 @@ impl Services {
     /// # Errors
     ///
     /// An error if an allocation fails.
-    pub fn by_mask(&self, alloc: Global, mask: u32) -> Result<Vec<Name>, AllocError>
-        ensures { IfOk result (λ v. (d : Effects) → TracksRows d self.now.rows.items
-            → v.items ≡ names_by_mask d mask) }
+    pub fn by_mask(&self, alloc: Global, mask: u32) -> Result<NameList, AllocError>
+        ensures { IfOk result (λ names. (d : Effects) → TracksRows d self.now.rows.items
+            → names ≡ names_by_mask d mask) }
     {
         matching(alloc, &self.rows, mask)
     }

@@ -27,7 +27,7 @@ fn given(rt: &impl Abort, grants: &mut Grants, node: Node) -> Option<u32> {
         return None;
     }
     let number = grants.number_if_room(7, node);
-    assert!(rt; grants.grant(7, node) == number);
+    assert!(rt; grants.grant(7, node, 0) == number);
     number
 }
 
@@ -128,7 +128,7 @@ fn listed(rt: &impl Abort, alloc: Global, names: &Names) -> Option<()> {
 fn finds(rt: &impl Abort, alloc: Global, names: &Names) -> Option<()> {
     let found = names.by_mask(alloc, 24).ok()?;
     assert!(rt; found.len() == 1);
-    same_text(rt, found[0].bytes(), b"power");
+    same_text(rt, found.name(0), b"power");
     Some(())
 }
 

@@ -9,7 +9,7 @@ use sm_door::{
     Actor, Admin, Door, Gate, HistoryId, LockedManager, Naming, Published, Registry, Seat, Session,
     SharedView, UnnamedRegistry, ViewReader, ViewWriter,
 };
-use sm_history::{Answer, Event, NoGate, Outcome, Refusal, Reply, Segment};
+use sm_history::{Answer, Event, NameList, NoGate, Outcome, Refusal, Reply, Segment};
 use sm_kinds::{Class, Context, Identity, Name, ObjRef, Perms, Places};
 use sm_policy::Prepared;
 use sm_samples::{DEVICE_LABELS, DEVICE_RULES, STRICTER_RULES};
@@ -83,17 +83,17 @@ fn lists(reply: &Reply, entries: u64, names: &[&[u8]]) -> bool {
             version: 1,
             length,
             answer: Answer::Names(list),
-        } => *length == entries && are(list.list(), names),
+        } => *length == entries && are(list.names(), names),
         _ => false,
     }
 }
 
-fn are(list: &[Name], names: &[&[u8]]) -> bool {
+fn are(list: &NameList, names: &[&[u8]]) -> bool {
     if list.len() != names.len() {
         return false;
     }
     for i in 0..list.len() {
-        if list[i].bytes() != names[i] {
+        if list.name(i) != names[i] {
             return false;
         }
     }

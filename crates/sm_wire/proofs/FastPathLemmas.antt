@@ -18,14 +18,14 @@ use Rattle.sm_wire.specs.declared.kind.Kind.TheVariants.{Client, Admin, Script}
 use Rattle.sm_wire.specs.declared.request.Request.{Request}
 use Rattle.sm_wire.specs.declared.fast_path.FastRequest.{FastRequest}
 use Rattle.sm_wire.specs.declared.fast_path.Wanted.{Wanted}
-use Rattle.sm_wire.specs.declared.fast_path.Wanted.TheVariants.{List as Listing, Version, Get}
+use Rattle.sm_wire.specs.declared.fast_path.Wanted.TheVariants.{List as Listing, Version, Get, Take, Release}
 use Rattle.sm_wire.specs.FieldSpelling.{SpellsName}
 use Rattle.sm_wire.specs.Number.{u32_max, parsed_number}
 use Rattle.sm_wire.specs.Values.{plain_name_of}
 use Rattle.sm_wire.specs.Grammar.{header_of, request_of}
 use Rattle.sm_wire.specs.Items.{item_of, line_end, scan_start}
-use Rattle.sm_wire.specs.FastPath.{asked_in, asked_by, plain_of, named_of, listed_of, checked_of, other_of, wanted_of}
-use Rattle.sm_wire.specs.FastPath.{request_by, numbered_of, fast_of}
+use Rattle.sm_wire.specs.FastPath.{asked_in, asked_by, plain_of, named_of, listed_of, taken_of, released_of, checked_of}
+use Rattle.sm_wire.specs.FastPath.{other_of, wanted_of, request_by, numbered_of, fast_of}
 use Rattle.sm_wire.specs.LineTable.{client_lines}
 use Rattle.sm_wire.specs.Spelling.{SpellsLine, Spells, joined_fields}
 use Rattle.sm_wire.proofs.SpellingLemmasFields.{bound, number_spelled, u32_small, word_chosen, if_true, other_byte}
@@ -77,11 +77,40 @@ got_said who words wanted front e =
       spells = inl (refl, (drop 4 words, n.spells, refl));
     })
 
+released_said : (who : Option ClientId) (words : List ℕ) (wanted : Wanted) → take 8 words ≡ codes "release "
+    → released_of (drop 8 words) ≡ Some wanted → Said who words wanted
+unfolding released_of
+released_said who words wanted front e =
+    let h = bound _ (parsed_number u32_max (drop 8 words)) wanted e in
+    let number = number_spelled u32_max u32_small (drop 8 words) h.0 h.1 in
+    subst (λ w. Said who words w) (same_Some _ _ h.2) (record {
+      first = codes "release";
+      others = drop 8 words ∷ [];
+      joins = parts 8 words (codes "release ") front;
+      spells = inr (inr (inr (inr (inr (inr (inr (inr (inr (inl (refl, (h.0, number, refl)))))))))));
+    })
+
+taken_said : (who : Option ClientId) (words : List ℕ) (wanted : Wanted) → taken_of words ≡ Some wanted
+    → Said who words wanted
+unfolding taken_of
+taken_said who words wanted e = elim (word_chosen words (codes "take") (Some Take) _ wanted e) [
+  | inl h ↦ subst (λ w. Said who words w) (same_Some _ _ h.1) (record {
+    first = codes "take";
+    others = [];
+    joins = h.0;
+    spells = inr (inr (inr (inr (inr (inr (inr (inr (inr (inr (inl (refl, refl)))))))))));
+  })
+  | inr f ↦ elim (word_chosen (take 8 words) (codes "release ") (released_of (drop 8 words)) None wanted f) [
+    | inl h ↦ released_said who words wanted h.0 h.1
+    | inr h ↦ absurd (none-some wanted h)
+  ]
+]
+
 checked_said : (who : Option ClientId) (words : List ℕ) (wanted : Wanted) → checked_of words ≡ Some wanted
     → Said who words wanted
 unfolding checked_of
 checked_said who words wanted e =
-    elim (word_chosen (take 6 words) (codes "check ") (named_of (drop 6 words)) None wanted e) [
+    elim (word_chosen (take 6 words) (codes "check ") (named_of (drop 6 words)) _ wanted e) [
       | inl h ↦ let n = named_spelled (drop 6 words) wanted h.1 in
           subst (λ w. Said who words w) n.is (record {
             first = codes "check";
@@ -89,7 +118,7 @@ checked_said who words wanted e =
             joins = parts 6 words (codes "check ") h.0;
             spells = inr (inl (refl, (drop 6 words, n.spells, refl)));
           })
-      | inr h ↦ absurd (none-some wanted h)
+      | inr h ↦ taken_said who words wanted h
     ]
 
 listed_said : (who : Option ClientId) (words : List ℕ) (wanted : Wanted) → take 5 words ≡ codes "list "
@@ -201,6 +230,8 @@ unfolding header_of
 no_texts kind line who (Listing mask) e = rw e refl
 no_texts kind line who Version e = rw e refl
 no_texts kind line who (Get name) e = rw e refl
+no_texts kind line who Take e = rw e refl
+no_texts kind line who (Release handle) e = rw e refl
 
 -- The end of such a line.
 pub fast_ends : (kind : Kind) (line : List ℕ) (fast : FastRequest) → fast_of kind line ≡ Some fast

@@ -14,7 +14,7 @@ use Rattle.sm_wire.specs.declared.kind.Kind.{Kind}
 use Rattle.sm_wire.specs.declared.kind.Kind.TheVariants.{Client, Admin, Script}
 use Rattle.sm_wire.specs.declared.fast_path.FastRequest.{FastRequest}
 use Rattle.sm_wire.specs.declared.fast_path.Wanted.{Wanted}
-use Rattle.sm_wire.specs.declared.fast_path.Wanted.TheVariants.{List as Listing, Version, Get}
+use Rattle.sm_wire.specs.declared.fast_path.Wanted.TheVariants.{List as Listing, Version, Get, Take, Release}
 use Rattle.sm_wire.specs.Number.{u32_max, parsed_number}
 use Rattle.sm_wire.specs.Reading.{◌>>=◌}
 
@@ -23,6 +23,8 @@ abbrev pub asked_in : Option ClientId → Wanted → Request
 asked_in client (Listing mask) = requests.Look client (queries.List mask)
 asked_in client Version = requests.Look client queries.Version
 asked_in client (Get name) = requests.Change client (events.Get name)
+asked_in client Take = requests.Change client events.Take
+asked_in client (Release handle) = requests.Change client (events.Release handle)
 
 -- This is such a line as a request.
 abbrev pub asked_by : FastRequest → Request
@@ -43,11 +45,22 @@ listed_of mask = do
   m ← parsed_number u32_max mask
   Some (Listing m)
 
--- This parses `check NAME`.
-unfoldable pub checked_of : List ℕ → Option Wanted
-checked_of words = if bytes_eq (take 6 words) (codes "check ") then named_of (drop 6 words) else None
+-- This parses the number of a handle.
+unfoldable pub released_of : List ℕ → Option Wanted
+released_of handle = do
+  h ← parsed_number u32_max handle
+  Some (Release h)
 
--- This parses `version`, `list MASK` or `check NAME`.
+-- This parses `take` or `release N`.
+unfoldable pub taken_of : List ℕ → Option Wanted
+taken_of words = if bytes_eq words (codes "take") then Some Take
+    else (if bytes_eq (take 8 words) (codes "release ") then released_of (drop 8 words) else None)
+
+-- This parses `check NAME`, or another of these.
+unfoldable pub checked_of : List ℕ → Option Wanted
+checked_of words = if bytes_eq (take 6 words) (codes "check ") then named_of (drop 6 words) else taken_of words
+
+-- This parses `version`, `list MASK`, or another of these.
 unfoldable pub other_of : List ℕ → Option Wanted
 other_of words = if bytes_eq words (codes "version") then Some Version
     else (if bytes_eq (take 5 words) (codes "list ") then listed_of (drop 5 words) else checked_of words)

@@ -3,8 +3,8 @@
 
 ghost use Rattle.std.specs.Prelude.{◌≡◌, ◌==◌, ◌++◌, ◌∷◌, [], OnOk, IfOk, position};
 ghost use Rattle.sm_wire.specs.declared.item.Item.TheVariants.{Asked};
-ghost use Rattle.sm_wire.specs.FastPath.{asked_by, named_of, plain_of, checked_of, listed_of, other_of, wanted_of};
-ghost use Rattle.sm_wire.specs.FastPath.{request_by, numbered_of, fast_of};
+ghost use Rattle.sm_wire.specs.FastPath.{asked_by, named_of, plain_of, checked_of, taken_of, released_of, listed_of};
+ghost use Rattle.sm_wire.specs.FastPath.{other_of, wanted_of, request_by, numbered_of, fast_of};
 
 use crate::item::Item;
 use crate::kind::Kind;
@@ -24,6 +24,10 @@ pub enum Wanted<'a> {
     Version,
     /// `get NAME` or `check NAME`, with the name in plain bytes
     Get(Word<'a>),
+    /// `take`
+    Take,
+    /// `release N`
+    Release(u32),
 }
 
 /// A parsed line. A script names the client.
@@ -81,7 +85,7 @@ fn wanted_by<'a>(words: &'a [u8]) -> Option<Wanted<'a>>
     other(words)
 }
 
-// Parses `version`, `list MASK` or `check NAME`.
+// Parses `version`, `list MASK`, or another of these.
 #[tactic(auto, unfolding(crate::specs::FastPath::other_of))]
 fn other<'a>(words: &'a [u8]) -> Option<Wanted<'a>>
     ensures { result ≡ other_of words.now }
@@ -95,15 +99,38 @@ fn other<'a>(words: &'a [u8]) -> Option<Wanted<'a>>
     checked(words)
 }
 
-// Parses `check NAME`.
+// Parses `check NAME`, or another of these.
 #[tactic(auto, unfolding(crate::specs::FastPath::checked_of))]
 fn checked<'a>(words: &'a [u8]) -> Option<Wanted<'a>>
     ensures { result ≡ checked_of words.now }
 {
-    if !words.starts_with(b"check ".as_slice()) {
-        return None;
+    if words.starts_with(b"check ".as_slice()) {
+        return named(&words[6..]);
     }
-    named(&words[6..])
+    taken(words)
+}
+
+// Parses `take` or `release N`.
+#[tactic(auto, unfolding(crate::specs::FastPath::taken_of))]
+fn taken<'a>(words: &'a [u8]) -> Option<Wanted<'a>>
+    ensures { result ≡ taken_of words.now }
+{
+    if words == b"take".as_slice() {
+        return Some(Wanted::Take);
+    }
+    if words.starts_with(b"release ".as_slice()) {
+        return released(&words[8..]);
+    }
+    None
+}
+
+// Parses the number of a handle.
+#[tactic(auto, unfolding(crate::specs::FastPath::released_of))]
+fn released<'a>(handle: &'a [u8]) -> Option<Wanted<'a>>
+    ensures { result ≡ released_of handle.now }
+{
+    let handle = number(handle, 0xffff_ffff)?;
+    Some(Wanted::Release(handle as u32))
 }
 
 // Parses MASK.
@@ -166,5 +193,7 @@ fn asked(alloc: Global, fast: FastRequest, recent: &mut RecentNames) -> Result<R
             let name = recent.name(alloc, word.bytes())?;
             Ok(Request::Change(client, Event::Get { name }))
         }
+        Wanted::Take => Ok(Request::Change(client, Event::Take)),
+        Wanted::Release(handle) => Ok(Request::Change(client, Event::Release { handle })),
     }
 }

@@ -1,18 +1,19 @@
 //! Names in reply lines.
 
-ghost use Rattle.std.specs.Prelude.{◌≡◌, ◌++◌, OnOk, codes};
+ghost use Rattle.std.specs.Prelude.{◌≡◌, ◌++◌, OnOk};
 ghost use Rattle.std.specs.List.{flat_map};
 ghost use Rattle.sm_wire.specs.Replies.{spaced_name};
 
-use sm_kinds::{Name, push_name};
+use sm_history::NameList;
+use sm_kinds::push_name;
 use std::alloc::{AllocError, Global};
 
 /// Appends each name after a space.
-pub fn push_names(alloc: Global, out: &mut Vec<u8>, names: &[Name]) -> Result<(), AllocError>
+pub fn push_names(alloc: Global, out: &mut Vec<u8>, names: &NameList) -> Result<(), AllocError>
     ensures { OnOk result (out.new.items ≡ out.old.items ++ flat_map spaced_name names.now) }
 {
-    for name in names {
-        push_spaced_name(alloc, out, name.bytes())?;
+    for i in 0..names.len() {
+        push_spaced_name(alloc, out, names.name(i))?;
     }
     Ok(())
 }

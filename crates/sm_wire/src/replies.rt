@@ -11,8 +11,8 @@ use crate::deliveries::push_delivery;
 use crate::names::push_names;
 use crate::refusals::push_refusal;
 use crate::telling::Telling;
-use sm_history::{Answer, Outcome, Reply, is_hidden};
-use sm_kinds::{Name, push_numbered};
+use sm_history::{Answer, NameList, Outcome, Reply, is_hidden};
+use sm_kinds::push_numbered;
 use std::alloc::{AllocError, Global};
 
 /// Returns the line of the visible part of a reply, with its newline.
@@ -117,7 +117,7 @@ fn push_answer(
     ensures { OnOk result (out.new.items ≡ out.old.items ++ answer_text version count answer.now) }
 {
     match answer {
-        Answer::Names(names) => push_listing(alloc, out, version, count, names.list()),
+        Answer::Names(names) => push_listing(alloc, out, version, count, names.names()),
         Answer::Version => push_version(out, version, count),
         Answer::Why(line) => push_why(out, version, *line),
     }
@@ -152,7 +152,7 @@ fn push_listing(
     out: &mut Vec<u8>,
     version: u64,
     count: u64,
-    names: &[Name],
+    names: &NameList,
 ) -> Result<(), AllocError>
     ensures { OnOk result (out.new.items ≡ out.old.items ++ names_text version count names.now) }
 {

@@ -4,7 +4,7 @@ ghost use Rattle.std.specs.Prelude.{◌≡◌, None, Some};
 ghost use Rattle.sm_kinds.specs.declared.class.Class.TheVariants.{Binder, ServiceManager};
 ghost use Rattle.sm_history.specs.Clients.{manager_at, label_at};
 ghost use Rattle.sm_core.specs.Judging.{IsRuled};
-ghost use Rattle.sm_core.specs.Tables.{process_at};
+ghost use Rattle.sm_core.specs.Tables.{process_at, IsLabel};
 ghost use Rattle.sm_core.specs.Managed.{effects_in, moment_in};
 
 use crate::access::Access;
@@ -13,6 +13,7 @@ use crate::notes::Notes;
 use crate::process::Process;
 use crate::small_failed_check::SmallFailedCheck;
 use sm_kinds::{Class, Name, Perms};
+use sm_policy::Label;
 
 impl Manager {
     /// Returns what checks read now.
@@ -71,6 +72,13 @@ impl Manager {
         access.to_process(who, other, Class::Binder, perm, notes)
     }
 
+    /// Returns the label of a name.
+    pub fn label(&self, name: &[u8]) -> Label<'_>
+        ensures { IsLabel (effects_in self.now) name.now result }
+    {
+        self.state.principals.policy.labelled(name)
+    }
+
     /// Checks a permission of the service manager from a process to the label of a name.
     pub fn check_to_label(
         &self,
@@ -83,6 +91,24 @@ impl Manager {
         ensures { IsRuled (moment_in self.now) notes.old notes.new ServiceManager perm who.now.who
             (label_at (effects_in self.now) name.now) (Some name.now) result }
     {
-        self.access().to_label(who, name, perm, notes)
+        let label = self.label(name.bytes());
+        self.check_to_known_label(who, name, label, perm, notes)
+    }
+
+    /// As `check_to_label`, with the label of the name.
+    pub fn check_to_known_label(
+        &self,
+        who: &Process,
+        name: &Name,
+        label: Label<'_>,
+        perm: Perms,
+        notes: &mut Notes,
+    ) -> Result<(), SmallFailedCheck>
+        requires who { who.now ≡ process_at (effects_in self.now) who.now.who }
+        requires label { IsLabel (effects_in self.now) name.now label }
+        ensures { IsRuled (moment_in self.now) notes.old notes.new ServiceManager perm who.now.who
+            (label_at (effects_in self.now) name.now) (Some name.now) result }
+    {
+        self.access().to_label(who, name, label, perm, notes)
     }
 }

@@ -1,7 +1,7 @@
 //! Notices to watchers of a registration.
 
 ghost use Rattle.std.specs.Prelude.{◌≡◌, ◌==◌, true, false, [], ◌∷◌, Some, MatchOption, MatchResult};
-ghost use Rattle.std.specs.List.{list_all};
+ghost use Rattle.std.specs.List.{list_all, All};
 ghost use Rattle.sm_history.specs.Clients.{is_live};
 ghost use Rattle.sm_history.specs.Holdings.{fits_handles, given_to, handed};
 ghost use Rattle.sm_history.specs.Services.{watchers_at};
@@ -14,6 +14,7 @@ ghost use Rattle.sm_core.specs.Judging as spec;
 ghost use Rattle.sm_core.specs.Notifications.{told_checks, left_at, AreNotifications, GoesOn, GoesFar, MayPrecede};
 ghost use Rattle.sm_core.specs.Notifications.{Tells};
 ghost use Rattle.sm_core.specs.Managed.{effects_in, moment_in};
+ghost use Rattle.sm_core.specs.Tables.{IsLabel};
 
 use crate::manager::Manager;
 use crate::manager::replying::reason;
@@ -23,6 +24,7 @@ use crate::plan::Plan;
 use crate::small_failed_check::{Plain, SmallFailedCheck, wanted};
 use sm_history::{Effect, Failure, Given, Notice, Outcome, Told, Watch};
 use sm_kinds::{ClientId, Name, Node, Perms};
+use sm_policy::Label;
 
 /// Returns the failed check of a watcher whose inbox or handles have no room.
 fn full() -> SmallFailedCheck
@@ -63,8 +65,8 @@ impl Manager {
     fn left(&self, notifications: &Notifications, client: u32) -> usize
         ensures { result ≡ left_at (effects_in self.now) notifications.now client }
     {
-        match notifications.left.get(&client) {
-            Some(left) => *left,
+        match notifications.left.of(client) {
+            Some(left) => left,
             None => self.state.inboxes.free(client),
         }
     }
@@ -74,10 +76,12 @@ impl Manager {
         &self,
         watch: &Watch,
         node: Node,
+        label: Label<'_>,
         left: usize,
         notes: &mut Notes,
     ) -> Result<Given, SmallFailedCheck>
-        requires { is_live (effects_in self.now) watch.now.client ≡ true }
+        requires live { is_live (effects_in self.now) watch.now.client ≡ true }
+        requires label { IsLabel (effects_in self.now) watch.now.name label }
         ensures { MatchResult result
             (λ g. AllPass (moment_in self.now) notes.old notes.new
             (told_checks (effects_in self.now) node watch.now left)
@@ -87,7 +91,7 @@ impl Manager {
         let Some(row) = self.client_row(watch.client) else {
             unreachable!();
         };
-        self.check_to_label(&row.process, &watch.name, Perms::FIND, notes)?;
+        self.check_to_known_label(&row.process, &watch.name, label, Perms::FIND, notes)?;
         self.check_from_manager(&row.process, Perms::CALL, notes)?;
         self.check_from_manager(&row.process, Perms::TRANSFER, notes)?;
         if left == 0 {
@@ -104,9 +108,11 @@ impl Manager {
         &self,
         watch: &Watch,
         node: Node,
+        label: Label<'_>,
         notifications: &mut Notifications,
     ) -> Result<Told, SmallFailedCheck>
         requires live { is_live (effects_in self.now) watch.now.client ≡ true }
+        requires label { IsLabel (effects_in self.now) watch.now.name label }
         requires notifications { AreNotifications (effects_in self.now) node notifications.old }
         ensures { MatchResult result
             (λ t. (t ≡ told_of (followed (effects_in self.now) notifications.old.effects.items) node watch.now
@@ -115,7 +121,7 @@ impl Manager {
             (λ s. s ≡ spec.wanted) }
     {
         let left = self.left(notifications, watch.client);
-        match self.judge_told(watch, node, left, &mut notifications.records) {
+        match self.judge_told(watch, node, label, left, &mut notifications.records) {
             Ok(given) => match notifications.tell(self.alloc, watch, node, given, left) {
                 Ok(told) => Ok(Told::Told(told)),
                 Err(_) => Err(wanted()),
@@ -127,22 +133,24 @@ impl Manager {
         }
     }
 
-    /// Notifies a watcher that an object was registered under the name, and gives it the object; or returns why it may
-    /// not be notified.
+    /// Notifies a watcher that an object was registered under the name, which has this label, and gives it the object;
+    /// or returns why it may not be notified.
     pub fn notify(
         &self,
         watch: &Watch,
         node: Node,
+        label: Label<'_>,
         notifications: &mut Notifications,
     ) -> Result<Notice, SmallFailedCheck>
         requires live { is_live (effects_in self.now) watch.now.client ≡ true }
+        requires label { IsLabel (effects_in self.now) watch.now.name label }
         requires notifications { AreNotifications (effects_in self.now) node notifications.old }
         ensures { MatchResult result
             (λ x. (x ≡ notice_at (followed (effects_in self.now) notifications.old.effects.items) node watch.now)
             × GoesOn (moment_in self.now) (effects_in self.now) node watch.now notifications.old notifications.new)
             (λ s. s ≡ spec.wanted) }
     {
-        let result = self.tell(watch, node, notifications)?;
+        let result = self.tell(watch, node, label, notifications)?;
         Ok(Notice {
             client: ClientId(watch.client),
             object: watch.object,
@@ -156,9 +164,11 @@ impl Manager {
         &self,
         watches: &[Watch],
         node: Node,
+        label: Label<'_>,
         notifications: &mut Notifications,
     ) -> Result<Vec<Notice>, SmallFailedCheck>
         requires live { list_all (λ w. is_live (effects_in self.now) w.client) watches.now ≡ true }
+        requires label { All (λ w. IsLabel (effects_in self.now) w.name label) watches.now }
         requires notifications { AreNotifications (effects_in self.now) node notifications.old }
         ensures { MatchResult result
             (λ notices. (notices.items
@@ -171,7 +181,7 @@ impl Manager {
             if notices.reserve(1).is_err() {
                 return Err(wanted());
             }
-            let notice = self.notify(watch, node, notifications)?;
+            let notice = self.notify(watch, node, label, notifications)?;
             notices.push_reserved(notice);
         }
         Ok(notices)
@@ -203,7 +213,8 @@ impl Manager {
             (λ s. s ≡ spec.wanted) }
     {
         let mut notifications = Notifications::behind(self.alloc, effects);
-        let notice = self.notify(watch, node, &mut notifications)?;
+        let label = self.label(watch.name.bytes());
+        let notice = self.notify(watch, node, label, &mut notifications)?;
         let Ok((outcome, told)) = boxed_twice(self.alloc, notice) else {
             return Err(wanted());
         };
@@ -215,15 +226,17 @@ impl Manager {
         })
     }
 
-    /// Returns the plan of an accepted Add after these effects: each watcher of the name is notified, or has the reason
-    /// why not.
+    /// Returns the plan of an accepted Add after these effects: each watcher of the name, which has this label, is
+    /// notified, or has the reason why not.
     pub fn plan_added(
         &self,
         name: &Name,
         node: Node,
+        label: Label<'_>,
         effects: Vec<Effect>,
     ) -> Result<Plan, SmallFailedCheck>
-        requires { MayPrecede (effects_in self.now) node effects.items }
+        requires label { IsLabel (effects_in self.now) name.now label }
+        requires before { MayPrecede (effects_in self.now) node effects.items }
         ensures { MatchResult result
             (λ plan. (plan.outcome ≡ Added (notices_at (followed (effects_in self.now) effects.items) node
             (watchers_at (effects_in self.now) name.now)))
@@ -236,8 +249,8 @@ impl Manager {
     {
         let mut notifications = Notifications::behind(self.alloc, effects);
         let watchers = self.watchers(name.bytes());
-        let notices = self.notify_all(watchers, node, &mut notifications)?;
-        let Ok((outcome, told)) = listed_twice(notices) else {
+        let notices = self.notify_all(watchers, node, label, &mut notifications)?;
+        let Ok((outcome, told)) = listed_twice(self.alloc, notices) else {
             return Err(wanted());
         };
         Ok(Plan {

@@ -7,7 +7,7 @@ use Rattle.sm_core.proofs.manager.Manager.left.Goals as goal
 pub returns-in-None : goal.returns-in-None
 returns-in-None c =
     let d = effects_of c.self.inside.journal.history in
-    let none = c.in-None.ensures.value in
+    let none = c.in-None.ensures in
     rw (← c.self.view_is)
     (c.free.ensures.free d c.self.invariant.stands.inboxes
     ∙ ap (λ (o : Option ℕ). unwrap_or o (free_at d c.args.client)) none)

@@ -10,6 +10,6 @@ pub returns : goal.returns
 returns c =
     let rows = c.args.self.now.rows.items in
     let e = ap (matching_names c.args.mask) c.deref.ensures.value in
-    IfOk-weaker c.matching.result (λ v. v.items ≡ matching_names c.args.mask c.deref.result.now)
-    (λ v. (d : Effects) → TracksRows d rows → v.items ≡ names_by_mask d c.args.mask)
-    (λ v is d tr. is ∙ e ∙ matching_are d rows c.args.mask tr) c.matching.ensures
+    IfOk-weaker c.matching.result (λ names. names ≡ matching_names c.args.mask c.deref.result.now)
+    (λ names. (d : Effects) → TracksRows d rows → names ≡ names_by_mask d c.args.mask)
+    (λ names is d tr. is ∙ e ∙ matching_are d rows c.args.mask tr) c.matching.ensures

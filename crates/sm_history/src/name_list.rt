@@ -1,0 +1,134 @@
+//! Lists of names in replies.
+
+ghost use Rattle.std.specs.Prelude.{◌≡◌, ◌<◌, ◌++◌, ◌∷◌, [], length, OnOk, OnErr, IfOk, slice_index_or};
+
+use std::alloc::{AllocError, Global};
+use std::marker::Model;
+
+/// The bytes for which a list has room at first, for each name. Names of services have some 10 to 40.
+const MEAN_NAME_BYTES: usize = 16;
+
+/// Where a name's bytes are in those of its list.
+#[derive(Clone, Copy, Debug)]
+pub struct Span {
+    pub start: usize,
+    pub len: usize,
+}
+
+/// Names in rising byte order. Their bytes are stored one after another, so a list shares nothing with the table that
+/// it was read from, and takes two allocations for any number of names.
+#[derive(Debug)]
+pub struct NameList {
+    bytes: Vec<u8>,
+    spans: Vec<Span>,
+}
+
+impl Model for NameList {
+    ghost use Rattle.std.specs.Prelude.{List, ℕ, map};
+    ghost use Rattle.std.specs.List.{All};
+    ghost use Rattle.sm_history.specs.NameLists.{bytes_at, IsWithin};
+
+    ghost Value = { List (List ℕ) };
+
+    ghost view = { λ n. map (bytes_at n.bytes.items) n.spans.items };
+
+    ghost invariant = { λ n. All (IsWithin n.bytes.items) n.spans.items };
+}
+
+// Drop: see docs/PROOFS.md.
+impl Drop for NameList {
+    fn drop(self) {
+        let NameList { bytes: _, spans: _ } = self;
+    }
+}
+
+impl NameList {
+    /// Makes an empty list with room for `n` names of 16 bytes on average.
+    ///
+    /// # Errors
+    ///
+    /// An error if an allocation fails.
+    pub fn with_capacity(alloc: Global, n: usize) -> Result<NameList, AllocError>
+        ensures { IfOk result (λ list. list ≡ []) }
+    {
+        let bytes = Vec::with_capacity(alloc, n.saturating_mul(MEAN_NAME_BYTES))?;
+        let spans = Vec::with_capacity(alloc, n)?;
+        Ok(NameList { bytes, spans })
+    }
+
+    /// Appends a name.
+    ///
+    /// # Errors
+    ///
+    /// An error if an allocation fails; the list is then unchanged.
+    pub fn push(&mut self, name: &[u8]) -> Result<(), AllocError>
+        ensures ok { OnOk result (self.new ≡ self.old ++ name.now ∷ []) }
+        ensures err { OnErr result (self.new ≡ self.old) }
+    {
+        self.spans.reserve(1)?;
+        let start = self.bytes.len();
+        let len = name.len();
+        self.bytes.extend_from_slice(name)?;
+        self.spans.push_reserved(Span { start, len });
+        Ok(())
+    }
+
+    /// Returns the number of names.
+    pub fn len(&self) -> usize
+        ensures { result ≡ length self.now }
+    {
+        self.spans.len()
+    }
+
+    /// Returns the name at an index.
+    pub fn name(&self, i: usize) -> &[u8]
+        requires { i < length self.now }
+        ensures { result.now ≡ slice_index_or self.now i result.now }
+    {
+        let span = self.spans[i];
+        let (_, rest) = self.bytes.split_at(span.start);
+        &rest[..span.len]
+    }
+}
+
+/// A boxed list of names, so that a reply stays small. Contracts see the list.
+#[derive(Debug)]
+pub struct BoxedNames {
+    names: Box<NameList>,
+}
+
+impl Model for BoxedNames {
+    ghost use Rattle.std.specs.Prelude.{List, ℕ};
+
+    ghost Value = { List (List ℕ) };
+
+    ghost view = { λ b. b.names.value };
+}
+
+// Drop: see docs/PROOFS.md.
+impl Drop for BoxedNames {
+    fn drop(self) {
+        let BoxedNames { names: _ } = self;
+    }
+}
+
+impl BoxedNames {
+    /// Boxes a list.
+    ///
+    /// # Errors
+    ///
+    /// An error if an allocation fails.
+    pub fn new(alloc: Global, names: NameList) -> Result<BoxedNames, AllocError>
+        ensures { IfOk result (λ b. b ≡ names) }
+    {
+        let names = Box::new(alloc, names)?;
+        Ok(BoxedNames { names })
+    }
+
+    /// Returns the list.
+    pub fn names(&self) -> &NameList
+        ensures { result.now ≡ self.now }
+    {
+        &self.names
+    }
+}
