@@ -19,7 +19,7 @@ pub const APPLICATION: By = By::Client(ClientId(2));
 pub const ADMIN: By = By::Admin(AdminId(1));
 
 /// A change, without what it takes memory to say. The name is `activity` in each.
-#[derive(Clone, Copy, Debug, PartialEq, Eq)]
+#[derive(Clone, Copy)]
 pub enum Act {
     Open,
     /// A system server connects.
@@ -243,7 +243,7 @@ pub fn steps(rt: &impl Abort, alloc: Global, manager: &mut Manager, rows: &[(By,
     for (by, act, wanted) in rows {
         let turn = manager.turn(*by);
         let seen = step(rt, alloc, manager, *by, turn, *act);
-        assert_eq!(rt; (*by, *act, seen), (*by, *act, *wanted));
+        assert_eq!(rt; (*by, turn, seen), (*by, turn, *wanted));
     }
 }
 

@@ -9,11 +9,13 @@ use std::alloc::Global;
 use std::process::Abort;
 
 fn same_slot(one: &Option<Held>, other: &Option<Held>) -> bool {
-    match (one, other) {
-        (None, None) => true,
-        (Some(a), Some(b)) => a.node == b.node && a.count == b.count,
-        _ => false,
-    }
+    let Some(a) = one else {
+        return other.is_none();
+    };
+    let Some(b) = other else {
+        return false;
+    };
+    a.node == b.node && a.count == b.count
 }
 
 fn same_held(one: &[Option<Held>], other: &[Option<Held>]) -> bool {
@@ -80,9 +82,8 @@ struct Round {
 /// A short segment has this number, length and number of changes.
 fn is_short(rt: &impl Abort, segment: &Segment, wanted: (u64, u64, usize)) {
     let (full, last) = segment.entries();
-    assert!(rt; full.is_empty());
-    let numbers = (segment.number(), segment.length(), last.len());
-    assert_eq!(rt; numbers, wanted);
+    let numbers = (segment.number(), segment.length(), full.len(), last.len());
+    assert_eq!(rt; numbers, (wanted.0, wanted.1, 0, wanted.2));
 }
 
 /// Seals the manager. The segment begins with the rows that the segment before it left. Returns what it leaves.
