@@ -2,7 +2,6 @@ pub mod FramingLemmas
 pub mod FieldLemmas
 pub mod ItemLemmas
 pub mod NumberLemmas
-pub mod FastPathLemmas
 pub mod SpellingLemmasContexts
 pub mod SpellingLemmasFields
 pub mod SpellingLemmasLines

@@ -20,15 +20,14 @@ use Rattle.sm_wire.specs.Reading.{ReadsAs}
 use Rattle.sm_wire.specs.Number.{u32_max, u64_max, parsed_number}
 use Rattle.sm_wire.specs.Fields.{fields_of}
 use Rattle.sm_wire.specs.Values.{call_references_of}
-use Rattle.sm_wire.specs.LineTable.{Field, Value, Maker, Production, client_lines, greeting_lines, standing_lines}
-use Rattle.sm_wire.specs.LineTable.{admin_lines}
-use Rattle.sm_wire.specs.Grammar.{value_of, has_fields, made_of, parsed_by, line_of, lines_of, client_line_of}
-use Rattle.sm_wire.specs.Grammar.{client_fields_of, admin_fields_of, unnumbered_of, script_fields_of}
-use Rattle.sm_wire.specs.Grammar.{fields_request_of, request_of}
+use Rattle.sm_wire.specs.LineTable.{Field, Value, Maker, Production, client_lines, connection_lines, admin_lines}
+use Rattle.sm_wire.specs.LineTable.{unnumbered_lines}
+use Rattle.sm_wire.specs.Grammar.{value_of, has_fields, made_of, parsed_by, line_of, lines_of, script_line_of}
+use Rattle.sm_wire.specs.Grammar.{script_fields_of, fields_request_of, request_of}
 use Rattle.sm_wire.specs.Spelling.{SpellsField, SpellsMade, SpellsLine, SpellsNumbered, SpellsFields, Spells}
 use Rattle.sm_wire.specs.Spelling.{SpellsNothing, ReadsSpelled, joined_fields}
 use Rattle.sm_wire.proofs.FieldLemmas.{fields_of-space, fields_of-plain}
-use Rattle.sm_wire.proofs.SpellingLemmasFields.{Solid, bound, first_chosen, word_chosen, solid_word, no_space}
+use Rattle.sm_wire.proofs.SpellingLemmasFields.{Solid, bound, word_chosen, solid_word, no_space}
 use Rattle.sm_wire.proofs.SpellingLemmasFields.{u32_small, u64_small, number_read, number_spelled, number_solid}
 use Rattle.sm_wire.proofs.SpellingLemmasFields.{name_read, name_spelled, name_solid, reference_read, reference_spelled}
 use Rattle.sm_wire.proofs.SpellingLemmasFields.{reference_solid, object_read, object_spelled, call_references_read}
@@ -170,10 +169,6 @@ abbrev is_table : List Production → Bool
 is_table [] = true
 is_table (p ∷ ps) = (list_all no_space p.word && lacks p.word ps) && is_table ps
 
--- No line of one table begins with the word of a line of another.
-abbrev apart : List Production → List Production → Bool
-apart ps qs = list_all (λ q. lacks q.word ps) qs
-
 same_word : (w v : List ℕ) → w ≡ v → bytes_eq w v ≡ true
 same_word w v e = (bytes_eq-Decides w v).1 e
 
@@ -218,24 +213,6 @@ lines_so (p ∷ ps) (w ∷ ts) r e = elim (word_chosen w p.word (line_of p ts) (
   | inr h ↦ inr (lines_so ps (w ∷ ts) r h)
 ]
 
--- A table reads no line whose word it lacks.
-lacking : (ps : List Production) (w : List ℕ) (ts : List (List ℕ)) → lacks w ps ≡ true → lines_of ps (w ∷ ts) ≡ None
-unfolding lines_of
-lacking [] w ts l = refl
-lacking (p ∷ ps) w ts l =
-    let l' = and_parts (not (bytes_eq w p.word)) (lacks w ps) l in
-    rw (unlike (bytes_eq w p.word) l'.0) (lacking ps w ts l'.1)
-
--- A table reads no line of another one that is apart.
-lines_apart : (ps qs : List Production) (ts : List (List ℕ)) (r : Request) → apart ps qs ≡ true → SpellsLine qs ts r
-    → lines_of ps ts ≡ None
-lines_apart ps [] ts r a s = absurd s
-lines_apart ps (q ∷ qs) [] r a s = absurd s
-lines_apart ps (q ∷ qs) (w ∷ ts) r a (inl s) =
-    rw (s.0) (lacking ps q.word ts (and_parts (lacks q.word ps) (apart ps qs) a).0)
-lines_apart ps (q ∷ qs) (w ∷ ts) r a (inr s) =
-    lines_apart ps qs (w ∷ ts) r (and_parts (lacks q.word ps) (apart ps qs) a).1 s
-
 lines_filled : (ps : List Production) (ts : List (List ℕ)) (r : Request) → is_table ps ≡ true → SpellsLine ps ts r
     → Filled ts
 lines_filled [] ts r a s = absurd s
@@ -249,43 +226,22 @@ lines_filled (p ∷ ps) (w ∷ ts) r a (inr s) =
 
 -- ---- lines of each kind
 
--- The words of lines without a client's number aren't numbers.
-abbrev unnumbered_words : List Production → Bool
-unnumbered_words ps = list_all (λ p. not (is_some (parsed_number u32_max p.word))) ps
+-- The words of a table's lines aren't numbers.
+abbrev are_words : List Production → Bool
+are_words ps = list_all (λ p. not (is_some (parsed_number u32_max p.word))) ps
 
 no_number : (o : Option ℕ) → not (is_some o) ≡ true → o ≡ None
 no_number None e = refl
 no_number (Some n) e = absurd (true≢false (sym e))
 
-not_numbered : (ps : List Production) (ts : List (List ℕ)) (r : Request) → unnumbered_words ps ≡ true
-    → SpellsLine ps ts r → client_line_of ts ≡ None
-unfolding client_line_of
-not_numbered [] ts r a s = absurd s
-not_numbered (p ∷ ps) [] r a s = absurd s
-not_numbered (p ∷ ps) (w ∷ ts) r a (inl s) =
-    rw (
-      s.0,
-      no_number (parsed_number u32_max p.word)
-          (and_parts (not (is_some (parsed_number u32_max p.word))) (unnumbered_words ps) a).0,
-    ) refl
-not_numbered (p ∷ ps) (w ∷ ts) r a (inr s) =
-    not_numbered ps (w ∷ ts) r (and_parts (not (is_some (parsed_number u32_max p.word))) (unnumbered_words ps) a).1 s
-
-numbered_is : (ts : List (List ℕ)) (r : Request) → SpellsNumbered ts r → client_line_of ts ≡ Some r
-unfolding client_line_of
-numbered_is [] r s = absurd s
-numbered_is (t ∷ ts) r s =
-    rw (number_read u32_max u32_small t s.0 s.1) (lines_is (client_lines (Some (record { 0 = s.0 }))) ts r refl s.2)
-
-numbered_so : (ts : List (List ℕ)) (r : Request) → client_line_of ts ≡ Some r → SpellsNumbered ts r
-unfolding client_line_of
-numbered_so [] r e = absurd (none-some r e)
-numbered_so (t ∷ ts) r e =
-    let n = bound _ (parsed_number u32_max t) r e in (
-      n.0,
-      number_spelled u32_max u32_small t n.0 n.1,
-      lines_so (client_lines (Some (record { 0 = n.0 }))) ts r n.2,
-    )
+not_numbered : (ps : List Production) (w : List ℕ) (ts : List (List ℕ)) (r : Request) → are_words ps ≡ true
+    → SpellsLine ps (w ∷ ts) r → parsed_number u32_max w ≡ None
+not_numbered [] w ts r a s = absurd s
+not_numbered (p ∷ ps) w ts r a (inl s) =
+    rw (s.0) (no_number (parsed_number u32_max p.word)
+    (and_parts (not (is_some (parsed_number u32_max p.word))) (are_words ps) a).0)
+not_numbered (p ∷ ps) w ts r a (inr s) =
+    not_numbered ps w ts r (and_parts (not (is_some (parsed_number u32_max p.word))) (are_words ps) a).1 s
 
 more_filled : (f : List ℕ) (fs : List (List ℕ)) → Solid f → Filled fs → Filled (f ∷ fs)
 more_filled f [] s h = absurd h
@@ -297,50 +253,45 @@ numbered_filled (t ∷ ts) r s =
     more_filled t ts (number_solid u32_max u32_small t s.0 s.1)
     (lines_filled (client_lines (Some (record { 0 = s.0 }))) ts r refl s.2)
 
+script_read : (fs : List (List ℕ)) (r : Request) → SpellsFields Script fs r → script_fields_of fs ≡ Some r
+unfolding script_fields_of
+script_read [] r (inl s) = absurd s
+script_read [] r (inr s) = absurd s
+script_read (w ∷ ts) r (inl s) =
+    rw (number_read u32_max u32_small w s.0 s.1) (lines_is (client_lines (Some (record { 0 = s.0 }))) ts r refl s.2)
+script_read (w ∷ ts) r (inr s) =
+    rw (not_numbered unnumbered_lines w ts r refl s) (lines_is unnumbered_lines (w ∷ ts) r refl s)
+
+script_spelled : (fs : List (List ℕ)) (r : Request) → script_fields_of fs ≡ Some r → SpellsFields Script fs r
+unfolding script_fields_of
+script_spelled [] r e = absurd (none-some r e)
+script_spelled (w ∷ ts) r e = by (parsed_number u32_max w) refl e
+  where
+    by : (o : Option ℕ) → parsed_number u32_max w ≡ o → script_line_of o w ts ≡ Some r
+        → SpellsFields Script (w ∷ ts) r
+    by (Some n) is e =
+        inl (n, number_spelled u32_max u32_small w n is, lines_so (client_lines (Some (record { 0 = n }))) ts r e)
+    by None is e = inr (lines_so unnumbered_lines (w ∷ ts) r e)
+
 fields_read : (kind : Kind) (fs : List (List ℕ)) (r : Request) → SpellsFields kind fs r
     → fields_request_of kind fs ≡ Some r
-unfolding fields_request_of client_fields_of admin_fields_of script_fields_of unnumbered_of
-fields_read Client fs r (inl s) = rw (lines_is (client_lines None) fs r refl s) refl
-fields_read Client fs r (inr s) =
-    rw (lines_apart (client_lines None) greeting_lines fs r refl s) (lines_is greeting_lines fs r refl s)
-fields_read Admin fs r (inl s) = rw (lines_is standing_lines fs r refl s) refl
-fields_read Admin fs r (inr s) =
-    rw (lines_apart standing_lines admin_lines fs r refl s) (lines_is admin_lines fs r refl s)
-fields_read Script fs r (inl s) = rw (numbered_is fs r s) refl
-fields_read Script fs r (inr (inl s)) =
-    rw (not_numbered greeting_lines fs r refl s, lines_is greeting_lines fs r refl s) refl
-fields_read Script fs r (inr (inr s)) =
-    rw (not_numbered admin_lines fs r refl s, lines_apart greeting_lines admin_lines fs r refl s)
-    (lines_is admin_lines fs r refl s)
+unfolding fields_request_of
+fields_read Client fs r s = lines_is connection_lines fs r refl s
+fields_read Admin fs r s = lines_is admin_lines fs r refl s
+fields_read Script fs r s = script_read fs r s
 
 fields_filled : (kind : Kind) (fs : List (List ℕ)) (r : Request) → SpellsFields kind fs r → Filled fs
-fields_filled Client fs r (inl s) = lines_filled (client_lines None) fs r refl s
-fields_filled Client fs r (inr s) = lines_filled greeting_lines fs r refl s
-fields_filled Admin fs r (inl s) = lines_filled standing_lines fs r refl s
-fields_filled Admin fs r (inr s) = lines_filled admin_lines fs r refl s
+fields_filled Client fs r s = lines_filled connection_lines fs r refl s
+fields_filled Admin fs r s = lines_filled admin_lines fs r refl s
 fields_filled Script fs r (inl s) = numbered_filled fs r s
-fields_filled Script fs r (inr (inl s)) = lines_filled greeting_lines fs r refl s
-fields_filled Script fs r (inr (inr s)) = lines_filled admin_lines fs r refl s
+fields_filled Script fs r (inr s) = lines_filled unnumbered_lines fs r refl s
 
 fields_spelled : (kind : Kind) (fs : List (List ℕ)) (r : Request) → fields_request_of kind fs ≡ Some r
     → SpellsFields kind fs r
-unfolding fields_request_of client_fields_of admin_fields_of script_fields_of unnumbered_of
-fields_spelled Client fs r is =
-    elim (first_chosen (lines_of (client_lines None) fs) (lines_of greeting_lines fs) r is) [
-      | inl h ↦ inl (lines_so (client_lines None) fs r h)
-      | inr h ↦ inr (lines_so greeting_lines fs r h)
-    ]
-fields_spelled Admin fs r is = elim (first_chosen (lines_of standing_lines fs) (lines_of admin_lines fs) r is) [
-  | inl h ↦ inl (lines_so standing_lines fs r h)
-  | inr h ↦ inr (lines_so admin_lines fs r h)
-]
-fields_spelled Script fs r is = elim (first_chosen (client_line_of fs) (unnumbered_of fs) r is) [
-  | inl h ↦ inl (numbered_so fs r h)
-  | inr i ↦ elim (first_chosen (lines_of greeting_lines fs) (lines_of admin_lines fs) r i) [
-    | inl h ↦ inr (inl (lines_so greeting_lines fs r h))
-    | inr h ↦ inr (inr (lines_so admin_lines fs r h))
-  ]
-]
+unfolding fields_request_of
+fields_spelled Client fs r is = lines_so connection_lines fs r is
+fields_spelled Admin fs r is = lines_so admin_lines fs r is
+fields_spelled Script fs r is = script_spelled fs r is
 
 -- ---- whole lines
 

@@ -7,11 +7,11 @@ use Rattle.sm_wire.specs.declared.request.Request.TheVariants.{Hello, Change, Lo
 use Rattle.sm_wire.specs.declared.reload_header.ReloadHeader.{ReloadHeader}
 use Rattle.sm_wire.specs.declared.kind.Kind.{Kind}
 use Rattle.sm_wire.specs.declared.kind.Kind.TheVariants.{Client, Admin, Script}
-use Rattle.sm_wire.specs.LineTable.{Field, Value, Maker, Production, client_lines, greeting_lines, standing_lines}
-use Rattle.sm_wire.specs.LineTable.{admin_lines}
+use Rattle.sm_wire.specs.LineTable.{Field, Value, Maker, Production, client_lines, connection_lines, admin_lines}
+use Rattle.sm_wire.specs.LineTable.{unnumbered_lines}
 use Rattle.sm_wire.specs.Number.{u32_max, u64_max, parsed_number}
 use Rattle.sm_wire.specs.Fields.{fields_of}
-use Rattle.sm_wire.specs.Reading.{◌>>=◌, first_of_two}
+use Rattle.sm_wire.specs.Reading.{◌>>=◌}
 use Rattle.sm_wire.specs.Values.{name_of, reference_of, own_object_of, call_references_of, payload_of, flag_of}
 use Rattle.sm_wire.specs.Values.{context_of, word_of, perm_of}
 
@@ -61,33 +61,20 @@ lines_of [] ts = None
 lines_of (p ∷ ps) [] = None
 lines_of (p ∷ ps) (word ∷ ts) = if bytes_eq word p.word then line_of p ts else lines_of ps (word ∷ ts)
 
--- This parses `N REQUEST`.
-unfoldable pub client_line_of : List (List ℕ) → Option Request
-client_line_of [] = None
-client_line_of (number ∷ rest) = do
-  n ← parsed_number u32_max number
-  lines_of (client_lines (Some (record { 0 = n }))) rest
+-- This parses a line of a script, whose first word may be a client's number.
+abbrev pub script_line_of : Option ℕ → List ℕ → List (List ℕ) → Option Request
+script_line_of (Some n) word rest = lines_of (client_lines (Some (record { 0 = n }))) rest
+script_line_of None word rest = lines_of unnumbered_lines (word ∷ rest)
 
--- This parses a line of a client's connection.
-unfoldable pub client_fields_of : List (List ℕ) → Option Request
-client_fields_of fields = first_of_two (lines_of (client_lines None) fields) (lines_of greeting_lines fields)
-
--- This parses a line of an administrator's connection.
-unfoldable pub admin_fields_of : List (List ℕ) → Option Request
-admin_fields_of fields = first_of_two (lines_of standing_lines fields) (lines_of admin_lines fields)
-
--- This parses a line of a script that doesn't begin with a client's number.
-unfoldable pub unnumbered_of : List (List ℕ) → Option Request
-unnumbered_of fields = first_of_two (lines_of greeting_lines fields) (lines_of admin_lines fields)
-
--- This parses a line of a script.
+-- This parses the fields of a line of a script.
 unfoldable pub script_fields_of : List (List ℕ) → Option Request
-script_fields_of fields = first_of_two (client_line_of fields) (unnumbered_of fields)
+script_fields_of [] = None
+script_fields_of (word ∷ rest) = script_line_of (parsed_number u32_max word) word rest
 
 -- This parses the fields of a line of this kind.
 unfoldable pub fields_request_of : Kind → List (List ℕ) → Option Request
-fields_request_of Client fields = client_fields_of fields
-fields_request_of Admin fields = admin_fields_of fields
+fields_request_of Client fields = lines_of connection_lines fields
+fields_request_of Admin fields = lines_of admin_lines fields
 fields_request_of Script fields = script_fields_of fields
 
 -- This parses a line of this kind.

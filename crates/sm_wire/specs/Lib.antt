@@ -4,7 +4,6 @@ pub mod Reading
 pub mod Values
 pub mod LineTable
 pub mod Grammar
-pub mod FastPath
 pub mod FieldSpelling
 pub mod Spelling
 pub mod Items

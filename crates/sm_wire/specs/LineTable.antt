@@ -145,14 +145,18 @@ client_lines who =
     get_line who ∷ check_line who ∷ list_line who ∷ version_line who ∷ add_line who ∷ watch_line who
     ∷ unwatch_line who ∷ unregister_line who ∷ binder_lines who
 
--- This is the line by which a process connects.
-abbrev pub greeting_lines : List Production
-greeting_lines = hello_line ∷ []
-
--- This is an administrator's line that a script doesn't have.
-abbrev pub standing_lines : List Production
-standing_lines = version_line None ∷ []
+-- These are the lines of a client's connection.
+abbrev pub connection_lines : List Production
+connection_lines = hello_line ∷ client_lines None
 
 -- These are an administrator's lines that a script has, too.
+abbrev pub policy_lines : List Production
+policy_lines = reload_line ∷ explain_line ∷ denials_line ∷ seal_line ∷ []
+
+-- These are the lines of an administrator's connection.
 abbrev pub admin_lines : List Production
-admin_lines = reload_line ∷ explain_line ∷ denials_line ∷ seal_line ∷ []
+admin_lines = version_line None ∷ policy_lines
+
+-- These are a script's lines without a client's number.
+abbrev pub unnumbered_lines : List Production
+unnumbered_lines = hello_line ∷ policy_lines

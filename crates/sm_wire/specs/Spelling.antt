@@ -11,8 +11,8 @@ use Rattle.sm_wire.specs.declared.read_error.ReadError.TheVariants.{Malformed, M
 use Rattle.sm_wire.specs.declared.request.Request.{Request}
 use Rattle.sm_wire.specs.declared.kind.Kind.{Kind}
 use Rattle.sm_wire.specs.declared.kind.Kind.TheVariants.{Client, Admin, Script}
-use Rattle.sm_wire.specs.LineTable.{Field, Value, Maker, Production, client_lines, greeting_lines, standing_lines}
-use Rattle.sm_wire.specs.LineTable.{admin_lines}
+use Rattle.sm_wire.specs.LineTable.{Field, Value, Maker, Production, client_lines, connection_lines, admin_lines}
+use Rattle.sm_wire.specs.LineTable.{unnumbered_lines}
 use Rattle.sm_wire.specs.Number.{u32_max, u64_max}
 use Rattle.sm_wire.specs.FieldSpelling.{SpellsNumber, SpellsName, SpellsReference, SpellsReferences, SpellsPayload}
 use Rattle.sm_wire.specs.FieldSpelling.{SpellsFlag, SpellsClass, SpellsPerm, IsContext}
@@ -57,10 +57,9 @@ SpellsNumbered (number ∷ ts) request =
 
 -- Fields spell a line, by its kind.
 abbrev pub SpellsFields : Kind → List (List ℕ) → Request → Type 0
-SpellsFields Client ts request = SpellsLine (client_lines None) ts request ⊎ SpellsLine greeting_lines ts request
-SpellsFields Admin ts request = SpellsLine standing_lines ts request ⊎ SpellsLine admin_lines ts request
-SpellsFields Script ts request =
-    SpellsNumbered ts request ⊎ (SpellsLine greeting_lines ts request ⊎ SpellsLine admin_lines ts request)
+SpellsFields Client ts request = SpellsLine connection_lines ts request
+SpellsFields Admin ts request = SpellsLine admin_lines ts request
+SpellsFields Script ts request = SpellsNumbered ts request ⊎ SpellsLine unnumbered_lines ts request
 
 -- These are fields joined by single spaces.
 abbrev pub joined_fields : List (List ℕ) → List ℕ

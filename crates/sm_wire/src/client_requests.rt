@@ -8,18 +8,18 @@ ghost use Rattle.sm_wire.specs.Grammar.{line_of, lines_of, parsed_by};
 
 use crate::numbers::u32_field;
 use crate::read_error::ReadError;
+use crate::recent_names::RecentNames;
 use crate::request::Request;
 use crate::values::{
     flag_field, name_field, own_object_field, payload_field, reference_field, reference_fields,
 };
 use sm_history::{Event, Query};
-use sm_kinds::ClientId;
-use std::alloc::Global;
+use sm_kinds::{ClientId, spells};
 
 /// Reads a query or a change of a client.
 #[tactic(auto, unfolding(crate::specs::Grammar::lines_of))]
 pub fn client_request(
-    alloc: Global,
+    recent: &mut RecentNames,
     client: Option<ClientId>,
     fields: &[&[u8]],
 ) -> Result<Request, ReadError>
@@ -28,32 +28,31 @@ pub fn client_request(
     let [word, rest @ ..] = fields else {
         return Err(ReadError::Malformed);
     };
-    let word = *word;
-    if word == b"get".as_slice() {
-        get(alloc, client, rest)
-    } else if word == b"check".as_slice() {
-        get(alloc, client, rest)
-    } else if word == b"list".as_slice() {
+    if spells(word, b"get") {
+        get(recent, client, rest)
+    } else if spells(word, b"check") {
+        get(recent, client, rest)
+    } else if spells(word, b"list") {
         list(client, rest)
-    } else if word == b"version".as_slice() {
+    } else if spells(word, b"version") {
         bare(rest, Request::Look(client, Query::Version))
-    } else if word == b"add".as_slice() {
-        add(alloc, client, rest)
-    } else if word == b"watch".as_slice() {
-        watch(alloc, client, rest)
-    } else if word == b"unwatch".as_slice() {
-        unwatch(alloc, client, rest)
-    } else if word == b"unregister".as_slice() {
-        unregister(alloc, client, rest)
+    } else if spells(word, b"add") {
+        add(recent, client, rest)
+    } else if spells(word, b"watch") {
+        watch(recent, client, rest)
+    } else if spells(word, b"unwatch") {
+        unwatch(recent, client, rest)
+    } else if spells(word, b"unregister") {
+        unregister(recent, client, rest)
     } else {
-        binder_request(alloc, client, fields)
+        binder_request(recent, client, fields)
     }
 }
 
 // Reads a change that concerns handles and deliveries.
 #[tactic(auto, unfolding(crate::specs::Grammar::lines_of))]
 fn binder_request(
-    alloc: Global,
+    recent: &mut RecentNames,
     client: Option<ClientId>,
     fields: &[&[u8]],
 ) -> Result<Request, ReadError>
@@ -62,14 +61,13 @@ fn binder_request(
     let [word, rest @ ..] = fields else {
         return Err(ReadError::Malformed);
     };
-    let word = *word;
-    if word == b"call".as_slice() {
-        call(alloc, client, rest)
-    } else if word == b"release".as_slice() {
+    if spells(word, b"call") {
+        call(recent, client, rest)
+    } else if spells(word, b"release") {
         release(client, rest)
-    } else if word == b"take".as_slice() {
+    } else if spells(word, b"take") {
         bare(rest, Request::Change(client, Event::Take))
-    } else if word == b"bye".as_slice() {
+    } else if spells(word, b"bye") {
         bare(rest, Request::Change(client, Event::Die))
     } else {
         Err(ReadError::Malformed)
@@ -89,13 +87,17 @@ pub fn bare(fields: &[&[u8]], request: Request) -> Result<Request, ReadError>
 
 // Reads `get NAME` or `check NAME`, which means the same.
 #[tactic(auto, unfolding(crate::specs::Grammar::parsed_by))]
-fn get(alloc: Global, client: Option<ClientId>, fields: &[&[u8]]) -> Result<Request, ReadError>
+fn get(
+    recent: &mut RecentNames,
+    client: Option<ClientId>,
+    fields: &[&[u8]],
+) -> Result<Request, ReadError>
     ensures { ReadsAs result (line_of (get_line client) (map (λ f. f.now) fields.now)) }
 {
     let [name] = fields else {
         return Err(ReadError::Malformed);
     };
-    let name = name_field(alloc, name)?;
+    let name = name_field(recent, name)?;
     Ok(Request::Change(client, Event::Get { name }))
 }
 
@@ -113,14 +115,18 @@ fn list(client: Option<ClientId>, fields: &[&[u8]]) -> Result<Request, ReadError
 
 // Reads `add NAME REF ALLOW DUMP`.
 #[tactic(auto, unfolding(crate::specs::Grammar::parsed_by))]
-fn add(alloc: Global, client: Option<ClientId>, fields: &[&[u8]]) -> Result<Request, ReadError>
+fn add(
+    recent: &mut RecentNames,
+    client: Option<ClientId>,
+    fields: &[&[u8]],
+) -> Result<Request, ReadError>
     ensures { ReadsAs result (line_of (add_line client) (map (λ f. f.now) fields.now)) }
 {
     let [name, obj, allow_isolated, dump] = fields else {
         return Err(ReadError::Malformed);
     };
     let event = Event::Add {
-        name: name_field(alloc, name)?,
+        name: name_field(recent, name)?,
         obj: reference_field(obj)?,
         allow_isolated: flag_field(allow_isolated)?,
         dump: u32_field(dump)?,
@@ -130,26 +136,34 @@ fn add(alloc: Global, client: Option<ClientId>, fields: &[&[u8]]) -> Result<Requ
 
 // Reads `watch NAME oN`.
 #[tactic(auto, unfolding(crate::specs::Grammar::parsed_by))]
-fn watch(alloc: Global, client: Option<ClientId>, fields: &[&[u8]]) -> Result<Request, ReadError>
+fn watch(
+    recent: &mut RecentNames,
+    client: Option<ClientId>,
+    fields: &[&[u8]],
+) -> Result<Request, ReadError>
     ensures { ReadsAs result (line_of (watch_line client) (map (λ f. f.now) fields.now)) }
 {
     let [name, object] = fields else {
         return Err(ReadError::Malformed);
     };
-    let name = name_field(alloc, name)?;
+    let name = name_field(recent, name)?;
     let object = own_object_field(object)?;
     Ok(Request::Change(client, Event::Watch { name, object }))
 }
 
 // Reads `unwatch NAME oN`.
 #[tactic(auto, unfolding(crate::specs::Grammar::parsed_by))]
-fn unwatch(alloc: Global, client: Option<ClientId>, fields: &[&[u8]]) -> Result<Request, ReadError>
+fn unwatch(
+    recent: &mut RecentNames,
+    client: Option<ClientId>,
+    fields: &[&[u8]],
+) -> Result<Request, ReadError>
     ensures { ReadsAs result (line_of (unwatch_line client) (map (λ f. f.now) fields.now)) }
 {
     let [name, object] = fields else {
         return Err(ReadError::Malformed);
     };
-    let name = name_field(alloc, name)?;
+    let name = name_field(recent, name)?;
     let object = own_object_field(object)?;
     Ok(Request::Change(client, Event::Unwatch { name, object }))
 }
@@ -157,7 +171,7 @@ fn unwatch(alloc: Global, client: Option<ClientId>, fields: &[&[u8]]) -> Result<
 // Reads `unregister NAME REF`.
 #[tactic(auto, unfolding(crate::specs::Grammar::parsed_by))]
 fn unregister(
-    alloc: Global,
+    recent: &mut RecentNames,
     client: Option<ClientId>,
     fields: &[&[u8]],
 ) -> Result<Request, ReadError>
@@ -166,14 +180,18 @@ fn unregister(
     let [name, obj] = fields else {
         return Err(ReadError::Malformed);
     };
-    let name = name_field(alloc, name)?;
+    let name = name_field(recent, name)?;
     let obj = reference_field(obj)?;
     Ok(Request::Change(client, Event::Unregister { name, obj }))
 }
 
 // Reads `call N PAYLOAD REF ..`.
 #[tactic(auto, unfolding(crate::specs::Grammar::parsed_by))]
-fn call(alloc: Global, client: Option<ClientId>, fields: &[&[u8]]) -> Result<Request, ReadError>
+fn call(
+    recent: &mut RecentNames,
+    client: Option<ClientId>,
+    fields: &[&[u8]],
+) -> Result<Request, ReadError>
     ensures { ReadsAs result (line_of (call_line client) (map (λ f. f.now) fields.now)) }
 {
     let [handle, payload, refs @ ..] = fields else {
@@ -181,8 +199,8 @@ fn call(alloc: Global, client: Option<ClientId>, fields: &[&[u8]]) -> Result<Req
     };
     let event = Event::Call {
         handle: u32_field(handle)?,
-        payload: payload_field(alloc, payload)?,
-        refs: reference_fields(alloc, refs)?,
+        payload: payload_field(recent.alloc, payload)?,
+        refs: reference_fields(recent.alloc, refs)?,
     };
     Ok(Request::Change(client, event))
 }

@@ -5,7 +5,6 @@ ghost use Rattle.sm_wire.specs.Items.{Makes, policy_item, scan_start, text_start
 ghost use Rattle.sm_wire.specs.Ends.{IsWhole, whole_step, never_items};
 
 use crate::ends::{End, item_end};
-use crate::fast_path::{fast_request, push_fast};
 use crate::fields::split_fields;
 use crate::frame_state::FrameState;
 use crate::grammar::fields_request;
@@ -30,7 +29,6 @@ pub struct Remainder {
 
 /// Cuts bytes that begin with an item, and appends their items.
 pub fn cut(
-    alloc: Global,
     kind: Kind,
     mode: FrameState,
     bytes: &[u8],
@@ -43,21 +41,14 @@ pub fn cut(
     ensures items { IfOk result (λ _. items.new.items
         ≡ items.old.items ++ items_after (record { kind = kind; mode = mode; held = [] }) bytes.now) }
 {
-    let mut fields = Vec::new(alloc);
+    let mut fields = Vec::new(recent.alloc);
     let mut mode = mode;
     let mut start = 0;
     while start < bytes.len() {
         match item_end(mode, 0, &bytes[start..]) {
             End::At(n) => {
-                mode = whole_item(
-                    alloc,
-                    kind,
-                    mode,
-                    &bytes[start..start + n],
-                    &mut fields,
-                    recent,
-                    items,
-                )?;
+                let item = &bytes[start..start + n];
+                mode = whole_item(kind, mode, item, &mut fields, recent, items)?;
                 start += n;
             }
             End::Later => return Ok(Remainder { mode, start }),
@@ -74,7 +65,6 @@ pub fn cut(
 
 /// Appends the item that is these bytes, and says what is read next.
 pub fn lone_item(
-    alloc: Global,
     kind: Kind,
     mode: FrameState,
     bytes: &[u8],
@@ -84,8 +74,8 @@ pub fn lone_item(
     requires { IsWhole mode bytes.now }
     ensures { IfOk result (λ m. Makes (whole_step kind mode bytes.now) kind m [] items.old.items items.new.items) }
 {
-    let mut fields = Vec::new(alloc);
-    whole_item(alloc, kind, mode, bytes, &mut fields, recent, items)
+    let mut fields = Vec::new(recent.alloc);
+    whole_item(kind, mode, bytes, &mut fields, recent, items)
 }
 
 /// Reports a line that is too long, once.
@@ -104,7 +94,6 @@ pub fn end_stream(mode: FrameState, items: &mut Vec<Item>) -> Result<(), AllocEr
 // Returns the item that is these bytes. `fields` is a buffer for the fields of a line.
 #[tactic(auto, unfolding(crate::specs::Ends::whole_step))]
 fn whole_item<'a>(
-    alloc: Global,
     kind: Kind,
     mode: FrameState,
     bytes: &'a [u8],
@@ -116,15 +105,8 @@ fn whole_item<'a>(
     ensures { IfOk result (λ m. Makes (whole_step kind mode bytes.now) kind m [] items.old.items items.new.items) }
 {
     match mode {
-        FrameState::Line => line(
-            alloc,
-            kind,
-            &bytes[..bytes.len() - 1],
-            fields,
-            recent,
-            items,
-        ),
-        FrameState::Texts(header) => texts(alloc, kind, header, bytes, items),
+        FrameState::Line => line(kind, &bytes[..bytes.len() - 1], fields, recent, items),
+        FrameState::Texts(header) => texts(recent.alloc, kind, header, bytes, items),
         FrameState::Dead => Ok(FrameState::Dead),
     }
 }
@@ -147,10 +129,9 @@ fn texts(
     Ok(FrameState::Line)
 }
 
-// Reads a line, without its newline. The most frequent lines are tried first.
-#[tactic(auto, using(crate::proofs::FastPathLemmas::fast_ends))]
+// Reads a line, without its newline.
+#[tactic(auto, unfolding(crate::specs::Items::line_end, crate::specs::Items::item_of, crate::specs::Grammar::header_of, crate::specs::Grammar::request_of))]
 fn line<'a>(
-    alloc: Global,
     kind: Kind,
     line: &'a [u8],
     fields: &mut Vec<&'a [u8]>,
@@ -159,29 +140,9 @@ fn line<'a>(
 ) -> Result<FrameState, AllocError>
     ensures { IfOk result (λ m. Makes (line_end kind line.now) kind m [] items.old.items items.new.items) }
 {
-    match fast_request(kind, line) {
-        Some(fast) => {
-            push_fast(alloc, fast, recent, items)?;
-            Ok(FrameState::Line)
-        }
-        None => wide_line(alloc, kind, line, fields, items),
-    }
-}
-
-// Reads a line of any kind.
-#[inline(never)]
-#[tactic(auto, unfolding(crate::specs::Items::line_end, crate::specs::Items::item_of, crate::specs::Grammar::header_of, crate::specs::Grammar::request_of))]
-fn wide_line<'a>(
-    alloc: Global,
-    kind: Kind,
-    line: &'a [u8],
-    fields: &mut Vec<&'a [u8]>,
-    items: &mut Vec<Item>,
-) -> Result<FrameState, AllocError>
-    ensures { IfOk result (λ m. Makes (line_end kind line.now) kind m [] items.old.items items.new.items) }
-{
+    items.reserve(1)?;
     split_fields(line, fields)?;
-    match fields_request(alloc, kind, fields) {
+    match fields_request(recent, kind, fields) {
         Ok(
             Request::Reload {
                 expected,
@@ -194,14 +155,14 @@ fn wide_line<'a>(
                 rules,
                 contexts,
             };
-            texts_begin(alloc, kind, header, items)
+            texts_begin(recent.alloc, kind, header, items)
         }
         Ok(request) => {
-            items.push(Item::Asked(request))?;
+            items.push_reserved(Item::Asked(request));
             Ok(FrameState::Line)
         }
         Err(ReadError::Malformed) => {
-            items.push(Item::Malformed)?;
+            items.push_reserved(Item::Malformed);
             Ok(FrameState::Line)
         }
         Err(ReadError::Memory) => Err(AllocError),

@@ -2,20 +2,21 @@
 
 ghost use Rattle.std.specs.Prelude.{map};
 ghost use Rattle.sm_wire.specs.Reading.{ReadsAs};
-ghost use Rattle.sm_wire.specs.LineTable.{hello_line, explain_line, greeting_lines, standing_lines, admin_lines};
-ghost use Rattle.sm_wire.specs.Grammar.{line_of, lines_of, client_line_of, unnumbered_of, client_fields_of};
-ghost use Rattle.sm_wire.specs.Grammar.{admin_fields_of, script_fields_of, fields_request_of, request_of};
+ghost use Rattle.sm_wire.specs.LineTable.{hello_line, explain_line, connection_lines, policy_lines, admin_lines};
+ghost use Rattle.sm_wire.specs.LineTable.{unnumbered_lines};
+ghost use Rattle.sm_wire.specs.Grammar.{line_of, lines_of, script_fields_of, fields_request_of, request_of};
 
 use crate::client_requests::{bare, client_request};
 use crate::fields::split_fields;
 use crate::kind::Kind;
-use crate::numbers::u32_field;
+use crate::numbers::{number, u32_field};
 use crate::read_error::ReadError;
+use crate::recent_names::RecentNames;
 use crate::reload_header::reload;
 use crate::request::Request;
 use crate::values::{class_field, context_field, perm_field, word_field};
 use sm_history::Query;
-use sm_kinds::{ClientId, Identity};
+use sm_kinds::{ClientId, Identity, spells};
 use std::alloc::Global;
 
 /// Parses a line of this kind. The line has no newline.
@@ -25,118 +26,93 @@ pub fn request(alloc: Global, kind: Kind, line: &[u8]) -> Result<Request, ReadEr
 {
     let mut fields = Vec::new(alloc);
     split_fields(line, &mut fields)?;
-    fields_request(alloc, kind, &fields)
+    fields_request(&mut RecentNames::none(alloc), kind, &fields)
 }
 
 /// Parses a line of this kind from its fields.
 #[tactic(auto, unfolding(crate::specs::Grammar::fields_request_of))]
-pub fn fields_request(alloc: Global, kind: Kind, fields: &[&[u8]]) -> Result<Request, ReadError>
+pub fn fields_request(
+    recent: &mut RecentNames,
+    kind: Kind,
+    fields: &[&[u8]],
+) -> Result<Request, ReadError>
     ensures { ReadsAs result (fields_request_of kind (map (λ f. f.now) fields.now)) }
 {
     match kind {
-        Kind::Client => client_fields(alloc, fields),
-        Kind::Admin => admin_fields(alloc, fields),
-        Kind::Script => script_fields(alloc, fields),
+        Kind::Client => connection_fields(recent, fields),
+        Kind::Admin => admin_fields(recent.alloc, fields),
+        Kind::Script => script_fields(recent, fields),
     }
 }
 
 // Parses a line of a client's connection.
-#[tactic(auto, unfolding(crate::specs::Grammar::client_fields_of))]
-fn client_fields(alloc: Global, fields: &[&[u8]]) -> Result<Request, ReadError>
-    ensures { ReadsAs result (client_fields_of (map (λ f. f.now) fields.now)) }
+#[tactic(auto, unfolding(crate::specs::Grammar::lines_of))]
+fn connection_fields(recent: &mut RecentNames, fields: &[&[u8]]) -> Result<Request, ReadError>
+    ensures { ReadsAs result (lines_of connection_lines (map (λ f. f.now) fields.now)) }
 {
-    match client_request(alloc, None, fields) {
-        Err(ReadError::Malformed) => greeting(alloc, fields),
-        other => other,
+    let [word, rest @ ..] = fields else {
+        return Err(ReadError::Malformed);
+    };
+    if spells(word, b"hello") {
+        return hello(recent.alloc, rest);
     }
+    client_request(recent, None, fields)
 }
 
 // Parses a line of an administrator's connection.
-#[tactic(auto, unfolding(crate::specs::Grammar::admin_fields_of))]
+#[tactic(auto, unfolding(crate::specs::Grammar::lines_of))]
 fn admin_fields(alloc: Global, fields: &[&[u8]]) -> Result<Request, ReadError>
-    ensures { ReadsAs result (admin_fields_of (map (λ f. f.now) fields.now)) }
+    ensures { ReadsAs result (lines_of admin_lines (map (λ f. f.now) fields.now)) }
 {
-    match standing(fields) {
-        Err(ReadError::Malformed) => policy_request(alloc, fields),
-        other => other,
+    match fields {
+        [word, rest @ ..] if spells(word, b"version") => bare(
+            rest,
+            Request::Look(None, Query::Version),
+        ),
+        _ => policy_request(alloc, fields),
     }
 }
 
-// Parses a line of a script.
+// Parses a line of a script: a client's behind its number, or one without.
 #[tactic(auto, unfolding(crate::specs::Grammar::script_fields_of))]
-fn script_fields(alloc: Global, fields: &[&[u8]]) -> Result<Request, ReadError>
+fn script_fields(recent: &mut RecentNames, fields: &[&[u8]]) -> Result<Request, ReadError>
     ensures { ReadsAs result (script_fields_of (map (λ f. f.now) fields.now)) }
 {
-    match client_line(alloc, fields) {
-        Err(ReadError::Malformed) => unnumbered(alloc, fields),
-        other => other,
+    let [word, rest @ ..] = fields else {
+        return Err(ReadError::Malformed);
+    };
+    match number(word, 0xffff_ffff) {
+        Some(n) => client_request(recent, Some(ClientId(n as u32)), rest),
+        None => unnumbered(recent.alloc, fields),
     }
 }
 
 // Parses a line of a script that doesn't begin with a client's number.
-#[tactic(auto, unfolding(crate::specs::Grammar::unnumbered_of))]
+#[tactic(auto, unfolding(crate::specs::Grammar::lines_of))]
 fn unnumbered(alloc: Global, fields: &[&[u8]]) -> Result<Request, ReadError>
-    ensures { ReadsAs result (unnumbered_of (map (λ f. f.now) fields.now)) }
-{
-    match greeting(alloc, fields) {
-        Err(ReadError::Malformed) => policy_request(alloc, fields),
-        other => other,
-    }
-}
-
-// Parses `N REQUEST`.
-#[tactic(auto, unfolding(crate::specs::Grammar::client_line_of))]
-fn client_line(alloc: Global, fields: &[&[u8]]) -> Result<Request, ReadError>
-    ensures { ReadsAs result (client_line_of (map (λ f. f.now) fields.now)) }
-{
-    let [number, rest @ ..] = fields else {
-        return Err(ReadError::Malformed);
-    };
-    let client = ClientId(u32_field(number)?);
-    client_request(alloc, Some(client), rest)
-}
-
-// Parses the administrator's `version`.
-#[tactic(auto, unfolding(crate::specs::Grammar::lines_of))]
-fn standing(fields: &[&[u8]]) -> Result<Request, ReadError>
-    ensures { ReadsAs result (lines_of standing_lines (map (λ f. f.now) fields.now)) }
+    ensures { ReadsAs result (lines_of unnumbered_lines (map (λ f. f.now) fields.now)) }
 {
     match fields {
-        [word, rest @ ..] if *word == b"version".as_slice() => bare(
-            rest,
-            Request::Look(None, Query::Version),
-        ),
-        _ => Err(ReadError::Malformed),
-    }
-}
-
-// Parses the line by which a process connects.
-#[tactic(auto, unfolding(crate::specs::Grammar::lines_of))]
-fn greeting(alloc: Global, fields: &[&[u8]]) -> Result<Request, ReadError>
-    ensures { ReadsAs result (lines_of greeting_lines (map (λ f. f.now) fields.now)) }
-{
-    match fields {
-        [word, rest @ ..] if *word == b"hello".as_slice() => hello(alloc, rest),
-        _ => Err(ReadError::Malformed),
+        [word, rest @ ..] if spells(word, b"hello") => hello(alloc, rest),
+        _ => policy_request(alloc, fields),
     }
 }
 
 // Parses an administrator's line that a script has, too.
 #[tactic(auto, unfolding(crate::specs::Grammar::lines_of))]
 fn policy_request(alloc: Global, fields: &[&[u8]]) -> Result<Request, ReadError>
-    ensures { ReadsAs result (lines_of admin_lines (map (λ f. f.now) fields.now)) }
+    ensures { ReadsAs result (lines_of policy_lines (map (λ f. f.now) fields.now)) }
 {
     let [word, rest @ ..] = fields else {
         return Err(ReadError::Malformed);
     };
-    let word = *word;
-    if word == b"reload".as_slice() {
+    if spells(word, b"reload") {
         reload(rest)
-    } else if word == b"explain".as_slice() {
+    } else if spells(word, b"explain") {
         explain(alloc, rest)
-    } else if word == b"denials".as_slice() {
+    } else if spells(word, b"denials") {
         bare(rest, Request::Denials)
-    } else if word == b"seal".as_slice() {
+    } else if spells(word, b"seal") {
         bare(rest, Request::Seal)
     } else {
         Err(ReadError::Malformed)

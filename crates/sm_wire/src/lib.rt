@@ -6,7 +6,6 @@ mod client_requests;
 mod deliveries;
 mod denials;
 mod ends;
-mod fast_path;
 mod fields;
 mod frame_state;
 mod framing;

@@ -37,7 +37,6 @@ impl From<AllocError> for FeedError {
 /// Cuts a stream into items, in whatever pieces it comes.
 #[derive(Drop)]
 pub struct Lines {
-    alloc: Global,
     kind: Kind,
     mode: FrameState,
     held: Vec<u8>,
@@ -58,7 +57,6 @@ impl Lines {
         ensures { result ≡ scan_start kind }
     {
         Lines {
-            alloc,
             kind,
             mode: FrameState::Line,
             held: Vec::new(alloc),
@@ -78,7 +76,7 @@ impl Lines {
             return Err(FeedError::LineTooLong);
         }
         let held = self.held.len();
-        let mut items = Vec::new(self.alloc);
+        let mut items = Vec::new(self.recent.alloc);
         match self.take_piece(piece, &mut items) {
             Ok(()) => Ok(items),
             Err(e) => {
@@ -118,22 +116,9 @@ impl Lines {
     {
         let held = self.held.len();
         self.held.extend_from_slice(&piece[..n])?;
-        let mode = lone_item(
-            self.alloc,
-            self.kind,
-            self.mode,
-            &self.held,
-            &mut self.recent,
-            items,
-        )?;
-        let Remainder { mode, start } = cut(
-            self.alloc,
-            self.kind,
-            mode,
-            &piece[n..],
-            &mut self.recent,
-            items,
-        )?;
+        let recent = &mut self.recent;
+        let mode = lone_item(self.kind, self.mode, &self.held, recent, items)?;
+        let Remainder { mode, start } = cut(self.kind, mode, &piece[n..], recent, items)?;
         self.held.extend_from_slice(&piece[n + start..])?;
         drop_front(&mut self.held, held + n);
         self.mode = mode;

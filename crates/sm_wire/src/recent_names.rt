@@ -13,6 +13,9 @@ const PLACES: usize = 1024;
 /// cache changes no name that is returned, so contracts don't see it.
 #[derive(Drop)]
 pub struct RecentNames {
+    pub alloc: Global,
+    /// The number of slots once the first name has come.
+    count: usize,
     places: Vec<Option<Name>>,
 }
 
@@ -26,6 +29,17 @@ impl RecentNames {
     /// Makes an empty cache. Allocates nothing.
     pub fn new(alloc: Global) -> RecentNames {
         RecentNames {
+            alloc,
+            count: PLACES,
+            places: Vec::new(alloc),
+        }
+    }
+
+    /// Makes a cache that keeps no names, for a single line.
+    pub fn none(alloc: Global) -> RecentNames {
+        RecentNames {
+            alloc,
+            count: 0,
             places: Vec::new(alloc),
         }
     }
@@ -36,25 +50,25 @@ impl RecentNames {
     /// # Errors
     ///
     /// An error if the name can't be allocated. If the slots can't, nothing is cached.
-    pub fn name(&mut self, alloc: Global, bytes: &[u8]) -> Result<Name, AllocError>
+    pub fn name(&mut self, bytes: &[u8]) -> Result<Name, AllocError>
         ensures { IfOk result (λ n. n ≡ bytes.now) }
     {
         if bytes.len() > MOST_NAME_BYTES {
-            return Name::new(alloc, bytes);
+            return Name::new(self.alloc, bytes);
         }
         self.make_places();
         match self.places.get_mut(place_of(bytes)) {
-            Some(place) => kept_name(alloc, place, bytes),
-            None => Name::new(alloc, bytes),
+            Some(place) => kept_name(self.alloc, place, bytes),
+            None => Name::new(self.alloc, bytes),
         }
     }
 
     // Allocates the slots when the first name comes.
     fn make_places(&mut self) {
-        if !self.places.is_empty() || self.places.reserve_exact(PLACES).is_err() {
+        if !self.places.is_empty() || self.places.reserve_exact(self.count).is_err() {
             return;
         }
-        for _ in 0..PLACES {
+        for _ in 0..self.count {
             if self.places.push(None).is_err() {
                 return;
             }

@@ -11,6 +11,7 @@ ghost use Rattle.sm_wire.specs.Values.{context_of, word_of, perm_of};
 
 use crate::numbers::u32_field;
 use crate::read_error::ReadError;
+use crate::recent_names::RecentNames;
 use hex::FromHexError;
 use sm_kinds::{
     Class, Context, ContextError, Name, ObjRef, Payload, PayloadError, Perms, Refs, all_graphic,
@@ -20,13 +21,13 @@ use std::alloc::Global;
 
 // Parses NAME: plain bytes, or `%` and two hexadecimal digits for each byte.
 #[tactic(auto, unfolding(crate::specs::Values::name_of))]
-pub fn name_field(alloc: Global, field: &[u8]) -> Result<Name, ReadError>
+pub fn name_field(recent: &mut RecentNames, field: &[u8]) -> Result<Name, ReadError>
     ensures { ReadsAs result (name_of field.now) }
 {
     match field {
         [] => Err(ReadError::Malformed),
-        [b'%', digits @ ..] => hex_name(alloc, digits),
-        [_, ..] => plain_name(alloc, field),
+        [b'%', digits @ ..] => hex_name(recent.alloc, digits),
+        [_, ..] => plain_name(recent, field),
     }
 }
 
@@ -49,13 +50,13 @@ fn hex_bytes(alloc: Global, digits: &[u8]) -> Result<Vec<u8>, ReadError>
 }
 
 #[tactic(auto, unfolding(crate::specs::Values::plain_name_of))]
-fn plain_name(alloc: Global, field: &[u8]) -> Result<Name, ReadError>
+fn plain_name(recent: &mut RecentNames, field: &[u8]) -> Result<Name, ReadError>
     ensures { ReadsAs result (plain_name_of field.now) }
 {
     if !all_graphic(field) {
         return Err(ReadError::Malformed);
     }
-    Ok(Name::new(alloc, field)?)
+    Ok(recent.name(field)?)
 }
 
 // Parses a word of a policy source.
