@@ -135,15 +135,15 @@ denials_line = line (codes "denials") [] Denials
 abbrev pub seal_line : Production
 seal_line = line (codes "seal") [] Seal
 
--- These are a client's lines that concern handles and deliveries.
-abbrev pub binder_lines : Option ClientId → List Production
-binder_lines who = call_line who ∷ release_line who ∷ take_line who ∷ bye_line who ∷ []
+-- These are a client's lines that change what is registered, and the one by which it leaves.
+abbrev pub registering_lines : Option ClientId → List Production
+registering_lines who = add_line who ∷ watch_line who ∷ unwatch_line who ∷ unregister_line who ∷ bye_line who ∷ []
 
 -- These are all of a client's lines.
 abbrev pub client_lines : Option ClientId → List Production
 client_lines who =
-    get_line who ∷ check_line who ∷ list_line who ∷ version_line who ∷ add_line who ∷ watch_line who
-    ∷ unwatch_line who ∷ unregister_line who ∷ binder_lines who
+    get_line who ∷ check_line who ∷ list_line who ∷ version_line who ∷ call_line who ∷ release_line who
+    ∷ take_line who ∷ registering_lines who
 
 -- These are the lines of a client's connection.
 abbrev pub connection_lines : List Production

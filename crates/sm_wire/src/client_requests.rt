@@ -1,10 +1,13 @@
 //! Requests of clients: a function for each line of the table. Each takes the fields after its word.
+//!
+//! A function zeroes its locals on entry. So the lines with fields are parsed by functions that aren't inlined, and a
+//! short line doesn't pay for a long one.
 
-ghost use Rattle.std.specs.Prelude.{false, [], map};
+ghost use Rattle.std.specs.Prelude.{false, [], Some, None, map, if◌then◌else◌};
 ghost use Rattle.sm_wire.specs.Reading.{ReadsAs};
 ghost use Rattle.sm_wire.specs.LineTable.{get_line, list_line, add_line, watch_line, unwatch_line, unregister_line};
-ghost use Rattle.sm_wire.specs.LineTable.{call_line, release_line, binder_lines, client_lines};
-ghost use Rattle.sm_wire.specs.Grammar.{line_of, lines_of, parsed_by};
+ghost use Rattle.sm_wire.specs.LineTable.{call_line, release_line, registering_lines, client_lines};
+ghost use Rattle.sm_wire.specs.Grammar.{line_of, lines_of, has_fields};
 
 use crate::numbers::u32_field;
 use crate::read_error::ReadError;
@@ -17,7 +20,7 @@ use sm_history::{Event, Query};
 use sm_kinds::{ClientId, spells};
 
 /// Reads a query or a change of a client.
-#[tactic(auto, unfolding(crate::specs::Grammar::lines_of))]
+#[tactic(auto, unfolding(crate::specs::Grammar::lines_of, crate::specs::Grammar::parsed_by))]
 pub fn client_request(
     recent: &mut RecentNames,
     client: Option<ClientId>,
@@ -29,63 +32,74 @@ pub fn client_request(
         return Err(ReadError::Malformed);
     };
     if spells(word, b"get") {
-        get(recent, client, rest)
-    } else if spells(word, b"check") {
-        get(recent, client, rest)
-    } else if spells(word, b"list") {
-        list(client, rest)
-    } else if spells(word, b"version") {
-        bare(rest, Request::Look(client, Query::Version))
-    } else if spells(word, b"add") {
-        add(recent, client, rest)
-    } else if spells(word, b"watch") {
-        watch(recent, client, rest)
-    } else if spells(word, b"unwatch") {
-        unwatch(recent, client, rest)
-    } else if spells(word, b"unregister") {
-        unregister(recent, client, rest)
-    } else {
-        binder_request(recent, client, fields)
+        return get(recent, client, rest);
     }
+    if spells(word, b"check") {
+        return get(recent, client, rest);
+    }
+    if spells(word, b"list") {
+        return list(client, rest);
+    }
+    if spells(word, b"version") {
+        no_fields(rest)?;
+        return Ok(Request::Look(client, Query::Version));
+    }
+    if spells(word, b"call") {
+        return call(recent, client, rest);
+    }
+    if spells(word, b"release") {
+        return release(client, rest);
+    }
+    if spells(word, b"take") {
+        no_fields(rest)?;
+        return Ok(Request::Change(client, Event::Take));
+    }
+    registering_request(recent, client, fields)
 }
 
-// Reads a change that concerns handles and deliveries.
-#[tactic(auto, unfolding(crate::specs::Grammar::lines_of))]
-fn binder_request(
+// Reads a change of what is registered, or a leave.
+#[tactic(auto, unfolding(crate::specs::Grammar::lines_of, crate::specs::Grammar::parsed_by))]
+fn registering_request(
     recent: &mut RecentNames,
     client: Option<ClientId>,
     fields: &[&[u8]],
 ) -> Result<Request, ReadError>
-    ensures { ReadsAs result (lines_of (binder_lines client) (map (λ f. f.now) fields.now)) }
+    ensures { ReadsAs result (lines_of (registering_lines client) (map (λ f. f.now) fields.now)) }
 {
     let [word, rest @ ..] = fields else {
         return Err(ReadError::Malformed);
     };
-    if spells(word, b"call") {
-        call(recent, client, rest)
-    } else if spells(word, b"release") {
-        release(client, rest)
-    } else if spells(word, b"take") {
-        bare(rest, Request::Change(client, Event::Take))
-    } else if spells(word, b"bye") {
-        bare(rest, Request::Change(client, Event::Die))
-    } else {
-        Err(ReadError::Malformed)
+    if spells(word, b"add") {
+        return add(recent, client, rest);
     }
+    if spells(word, b"watch") {
+        return watch(recent, client, rest);
+    }
+    if spells(word, b"unwatch") {
+        return unwatch(recent, client, rest);
+    }
+    if spells(word, b"unregister") {
+        return unregister(recent, client, rest);
+    }
+    if spells(word, b"bye") {
+        no_fields(rest)?;
+        return Ok(Request::Change(client, Event::Die));
+    }
+    Err(ReadError::Malformed)
 }
 
-/// Reads the fields of a line that has none, which makes this request.
-#[tactic(auto, unfolding(crate::specs::Grammar::parsed_by))]
-pub fn bare(fields: &[&[u8]], request: Request) -> Result<Request, ReadError>
-    ensures { ReadsAs result (parsed_by [] false request (map (λ f. f.now) fields.now)) }
+/// Checks that a line has no fields behind its word.
+pub fn no_fields(fields: &[&[u8]]) -> Result<(), ReadError>
+    ensures { ReadsAs result (if has_fields [] false (map (λ f. f.now) fields.now) then Some tt else None) }
 {
     if fields.is_empty() {
-        return Ok(request);
+        return Ok(());
     }
     Err(ReadError::Malformed)
 }
 
 // Reads `get NAME` or `check NAME`, which means the same.
+#[inline(never)]
 #[tactic(auto, unfolding(crate::specs::Grammar::parsed_by))]
 fn get(
     recent: &mut RecentNames,
@@ -102,6 +116,7 @@ fn get(
 }
 
 // Reads `list MASK`.
+#[inline(never)]
 #[tactic(auto, unfolding(crate::specs::Grammar::parsed_by))]
 fn list(client: Option<ClientId>, fields: &[&[u8]]) -> Result<Request, ReadError>
     ensures { ReadsAs result (line_of (list_line client) (map (λ f. f.now) fields.now)) }
@@ -114,6 +129,7 @@ fn list(client: Option<ClientId>, fields: &[&[u8]]) -> Result<Request, ReadError
 }
 
 // Reads `add NAME REF ALLOW DUMP`.
+#[inline(never)]
 #[tactic(auto, unfolding(crate::specs::Grammar::parsed_by))]
 fn add(
     recent: &mut RecentNames,
@@ -135,6 +151,7 @@ fn add(
 }
 
 // Reads `watch NAME oN`.
+#[inline(never)]
 #[tactic(auto, unfolding(crate::specs::Grammar::parsed_by))]
 fn watch(
     recent: &mut RecentNames,
@@ -152,6 +169,7 @@ fn watch(
 }
 
 // Reads `unwatch NAME oN`.
+#[inline(never)]
 #[tactic(auto, unfolding(crate::specs::Grammar::parsed_by))]
 fn unwatch(
     recent: &mut RecentNames,
@@ -169,6 +187,7 @@ fn unwatch(
 }
 
 // Reads `unregister NAME REF`.
+#[inline(never)]
 #[tactic(auto, unfolding(crate::specs::Grammar::parsed_by))]
 fn unregister(
     recent: &mut RecentNames,
@@ -186,6 +205,7 @@ fn unregister(
 }
 
 // Reads `call N PAYLOAD REF ..`.
+#[inline(never)]
 #[tactic(auto, unfolding(crate::specs::Grammar::parsed_by))]
 fn call(
     recent: &mut RecentNames,
@@ -206,6 +226,7 @@ fn call(
 }
 
 // Reads `release N`.
+#[inline(never)]
 #[tactic(auto, unfolding(crate::specs::Grammar::parsed_by))]
 fn release(client: Option<ClientId>, fields: &[&[u8]]) -> Result<Request, ReadError>
     ensures { ReadsAs result (line_of (release_line client) (map (λ f. f.now) fields.now)) }

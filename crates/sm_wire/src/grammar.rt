@@ -6,7 +6,7 @@ ghost use Rattle.sm_wire.specs.LineTable.{hello_line, explain_line, connection_l
 ghost use Rattle.sm_wire.specs.LineTable.{unnumbered_lines};
 ghost use Rattle.sm_wire.specs.Grammar.{line_of, lines_of, script_fields_of, fields_request_of, request_of};
 
-use crate::client_requests::{bare, client_request};
+use crate::client_requests::{client_request, no_fields};
 use crate::fields::split_fields;
 use crate::kind::Kind;
 use crate::numbers::{number, u32_field};
@@ -46,7 +46,7 @@ pub fn fields_request(
 }
 
 // Parses a line of a client's connection.
-#[tactic(auto, unfolding(crate::specs::Grammar::lines_of))]
+#[tactic(auto, unfolding(crate::specs::Grammar::lines_of, crate::specs::Grammar::parsed_by))]
 fn connection_fields(recent: &mut RecentNames, fields: &[&[u8]]) -> Result<Request, ReadError>
     ensures { ReadsAs result (lines_of connection_lines (map (λ f. f.now) fields.now)) }
 {
@@ -60,15 +60,15 @@ fn connection_fields(recent: &mut RecentNames, fields: &[&[u8]]) -> Result<Reque
 }
 
 // Parses a line of an administrator's connection.
-#[tactic(auto, unfolding(crate::specs::Grammar::lines_of))]
+#[tactic(auto, unfolding(crate::specs::Grammar::lines_of, crate::specs::Grammar::parsed_by))]
 fn admin_fields(alloc: Global, fields: &[&[u8]]) -> Result<Request, ReadError>
     ensures { ReadsAs result (lines_of admin_lines (map (λ f. f.now) fields.now)) }
 {
     match fields {
-        [word, rest @ ..] if spells(word, b"version") => bare(
-            rest,
-            Request::Look(None, Query::Version),
-        ),
+        [word, rest @ ..] if spells(word, b"version") => {
+            no_fields(rest)?;
+            Ok(Request::Look(None, Query::Version))
+        }
         _ => policy_request(alloc, fields),
     }
 }
@@ -81,14 +81,14 @@ fn script_fields(recent: &mut RecentNames, fields: &[&[u8]]) -> Result<Request, 
     let [word, rest @ ..] = fields else {
         return Err(ReadError::Malformed);
     };
-    match number(word, 0xffff_ffff) {
-        Some(n) => client_request(recent, Some(ClientId(n as u32)), rest),
-        None => unnumbered(recent.alloc, fields),
-    }
+    let Some(n) = number(word, 0xffff_ffff) else {
+        return unnumbered(recent.alloc, fields);
+    };
+    client_request(recent, Some(ClientId(n as u32)), rest)
 }
 
 // Parses a line of a script that doesn't begin with a client's number.
-#[tactic(auto, unfolding(crate::specs::Grammar::lines_of))]
+#[tactic(auto, unfolding(crate::specs::Grammar::lines_of, crate::specs::Grammar::parsed_by))]
 fn unnumbered(alloc: Global, fields: &[&[u8]]) -> Result<Request, ReadError>
     ensures { ReadsAs result (lines_of unnumbered_lines (map (λ f. f.now) fields.now)) }
 {
@@ -99,7 +99,8 @@ fn unnumbered(alloc: Global, fields: &[&[u8]]) -> Result<Request, ReadError>
 }
 
 // Parses an administrator's line that a script has, too.
-#[tactic(auto, unfolding(crate::specs::Grammar::lines_of))]
+#[inline(never)]
+#[tactic(auto, unfolding(crate::specs::Grammar::lines_of, crate::specs::Grammar::parsed_by))]
 fn policy_request(alloc: Global, fields: &[&[u8]]) -> Result<Request, ReadError>
     ensures { ReadsAs result (lines_of policy_lines (map (λ f. f.now) fields.now)) }
 {
@@ -111,15 +112,18 @@ fn policy_request(alloc: Global, fields: &[&[u8]]) -> Result<Request, ReadError>
     } else if spells(word, b"explain") {
         explain(alloc, rest)
     } else if spells(word, b"denials") {
-        bare(rest, Request::Denials)
+        no_fields(rest)?;
+        Ok(Request::Denials)
     } else if spells(word, b"seal") {
-        bare(rest, Request::Seal)
+        no_fields(rest)?;
+        Ok(Request::Seal)
     } else {
         Err(ReadError::Malformed)
     }
 }
 
 // Parses `hello PID UID CONTEXT`.
+#[inline(never)]
 #[tactic(auto, unfolding(crate::specs::Grammar::parsed_by))]
 fn hello(alloc: Global, fields: &[&[u8]]) -> Result<Request, ReadError>
     ensures { ReadsAs result (line_of hello_line (map (λ f. f.now) fields.now)) }
@@ -134,6 +138,7 @@ fn hello(alloc: Global, fields: &[&[u8]]) -> Result<Request, ReadError>
 }
 
 // Parses `explain SOURCE TARGET CLASS PERM`.
+#[inline(never)]
 #[tactic(auto, unfolding(crate::specs::Grammar::parsed_by))]
 fn explain(alloc: Global, fields: &[&[u8]]) -> Result<Request, ReadError>
     ensures { ReadsAs result (line_of explain_line (map (λ f. f.now) fields.now)) }
