@@ -11,7 +11,7 @@ use Rattle.std.specs.List.{AllByRecursion, list_all}
 use Rattle.std.specs.Result.{result_ok}
 use Rattle.std.specs.Str.{bytes_eq}
 use Rattle.std.specs.Str.Parse.{AllDigits}
-use Rattle.std.proofs.lemmas.Bool.{cases_eq, and_parts}
+use Rattle.std.proofs.lemmas.Bool.{cases_eq, and_parts, not-true}
 use Rattle.std.proofs.lemmas.Bool.Decides.{nat_tests}
 use Rattle.std.proofs.lemmas.Fmt.{decimal_is_IsNumeral}
 use Rattle.std.proofs.lemmas.Option.{same_Some, none-some}
@@ -32,12 +32,11 @@ use Rattle.sm_kinds.specs.Contexts.{is_graphic, is_context, ends_behind_role, af
 use Rattle.sm_kinds.specs.Permissions.{class_read, perm_read, bit}
 use Rattle.sm_ruletext.specs.Lexing.{is_word, is_word_byte}
 use Rattle.sm_wire.specs.Number.{u32_max, u64_max, parsed_number}
-use Rattle.sm_wire.specs.Reading.{first_of_two}
 use Rattle.sm_wire.specs.Values.{plain_name_of, name_of, reference_of, own_object_of, own_number, references_of}
 use Rattle.sm_wire.specs.Values.{fitting_references, fitting_payload}
 use Rattle.sm_wire.specs.Values.{call_references_of, hex_payload_of, payload_of, flag_of, context_of, word_of, perm_of}
 use Rattle.sm_wire.specs.FieldSpelling.{SpellsNumber, SpellsDigit, SpellsBytes, SpellsName, SpellsReference}
-use Rattle.sm_wire.specs.FieldSpelling.{SpellsReferences, SpellsPayload, SpellsFlag, SpellsClass, SpellsPerm}
+use Rattle.sm_wire.specs.FieldSpelling.{SpellsReferences, SpellsPayload, Words, SpellsWord, flag_words, perm_words}
 use Rattle.sm_wire.proofs.NumberLemmas.{one_number, its_spelling}
 
 -- ---- choices
@@ -467,112 +466,59 @@ payload_solid _ _ (SpellsPayload.some digits bytes s some le) = bytes_solid digi
 
 -- ---- words
 
-pub flag_read : (t : List ℕ) (a : Bool) → SpellsFlag t a → flag_of t ≡ Some a
-unfolding flag_of
-flag_read _ _ SpellsFlag.no = refl
-flag_read _ _ SpellsFlag.yes = refl
+-- The value of a word of a table.
+abbrev pub word_value : {X : Type 0} → Words X → List ℕ → Option X
+word_value [] t = None
+word_value (w ∷ ws) t = if bytes_eq t w.0 then Some w.1 else word_value ws t
 
-pub flag_spelled : (t : List ℕ) (a : Bool) → flag_of t ≡ Some a → SpellsFlag t a
-unfolding flag_of
-flag_spelled t a e =
-    let yes : Option Bool = if bytes_eq t (codes "1") then Some true else None in
-    elim (word_chosen t (codes "0") (Some false) yes a e) [
-      | inl h ↦ rw (h.0, ← same_Some false a h.1) SpellsFlag.no
-      | inr f ↦ elim (word_chosen t (codes "1") (Some true) None a f) [
-        | inl h ↦ rw (h.0, ← same_Some true a h.1) SpellsFlag.yes
-        | inr g ↦ absurd (none-some a g)
-      ]
-    ]
+-- No word of a table is this one.
+abbrev lacks_word : {X : Type 0} → List ℕ → Words X → Bool
+lacks_word v ws = list_all (λ w. not (bytes_eq w.0 v)) ws
 
-pub flag_solid : (t : List ℕ) (a : Bool) → SpellsFlag t a → Solid t
-flag_solid _ _ SpellsFlag.no = solid_word (codes "0") refl
-flag_solid _ _ SpellsFlag.yes = solid_word (codes "1") refl
+-- No word of a table occurs twice, and none has a space.
+abbrev pub is_word_table : {X : Type 0} → Words X → Bool
+is_word_table [] = true
+is_word_table (w ∷ ws) = (list_all no_space w.0 && lacks_word w.0 ws) && is_word_table ws
 
-pub class_read_so : (t : List ℕ) (c : Class) → SpellsClass t c → class_read t ≡ Some c
-class_read_so _ _ SpellsClass.manager = refl
-class_read_so _ _ SpellsClass.binder = refl
+other_word : {X : Type 0} (ws : Words X) (v t : List ℕ) (x : X) → lacks_word v ws ≡ true → SpellsWord ws t x
+    → bytes_eq t v ≡ false
+other_word [] v t x l s = absurd s
+other_word (w ∷ ws) v t x l (inl s) =
+    rw (s.0) (not-true (bytes_eq w.0 v) (and_parts (not (bytes_eq w.0 v)) (lacks_word v ws) l).0)
+other_word (w ∷ ws) v t x l (inr s) = other_word ws v t x (and_parts (not (bytes_eq w.0 v)) (lacks_word v ws) l).1 s
 
-pub class_spelled : (t : List ℕ) (c : Class) → class_read t ≡ Some c → SpellsClass t c
-class_spelled t c e =
-    let binders : Option Class = if bytes_eq t (codes "binder") then Some Binder else None in
-    elim (word_chosen t (codes "service_manager") (Some ServiceManager) binders c e) [
-      | inl h ↦ rw (h.0, ← same_Some ServiceManager c h.1) SpellsClass.manager
-      | inr f ↦ elim (word_chosen t (codes "binder") (Some Binder) None c f) [
-        | inl h ↦ rw (h.0, ← same_Some Binder c h.1) SpellsClass.binder
-        | inr g ↦ absurd (none-some c g)
-      ]
-    ]
+pub table_read : {X : Type 0} (ws : Words X) (t : List ℕ) (x : X) → is_word_table ws ≡ true → SpellsWord ws t x
+    → word_value ws t ≡ Some x
+table_read [] t x a s = absurd s
+table_read (w ∷ ws) t x a (inl s) = rw ((bytes_eq-Decides t w.0).1 s.0) (ap (λ y. Some y) s.1)
+table_read (w ∷ ws) t x a (inr s) =
+    let parts = and_parts (list_all no_space w.0 && lacks_word w.0 ws) (is_word_table ws) a in
+    let lacks = (and_parts (list_all no_space w.0) (lacks_word w.0 ws) parts.0).1 in
+    rw (other_word ws w.0 t x lacks s) (table_read ws t x parts.1 s)
 
-pub class_solid : (t : List ℕ) (c : Class) → SpellsClass t c → Solid t
-class_solid _ _ SpellsClass.manager = solid_word (codes "service_manager") refl
-class_solid _ _ SpellsClass.binder = solid_word (codes "binder") refl
-
-pub perm_read_so : (t : List ℕ) (p : Perms) → SpellsPerm t p → perm_of t ≡ Some p
-unfolding perm_of
-perm_read_so _ _ SpellsPerm.add = refl
-perm_read_so _ _ SpellsPerm.find = refl
-perm_read_so _ _ SpellsPerm.list = refl
-perm_read_so _ _ SpellsPerm.impersonate = refl
-perm_read_so _ _ SpellsPerm.call = refl
-perm_read_so _ _ SpellsPerm.set_context_mgr = refl
-perm_read_so _ _ SpellsPerm.transfer = refl
-
-pub first_chosen : {A : Type 0} (o u : Option A) (x : A) → first_of_two o u ≡ Some x → (o ≡ Some x) ⊎ (u ≡ Some x)
-first_chosen None u x e = inr e
-first_chosen (Some y) u x e = inl e
-
-perm_like : (t w : List ℕ) (q p : Perms) → t ≡ w → Some q ≡ Some p → SpellsPerm w q → SpellsPerm t p
-perm_like t w q p e f s = rw (e, ← same_Some q p f) s
-
-service_perm_spelled : (t : List ℕ) (p : Perms) → perm_read ServiceManager t ≡ Some p → SpellsPerm t p
-service_perm_spelled t p e =
-    let lists : Option Perms = if bytes_eq t (codes "list") then Some (bit 4) else None in
-    let finds : Option Perms = if bytes_eq t (codes "find") then Some (bit 2) else lists in
-    elim (word_chosen t (codes "add") (Some (bit 1)) finds p e) [
-      | inl h ↦ perm_like t (codes "add") (bit 1) p h.0 h.1 SpellsPerm.add
-      | inr f ↦ elim (word_chosen t (codes "find") (Some (bit 2)) lists p f) [
-        | inl h ↦ perm_like t (codes "find") (bit 2) p h.0 h.1 SpellsPerm.find
-        | inr g ↦ elim (word_chosen t (codes "list") (Some (bit 4)) None p g) [
-          | inl h ↦ perm_like t (codes "list") (bit 4) p h.0 h.1 SpellsPerm.list
-          | inr k ↦ absurd (none-some p k)
-        ]
-      ]
-    ]
-
-binder_perm_spelled : (t : List ℕ) (p : Perms) → perm_read Binder t ≡ Some p → SpellsPerm t p
-binder_perm_spelled t p e =
-    let transfers : Option Perms = if bytes_eq t (codes "transfer") then Some (bit 64) else None in
-    let managers : Option Perms = if bytes_eq t (codes "set_context_mgr") then Some (bit 32) else transfers in
-    let calls : Option Perms = if bytes_eq t (codes "call") then Some (bit 16) else managers in
-    elim (word_chosen t (codes "impersonate") (Some (bit 8)) calls p e) [
-      | inl h ↦ perm_like t (codes "impersonate") (bit 8) p h.0 h.1 SpellsPerm.impersonate
-      | inr f ↦ elim (word_chosen t (codes "call") (Some (bit 16)) managers p f) [
-        | inl h ↦ perm_like t (codes "call") (bit 16) p h.0 h.1 SpellsPerm.call
-        | inr g ↦ elim (word_chosen t (codes "set_context_mgr") (Some (bit 32)) transfers p g) [
-          | inl h ↦ perm_like t (codes "set_context_mgr") (bit 32) p h.0 h.1 SpellsPerm.set_context_mgr
-          | inr k ↦ elim (word_chosen t (codes "transfer") (Some (bit 64)) None p k) [
-            | inl h ↦ perm_like t (codes "transfer") (bit 64) p h.0 h.1 SpellsPerm.transfer
-            | inr l ↦ absurd (none-some p l)
-          ]
-        ]
-      ]
-    ]
-
-pub perm_spelled : (t : List ℕ) (p : Perms) → perm_of t ≡ Some p → SpellsPerm t p
-unfolding perm_of
-perm_spelled t p e = elim (first_chosen (perm_read ServiceManager t) (perm_read Binder t) p e) [
-  | inl h ↦ service_perm_spelled t p h
-  | inr h ↦ binder_perm_spelled t p h
+pub table_spelled : {X : Type 0} (ws : Words X) (t : List ℕ) (x : X) → word_value ws t ≡ Some x → SpellsWord ws t x
+table_spelled [] t x e = absurd (none-some x e)
+table_spelled (w ∷ ws) t x e = elim (word_chosen t w.0 (Some w.1) (word_value ws t) x e) [
+  | inl h ↦ inl (h.0, same_Some w.1 x h.1)
+  | inr h ↦ inr (table_spelled ws t x h)
 ]
 
-pub perm_solid : (t : List ℕ) (p : Perms) → SpellsPerm t p → Solid t
-perm_solid _ _ SpellsPerm.add = solid_word (codes "add") refl
-perm_solid _ _ SpellsPerm.find = solid_word (codes "find") refl
-perm_solid _ _ SpellsPerm.list = solid_word (codes "list") refl
-perm_solid _ _ SpellsPerm.impersonate = solid_word (codes "impersonate") refl
-perm_solid _ _ SpellsPerm.call = solid_word (codes "call") refl
-perm_solid _ _ SpellsPerm.set_context_mgr = solid_word (codes "set_context_mgr") refl
-perm_solid _ _ SpellsPerm.transfer = solid_word (codes "transfer") refl
+pub table_solid : {X : Type 0} (ws : Words X) (t : List ℕ) (x : X) → is_word_table ws ≡ true → SpellsWord ws t x
+    → Solid t
+table_solid [] t x a s = absurd s
+table_solid (w ∷ ws) t x a (inl s) =
+    let parts = and_parts (list_all no_space w.0 && lacks_word w.0 ws) (is_word_table ws) a in
+    rw (s.0) (solid_word w.0 (and_parts (list_all no_space w.0) (lacks_word w.0 ws) parts.0).0)
+table_solid (w ∷ ws) t x a (inr s) =
+    table_solid ws t x (and_parts (list_all no_space w.0 && lacks_word w.0 ws) (is_word_table ws) a).1 s
+
+pub flag_table : (t : List ℕ) → flag_of t ≡ word_value flag_words t
+unfolding flag_of
+flag_table t = refl
+
+pub perm_table : (t : List ℕ) → perm_of t ≡ word_value perm_words t
+unfolding perm_of
+perm_table t = grind arith
 
 pub context_read : (t : List ℕ) → IsTrue (is_context t) → context_of t ≡ Some t
 unfolding context_of

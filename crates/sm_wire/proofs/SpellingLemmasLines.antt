@@ -4,7 +4,7 @@ use Rattle.std.proofs.Common.{None, Result, Ok, Err, refl, sym, ap, subst, ◌�
 use Rattle.std.specs.Prelude.{is_some}
 use Rattle.std.specs.List.{AllByRecursion, list_all}
 use Rattle.std.specs.Str.{bytes_eq}
-use Rattle.std.proofs.lemmas.Bool.{and_parts}
+use Rattle.std.proofs.lemmas.Bool.{and_parts, not-true}
 use Rattle.std.proofs.lemmas.List.Splits.{join_with_byte-slice_split}
 use Rattle.std.proofs.lemmas.Option.{same_Some, none-some}
 use Rattle.std.proofs.lemmas.Slice.Eq.{bytes_eq-Decides}
@@ -24,18 +24,18 @@ use Rattle.sm_wire.specs.LineTable.{Field, Value, Maker, Production, client_line
 use Rattle.sm_wire.specs.LineTable.{unnumbered_lines}
 use Rattle.sm_wire.specs.Grammar.{value_of, has_fields, made_of, parsed_by, line_of, lines_of, script_line_of}
 use Rattle.sm_wire.specs.Grammar.{script_fields_of, fields_request_of, request_of}
+use Rattle.sm_wire.specs.FieldSpelling.{flag_words, class_words, perm_words}
 use Rattle.sm_wire.specs.Spelling.{SpellsField, SpellsMade, SpellsLine, SpellsNumbered, SpellsFields, Spells}
 use Rattle.sm_wire.specs.Spelling.{SpellsNothing, ReadsSpelled, joined_fields}
 use Rattle.sm_wire.proofs.FieldLemmas.{fields_of-space, fields_of-plain}
-use Rattle.sm_wire.proofs.SpellingLemmasFields.{Solid, bound, word_chosen, solid_word, no_space}
-use Rattle.sm_wire.proofs.SpellingLemmasFields.{u32_small, u64_small, number_read, number_spelled, number_solid}
-use Rattle.sm_wire.proofs.SpellingLemmasFields.{name_read, name_spelled, name_solid, reference_read, reference_spelled}
-use Rattle.sm_wire.proofs.SpellingLemmasFields.{reference_solid, object_read, object_spelled, call_references_read}
+use Rattle.sm_wire.proofs.SpellingLemmasFields.{Solid, bound, word_chosen, solid_word, no_space, u32_small, u64_small}
+use Rattle.sm_wire.proofs.SpellingLemmasFields.{number_read, number_spelled, number_solid, name_read, name_spelled}
+use Rattle.sm_wire.proofs.SpellingLemmasFields.{name_solid, reference_read, reference_spelled, reference_solid}
+use Rattle.sm_wire.proofs.SpellingLemmasFields.{object_read, object_spelled, call_references_read}
 use Rattle.sm_wire.proofs.SpellingLemmasFields.{call_references_spelled, references_solid, payload_read}
-use Rattle.sm_wire.proofs.SpellingLemmasFields.{payload_spelled, payload_solid, flag_read, flag_spelled, flag_solid}
-use Rattle.sm_wire.proofs.SpellingLemmasFields.{class_read_so, class_spelled, class_solid, perm_read_so, perm_spelled}
-use Rattle.sm_wire.proofs.SpellingLemmasFields.{perm_solid, context_read, context_spelled, context_solid, word_read}
-use Rattle.sm_wire.proofs.SpellingLemmasFields.{word_spelled, word_solid}
+use Rattle.sm_wire.proofs.SpellingLemmasFields.{payload_spelled, payload_solid, table_read, table_spelled, table_solid}
+use Rattle.sm_wire.proofs.SpellingLemmasFields.{flag_table, perm_table, context_read, context_spelled, context_solid}
+use Rattle.sm_wire.proofs.SpellingLemmasFields.{word_read, word_spelled, word_solid}
 use Rattle.sm_wire.proofs.SpellingLemmasContexts.{context_judged, context_written}
 
 -- ---- fields
@@ -68,40 +68,40 @@ value_read : (f : Field) (t : List ℕ) (v : Value f) → SpellsField f t v → 
 value_read Field.name t v s = name_read t v s
 value_read Field.reference t v s = reference_read t v s
 value_read Field.object t v s = object_read t v s
-value_read Field.flag t v s = flag_read t v s
+value_read Field.flag t v s = flag_table t ∙ table_read flag_words t v refl s
 value_read Field.number t v s = number_read u32_max u32_small t v s
 value_read Field.long t v s = number_read u64_max u64_small t v s
 value_read Field.payload t v s = payload_read t v s
 value_read Field.context t v s = context_read t (context_judged t s.0) ∙ ap (λ x. Some x) s.1
 value_read Field.word t v s = word_read t s.0 ∙ ap (λ x. Some x) s.1
-value_read Field.class t v s = class_read_so t v s
-value_read Field.perm t v s = perm_read_so t v s
+value_read Field.class t v s = table_read class_words t v refl s
+value_read Field.perm t v s = perm_table t ∙ table_read perm_words t v refl s
 
 value_spelled : (f : Field) (t : List ℕ) (v : Value f) → value_of f t ≡ Some v → SpellsField f t v
 value_spelled Field.name t v e = name_spelled t v e
 value_spelled Field.reference t v e = reference_spelled t v e
 value_spelled Field.object t v e = object_spelled t v e
-value_spelled Field.flag t v e = flag_spelled t v e
+value_spelled Field.flag t v e = table_spelled flag_words t v (sym (flag_table t) ∙ e)
 value_spelled Field.number t v e = number_spelled u32_max u32_small t v e
 value_spelled Field.long t v e = number_spelled u64_max u64_small t v e
 value_spelled Field.payload t v e = payload_spelled t v e
 value_spelled Field.context t v e = let s = context_spelled t v e in (context_written t s.0, s.1)
 value_spelled Field.word t v e = word_spelled t v e
-value_spelled Field.class t v e = class_spelled t v e
-value_spelled Field.perm t v e = perm_spelled t v e
+value_spelled Field.class t v e = table_spelled class_words t v e
+value_spelled Field.perm t v e = table_spelled perm_words t v (sym (perm_table t) ∙ e)
 
 value_solid : (f : Field) (t : List ℕ) (v : Value f) → SpellsField f t v → Solid t
 value_solid Field.name t v s = name_solid t v s
 value_solid Field.reference t v s = reference_solid t v s
 value_solid Field.object t v s = reference_solid t (Own v) s
-value_solid Field.flag t v s = flag_solid t v s
+value_solid Field.flag t v s = table_solid flag_words t v refl s
 value_solid Field.number t v s = number_solid u32_max u32_small t v s
 value_solid Field.long t v s = number_solid u64_max u64_small t v s
 value_solid Field.payload t v s = payload_solid t v s
 value_solid Field.context t v s = context_solid t (context_judged t s.0)
 value_solid Field.word t v s = word_solid t s.0
-value_solid Field.class t v s = class_solid t v s
-value_solid Field.perm t v s = perm_solid t v s
+value_solid Field.class t v s = table_solid class_words t v refl s
+value_solid Field.perm t v s = table_solid perm_words t v refl s
 
 -- ---- the fields behind a word
 
@@ -162,43 +162,28 @@ line_so p ts r e = by (has_fields p.fields p.more ts) refl e
 
 -- No line of a table begins with this word.
 abbrev lacks : List ℕ → List Production → Bool
-lacks w ps = list_all (λ p. not (bytes_eq w p.word)) ps
+lacks w ps = list_all (λ p. not (bytes_eq p.word w)) ps
 
 -- No line of a table begins with the word of another line, and no word has a space.
 abbrev is_table : List Production → Bool
 is_table [] = true
 is_table (p ∷ ps) = (list_all no_space p.word && lacks p.word ps) && is_table ps
 
-same_word : (w v : List ℕ) → w ≡ v → bytes_eq w v ≡ true
-same_word w v e = (bytes_eq-Decides w v).1 e
-
-unlike : (b : Bool) → not b ≡ true → b ≡ false
-unlike true e = absurd (true≢false (sym e))
-unlike false e = refl
-
 -- A word of a line in a table isn't one that the table lacks.
 spelled_other : (ps : List Production) (v w : List ℕ) (ts : List (List ℕ)) (r : Request) → lacks v ps ≡ true
     → SpellsLine ps (w ∷ ts) r → bytes_eq w v ≡ false
 spelled_other [] v w ts r l s = absurd s
 spelled_other (p ∷ ps) v w ts r l (inl s) =
-    let l' = and_parts (not (bytes_eq v p.word)) (lacks v ps) l in
-    by (bytes_eq w v) refl
-  where
-    by : (b : Bool) → bytes_eq w v ≡ b → bytes_eq w v ≡ false
-    by true e =
-        let is = (bytes_eq-Decides w v).0 e in
-        absurd (true≢false (sym (same_word v p.word (sym is ∙ s.0))
-        ∙ unlike (bytes_eq v p.word) (and_parts (not (bytes_eq v p.word)) (lacks v ps) l).0))
-    by false e = e
+    rw (s.0) (not-true (bytes_eq p.word v) (and_parts (not (bytes_eq p.word v)) (lacks v ps) l).0)
 spelled_other (p ∷ ps) v w ts r l (inr s) =
-    spelled_other ps v w ts r (and_parts (not (bytes_eq v p.word)) (lacks v ps) l).1 s
+    spelled_other ps v w ts r (and_parts (not (bytes_eq p.word v)) (lacks v ps) l).1 s
 
 lines_is : (ps : List Production) (ts : List (List ℕ)) (r : Request) → is_table ps ≡ true → SpellsLine ps ts r
     → lines_of ps ts ≡ Some r
 unfolding lines_of
 lines_is [] ts r a s = absurd s
 lines_is (p ∷ ps) [] r a s = absurd s
-lines_is (p ∷ ps) (w ∷ ts) r a (inl s) = rw (same_word w p.word s.0) (line_is p ts r s.1)
+lines_is (p ∷ ps) (w ∷ ts) r a (inl s) = rw ((bytes_eq-Decides w p.word).1 s.0) (line_is p ts r s.1)
 lines_is (p ∷ ps) (w ∷ ts) r a (inr s) =
     let parts = and_parts (list_all no_space p.word && lacks p.word ps) (is_table ps) a in
     let l = (and_parts (list_all no_space p.word) (lacks p.word ps) parts.0).1 in

@@ -1,5 +1,6 @@
 -- The written grammar of the fields of request lines: which bytes spell which value.
-use Rattle.std.specs.Prelude.{◌≢◌, ◌<◌, ◌≤◌, ◌+◌, ◌*◌, ℕ, Bool, true, false, length, codes, List, [], ◌∷◌, ◌++◌}
+use Rattle.std.specs.Prelude.{◌≡◌, ◌≢◌, ◌<◌, ◌≤◌, ◌⊎◌, ◌+◌, ◌*◌, ℕ, Bool, true, false, length, codes, List, []}
+use Rattle.std.specs.Prelude.{◌∷◌, ◌++◌}
 use Rattle.std.specs.Fmt.{decimal}
 use Rattle.std.specs.Int.{IsInRange}
 use Rattle.std.specs.List.{AllByRecursion, join_with_byte}
@@ -51,25 +52,28 @@ pub data SpellsPayload : List ℕ → List ℕ → Type 0 where
   some : (digits bytes : List ℕ) → SpellsBytes digits bytes → 0 < length bytes → length bytes ≤ MOST_PAYLOAD_BYTES
       → SpellsPayload digits bytes
 
+-- Each value of a field of words has its word.
+abbrev pub Words : Type 0 → Type 0
+Words X = List (List ℕ × X)
+
 -- ALLOW is `0` or `1`.
-pub data SpellsFlag : List ℕ → Bool → Type 0 where
-  no : SpellsFlag (codes "0") false
-  yes : SpellsFlag (codes "1") true
+abbrev pub flag_words : Words Bool
+flag_words = (codes "0", false) ∷ (codes "1", true) ∷ []
 
 -- CLASS is the word of a class.
-pub data SpellsClass : List ℕ → Class → Type 0 where
-  manager : SpellsClass (codes "service_manager") ServiceManager
-  binder : SpellsClass (codes "binder") Binder
+abbrev pub class_words : Words Class
+class_words = (codes "service_manager", ServiceManager) ∷ (codes "binder", Binder) ∷ []
 
 -- PERM is the word of a permission.
-pub data SpellsPerm : List ℕ → Perms → Type 0 where
-  add : SpellsPerm (codes "add") (bit 1)
-  find : SpellsPerm (codes "find") (bit 2)
-  list : SpellsPerm (codes "list") (bit 4)
-  impersonate : SpellsPerm (codes "impersonate") (bit 8)
-  call : SpellsPerm (codes "call") (bit 16)
-  set_context_mgr : SpellsPerm (codes "set_context_mgr") (bit 32)
-  transfer : SpellsPerm (codes "transfer") (bit 64)
+abbrev pub perm_words : Words Perms
+perm_words =
+    (codes "add", bit 1) ∷ (codes "find", bit 2) ∷ (codes "list", bit 4) ∷ (codes "impersonate", bit 8)
+    ∷ (codes "call", bit 16) ∷ (codes "set_context_mgr", bit 32) ∷ (codes "transfer", bit 64) ∷ []
+
+-- A word of a table spells its value.
+abbrev pub SpellsWord : {X : Type 0} → Words X → List ℕ → X → Type 0
+SpellsWord [] text v = ⊥
+SpellsWord (w ∷ ws) text v = ((text ≡ w.0) × (w.1 ≡ v)) ⊎ SpellsWord ws text v
 
 -- A part of a context is one byte or more from 0x21 to 0x7E, none of them `:`, which is 58.
 abbrev pub IsPart : List ℕ → Type 0

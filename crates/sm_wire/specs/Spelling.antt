@@ -15,21 +15,21 @@ use Rattle.sm_wire.specs.LineTable.{Field, Value, Maker, Production, client_line
 use Rattle.sm_wire.specs.LineTable.{unnumbered_lines}
 use Rattle.sm_wire.specs.Number.{u32_max, u64_max}
 use Rattle.sm_wire.specs.FieldSpelling.{SpellsNumber, SpellsName, SpellsReference, SpellsReferences, SpellsPayload}
-use Rattle.sm_wire.specs.FieldSpelling.{SpellsFlag, SpellsClass, SpellsPerm, IsContext}
+use Rattle.sm_wire.specs.FieldSpelling.{SpellsWord, flag_words, class_words, perm_words, IsContext}
 
 -- Bytes spell the value of a field.
 abbrev pub SpellsField : (f : Field) → List ℕ → Value f → Type 0
 SpellsField Field.name text v = SpellsName text v
 SpellsField Field.reference text v = SpellsReference text v
 SpellsField Field.object text v = SpellsReference text (Own v)
-SpellsField Field.flag text v = SpellsFlag text v
+SpellsField Field.flag text v = SpellsWord flag_words text v
 SpellsField Field.number text v = SpellsNumber u32_max text v
 SpellsField Field.long text v = SpellsNumber u64_max text v
 SpellsField Field.payload text v = SpellsPayload text v
 SpellsField Field.context text v = IsContext text × (text ≡ v)
 SpellsField Field.word text v = IsTrue (is_word text) × (text ≡ v)
-SpellsField Field.class text v = SpellsClass text v
-SpellsField Field.perm text v = SpellsPerm text v
+SpellsField Field.class text v = SpellsWord class_words text v
+SpellsField Field.perm text v = SpellsWord perm_words text v
 
 -- Fields in order spell a request.
 abbrev pub SpellsMade : (fs : List Field) (more : Bool) → Maker fs more → List (List ℕ) → Request → Type 0
