@@ -22,14 +22,10 @@ use Rattle.hex.specs.declared.error.FromHexError.{FromHexError}
 use Rattle.hex.specs.declared.error.FromHexError.TheVariants.{OddLength}
 use Rattle.hex.specs.Hex as hexes
 use Rattle.hex.proofs.HexLemmas.{decode_of-even}
-use Rattle.sm_kinds.specs.declared.class.Class.{Class}
-use Rattle.sm_kinds.specs.declared.class.Class.TheVariants.{ServiceManager, Binder}
 use Rattle.sm_kinds.specs.declared.limits.TheConstants.{MOST_PAYLOAD_BYTES, MOST_REFS}
 use Rattle.sm_kinds.specs.declared.number.ObjRef.{ObjRef}
 use Rattle.sm_kinds.specs.declared.number.ObjRef.TheVariants.{Own, Handle, Null}
-use Rattle.sm_kinds.specs.declared.perms.Perms.{Perms}
 use Rattle.sm_kinds.specs.Contexts.{is_graphic, is_context, ends_behind_role, after_part}
-use Rattle.sm_kinds.specs.Permissions.{class_read, perm_read, bit}
 use Rattle.sm_ruletext.specs.Lexing.{is_word, is_word_byte}
 use Rattle.sm_wire.specs.Number.{u32_max, u64_max, parsed_number}
 use Rattle.sm_wire.specs.Values.{plain_name_of, name_of, reference_of, own_object_of, own_number, references_of}
@@ -154,21 +150,9 @@ module _ (max : ℕ) (small : max < 2 ^ 64) where
 -- ---- hexadecimal digits
 
 digit_read : (c v : ℕ) → SpellsDigit c v → hex_digit_value c ≡ Some v
-digit_read _ _ (SpellsDigit.figure v lt) =
-    let a : (nat_le 65 (48 + v) && nat_le (48 + v) 70) ≡ false = grind (arith, nat_tests) in
-    let b : (nat_le 97 (48 + v) && nat_le (48 + v) 102) ≡ false = grind (arith, nat_tests) in
-    let c : (nat_le 48 (48 + v) && nat_le (48 + v) 57) ≡ true = grind (arith, nat_tests) in
-    let d : 48 + v - 48 ≡ v = omega arith in
-    rw (a, b, c, d) refl
-digit_read _ _ (SpellsDigit.capital v lt) =
-    let a : (nat_le 65 (65 + v) && nat_le (65 + v) 70) ≡ true = grind (arith, nat_tests) in
-    let d : 65 + v - 55 ≡ 10 + v = omega arith in
-    rw (a, d) refl
-digit_read _ _ (SpellsDigit.small v lt) =
-    let a : (nat_le 65 (97 + v) && nat_le (97 + v) 70) ≡ false = grind (arith, nat_tests) in
-    let b : (nat_le 97 (97 + v) && nat_le (97 + v) 102) ≡ true = grind (arith, nat_tests) in
-    let d : 97 + v - 87 ≡ 10 + v = omega arith in
-    rw (a, b, d) refl
+digit_read _ _ (SpellsDigit.figure v lt) = grind (arith, nat_tests)
+digit_read _ _ (SpellsDigit.capital v lt) = grind (arith, nat_tests)
+digit_read _ _ (SpellsDigit.small v lt) = grind (arith, nat_tests)
 
 ranged : (lo hi c : ℕ) → (nat_le lo c && nat_le c hi) ≡ true → IsInRange lo hi c
 ranged lo hi c e = grind (arith, nat_tests)
@@ -397,16 +381,10 @@ pub references_solid : (ts : List (List ℕ)) (rs : List ObjRef) → SpellsRefer
 references_solid _ _ SpellsReferences.none = tt
 references_solid _ _ (SpellsReferences.more t ts r rs s rest) = (reference_solid t r s, references_solid ts rs rest)
 
-within : (a b : ℕ) → a ≤ b → nat_le a b ≡ true
-within a b le = grind (arith, nat_tests)
-
-is_within : (a b : ℕ) → nat_le a b ≡ true → a ≤ b
-is_within a b e = grind (arith, nat_tests)
-
 pub call_references_read : (ts : List (List ℕ)) (rs : List ObjRef) → SpellsReferences ts rs → length rs ≤ MOST_REFS
     → call_references_of ts ≡ Some rs
 unfolding call_references_of
-call_references_read ts rs s le = rw (references_read ts rs s, within (length rs) MOST_REFS le) refl
+call_references_read ts rs s le = rw (references_read ts rs s) (grind (arith, nat_tests))
 
 pub call_references_spelled : (ts : List (List ℕ)) (rs : List ObjRef) → call_references_of ts ≡ Some rs
     → SpellsReferences ts rs × (length rs ≤ MOST_REFS)
@@ -414,7 +392,7 @@ unfolding call_references_of
 call_references_spelled ts rs e =
     let h = bound fitting_references (references_of ts) rs e in
     let k = if_true (nat_le (length h.0) MOST_REFS) h.0 rs h.2 in
-    rw (← k.1) (references_spelled ts h.0 h.1, is_within (length h.0) MOST_REFS k.0)
+    rw (← k.1) (references_spelled ts h.0 h.1, grind (arith, nat_tests, k.0))
 
 -- ---- payloads
 
@@ -430,7 +408,7 @@ not_dash _ _ (SpellsBytes.more a b high low digits bytes s t rest) = rw (figures
 hex_payload_read : (digits bytes : List ℕ) → SpellsBytes digits bytes → length bytes ≤ MOST_PAYLOAD_BYTES
     → hex_payload_of digits ≡ Some bytes
 unfolding hex_payload_of
-hex_payload_read digits bytes s le = rw (bytes_read digits bytes s, within (length bytes) MOST_PAYLOAD_BYTES le) refl
+hex_payload_read digits bytes s le = rw (bytes_read digits bytes s) (grind (arith, nat_tests))
 
 some_payload : (digits bytes : List ℕ) → SpellsBytes digits bytes → 0 < length bytes
     → length bytes ≤ MOST_PAYLOAD_BYTES → payload_of digits ≡ Some bytes
@@ -450,7 +428,7 @@ hex_payload_spelled b bs p e =
     let k = if_true (nat_le (length h.0) MOST_PAYLOAD_BYTES) h.0 p h.2 in
     let s : SpellsBytes (b ∷ bs) h.0 = bytes_spelled (b ∷ bs) h.0 h.1 in
     let some : 0 < length h.0 = omega (arith, bytes_even (b ∷ bs) h.0 s) in
-    rw (← k.1) (SpellsPayload.some (b ∷ bs) h.0 s some (is_within (length h.0) MOST_PAYLOAD_BYTES k.0))
+    rw (← k.1) (SpellsPayload.some (b ∷ bs) h.0 s some (grind (arith, nat_tests, k.0)))
 
 pub payload_spelled : (t p : List ℕ) → payload_of t ≡ Some p → SpellsPayload t p
 unfolding payload_of

@@ -1,5 +1,5 @@
 -- The written grammar of request lines: which bytes spell which request.
-use Rattle.std.specs.Prelude.{◌≡◌, ◌≤◌, ◌⊎◌, ℕ, Bool, true, false, IsTrue, length, List, [], ◌∷◌, Some, None}
+use Rattle.std.specs.Prelude.{◌≡◌, ◌≤◌, ◌⊎◌, ℕ, Bool, true, false, IsTrue, length, List, [], ◌∷◌, Some}
 use Rattle.std.specs.Prelude.{Result, Ok, Err}
 use Rattle.std.specs.List.{join_with_byte}
 use Rattle.sm_kinds.specs.declared.limits.TheConstants.{MOST_REFS}
