@@ -1,5 +1,5 @@
 -- What is written as a context is read as one, and what is read as a context is written so.
-use Rattle.std.proofs.Common.{◌≡◌, ◌≢◌, ℕ, ◌+◌, ◌<◌, ◌==◌, ◌⊎◌, inl, inr, Bool, true, false, not, ◌&&◌, ◌||◌}
+use Rattle.std.proofs.Common.{◌≡◌, ◌≢◌, ℕ, ◌+◌, ◌<◌, ◌==◌, ◌⊎◌, inl, inr, Bool, true, false, not, ◌||◌}
 use Rattle.std.proofs.Common.{List, [], ◌∷◌}
 use Rattle.std.proofs.Common.{◌++◌, length, drop, Option, Some, None, if◌then◌else◌, refl, sym, ap, subst, ◌∙◌, arith}
 use Rattle.std.proofs.Common.{append_assoc, length-append}
@@ -76,22 +76,13 @@ behind part rest =
     subst (λ n. drop n (part ++ 58 ∷ rest) ≡ rest) len
     (subst (λ l. drop (length (part ++ 58 ∷ [])) l ≡ rest) whole (drop-append_seam (part ++ 58 ∷ []) rest))
 
--- An `if` at its test.
-at_test : {A : Type 0} (n k : ℕ) (rest : List ℕ) (bytes part : List ℕ) (x : Option A) → n ≡ length part
-    → k ≡ length part + (1 + length rest) → 0 < length part → (if (n == 0 || n == k) then None else x) ≡ x
-at_test n k rest bytes part x is all some =
-    let a : (n == 0) ≡ false = grind (arith, nat_tests) in
-    let b : (n == k) ≡ false = grind (arith, nat_tests) in
-    rw (a, b) refl
-
 after_front : (part rest : List ℕ) → 0 < length part → NoColon part → after_part (part ++ 58 ∷ rest) ≡ Some rest
 after_front part rest some plain =
     let bytes = part ++ 58 ∷ rest in
     let n : prefix_len is_in_part bytes ≡ length part = part_length part rest plain in
     let k : length bytes ≡ length part + (1 + length rest) = omega (arith, length-append part (58 ∷ rest)) in
-    at_test (prefix_len is_in_part bytes) (length bytes) rest bytes part
-    (Some (drop (prefix_len is_in_part bytes + 1) bytes)) n k some
-    ∙ ap (λ m. Some (drop (m + 1) bytes)) n ∙ ap Some (behind part rest)
+    let inside : (length part == 0 || length part == length bytes) ≡ false = grind (arith, nat_tests, k) in
+    rw (n, inside, behind part rest) refl
 
 stopped : {A : Type 0} (t : Bool) (x : Option A) (y : A) → (if t then None else x) ≡ Some y → (t ≡ false) × (x ≡ Some y)
 stopped true x y e = absurd (none-some y e)
@@ -108,23 +99,17 @@ record Behind (bytes rest : List ℕ) : Type 0 where
   plain : NoColon part
   some : 0 < length part
 
-positive : (n : ℕ) → (n == 0) ≡ false → 0 < n
-positive n e = grind (arith, nat_tests)
-
-unequal : (n k : ℕ) → (n == k) ≡ false → n ≢ k
-unequal n k e = grind (arith, nat_tests)
-
 front_after : (bytes rest : List ℕ) → after_part bytes ≡ Some rest → Behind bytes rest
 front_after bytes rest e =
     let n = prefix_len is_in_part bytes in
     let t = stopped (n == 0 || n == length bytes) (Some (drop (n + 1) bytes)) rest e in
     let u = neither (n == 0) (n == length bytes) t.0 in
     elim (cut bytes) [
-      | inl h ↦ absurd (unequal n (length bytes) u.1 (whole_length bytes h))
+      | inl h ↦ absurd (grind (arith, nat_tests, u.1, whole_length bytes h))
       | inr f ↦
           let k : n ≡ length f.part =
           ap (λ l. prefix_len is_in_part l) f.parts ∙ part_length f.part f.rest f.plain in
-          let some : 0 < length f.part = subst (λ m. 0 < m) k (positive n u.0) in
+          let some : 0 < length f.part = grind (arith, nat_tests, k, u.0) in
           let same : f.rest ≡ rest = same_Some f.rest rest
           (sym (after_front f.part f.rest some f.plain) ∙ sym (ap after_part f.parts) ∙ e) in
           record {
@@ -137,28 +122,17 @@ front_after bytes rest e =
 
 -- ---- the last parts
 
-both_unequal : (n k : ℕ) → 0 < n → n + 1 ≢ k → (not (n == 0) && not (n + 1 == k)) ≡ true
-both_unequal n k some ne =
-    let a : (n == 0) ≡ false = grind (arith, nat_tests) in
-    let b : (n + 1 == k) ≡ false = grind (arith, nat_tests) in
-    rw (a, b) refl
-
-not_false : (b : Bool) → not b ≡ true → b ≡ false
-not_false true e = absurd cc
-not_false false e = refl
-
 type_alone : (type : List ℕ) → IsPart type → is_type_and_range type ≡ true
 type_alone type h =
     let n : prefix_len is_in_part type ≡ length type = whole_length type h.2 in
-    both_unequal (prefix_len is_in_part type) (length type) (omega (arith, n, h.0)) (λ e. omega (arith, n, e))
+    grind (arith, nat_tests, n, h.0)
 
 type_then : (type range : List ℕ) → IsPart type → 0 < length range → is_type_and_range (type ++ 58 ∷ range) ≡ true
 type_then type range h some =
     let bytes = type ++ 58 ∷ range in
     let n : prefix_len is_in_part bytes ≡ length type = part_length type range h.2 in
     let k : length bytes ≡ length type + (1 + length range) = omega (arith, length-append type (58 ∷ range)) in
-    both_unequal (prefix_len is_in_part bytes) (length bytes) (omega (arith, n, h.0))
-    (λ e. omega (arith, n, k, e, some))
+    grind (arith, nat_tests, n, h.0, k, some)
 
 -- A type, and a range or none.
 abbrev EndsSo : List ℕ → Type 0
@@ -169,8 +143,8 @@ ends_so : (bytes : List ℕ) → is_type_and_range bytes ≡ true → EndsSo byt
 ends_so bytes e =
     let n = prefix_len is_in_part bytes in
     let t = and_parts (not (n == 0)) (not (n + 1 == length bytes)) e in
-    let some : 0 < n = positive n (not_false (n == 0) t.0) in
-    let ne : n + 1 ≢ length bytes = unequal (n + 1) (length bytes) (not_false (n + 1 == length bytes) t.1) in
+    let some : 0 < n = grind (arith, nat_tests, t.0) in
+    let ne : n + 1 ≢ length bytes = λ e. grind (arith, nat_tests, t.1) in
     elim (cut bytes) [
       | inl h ↦ inl (subst (λ m. 0 < m) (whole_length bytes h) some, h)
       | inr f ↦
