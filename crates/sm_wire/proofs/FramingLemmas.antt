@@ -12,7 +12,7 @@ use Rattle.sm_wire.specs.declared.frame_state.FrameState.{FrameState}
 use Rattle.sm_wire.specs.declared.frame_state.FrameState.TheVariants.{Line, Texts as TextsMode, Dead}
 use Rattle.sm_wire.specs.declared.reload_header.ReloadHeader.{ReloadHeader}
 use Rattle.sm_wire.specs.declared.ends.End.TheVariants.{At, Later, Never}
-use Rattle.sm_wire.specs.Items.{FrameStep, Scan, Makes, scan_start, scan_dead, policy_item, line_end, line_step}
+use Rattle.sm_wire.specs.Items.{Scan, Makes, scan_start, scan_dead, policy_item, line_end, line_step}
 use Rattle.sm_wire.specs.Items.{text_step}
 use Rattle.sm_wire.specs.Items.{mode_step, byte_step, scan_after, items_after}
 use Rattle.sm_wire.specs.Ends.{EndsAs, IsWhole, whole_step, never_items}
@@ -42,16 +42,12 @@ module _ (kind : Kind) where
   pub leads_then : (s t u : Scan) (xs ys : List ℕ) (is js : List Item) → Leads s xs t is → Leads t ys u js
       → Leads s (xs ++ ys) u (is ++ js)
   leads_then s t u xs ys is js p q = record {
-    scan = scan_after-append s xs ys ∙ ap (λ (m : Scan). scan_after m ys) p.scan ∙ q.scan;
-    items = items_after-append s xs ys ∙ rw p.items (ap (λ (m : Scan). is ++ items_after m ys) p.scan
-        ∙ ap (λ (l : List Item). is ++ l) q.items);
+    scan = rw (scan_after-append s xs ys, p.scan) q.scan;
+    items = rw (items_after-append s xs ys, p.items, p.scan, q.items) refl;
   }
 
   leads_one : (s : Scan) (b : ℕ) (t : Scan) (is : List Item) → byte_step s b ≡ (t, is) → Leads s (b ∷ []) t is
-  leads_one s b t is e = record {
-    scan = ap (λ (p : FrameStep). p.0) e;
-    items = ap (λ (p : FrameStep). p.1 ++ []) e ∙ append-nil is;
-  }
+  leads_one s b t is e = record { scan = rw (scan_after, e) refl; items = rw (items_after, e, append-nil is) refl }
 
   -- The first n bytes and the next one.
   front_and_last : (n : ℕ) (bytes : List ℕ) → n < length bytes
@@ -72,11 +68,7 @@ module _ (kind : Kind) where
       grind (arith, nat_tests, head) in
       let more : length xs ≤ 4096 - length (held ++ x ∷ []) = omega (arith, length-append held (x ∷ [])) in
       let rest = line_leads (held ++ x ∷ []) xs (λ k lt. plain (suc k) (omega arith)) more in
-      record {
-        scan = ap (λ (s : FrameStep). scan_after s.0 xs) one ∙ rest.scan
-            ∙ ap (λ (h : List ℕ). record { kind = kind; mode = Line; held = h }) (append_assoc held (x ∷ []) xs);
-        items = ap (λ (s : FrameStep). s.1 ++ items_after s.0 xs) one ∙ rest.items;
-      }
+      record { scan = rw (one, rest.scan, append_assoc held (x ∷ []) xs) refl; items = rw one rest.items }
 
   -- The same, of the first bytes of some.
   front_leads : (held bytes : List ℕ) (n : ℕ) → n ≤ length bytes → n ≤ 4096 - length held
@@ -161,12 +153,7 @@ module _ (kind : Kind) where
       let next : (k : ℕ) → 0 < k → k ≤ length xs → length (held ++ x ∷ []) + k ≢ a.rules + a.contexts =
       λ k some le is. later (suc k) (omega arith) (omega arith) (omega (arith, len, is)) in
       let rest = texts_lead a (held ++ x ∷ []) xs next in
-      record {
-        scan = ap (λ (s : FrameStep). scan_after s.0 xs) one ∙ rest.scan
-            ∙ ap (λ (h : List ℕ). record { kind = kind; mode = TextsMode a; held = h }) (append_assoc held
-            (x ∷ []) xs);
-        items = ap (λ (s : FrameStep). s.1 ++ items_after s.0 xs) one ∙ rest.items;
-      }
+      record { scan = rw (one, rest.scan, append_assoc held (x ∷ []) xs) refl; items = rw one rest.items }
 
   -- Bytes that end texts.
   texts_end : (a : ReloadHeader) (held bytes : List ℕ) (n : ℕ) → n < length bytes
@@ -249,19 +236,13 @@ module _ (kind : Kind) where
       let parts : drop start bytes ≡ take k (drop start bytes) ++ rest =
       sym (take-append-drop k (drop start bytes)) ∙ ap (λ (l : List ℕ). take k (drop start bytes) ++ l)
       (drop-drop k start bytes) in
-      let scan : scan_after there (drop start bytes) ≡ scan_after here rest =
-      ap (λ (l : List ℕ). scan_after there l) parts ∙ scan_after-append there (take k (drop start bytes)) rest
-      ∙ ap (λ (t : Scan). scan_after t rest) (l.scan ∙ made.scan) in
-      let items : items_after there (drop start bytes) ≡ (whole_step kind m (take k
-      (drop start bytes))).1 ++ items_after here rest =
-      ap (λ (l : List ℕ). items_after there l) parts ∙ items_after-append there (take k (drop start bytes)) rest
-      ∙ ap (λ (is : List Item). is ++ items_after (scan_after there (take k (drop start bytes))) rest) l.items
-      ∙ ap (λ (t : Scan). (whole_step kind m (take k (drop start bytes))).1 ++ items_after t rest) (l.scan
-      ∙ made.scan) in
+      let both = leads_then there here (scan_after here rest) (take k (drop start bytes)) rest
+      (whole_step kind m (take k (drop start bytes))).1 (items_after here rest)
+      (record { scan = l.scan ∙ made.scan; items = l.items }) (record { scan = refl; items = refl }) in
       record {
         within = omega (arith, far.within, w.1, length-drop start bytes);
-        rest = sym scan ∙ far.rest;
-        whole = rw (made.items, append_assoc) (sym (ap (λ (is : List Item). mid ++ is) items) ∙ far.whole);
+        rest = rw (← both.scan, ← parts) far.rest;
+        whole = rw (made.items, append_assoc, ← both.items, ← parts) far.whole;
       }
 
   -- The loop ends where the bytes end, or in the middle of an item.
@@ -274,10 +255,8 @@ module _ (kind : Kind) where
         held = drop start bytes;
       }) × (new ≡ old ++ items_after (record { kind = kind; mode = first; held = [] }) bytes)
   far_later m first bytes start old new ends far =
-      let l = later_leads m [] (drop start bytes) ends in (
-        sym far.rest ∙ l.scan,
-        sym (ap (λ (is : List Item). new ++ is) l.items ∙ append-nil new) ∙ far.whole,
-      )
+      let l = later_leads m [] (drop start bytes) ends in
+      (rw (← far.rest) l.scan, rw (← far.whole, l.items, append-nil new) refl)
 
   -- The loop ends with the stream.
   pub far_never : (m first : FrameState) (bytes : List ℕ) (start : ℕ) (old mid new : List Item)
@@ -285,10 +264,8 @@ module _ (kind : Kind) where
       (scan_after (record { kind = kind; mode = first; held = [] }) bytes ≡ (scan_dead kind))
       × (new ≡ old ++ items_after (record { kind = kind; mode = first; held = [] }) bytes)
   far_never m first bytes start old mid new ends is far =
-      let l = never_leads m [] (drop start bytes) (λ h. refl) ends in (
-        sym far.rest ∙ l.scan,
-        is ∙ sym (ap (λ (is : List Item). mid ++ is) l.items) ∙ far.whole,
-      )
+      let l = never_leads m [] (drop start bytes) (λ h. refl) ends in
+      (rw (← far.rest) l.scan, rw (← far.whole, l.items) is)
 
   -- The loop ends with the bytes.
   pub far_all : (m first : FrameState) (bytes : List ℕ) (start : ℕ) (old new : List Item) → drop start bytes ≡ []
@@ -298,11 +275,8 @@ module _ (kind : Kind) where
         mode = m;
         held = drop start bytes;
       }) × (new ≡ old ++ items_after (record { kind = kind; mode = first; held = [] }) bytes)
-  far_all m first bytes start old new none far = (
-    sym far.rest ∙ rw none refl,
-    sym (ap (λ (l : List ℕ). new ++ items_after (record { kind = kind; mode = m; held = [] }) l) none
-        ∙ append-nil new) ∙ far.whole,
-  )
+  far_all m first bytes start old new none far =
+      (rw (← far.rest, none) refl, rw (← far.whole, none, append-nil new) refl)
 
   -- A piece that ends what is held, and what the rest of it leads to.
   pub piece_ends : (m n last : FrameState) (held piece : List ℕ) (k start : ℕ) (old mid new : List Item)
@@ -324,11 +298,8 @@ module _ (kind : Kind) where
       let both = leads_then there here (record { kind = kind; mode = last; held = drop start (drop k piece) })
       (take k piece)
       (drop k piece) (whole_step kind m (held ++ take k piece)).1 (items_after here (drop k piece)) first tail in
-      let parts = take-append-drop k piece in (
-        ap (λ (l : List ℕ). scan_after there l) (sym parts) ∙ both.scan,
-        is ∙ rw (made.items, append_assoc) (ap (λ (is : List Item). old ++ is) (sym both.items)
-            ∙ ap (λ (l : List ℕ). old ++ items_after there l) parts),
-      )
+      let parts = take-append-drop k piece in
+      (ap (scan_after there) (sym parts) ∙ both.scan, rw (is, made.items, append_assoc, ← both.items, parts) refl)
 
   -- A piece that ends what is held, as the code takes it: the bytes that are held then.
   pub piece_taken : (m n last : FrameState) (held piece first whole all left : List ℕ) (k start from : ℕ)
@@ -362,10 +333,7 @@ module _ (kind : Kind) where
       (record { kind = kind; mode = m; held = held }) piece)
       × (old ≡ old ++ items_after (record { kind = kind; mode = m; held = held }) piece)
   piece_later m held piece all old ends is =
-      let l = later_leads m held piece ends in (
-        ap (λ (h : List ℕ). record { kind = kind; mode = m; held = h }) is ∙ sym l.scan,
-        sym (ap (λ (is : List Item). old ++ is) l.items ∙ append-nil old),
-      )
+      let l = later_leads m held piece ends in (rw (is, l.scan) refl, rw (l.items, append-nil old) refl)
 
   -- A piece of a line that is too long.
   pub piece_never : (m : FrameState) (held piece none : List ℕ) (old new : List Item) → m ≢ Dead
@@ -374,7 +342,4 @@ module _ (kind : Kind) where
       (record { kind = kind; mode = m; held = held }) piece)
       × (new ≡ old ++ items_after (record { kind = kind; mode = m; held = held }) piece)
   piece_never m held piece none old new alive ends empty is =
-      let l = never_leads m held piece (λ h. absurd (alive h)) ends in (
-        ap (λ (h : List ℕ). record { kind = kind; mode = Dead; held = h }) empty ∙ sym l.scan,
-        is ∙ ap (λ (is : List Item). old ++ is) (sym l.items),
-      )
+      let l = never_leads m held piece (λ h. absurd (alive h)) ends in (rw (empty, l.scan) refl, rw l.items is)
