@@ -1,9 +1,8 @@
 -- How the items of a stream follow from its bytes, one at a time.
 use Rattle.std.proofs.Common.{◌≡◌, ◌≢◌, length-append, Some, None, nat_le, ◌==◌, ℕ, true, false}
-use Rattle.std.proofs.Common.{◌+◌, ◌<◌, ◌≤◌, List, [], ◌∷◌, ◌++◌, length, refl, ap, ◌∙◌}
+use Rattle.std.proofs.Common.{◌+◌, ◌<◌, ◌≤◌, List, [], ◌∷◌, ◌++◌, length, refl}
 use Rattle.std.proofs.Common.{arith, append_assoc}
 use Rattle.std.proofs.Math.Seq.{take-append_seam, drop-append_seam}
-use Rattle.sm_wire.specs.declared.item.Item.{Item}
 use Rattle.sm_wire.specs.declared.kind.Kind.{Kind}
 use Rattle.std.specs.List.{AllByRecursion}
 use Rattle.std.proofs.lemmas.Bool.Decides.{nat_tests}
@@ -12,7 +11,7 @@ use Rattle.sm_wire.specs.declared.item.Item.TheVariants.{Policy, LineTooLong}
 use Rattle.sm_wire.specs.declared.frame_state.FrameState.TheVariants.{Line, Texts as TextsMode}
 use Rattle.sm_wire.specs.declared.reload_header.ReloadHeader.{ReloadHeader}
 use Rattle.sm_wire.specs.Grammar.{header_of}
-use Rattle.sm_wire.specs.Items.{FrameStep, scan_start, scan_dead, items_of, item_of, policy_item, text_start, text_step}
+use Rattle.sm_wire.specs.Items.{scan_start, scan_dead, items_of, item_of, policy_item, text_start, text_step}
 use Rattle.sm_wire.specs.Items.{line_end, line_step, Scan, mode_step, byte_step, scan_after, items_after}
 
 -- The items of two pieces, one after another.
@@ -38,11 +37,7 @@ module _ (kind : Kind) where
       let more : length (held ++ x ∷ []) + length xs ≤ 4096 = omega (arith, length-append held (x ∷ [])) in
       let one : mode_step kind Line held x ≡ (record { kind = kind; mode = Line; held = held ++ x ∷ [] }, []) =
       grind (arith, nat_tests, plain.0) in
-      let here : Scan = record { kind = kind; mode = Line; held = held } in
-      ap (λ (s : FrameStep). s.1 ++ items_after s.0 (xs ++ rest)) one
-      ∙ line_so_far (held ++ x ∷ []) xs rest plain.1 more
-      ∙ ap (λ (h : List ℕ). items_after (record { kind = kind; mode = Line; held = h }) rest) (append_assoc held
-      (x ∷ []) xs)
+      rw (one, line_so_far (held ++ x ∷ []) xs rest plain.1 more, append_assoc held (x ∷ []) xs) refl
 
   pub dead_items : (bytes : List ℕ) → items_after (scan_dead kind) bytes ≡ []
   unfolding mode_step
@@ -59,8 +54,7 @@ module _ (kind : Kind) where
       → header_of kind line ≡ None
       → items_of kind (line ++ 10 ∷ rest) ≡ item_of kind line ∷ items_of kind rest
   unfolding mode_step line_step
-  line_law line rest plain le none = line_so_far [] line (10 ∷ rest) plain (omega arith)
-      ∙ ap (λ (s : FrameStep). s.1 ++ items_after s.0 rest) (ends_plain line none)
+  line_law line rest plain le none = rw (line_so_far [] line (10 ∷ rest) plain (omega arith), ends_plain line none) refl
 
   -- The bytes of the texts, before their end.
   texts_so_far : (a : ReloadHeader) (held bytes rest : List ℕ) → length held + length bytes < a.rules + a.contexts
@@ -74,9 +68,7 @@ module _ (kind : Kind) where
       let one : mode_step kind (TextsMode a) held x ≡
       (record { kind = kind; mode = TextsMode a; held = held ++ x ∷ [] }, []) =
       grind (arith, nat_tests, len) in
-      ap (λ (s : FrameStep). s.1 ++ items_after s.0 (xs ++ rest)) one ∙ texts_so_far a (held ++ x ∷ []) xs rest more
-      ∙ ap (λ (h : List ℕ). items_after (record { kind = kind; mode = TextsMode a; held = h }) rest)
-      (append_assoc held (x ∷ []) xs)
+      rw (one, texts_so_far a (held ++ x ∷ []) xs rest more, append_assoc held (x ∷ []) xs) refl
 
   -- The texts, and what follows them.
   texts_end : (a : ReloadHeader) (held bytes rest : List ℕ) → 0 < length bytes
@@ -89,16 +81,14 @@ module _ (kind : Kind) where
       let len = length-append held (x ∷ []) in
       let one : mode_step kind (TextsMode a) held x ≡ ((scan_start kind), policy_item a (held ++ x ∷ []) ∷ []) =
       grind (arith, nat_tests, len) in
-      ap (λ (s : FrameStep). s.1 ++ items_after s.0 rest) one
+      rw one refl
   texts_end a held (x ∷ y ∷ ys) rest some is =
       let len = length-append held (x ∷ []) in
       let more : length (held ++ x ∷ []) + length (y ∷ ys) ≡ a.rules + a.contexts = omega (arith, len) in
       let one : mode_step kind (TextsMode a) held x ≡
       (record { kind = kind; mode = TextsMode a; held = held ++ x ∷ [] }, []) =
       grind (arith, nat_tests, len) in
-      ap (λ (s : FrameStep). s.1 ++ items_after s.0 ((y ∷ ys) ++ rest)) one ∙ texts_end a (held ++ x ∷ [])
-      (y ∷ ys) rest (omega arith) more ∙ ap (λ (h : List ℕ). policy_item a h ∷ items_of kind rest)
-      (append_assoc held (x ∷ []) (y ∷ ys))
+      rw (one, texts_end a (held ++ x ∷ []) (y ∷ ys) rest (omega arith) more, append_assoc held (x ∷ []) (y ∷ ys)) refl
 
   -- A `reload` line's end, and the texts.
   texts_from : (a : ReloadHeader) (bytes rest : List ℕ) → length bytes ≡ a.rules + a.contexts → a.rules ≤ 4194304
@@ -134,15 +124,12 @@ module _ (kind : Kind) where
   reload_law line rules contexts rest a plain le announces r c few less =
       let n : length (rules ++ contexts) ≡ a.rules + a.contexts = omega (arith, length-append rules contexts) in
       let ends : line_end kind line ≡ text_start kind a = rw announces refl in
-      line_so_far [] line (10 ∷ (rules ++ contexts ++ rest)) plain (omega arith)
-      ∙ ap (λ (s : FrameStep). s.1 ++ items_after s.0 (rules ++ contexts ++ rest)) ends
-      ∙ texts_from a (rules ++ contexts) rest n (omega arith) (omega arith)
-      ∙ ap (λ (i : Item). i ∷ items_of kind rest) (texts_parted a rules contexts r)
+      rw (line_so_far [] line (10 ∷ (rules ++ contexts ++ rest)) plain (omega arith), ends) (rw
+      (← texts_parted a rules contexts r) (texts_from a (rules ++ contexts) rest n (omega arith) (omega arith)))
 
   pub long_law : (line rest : List ℕ) (b : ℕ) → AllByRecursion (λ c. c ≢ 10) line → length line ≡ 4096 → b ≢ 10
       → items_of kind (line ++ b ∷ rest) ≡ LineTooLong ∷ []
   unfolding mode_step line_step
   long_law line rest b plain n ne =
       let one : mode_step kind Line line b ≡ ((scan_dead kind), LineTooLong ∷ []) = grind (arith, nat_tests) in
-      line_so_far [] line (b ∷ rest) plain (omega arith) ∙ ap (λ (s : FrameStep). s.1 ++ items_after s.0 rest) one
-      ∙ ap (λ (l : List Item). LineTooLong ∷ l) (dead_items rest)
+      rw (line_so_far [] line (b ∷ rest) plain (omega arith), one, dead_items rest) refl
