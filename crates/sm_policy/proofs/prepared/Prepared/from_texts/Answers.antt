@@ -1,0 +1,30 @@
+use Rattle.std.proofs.Common.{refl}
+use Rattle.sm_policy.specs.Breaking.{IsBrokenText}
+use Rattle.sm_policy.proofs.Others.{other}
+use Rattle.sm_policy.proofs.prepared.Prepared.from_texts.Goals as goal
+
+pub returns-in_err-statements-clause-broken : goal.returns-in_err-statements-clause-broken
+returns-in_err-statements-clause-broken c =
+    other c.from_residual.result c.in_err-statements.field-0.0 (IsBrokenText c.args.rules.now)
+    c.from_residual.ensures.1 c.in_err-statements.ensures.other
+
+pub returns-in_err-labels-clause-broken : goal.returns-in_err-labels-clause-broken
+returns-in_err-labels-clause-broken c =
+    other c.from_residual-in_err-labels.result c.in_err-labels.field-0.0 (IsBrokenText c.args.rules.now)
+    c.from_residual-in_err-labels.ensures.1 c.in_err-labels.ensures.other
+
+pub invariant_of-result : goal.invariant_of-result
+invariant_of-result c =
+    let policy = c.in_ok-statements.statements.items in
+    let names = c.in_ok-types.types.symbols.types in
+    let typed = rw c.deref.ensures.value at c.in_ok-types.ensures.built in
+    let ruled = rw c.deref-2.ensures.value at c.in_ok-rules.ensures.built in
+    rw (c.in_ok-parts.ensures.ok, c.seen-statements.ensures) (record {
+      typed = typed;
+      ruled = ruled;
+      tabled = c.in_ok-vectors.ensures policy names ruled (c.in_ok-matrices.ensures.written policy names ruled);
+      sizes = rw c.deref-3.ensures.value at c.counted-counts.ensures;
+      labels = refl;
+      numbered = c.in_ok-labels.ensures.numbers;
+      consistent = record { apart = c.in_ok-refuse_violation.ensures.consistent policy typed ruled };
+    })
