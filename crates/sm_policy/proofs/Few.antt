@@ -12,8 +12,7 @@ use Rattle.sm_ruletext.specs.declared.statement.What.{What}
 use Rattle.sm_ruletext.specs.declared.statement.Statement.{Statement}
 use Rattle.sm_ruletext.specs.declared.token.TokenKind.{TokenKind}
 use Rattle.sm_ruletext.specs.declared.token.TokenKind.TheVariants.{Word, Semicolon, Comma, Colon, Open, Close, Star}
-use Rattle.sm_ruletext.specs.declared.token.TokenKind.TheVariants.{Tilde}
-use Rattle.sm_ruletext.specs.declared.token.TokenKind.TheVariants.{Dash, Other}
+use Rattle.sm_ruletext.specs.declared.token.TokenKind.TheVariants.{Tilde, Dash, Other}
 use Rattle.sm_ruletext.specs.Lexing.{Tokens, tokens}
 use Rattle.sm_ruletext.specs.Words.{keyword_of}
 use Rattle.sm_ruletext.specs.Statements.{what_at, with_statement, statement_from, statements_within, statements_of}

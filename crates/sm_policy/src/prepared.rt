@@ -12,14 +12,14 @@ use sm_types::Types;
 use sm_vectors::Vectors;
 use std::alloc::{AllocError, Global};
 use std::marker::Model;
-use std::snapshot;
+use std::snapshot::Snapshot;
 use std::sync::Arc;
 
-/// A policy's types and rules as tables, and its labels.
+/// What all references to a policy share: its types and rules as tables, and its labels.
 #[derive(Drop)]
 struct Parts {
     /// The statements of the policy source, for contracts only. They need no memory.
-    statements: snapshot::Snapshot<Vec<Statement>>,
+    statements: Snapshot<Vec<Statement>>,
     counts: Counts,
     types: Types,
     rules: Rules,
@@ -50,15 +50,6 @@ impl Drop for Prepared {
     fn drop(self) {
         let Prepared { parts: _ } = self;
     }
-}
-
-ghost use Rattle.std.specs.Prelude.{◌≡◌};
-
-/// Keeps the statements for contracts, and drops them.
-fn seen(statements: Vec<Statement>) -> snapshot::Snapshot<Vec<Statement>>
-    ensures { result.value ≡ statements }
-{
-    snapshot::Snapshot::of(&statements)
 }
 
 impl Prepared {
@@ -92,12 +83,13 @@ impl Prepared {
         let rules = Rules::build(alloc, &statements, &types)?;
         let labels = labels_of(alloc, &types, contexts)?;
         let counts = counted(&statements, &types, &labels.contexts);
-        let statements = seen(statements);
+        let seen = Snapshot::of(&statements);
+        drop(statements);
         let matrices = Matrices::compile(alloc, &rules)?;
         refuse_violation(alloc, &types, &rules, &matrices)?;
         let vectors = Vectors::compile(alloc, &rules, &matrices)?;
         let parts = Parts {
-            statements,
+            statements: seen,
             counts,
             types,
             rules,

@@ -29,8 +29,7 @@ pub fn rules_of(alloc: Global, text: &[u8]) -> Result<Vec<Statement>, PolicyFaul
     ensures few { IfOk result (λ v. length v.items ≤ MOST_TEXT_BYTES) }
     ensures other { IfErr result (λ e. IfNeverallow e (λ _. ⊥)) }
 {
-    let statements = sm_ruletext::read(alloc, text)?;
-    Ok(statements)
+    Ok(sm_ruletext::read(alloc, text)?)
 }
 
 /// Returns the name of a type by its number, or nothing if there is no such type.

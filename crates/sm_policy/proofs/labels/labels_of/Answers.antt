@@ -1,4 +1,4 @@
-use Rattle.std.proofs.Common.{◌≡◌, ◌∙◌, refl}
+use Rattle.std.proofs.Common.{◌≡◌, refl}
 use Rattle.std.proofs.lemmas.Result.{err_from_is_err_and}
 use Rattle.sm_policy.specs.declared.fault.PolicyFault.TheVariants.{UndeclaredLabel}
 use Rattle.sm_policy.specs.Preparing.{labels_of, refused_by}

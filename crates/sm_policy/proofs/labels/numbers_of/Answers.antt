@@ -1,4 +1,4 @@
-use Rattle.std.proofs.Common.{◌≡◌, ◌+◌, ◌≤◌, Some, None, arith, ap, drop, length, map, refl, sym, take, ◌∙◌}
+use Rattle.std.proofs.Common.{◌≡◌, ◌+◌, ◌≤◌, Some, None, arith, ap, drop, length, map, refl, sym, ◌∙◌}
 use Rattle.std.specs.Option.{option_or}
 use Rattle.std.proofs.Math.ListN.{drop_of_length-le}
 use Rattle.std.proofs.lemmas.List.{take_all}

@@ -19,7 +19,7 @@ invariant_of-result c =
     let names = c.in_ok-types.types.symbols.types in
     let typed = rw c.deref.ensures.value at c.in_ok-types.ensures.built in
     let ruled = rw c.deref-2.ensures.value at c.in_ok-rules.ensures.built in
-    rw (c.in_ok-parts.ensures.ok, c.seen-statements.ensures) (record {
+    rw (c.in_ok-parts.ensures.ok, c.of-seen.ensures) (record {
       typed = typed;
       ruled = ruled;
       tabled = c.in_ok-vectors.ensures policy names ruled (c.in_ok-matrices.ensures.written policy names ruled);
