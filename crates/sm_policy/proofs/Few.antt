@@ -11,8 +11,7 @@ use Rattle.sm_ruletext.specs.declared.fault.RuleTextFault.TheVariants.{TooLarge,
 use Rattle.sm_ruletext.specs.declared.statement.What.{What}
 use Rattle.sm_ruletext.specs.declared.statement.Statement.{Statement}
 use Rattle.sm_ruletext.specs.declared.token.TokenKind.{TokenKind}
-use Rattle.sm_ruletext.specs.declared.token.TokenKind.TheVariants.{Word, Semicolon, Comma, Colon, Open, Close, Star}
-use Rattle.sm_ruletext.specs.declared.token.TokenKind.TheVariants.{Tilde, Dash, Other}
+use Rattle.sm_ruletext.specs.declared.token.TokenKind.TheVariants.{Word, Semicolon}
 use Rattle.sm_ruletext.specs.Lexing.{Tokens, tokens}
 use Rattle.sm_ruletext.specs.Words.{keyword_of}
 use Rattle.sm_ruletext.specs.Statements.{what_at, with_statement, statement_from, statements_within, statements_of}
@@ -40,14 +39,7 @@ one_statement line (Word w) sts ts next h =
     let more = went_well (with_statement line sts what.0.0) (λ more. Ok (more, what.0.1)) next what.2 in
     let is : more.0 ≡ next.0 = cc in
     omega (arith, one_more line sts more.0 what.0.0 more.1, ap (length {A = Statement}) is)
-one_statement line Comma sts ts next h = absurd cc
-one_statement line Colon sts ts next h = absurd cc
-one_statement line Open sts ts next h = absurd cc
-one_statement line Close sts ts next h = absurd cc
-one_statement line Star sts ts next h = absurd cc
-one_statement line Tilde sts ts next h = absurd cc
-one_statement line Dash sts ts next h = absurd cc
-one_statement line Other sts ts next h = absurd cc
+one_statement line k sts ts next h = absurd cc
 
 few_within : (most : ℕ) (sts all : List Statement) (ts : Tokens) → statements_within most sts ts ≡ Ok all
     → length all ≤ length sts + most
