@@ -22,7 +22,7 @@ use Rattle.sm_contexts.specs.Reading.{entries_from, read}
 use Rattle.sm_neverallow.proofs.Searches.{any_at}
 use Rattle.sm_policy.specs.Preparing.{is_undeclared_line, undeclared_from}
 use Rattle.sm_policy.specs.Undeclared.{first_undeclared, is_undeclared}
-use Rattle.sm_policy.proofs.Finding.{found_is_some}
+use Rattle.sm_policy.proofs.Finding.{is_some-find}
 
 -- Line n, if its type isn't declared.
 abbrev line_if : Bool → ℕ → Option ℕ
@@ -51,13 +51,14 @@ module _ (sts : List Statement) where
       → find (has_key key) es ≡ Some e → e.context ≡ context
       → first_undeclared sts es ≡ option_or (first_undeclared sts es) (line_if (is_bad context) n)
   again n key context es e there same =
-      by (first_undeclared sts es) (not (declares sts (type_of context)))
-      (λ bad. found_is_some (is_undeclared sts) (λ x. x.line) es
+      by (find (is_undeclared sts) es) (not (declares sts (type_of context)))
+      (λ bad. is_some-find (is_undeclared sts) es
       ∙ any_at (is_undeclared sts) es (position_or_len (has_key key) es) e (sym (find_at (has_key key) es) ∙ there)
       (rw same bad))
     where
-      by : (o : Option ℕ) (b : Bool) → (b ≡ true → is_some o ≡ true) → o ≡ option_or o (line_if b n)
-      by (Some m) b some = refl
+      by : (o : Option Entry) (b : Bool) → (b ≡ true → is_some o ≡ true)
+          → option_map (λ x. x.line) o ≡ option_or (option_map (λ x. x.line) o) (line_if b n)
+      by (Some x) b some = refl
       by None true some = absurd (cc (some refl))
       by None false some = refl
 

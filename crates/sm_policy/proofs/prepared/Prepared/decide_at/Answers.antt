@@ -16,12 +16,10 @@ returns-in-Some-Some c s t s_at t_at =
 pub returns-in_default : goal.returns-in_default
 unfolding allowed audits
 returns-in_default c s t s_at t_at =
-    refused_target c.args.self.now.statements c.parts.result.now.types.symbols.types s t c.args.class c.args.perm
-    c.parts.ensures.typed.types c.parts.ensures.ruled.distinct (sym t_at ∙ c.in_default.is-1)
+    refused_target c.args.self.now.statements s t c.args.class c.args.perm (sym t_at ∙ c.in_default.is-1)
 
 pub returns-in_default-2 : goal.returns-in_default-2
 unfolding allowed audits
 returns-in_default-2 c s t s_at t_at =
-    refused_source c.args.self.now.statements c.parts.result.now.types.symbols.types s t c.args.class c.args.perm
-    c.parts.ensures.typed.types c.parts.ensures.ruled.distinct (c.parts.ensures.ruled.permissive_declared s)
+    refused_source c.args.self.now.statements s t c.args.class c.args.perm (c.parts.ensures.ruled.permissive_declared s)
     (sym s_at ∙ c.in_default.is-0)
