@@ -1,15 +1,13 @@
 -- What is found, and where.
-use Rattle.std.proofs.Common.{◌≡◌, ℕ, zero, suc, ◌+◌, ◌≤◌, drop, length, Bool, true, false, ◌||◌, cond, List, [], ◌∷◌}
-use Rattle.std.proofs.Common.{Option, None, Some, is_some, refl, arith}
-use Rattle.std.specs.Prelude.{find, option_map, not, slice_get, position}
+use Rattle.std.proofs.Common.{◌≡◌, ℕ, zero, suc, ◌+◌, ◌≤◌, drop, length, Bool, false, List, [], ◌∷◌}
+use Rattle.std.proofs.Common.{Option, None, is_some, refl, arith}
+use Rattle.std.specs.Prelude.{find, slice_get, position}
 use Rattle.std.specs.Option.{option_or}
-use Rattle.std.specs.List.{list_any, filter_map, cons_option}
+use Rattle.std.specs.List.{list_any, filter_map}
 use Rattle.std.proofs.lemmas.Grind.{common_steps}
-use Rattle.sm_kinds.specs.Contexts.{type_of}
 use Rattle.sm_ruletext.specs.declared.statement.Statement.{Statement}
-use Rattle.sm_types.specs.Denoting.{declares}
 use Rattle.sm_contexts.specs.Reading.{Entry}
-use Rattle.sm_policy.specs.Undeclared.{first_undeclared, undeclared_line, is_undeclared}
+use Rattle.sm_policy.specs.Undeclared.{first_undeclared, undeclared_line}
 
 pub is_some-find : {A : Type 0} (p : A → Bool) (xs : List A) → is_some (find p xs) ≡ list_any p xs
 is_some-find p [] = refl

@@ -1,7 +1,6 @@
 -- The first violation by number is the first violation by name.
 use Rattle.std.proofs.Common.{◌≡◌, ℕ, zero, suc, ◌<◌, false, ◌&&◌, List, [], ◌∷◌, length, Option}
-use Rattle.std.proofs.Common.{None, Some, refl, sym, ◌∙◌, arith, slice_get}
-use Rattle.std.proofs.lemmas.Bool.{and_parts, false_from_ne_true}
+use Rattle.std.proofs.Common.{None, Some, refl, sym, arith, slice_get}
 use Rattle.std.proofs.lemmas.Option.{get_or_from_slice_get, slice_get_within, slice_get-get_or}
 use Rattle.sm_kinds.specs.declared.class.Class.{Class}
 use Rattle.sm_kinds.specs.declared.perms.Perms.{Perms}
@@ -10,7 +9,7 @@ use Rattle.sm_ruletext.specs.declared.statement.RuleKind.TheVariants.{Allow, Nev
 use Rattle.sm_ruletext.specs.declared.statement.Statement.{Statement}
 use Rattle.sm_types.specs.Names.{Name, at}
 use Rattle.sm_types.specs.Denoting.{types}
-use Rattle.sm_rules.specs.Access.{covers, written, forbidden, IsConsistent}
+use Rattle.sm_rules.specs.Access.{covers, IsConsistent}
 use Rattle.sm_rules.proofs.Consistent.{some_any}
 use Rattle.sm_rules.specs.Keeping.{rules_in, class_at, perm_at}
 use Rattle.sm_neverallow.specs.Violating.{breaks, IsFirstViolation}
@@ -38,14 +37,7 @@ first_at f (z ∷ xs) (suc i) x y found gives before =
 -- ---- numbers of permissions
 
 number_there : (b : ℕ) → b < 7 → slice_get perm_numbers b ≡ Some b
-number_there zero h = refl
-number_there (suc zero) h = refl
-number_there (suc (suc zero)) h = refl
-number_there (suc (suc (suc zero))) h = refl
-number_there (suc (suc (suc (suc zero)))) h = refl
-number_there (suc (suc (suc (suc (suc zero))))) h = refl
-number_there (suc (suc (suc (suc (suc (suc zero)))))) h = refl
-number_there (suc (suc (suc (suc (suc (suc (suc b))))))) h = absurd (omega arith)
+number_there b h = grind arith
 
 number_low : (j z : ℕ) → slice_get perm_numbers j ≡ Some z → j < 7
 number_low j z h = slice_get_within perm_numbers j z h
@@ -150,14 +142,6 @@ no_violation policy consistent =
         → slice_get (rules_in Allow policy) i ≡ Some allow → slice_get (rules_in Neverallow policy) j ≡ Some never
         → (covers policy s t class perm allow.1 && covers policy s t class perm never.1) ≡ false
     apart i j allow never s t class perm found_allow found_never =
-        false_from_ne_true (covers policy s t class perm allow.1 && covers policy s t class perm never.1) (λ both.
-        let parts = and_parts (covers policy s t class perm allow.1) (covers policy s t class perm never.1) both in
-        let w = some_any Allow policy s t class perm
-        ∙ any_at (λ (r : ℕ × Rule). covers policy s t class perm r.1) (rules_in Allow policy) i allow found_allow
-        parts.0 in
-        let f = some_any Neverallow policy s t class perm
-        ∙ any_at (λ (r : ℕ × Rule). covers policy s t class perm r.1) (rules_in Neverallow policy) j never found_never
-        parts.1 in
-        let apart : (written policy s t class perm && forbidden policy s t class perm) ≡ false =
-        consistent s t class perm in
-        absurd (cc (rw (w, f) at apart)))
+        let w = any_at (λ (r : ℕ × Rule). covers policy s t class perm r.1) (rules_in Allow policy) i allow found_allow in
+        let f = any_at (λ (r : ℕ × Rule). covers policy s t class perm r.1) (rules_in Neverallow policy) j never found_never in
+        grind (arith, consistent s t class perm, some_any Allow policy s t class perm, some_any Neverallow policy s t class perm, w, f)

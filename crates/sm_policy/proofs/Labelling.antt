@@ -1,5 +1,5 @@
 -- The numbers of the types in the labels.
-use Rattle.std.proofs.Common.{◌≡◌, ℕ, ◌+◌, ◌<◌, List, [], ◌∷◌, ◌++◌, map, take, get_or, Option, None, Some, refl, sym}
+use Rattle.std.proofs.Common.{◌≡◌, ℕ, ◌+◌, ◌<◌, List, [], ◌∷◌, ◌++◌, map, take, get_or, Option, None, Some, refl, sym, arith}
 use Rattle.std.proofs.Common.{ap, ◌∙◌, length}
 use Rattle.std.specs.Prelude.{option_map, slice_get}
 use Rattle.std.proofs.lemmas.List.{length-map, map-append, take_more}
@@ -32,9 +32,14 @@ numbered_at : (names : List Name) (es : List Entry) (numbers : List ℕ) (i n : 
 numbered_at names es numbers i n are lt read =
     let long : length es ≡ length numbers =
     sym (length-map es (number_of names)) ∙ (ap length are.each ∙ length-map numbers Some) in
-    sym (slice_get-map (number_of names) es i)
-    ∙ (ap (λ (xs : List (Option ℕ)). slice_get xs i) are.each
-    ∙ (slice_get-map Some numbers i ∙ ap (option_map Some) (slice_get_read numbers (length es) i n long lt read)))
+    let same : slice_get (map (number_of names) es) i ≡ slice_get (map Some numbers) i =
+    ap (λ (xs : List (Option ℕ)). slice_get xs i) are.each in
+    grind (
+      arith,
+      slice_get-map (number_of names) es i,
+      slice_get-map Some numbers i,
+      slice_get_read numbers (length es) i n long lt read,
+    )
 
 -- The type of a name's label has the number at the label's place.
 pub label_number : (policy : Policy) (names : List Name) (numbers : List ℕ) (name : Name) (i n : ℕ)
@@ -44,9 +49,5 @@ pub label_number : (policy : Policy) (names : List Name) (numbers : List ℕ) (n
     → type_index policy (type_of (label_of policy name)) ≡ Some n
 unfolding label_of
 label_number policy names numbers name i n of are lt labelled read =
-    by (slice_get policy.entries i) labelled (numbered_at names policy.entries numbers i n are lt read) where
-      by : (o : Option Entry) → option_map (λ e. e.context) o ≡ label policy.entries name
-          → option_map (number_of names) o ≡ Some (Some n)
-          → type_index policy (type_of (label_of policy name)) ≡ Some n
-      by None is h = absurd cc
-      by (Some e) is h = let own : number_of names e ≡ Some n = cc in rw (← is, ← of) own
+    let there = numbered_at names policy.entries numbers i n are lt read in
+    grind (arith, labelled, there, of)

@@ -1,9 +1,8 @@
 -- What is decided of types by their numbers, and of names that aren't declared.
-use Rattle.std.proofs.Common.{inl, inr, ◌≡◌, ℕ, ◌<◌, ◌≤◌, Bool, true, false, ◌&&◌, ◌||◌, ltb, List, []}
-use Rattle.std.proofs.Common.{length, Some, None, is_some, refl, sym, ap, subst, ◌∙◌, arith, true≢false}
-use Rattle.std.specs.Prelude.{position, slice_get}
+use Rattle.std.proofs.Common.{◌≡◌, ℕ, ◌<◌, ◌≤◌, Bool, true, false, ◌&&◌, ltb, List, []}
+use Rattle.std.proofs.Common.{length, Some, None, is_some, refl, sym, ◌∙◌, arith}
+use Rattle.std.specs.Prelude.{position}
 use Rattle.std.specs.Str.{bytes_eq}
-use Rattle.std.proofs.lemmas.Bool.{cases_lt, lt-ltb, le-ltb, and_right, false_from_ne_true}
 use Rattle.std.proofs.lemmas.Bool.Decides.{nat_tests}
 use Rattle.std.proofs.lemmas.List.Quantifiers.{position-Some}
 use Rattle.std.proofs.lemmas.Slice.Eq.{bytes_eq-Decides}
@@ -12,10 +11,9 @@ use Rattle.sm_kinds.specs.declared.class.Class.{Class}
 use Rattle.sm_kinds.specs.declared.perms.Perms.{Perms}
 use Rattle.sm_ruletext.specs.declared.rule.Rule.{Rule}
 use Rattle.sm_ruletext.specs.declared.statement.RuleKind.TheVariants.{Allow, Dontaudit}
-use Rattle.sm_types.specs.Names.{Name, at, Distinct}
-use Rattle.sm_types.specs.Denoting.{Policy, types, declares, in_set}
+use Rattle.sm_types.specs.Names.{Name, at}
+use Rattle.sm_types.specs.Denoting.{Policy, types, declares}
 use Rattle.sm_types.proofs.Accepted.{declares_type}
-use Rattle.sm_types.proofs.NameLemmas.{place_of}
 use Rattle.sm_rules.specs.Access.{joins, covers, is_permissive, allowed, audits}
 use Rattle.sm_rules.proofs.Consistent.{uncovered}
 use Rattle.sm_vectors.specs.declared.decision.Decision.{Decision}
@@ -77,9 +75,7 @@ pub decided : (policy : Policy) (names : List Name) (s t : Name) (i j : ℕ) (cl
     → (i < length names → j < length names → result.audited ≡ audits policy (at names i) (at names j) class perm)
     → result ≡ record { allowed = allowed policy s t class perm; audited = audits policy s t class perm }
 decided policy names s t i j class perm result of s_at t_at passes records =
-    let p = named policy names s i of s_at in
-    let q = named policy names t j of t_at in
-    rw (← p.1, ← q.1, ← passes p.0 q.0, ← records p.0 q.0) refl
+    grind (arith, named policy names s i of s_at, named policy names t j of t_at, passes, records)
 
 pub at_is : (policy : Policy) (names : List Name) (tables : Tables) (s t : ℕ) (class : Class) (perm : Perms)
     (result : Bool) → names ≡ types policy → TablesOf policy names tables

@@ -1,5 +1,5 @@
 -- Refusals other than for a neverallow rule.
-use Rattle.std.proofs.Common.{◌≡◌, Result, Ok, Err, sym, subst}
+use Rattle.std.proofs.Common.{◌≡◌, Result, arith}
 use Rattle.std.specs.Result.{IfErr, IsErrAnd}
 use Rattle.sm_policy.specs.declared.violation.Violation.{Violation}
 use Rattle.sm_policy.specs.declared.fault.PolicyFault.{PolicyFault}
@@ -12,5 +12,4 @@ never e P h = tt
 
 pub other : {A : Type 0} (result : Result A PolicyFault) (e : PolicyFault) (P : Violation → Type 0)
     → IsErrAnd result (λ f. f ≡ e) → IfNeverallow e (λ _. ⊥) → IfErr result (λ f. IfNeverallow f P)
-other (Err f) e P same h = never f P (subst (λ (x : PolicyFault). IfNeverallow x (λ _. ⊥)) (sym same) h)
-other (Ok x) e P same h = tt
+other result e P same h = grind (arith, never e P h)
