@@ -1,6 +1,5 @@
 -- A policy source has no more statements than bytes.
-use Rattle.std.proofs.Common.{◌≡◌, ℕ, zero, suc, ◌+◌, ◌≤◌, List, [], ◌∷◌, length}
-use Rattle.std.proofs.Common.{length-append, Option, None, Some, Ok, ap, arith}
+use Rattle.std.proofs.Common.{◌≡◌, ℕ, zero, suc, ◌+◌, ◌≤◌, List, [], ◌∷◌, length, length-append, Option, Ok, arith}
 use Rattle.std.proofs.lemmas.Bool.Decides.{nat_tests}
 use Rattle.sm_kinds.specs.Reading.{◌>>=◌}
 use Rattle.sm_kinds.specs.declared.limits.TheConstants.{MOST_TEXT_BYTES}
@@ -8,7 +7,7 @@ use Rattle.sm_kinds.proofs.Readers.{went_well}
 use Rattle.sm_ruletext.specs.declared.statement.What.{What}
 use Rattle.sm_ruletext.specs.declared.statement.Statement.{Statement}
 use Rattle.sm_ruletext.specs.declared.token.TokenKind.{TokenKind}
-use Rattle.sm_ruletext.specs.declared.token.TokenKind.TheVariants.{Word, Semicolon}
+use Rattle.sm_ruletext.specs.declared.token.TokenKind.TheVariants.{Word}
 use Rattle.sm_ruletext.specs.Lexing.{Tokens, tokens}
 use Rattle.sm_ruletext.specs.Words.{keyword_of}
 use Rattle.sm_ruletext.specs.Statements.{what_at, with_statement, statement_from, statements_within, statements_of}
@@ -18,26 +17,23 @@ use Rattle.sm_ruletext.proofs.Cuts.{length-tokens}
 one_more : (line : ℕ) (sts more : List Statement) (w : Option What) → with_statement line sts w ≡ Ok more
     → length more ≤ length sts + 1
 unfolding with_statement
-one_more line sts more None h = grind (arith, h)
-one_more line sts more (Some w) h = grind (arith, length-append)
+one_more line sts more w h = grind (arith, length-append)
 
 one_statement : (line : ℕ) (k : TokenKind) (sts : List Statement) (ts : Tokens) (next : List Statement × Tokens)
     → statement_from line k sts ts ≡ Ok next → length next.0 ≤ length sts + 1
 unfolding statement_from
-one_statement line Semicolon sts ts next h = let is : sts ≡ next.0 = cc in omega (arith, ap (length {A = Statement}) is)
 one_statement line (Word w) sts ts next h =
     let what = went_well (what_at line (keyword_of w) ts) (λ x. with_statement line sts x.0 >>= λ more. Ok (more, x.1))
     next h in
     let more = went_well (with_statement line sts what.0.0) (λ more. Ok (more, what.0.1)) next what.2 in
-    let is : more.0 ≡ next.0 = cc in
-    omega (arith, one_more line sts more.0 what.0.0 more.1, ap (length {A = Statement}) is)
-one_statement line k sts ts next h = absurd cc
+    grind (arith, one_more line sts more.0 what.0.0 more.1)
+one_statement line k sts ts next h = grind arith
 
 few_within : (most : ℕ) (sts all : List Statement) (ts : Tokens) → statements_within most sts ts ≡ Ok all
     → length all ≤ length sts + most
 unfolding statements_within
-few_within most sts all [] h = let is : sts ≡ all = cc in omega (arith, ap (length {A = Statement}) is)
-few_within zero sts all (t ∷ ts) h = let is : sts ≡ all = cc in omega (arith, ap (length {A = Statement}) is)
+few_within most sts all [] h = grind arith
+few_within zero sts all (t ∷ ts) h = grind arith
 few_within (suc most) sts all ((line, k) ∷ ts) h =
     let next = went_well (statement_from line k sts ts) (λ n. statements_within most n.0 n.1) all h in
     omega (arith, one_statement line k sts ts next.0 next.1, few_within most next.0.0 all next.0.1 next.2)

@@ -1,9 +1,8 @@
 -- What is decided of types by their numbers, and of names that aren't declared.
-use Rattle.std.proofs.Common.{◌≡◌, ℕ, ◌<◌, ◌≤◌, Bool, true, false, ◌&&◌, ltb, List, []}
+use Rattle.std.proofs.Common.{◌≡◌, ℕ, ◌<◌, true, false, ◌&&◌, List, []}
 use Rattle.std.proofs.Common.{length, Some, None, is_some, refl, sym, ◌∙◌, arith}
 use Rattle.std.specs.Prelude.{position}
 use Rattle.std.specs.Str.{bytes_eq}
-use Rattle.std.proofs.lemmas.Bool.Decides.{nat_tests}
 use Rattle.std.proofs.lemmas.List.Quantifiers.{position-Some}
 use Rattle.std.proofs.lemmas.Slice.Eq.{bytes_eq-Decides}
 use Rattle.sm_kinds.specs.Permissions.{perm_of}
@@ -14,10 +13,9 @@ use Rattle.sm_ruletext.specs.declared.statement.RuleKind.TheVariants.{Allow, Don
 use Rattle.sm_types.specs.Names.{Name, at}
 use Rattle.sm_types.specs.Denoting.{Policy, types, declares}
 use Rattle.sm_types.proofs.Accepted.{declares_type}
-use Rattle.sm_rules.specs.Access.{joins, covers, is_permissive, allowed, audits}
+use Rattle.sm_rules.specs.Access.{joins, is_permissive, allowed, audits}
 use Rattle.sm_rules.proofs.Consistent.{uncovered}
-use Rattle.sm_vectors.specs.declared.decision.Decision.{Decision}
-use Rattle.sm_vectors.specs.Tables.{Tables, TablesOf, refusal}
+use Rattle.sm_vectors.specs.Tables.{refusal}
 use Rattle.sm_policy.proofs.Finding.{unplaced}
 
 -- ---- names that aren't declared
@@ -41,9 +39,7 @@ refusal_is : (policy : Policy) (s t : Name) (class : Class) (perm : Perms) → (
     → (is_permissive policy s && (declares policy t && is_some (perm_of class perm))) ≡ false
     → refusal ≡ record { allowed = allowed policy s t class perm; audited = audits policy s t class perm }
 refusal_is policy s t class perm none strict =
-    let uncovering : (r : Rule) → covers policy s t class perm r ≡ false = λ r. rw (none r) refl in
-    rw (uncovered Allow policy s t class perm uncovering, uncovered Dontaudit policy s t class perm uncovering, strict)
-    refl
+    grind (arith, none, strict, uncovered Allow policy s t class perm, uncovered Dontaudit policy s t class perm)
 
 pub refused_source : (policy : Policy) (s t : Name) (class : Class) (perm : Perms)
     → (is_permissive policy s ≡ true → declares policy s ≡ true) → position (bytes_eq s) (types policy) ≡ None
@@ -62,26 +58,8 @@ refused_target policy s t class perm none =
 -- ---- numbers
 
 -- A number that a name has.
-named : (policy : Policy) (names : List Name) (s : Name) (i : ℕ) → names ≡ types policy
+pub named : (policy : Policy) (names : List Name) (s : Name) (i : ℕ) → names ≡ types policy
     → position (bytes_eq s) (types policy) ≡ Some i → (i < length names) × (at names i ≡ s)
 named policy names s i of found =
     let p = position-Some (bytes_eq s) names i [] (rw of found) in
     (p.0, sym ((bytes_eq-Decides s (at names i)).0 p.1))
-
-pub decided : (policy : Policy) (names : List Name) (s t : Name) (i j : ℕ) (class : Class) (perm : Perms)
-    (result : Decision) → names ≡ types policy
-    → position (bytes_eq s) (types policy) ≡ Some i → position (bytes_eq t) (types policy) ≡ Some j
-    → (i < length names → j < length names → result.allowed ≡ allowed policy (at names i) (at names j) class perm)
-    → (i < length names → j < length names → result.audited ≡ audits policy (at names i) (at names j) class perm)
-    → result ≡ record { allowed = allowed policy s t class perm; audited = audits policy s t class perm }
-decided policy names s t i j class perm result of s_at t_at passes records =
-    grind (arith, named policy names s i of s_at, named policy names t j of t_at, passes, records)
-
-pub at_is : (policy : Policy) (names : List Name) (tables : Tables) (s t : ℕ) (class : Class) (perm : Perms)
-    (result : Bool) → names ≡ types policy → TablesOf policy names tables
-    → (s < length names → t < length names → result ≡ allowed policy (at names s) (at names t) class perm)
-    → (tables.count ≤ s → result ≡ false) → (tables.count ≤ t → result ≡ false)
-    → result ≡ ((ltb s (length (types policy)) && ltb t (length (types policy)))
-    && allowed policy (at (types policy) s) (at (types policy) t) class perm)
-at_is policy names tables s t class perm result named of says past_s past_t =
-    rw (← named) (grind (arith, nat_tests, of.count, says, past_s, past_t))

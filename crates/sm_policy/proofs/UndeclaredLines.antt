@@ -1,6 +1,6 @@
 -- The first entry with an undeclared type is on the first entry line with an undeclared type.
-use Rattle.std.proofs.Common.{◌≡◌, ℕ, ◌+◌, Bool, true, not, cond, if◌then◌else◌, List, [], ◌∷◌, ◌++◌}
-use Rattle.std.proofs.Common.{Option, None, Some, Ok, is_some, refl, sym, ap, arith, ◌∙◌}
+use Rattle.std.proofs.Common.{◌≡◌, ℕ, ◌+◌, Bool, true, not, if◌then◌else◌, List, [], ◌∷◌, ◌++◌}
+use Rattle.std.proofs.Common.{Option, None, Some, Ok, is_some, sym, arith, ◌∙◌}
 use Rattle.std.specs.Prelude.{find}
 use Rattle.std.specs.List.{position_or_len}
 use Rattle.std.specs.Option.{option_or}
@@ -20,10 +20,6 @@ use Rattle.sm_policy.proofs.Finding.{is_some-find}
 -- Line n, if its type isn't declared.
 abbrev line_if : Bool → ℕ → Option ℕ
 line_if undeclared n = if undeclared then Some n else None
-
-or_none : (x : Option ℕ) → option_or x None ≡ x
-or_none None = refl
-or_none (Some x) = refl
 
 module _ (sts : List Statement) where
   abbrev is_bad : List ℕ → Bool
@@ -45,22 +41,12 @@ module _ (sts : List Statement) where
       (rw same bad) in
       grind (arith, some)
 
-  placed_last : (n : ℕ) (entries more : List Entry) (key context : List ℕ) → with_entry n entries key context ≡ Ok more
-      → first_undeclared sts more ≡ option_or (first_undeclared sts entries) (line_if (is_bad context) n)
-  unfolding with_entry
-  placed_last n entries more key context done =
-      grind (arith, bytes_eq-Decides, again n key context entries, last)
-
   with_line_last : (n : ℕ) (entries more : List Entry) (line : List ℕ) → with_line n entries line ≡ Ok more
       → first_undeclared sts more
       ≡ option_or (first_undeclared sts entries) (line_if (is_undeclared_line sts line) n)
-  unfolding with_line
+  unfolding with_line with_entry
   with_line_last n entries more line done =
-      grind (arith, placed_last n entries more (first_word line) (first_word (after_word line)))
-
-  in_turn : (a b : Option ℕ) (is : Bool) (n : ℕ)
-      → option_or (option_or a (line_if is n)) b ≡ option_or a (cond is (Some n) b)
-  in_turn a b is n = grind arith
+      grind (arith, bytes_eq-Decides, again n (first_word line) (first_word (after_word line)) entries, last)
 
   lines_last : (n : ℕ) (entries all : List Entry) (ls : List (List ℕ)) → entries_from n entries ls ≡ Ok all
       → first_undeclared sts all ≡ option_or (first_undeclared sts entries) (undeclared_from sts n ls)
@@ -68,9 +54,7 @@ module _ (sts : List Statement) where
   lines_last n entries all [] done = grind arith
   lines_last n entries all (line ∷ more) done =
       let step = went_well (with_line n entries line) (λ e. entries_from (n + 1) e more) all done in
-      lines_last (n + 1) step.0 all more step.2
-      ∙ (ap (λ o. option_or o (undeclared_from sts (n + 1) more)) (with_line_last n entries step.0 line step.1)
-      ∙ in_turn (first_undeclared sts entries) (undeclared_from sts (n + 1) more) (is_undeclared_line sts line) n)
+      grind (arith, with_line_last n entries step.0 line step.1, lines_last (n + 1) step.0 all more step.2)
 
   pub first_line : (text : List ℕ) (entries : List Entry) → read text ≡ Ok entries
       → first_undeclared sts entries ≡ undeclared_from sts 1 (lines text)

@@ -1,6 +1,6 @@
-use Rattle.std.proofs.Common.{sym, ◌∙◌}
+use Rattle.std.proofs.Common.{sym, arith, ◌∙◌}
 use Rattle.sm_policy.specs.Policy.{allowed, audits}
-use Rattle.sm_policy.proofs.Looking.{decided, refused_source, refused_target}
+use Rattle.sm_policy.proofs.Looking.{named, refused_source, refused_target}
 use Rattle.sm_policy.proofs.prepared.Prepared.decide_at.Goals as goal
 
 pub returns-in-Some-Some : goal.returns-in-Some-Some
@@ -8,10 +8,14 @@ unfolding allowed audits
 returns-in-Some-Some c s t s_at t_at =
     let policy = c.args.self.now.statements in
     let names = c.parts.result.now.types.symbols.types in
-    decided policy names s t c.in-Some-Some.s c.in-Some-Some.t c.args.class c.args.perm c.decide.result
-    c.parts.ensures.typed.types (sym s_at ∙ c.in-Some-Some.is-0) (sym t_at ∙ c.in-Some-Some.is-1)
-    (c.decide.ensures.allowed policy names c.parts.ensures.tabled)
-    (c.decide.ensures.audited policy names c.parts.ensures.tabled)
+    let types = c.parts.ensures.typed.types in
+    grind (
+      arith,
+      named policy names s c.in-Some-Some.s types (sym s_at ∙ c.in-Some-Some.is-0),
+      named policy names t c.in-Some-Some.t types (sym t_at ∙ c.in-Some-Some.is-1),
+      c.decide.ensures.allowed policy names c.parts.ensures.tabled,
+      c.decide.ensures.audited policy names c.parts.ensures.tabled,
+    )
 
 pub returns-in_default : goal.returns-in_default
 unfolding allowed audits
