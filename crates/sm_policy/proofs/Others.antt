@@ -6,7 +6,7 @@ use Rattle.sm_policy.specs.declared.fault.PolicyFault.{PolicyFault}
 use Rattle.sm_policy.specs.declared.fault.PolicyFault.TheVariants.{Neverallow}
 use Rattle.sm_policy.specs.Breaking.{IfNeverallow}
 
-never : (e : PolicyFault) (P : Violation → Type 0) → IfNeverallow e (λ _. ⊥) → IfNeverallow e P
+pub never : (e : PolicyFault) (P : Violation → Type 0) → IfNeverallow e (λ _. ⊥) → IfNeverallow e P
 never (Neverallow v) P h = absurd h
 never e P h = tt
 

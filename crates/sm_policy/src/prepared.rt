@@ -72,7 +72,7 @@ impl Prepared {
     /// line whose context has a type that the policy source doesn't declare (`UndeclaredLabel`); the first neverallow
     /// rule that an allow rule breaks (`Neverallow`). If an allocation fails before the first refusal is found,
     /// `Memory`.
-    #[tactic(auto, unfolding(crate::specs::Preparing::prepared))]
+    #[tactic(auto, using(crate::proofs::Others::never), unfolding(crate::specs::Preparing::prepared))]
     pub fn from_texts(alloc: Global, rules: &[u8], contexts: &[u8]) -> Result<Prepared, PolicyFault>
         ensures exact { Gives is_memory (λ p. p) result (prepared rules.now contexts.now) }
         ensures consistent { IfOk result IsConsistent }
@@ -132,6 +132,7 @@ impl Prepared {
     }
 
     /// Like `allows`, for the types of these numbers. `false` if a number has no type.
+    #[tactic(auto, unfolding(crate::specs::Policy::allowed))]
     pub fn allows_at(&self, source: u16, target: u16, class: Class, perm: Perms) -> bool
         ensures { result ≡ allowed_at self.now source target class perm }
     {
