@@ -28,6 +28,6 @@ undeclared_step sts (e ∷ es) zero = grind arith
 undeclared_step sts (e ∷ es) (suc i) = let one : suc i + 1 ≡ suc (i + 1) = omega arith in
     rw one (undeclared_step sts es i)
 
-pub length-filter_map : {A B : Type 0} (f : A → Option B) (xs : List A) → length (filter_map f xs) ≤ length xs
-length-filter_map f [] = omega arith
-length-filter_map f (x ∷ xs) = grind (arith, length-filter_map f xs)
+pub filter_map_len : {A B : Type 0} (f : A → Option B) (xs : List A) → length (filter_map f xs) ≤ length xs
+filter_map_len f [] = omega arith
+filter_map_len f (x ∷ xs) = grind (arith, filter_map_len f xs)

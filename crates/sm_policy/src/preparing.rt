@@ -23,7 +23,7 @@ use sm_types::Types;
 use std::alloc::{AllocError, Global};
 
 /// Reads the statements of a policy source.
-#[tactic(auto, unfolding(crate::specs::Preparing::rules_of))]
+#[tactic(auto, using(crate::proofs::Few::few), unfolding(crate::specs::Preparing::rules_of))]
 pub fn rules_of(alloc: Global, text: &[u8]) -> Result<Vec<Statement>, PolicyFault>
     ensures exact { Gives is_memory (λ v. v.items) result (spec.rules_of text.now) }
     ensures few { IfOk result (λ v. length v.items ≤ MOST_TEXT_BYTES) }
@@ -63,6 +63,7 @@ fn named(
 }
 
 /// Refuses rules in which an allow rule allows what a neverallow rule forbids.
+#[tactic(auto, using(crate::proofs::Firsts::no_violation), unfolding(crate::specs::Preparing::unbroken))]
 pub fn refuse_violation(
     alloc: Global,
     types: &Types,

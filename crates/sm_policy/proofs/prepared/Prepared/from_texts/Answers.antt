@@ -1,6 +1,4 @@
 use Rattle.std.proofs.Common.{refl}
-use Rattle.sm_policy.specs.Breaking.{IsBrokenText}
-use Rattle.sm_policy.proofs.Others.{other}
 use Rattle.sm_policy.proofs.prepared.Prepared.from_texts.Goals as goal
 
 pub invariant_of-result : goal.invariant_of-result
