@@ -1,5 +1,5 @@
 -- The first violation by number is the first violation by name.
-use Rattle.std.proofs.Common.{◌≡◌, ℕ, zero, suc, ◌<◌, false, ◌&&◌, List, [], ◌∷◌, length, Option}
+use Rattle.std.proofs.Common.{◌≡◌, ℕ, zero, suc, ◌<◌, Bool, false, ◌&&◌, List, [], ◌∷◌, length, Option}
 use Rattle.std.proofs.Common.{None, Some, refl, sym, arith, slice_get}
 use Rattle.std.proofs.lemmas.Option.{get_or_from_slice_get, slice_get_within, slice_get-get_or}
 use Rattle.sm_kinds.specs.declared.class.Class.{Class}
@@ -39,11 +39,9 @@ first_at f (z ∷ xs) (suc i) x y found gives before =
 number_there : (b : ℕ) → b < 7 → slice_get perm_numbers b ≡ Some b
 number_there b h = grind arith
 
-number_low : (j z : ℕ) → slice_get perm_numbers j ≡ Some z → j < 7
-number_low j z h = slice_get_within perm_numbers j z h
-
-number_is : (j z : ℕ) → slice_get perm_numbers j ≡ Some z → z ≡ j
-number_is j z h = let e = number_there j (number_low j z h) in cc
+number_is : (j z : ℕ) → slice_get perm_numbers j ≡ Some z → (j < 7) × (z ≡ j)
+number_is j z h =
+    let low = slice_get_within perm_numbers j z h in let e = number_there j low in (low, cc)
 
 -- ---- what two rules have in common
 
@@ -57,7 +55,7 @@ module _ (policy : List Statement) (never allow : ℕ × Rule) where
       → clash_of_pair policy never allow (at (types policy) s) (at (types policy) t) ≡ None
   unfolding clash_of_pair
   no_pair s t none = none_at (clash policy never allow (at (types policy) s) (at (types policy) t)) perm_numbers
-      (λ j z h. rw (number_is j z h) (no_clash j s t (none j (number_low j z h))))
+      (λ j z h. rw (number_is j z h).1 (no_clash j s t (none j (number_is j z h).0)))
 
   named : (i : ℕ) (z : Name) → slice_get (types policy) i ≡ Some z → z ≡ at (types policy) i
   named i z h = sym (get_or_from_slice_get (types policy) i z [] h)
@@ -91,7 +89,7 @@ module _ (policy : List Statement) (v : Numbered) (is : IsFirstViolation policy 
   at_pair =
       first_at (clash policy is.never is.allow (at (types policy) v.source) (at (types policy) v.target)) perm_numbers
       is.bit is.bit found (number_there is.bit is.low) at_perm
-      (λ j z less h. rw (number_is j z h)
+      (λ j z less h. rw (number_is j z h).1
       (no_clash policy is.never is.allow j v.source v.target (is.no_lesser_perm j less)))
 
   at_source : clash_of_source policy is.never is.allow (at (types policy) v.source) ≡ Some found
@@ -142,6 +140,12 @@ no_violation policy consistent =
         → slice_get (rules_in Allow policy) i ≡ Some allow → slice_get (rules_in Neverallow policy) j ≡ Some never
         → (covers policy s t class perm allow.1 && covers policy s t class perm never.1) ≡ false
     apart i j allow never s t class perm found_allow found_never =
-        let w = any_at (λ (r : ℕ × Rule). covers policy s t class perm r.1) (rules_in Allow policy) i allow found_allow in
-        let f = any_at (λ (r : ℕ × Rule). covers policy s t class perm r.1) (rules_in Neverallow policy) j never found_never in
-        grind (arith, consistent s t class perm, some_any Allow policy s t class perm, some_any Neverallow policy s t class perm, w, f)
+        let test : ℕ × Rule → Bool = λ r. covers policy s t class perm r.1 in
+        grind (
+          arith,
+          consistent s t class perm,
+          some_any Allow policy s t class perm,
+          some_any Neverallow policy s t class perm,
+          any_at test (rules_in Allow policy) i allow found_allow,
+          any_at test (rules_in Neverallow policy) j never found_never,
+        )

@@ -63,3 +63,5 @@ pub named : (policy : Policy) (names : List Name) (s : Name) (i : ℕ) → names
 named policy names s i of found =
     let p = position-Some (bytes_eq s) names i [] (rw of found) in
     (p.0, sym ((bytes_eq-Decides s (at names i)).0 p.1))
+
+pub ruleset deciding = (refused_source, refused_target, named)

@@ -142,7 +142,7 @@ impl Prepared {
     /// Returns the decision on two types whose `type_index` is `source` and `target`: whether the access is allowed,
     /// and whether it is audited. An access is audited if no allow rule grants it and no dontaudit rule covers it. If
     /// an index is `None`, nothing is allowed and everything is audited.
-    #[tactic(auto, using(crate::proofs::Looking::named, crate::proofs::Looking::refused_source, crate::proofs::Looking::refused_target), unfolding(crate::specs::Policy::allowed, crate::specs::Policy::audits))]
+    #[tactic(auto, using(crate::proofs::Looking::deciding), unfolding(crate::specs::Policy::allowed, crate::specs::Policy::audits))]
     pub fn decide_at(
         &self,
         source: Option<u16>,
