@@ -33,6 +33,7 @@ pub fn rules_of(alloc: Global, text: &[u8]) -> Result<Vec<Statement>, PolicyFaul
 }
 
 /// Returns the name of a type by its number, or nothing if there is no such type.
+#[tactic(auto, using(std::proofs::lemmas::Option::gets, std::proofs::lemmas::Grind::common_steps))]
 fn type_name(types: &Types, index: u16) -> &[u8]
     ensures { result.now ≡ at types.now.symbols.types index }
 {
