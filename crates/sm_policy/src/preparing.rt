@@ -37,10 +37,7 @@ pub fn rules_of(alloc: Global, text: &[u8]) -> Result<Vec<Statement>, PolicyFaul
 fn type_name(types: &Types, index: u16) -> &[u8]
     ensures { result.now ≡ at types.now.symbols.types index }
 {
-    match types.name(index) {
-        Some(name) => name,
-        None => b"",
-    }
+    types.name(index).unwrap_or(b"")
 }
 
 /// Looks up the names of a violation's types.
