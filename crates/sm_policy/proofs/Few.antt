@@ -1,74 +1,44 @@
 -- A policy source has no more statements than bytes.
-use Rattle.std.proofs.Common.{◌≡◌, ℕ, zero, suc, ◌+◌, ◌≤◌, Bool, true, false, ◌&&◌, cond, List, [], ◌∷◌, ◌++◌, length}
-use Rattle.std.proofs.Common.{length-append, Option, None, Some, Ok, Err, refl, ap, arith}
-use Rattle.std.specs.Prelude.{nat_lt, nat_le}
-use Rattle.std.proofs.lemmas.Bool.{ltb-false}
+use Rattle.std.proofs.Common.{◌≡◌, ℕ, zero, suc, ◌+◌, ◌≤◌, List, [], ◌∷◌, length, length-append, Option, Ok, arith}
+use Rattle.std.proofs.lemmas.Bool.Decides.{nat_tests}
 use Rattle.sm_kinds.specs.Reading.{◌>>=◌}
 use Rattle.sm_kinds.specs.declared.limits.TheConstants.{MOST_TEXT_BYTES}
 use Rattle.sm_kinds.proofs.Readers.{went_well}
-use Rattle.sm_ruletext.specs.declared.limits.TheConstants.{MOST_RULES}
-use Rattle.sm_ruletext.specs.declared.fault.RuleTextFault.TheVariants.{TooLarge, TooMany}
 use Rattle.sm_ruletext.specs.declared.statement.What.{What}
 use Rattle.sm_ruletext.specs.declared.statement.Statement.{Statement}
 use Rattle.sm_ruletext.specs.declared.token.TokenKind.{TokenKind}
-use Rattle.sm_ruletext.specs.declared.token.TokenKind.TheVariants.{Word, Semicolon, Comma, Colon, Open, Close, Star}
-use Rattle.sm_ruletext.specs.declared.token.TokenKind.TheVariants.{Tilde}
-use Rattle.sm_ruletext.specs.declared.token.TokenKind.TheVariants.{Dash, Other}
+use Rattle.sm_ruletext.specs.declared.token.TokenKind.TheVariants.{Word}
 use Rattle.sm_ruletext.specs.Lexing.{Tokens, tokens}
 use Rattle.sm_ruletext.specs.Words.{keyword_of}
 use Rattle.sm_ruletext.specs.Statements.{what_at, with_statement, statement_from, statements_within, statements_of}
-use Rattle.sm_ruletext.specs.Statements.{read, is_rule, rule_count}
+use Rattle.sm_ruletext.specs.Statements.{read}
 use Rattle.sm_ruletext.proofs.Cuts.{length-tokens}
 
 one_more : (line : ℕ) (sts more : List Statement) (w : Option What) → with_statement line sts w ≡ Ok more
     → length more ≤ length sts + 1
 unfolding with_statement
-one_more line sts more None h = let is : sts ≡ more = cc in omega (arith, ap (length {A = Statement}) is)
-one_more line sts more (Some w) h = by (is_rule w && nat_le MOST_RULES (rule_count sts)) h where
-  by : (b : Bool) → cond b (Err TooMany) (Ok (sts ++ record { line = line; what = w } ∷ [])) ≡ Ok more
-      → length more ≤ length sts + 1
-  by true g = absurd cc
-  by false g = let is : sts ++ record { line = line; what = w } ∷ [] ≡ more = cc in
-      omega (arith, ap (length {A = Statement}) is, length-append sts (record { line = line; what = w } ∷ []))
+one_more line sts more w h = grind (arith, length-append)
 
 one_statement : (line : ℕ) (k : TokenKind) (sts : List Statement) (ts : Tokens) (next : List Statement × Tokens)
     → statement_from line k sts ts ≡ Ok next → length next.0 ≤ length sts + 1
 unfolding statement_from
-one_statement line Semicolon sts ts next h = let is : sts ≡ next.0 = cc in omega (arith, ap (length {A = Statement}) is)
 one_statement line (Word w) sts ts next h =
     let what = went_well (what_at line (keyword_of w) ts) (λ x. with_statement line sts x.0 >>= λ more. Ok (more, x.1))
     next h in
     let more = went_well (with_statement line sts what.0.0) (λ more. Ok (more, what.0.1)) next what.2 in
-    let is : more.0 ≡ next.0 = cc in
-    omega (arith, one_more line sts more.0 what.0.0 more.1, ap (length {A = Statement}) is)
-one_statement line Comma sts ts next h = absurd cc
-one_statement line Colon sts ts next h = absurd cc
-one_statement line Open sts ts next h = absurd cc
-one_statement line Close sts ts next h = absurd cc
-one_statement line Star sts ts next h = absurd cc
-one_statement line Tilde sts ts next h = absurd cc
-one_statement line Dash sts ts next h = absurd cc
-one_statement line Other sts ts next h = absurd cc
+    grind (arith, one_more line sts more.0 what.0.0 more.1)
+one_statement line k sts ts next h = grind arith
 
 few_within : (most : ℕ) (sts all : List Statement) (ts : Tokens) → statements_within most sts ts ≡ Ok all
     → length all ≤ length sts + most
 unfolding statements_within
-few_within most sts all [] h = let is : sts ≡ all = cc in omega (arith, ap (length {A = Statement}) is)
-few_within zero sts all (t ∷ ts) h = let is : sts ≡ all = cc in omega (arith, ap (length {A = Statement}) is)
+few_within most sts all [] h = grind arith
+few_within zero sts all (t ∷ ts) h = grind arith
 few_within (suc most) sts all ((line, k) ∷ ts) h =
     let next = went_well (statement_from line k sts ts) (λ n. statements_within most n.0 n.1) all h in
     omega (arith, one_statement line k sts ts next.0 next.1, few_within most next.0.0 all next.0.1 next.2)
 
 pub few : (text : List ℕ) (all : List Statement) → read text ≡ Ok all → length all ≤ MOST_TEXT_BYTES
 unfolding read statements_of
-few text all h = by (nat_lt MOST_TEXT_BYTES (length text)) refl h where
-  by : (b : Bool) → nat_lt MOST_TEXT_BYTES (length text) ≡ b
-      → cond b (Err TooLarge) (statements_within (length (tokens 0 1 text)) [] (tokens 0 1 text)) ≡ Ok all
-      → length all ≤ MOST_TEXT_BYTES
-  by true long g = absurd cc
-  by false short g = omega (
-    arith,
-    ltb-false MOST_TEXT_BYTES (length text) short,
-    few_within (length (tokens 0 1 text)) [] all (tokens 0 1 text) g,
-    length-tokens 0 1 text,
-  )
+few text all h =
+    grind (arith, nat_tests, few_within (length (tokens 0 1 text)) [] all (tokens 0 1 text), length-tokens 0 1 text)

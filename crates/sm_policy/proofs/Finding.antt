@@ -1,23 +1,22 @@
 -- What is found, and where.
-use Rattle.std.proofs.Common.{◌≡◌, ℕ, zero, suc, ◌+◌, ◌≤◌, drop, length, Bool, true, false, ◌||◌, cond, List, [], ◌∷◌}
-use Rattle.std.proofs.Common.{Option, None, Some, is_some, refl, arith}
-use Rattle.std.specs.Prelude.{find, option_map, not, slice_get}
+use Rattle.std.proofs.Common.{◌≡◌, ℕ, zero, suc, ◌+◌, ◌≤◌, drop, length, Bool, false, List, [], ◌∷◌}
+use Rattle.std.proofs.Common.{Option, None, is_some, refl, arith}
+use Rattle.std.specs.Prelude.{find, slice_get, position}
 use Rattle.std.specs.Option.{option_or}
-use Rattle.std.specs.List.{list_any, filter_map, cons_option}
-use Rattle.sm_kinds.specs.Contexts.{type_of}
+use Rattle.std.specs.List.{list_any, filter_map}
+use Rattle.std.proofs.lemmas.Grind.{common_steps}
 use Rattle.sm_ruletext.specs.declared.statement.Statement.{Statement}
-use Rattle.sm_types.specs.Denoting.{declares}
 use Rattle.sm_contexts.specs.Reading.{Entry}
-use Rattle.sm_policy.specs.Undeclared.{first_undeclared, undeclared_line, is_undeclared}
+use Rattle.sm_policy.specs.Undeclared.{first_undeclared, undeclared_line}
 
-pub found_is_some : {A B : Type 0} (p : A → Bool) (f : A → B) (xs : List A)
-    → is_some (option_map f (find p xs)) ≡ list_any p xs
-found_is_some p f [] = refl
-found_is_some p f (x ∷ xs) = by (p x) (found_is_some p f xs) where
-  by : (b : Bool) → is_some (option_map f (find p xs)) ≡ list_any p xs
-      → is_some (option_map f (cond b (Some x) (find p xs))) ≡ (b || list_any p xs)
-  by true rest = refl
-  by false rest = rest
+pub is_some-find : {A : Type 0} (p : A → Bool) (xs : List A) → is_some (find p xs) ≡ list_any p xs
+is_some-find p [] = refl
+is_some-find p (x ∷ xs) = grind (arith, is_some-find p xs)
+
+-- What has no place isn't there.
+pub unplaced : {A : Type 0} (p : A → Bool) (xs : List A) → position p xs ≡ None → list_any p xs ≡ false
+unplaced p [] none = refl
+unplaced p (x ∷ xs) none = grind (arith, common_steps, unplaced p xs)
 
 -- The entry at i, and those behind it.
 pub undeclared_step : (sts : List Statement) (es : List Entry) (i : ℕ)
@@ -25,18 +24,10 @@ pub undeclared_step : (sts : List Statement) (es : List Entry) (i : ℕ)
     ≡ option_or (undeclared_line sts (slice_get es i)) (first_undeclared sts (drop (i + 1) es))
 undeclared_step sts [] zero = refl
 undeclared_step sts [] (suc i) = let one : suc i + 1 ≡ suc (i + 1) = omega arith in rw one refl
-undeclared_step sts (e ∷ es) zero = by (declares sts (type_of e.context)) where
-  by : (b : Bool) → option_map (λ x. x.line) (cond (not b) (Some e) (find (is_undeclared sts) es))
-      ≡ option_or (cond b None (Some e.line)) (first_undeclared sts es)
-  by true = refl
-  by false = refl
+undeclared_step sts (e ∷ es) zero = grind arith
 undeclared_step sts (e ∷ es) (suc i) = let one : suc i + 1 ≡ suc (i + 1) = omega arith in
     rw one (undeclared_step sts es i)
 
-pub length-filter_map : {A B : Type 0} (f : A → Option B) (xs : List A) → length (filter_map f xs) ≤ length xs
-length-filter_map f [] = omega arith
-length-filter_map {B = B} f (x ∷ xs) = by (f x) (length-filter_map f xs) where
-  by : (o : Option B) → length (filter_map f xs) ≤ length xs
-      → length (cons_option o (filter_map f xs)) ≤ length (x ∷ xs)
-  by None h = omega (arith, h)
-  by (Some y) h = omega (arith, h)
+pub filter_map_len : {A B : Type 0} (f : A → Option B) (xs : List A) → length (filter_map f xs) ≤ length xs
+filter_map_len f [] = omega arith
+filter_map_len f (x ∷ xs) = grind (arith, filter_map_len f xs)

@@ -1,7 +1,6 @@
 -- The first violation by number is the first violation by name.
-use Rattle.std.proofs.Common.{◌≡◌, ℕ, zero, suc, ◌<◌, Bool, true, false, ◌&&◌, ◌||◌, List, [], ◌∷◌, length, Option}
-use Rattle.std.proofs.Common.{None, Some, refl, sym, ◌∙◌, arith, slice_get}
-use Rattle.std.specs.List.{list_any}
+use Rattle.std.proofs.Common.{◌≡◌, ℕ, zero, suc, ◌<◌, Bool, false, ◌&&◌, List, [], ◌∷◌, length, Option}
+use Rattle.std.proofs.Common.{None, Some, refl, sym, arith, slice_get}
 use Rattle.std.proofs.lemmas.Option.{get_or_from_slice_get, slice_get_within, slice_get-get_or}
 use Rattle.sm_kinds.specs.declared.class.Class.{Class}
 use Rattle.sm_kinds.specs.declared.perms.Perms.{Perms}
@@ -10,10 +9,11 @@ use Rattle.sm_ruletext.specs.declared.statement.RuleKind.TheVariants.{Allow, Nev
 use Rattle.sm_ruletext.specs.declared.statement.Statement.{Statement}
 use Rattle.sm_types.specs.Names.{Name, at}
 use Rattle.sm_types.specs.Denoting.{types}
-use Rattle.sm_rules.specs.Access.{covers, written, forbidden, IsConsistent}
+use Rattle.sm_rules.specs.Access.{covers, IsConsistent}
 use Rattle.sm_rules.proofs.Consistent.{some_any}
 use Rattle.sm_rules.specs.Keeping.{rules_in, class_at, perm_at}
 use Rattle.sm_neverallow.specs.Violating.{breaks, IsFirstViolation}
+use Rattle.sm_neverallow.proofs.Searches.{any_at}
 use Rattle.sm_neverallow.specs.declared.violation.Violation.{Violation as Numbered}
 use Rattle.sm_policy.specs.declared.violation.Violation.{Violation}
 use Rattle.sm_policy.specs.Violating.{first_some, perm_numbers, clash, clash_of_pair, clash_of_source, first_clash}
@@ -37,30 +37,11 @@ first_at f (z ∷ xs) (suc i) x y found gives before =
 -- ---- numbers of permissions
 
 number_there : (b : ℕ) → b < 7 → slice_get perm_numbers b ≡ Some b
-number_there zero h = refl
-number_there (suc zero) h = refl
-number_there (suc (suc zero)) h = refl
-number_there (suc (suc (suc zero))) h = refl
-number_there (suc (suc (suc (suc zero)))) h = refl
-number_there (suc (suc (suc (suc (suc zero))))) h = refl
-number_there (suc (suc (suc (suc (suc (suc zero)))))) h = refl
-number_there (suc (suc (suc (suc (suc (suc (suc b))))))) h = absurd (omega arith)
+number_there b h = grind arith
 
-number_low : (j z : ℕ) → slice_get perm_numbers j ≡ Some z → j < 7
-number_low j z h = slice_get_within perm_numbers j z h
-
-number_is : (j z : ℕ) → slice_get perm_numbers j ≡ Some z → z ≡ j
-number_is j z h = let e = number_there j (number_low j z h) in cc
-
--- What is at a place is there.
-any_at : {A : Type 0} (p : A → Bool) (xs : List A) (i : ℕ) (x : A) → slice_get xs i ≡ Some x → p x ≡ true
-    → list_any p xs ≡ true
-any_at p [] i x found h = absurd cc
-any_at p (y ∷ ys) zero x found h = let is : y ≡ x = cc in rw (is, h) refl
-any_at p (y ∷ ys) (suc i) x found h = by (p y) (any_at p ys i x found h) where
-  by : (b : Bool) → list_any p ys ≡ true → (b || list_any p ys) ≡ true
-  by true rest = refl
-  by false rest = rest
+number_is : (j z : ℕ) → slice_get perm_numbers j ≡ Some z → (j < 7) × (z ≡ j)
+number_is j z h =
+    let low = slice_get_within perm_numbers j z h in let e = number_there j low in (low, cc)
 
 -- ---- what two rules have in common
 
@@ -74,7 +55,7 @@ module _ (policy : List Statement) (never allow : ℕ × Rule) where
       → clash_of_pair policy never allow (at (types policy) s) (at (types policy) t) ≡ None
   unfolding clash_of_pair
   no_pair s t none = none_at (clash policy never allow (at (types policy) s) (at (types policy) t)) perm_numbers
-      (λ j z h. rw (number_is j z h) (no_clash j s t (none j (number_low j z h))))
+      (λ j z h. rw (number_is j z h).1 (no_clash j s t (none j (number_is j z h).0)))
 
   named : (i : ℕ) (z : Name) → slice_get (types policy) i ≡ Some z → z ≡ at (types policy) i
   named i z h = sym (get_or_from_slice_get (types policy) i z [] h)
@@ -95,22 +76,12 @@ module _ (policy : List Statement) (never allow : ℕ × Rule) where
       (no_source j (λ b t low inside. none b j t low (slice_get_within (types policy) j z h) inside)))
 
 module _ (policy : List Statement) (v : Numbered) (is : IsFirstViolation policy (types policy) v) where
-  names : List Name
-  names = types policy
-
-  found : Violation
-  found = record {
-    never_line = is.never.0;
-    allow_line = is.allow.0;
-    source = at (types policy) v.source;
-    target = at (types policy) v.target;
-    class = class_at is.bit;
-    perm = perm_at is.bit;
-  }
+  abbrev found : Violation
+  found = named_violation (types policy) v
 
   at_perm : clash policy is.never is.allow (at (types policy) v.source) (at (types policy) v.target) is.bit ≡ Some found
-  unfolding clash found
-  at_perm = rw is.broken refl
+  unfolding clash
+  at_perm = rw (is.broken, is.never_line, is.allow_line, is.class, is.perm) refl
 
   at_pair : clash_of_pair policy is.never is.allow (at (types policy) v.source) (at (types policy) v.target)
       ≡ Some found
@@ -118,7 +89,7 @@ module _ (policy : List Statement) (v : Numbered) (is : IsFirstViolation policy 
   at_pair =
       first_at (clash policy is.never is.allow (at (types policy) v.source) (at (types policy) v.target)) perm_numbers
       is.bit is.bit found (number_there is.bit is.low) at_perm
-      (λ j z less h. rw (number_is j z h)
+      (λ j z less h. rw (number_is j z h).1
       (no_clash policy is.never is.allow j v.source v.target (is.no_lesser_perm j less)))
 
   at_source : clash_of_source policy is.never is.allow (at (types policy) v.source) ≡ Some found
@@ -146,18 +117,14 @@ module _ (policy : List Statement) (v : Numbered) (is : IsFirstViolation policy 
       (λ j z less h. no_first policy is.never z
       (λ b s t low source target. is.no_earlier_allow j b s t z less h low source target))
 
-  found_first : first_violation policy ≡ Some found
+  pub violation_is : first_violation policy ≡ Some (named_violation (types policy) v)
   unfolding first_violation clash_of_never
-  found_first =
+  violation_is =
       first_at (clash_of_never policy) (rules_in Neverallow policy) is.never_place is.never found is.never_found
       at_never
       (λ j z less h. none_at (first_clash policy z) (rules_in Allow policy)
       (λ i w g. no_first policy z w
       (λ b s t low source target. is.no_earlier_never j i b s t z w less h g low source target)))
-
-  pub violation_is : first_violation policy ≡ Some (named_violation (types policy) v)
-  unfolding found
-  violation_is = rw (is.never_line, is.allow_line, is.class, is.perm) found_first
 
 -- Where nothing is broken there is none.
 pub no_violation : (policy : List Statement) → IsConsistent policy → first_violation policy ≡ None
@@ -173,17 +140,12 @@ no_violation policy consistent =
         → slice_get (rules_in Allow policy) i ≡ Some allow → slice_get (rules_in Neverallow policy) j ≡ Some never
         → (covers policy s t class perm allow.1 && covers policy s t class perm never.1) ≡ false
     apart i j allow never s t class perm found_allow found_never =
-        by (covers policy s t class perm allow.1) (covers policy s t class perm never.1) refl refl where
-          by : (a n : Bool) → covers policy s t class perm allow.1 ≡ a → covers policy s t class perm never.1 ≡ n
-              → (a && n) ≡ false
-          by false n ha hn = refl
-          by true false ha hn = refl
-          by true true ha hn =
-              let w = some_any Allow policy s t class perm
-              ∙ any_at (λ (r : ℕ × Rule). covers policy s t class perm r.1) (rules_in Allow policy) i allow found_allow
-              ha in
-              let f = some_any Neverallow policy s t class perm
-              ∙ any_at (λ (r : ℕ × Rule). covers policy s t class perm r.1) (rules_in Neverallow policy) j never
-              found_never hn in
-              let both : (written policy s t class perm && forbidden policy s t class perm) ≡ true = rw (w, f) refl in
-              sym both ∙ consistent s t class perm
+        let test : ℕ × Rule → Bool = λ r. covers policy s t class perm r.1 in
+        grind (
+          arith,
+          consistent s t class perm,
+          some_any Allow policy s t class perm,
+          some_any Neverallow policy s t class perm,
+          any_at test (rules_in Allow policy) i allow found_allow,
+          any_at test (rules_in Neverallow policy) j never found_never,
+        )

@@ -1,10 +1,10 @@
 -- The numbers of the types in the labels.
-use Rattle.std.proofs.Common.{◌≡◌, ℕ, ◌+◌, ◌<◌, List, [], ◌∷◌, ◌++◌, map, take, get_or, Option, None, Some, refl, sym}
-use Rattle.std.proofs.Common.{ap}
-use Rattle.std.proofs.Common.{◌∙◌, length}
+use Rattle.std.proofs.Common.{◌≡◌, ℕ, ◌+◌, ◌<◌, List, [], ◌∷◌, ◌++◌, map, take, get_or, Option, None, Some, refl, sym, arith}
+use Rattle.std.proofs.Common.{ap, ◌∙◌, length}
 use Rattle.std.specs.Prelude.{option_map, slice_get}
-use Rattle.std.proofs.lemmas.List.{length-map, map-append, take_more}
+use Rattle.std.proofs.lemmas.List.{length-map, take_more}
 use Rattle.std.proofs.lemmas.Option.{get_or_from_slice_get, slice_get-map, slice_get_read, slice_get_within}
+use Rattle.std.proofs.lemmas.Grind.{common_steps}
 use Rattle.sm_kinds.specs.Contexts.{type_of}
 use Rattle.sm_types.specs.Names.{Name}
 use Rattle.sm_types.specs.Denoting.{types}
@@ -24,18 +24,7 @@ one_more names es numbers i n before next = by (slice_get es i) refl next where
       let more : take (i + 1) es ≡ take i es ++ e ∷ [] =
       take_more es i e (slice_get_within es i e here)
       ∙ ap (λ (x : Entry). take i es ++ x ∷ []) (get_or_from_slice_get es i e e here) in
-      let own : number_of names e ≡ Some n = cc in
-      rw (more, map-append (number_of names) (take i es) (e ∷ []), map-append Some numbers (n ∷ []), before, own) refl
-
--- The number at the place of an entry is that of its type.
-numbered_at : (names : List Name) (es : List Entry) (numbers : List ℕ) (i n : ℕ) → AreNumbered names es numbers
-    → i < length es → n ≡ get_or numbers i n → option_map (number_of names) (slice_get es i) ≡ Some (Some n)
-numbered_at names es numbers i n are lt read =
-    let long : length es ≡ length numbers =
-    sym (length-map es (number_of names)) ∙ (ap length are.each ∙ length-map numbers Some) in
-    sym (slice_get-map (number_of names) es i)
-    ∙ (ap (λ (xs : List (Option ℕ)). slice_get xs i) are.each
-    ∙ (slice_get-map Some numbers i ∙ ap (option_map Some) (slice_get_read numbers (length es) i n long lt read)))
+      grind (arith, common_steps, more, before)
 
 -- The type of a name's label has the number at the label's place.
 pub label_number : (policy : Policy) (names : List Name) (numbers : List ℕ) (name : Name) (i n : ℕ)
@@ -45,9 +34,8 @@ pub label_number : (policy : Policy) (names : List Name) (numbers : List ℕ) (n
     → type_index policy (type_of (label_of policy name)) ≡ Some n
 unfolding label_of
 label_number policy names numbers name i n of are lt labelled read =
-    by (slice_get policy.entries i) labelled (numbered_at names policy.entries numbers i n are lt read) where
-      by : (o : Option Entry) → option_map (λ e. e.context) o ≡ label policy.entries name
-          → option_map (number_of names) o ≡ Some (Some n)
-          → type_index policy (type_of (label_of policy name)) ≡ Some n
-      by None is h = absurd cc
-      by (Some e) is h = let own : number_of names e ≡ Some n = cc in rw (← is, ← of) own
+    let long : length policy.entries ≡ length numbers =
+    sym (length-map policy.entries (number_of names)) ∙ (ap length are.each ∙ length-map numbers Some) in
+    let same : slice_get (map (number_of names) policy.entries) i ≡ slice_get (map Some numbers) i =
+    ap (λ (xs : List (Option ℕ)). slice_get xs i) are.each in
+    grind (arith, labelled, of, slice_get-map (number_of names) policy.entries i, slice_get-map Some numbers i, slice_get_read numbers (length policy.entries) i n long lt read)

@@ -1,9 +1,8 @@
 -- What is decided of types by their numbers, and of names that aren't declared.
-use Rattle.std.proofs.Common.{inl, inr, ◌≡◌, ℕ, ◌<◌, ◌≤◌, Bool, true, false, ◌&&◌, ◌||◌, ltb, List, []}
-use Rattle.std.proofs.Common.{length, Some, None, is_some, refl, sym, ap, subst, ◌∙◌, arith, true≢false}
-use Rattle.std.specs.Prelude.{position, slice_get}
+use Rattle.std.proofs.Common.{◌≡◌, ℕ, ◌<◌, true, false, ◌&&◌, List, []}
+use Rattle.std.proofs.Common.{length, Some, None, is_some, refl, sym, ◌∙◌, arith}
+use Rattle.std.specs.Prelude.{position}
 use Rattle.std.specs.Str.{bytes_eq}
-use Rattle.std.proofs.lemmas.Bool.{cases_lt, lt-ltb, le-ltb, and_right, false_from_ne_true}
 use Rattle.std.proofs.lemmas.List.Quantifiers.{position-Some}
 use Rattle.std.proofs.lemmas.Slice.Eq.{bytes_eq-Decides}
 use Rattle.sm_kinds.specs.Permissions.{perm_of}
@@ -11,15 +10,13 @@ use Rattle.sm_kinds.specs.declared.class.Class.{Class}
 use Rattle.sm_kinds.specs.declared.perms.Perms.{Perms}
 use Rattle.sm_ruletext.specs.declared.rule.Rule.{Rule}
 use Rattle.sm_ruletext.specs.declared.statement.RuleKind.TheVariants.{Allow, Dontaudit}
-use Rattle.sm_types.specs.Names.{Name, at, Distinct}
-use Rattle.sm_types.specs.Denoting.{Policy, types, declares, in_set}
+use Rattle.sm_types.specs.Names.{Name, at}
+use Rattle.sm_types.specs.Denoting.{Policy, types, declares}
 use Rattle.sm_types.proofs.Accepted.{declares_type}
-use Rattle.sm_types.proofs.NameLemmas.{place_of}
-use Rattle.sm_neverallow.proofs.Searches.{some_at}
-use Rattle.sm_rules.specs.Access.{joins, covers, is_permissive, allowed, audits}
+use Rattle.sm_rules.specs.Access.{joins, is_permissive, allowed, audits}
 use Rattle.sm_rules.proofs.Consistent.{uncovered}
-use Rattle.sm_vectors.specs.declared.decision.Decision.{Decision}
-use Rattle.sm_vectors.specs.Tables.{Tables, TablesOf, refusal}
+use Rattle.sm_vectors.specs.Tables.{refusal}
+use Rattle.sm_policy.proofs.Finding.{unplaced}
 
 -- ---- names that aren't declared
 
@@ -29,89 +26,42 @@ no_source policy s t r h = rw h refl
 
 no_target : (policy : Policy) (s t : Name) (r : Rule) → declares policy t ≡ false → joins policy s t r ≡ false
 unfolding joins
-no_target policy s t r h = by (bytes_eq s t) refl where
-  nothing : (x y : Bool) → (x && (false || (y && false))) ≡ false
-  nothing true true = refl
-  nothing true false = refl
-  nothing false y = refl
-
-  by : (b : Bool) → bytes_eq s t ≡ b →
-      (in_set policy r.source s && (in_set policy r.target t || (r.to_self && bytes_eq s t))) ≡ false
-  by true e = (let same : s ≡ t = (bytes_eq-Decides s t).0 e in
-      let none : declares policy s ≡ false = rw same h in rw none refl)
-  by false e = rw (h, e) (nothing (in_set policy r.source s) r.to_self)
+no_target policy s t r h =
+    grind (arith, bytes_eq-Decides s t)
 
 -- What has no number isn't declared.
-undeclared : (policy : Policy) (names : List Name) (s : Name) → names ≡ types policy → Distinct names
-    → position (bytes_eq s) (types policy) ≡ None → declares policy s ≡ false
-undeclared policy names s of distinct none = false_from_ne_true (declares policy s) (λ h.
-    let r = some_at (bytes_eq s) (types policy) (declares_type s policy ∙ h) in
-    let found : slice_get (types policy) r.0 ≡ Some s =
-    r.2 ∙ ap (λ (n : Name). Some n) (sym ((bytes_eq-Decides s r.1).0 r.3)) in
-    let e : position (bytes_eq s) (types policy) ≡ Some r.0 =
-    place_of (types policy) s r.0 (subst Distinct of distinct) found in
-    absurd (cc (sym none ∙ e)))
+undeclared : (policy : Policy) (s : Name) → position (bytes_eq s) (types policy) ≡ None → declares policy s ≡ false
+undeclared policy s none =
+    sym (declares_type s policy) ∙ unplaced (bytes_eq s) (types policy) none
 
 -- A check of what isn't declared passes nowhere, and is audited.
 refusal_is : (policy : Policy) (s t : Name) (class : Class) (perm : Perms) → ((r : Rule) → joins policy s t r ≡ false)
     → (is_permissive policy s && (declares policy t && is_some (perm_of class perm))) ≡ false
     → refusal ≡ record { allowed = allowed policy s t class perm; audited = audits policy s t class perm }
 refusal_is policy s t class perm none strict =
-    let uncovering : (r : Rule) → covers policy s t class perm r ≡ false = λ r. rw (none r) refl in
-    rw (uncovered Allow policy s t class perm uncovering, uncovered Dontaudit policy s t class perm uncovering, strict)
-    refl
+    grind (arith, none, strict, uncovered Allow policy s t class perm, uncovered Dontaudit policy s t class perm)
 
-pub refused_source : (policy : Policy) (names : List Name) (s t : Name) (class : Class) (perm : Perms)
-    → names ≡ types policy → Distinct names → (is_permissive policy s ≡ true → declares policy s ≡ true)
-    → position (bytes_eq s) (types policy) ≡ None
+pub refused_source : (policy : Policy) (s t : Name) (class : Class) (perm : Perms)
+    → (is_permissive policy s ≡ true → declares policy s ≡ true) → position (bytes_eq s) (types policy) ≡ None
     → refusal ≡ record { allowed = allowed policy s t class perm; audited = audits policy s t class perm }
-refused_source policy names s t class perm of distinct known none =
-    let h : declares policy s ≡ false = undeclared policy names s of distinct none in
-    let strict : is_permissive policy s ≡ false =
-    false_from_ne_true (is_permissive policy s) (λ e. true≢false (sym (known e) ∙ h)) in
-    refusal_is policy s t class perm (λ r. no_source policy s t r h) (rw strict refl)
+refused_source policy s t class perm known none =
+    let h : declares policy s ≡ false = undeclared policy s none in
+    refusal_is policy s t class perm (λ r. no_source policy s t r h) (grind (arith, known, h))
 
-pub refused_target : (policy : Policy) (names : List Name) (s t : Name) (class : Class) (perm : Perms)
-    → names ≡ types policy → Distinct names → position (bytes_eq t) (types policy) ≡ None
+pub refused_target : (policy : Policy) (s t : Name) (class : Class) (perm : Perms)
+    → position (bytes_eq t) (types policy) ≡ None
     → refusal ≡ record { allowed = allowed policy s t class perm; audited = audits policy s t class perm }
-refused_target policy names s t class perm of distinct none =
-    let h : declares policy t ≡ false = undeclared policy names t of distinct none in
-    refusal_is policy s t class perm (λ r. no_target policy s t r h)
-    (rw h (and_right (is_permissive policy s) false refl))
+refused_target policy s t class perm none =
+    let h : declares policy t ≡ false = undeclared policy t none in
+    refusal_is policy s t class perm (λ r. no_target policy s t r h) (grind (arith, h))
 
 -- ---- numbers
 
 -- A number that a name has.
-named : (policy : Policy) (names : List Name) (s : Name) (i : ℕ) → names ≡ types policy
+pub named : (policy : Policy) (names : List Name) (s : Name) (i : ℕ) → names ≡ types policy
     → position (bytes_eq s) (types policy) ≡ Some i → (i < length names) × (at names i ≡ s)
 named policy names s i of found =
     let p = position-Some (bytes_eq s) names i [] (rw of found) in
     (p.0, sym ((bytes_eq-Decides s (at names i)).0 p.1))
 
-pub decided : (policy : Policy) (names : List Name) (s t : Name) (i j : ℕ) (class : Class) (perm : Perms)
-    (result : Decision) → names ≡ types policy
-    → position (bytes_eq s) (types policy) ≡ Some i → position (bytes_eq t) (types policy) ≡ Some j
-    → (i < length names → j < length names → result.allowed ≡ allowed policy (at names i) (at names j) class perm)
-    → (i < length names → j < length names → result.audited ≡ audits policy (at names i) (at names j) class perm)
-    → result ≡ record { allowed = allowed policy s t class perm; audited = audits policy s t class perm }
-decided policy names s t i j class perm result of s_at t_at passes records =
-    let p = named policy names s i of s_at in
-    let q = named policy names t j of t_at in
-    rw (← p.1, ← q.1, ← passes p.0 q.0, ← records p.0 q.0) refl
-
-pub at_is : (policy : Policy) (names : List Name) (tables : Tables) (s t : ℕ) (class : Class) (perm : Perms)
-    (result : Bool) → names ≡ types policy → TablesOf policy names tables
-    → (s < length names → t < length names → result ≡ allowed policy (at names s) (at names t) class perm)
-    → (tables.count ≤ s → result ≡ false) → (tables.count ≤ t → result ≡ false)
-    → result ≡ ((ltb s (length (types policy)) && ltb t (length (types policy)))
-    && allowed policy (at (types policy) s) (at (types policy) t) class perm)
-at_is policy names tables s t class perm result named of says past_s past_t =
-    rw (← named) (elim (cases_lt s (length names)) [
-      | inl hs ↦ elim (cases_lt t (length names)) [
-        | inl ht ↦ rw (lt-ltb s (length names) hs, lt-ltb t (length names) ht) (says hs ht)
-        | inr ht ↦ (let past : tables.count ≤ t = omega (arith, of.count) in
-            rw (past_t past, lt-ltb s (length names) hs, le-ltb t (length names) ht) refl)
-      ]
-      | inr hs ↦ (let past : tables.count ≤ s = omega (arith, of.count) in
-          rw (past_s past, le-ltb s (length names) hs) refl)
-    ])
+pub ruleset deciding = (refused_source, refused_target, named)

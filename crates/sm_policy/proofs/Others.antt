@@ -1,22 +1,15 @@
 -- Refusals other than for a neverallow rule.
-use Rattle.std.proofs.Common.{◌≡◌, Result, Ok, Err, sym, subst}
+use Rattle.std.proofs.Common.{◌≡◌, Result, arith}
 use Rattle.std.specs.Result.{IfErr, IsErrAnd}
 use Rattle.sm_policy.specs.declared.violation.Violation.{Violation}
 use Rattle.sm_policy.specs.declared.fault.PolicyFault.{PolicyFault}
-use Rattle.sm_policy.specs.declared.fault.PolicyFault.TheVariants.{Rules, Types, Access, Contexts, UndeclaredLabel}
-use Rattle.sm_policy.specs.declared.fault.PolicyFault.TheVariants.{Neverallow, Memory}
+use Rattle.sm_policy.specs.declared.fault.PolicyFault.TheVariants.{Neverallow}
 use Rattle.sm_policy.specs.Breaking.{IfNeverallow}
 
-never : (e : PolicyFault) (P : Violation → Type 0) → IfNeverallow e (λ _. ⊥) → IfNeverallow e P
+pub never : (e : PolicyFault) (P : Violation → Type 0) → IfNeverallow e (λ _. ⊥) → IfNeverallow e P
 never (Neverallow v) P h = absurd h
-never (Rules e) P h = tt
-never (Types e) P h = tt
-never (Access e) P h = tt
-never (Contexts e) P h = tt
-never (UndeclaredLabel n) P h = tt
-never Memory P h = tt
+never e P h = tt
 
 pub other : {A : Type 0} (result : Result A PolicyFault) (e : PolicyFault) (P : Violation → Type 0)
     → IsErrAnd result (λ f. f ≡ e) → IfNeverallow e (λ _. ⊥) → IfErr result (λ f. IfNeverallow f P)
-other (Err f) e P same h = never f P (subst (λ (x : PolicyFault). IfNeverallow x (λ _. ⊥)) (sym same) h)
-other (Ok x) e P same h = tt
+other result e P same h = grind (arith, never e P h)

@@ -5,18 +5,12 @@ use Rattle.sm_rules.specs.Access.{written, forbidden, IsConsistent}
 use Rattle.sm_policy.specs.Preparing.{rules_of}
 use Rattle.sm_policy.specs.declared.violation.Violation.{Violation}
 use Rattle.sm_policy.specs.declared.fault.PolicyFault.{PolicyFault}
-use Rattle.sm_policy.specs.declared.fault.PolicyFault.TheVariants.{Rules, Types, Access, Contexts, UndeclaredLabel}
-use Rattle.sm_policy.specs.declared.fault.PolicyFault.TheVariants.{Neverallow, Memory}
+use Rattle.sm_policy.specs.declared.fault.PolicyFault.TheVariants.{Neverallow}
 
 -- A claim on the violation, if the fault is a broken neverallow rule.
 abbrev pub IfNeverallow : PolicyFault → (Violation → Type 0) → Type 0
 IfNeverallow (Neverallow v) P = P v
-IfNeverallow (Rules e) P = Unit {0}
-IfNeverallow (Types e) P = Unit {0}
-IfNeverallow (Access e) P = Unit {0}
-IfNeverallow (Contexts e) P = Unit {0}
-IfNeverallow (UndeclaredLabel n) P = Unit {0}
-IfNeverallow Memory P = Unit {0}
+IfNeverallow e P = Unit {0}
 
 -- What the violation names is both allowed and forbidden, so the statements aren't consistent.
 pub record IsBroken (statements : List Statement) (v : Violation) : Type 0 where

@@ -1,21 +1,23 @@
--- The invariant of a policy's parts.
-use Rattle.std.specs.Prelude.{◌≡◌, ℕ, List}
-use Rattle.sm_ruletext.specs.declared.statement.Statement.{Statement}
-use Rattle.sm_types.specs.declared.table.Table.{Table}
+-- The parts of a policy.
+use Rattle.std.specs.Prelude.{◌≡◌}
 use Rattle.sm_types.specs.Members.{IsOf}
-use Rattle.sm_contexts.specs.Reading.{Entry}
-use Rattle.sm_rules.specs.Keeping.{KeptRules, RulesOf}
+use Rattle.sm_rules.specs.Keeping.{RulesOf}
 use Rattle.sm_vectors.specs.Tables.{TablesOf}
-use Rattle.sm_vectors.specs.Tables as vectors
-use Rattle.sm_policy.specs.Counting.{counted}
+use Rattle.sm_policy.specs.Counting.{counts_of}
 use Rattle.sm_policy.specs.Labelling.{AreNumbered}
-use Rattle.sm_policy.specs.declared.counts.Counts.{Counts}
+use Rattle.sm_policy.specs.Policy.{Policy, IsConsistent}
+use Rattle.sm_policy.specs.declared.prepared.Parts.{Parts}
 
--- The types, rules, bytes, counts and labels' numbers are those of the same statements and entries.
-pub record AreOneText (statements : List Statement) (entries : List Entry) (types : Table) (rules : KeptRules)
-    (tables : vectors.Tables) (counts : Counts) (indexes : List ℕ) : Type 0 where
-  pub typed : IsOf statements types
-  pub ruled : RulesOf statements types.symbols.types rules
-  pub tabled : TablesOf statements types.symbols.types tables
-  pub sizes : counts ≡ counted statements entries
-  pub numbered : AreNumbered types.symbols.types entries indexes
+-- This is the policy of the parts.
+abbrev pub policy_of : Parts → Policy
+policy_of parts = record { statements = parts.statements.value.items; entries = parts.labels.contexts }
+
+-- The types, rules, bytes, counts, labels and labels' numbers are those of a consistent policy.
+pub record ArePartsOf (policy : Policy) (parts : Parts) : Type 0 where
+  pub typed : IsOf policy.statements parts.types
+  pub ruled : RulesOf policy.statements parts.types.symbols.types parts.rules
+  pub tabled : TablesOf policy.statements parts.types.symbols.types parts.vectors
+  pub sizes : parts.counts ≡ counts_of policy
+  pub labels : parts.labels.contexts ≡ policy.entries
+  pub numbered : AreNumbered parts.types.symbols.types policy.entries parts.labels.indexes.items
+  pub consistent : IsConsistent policy

@@ -32,44 +32,29 @@ Step A = Result A PolicyFault
 -- The fault is a failed allocation.
 abbrev pub is_memory : PolicyFault → Bool
 is_memory Memory = true
-is_memory (Rules e) = false
-is_memory (Types e) = false
-is_memory (Access e) = false
-is_memory (Contexts e) = false
-is_memory (UndeclaredLabel n) = false
-is_memory (Neverallow v) = false
+is_memory e = false
 
 -- ---- faults of each part, as faults of the policy
 
 -- A fault of the policy source is this fault of the policy.
 abbrev pub of_text : RuleTextFault → PolicyFault
-of_text text.TooLarge = Rules text.TooLarge
-of_text (text.Syntax n) = Rules (text.Syntax n)
-of_text (text.Unsupported n) = Rules (text.Unsupported n)
-of_text text.TooMany = Rules text.TooMany
 of_text text.Memory = Memory
+of_text e = Rules e
 
 -- A fault of the declarations is this fault of the policy.
 abbrev pub of_types : TypesFault → PolicyFault
-of_types (types.Twice n) = Types (types.Twice n)
-of_types (types.Unknown n) = Types (types.Unknown n)
-of_types types.TooMany = Types types.TooMany
 of_types types.Memory = Memory
+of_types e = Types e
 
 -- A fault of the rules is this fault of the policy.
 abbrev pub of_access : RulesFault → PolicyFault
-of_access (access.Unknown n) = Access (access.Unknown n)
-of_access (access.UnknownPermission n) = Access (access.UnknownPermission n)
 of_access access.Memory = Memory
+of_access e = Access e
 
 -- A fault of the contexts file is this fault of the policy.
 abbrev pub of_contexts : ContextsFault → PolicyFault
-of_contexts labels.TooLarge = Contexts labels.TooLarge
-of_contexts (labels.BadLine n) = Contexts (labels.BadLine n)
-of_contexts (labels.Conflict m n) = Contexts (labels.Conflict m n)
-of_contexts (labels.TwoDefaults n) = Contexts (labels.TwoDefaults n)
-of_contexts labels.NoDefault = Contexts labels.NoDefault
 of_contexts labels.Memory = Memory
+of_contexts e = Contexts e
 
 -- A part's result has its fault as a fault of the policy.
 abbrev pub through : {A E : Type 0} → (E → PolicyFault) → Result A E → Step A

@@ -44,6 +44,7 @@ fn rule_count(statements: &[Statement]) -> u32
 }
 
 /// Counts the statements and labels of a policy that has these types.
+#[tactic(auto, using(crate::proofs::Finding::filter_map_len))]
 pub fn counted(statements: &[Statement], types: &Types, contexts: &Contexts) -> Counts
     requires few { length statements.now ≤ MOST_TEXT_BYTES }
     requires typed { IsOf statements.now types.now }

@@ -63,6 +63,7 @@ fn number_of(types: &Types, contexts: &Contexts, i: u32) -> Result<u16, u32>
 }
 
 /// Returns the number of the type in each context, or the first entry line whose type isn't declared.
+#[tactic(auto, using(crate::proofs::Finding::undeclared_step, crate::proofs::Labelling::one_more))]
 fn numbers_of(alloc: Global, types: &Types, contexts: &Contexts) -> Result<Vec<u16>, PolicyFault>
     ensures exact { (policy : List TheStatement) → IsOf policy types.now
         → Gives is_memory (λ v. contexts.now) result
@@ -82,7 +83,7 @@ fn numbers_of(alloc: Global, types: &Types, contexts: &Contexts) -> Result<Vec<u
 }
 
 /// Reads the labels of a contexts file.
-#[tactic(auto, unfolding(crate::specs::Preparing::labels_of))]
+#[tactic(auto, using(crate::proofs::UndeclaredLines::first_line), unfolding(crate::specs::Preparing::labels_of))]
 pub fn labels_of(alloc: Global, types: &Types, text: &[u8]) -> Result<Labels, PolicyFault>
     ensures exact { (policy : List TheStatement) → IsOf policy types.now
         → Gives is_memory (λ l. l.contexts) result (spec.labels_of policy text.now) }

@@ -4,7 +4,6 @@
 mod counts;
 mod fault;
 mod labels;
-mod parts;
 mod prepared;
 mod preparing;
 mod refused;

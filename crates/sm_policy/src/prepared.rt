@@ -1,12 +1,31 @@
 //! Prepared policies.
 
-use crate::counts::Counts;
-use crate::parts::Parts;
+use crate::counts::{Counts, counted};
+use crate::labels::{Labels, labels_of};
+use crate::preparing::{refuse_violation, rules_of};
 use crate::{Decision, Label, PolicyFault};
 use sm_kinds::{Class, Context, Perms};
+use sm_neverallow::Matrices;
+use sm_rules::Rules;
+use sm_ruletext::Statement;
+use sm_types::Types;
+use sm_vectors::Vectors;
 use std::alloc::{AllocError, Global};
 use std::marker::Model;
+use std::snapshot::Snapshot;
 use std::sync::Arc;
+
+/// What all references to a policy share: its types and rules as tables, and its labels.
+#[derive(Drop)]
+struct Parts {
+    /// The statements of the policy source, for contracts only. They need no memory.
+    statements: Snapshot<Vec<Statement>>,
+    counts: Counts,
+    types: Types,
+    rules: Rules,
+    vectors: Vectors,
+    labels: Labels,
+}
 
 /// A prepared policy. Its clones share one copy. Contracts see the statements of its policy source and the entries of
 /// its contexts file.
@@ -15,17 +34,15 @@ pub struct Prepared {
 }
 
 impl Model for Prepared {
+    ghost use Rattle.std.specs.Arc.{arc_value};
     ghost use Rattle.sm_policy.specs.Policy.{Policy};
+    ghost use Rattle.sm_policy.specs.Parts.{ArePartsOf, policy_of};
 
     ghost Value = { Policy };
 
-    ghost use Rattle.std.specs.Arc.{arc_value};
+    ghost view = { λ p. policy_of (arc_value p.parts) };
 
-    ghost view = { λ p. arc_value p.parts };
-
-    ghost use Rattle.sm_policy.specs.Policy.{IsConsistent};
-
-    ghost invariant = { λ p. IsConsistent (arc_value p.parts) };
+    ghost invariant = { λ p. ArePartsOf (policy_of (arc_value p.parts)) (arc_value p.parts) };
 }
 
 // Drop: see docs/PROOFS.md.
@@ -44,6 +61,7 @@ impl Prepared {
     ghost use Rattle.sm_policy.specs.Counting.{counts_of};
     ghost use Rattle.sm_kinds.specs.Reading.{Gives};
     ghost use Rattle.sm_policy.specs.Preparing.{is_memory, prepared};
+    ghost use Rattle.sm_policy.specs.Parts.{ArePartsOf};
 
     /// Prepares the policy of a policy source and a contexts file.
     ///
@@ -54,14 +72,38 @@ impl Prepared {
     /// line whose context has a type that the policy source doesn't declare (`UndeclaredLabel`); the first neverallow
     /// rule that an allow rule breaks (`Neverallow`). If an allocation fails before the first refusal is found,
     /// `Memory`.
+    #[tactic(auto, using(crate::proofs::Others::never), unfolding(crate::specs::Preparing::prepared))]
     pub fn from_texts(alloc: Global, rules: &[u8], contexts: &[u8]) -> Result<Prepared, PolicyFault>
         ensures exact { Gives is_memory (λ p. p) result (prepared rules.now contexts.now) }
         ensures consistent { IfOk result IsConsistent }
         ensures broken { IfErr result (λ e. IfNeverallow e (IsBrokenText rules.now)) }
     {
-        let parts = Parts::from_texts(alloc, rules, contexts)?;
+        let statements = rules_of(alloc, rules)?;
+        let types = Types::build(alloc, &statements)?;
+        let rules = Rules::build(alloc, &statements, &types)?;
+        let labels = labels_of(alloc, &types, contexts)?;
+        let counts = counted(&statements, &types, &labels.contexts);
+        let seen = Snapshot::of(&statements);
+        drop(statements);
+        let matrices = Matrices::compile(alloc, &rules)?;
+        refuse_violation(alloc, &types, &rules, &matrices)?;
+        let vectors = Vectors::compile(alloc, &rules, &matrices)?;
+        let parts = Parts {
+            statements: seen,
+            counts,
+            types,
+            rules,
+            vectors,
+            labels,
+        };
         let parts = Arc::new(alloc, parts)?;
         Ok(Prepared { parts })
+    }
+
+    fn parts(&self) -> &Parts
+        ensures { ArePartsOf self.now result.now }
+    {
+        &self.parts
     }
 
     /// Returns whether a check of this permission passes: some allow rule grants it to the source type on the target
@@ -70,7 +112,7 @@ impl Prepared {
     pub fn allows(&self, source: &[u8], target: &[u8], class: Class, perm: Perms) -> bool
         ensures { result ≡ allowed self.now source.now target.now class perm }
     {
-        self.parts.decide(source, target, class, perm).allowed
+        self.decide(source, target, class, perm).allowed
     }
 
     /// Returns whether a check is audited, passed or not: no allow rule grants the permission, and no dontaudit rule
@@ -78,7 +120,7 @@ impl Prepared {
     pub fn audits(&self, source: &[u8], target: &[u8], class: Class, perm: Perms) -> bool
         ensures { result ≡ audits self.now source.now target.now class perm }
     {
-        self.parts.decide(source, target, class, perm).audited
+        self.decide(source, target, class, perm).audited
     }
 
     /// Returns the number of a type, which `allows_at` and `decide_at` take: 0 for the first that is declared. `None`
@@ -86,19 +128,21 @@ impl Prepared {
     pub fn type_index(&self, name: &[u8]) -> Option<u16>
         ensures { result ≡ type_index self.now name.now }
     {
-        self.parts.type_index(name)
+        self.parts().types.index(name)
     }
 
     /// Like `allows`, for the types of these numbers. `false` if a number has no type.
+    #[tactic(auto, unfolding(crate::specs::Policy::allowed))]
     pub fn allows_at(&self, source: u16, target: u16, class: Class, perm: Perms) -> bool
         ensures { result ≡ allowed_at self.now source target class perm }
     {
-        self.parts.allows_at(source, target, class, perm)
+        self.parts().vectors.allows(source, target, class, perm)
     }
 
     /// Returns the decision on two types whose `type_index` is `source` and `target`: whether the access is allowed,
     /// and whether it is audited. An access is audited if no allow rule grants it and no dontaudit rule covers it. If
     /// an index is `None`, nothing is allowed and everything is audited.
+    #[tactic(auto, using(crate::proofs::Looking::deciding), unfolding(crate::specs::Policy::allowed, crate::specs::Policy::audits))]
     pub fn decide_at(
         &self,
         source: Option<u16>,
@@ -109,37 +153,70 @@ impl Prepared {
         ensures { (s t : List ℕ) → source ≡ type_index self.now s → target ≡ type_index self.now t
             → result ≡ decision self.now s t class perm }
     {
-        self.parts.decide_at(source, target, class, perm)
+        let vectors = &self.parts().vectors;
+        match (source, target) {
+            (Some(s), Some(t)) => vectors.decide(s, t, class, perm),
+            _ => Decision {
+                allowed: false,
+                audited: true,
+            },
+        }
+    }
+
+    /// Returns the decision on two types by their names.
+    fn decide(&self, source: &[u8], target: &[u8], class: Class, perm: Perms) -> Decision
+        ensures { result ≡ decision self.now source.now target.now class perm }
+    {
+        self.decide_at(
+            self.type_index(source),
+            self.type_index(target),
+            class,
+            perm,
+        )
     }
 
     /// Returns the line of the first allow rule that grants the permission, or `None` if no rule does, even if the
     /// source is permissive.
+    #[tactic(auto, unfolding(crate::specs::Policy::written_at))]
     pub fn why(&self, source: &[u8], target: &[u8], class: Class, perm: Perms) -> Option<u32>
         ensures { result ≡ written_at self.now source.now target.now class perm }
     {
-        self.parts.why(source, target, class, perm)
+        let parts = self.parts();
+        parts
+            .rules
+            .written_by_name(&parts.types, source, target, class, perm)
     }
 
     /// Returns the context of a name's service: the one on the line with this key, otherwise the one on the line `*`.
+    #[tactic(auto, unfolding(crate::specs::Policy::label_of))]
     pub fn label(&self, name: &[u8]) -> &Context
         ensures { result.now ≡ label_of self.now name.now }
     {
-        self.parts.label(name)
+        self.parts().labels.contexts.label(name)
     }
 
     /// Like `label`, with the number of the type: all types in contexts are declared.
+    #[tactic(auto, unfolding(crate::specs::Policy::label_of))]
     pub fn labelled(&self, name: &[u8]) -> Label<'_>
         ensures context { result.context.now ≡ label_of self.now name.now }
         ensures index { type_index self.now (type_of (label_of self.now name.now)) ≡ Some result.index }
     {
-        self.parts.labelled(name)
+        let labels = &self.parts().labels;
+        let place = labels.contexts.place(name);
+        match labels.contexts.entry(place) {
+            Some((_, context)) => Label {
+                context,
+                index: labels.indexes[place as usize],
+            },
+            None => unreachable!(),
+        }
     }
 
     /// Returns the counts that `svcmgr check` prints.
     pub fn counts(&self) -> Counts
         ensures { result ≡ counts_of self.now }
     {
-        self.parts.counts()
+        self.parts().counts
     }
 
     /// Returns another reference to the same policy. Returns an error if no more references fit.

@@ -23,24 +23,21 @@ use sm_types::Types;
 use std::alloc::{AllocError, Global};
 
 /// Reads the statements of a policy source.
-#[tactic(auto, unfolding(crate::specs::Preparing::rules_of))]
+#[tactic(auto, using(crate::proofs::Few::few), unfolding(crate::specs::Preparing::rules_of))]
 pub fn rules_of(alloc: Global, text: &[u8]) -> Result<Vec<Statement>, PolicyFault>
     ensures exact { Gives is_memory (λ v. v.items) result (spec.rules_of text.now) }
     ensures few { IfOk result (λ v. length v.items ≤ MOST_TEXT_BYTES) }
     ensures other { IfErr result (λ e. IfNeverallow e (λ _. ⊥)) }
 {
-    let statements = sm_ruletext::read(alloc, text)?;
-    Ok(statements)
+    Ok(sm_ruletext::read(alloc, text)?)
 }
 
 /// Returns the name of a type by its number, or nothing if there is no such type.
+#[tactic(auto, using(std::proofs::lemmas::Option::gets, std::proofs::lemmas::Grind::common_steps))]
 fn type_name(types: &Types, index: u16) -> &[u8]
     ensures { result.now ≡ at types.now.symbols.types index }
 {
-    match types.name(index) {
-        Some(name) => name,
-        None => b"",
-    }
+    types.name(index).unwrap_or(b"")
 }
 
 /// Looks up the names of a violation's types.
@@ -64,6 +61,7 @@ fn named(
 }
 
 /// Refuses rules in which an allow rule allows what a neverallow rule forbids.
+#[tactic(auto, using(crate::proofs::Firsts::no_violation), unfolding(crate::specs::Preparing::unbroken))]
 pub fn refuse_violation(
     alloc: Global,
     types: &Types,

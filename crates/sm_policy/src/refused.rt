@@ -14,12 +14,6 @@ use sm_ruletext::RuleTextFault;
 use sm_types::TypesFault;
 use std::alloc::{AllocError, Global};
 
-fn words(alloc: Global, words: &[u8]) -> Result<Vec<u8>, AllocError>
-    ensures { IfOk result (λ v. v.items ≡ words.now) }
-{
-    Vec::from_slice(alloc, words)
-}
-
 fn numbered(alloc: Global, words: &[u8], n: u32) -> Result<Vec<u8>, AllocError>
     ensures { IfOk result (λ v. v.items ≡ numbered words.now n) }
 {
@@ -44,13 +38,13 @@ fn text_refused(alloc: Global, fault: RuleTextFault) -> Result<Vec<u8>, AllocErr
     ensures { IfOk result (λ v. v.items ≡ text_words fault) }
 {
     match fault {
-        RuleTextFault::TooLarge => words(alloc, b"rules: too large"),
+        RuleTextFault::TooLarge => Vec::from_slice(alloc, b"rules: too large"),
         RuleTextFault::Syntax(n) => numbered(alloc, b"rules: syntax at line ", n),
         RuleTextFault::Unsupported(n) => {
             numbered(alloc, b"rules: unsupported statement at line ", n)
         }
-        RuleTextFault::TooMany => words(alloc, b"rules: too many"),
-        RuleTextFault::Memory => words(alloc, b"memory"),
+        RuleTextFault::TooMany => Vec::from_slice(alloc, b"rules: too many"),
+        RuleTextFault::Memory => Vec::from_slice(alloc, b"memory"),
     }
 }
 
@@ -60,8 +54,8 @@ fn types_refused(alloc: Global, fault: TypesFault) -> Result<Vec<u8>, AllocError
     match fault {
         TypesFault::Twice(n) => numbered(alloc, b"rules: declared twice at line ", n),
         TypesFault::Unknown(n) => numbered(alloc, b"rules: unknown name at line ", n),
-        TypesFault::TooMany => words(alloc, b"rules: too many"),
-        TypesFault::Memory => words(alloc, b"memory"),
+        TypesFault::TooMany => Vec::from_slice(alloc, b"rules: too many"),
+        TypesFault::Memory => Vec::from_slice(alloc, b"memory"),
     }
 }
 
@@ -73,7 +67,7 @@ fn rules_refused(alloc: Global, fault: RulesFault) -> Result<Vec<u8>, AllocError
         RulesFault::UnknownPermission(n) => {
             numbered(alloc, b"rules: unknown permission at line ", n)
         }
-        RulesFault::Memory => words(alloc, b"memory"),
+        RulesFault::Memory => Vec::from_slice(alloc, b"memory"),
     }
 }
 
@@ -81,12 +75,12 @@ fn contexts_refused(alloc: Global, fault: ContextsFault) -> Result<Vec<u8>, Allo
     ensures { IfOk result (λ v. v.items ≡ contexts_words fault) }
 {
     match fault {
-        ContextsFault::TooLarge => words(alloc, b"contexts: too large"),
+        ContextsFault::TooLarge => Vec::from_slice(alloc, b"contexts: too large"),
         ContextsFault::BadLine(n) => numbered(alloc, b"contexts: bad line ", n),
         ContextsFault::Conflict(earlier, later) => conflict(alloc, earlier, later),
         ContextsFault::TwoDefaults(n) => numbered(alloc, b"contexts: second default at line ", n),
-        ContextsFault::NoDefault => words(alloc, b"contexts: no default"),
-        ContextsFault::Memory => words(alloc, b"memory"),
+        ContextsFault::NoDefault => Vec::from_slice(alloc, b"contexts: no default"),
+        ContextsFault::Memory => Vec::from_slice(alloc, b"memory"),
     }
 }
 
@@ -126,6 +120,6 @@ pub fn refused_text(alloc: Global, fault: &PolicyFault) -> Result<Vec<u8>, Alloc
             numbered(alloc, b"contexts: undeclared type at line ", *n)
         }
         PolicyFault::Neverallow(violation) => violated(alloc, violation),
-        PolicyFault::Memory => words(alloc, b"memory"),
+        PolicyFault::Memory => Vec::from_slice(alloc, b"memory"),
     }
 }

@@ -1,5 +1,0 @@
-use Rattle.sm_policy.proofs.Few.{few}
-use Rattle.sm_policy.proofs.preparing.rules_of.Goals as goal
-
-pub returns-clause-few : goal.returns-clause-few
-returns-clause-few c = few c.args.text.now c.in_ok-statements.statements.items c.in_ok-statements.ensures.exact
