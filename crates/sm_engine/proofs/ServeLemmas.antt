@@ -1,14 +1,11 @@
 -- How an engine's promise follows from read to read.
 use Rattle.std.proofs.Common.{◌≡◌, Bool, true, false, ℕ, ◌+◌, ◌-◌, ◌<◌, ◌≤◌, length, length-append, arith, List, []}
-use Rattle.std.proofs.Common.{◌++◌}
-use Rattle.std.proofs.Common.{take, Option, Result, Ok, Err, OnOk, OnErr, refl, subst, inl, inr}
-use Rattle.std.proofs.Common.{◌⊎◌}
+use Rattle.std.proofs.Common.{◌++◌, take, Option, Result, Ok, Err, OnOk, OnErr, refl, subst, inl, inr, ◌⊎◌}
 use Rattle.std.proofs.lemmas.List.{append-nil}
 use Rattle.std.specs.Io.KnownBytes.{Appends, Consumes, Keeps}
 use Rattle.sm_wire.specs.declared.item.Item.{Item}
 use Rattle.sm_wire.specs.declared.kind.Kind.{Kind}
-use Rattle.sm_wire.specs.Items.{Scan, IsAlive, IsDead, scan_start, items_after, scan_after, items_of}
-use Rattle.sm_wire.specs.Items.{rest_of}
+use Rattle.sm_wire.specs.Items.{Scan, IsAlive, IsDead, scan_start, items_after, scan_after, items_of, rest_of}
 use Rattle.sm_wire.proofs.ItemLemmas.{items_after-append, scan_after-append}
 use Rattle.sm_engine.specs.declared.fault.Fault.{Fault}
 use Rattle.sm_engine.specs.declared.fault.Fault.TheVariants.{ReadFault, WriteFault, TooManyReads, LineTooLong, Memory}
