@@ -34,8 +34,7 @@ module _ (b after : Book) (old new : Knows) (event : Event) (sees : Sees old aft
 
   -- The book is the same after an answer that isn't Done.
   settled : (r : Reply) → moves r ≡ true → b ≡ book_after b old.by (turn old) event r
-      → ((r ≡ Refused Memory) × (after ≡ b))
-      ⊎ ((r ≡ verdict b.places b.history old.by (turn old) event) × (after ≡ b))
+      → ((r ≡ Refused Memory) × (after ≡ b)) ⊎ ((r ≡ verdict b.places b.history old.by (turn old) event) × (after ≡ b))
       → log ≡ step_leaves b old.by (turn old) event r → Logged old new event r log
   settled r m same s left =
       let is : after ≡ b = ⊎_elim (λ t. t.1) (λ t. t.1) s in record {

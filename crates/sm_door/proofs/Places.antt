@@ -87,7 +87,7 @@ last_shown {O = O} value s xs ys o b is all =
 pub same_book : (b b' : Book) → IsSame b b' → b' ≡ b
 same_book b b' s i = record { places = s.places i; history = s.history i }
 
--- Memory was wanted, and nothing was made.
+-- An allocation failed, and nothing was made.
 pub steps_memory : (b b' : Book) (by : By) (turn : ℕ) (event : Event) → IsSame b b'
     → Steps b by turn event (Refused Memory) b'
 steps_memory b b' by turn event s = inl (refl, same_book b b' s)

@@ -1,7 +1,6 @@
 -- A registry: a list of books in which each number denotes one book for good.
 use Rattle.std.specs.Prelude.{ℕ, ◌≡◌, ◌==◌, true, List, [], ◌∷◌, ◌++◌, length, slice_index_or, MatchBool}
-use Rattle.logbook.specs.Pages.{Cell, Step, View, Named}
-use Rattle.logbook.specs.Pages.{Book as Log}
+use Rattle.logbook.specs.Pages.{Cell, Step, View, Named, Book as Log}
 use Rattle.sm_history.specs.Books.{Book}
 use Rattle.sm_history.specs.Histories.{whole}
 

@@ -4,13 +4,12 @@ use Rattle.std.proofs.Common.{arith}
 use Rattle.std.proofs.lemmas.List.{append-nil}
 use Rattle.std.specs.Io.KnownBytes.{Appends}
 use Rattle.sm_wire.specs.declared.item.Item.{Item}
-use Rattle.sm_engine.specs.Running.{Runs, Answered, GaveUp, Going, Stopped, Wrote, Spilled}
+use Rattle.sm_engine.specs.Running.{Answers, Runs, Answered, GaveUp, Going, Stopped, Wrote, Spilled}
 use Rattle.sm_engine.proofs.KnownLemmas.{Pending-start, Pending-spill, Pending-more, Partly-spilled, Spilled-none}
 use Rattle.sm_engine.proofs.KnownLemmas.{Appends-pending}
 
-pub Runs-append : {S : Type 0} (answers : S → Item → List ℕ → List ℕ → S → Type 0) (s m t : S) (is js : List Item)
-    (r r' a a' : List ℕ) → Runs answers s is r a m → Runs answers m js r' a' t
-    → Runs answers s (is ++ js) (r ++ r') (a ++ a') t
+pub Runs-append : {S : Type 0} (answers : Answers S) (s m t : S) (is js : List Item) (r r' a a' : List ℕ)
+    → Runs answers s is r a m → Runs answers m js r' a' t → Runs answers s (is ++ js) (r ++ r') (a ++ a') t
 Runs-append answers s m t [] js r r' a a' p q = rw (p.1, p.2, p.0) q
 Runs-append answers s m t (i ∷ is) js r r' a a' p q = (
   p.0,
@@ -24,12 +23,12 @@ Runs-append answers s m t (i ∷ is) js r r' a a' p q = (
   rw (p.8, append_assoc) refl,
 )
 
-pub Runs-one : {S : Type 0} (answers : S → Item → List ℕ → List ℕ → S → Type 0) (s t : S) (i : Item) (r a : List ℕ)
+pub Runs-one : {S : Type 0} (answers : Answers S) (s t : S) (i : Item) (r a : List ℕ)
     → answers s i r a t → Runs answers s (i ∷ []) r a t
 Runs-one answers s t i r a p = (t, r, a, [], [], p, (refl, refl, refl), sym (append-nil r), sym (append-nil a))
 
 -- Nothing is answered yet.
-pub going_start : {S : Type 0} (answers : S → Item → List ℕ → List ℕ → S → Type 0) (s : S) (w a : Option (List ℕ))
+pub going_start : {S : Type 0} (answers : Answers S) (s : S) (w a : Option (List ℕ))
     (held held_lines : List ℕ) → held ≡ [] → held_lines ≡ [] → Going answers s [] w w a a held held_lines s
 going_start answers s w a held held_lines e f = record {
   replies = [];
@@ -40,7 +39,7 @@ going_start answers s w a held held_lines e f = record {
 }
 
 -- One more item is answered.
-pub going_answer : {S : Type 0} {answers : S → Item → List ℕ → List ℕ → S → Type 0} {old m t : S} {items : List Item}
+pub going_answer : {S : Type 0} {answers : Answers S} {old m t : S} {items : List Item}
     {w w' a a' : Option (List ℕ)} {held held' held_lines held_lines' : List ℕ} {item : Item}
     → Going answers old items w w' a a' held held_lines m → Answered answers m item held held' held_lines held_lines' t
     → Going answers old (items ++ item ∷ []) w w' a a' held' held_lines' t
@@ -55,7 +54,7 @@ going_answer {S} {answers} {old} {m} {t} {items} {w} {w'} {a} {a'} {held} {held'
     }
 
 -- What is held is written once it is much.
-pub going_spill : {S : Type 0} {answers : S → Item → List ℕ → List ℕ → S → Type 0} {old m : S} {items : List Item}
+pub going_spill : {S : Type 0} {answers : Answers S} {old m : S} {items : List Item}
     {w w' w'' a a' a'' : Option (List ℕ)} {held held' held_lines held_lines' : List ℕ}
     → Going answers old items w w' a a' held held_lines m → Spilled w' w'' held held'
     → Spilled a' a'' held_lines held_lines' → Going answers old items w w'' a a'' held' held_lines' m
@@ -69,7 +68,7 @@ going_spill g s t = record {
 
 -- The items so far were answered, then these last ones, of which there is one at most, and of all their texts fronts
 -- are written.
-going_stop : {S : Type 0} {answers : S → Item → List ℕ → List ℕ → S → Type 0} {old m t : S} {items : List Item}
+going_stop : {S : Type 0} {answers : Answers S} {old m t : S} {items : List Item}
     {w w' w'' a a' a'' : Option (List ℕ)} {held held' rest held_lines held_lines' rest_lines : List ℕ} (limit : ℕ)
     → Going answers old items w w' a a' held held_lines m → length held ≤ limit - 1 → length held_lines ≤ limit - 1
     → (last others all : List Item) (reply lines : List ℕ) → length last ≤ 1 → Runs answers m last reply lines t
@@ -94,7 +93,7 @@ going_stop {m = m} {items = items} limit g short short_lines last others all rep
 }
 
 -- One more item was answered, and then a write failed.
-pub going_fail : {S : Type 0} {answers : S → Item → List ℕ → List ℕ → S → Type 0} {old m t : S} {items : List Item}
+pub going_fail : {S : Type 0} {answers : Answers S} {old m t : S} {items : List Item}
     {w w' w'' a a' a'' : Option (List ℕ)} {held held' rest held_lines held_lines' rest_lines : List ℕ} (limit : ℕ)
     → Going answers old items w w' a a' held held_lines m → length held ≤ limit - 1 → length held_lines ≤ limit - 1
     → (item : Item) → Answered answers m item held held' held_lines held_lines' t → Spilled w' w'' held' rest
@@ -105,7 +104,7 @@ going_fail {answers = answers} {m = m} {t = t} limit g short short_lines item n 
     (Runs-one answers m t item n.reply n.lines n.step) n.replied s n.audited u is
 
 -- No item was left when a write failed.
-pub going_fail_end : {S : Type 0} {answers : S → Item → List ℕ → List ℕ → S → Type 0} {old m : S} {items : List Item}
+pub going_fail_end : {S : Type 0} {answers : Answers S} {old m : S} {items : List Item}
     {w w' w'' a a' a'' : Option (List ℕ)} {held rest held_lines rest_lines : List ℕ} (limit : ℕ)
     → Going answers old items w w' a a' held held_lines m → length held ≤ limit - 1 → length held_lines ≤ limit - 1
     → Spilled w' w'' held rest → Spilled a' a'' held_lines rest_lines → (others all : List Item)
@@ -115,11 +114,10 @@ going_fail_end {held = held} {held_lines = held_lines} limit g short short_lines
     (sym (append-nil held)) s (sym (append-nil held_lines)) u is
 
 -- Memory runs out when the next item is answered, or before.
-pub going_lost : {S : Type 0} {answers : S → Item → List ℕ → List ℕ → S → Type 0} {old m : S} {items : List Item}
-    {w w' a a' : Option (List ℕ)} {held held_lines : List ℕ} (limit : ℕ)
-    → Going answers old items w w' a a' held held_lines m → length held ≤ limit - 1 → length held_lines ≤ limit - 1
-    → (item : Item) (t : S) → GaveUp answers m item t → (others all : List Item) → all ≡ items ++ item ∷ others
-    → Stopped limit answers old all w w' a a' t
+pub going_lost : {S : Type 0} {answers : Answers S} {old m : S} {items : List Item} {w w' a a' : Option (List ℕ)}
+    {held held_lines : List ℕ} (limit : ℕ) → Going answers old items w w' a a' held held_lines m
+    → length held ≤ limit - 1 → length held_lines ≤ limit - 1 → (item : Item) (t : S) → GaveUp answers m item t
+    → (others all : List Item) → all ≡ items ++ item ∷ others → Stopped limit answers old all w w' a a' t
 going_lost {w' = w'} {a' = a'} {held = held} {held_lines = held_lines} limit g short short_lines item t (inl e) others
     all is =
     rw e (going_fail_end limit g short short_lines (Spilled-none w' held) (Spilled-none a' held_lines) (item ∷ others)
@@ -131,7 +129,7 @@ going_lost {answers = answers} {m = m} {w' = w'} {a' = a'} {held = held} {held_l
     (Spilled-none a' (held_lines ++ n.1)) is
 
 -- All is written.
-pub going_end : {S : Type 0} {answers : S → Item → List ℕ → List ℕ → S → Type 0} {old m : S} {items : List Item}
+pub going_end : {S : Type 0} {answers : Answers S} {old m : S} {items : List Item}
     {w w' a a' : Option (List ℕ)} {held held_lines : List ℕ} → Going answers old items w w' a a' held held_lines m
     → (w'' a'' : Option (List ℕ)) → Appends w' w'' held → Appends a' a'' held_lines → (all : List Item) → items ≡ all
     → Wrote answers old all w w'' a a'' m
@@ -144,7 +142,7 @@ going_end g w'' a'' p q all e = record {
 }
 
 -- Nothing was answered.
-pub stopped_none : {S : Type 0} {answers : S → Item → List ℕ → List ℕ → S → Type 0} {s : S} {w a : Option (List ℕ)}
+pub stopped_none : {S : Type 0} {answers : Answers S} {s : S} {w a : Option (List ℕ)}
     (limit : ℕ) (items : List Item) → Stopped limit answers s items w w a a s
 stopped_none {answers = answers} {s = s} {w = w} {a = a} limit items =
     going_fail_end limit (going_start answers s w a [] [] refl refl) (omega arith) (omega arith) (Spilled-none w [])

@@ -1,23 +1,20 @@
 -- How an engine's promise follows from read to read.
 use Rattle.std.proofs.Common.{◌≡◌, Bool, true, false, ℕ, ◌+◌, ◌-◌, ◌<◌, ◌≤◌, length, length-append, arith, List, []}
-use Rattle.std.proofs.Common.{◌++◌}
-use Rattle.std.proofs.Common.{take, Option, Result, Ok, Err, OnOk, OnErr, refl, subst, inl, inr}
-use Rattle.std.proofs.Common.{◌⊎◌}
+use Rattle.std.proofs.Common.{◌++◌, take, Option, Result, Ok, Err, OnOk, OnErr, refl, subst, inl, inr, ◌⊎◌}
 use Rattle.std.proofs.lemmas.List.{append-nil}
 use Rattle.std.specs.Io.KnownBytes.{Appends, Consumes, Keeps}
 use Rattle.sm_wire.specs.declared.item.Item.{Item}
 use Rattle.sm_wire.specs.declared.kind.Kind.{Kind}
-use Rattle.sm_wire.specs.Items.{Scan, IsAlive, IsDead, scan_start, items_after, scan_after, items_of}
-use Rattle.sm_wire.specs.Items.{rest_of}
+use Rattle.sm_wire.specs.Items.{Scan, IsAlive, IsDead, scan_start, items_after, scan_after, items_of, rest_of}
 use Rattle.sm_wire.proofs.ItemLemmas.{items_after-append, scan_after-append}
 use Rattle.sm_engine.specs.declared.fault.Fault.{Fault}
 use Rattle.sm_engine.specs.declared.fault.Fault.TheVariants.{ReadFault, WriteFault, TooManyReads, LineTooLong, Memory}
-use Rattle.sm_engine.specs.Running.{CaughtUp, Ended, LastRead, Wrote, Stopped, Sofar, Served, ending_of}
+use Rattle.sm_engine.specs.Running.{Answers, CaughtUp, Ended, LastRead, Wrote, Stopped, Sofar, Served, ending_of}
 use Rattle.sm_engine.proofs.KnownLemmas.{Appends-then, Appends-nothing, Consumes-then, Consumes-nothing, Consumes-keeps}
 use Rattle.sm_engine.proofs.RunLemmas.{Runs-append}
 
 -- Items that were answered one list after another.
-pub Wrote-then : {S : Type 0} {answers : S → Item → List ℕ → List ℕ → S → Type 0} {old m t : S} {is js : List Item}
+pub Wrote-then : {S : Type 0} {answers : Answers S} {old m t : S} {is js : List Item}
     {w w' w'' a a' a'' : Option (List ℕ)} → Wrote answers old is w w' a a' m → Wrote answers m js w' w'' a' a'' t
     → Wrote answers old (is ++ js) w w'' a a'' t
 Wrote-then {S} {answers} {old} {m} {t} {is} {js} {w} {w'} {w''} {a} {a'} {a''} p q = record {
@@ -29,7 +26,7 @@ Wrote-then {S} {answers} {old} {m} {t} {is} {js} {w} {w'} {w''} {a} {a'} {a''} p
 }
 
 -- Before the first read.
-pub sofar_start : {S : Type 0} (kind : Kind) (answers : S → Item → List ℕ → List ℕ → S → Type 0) (over : S → Bool)
+pub sofar_start : {S : Type 0} (kind : Kind) (answers : Answers S) (over : S → Bool)
     (s : S) (scan : Scan) (r w a : Option (List ℕ)) → scan ≡ scan_start kind → over s ≡ false
     → Sofar kind answers over 0 s scan r r w w a a s
 sofar_start kind answers over s scan r w a e on = record {
@@ -51,20 +48,17 @@ sofar_start kind answers over s scan r w a e on = record {
 }
 
 -- One more piece.
-pub sofar_wrote : {S : Type 0} {kind : Kind} {n : ℕ} {answers : S → Item → List ℕ → List ℕ → S
-    → Type 0} {over : S → Bool} {old m t : S} {scan : Scan}
-    {r r' w w' w'' a a' a'' : Option (List ℕ)} (piece : List ℕ)
+pub sofar_wrote : {S : Type 0} {kind : Kind} {n : ℕ} {answers : Answers S} {over : S → Bool} {old m t : S}
+    {scan : Scan} {r r' w w' w'' a a' a'' : Option (List ℕ)} (piece : List ℕ)
     → (p : Sofar kind answers over n old scan r r' w w' a a' m)
     → Wrote answers m (items_after scan piece) w' w'' a' a'' t
-    → Wrote answers old (items_of kind (p.bytes ++ piece)) w w'' a
-    a'' t
+    → Wrote answers old (items_of kind (p.bytes ++ piece)) w w'' a a'' t
 sofar_wrote {kind = kind} {answers = answers} {m = m} {t = t} {w' = w'} {w'' = w''} {a' = a'} {a'' = a''}
     piece p q =
     rw (items_after-append (scan_start kind) p.bytes piece) (Wrote-then p.caught_up.wrote
     (subst (λ (l : Scan). Wrote answers m (items_after l piece) w' w'' a' a'' t) p.scanned q))
 
-pub sofar_scanned : {S : Type 0} {kind : Kind} {n : ℕ} {answers : S → Item → List ℕ → List ℕ → S
-    → Type 0} {over : S → Bool} {old m : S} {scan : Scan}
+pub sofar_scanned : {S : Type 0} {kind : Kind} {n : ℕ} {answers : Answers S} {over : S → Bool} {old m : S} {scan : Scan}
     {r r' w w' a a' : Option (List ℕ)} (piece : List ℕ) (next : Scan)
     → (p : Sofar kind answers over n old scan r r' w w' a a' m)
     → next ≡ scan_after scan piece → next ≡ rest_of kind (p.bytes ++ piece)
@@ -72,8 +66,7 @@ sofar_scanned {kind = kind} {scan = scan} piece next p e =
     rw (scan_after-append (scan_start kind) p.bytes piece) (subst (λ
     (l : Scan). next ≡ scan_after l piece) p.scanned e)
 
-pub sofar_next : {S : Type 0} {kind : Kind} {n : ℕ} {answers : S → Item → List ℕ → List ℕ → S
-    → Type 0} {over : S → Bool} {old m t : S} {scan : Scan}
+pub sofar_next : {S : Type 0} {kind : Kind} {n : ℕ} {answers : Answers S} {over : S → Bool} {old m t : S} {scan : Scan}
     {r r' w w' w'' a a' a'' : Option (List ℕ)} (r'' : Option (List ℕ)) (piece : List ℕ)
     → (p : Sofar kind answers over n old scan r r' w w' a a' m) → Consumes r' r'' piece
     → Wrote answers m (items_after scan piece) w' w'' a' a'' t → (next : Scan) → next ≡ scan_after scan piece
@@ -93,9 +86,8 @@ sofar_next {r = r} {r' = r'} r'' piece p c q next e alive on some =
     }
 
 -- Fewer reads than these.
-caught_up_by : {S : Type 0} {kind : Kind} {n : ℕ} {answers : S → Item → List ℕ → List ℕ → S → Type 0}
-    {over : S → Bool} {old m : S} {bytes : List ℕ} {w w' a a' : Option (List ℕ)} (reads : ℕ)
-    → CaughtUp kind answers over n old bytes w w' a a' m → reads ≤ n
+caught_up_by : {S : Type 0} {kind : Kind} {n : ℕ} {answers : Answers S} {over : S → Bool} {old m : S} {bytes : List ℕ}
+    {w w' a a' : Option (List ℕ)} (reads : ℕ) → CaughtUp kind answers over n old bytes w w' a a' m → reads ≤ n
     → CaughtUp kind answers over reads old bytes w w' a a' m
 caught_up_by reads p le = record {
   wrote = p.wrote;
@@ -105,7 +97,7 @@ caught_up_by reads p le = record {
 }
 
 -- One more read gave this piece.
-last_read : {S : Type 0} {kind : Kind} {n : ℕ} {answers : S → Item → List ℕ → List ℕ → S → Type 0}
+last_read : {S : Type 0} {kind : Kind} {n : ℕ} {answers : Answers S}
     {over : S → Bool} {old m : S} {scan : Scan} {r r' w w' a a' : Option (List ℕ)} (reads : ℕ) (piece : List ℕ)
     → (p : Sofar kind answers over n old scan r r' w w' a a' m) → reads ≤ n + 1
     → (Takes : S → List Item → Option (List ℕ) → Option (List ℕ) → Type 0) → Takes m (items_after scan piece) w' a'
@@ -122,8 +114,7 @@ last_read {m = m} {w' = w'} {a' = a'} reads piece p le Takes q = record {
 }
 
 -- The machine is over after this piece.
-pub served_over : {S : Type 0} {kind : Kind} {n bound limit : ℕ} {answers : S → Item → List ℕ → List ℕ → S
-    → Type 0} {over : S → Bool} {old m t : S}
+pub served_over : {S : Type 0} {kind : Kind} {n bound limit : ℕ} {answers : Answers S} {over : S → Bool} {old m t : S}
     {scan : Scan} {r r' w w' w'' a a' a'' : Option (List ℕ)} (reads : ℕ) (r'' : Option (List ℕ)) (piece : List ℕ)
     → (p : Sofar kind answers over n old scan r r' w w' a a' m) → reads ≤ n + 1 → Consumes r' r'' piece
     → Wrote answers m (items_after scan piece) w' w'' a' a'' t → over t ≡ true
@@ -136,8 +127,7 @@ served_over {answers = answers} {t = t} {r = r} {r' = r'} {w'' = w''} {a'' = a''
 }
 
 -- A line is too long in this piece.
-pub served_long : {S : Type 0} {kind : Kind} {n bound limit : ℕ} {answers : S → Item → List ℕ → List ℕ → S
-    → Type 0} {over : S → Bool} {old m t : S}
+pub served_long : {S : Type 0} {kind : Kind} {n bound limit : ℕ} {answers : Answers S} {over : S → Bool} {old m t : S}
     {scan : Scan} {r r' w w' w'' a a' a'' : Option (List ℕ)} (reads : ℕ) (r'' : Option (List ℕ)) (piece : List ℕ)
     → (p : Sofar kind answers over n old scan r r' w w' a a' m) → reads ≤ n + 1 → Consumes r' r'' piece
     → Wrote answers m (items_after scan piece) w' w'' a' a'' t → (next : Scan) → next ≡ scan_after scan piece
@@ -156,12 +146,10 @@ served_long {answers = answers} {t = t} {r = r} {r' = r'} {w'' = w''} {a'' = a''
     }
 
 -- Memory or a writer fails in this piece.
-pub served_stop : {S : Type 0} {kind : Kind} {n bound limit : ℕ} {answers : S → Item → List ℕ → List ℕ → S
-    → Type 0} {over : S → Bool} {old m t : S}
+pub served_stop : {S : Type 0} {kind : Kind} {n bound limit : ℕ} {answers : Answers S} {over : S → Bool} {old m t : S}
     {scan : Scan} {r r' w w' w'' a a' a'' : Option (List ℕ)} (reads : ℕ) (r'' : Option (List ℕ)) (piece : List ℕ)
     → (p : Sofar kind answers over n old scan r r' w w' a a' m) → reads ≤ n + 1 → Consumes r' r'' piece
-    → Stopped limit answers m (items_after scan piece) w' w'' a' a'' t
-    → (f : Fault) → (f ≡ WriteFault) ⊎ (f ≡ Memory)
+    → Stopped limit answers m (items_after scan piece) w' w'' a' a'' t → (f : Fault) → (f ≡ WriteFault) ⊎ (f ≡ Memory)
     → Served kind answers over limit (Err f) bound reads old r r'' w w'' a a'' t
 served_stop {limit = limit} {answers = answers} {t = t} {r = r} {r' = r'} {w'' = w''} {a'' = a''} reads r'' piece p le
     c q f which =
@@ -181,20 +169,17 @@ served_stop {limit = limit} {answers = answers} {t = t} {r = r} {r' = r'} {w'' =
     ]
 
 -- A read fails, or there were enough of them.
-pub served_read_fault : {S : Type 0} {kind : Kind} {n bound limit : ℕ} {answers : S → Item → List ℕ → List ℕ → S
-    → Type 0} {over : S → Bool} {old m : S}
-    {scan : Scan} {r r' w w' a a' : Option (List ℕ)} (reads : ℕ)
-    → (p : Sofar kind answers over n old scan r r' w w' a a' m) → reads ≤ n + 1
-    → (r'' : Option (List ℕ)) → Keeps r' r''
-    → Served kind answers over limit (Err ReadFault) bound reads old r r'' w w' a a' m
+pub served_read_fault : {S : Type 0} {kind : Kind} {n bound limit : ℕ} {answers : Answers S} {over : S → Bool}
+    {old m : S} {scan : Scan} {r r' w w' a a' : Option (List ℕ)} (reads : ℕ)
+    → (p : Sofar kind answers over n old scan r r' w w' a a' m) → reads ≤ n + 1 → (r'' : Option (List ℕ))
+    → Keeps r' r'' → Served kind answers over limit (Err ReadFault) bound reads old r r'' w w' a a' m
 served_read_fault {r = r} {r' = r'} reads p le r'' q = record {
   bytes = p.bytes;
   consumed = Consumes-keeps r r' r'' _ p.consumed q;
   written = caught_up_by (reads - 1) p.caught_up (omega arith);
 }
 
-pub served_enough : {S : Type 0} {kind : Kind} {n bound limit : ℕ} {answers : S → Item → List ℕ → List ℕ → S
-    → Type 0} {over : S → Bool} {old m : S}
+pub served_enough : {S : Type 0} {kind : Kind} {n bound limit : ℕ} {answers : Answers S} {over : S → Bool} {old m : S}
     {scan : Scan} {r r' w w' a a' : Option (List ℕ)} (reads : ℕ)
     → (p : Sofar kind answers over n old scan r r' w w' a a' m) → reads ≤ n → bound ≤ n
     → Served kind answers over limit (Err TooManyReads) bound reads old r r' w w' a a' m
@@ -205,10 +190,9 @@ served_enough reads p few le = record {
 }
 
 -- The input ends, and this is written.
-ended : {S : Type 0} {kind : Kind} {n : ℕ} {answers : S → Item → List ℕ → List ℕ → S → Type 0} {over : S → Bool}
-    {old m : S} {scan : Scan} {r r' w w' a a' : Option (List ℕ)} (reads : ℕ)
-    → (p : Sofar kind answers over n old scan r r' w w' a a' m) → reads ≤ n + 1 → (w'' : Option (List ℕ))
-    → (said : Scan → List ℕ) → Appends w' w'' (said scan)
+ended : {S : Type 0} {kind : Kind} {n : ℕ} {answers : Answers S} {over : S → Bool} {old m : S} {scan : Scan}
+    {r r' w w' a a' : Option (List ℕ)} (reads : ℕ) → (p : Sofar kind answers over n old scan r r' w w' a a' m)
+    → reads ≤ n + 1 → (w'' : Option (List ℕ)) → (said : Scan → List ℕ) → Appends w' w'' (said scan)
     → Ended kind answers over reads old p.bytes w w'' a a' (said (rest_of kind p.bytes)) m
 ended {w' = w'} reads p le w'' said q = record {
   w_middle = w';
@@ -217,14 +201,12 @@ ended {w' = w'} reads p le w'' said q = record {
 }
 
 -- The input ends, whether or not the ending is written.
-pub served_at_end : {S : Type 0} {kind : Kind} {n bound limit : ℕ} {answers : S → Item → List ℕ → List ℕ → S
-    → Type 0} {over : S → Bool} {old m : S}
+pub served_at_end : {S : Type 0} {kind : Kind} {n bound limit : ℕ} {answers : Answers S} {over : S → Bool} {old m : S}
     {scan : Scan} {r r' w w' a a' : Option (List ℕ)} (reads : ℕ)
-    → (p : Sofar kind answers over n old scan r r' w w' a a' m) → reads ≤ n + 1
-    → (r'' : Option (List ℕ)) → Consumes r' r'' [] → (w'' : Option (List ℕ)) (result : Result (Unit {0}) Fault)
+    → (p : Sofar kind answers over n old scan r r' w w' a a' m) → reads ≤ n + 1 → (r'' : Option (List ℕ))
+    → Consumes r' r'' [] → (w'' : Option (List ℕ)) (result : Result (Unit {0}) Fault)
     → OnOk result (Appends w' w'' (ending_of scan)) → OnErr result ((n : ℕ) × Appends w' w'' (take n (ending_of scan)))
-    → OnErr result (result ≡ Err WriteFault)
-    → Served kind answers over limit result bound reads old r r'' w w'' a a' m
+    → OnErr result (result ≡ Err WriteFault) → Served kind answers over limit result bound reads old r r'' w w'' a a' m
 served_at_end {r = r} {r' = r'} reads p le r'' c w'' (Ok tt) good bad which = record {
   bytes = p.bytes;
   consumed = rw (append-nil p.bytes) at (Consumes-then r r' r'' _ _ p.consumed c);

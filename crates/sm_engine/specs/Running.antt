@@ -8,17 +8,20 @@ use Rattle.sm_wire.specs.Items.{Scan, IsAlive, IsDead, has_rest, items_after, it
 use Rattle.sm_engine.specs.declared.fault.Fault.{Fault}
 use Rattle.sm_engine.specs.declared.fault.Fault.TheVariants.{ReadFault, WriteFault, TooManyReads, LineTooLong, Memory}
 
+-- In a state of a machine an item may have this reply text and these audit lines, and lead to a state.
+abbrev pub Answers : Type 0 → Type 1
+Answers S = S → Item → List ℕ → List ℕ → S → Type 0
+
 -- These items, in order, have this reply text and these audit lines, and the machine goes from the first state to the
 -- last.
-abbrev pub Runs : {S : Type 0} → (S → Item → List ℕ → List ℕ → S → Type 0) → S → List Item → List ℕ → List ℕ → S
-    → Type 0
+abbrev pub Runs : {S : Type 0} → Answers S → S → List Item → List ℕ → List ℕ → S → Type 0
 Runs answers s [] replies audit t = (s ≡ t) × (replies ≡ []) × (audit ≡ [])
 Runs {S} answers s (item ∷ items) replies audit t = (m : S) × (r : List ℕ) × (a : List ℕ) × (rs : List ℕ)
     × (more : List ℕ) × answers s item r a m × Runs answers m items rs more t × (replies ≡ r ++ rs)
     × (audit ≡ a ++ more)
 
 -- The texts of one item's answer were appended to the two texts.
-pub record Answered {S : Type 0} (answers : S → Item → List ℕ → List ℕ → S → Type 0) (old : S) (item : Item)
+pub record Answered {S : Type 0} (answers : Answers S) (old : S) (item : Item)
     (replies replies_new audit audit_new : List ℕ) (new : S) : Type 0 where
   pub reply : List ℕ
   pub lines : List ℕ
@@ -27,7 +30,7 @@ pub record Answered {S : Type 0} (answers : S → Item → List ℕ → List ℕ
   pub audited : audit_new ≡ audit ++ lines
 
 -- An item was answered and its texts were lost because an allocation failed, or it wasn't answered.
-abbrev pub GaveUp : {S : Type 0} → (S → Item → List ℕ → List ℕ → S → Type 0) → S → Item → S → Type 0
+abbrev pub GaveUp : {S : Type 0} → Answers S → S → Item → S → Type 0
 GaveUp answers old item new = (new ≡ old) ⊎ ((reply : List ℕ) × (lines : List ℕ) × answers old item reply lines new)
 
 -- The engine writes this at the end of the input.
@@ -47,7 +50,7 @@ pub record Spilled (old new : Option (List ℕ)) (held rest : List ℕ) : Type 0
   pub joined : held ≡ written ++ rest
 
 -- The items so far were answered, and the ends of their texts are held back.
-pub record Going {S : Type 0} (answers : S → Item → List ℕ → List ℕ → S → Type 0) (old : S) (items : List Item)
+pub record Going {S : Type 0} (answers : Answers S) (old : S) (items : List Item)
     (w w_new a a_new : Option (List ℕ)) (held held_lines : List ℕ) (new : S) : Type 0 where
   pub replies : List ℕ
   pub lines : List ℕ
@@ -64,7 +67,7 @@ pub record Partly (limit : ℕ) (old new : Option (List ℕ)) (text last : List 
   pub short : length text ≤ length written + (limit - 1)
 
 -- All the items were answered and their texts written.
-pub record Wrote {S : Type 0} (answers : S → Item → List ℕ → List ℕ → S → Type 0) (old : S) (items : List Item)
+pub record Wrote {S : Type 0} (answers : Answers S) (old : S) (items : List Item)
     (w w_new a a_new : Option (List ℕ)) (new : S) : Type 0 where
   pub replies : List ℕ
   pub lines : List ℕ
@@ -74,7 +77,7 @@ pub record Wrote {S : Type 0} (answers : S → Item → List ℕ → List ℕ �
 
 -- Some items were answered, then at most one more, and then none. Of each of the two texts a prefix was written, and
 -- fewer than `limit` bytes of the replies before the last one are missing.
-pub record Stopped {S : Type 0} (limit : ℕ) (answers : S → Item → List ℕ → List ℕ → S → Type 0) (old : S)
+pub record Stopped {S : Type 0} (limit : ℕ) (answers : Answers S) (old : S)
     (items : List Item) (w w_new a a_new : Option (List ℕ)) (new : S) : Type 0 where
   pub earlier : List Item
   pub last : List Item
@@ -93,7 +96,7 @@ pub record Stopped {S : Type 0} (limit : ℕ) (answers : S → Item → List ℕ
 
 -- All the items of these bytes were answered and their texts written. Each of the reads so far gave at least one of the
 -- bytes. The machine isn't over, and no line was too long.
-pub record CaughtUp {S : Type 0} (kind : Kind) (answers : S → Item → List ℕ → List ℕ → S → Type 0) (over : S → Bool)
+pub record CaughtUp {S : Type 0} (kind : Kind) (answers : Answers S) (over : S → Bool)
     (reads : ℕ) (old : S) (bytes : List ℕ) (w w_new a a_new : Option (List ℕ)) (new : S) : Type 0 where
   pub wrote : Wrote answers old (items_of kind bytes) w w_new a a_new new
   pub alive : IsAlive (rest_of kind bytes)
@@ -102,7 +105,7 @@ pub record CaughtUp {S : Type 0} (kind : Kind) (answers : S → Item → List �
 
 -- The engine had caught up with all the bytes before the last read, and for the items that ended in that read this
 -- holds.
-pub record LastRead {S : Type 0} (kind : Kind) (answers : S → Item → List ℕ → List ℕ → S → Type 0) (over : S → Bool)
+pub record LastRead {S : Type 0} (kind : Kind) (answers : Answers S) (over : S → Bool)
     (reads : ℕ) (old : S) (bytes : List ℕ) (w a : Option (List ℕ))
     (Takes : S → List Item → Option (List ℕ) → Option (List ℕ) → Type 0) : Type 0 where
   pub earlier : List ℕ
@@ -116,24 +119,22 @@ pub record LastRead {S : Type 0} (kind : Kind) (answers : S → Item → List �
 
 -- All the items of these bytes were answered and their texts written, and the engine didn't read too far: before the
 -- last read the machine wasn't over, and no line was too long.
-abbrev pub AnswersAll : {S : Type 0} → Kind → (S → Item → List ℕ → List ℕ → S → Type 0) → (S → Bool) → ℕ → S → List ℕ
+abbrev pub AnswersAll : {S : Type 0} → Kind → Answers S → (S → Bool) → ℕ → S → List ℕ
     → Option (List ℕ) → Option (List ℕ) → Option (List ℕ) → Option (List ℕ) → S → Type 0
 AnswersAll kind answers over reads old bytes w w_new a a_new new =
     LastRead kind answers over reads old bytes w a (λ middle items w_middle a_middle.
     Wrote answers middle items w_middle w_new a_middle a_new new)
 
 -- The engine stopped among the items of the last read.
-abbrev pub StopsEarly : {S : Type 0} → Kind → (S → Item → List ℕ → List ℕ → S → Type 0) → (S → Bool) → ℕ
-    → ℕ → S → List ℕ
-    → Option (List ℕ) → Option (List ℕ) → Option (List ℕ) → Option (List ℕ) → S → Type 0
+abbrev pub StopsEarly : {S : Type 0} → Kind → Answers S → (S → Bool) → ℕ → ℕ → S → List ℕ → Option (List ℕ)
+    → Option (List ℕ) → Option (List ℕ) → Option (List ℕ) → S → Type 0
 StopsEarly kind answers over limit reads old bytes w w_new a a_new new =
     LastRead kind answers over reads old bytes w a (λ middle items w_middle a_middle.
     Stopped limit answers middle items w_middle w_new a_middle a_new new)
 
 -- At the end of the input the engine had caught up, and then it wrote this.
-pub record Ended {S : Type 0} (kind : Kind) (answers : S → Item → List ℕ → List ℕ → S → Type 0) (over : S → Bool)
-    (reads : ℕ) (old : S) (bytes : List ℕ) (w w_new a a_new : Option (List ℕ)) (ending : List ℕ) (new : S)
-    : Type 0 where
+pub record Ended {S : Type 0} (kind : Kind) (answers : Answers S) (over : S → Bool) (reads : ℕ) (old : S)
+    (bytes : List ℕ) (w w_new a a_new : Option (List ℕ)) (ending : List ℕ) (new : S) : Type 0 where
   pub w_middle : Option (List ℕ)
   pub before : CaughtUp kind answers over (reads - 1) old bytes w w_middle a a_new new
   pub ended : Appends w_middle w_new ending
@@ -143,7 +144,7 @@ abbrev pub never : {S : Type 0} → S → Bool
 never s = false
 
 -- Prefixes of the two texts are written, or all of them and a prefix of the ending.
-abbrev pub Fronts : {S : Type 0} → Kind → (S → Item → List ℕ → List ℕ → S → Type 0) → (S → Bool) → ℕ → ℕ → S → List ℕ
+abbrev pub Fronts : {S : Type 0} → Kind → Answers S → (S → Bool) → ℕ → ℕ → S → List ℕ
     → Option (List ℕ) → Option (List ℕ) → Option (List ℕ) → Option (List ℕ) → S → Type 0
 Fronts kind answers over limit reads old bytes w w_new a a_new new =
     StopsEarly kind answers over limit reads old bytes w w_new a a_new new
@@ -151,9 +152,8 @@ Fronts kind answers over limit reads old bytes w w_new a a_new new =
 
 -- An engine that read these bytes in this number of reads has written this, by its result. It reads until the machine
 -- is over.
-abbrev pub ByResult : {S : Type 0} → Kind → Result (Unit {0}) Fault → (S → Item → List ℕ → List ℕ → S → Type 0)
-    → (S → Bool) → ℕ → ℕ → ℕ → S → List ℕ → Option (List ℕ) → Option (List ℕ) → Option (List ℕ) → Option (List ℕ) → S
-    → Type 0
+abbrev pub ByResult : {S : Type 0} → Kind → Result (Unit {0}) Fault → Answers S → (S → Bool) → ℕ → ℕ → ℕ → S → List ℕ
+    → Option (List ℕ) → Option (List ℕ) → Option (List ℕ) → Option (List ℕ) → S → Type 0
 ByResult kind (Ok x) answers over limit bound reads old bytes w w_new a a_new new = MatchBool (over new)
     (AnswersAll kind answers over reads old bytes w w_new a a_new new)
     (Ended kind answers over reads old bytes w w_new a a_new (ending_of (rest_of kind bytes)) new)
@@ -170,7 +170,7 @@ ByResult kind (Err Memory) answers over limit bound reads old bytes w w_new a a_
 
 -- An engine for lines of this kind, which holds back fewer than `limit` bytes and may make `bound` reads, made some
 -- reads, read these bytes, and wrote this for them.
-pub record Served {S : Type 0} (kind : Kind) (answers : S → Item → List ℕ → List ℕ → S → Type 0) (over : S → Bool)
+pub record Served {S : Type 0} (kind : Kind) (answers : Answers S) (over : S → Bool)
     (limit : ℕ) (result : Result (Unit {0}) Fault) (bound reads : ℕ) (old : S)
     (r r_new w w_new a a_new : Option (List ℕ)) (new : S) : Type 0 where
   pub bytes : List ℕ
@@ -178,7 +178,7 @@ pub record Served {S : Type 0} (kind : Kind) (answers : S → Item → List ℕ 
   pub written : ByResult kind result answers over limit bound reads old bytes w w_new a a_new new
 
 -- This holds after some reads.
-pub record Sofar {S : Type 0} (kind : Kind) (answers : S → Item → List ℕ → List ℕ → S → Type 0) (over : S → Bool)
+pub record Sofar {S : Type 0} (kind : Kind) (answers : Answers S) (over : S → Bool)
     (reads : ℕ) (old : S) (scan : Scan) (r r_new w w_new a a_new : Option (List ℕ)) (new : S) : Type 0 where
   pub bytes : List ℕ
   pub consumed : Consumes r r_new bytes

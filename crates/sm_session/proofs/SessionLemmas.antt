@@ -6,7 +6,7 @@ use Rattle.sm_wire.specs.declared.kind.Kind.{Kind}
 use Rattle.sm_wire.specs.Replies.{told_text}
 use Rattle.sm_engine.specs.declared.fault.Fault.{Fault}
 use Rattle.sm_engine.specs.declared.fault.Fault.TheVariants.{WriteFault, Memory}
-use Rattle.sm_engine.specs.Running.{Served}
+use Rattle.sm_engine.specs.Running.{Answers, Served}
 use Rattle.sm_session.specs.declared.response.Response.{Response}
 use Rattle.sm_session.specs.declared.response.Response.TheVariants.{Replied, PolicyRefused, Denied}
 use Rattle.sm_session.specs.declared.session_state.SessionState.{SessionState}
@@ -30,9 +30,8 @@ asked_once answers old item response new told place tells asks =
     rw place (response, asks, response_text-same told (reply_told item) (λ r. sym (tells r)) response)
 
 -- A fault that had another cause.
-pub Served-memory : {S : Type 0} {kind : Kind} {answers : S → Item → List ℕ → List ℕ → S → Type 0} {over : S → Bool}
-    {limit bound reads : ℕ} {old : S} {r r' w w' a a' : Option (List ℕ)} {new : S}
-    (ending result : Result (Unit {0}) Fault)
+pub Served-memory : {S : Type 0} {kind : Kind} {answers : Answers S} {over : S → Bool} {limit bound reads : ℕ}
+    {old : S} {r r' w w' a a' : Option (List ℕ)} {new : S} (ending result : Result (Unit {0}) Fault)
     → Served kind answers over limit ending bound reads old r r' w w' a a' new
     → (result ≡ ending) ⊎ ((ending ≡ Err WriteFault) × (result ≡ Err Memory))
     → Served kind answers over limit result bound reads old r r' w w' a a' new

@@ -106,8 +106,7 @@ pub record Asks {D : Type 0} (answers : D → Item → Response → D → Type 0
 
 -- The desk was asked the item once, and its answer's line is written.
 abbrev pub AsksOnce : {D : Type 0} → (D → Item → Response → D → Type 0) → SessionState D → Item → List ℕ
-    → SessionState D
-    → Type 0
+    → SessionState D → Type 0
 AsksOnce answers old item text new = (response : Response) × Asks answers old item response new
     × (text ≡ response_text (reply_told item) response)
 
@@ -117,15 +116,13 @@ SaysOnly old words text new = (text ≡ words) × (new ≡ old)
 
 -- In a session that goes on, an item is asked once if it is allowed.
 abbrev pub TakesItem : {D : Type 0} → (D → Item → Response → D → Type 0) → SessionState D → Item → List ℕ
-    → SessionState D
-    → Type 0
+    → SessionState D → Type 0
 TakesItem answers old item text new = MatchBool (is_asked old.kind old.connected item)
     (AsksOnce answers old item text new) (SaysOnly old (said_to item) text new)
 
 -- In any session, an item is taken so: once a `bye` was answered by `bye`, nothing is asked and nothing written.
 abbrev pub SitsThrough : {D : Type 0} → (D → Item → Response → D → Type 0) → SessionState D → Item → List ℕ
-    → SessionState D
-    → Type 0
+    → SessionState D → Type 0
 SitsThrough answers old item text new = MatchBool old.over (SaysOnly old [] text new)
     (TakesItem answers old item text new)
 

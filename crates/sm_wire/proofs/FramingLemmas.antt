@@ -1,7 +1,6 @@
 -- What the bytes of a whole item, or of a part of one, lead to.
-use Rattle.std.proofs.Common.{◌≡◌, ◌≢◌, ℕ, suc, ◌+◌, ◌-◌, ◌<◌, ◌≤◌, List, [], ◌∷◌, ◌++◌}
-use Rattle.std.proofs.Common.{length, take, drop, get_or, length-append, length-drop, append_assoc, refl, ap, sym, ◌∙◌}
-use Rattle.std.proofs.Common.{arith}
+use Rattle.std.proofs.Common.{◌≡◌, ◌≢◌, ℕ, suc, ◌+◌, ◌-◌, ◌<◌, ◌≤◌, List, [], ◌∷◌, ◌++◌, length, take, drop, get_or}
+use Rattle.std.proofs.Common.{length-append, length-drop, append_assoc, refl, ap, sym, ◌∙◌, arith}
 use Rattle.std.proofs.Math.Seq.{drop-cons, take-add, take-append_seam, drop-append_seam, take-length}
 use Rattle.std.proofs.lemmas.Bool.Decides.{nat_tests}
 use Rattle.std.proofs.lemmas.List.{append-nil, length-take-le, get_or-take, drop-drop, take-append-drop}
@@ -12,8 +11,7 @@ use Rattle.sm_wire.specs.declared.frame_state.FrameState.{FrameState}
 use Rattle.sm_wire.specs.declared.frame_state.FrameState.TheVariants.{Line, Texts as TextsMode, Dead}
 use Rattle.sm_wire.specs.declared.reload_header.ReloadHeader.{ReloadHeader}
 use Rattle.sm_wire.specs.declared.ends.End.TheVariants.{At, Later, Never}
-use Rattle.sm_wire.specs.Items.{Scan, Makes, scan_start, scan_dead, policy_item, line_end, line_step}
-use Rattle.sm_wire.specs.Items.{text_step}
+use Rattle.sm_wire.specs.Items.{Scan, Makes, scan_start, scan_dead, policy_item, line_end, line_step, text_step}
 use Rattle.sm_wire.specs.Items.{mode_step, byte_step, scan_after, items_after}
 use Rattle.sm_wire.specs.Ends.{EndsAs, IsWhole, whole_step, never_items}
 use Rattle.sm_wire.proofs.ItemLemmas.{items_after-append, scan_after-append}
@@ -117,8 +115,7 @@ module _ (kind : Kind) where
   -- Bytes of a line that is too long.
   line_long : (held bytes : List ℕ) (n : ℕ) → n ≡ 4096 - length held → n < length bytes
       → ((k : ℕ) → k < n + 1 → get_or bytes k 0 ≢ 10)
-      → Leads (record { kind = kind; mode = Line; held = held }) bytes (scan_dead kind)
-      (LineTooLong ∷ [])
+      → Leads (record { kind = kind; mode = Line; held = held }) bytes (scan_dead kind) (LineTooLong ∷ [])
   unfolding mode_step line_step
   line_long held bytes n is lt plain =
       let front = take n bytes in

@@ -1,7 +1,6 @@
 -- How the items of a stream follow from its bytes, one at a time.
-use Rattle.std.proofs.Common.{◌≡◌, ◌≢◌, length-append, Some, None, nat_le, ◌==◌, ℕ, true, false}
-use Rattle.std.proofs.Common.{◌+◌, ◌<◌, ◌≤◌, List, [], ◌∷◌, ◌++◌, length, refl}
-use Rattle.std.proofs.Common.{arith, append_assoc}
+use Rattle.std.proofs.Common.{◌≡◌, ◌≢◌, length-append, Some, None, nat_le, ◌==◌, ℕ, true, false, ◌+◌, ◌<◌, ◌≤◌, List}
+use Rattle.std.proofs.Common.{[], ◌∷◌, ◌++◌, length, refl, arith, append_assoc}
 use Rattle.std.proofs.Math.Seq.{take-append_seam, drop-append_seam}
 use Rattle.sm_wire.specs.declared.kind.Kind.{Kind}
 use Rattle.std.specs.List.{AllByRecursion}
@@ -51,8 +50,7 @@ module _ (kind : Kind) where
   ends_plain line none = rw none refl
 
   pub line_law : (line rest : List ℕ) → AllByRecursion (λ b. b ≢ 10) line → length line ≤ 4096
-      → header_of kind line ≡ None
-      → items_of kind (line ++ 10 ∷ rest) ≡ item_of kind line ∷ items_of kind rest
+      → header_of kind line ≡ None → items_of kind (line ++ 10 ∷ rest) ≡ item_of kind line ∷ items_of kind rest
   unfolding mode_step line_step
   line_law line rest plain le none = rw (line_so_far [] line (10 ∷ rest) plain (omega arith), ends_plain line none) refl
 

@@ -1,8 +1,7 @@
 -- What spells a value is read as it, and what is read is spelled so.
-use Rattle.std.proofs.Common.{◌≡◌, ◌≢◌, ℕ, ◌+◌, ◌-◌, ◌*◌, ◌^◌, ◌<◌, ◌≤◌, ◌%◌, ◌⊎◌, inl, inr, Bool, true, false}
-use Rattle.std.proofs.Common.{◌&&◌, not, ◌==◌, nat_le, if◌then◌else◌, List, [], ◌∷◌, ◌++◌, length, Option, Some, None}
-use Rattle.std.proofs.Common.{Result, Ok, Err}
-use Rattle.std.proofs.Common.{refl, sym, ap, subst, ◌∙◌, arith, true≢false}
+use Rattle.std.proofs.Common.{◌≡◌, ◌≢◌, ℕ, ◌+◌, ◌-◌, ◌*◌, ◌^◌, ◌<◌, ◌≤◌, ◌%◌, ◌⊎◌, inl, inr, Bool, true, false, ◌&&◌}
+use Rattle.std.proofs.Common.{not, ◌==◌, nat_le, if◌then◌else◌, List, [], ◌∷◌, ◌++◌, length, Option, Some, None}
+use Rattle.std.proofs.Common.{Result, Ok, Err, refl, sym, ap, subst, ◌∙◌, arith, true≢false}
 use Rattle.std.specs.Prelude.{option_and_then, codes, IsTrue}
 use Rattle.std.specs.Char.{is_ascii_alphabetic}
 use Rattle.std.specs.Fmt.{decimal}
@@ -196,8 +195,7 @@ digit_solid _ _ (SpellsDigit.small v lt) e = omega (arith, e)
 
 -- ---- bytes in hexadecimal digits
 
-byte_of : (a b high low i : ℕ) → SpellsDigit a high → SpellsDigit b low
-    → pair_value a b i ≡ Ok (16 * high + low)
+byte_of : (a b high low i : ℕ) → SpellsDigit a high → SpellsDigit b low → pair_value a b i ≡ Ok (16 * high + low)
 byte_of a b high low i s t =
     let va : value_at a i ≡ Ok high = ap (digit_or_error a i) (digit_read a high s) in
     let vb : value_at b (i + 1) ≡ Ok low = ap (digit_or_error b (i + 1)) (digit_read b low t) in

@@ -252,8 +252,7 @@ unfolding script_fields_of
 script_spelled [] r e = absurd (none-some r e)
 script_spelled (w ∷ ts) r e = by (parsed_number u32_max w) refl e
   where
-    by : (o : Option ℕ) → parsed_number u32_max w ≡ o → script_line_of o w ts ≡ Some r
-        → SpellsFields Script (w ∷ ts) r
+    by : (o : Option ℕ) → parsed_number u32_max w ≡ o → script_line_of o w ts ≡ Some r → SpellsFields Script (w ∷ ts) r
     by (Some n) is e =
         inl (n, number_spelled u32_max u32_small w n is, lines_so (client_lines (Some (record { 0 = n }))) ts r e)
     by None is e = inr (lines_so unnumbered_lines (w ∷ ts) r e)

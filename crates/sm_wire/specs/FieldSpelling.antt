@@ -84,5 +84,4 @@ pub data IsContext : List ℕ → Type 0 where
   three : (user role type : List ℕ) → IsPart user → IsPart role → IsPart type
       → IsContext (join_with_byte 58 (user ∷ role ∷ type ∷ []))
   four : (user role type range : List ℕ) → IsPart user → IsPart role → IsPart type → 0 < length range
-      → AllByRecursion (IsInRange 33 126) range
-      → IsContext (join_with_byte 58 (user ∷ role ∷ type ∷ range ∷ []))
+      → AllByRecursion (IsInRange 33 126) range → IsContext (join_with_byte 58 (user ∷ role ∷ type ∷ range ∷ []))

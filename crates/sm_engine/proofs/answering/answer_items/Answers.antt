@@ -1,5 +1,4 @@
-use Rattle.std.proofs.Common.{◌≡◌, List, length, ◌++◌, ◌∷◌, [], sym, ◌∙◌}
-use Rattle.std.proofs.Common.{refl, arith, append_assoc}
+use Rattle.std.proofs.Common.{◌≡◌, List, length, ◌++◌, ◌∷◌, [], sym, ◌∙◌, refl, arith, append_assoc}
 use Rattle.std.proofs.lemmas.List.{append-nil}
 use Rattle.std.proofs.lemmas.Result.{on_ok_weaker, on_err_weaker}
 use Rattle.std.specs.Vec.Iter.{into_iter_items}

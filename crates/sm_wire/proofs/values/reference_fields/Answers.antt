@@ -21,9 +21,8 @@ first_moves : (list : List ObjRef) (r : ObjRef) (o : Option (List ObjRef))
 first_moves list r (Some others) = ap Some (sym (append_assoc list (r ∷ []) others))
 first_moves list r None = refl
 
-read_first : (list : List ObjRef) (r : ObjRef) (x : Bor (List ℕ)) (xs : List (Bor (List ℕ))) →
-    reference_of x.now ≡ Some r
-    → behind list (read (x ∷ xs)) ≡ behind (list ++ r ∷ []) (read xs)
+read_first : (list : List ObjRef) (r : ObjRef) (x : Bor (List ℕ)) (xs : List (Bor (List ℕ)))
+    → reference_of x.now ≡ Some r → behind list (read (x ∷ xs)) ≡ behind (list ++ r ∷ []) (read xs)
 unfolding references_of
 read_first list r x xs e = rw e (first_moves list r (read xs))
 
@@ -32,11 +31,9 @@ unfolding references_of
 read_none x xs e = rw e refl
 
 -- One more reference is read.
-more : (fields : List (Bor (List ℕ))) (i : ℕ) (d : Bor (List ℕ)) (list all : List ObjRef) (r : ObjRef) →
-    i < length fields
-    → reference_of (get_or fields i d).now ≡ Some r → all ≡ list ++ r ∷ [] →
-    read fields ≡ behind list (read (drop i fields))
-    → read fields ≡ behind all (read (drop (i + 1) fields))
+more : (fields : List (Bor (List ℕ))) (i : ℕ) (d : Bor (List ℕ)) (list all : List ObjRef) (r : ObjRef)
+    → i < length fields → reference_of (get_or fields i d).now ≡ Some r → all ≡ list ++ r ∷ []
+    → read fields ≡ behind list (read (drop i fields)) → read fields ≡ behind all (read (drop (i + 1) fields))
 more fields i d list all r l e is inv =
     let here : read (drop i fields) ≡ read (get_or fields i d ∷ drop
     (i + 1) fields) = at_drop_more read fields i d l in
