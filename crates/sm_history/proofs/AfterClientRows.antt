@@ -12,8 +12,7 @@ use Rattle.sm_history.specs.declared.delivery.Delivery.{Delivery}
 use Rattle.sm_history.specs.declared.limits.TheConstants.{GREATEST}
 use Rattle.sm_history.specs.declared.client_row.Held.{Held}
 use Rattle.sm_history.specs.declared.client_row.ClientRow.{ClientRow}
-use Rattle.sm_history.specs.Effects.{Effects, Connects, Dies, Gives}
-use Rattle.sm_history.specs.Effects.{Releases, Delivers, Takes, same_node}
+use Rattle.sm_history.specs.Effects.{Effects, Connects, Dies, Gives, Releases, Delivers, Takes, same_node}
 use Rattle.sm_history.specs.Clients.{is_live, live_clients, identity_at, next_client}
 use Rattle.sm_history.specs.Holdings.{refs_at, is_held, number_at, node_at}
 use Rattle.sm_history.specs.Inboxes.{inbox_at}

@@ -18,9 +18,8 @@ use Rattle.sm_history.specs.declared.denial.Denial.TheVariants.{App, Isolated}
 use Rattle.sm_history.specs.declared.refusal.Refusal.TheVariants.{Exception, Failed, Dead, Empty, TooManyClients}
 use Rattle.sm_history.specs.declared.refusal.Refusal.TheVariants.{VersionMoved}
 use Rattle.sm_history.specs.declared.refusal.Failure.TheVariants.{BadHandle, TargetFull}
-use Rattle.sm_history.specs.declared.refusal.Exception.TheVariants.{NotAdder, DeadOwner, TableFull}
-use Rattle.sm_history.specs.declared.refusal.Exception.TheVariants.{NothingToUnregister, NotRegistered, OtherObject}
-use Rattle.sm_history.specs.declared.refusal.Exception.TheVariants.{InUse}
+use Rattle.sm_history.specs.declared.refusal.Exception.TheVariants.{NotAdder, DeadOwner, TableFull, NothingToUnregister}
+use Rattle.sm_history.specs.declared.refusal.Exception.TheVariants.{NotRegistered, OtherObject, InUse}
 use Rattle.sm_history.specs.declared.failed_check.EarlyAnswer.TheVariants.{GotNull, Refused}
 use Rattle.sm_history.specs.declared.delivery.Delivery.{Delivery}
 use Rattle.sm_history.specs.Effects.{Effects, Service, Watch, same_node}

@@ -34,6 +34,7 @@ use Rattle.sm_history.specs.Checks.{finding, calling, transferring}
 use Rattle.sm_history.specs.Notices.{notice_checks, first_missing, registration, notice_at, told_of, after_told}
 use Rattle.sm_history.specs.Notices.{after_notice, after_notices, notices_at}
 use Rattle.sm_history.specs.Histories.{given_ref, handed_ref, given_refs, handed_refs}
+use Rattle.sm_history.proofs.Keeps.{handed_keeps, ref_keeps, refs_keep, told_keeps}
 use Rattle.sm_history.proofs.LeastFree.{free_is_free}
 use Rattle.sm_history.proofs.Fresh.{all_filtered, all_filtered_again}
 use Rattle.sm_history.proofs.HeldAlike.{counts_alike}
@@ -106,8 +107,7 @@ sim_handed d e c n live s =
     (if b then e else Gives c n (number_for e c n) ∷ e)) [ true ↦ s | false ↦ given ]
 
 pub live_handed : (d : Effects) (c : ℕ) (n : Node) (k : ℕ) → is_live (handed d c n) k ≡ is_live d k
-live_handed d c n k = elim (n.owner.0 == c) as (λ b. is_live (if b then d else Gives c n (number_for d c n) ∷ d) k
-    ≡ is_live d k) [ true ↦ refl | false ↦ refl ]
+live_handed d c n k = handed_keeps (λ e. is_live e k ≡ is_live d k) (λ i m r e h. h) d c n refl
 
 pub fits_alike : (d e : Effects) (c : ℕ) → Sim d e → fits_handles d c ≡ fits_handles e c
 fits_alike d e c s = ap (λ k. nat_le k MOST_HANDLES) (counts_alike d e c (λ n. sim_held d e c n s))
@@ -163,13 +163,9 @@ pub sim_notice : (d e : Effects) (n : Node) (w : Watch) → Sim d e → is_live 
 sim_notice d e n w s live = subst (λ (o : Option FailedCheck). Sim (after_notice d n w) (after_told e n w o))
     (missing_alike d e n w s live) (sim_told d e n w (first_missing d n w) s live)
 
-live_told : (d : Effects) (n : Node) (w : Watch) (o : Option FailedCheck) (k : ℕ)
-    → is_live (after_told d n w o) k ≡ is_live d k
-live_told d n w None k = live_handed d w.client n k
-live_told d n w (Some failing) k = refl
-
 pub live_notice : (d : Effects) (n : Node) (w : Watch) (k : ℕ) → is_live (after_notice d n w) k ≡ is_live d k
-live_notice d n w k = live_told d n w (first_missing d n w) k
+live_notice d n w k =
+    told_keeps (λ e. is_live e k ≡ is_live d k) (λ i m r e h. h) (λ i x e h. h) d n w (first_missing d n w) refl
 
 -- Every watch is of a live client.
 abbrev pub AllLive : Effects → List Watch → Type 0
@@ -227,8 +223,7 @@ sim_ref d e to None live s = s
 sim_ref d e to (Some n) live s = sim_handed d e to n live s
 
 pub live_ref : (d : Effects) (to : ℕ) (o : Option Node) (k : ℕ) → is_live (handed_ref d to o) k ≡ is_live d k
-live_ref d to None k = refl
-live_ref d to (Some n) k = live_handed d to n k
+live_ref d to o k = ref_keeps (λ e. is_live e k ≡ is_live d k) (λ i m r e h. h) d to o refl
 
 sim_resolved : (d e : Effects) (from to : ℕ) (r : ObjRef) → is_live d to ≡ true → Sim d e
     → Sim (handed_ref d to (resolve_at d from r)) (handed_ref e to (resolve_at e from r))
@@ -245,9 +240,7 @@ sim_refs d e from to (r ∷ rs) live s =
 
 pub live_refs : (d : Effects) (from to : ℕ) (rs : List ObjRef) (k : ℕ)
     → is_live (handed_refs d from to rs) k ≡ is_live d k
-live_refs d from to [] k = refl
-live_refs d from to (r ∷ rs) k = live_refs (handed_ref d to (resolve_at d from r)) from to rs k ∙
-    live_ref d to (resolve_at d from r) k
+live_refs d from to rs k = refs_keep (λ e. is_live e k ≡ is_live d k) (λ i m r e h. h) d from to rs refl
 
 pub given_refs_alike : (d e : Effects) (from to : ℕ) (rs : List ObjRef) → is_live d to ≡ true → Sim d e
     → given_refs d from to rs ≡ given_refs e from to rs

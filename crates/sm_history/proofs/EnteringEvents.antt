@@ -19,8 +19,7 @@ use Rattle.sm_history.specs.Holdings.{number_for, node_at, resolve_at, handed}
 use Rattle.sm_history.specs.Services.{service_at, watchers_at}
 use Rattle.sm_history.specs.Notices.{notice_at, notices_at, after_notice, after_notices}
 use Rattle.sm_history.specs.Histories.{found, given_refs, handed_refs, call_delivery, service, watch, after_add}
-use Rattle.sm_history.specs.Histories.{after_get}
-use Rattle.sm_history.specs.Histories.{after_watch, after_call}
+use Rattle.sm_history.specs.Histories.{after_get, after_watch, after_call}
 use Rattle.sm_history.specs.Verdict.{handle_number, notice_of_watch}
 use Rattle.sm_history.specs.Following.{MayGive}
 use Rattle.sm_history.specs.Sound.{Sound}

@@ -1,7 +1,6 @@
 -- The remaining watchers to notify, and the remaining references to pass.
-use Rattle.std.proofs.Common.{◌≡◌, ℕ, zero, suc, ◌+◌, ◌<◌, ◌≤◌, true, List, [], ◌∷◌, refl, ap, sym, ◌∙◌, subst}
-use Rattle.std.proofs.Common.{Option, Some}
-use Rattle.std.proofs.Common.{length, drop, get_or, add-one, arith}
+use Rattle.std.proofs.Common.{◌≡◌, ℕ, zero, suc, ◌+◌, ◌<◌, ◌≤◌, true, List, [], ◌∷◌, refl, ap, sym, ◌∙◌, subst, Option}
+use Rattle.std.proofs.Common.{Some, length, drop, get_or, add-one, arith}
 use Rattle.std.specs.Prelude.{slice_get}
 use Rattle.std.specs.List.{list_all}
 use Rattle.std.proofs.lemmas.Bool.{and_parts}
@@ -181,10 +180,6 @@ refs_step d from to refs obj rest gs i t t' l fits one =
     (refs_next d from to refs obj rest g more t t'
     (subst (λ (v : List Given). RefsLeft d from to refs (obj ∷ rest) v t) l.given l) fits
     (subst (λ (v : Option Given). HandsOne from to obj v t t') (get_first gs i g more l.given) one)))
-
-pub all_handed : (d : Effects) (from to : ℕ) (refs : List ObjRef) (gs : List Given) (t : Tables)
-    → RefsLeft d from to refs [] gs t → TracksTables (handed_refs d from to refs) t
-all_handed d from to refs gs t l = subst (λ (b : Effects). TracksTables b t) l.same l.tracks
 
 pub hand_step : (d : Effects) (to : ℕ) (o : Option Node) (n : Node) (g : Option Given) (x : Given) (t : Tables)
     → o ≡ Some n → g ≡ Some x → g ≡ Some (given_ref d to o) → AllFit (handed_ref d to o)

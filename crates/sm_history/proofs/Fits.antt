@@ -6,8 +6,7 @@ use Rattle.std.specs.List.{list_any}
 use Rattle.std.proofs.lemmas.Bool.Decides.{nat_tests}
 use Rattle.sm_history.specs.declared.by.By.{By}
 use Rattle.sm_history.specs.declared.event.Event.{Event}
-use Rattle.sm_history.specs.declared.event.Event.TheVariants.{Open, Connect, Add, Get, Watch as WatchName, Unwatch}
-use Rattle.sm_history.specs.declared.event.Event.TheVariants.{Unregister, Call, Release, Take, Die, Reload}
+use Rattle.sm_history.specs.declared.event.Event.TheVariants.{Die}
 use Rattle.sm_history.specs.declared.outcome.Outcome.{Outcome}
 use Rattle.sm_history.specs.declared.reply.Reply.TheVariants.{Done}
 use Rattle.sm_history.specs.Clients.{live_clients, is_live}
@@ -56,26 +55,5 @@ fits_any places h by turn Die outcome s fits done =
     let one = fewer c (live_clients d) (any_live d c ∙ live) in
     let now = ap (length {A = ℕ}) (list_dies d c) in
     omega (arith, one, now, fits)
-fits_any places h by turn (Open who policy) outcome s fits done =
-    fits_more places h (record { by = by; turn = turn; event = Open who policy; outcome = outcome }) s refl done
-fits_any places h by turn (Connect who) outcome s fits done =
-    fits_more places h (record { by = by; turn = turn; event = Connect who; outcome = outcome }) s refl done
-fits_any places h by turn (Add name obj allow dump) outcome s fits done =
-    fits_more places h (record { by = by; turn = turn; event = Add name obj allow dump; outcome = outcome }) s refl done
-fits_any places h by turn (Get name) outcome s fits done =
-    fits_more places h (record { by = by; turn = turn; event = Get name; outcome = outcome }) s refl done
-fits_any places h by turn (WatchName name object) outcome s fits done =
-    fits_more places h (record { by = by; turn = turn; event = WatchName name object; outcome = outcome }) s refl done
-fits_any places h by turn (Unwatch name object) outcome s fits done =
-    fits_more places h (record { by = by; turn = turn; event = Unwatch name object; outcome = outcome }) s refl done
-fits_any places h by turn (Unregister name obj) outcome s fits done =
-    fits_more places h (record { by = by; turn = turn; event = Unregister name obj; outcome = outcome }) s refl done
-fits_any places h by turn (Call handle payload refs) outcome s fits done =
-    fits_more places h (record { by = by; turn = turn; event = Call handle payload refs; outcome = outcome }) s refl
-    done
-fits_any places h by turn (Release handle) outcome s fits done =
-    fits_more places h (record { by = by; turn = turn; event = Release handle; outcome = outcome }) s refl done
-fits_any places h by turn Take outcome s fits done =
-    fits_more places h (record { by = by; turn = turn; event = Take; outcome = outcome }) s refl done
-fits_any places h by turn (Reload expected policy) outcome s fits done =
-    fits_more places h (record { by = by; turn = turn; event = Reload expected policy; outcome = outcome }) s refl done
+fits_any places h by turn event outcome s fits done =
+    fits_more places h (record { by = by; turn = turn; event = event; outcome = outcome }) s refl done

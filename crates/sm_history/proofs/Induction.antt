@@ -15,7 +15,7 @@ use Rattle.sm_history.specs.Lawful.{IsOpening, AreLawfulApart, AreLawful, IsLawf
 use Rattle.sm_history.proofs.Sound.{sound_opens, sound_sets}
 use Rattle.sm_history.proofs.SoundHistory.{Met, met, sound_event, sound_none}
 use Rattle.sm_history.proofs.RowsSound.{sound_back}
-use Rattle.sm_history.specs.Sound.{IsBalanced, IsFresh, IsOwned, Sound}
+use Rattle.sm_history.specs.Sound.{Sound}
 
 -- What an induction has to show.
 pub record Holds (P : History → Type 0) : Type 0 where
@@ -73,12 +73,3 @@ sound_apart a l = holds_apart LeavesSound holds_sound a l
 
 pub sound_lawful : (places : ℕ) (h : History) → IsLawful places h → Sound (effects_of h)
 sound_lawful places h l = holds_lawful LeavesSound holds_sound places h l
-
-pub fresh_lawful : (places : ℕ) (h : History) → IsLawful places h → IsFresh (effects_of h)
-fresh_lawful places h l = (sound_lawful places h l).fresh
-
-pub owned : (places : ℕ) (h : History) → IsLawful places h → IsOwned (effects_of h)
-owned places h l = (sound_lawful places h l).owned
-
-pub balanced : (places : ℕ) (h : History) → IsLawful places h → IsBalanced (effects_of h)
-balanced places h l = (sound_lawful places h l).balanced

@@ -11,8 +11,7 @@ use Rattle.sm_history.specs.declared.delivery.Delivery.{Delivery}
 use Rattle.sm_history.specs.declared.outcome.Outcome.{Outcome}
 use Rattle.sm_history.specs.declared.entry.Entry.{Entry}
 use Rattle.sm_history.specs.declared.event.Event.{Event}
-use Rattle.sm_history.specs.declared.event.Event.TheVariants.{Open, Connect, Add, Get, Watch as WatchName, Unwatch}
-use Rattle.sm_history.specs.declared.event.Event.TheVariants.{Unregister, Call, Release, Take, Die, Reload}
+use Rattle.sm_history.specs.declared.event.Event.TheVariants.{Add, Get, Watch as WatchName, Call}
 use Rattle.sm_history.specs.declared.reply.Reply.TheVariants.{Done}
 use Rattle.sm_history.specs.declared.failed_check.FailedCheck.{FailedCheck}
 use Rattle.sm_history.specs.Effects.{Effect, Effects, Service, Watch, Adds, Gives, Watches}
@@ -35,6 +34,7 @@ use Rattle.sm_history.specs.Lawful.{AreLawful, IsLawful}
 use Rattle.sm_history.specs.Listing.{told_deliveries, notice_deliveries, listed_deliveries, number_in, numbers_in}
 use Rattle.sm_history.specs.Listing.{message_numbers, delivery_numbers, listed_numbers, listed_clients, all_listed}
 use Rattle.sm_history.specs.Listing.{delivery_made, number_made, ListsEffects}
+use Rattle.sm_history.proofs.Keeps.{handed_keeps, notices_keep, refs_keep, told_keeps}
 use Rattle.sm_history.proofs.Owners.{not_done, AllHold}
 use Rattle.sm_history.proofs.AgreeEvents.{Passes}
 use Rattle.sm_history.proofs.SoundHistory.{met}
@@ -42,10 +42,6 @@ use Rattle.sm_history.proofs.SoundHistory.{met}
 -- What a change adds, in front of what was there.
 abbrev Puts : {A : Type 0} → (Effect → Option A) → Effects → List A → Effects → Type 0
 Puts of d xs e = filter_map of e ≡ reverse xs ++ filter_map of d
-
-puts_nothing : {A : Type 0} (of : Effect → Option A) (d e : Effects) → filter_map of e ≡ filter_map of d →
-    Puts of d [] e
-puts_nothing of d e same = same
 
 puts_more : {A : Type 0} (of : Effect → Option A) (d e f : Effects) (xs ys : List A) → Puts of d xs e → Puts of e ys f
     → Puts of d (xs ++ ys) f
@@ -56,14 +52,7 @@ puts_more of d e f xs ys first then_ =
 -- ---- one object passed
 
 handed_deliveries : (d : Effects) (c : ℕ) (n : Node) → Puts delivery_made d [] (handed d c n)
-handed_deliveries d c n =
-    elim (n.owner.0 == c) as (λ b. filter_map delivery_made (if b then d else Gives c n (number_for d c n) ∷ d)
-    ≡ filter_map delivery_made d) [ true ↦ refl | false ↦ refl ]
-
-handed_clients : (d : Effects) (c : ℕ) (n : Node) → Puts connected d [] (handed d c n)
-handed_clients d c n =
-    elim (n.owner.0 == c) as (λ b. filter_map connected (if b then d else Gives c n (number_for d c n) ∷ d)
-    ≡ filter_map connected d) [ true ↦ refl | false ↦ refl ]
+handed_deliveries d c n = handed_keeps (Puts delivery_made d []) (λ k m r e h. h) d c n refl
 
 handed_numbers : (d : Effects) (c : ℕ) (n : Node) → Puts number_made d (number_in (given_to d c n)) (handed d c n)
 handed_numbers d c n =
@@ -75,28 +64,10 @@ handed_numbers d c n =
 
 -- ---- references in order
 
-ref_deliveries : (d : Effects) (to : ℕ) (o : Option Node) → Puts delivery_made d [] (handed_ref d to o)
-ref_deliveries d to None = refl
-ref_deliveries d to (Some n) = handed_deliveries d to n
-
-ref_clients : (d : Effects) (to : ℕ) (o : Option Node) → Puts connected d [] (handed_ref d to o)
-ref_clients d to None = refl
-ref_clients d to (Some n) = handed_clients d to n
-
 ref_numbers : (d : Effects) (to : ℕ) (o : Option Node)
     → Puts number_made d (number_in (given_ref d to o)) (handed_ref d to o)
 ref_numbers d to None = refl
 ref_numbers d to (Some n) = handed_numbers d to n
-
-refs_deliveries : (d : Effects) (from to : ℕ) (rs : List ObjRef) → Puts delivery_made d [] (handed_refs d from to rs)
-refs_deliveries d from to [] = refl
-refs_deliveries d from to (r ∷ rs) =
-    let o = resolve_at d from r in refs_deliveries (handed_ref d to o) from to rs ∙ ref_deliveries d to o
-
-refs_clients : (d : Effects) (from to : ℕ) (rs : List ObjRef) → Puts connected d [] (handed_refs d from to rs)
-refs_clients d from to [] = refl
-refs_clients d from to (r ∷ rs) =
-    let o = resolve_at d from r in refs_clients (handed_ref d to o) from to rs ∙ ref_clients d to o
 
 refs_numbers : (d : Effects) (from to : ℕ) (rs : List ObjRef)
     → Puts number_made d (numbers_in (given_refs d from to rs)) (handed_refs d from to rs)
@@ -119,10 +90,6 @@ told_numbers d n w None =
     handed_numbers d w.client n
     ∙ ap (λ xs. reverse xs ++ filter_map number_made d) (sym (append-nil (number_in (given_to d w.client n))))
 told_numbers d n w (Some failing) = refl
-
-told_clients : (d : Effects) (n : Node) (w : Watch) (o : Option FailedCheck) → Puts connected d [] (after_told d n w o)
-told_clients d n w None = handed_clients d w.client n
-told_clients d n w (Some failing) = refl
 
 numbers_both : (xs ys : List Delivery)
     → delivery_numbers (xs ++ ys) ≡ delivery_numbers xs ++ delivery_numbers ys
@@ -148,11 +115,6 @@ notices_numbers d n (w ∷ ws) =
     puts_more number_made d e (after_notices e n ws) (delivery_numbers xs) (delivery_numbers ys)
     (told_numbers d n w o) (notices_numbers e n ws)
     ∙ ap (λ ns. reverse ns ++ filter_map number_made d) (sym (numbers_both xs ys))
-
-notices_clients : (d : Effects) (n : Node) (ws : List Watch) → Puts connected d [] (after_notices d n ws)
-notices_clients d n [] = refl
-notices_clients d n (w ∷ ws) =
-    let o = first_missing d n w in notices_clients (after_told d n w o) n ws ∙ told_clients d n w o
 
 -- ---- each event
 
@@ -182,7 +144,8 @@ lists_get d c name (Some s) is a =
       deliveries = ap (λ o. filter_map delivery_made (after_get d c o)) is ∙ handed_deliveries d c s.node;
       numbers = ap (λ o. filter_map number_made (after_get d c o)) is ∙ numbers
           ∙ ap (λ o. handle_number d c o ∷ filter_map number_made d) (sym is);
-      clients = ap (λ o. filter_map connected (after_get d c o)) is ∙ handed_clients d c s.node;
+      clients = ap (λ o. filter_map connected (after_get d c o)) is
+          ∙ handed_keeps (Puts connected d []) (λ k m r b h. h) d c s.node refl;
     }
 
 lists_watch : (d : Effects) (c : ℕ) (name : List ℕ) (object : ℕ) (o : Option Service) → service_at d name ≡ o
@@ -205,36 +168,31 @@ lists_watch d c name object (Some s) is =
           (sym is);
       numbers = ap (λ o. filter_map number_made (after_watch e w o)) is ∙ told_numbers e s.node w x
           ∙ ap (λ o. reverse (listed_numbers (Watched (notice_of_watch e w o))) ++ filter_map number_made d) (sym is);
-      clients = ap (λ o. filter_map connected (after_watch e w o)) is ∙ told_clients e s.node w x;
+      clients = ap (λ o. filter_map connected (after_watch e w o)) is
+          ∙ told_keeps (Puts connected d []) (λ k m r b h. h) (λ k y b h. h) e s.node w x refl;
     }
 
 lists : (d : Effects) (c : ℕ) (event : Event) → Passes d c event → Lists d c event
-lists d c (Open who policy) a = record { deliveries = refl; numbers = refl; clients = refl }
-lists d c (Connect who) a = record { deliveries = refl; numbers = refl; clients = refl }
 lists d c (Add name obj allow dump) a =
     let n = found (resolve_at d c obj) in let e : Effects = Adds name (service c n allow dump) ∷ d in
     record {
       deliveries = notices_put e n (watchers_at d name);
       numbers = notices_numbers e n (watchers_at d name);
-      clients = notices_clients e n (watchers_at d name);
+      clients = notices_keep (Puts connected d []) (λ k m r b h. h) (λ k x b h. h) e n (watchers_at d name) refl;
     }
 lists d c (Get name) a = lists_get d c name (service_at d name) refl a
 lists d c (WatchName name object) a = lists_watch d c name object (service_at d name) refl
-lists d c (Unwatch name object) a = record { deliveries = refl; numbers = refl; clients = refl }
-lists d c (Unregister name obj) a = record { deliveries = refl; numbers = refl; clients = refl }
 lists d c (Call handle payload refs) a =
     let n = found (node_at d c handle) in
     record {
-      deliveries = ap (λ xs. call_delivery d c n payload refs ∷ xs) (refs_deliveries d c n.owner.0 refs);
+      deliveries = ap (λ xs. call_delivery d c n payload refs ∷ xs)
+          (refs_keep (Puts delivery_made d []) (λ k m r b h. h) d c n.owner.0 refs refl);
       numbers = refs_numbers d c n.owner.0 refs
           ∙ ap (λ xs. reverse xs ++ filter_map number_made d)
           (sym (append-nil (numbers_in (given_refs d c n.owner.0 refs))));
-      clients = refs_clients d c n.owner.0 refs;
+      clients = refs_keep (Puts connected d []) (λ k m r b h. h) d c n.owner.0 refs refl;
     }
-lists d c (Release handle) a = record { deliveries = refl; numbers = refl; clients = refl }
-lists d c Take a = record { deliveries = refl; numbers = refl; clients = refl }
-lists d c Die a = record { deliveries = refl; numbers = refl; clients = refl }
-lists d c (Reload expected policy) a = record { deliveries = refl; numbers = refl; clients = refl }
+lists d c _ a = record { deliveries = refl; numbers = refl; clients = refl }
 
 -- ---- histories
 

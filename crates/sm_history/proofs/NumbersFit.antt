@@ -8,8 +8,7 @@ use Rattle.std.proofs.lemmas.Bool.{true≢false, and_parts}
 use Rattle.sm_kinds.specs.declared.number.Node.{Node}
 use Rattle.sm_history.specs.declared.by.By.{By}
 use Rattle.sm_history.specs.declared.event.Event.{Event}
-use Rattle.sm_history.specs.declared.event.Event.TheVariants.{Open, Connect, Add, Get, Watch as WatchName, Unwatch}
-use Rattle.sm_history.specs.declared.event.Event.TheVariants.{Unregister, Call, Release, Take, Die, Reload}
+use Rattle.sm_history.specs.declared.event.Event.TheVariants.{Die}
 use Rattle.sm_history.specs.declared.entry.Entry.{Entry}
 use Rattle.sm_history.specs.declared.limits.TheConstants.{GREATEST}
 use Rattle.sm_history.specs.declared.outcome.Outcome.{Outcome}
@@ -133,18 +132,8 @@ numbers_die places h by turn outcome fits done =
 
 -- A death, or another event.
 death_or : (event : Event) → (event ≡ Die) ⊎ (is_die event ≡ false)
-death_or (Open who policy) = inr refl
-death_or (Connect who) = inr refl
-death_or (Add name obj allow dump) = inr refl
-death_or (Get name) = inr refl
-death_or (WatchName name object) = inr refl
-death_or (Unwatch name object) = inr refl
-death_or (Unregister name obj) = inr refl
-death_or (Call handle payload refs) = inr refl
-death_or (Release handle) = inr refl
-death_or Take = inr refl
 death_or Die = inl refl
-death_or (Reload expected policy) = inr refl
+death_or _ = inr refl
 
 numbers_case : (places : ℕ) (h : History) (e : Entry) → Sound (effects_of h) → FitsNumbers h
     → verdict places h e.by e.turn e.event ≡ Done e.outcome → (e.event ≡ Die) ⊎ (is_die e.event ≡ false)

@@ -16,8 +16,7 @@ use Rattle.sm_history.specs.declared.service.Service.{Service}
 use Rattle.sm_history.specs.Effects.{Effects, Adds, Removes}
 use Rattle.sm_history.specs.Rising.{AllAfter, IsRising}
 use Rattle.sm_history.specs.Services.{service_at, last_said, names_added, current_names, inserted_name, placed_by}
-use Rattle.sm_history.specs.Services.{said_or}
-use Rattle.sm_history.specs.Services.{Silent, Gone}
+use Rattle.sm_history.specs.Services.{said_or, Silent, Gone}
 
 pub same_bytes : (a b : List ℕ) → bytes_eq a b ≡ true → a ≡ b
 same_bytes a b e = (bytes_eq-Decides a b).0 e

@@ -18,17 +18,16 @@ use Rattle.sm_history.specs.Services.{service_at, last_said, if_owner_lives, cur
 use Rattle.sm_history.specs.Inboxes.{inbox_at}
 use Rattle.sm_history.specs.Agreeing.{Agree}
 use Rattle.sm_history.specs.Rows.{LiveRow, HeldRow, live_row, greatest, top_number, held_under, held_row, held_rows}
-use Rattle.sm_history.specs.Rows.{waiting_rows, rows_at, put_live, live_put, names_put, held_put, watches_put}
-use Rattle.sm_history.specs.Rows.{resumed}
+use Rattle.sm_history.specs.Rows.{waiting_rows, rows_at, put_live, live_put, names_put, held_put, watches_put, resumed}
 use Rattle.sm_history.proofs.Balanced.{number_same, node_same}
 use Rattle.sm_history.proofs.Grants.{same_self}
 use Rattle.sm_history.proofs.Rising.{in_current}
 use Rattle.sm_history.proofs.HeldAlike.{node_held, node_not_held, held_among}
 use Rattle.sm_history.proofs.AfterClients.{filter_both}
-use Rattle.sm_history.proofs.PutRows.{quiet, past_waiting, past_watches, past_held, past_names, AllOf, IfSomeOf}
-use Rattle.sm_history.proofs.PutRows.{all_each, all_flat, all_filter_map, connects_put, connected_put, among}
-use Rattle.sm_history.proofs.PutRows.{identity_put, said_put, watches_made_put, for_client, deliveries_put, for_one}
-use Rattle.sm_history.proofs.PutRows.{weight, granted_put, HasNumber, number_put}
+use Rattle.sm_history.proofs.PutRows.{quiet, past_rows, untouched, past_waiting, past_watches, past_held, past_names}
+use Rattle.sm_history.proofs.PutRows.{AllOf, IfSomeOf, all_each, all_flat, all_filter_map, connects_put, connected_put}
+use Rattle.sm_history.proofs.PutRows.{among, identity_put, said_put, watches_made_put, for_client, deliveries_put}
+use Rattle.sm_history.proofs.PutRows.{for_one, weight, granted_put, HasNumber, number_put}
 use Rattle.sm_history.specs.Sound.{HasOneEach, IsOnce, Sound, deliveries, granted, released, takes}
 use Rattle.sm_history.proofs.Living.{any_live}
 
@@ -47,19 +46,16 @@ connect_back : (d : Effects) (c : ℕ) → list_any (is_connect_of c) (resumed (
 connect_back d c =
     let r = rows_at d in
     let F = λ (b : Effects). list_any (is_connect_of c) b in
-    past_waiting F r (λ k x b. refl) ∙ past_watches F r (λ w b. refl) ∙ past_held F r (λ k n j b. refl) ∙
-    past_names F r (λ n s b. refl)
+    past_rows F r (λ k x b. refl) (λ w b. refl) (λ k n j b. refl) (λ n s b. refl)
     ∙ connects_put c r.live (Sets r.policy ∷ Opens r.manager ∷ [])
     ∙ or_none (list_any (λ (x : LiveRow). x.client == c) r.live)
     ∙ any_rows d c (live_clients d) ∙ any_live d c
 
 death_back : (d : Effects) (c : ℕ) → list_any (is_death_of c) (resumed (rows_at d)) ≡ false
 death_back d c =
-    let r = rows_at d in
-    let F = λ (b : Effects). list_any (is_death_of c) b in
-    past_waiting F r (λ k x b. refl) ∙ past_watches F r (λ w b. refl) ∙ past_held F r (λ k n j b. refl) ∙
-    past_names F r (λ n s b. refl)
-    ∙ quiet F put_live (λ x b. refl) r.live (Sets r.policy ∷ Opens r.manager ∷ [])
+    untouched (λ (b : Effects). list_any (is_death_of c) b) (rows_at d) (λ k x b. refl) (λ w b. refl) (λ k n j b. refl)
+    (λ n s b. refl)
+    (λ x b. refl)
 
 and_true : (a : Bool) → (a && true) ≡ a
 and_true true = refl
@@ -89,8 +85,7 @@ list_back d =
     let F = λ (b : Effects). filter_map connected b in
     let ids = map (λ (x : LiveRow). x.client) r.live in
     ap (λ xs. filter (is_live (resumed r)) (reverse xs))
-    (past_waiting F r (λ k x b. refl) ∙ past_watches F r (λ w b. refl) ∙ past_held F r (λ k n j b. refl) ∙
-    past_names F r (λ n s b. refl)
+    (past_rows F r (λ k x b. refl) (λ w b. refl) (λ k n j b. refl) (λ n s b. refl)
     ∙ connected_put r.live (Sets r.policy ∷ Opens r.manager ∷ []) ∙ append-nil (reverse ids))
     ∙ ap (filter (is_live (resumed r))) (reverse-reverse ids ∙ ids_back d ks)
     ∙ filter_agree (is_live (resumed r)) (is_live d) (λ c. live_back d c) ks
@@ -100,8 +95,7 @@ pub who_back : (d : Effects) (c : ℕ) → is_live d c ≡ true → identity_at 
 who_back d c live =
     let r = rows_at d in
     let F = λ (b : Effects). identity_at b c in
-    sym (past_waiting F r (λ k x b. refl) ∙ past_watches F r (λ w b. refl) ∙ past_held F r (λ k n j b. refl) ∙
-    past_names F r (λ n s b. refl)
+    sym (past_rows F r (λ k x b. refl) (λ w b. refl) (λ k n j b. refl) (λ n s b. refl)
     ∙ identity_put d c (live_clients d) (Sets r.policy ∷ Opens r.manager ∷ [])
     ∙ rw (any_live d c ∙ live) refl)
 
@@ -266,11 +260,9 @@ granted_back d c n =
 
 pub released_back : (d : Effects) (c : ℕ) (n : Node) → released (resumed (rows_at d)) c n ≡ 0
 released_back d c n =
-    let r = rows_at d in
-    let F = λ (b : Effects). released b c n in
-    past_waiting F r (λ k x b. refl) ∙ past_watches F r (λ w b. refl) ∙ past_held F r (λ k m j b. refl) ∙
-    past_names F r (λ x s b. refl)
-    ∙ quiet F put_live (λ x b. refl) r.live (Sets r.policy ∷ Opens r.manager ∷ [])
+    untouched (λ (b : Effects). released b c n) (rows_at d) (λ k x b. refl) (λ w b. refl) (λ k m j b. refl)
+    (λ x s b. refl)
+    (λ x b. refl)
 
 refs_case : (live live' : Bool) (v g s : ℕ) → live' ≡ live → s ≡ 0 → (live ≡ true → g ≡ v) → (live ≡ false → v ≡ 0)
     → v ≡ (if live' then g - s else 0)
@@ -376,11 +368,8 @@ waits_flat c d (k ∷ ks) once =
 
 pub takes_back : (d : Effects) (c : ℕ) → takes (resumed (rows_at d)) c ≡ 0
 takes_back d c =
-    let r = rows_at d in
-    let F = λ (b : Effects). takes b c in
-    past_waiting F r (λ k x b. refl) ∙ past_watches F r (λ w b. refl) ∙ past_held F r (λ k m j b. refl) ∙
-    past_names F r (λ x s b. refl)
-    ∙ quiet F put_live (λ x b. refl) r.live (Sets r.policy ∷ Opens r.manager ∷ [])
+    untouched (λ (b : Effects). takes b c) (rows_at d) (λ k x b. refl) (λ w b. refl) (λ k m j b. refl) (λ x s b. refl)
+    (λ x b. refl)
 
 deliveries_back : (d : Effects) (c : ℕ)
     → reverse (deliveries (resumed (rows_at d)) c) ≡ filter_map (for_client c) (rows_at d).waiting
@@ -410,19 +399,13 @@ inbox_back d c s =
 
 pub policy_back : (d : Effects) → policy_at d ≡ policy_at (resumed (rows_at d))
 policy_back d =
-    let r = rows_at d in
-    let F = policy_at in
-    sym (past_waiting F r (λ k x b. refl) ∙ past_watches F r (λ w b. refl) ∙ past_held F r (λ k m j b. refl) ∙
-    past_names F r (λ x s b. refl)
-    ∙ quiet F put_live (λ x b. refl) r.live (Sets r.policy ∷ Opens r.manager ∷ []))
+    sym (untouched policy_at (rows_at d) (λ k x b. refl) (λ w b. refl) (λ k m j b. refl) (λ x s b. refl)
+    (λ x b. refl))
 
 pub manager_back : (d : Effects) → manager_at d ≡ manager_at (resumed (rows_at d))
 manager_back d =
-    let r = rows_at d in
-    let F = manager_at in
-    sym (past_waiting F r (λ k x b. refl) ∙ past_watches F r (λ w b. refl) ∙ past_held F r (λ k m j b. refl) ∙
-    past_names F r (λ x s b. refl)
-    ∙ quiet F put_live (λ x b. refl) r.live (Sets r.policy ∷ Opens r.manager ∷ []))
+    sym (untouched manager_at (rows_at d) (λ k x b. refl) (λ w b. refl) (λ k m j b. refl) (λ x s b. refl)
+    (λ x b. refl))
 
 pub agree_rows : (d : Effects) → Sound d → Agree d (resumed (rows_at d))
 agree_rows d s = record {

@@ -2,7 +2,7 @@
 -- be gone on from.
 use Rattle.std.proofs.Common.{inl, inr, ◌⊎◌, ◌≡◌, ℕ, Bool, true, false, List, [], ◌∷◌, ◌++◌, refl, ap, sym, ◌∙◌}
 use Rattle.std.proofs.Common.{subst, map, Option, None, if◌then◌else◌, arith}
-use Rattle.std.specs.Prelude.{filter}
+use Rattle.std.specs.Prelude.{filter, reverse, filter_map}
 use Rattle.std.specs.List.{list_any}
 use Rattle.std.proofs.lemmas.Bool.{true≢false}
 use Rattle.std.proofs.lemmas.List.{length-append}
@@ -18,7 +18,6 @@ use Rattle.sm_history.specs.declared.failed_check.EarlyAnswer.TheVariants.{Refus
 use Rattle.sm_history.specs.declared.refusal.Refusal.TheVariants.{JournalFull}
 use Rattle.sm_history.specs.Effects.{Effects}
 use Rattle.sm_history.specs.Clients.{is_live, live_clients, policy_at, connected}
-use Rattle.std.specs.Prelude.{reverse, filter_map}
 use Rattle.sm_history.specs.Checks.{Check, Wants, first_failing}
 use Rattle.sm_history.specs.Rows.{Rows, rows_at}
 use Rattle.sm_history.specs.Openings.{Opening, TurnRow, blank_opening, is_same}

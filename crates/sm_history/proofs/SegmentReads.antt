@@ -23,7 +23,7 @@ use Rattle.sm_history.specs.declared.reply.Answer.{Answer}
 use Rattle.sm_history.specs.declared.reply.Answer.TheVariants.{Names, Why}
 use Rattle.sm_history.specs.declared.reply.Reply.TheVariants.{Done, Looked}
 use Rattle.sm_history.specs.declared.failed_check.EarlyAnswer.TheVariants.{Refused}
-use Rattle.sm_history.specs.declared.refusal.Refusal.TheVariants.{Failed, JournalFull}
+use Rattle.sm_history.specs.declared.refusal.Refusal.TheVariants.{Failed}
 use Rattle.sm_history.specs.declared.refusal.Failure.TheVariants.{NotYours, NotConnected}
 use Rattle.sm_history.specs.Effects.{Effects}
 use Rattle.sm_history.specs.Clients.{is_live, live_clients, next_client, policy_at}
@@ -36,11 +36,11 @@ use Rattle.sm_history.specs.SegmentLaw.{SegmentsRead}
 use Rattle.sm_history.proofs.TurnRows.{same_actor, turn_rows}
 use Rattle.sm_history.proofs.HistoryLaws.{no_turns_apart}
 use Rattle.sm_history.proofs.Induction.{sound_apart}
-use Rattle.sm_history.specs.Verdict.{is_there, service_meets, verdict, has_place}
+use Rattle.sm_history.specs.Verdict.{is_there, service_meets}
 use Rattle.sm_history.specs.Queries.{is_their_query, query_checks, list_checks, found_out, names_by_mask, shares_bit}
 use Rattle.sm_history.specs.Queries.{query_verdict, looked, checks_of_query}
 use Rattle.sm_history.specs.Segments.{with_admin, admins_after, admins_of, client, actors_of, rows_of, segment_of}
-use Rattle.sm_history.specs.Segments.{judged, looked_at, asked, verdict_apart}
+use Rattle.sm_history.specs.Segments.{looked_at, asked, verdict_apart}
 use Rattle.sm_history.proofs.LawfulLaws.{next_after}
 use Rattle.sm_history.proofs.Rising.{names_alike}
 use Rattle.sm_history.proofs.AgreeEffects.{Sim}
@@ -245,12 +245,6 @@ asked_alike d e len by q s =
     ∙ looked_alike d e len q (first_failing (policy_at e)
     (Wants (is_their_query by q) (Refused (Failed NotYours)) ∷ rest e)) s
 
--- The words above are those of the verdict.
-verdict_is : (places : ℕ) (h : History) (by : By) (turn : ℕ) (event : Event)
-    → verdict places h by turn event ≡ judged (effects_of h) (turn_of h by) by turn event
-    (Wants (has_place places h (client_of by) event) (Refused JournalFull) ∷ [])
-verdict_is places h by turn event = refl
-
 looked_is : (h : History) (q : Query) (o : Option FailedCheck)
     → looked h q o ≡ looked_at (effects_of h) (length_of h) q o
 looked_is h q None = refl
@@ -273,17 +267,3 @@ segments_read a b la l =
           ∙ ap (λ (n : ℕ). asked (effects_of g) n by q) (let n = length-append b a in omega (arith, n))
           ∙ sym (answer_is g by q);
     }
-
--- Where both have a place or neither has, the whole verdicts are the same.
-pub verdicts_read : (p q : ℕ) (a b : List Entry) (by : By) (turn : ℕ) (event : Event) → AreLawfulApart a
-    → AreLawfulApart (b ++ a)
-    → has_place p (whole (b ++ a)) (client_of by) event ≡ has_place q (segment_of a b) (client_of by) event
-    → verdict p (whole (b ++ a)) by turn event ≡ verdict q (segment_of a b) by turn event
-verdicts_read p q a b by turn event la l same =
-    let f = follows a b la l in
-    let h = whole (b ++ a) in
-    let g = segment_of a b in
-    judged_alike (effects_of h) (effects_of g) (turn_of h by) (turn_of g by) by turn event
-    (Wants (has_place p h (client_of by) event) (Refused JournalFull) ∷ []) f.sim
-    (λ there. f.turns by (speaks_there (effects_of h) by there))
-    ∙ ap (λ (t : Bool). judged (effects_of g) (turn_of g by) by turn event (Wants t (Refused JournalFull) ∷ [])) same

@@ -101,8 +101,4 @@ which_stays _ m = absurd (true≢false m)
 pub unseen : (b after : Book) (old : Knows) (event : Event) (r : Reply) → IsLawfulBook old.seen → moves r ≡ false
     → Steps b old.by (turn old) event r after → Submitted old old event r
 unseen b after old event (Refused r) lawful m s = stays b after old event r lawful (which_stays r m) s
-unseen b after old event (Done o) lawful m s = absurd (true≢false m)
-unseen b after old event GotNull lawful m s = absurd (true≢false m)
-unseen b after old event (GotOwn o) lawful m s = absurd (true≢false m)
-unseen b after old event (Looked v l a) lawful m s = absurd (true≢false m)
-unseen b after old event (Sealed n l) lawful m s = absurd (true≢false m)
+unseen b after old event _ lawful m s = absurd (true≢false m)

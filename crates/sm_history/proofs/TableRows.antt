@@ -1,7 +1,6 @@
 -- Tables that are what effects left are the rows of the effects.
-use Rattle.std.proofs.Common.{inl, inr, ◌⊎◌, ◌≡◌, ℕ, zero, suc, ◌+◌, ◌≤◌, Bool, true, false, ◌==◌, List, []}
-use Rattle.std.proofs.Common.{◌∷◌, refl, ap, sym, ◌∙◌, subst, length, map, Option, Some, None, arith}
-use Rattle.std.proofs.Common.{cond}
+use Rattle.std.proofs.Common.{inl, inr, ◌⊎◌, ◌≡◌, ℕ, zero, suc, ◌+◌, ◌≤◌, Bool, true, false, ◌==◌, List, [], ◌∷◌, refl}
+use Rattle.std.proofs.Common.{ap, sym, ◌∙◌, subst, length, map, Option, Some, None, arith, cond}
 use Rattle.std.specs.Prelude.{filter_map, option_map, is_some}
 use Rattle.std.specs.List.{list_any, flat_map, range_with_len, cons_option}
 use Rattle.std.proofs.lemmas.Bool.{or_parts}
@@ -21,9 +20,8 @@ use Rattle.sm_history.specs.Sound.{Sound, IsOnce}
 use Rattle.sm_history.specs.Rows.{Rows, LiveRow, HeldRow, NamedRow, WaitingRow, live_row, top_number, held_row}
 use Rattle.sm_history.specs.Rows.{held_under, held_rows, named_under, waiting_rows, rows_at}
 use Rattle.sm_history.specs.Tables.{Slots, slot, slot_at, slot_row, slot_under, client_row_of, row_in, names_of}
-use Rattle.sm_history.specs.Tables.{service_of}
-use Rattle.sm_history.specs.Tables.{clients_of, live_of, held_of, waiting_of, tables_of, IsClient, IsRowFor}
-use Rattle.sm_history.specs.Tables.{TracksNames, TracksTables}
+use Rattle.sm_history.specs.Tables.{service_of, clients_of, live_of, held_of, waiting_of, tables_of, IsClient}
+use Rattle.sm_history.specs.Tables.{IsRowFor, TracksNames, TracksTables}
 use Rattle.sm_history.proofs.HeldAlike.{node_held, held_among}
 use Rattle.sm_history.proofs.RowsBack.{below_top}
 use Rattle.sm_history.proofs.PutRows.{AllOf}

@@ -20,22 +20,20 @@ use Rattle.sm_history.specs.declared.denial.Denial.{Denial}
 use Rattle.sm_history.specs.declared.denial.Denial.TheVariants.{Rule, App, Isolated}
 use Rattle.sm_history.specs.declared.event.Event.{Event}
 use Rattle.sm_history.specs.declared.event.Event.TheVariants.{Open, Connect, Add, Get, Watch as WatchName, Unwatch}
-use Rattle.sm_history.specs.declared.event.Event.TheVariants.{Unregister, Call, Release, Take, Die, Reload}
+use Rattle.sm_history.specs.declared.event.Event.TheVariants.{Unregister, Call, Die}
 use Rattle.sm_history.specs.declared.query.Query.{Query}
 use Rattle.sm_history.specs.declared.query.Query.TheVariants.{List as ListNames, Version, Explain}
 use Rattle.sm_history.specs.declared.records.Record.{Record}
 use Rattle.sm_history.specs.declared.failed_check.EarlyAnswer.{EarlyAnswer}
 use Rattle.sm_history.specs.declared.failed_check.EarlyAnswer.TheVariants.{Refused}
-use Rattle.sm_history.specs.declared.failed_check.FailedCheck.{FailedCheck}
 use Rattle.sm_history.specs.declared.refusal.Refusal.TheVariants.{Failed, JournalFull}
 use Rattle.sm_history.specs.declared.refusal.Failure.TheVariants.{NotYours, NotConnected, OutOfTurn}
-use Rattle.sm_history.specs.Effects.{Effects, Service, Watch, Adds, Watches, Gives}
-use Rattle.sm_history.specs.Clients.{manager_at, identity_at, is_live, is_opened, policy_at}
-use Rattle.sm_history.specs.Clients.{version_at}
+use Rattle.sm_history.specs.Effects.{Effects, Service, Watch, Adds, Watches}
+use Rattle.sm_history.specs.Clients.{manager_at, identity_at, is_live, is_opened, policy_at, version_at}
 use Rattle.sm_history.specs.Checks.{Check, Needs, Spares, Wants, holds, first_failing}
-use Rattle.sm_history.specs.Holdings.{resolve_at, node_at, handed, number_for}
+use Rattle.sm_history.specs.Holdings.{resolve_at, node_at}
 use Rattle.sm_history.specs.Services.{service_at, watchers_at}
-use Rattle.sm_history.specs.Notices.{notice_checks, first_missing, after_told, after_notice}
+use Rattle.sm_history.specs.Notices.{notice_checks, first_missing, after_notice}
 use Rattle.sm_history.specs.Histories.{History, length_of, turn_of, client_of, effects_of, found, service, watch}
 use Rattle.sm_history.specs.Verdict.{event_checks, is_theirs, is_there, has_place, passes_to_manager}
 use Rattle.sm_history.specs.Verdict.{passes_to_client, all_pass_to_client, handing_checks}
@@ -46,6 +44,7 @@ use Rattle.sm_history.specs.Records.{IsDeniedBy, IsTrueOf}
 use Rattle.sm_history.proofs.AgreeChecks.{Acts}
 use Rattle.sm_history.proofs.AgreeEvents.{acts_of}
 use Rattle.sm_history.proofs.AgreeNotices.{AllLive, watchers_live}
+use Rattle.sm_history.proofs.Keeps.{told_keeps}
 
 -- ---- the identities of effects
 
@@ -185,53 +184,26 @@ event_good : (d : Effects) (c : ℕ) (event : Event) → is_opened d ≡ true �
     → AllGood d (event_checks d c event)
 event_good d c (Open who policy) opened acts = tt
 event_good d c (Connect who) opened acts = (tt, tt)
-event_good d c (Reload expected policy) opened acts = (tt, tt)
 event_good d c (Add name obj allow dump) opened live = (
   live_stands d c live,
   good_append d (passes_to_manager d c obj) _ (to_manager_good d c obj live)
       (barred_good d c live, (live_stands d c live, (tt, (tt, (tt, (tt, tt)))))),
 )
-event_good d c (Get name) opened live = (
-  live_stands d c live,
-  (
-    isolated_good d c _ live,
-    (
-      live_stands d c live,
-      (
-        tt,
-        (
-          opened_stands d opened,
-          handing_good d c (service_at d name),
-        ),
-      ),
-    ),
-  ),
-)
-event_good d c (WatchName name object) opened live = (
-  live_stands d c live,
-  (live_stands d c live, (live_stands d c live, (isolated_good d c true live, (tt, (tt, tt))))),
-)
-event_good d c (Unwatch name object) opened live =
-    (live_stands d c live, (live_stands d c live, (live_stands d c live, (tt, tt))))
+event_good d c (Get name) opened live = let here = live_stands d c live in
+    (here, (isolated_good d c _ live, (here, (tt, (opened_stands d opened, handing_good d c (service_at d name))))))
+event_good d c (WatchName name object) opened live = let here = live_stands d c live in
+    (here, (here, (here, (isolated_good d c true live, (tt, (tt, tt))))))
+event_good d c (Unwatch name object) opened live = let here = live_stands d c live in (here, (here, (here, (tt, tt))))
 event_good d c (Unregister name obj) opened live = (
   live_stands d c live,
   good_append d (passes_to_manager d c obj) _ (to_manager_good d c obj live)
       (tt, (live_stands d c live, (tt, (tt, (tt, (tt, tt)))))),
 )
-event_good d c (Call handle payload refs) opened live = (
-  tt,
-  (
-    tt,
-    (
-      live_stands d c live,
-      good_append d (all_pass_to_client d c (found (node_at d c handle)).owner.0 refs) _
-          (all_to_client_good d c (found (node_at d c handle)).owner.0 refs live) (tt, tt),
-    ),
-  ),
-)
-event_good d c (Release handle) opened live = (tt, tt)
-event_good d c Take opened live = (tt, tt)
+event_good d c (Call handle payload refs) opened live = let k = (found (node_at d c handle)).owner.0 in
+    let all = all_to_client_good d c k refs live in
+    (tt, (tt, (live_stands d c live, good_append d (all_pass_to_client d c k refs) _ all (tt, tt))))
 event_good d c Die opened live = tt
+event_good d c _ opened acts = (tt, tt)
 
 -- ---- notices
 
@@ -239,17 +211,6 @@ event_good d c Die opened live = tt
 pub record SameProcesses (d e : Effects) : Type 0 where
   pub clients : (c : ℕ) → identity_at e c ≡ identity_at d c
   pub manager : manager_at e ≡ manager_at d
-
-handed_same : (d e : Effects) (c : ℕ) (n : Node) → SameProcesses d e → SameProcesses d (handed e c n)
-handed_same d e c n s = elim (n.owner.0 == c) as (λ b.
-    SameProcesses d (let f : Effects = if b then e else Gives c n (number_for e c n) ∷ e in f))
-    [ true ↦ s | false ↦ record { clients = s.clients; manager = s.manager } ]
-
-told_same : (d e : Effects) (n : Node) (w : Watch) (o : Option FailedCheck) → SameProcesses d e
-    → SameProcesses d (after_told e n w o)
-told_same d e n w None s = let t = handed_same d e w.client n s in
-    record { clients = t.clients; manager = t.manager }
-told_same d e n w (Some stop) s = s
 
 notice_good : (d e : Effects) (n : Node) (w : Watch) → SameProcesses d e → is_opened d ≡ true
     → is_live d w.client ≡ true
@@ -265,10 +226,12 @@ notices_true h e n [] s opened live = All-nil (IsTrueOf h)
 notices_true h e n (w ∷ ws) s opened live =
     let d = effects_of h in
     let lives = and_parts (is_live d w.client) (list_all (λ (v : Watch). is_live d v.client) ws) live in
+    let same = told_keeps (SameProcesses d) (λ c m r b i. record { clients = i.clients; manager = i.manager })
+    (λ c x b i. record { clients = i.clients; manager = i.manager }) e n w (first_missing e n w) s in
     All-append (IsTrueOf h) (left_by_all (moment_of h) (notice_checks e n w))
     (left_by_notices (moment_of h) (after_notice e n w) n ws)
     (left_all_true h (notice_checks e n w) (notice_good d e n w s opened lives.0))
-    (notices_true h (after_notice e n w) n ws (told_same d e n w (first_missing e n w) s) opened lives.1)
+    (notices_true h (after_notice e n w) n ws same opened lives.1)
 
 watch_true : (h : History) (e : Effects) (w : Watch) (o : Option Service) → SameProcesses (effects_of h) e
     → is_opened (effects_of h) ≡ true → is_live (effects_of h) w.client ≡ true
@@ -287,16 +250,7 @@ telling_true h c (WatchName name object) opened live =
     let d = effects_of h in
     watch_true h (Watches (watch c name object) ∷ d) (watch c name object) (service_at d name)
     (record { clients = λ k. refl; manager = refl }) opened live
-telling_true h c (Open who policy) opened acts = All-nil (IsTrueOf h)
-telling_true h c (Connect who) opened acts = All-nil (IsTrueOf h)
-telling_true h c (Reload expected policy) opened acts = All-nil (IsTrueOf h)
-telling_true h c (Get name) opened acts = All-nil (IsTrueOf h)
-telling_true h c (Unwatch name object) opened acts = All-nil (IsTrueOf h)
-telling_true h c (Unregister name obj) opened acts = All-nil (IsTrueOf h)
-telling_true h c (Call handle payload refs) opened acts = All-nil (IsTrueOf h)
-telling_true h c (Release handle) opened acts = All-nil (IsTrueOf h)
-telling_true h c Take opened acts = All-nil (IsTrueOf h)
-telling_true h c Die opened acts = All-nil (IsTrueOf h)
+telling_true h c _ opened acts = All-nil (IsTrueOf h)
 
 -- ---- events and queries
 

@@ -9,8 +9,7 @@ use Rattle.sm_kinds.specs.declared.number.ObjRef.TheVariants.{Own as OwnRef, Han
 use Rattle.sm_policy.specs.Policy.{Policy}
 use Rattle.sm_history.specs.declared.by.By.{By}
 use Rattle.sm_history.specs.declared.event.Event.{Event}
-use Rattle.sm_history.specs.declared.event.Event.TheVariants.{Open, Connect, Add, Get, Watch as WatchName, Unwatch}
-use Rattle.sm_history.specs.declared.event.Event.TheVariants.{Unregister, Call, Release, Take, Die, Reload}
+use Rattle.sm_history.specs.declared.event.Event.TheVariants.{Add, Get, Unregister, Call}
 use Rattle.sm_history.specs.declared.outcome.Outcome.{Outcome}
 use Rattle.sm_history.specs.declared.refusal.Refusal.TheVariants.{Failed}
 use Rattle.sm_history.specs.declared.refusal.Failure.TheVariants.{NotYours, NotConnected, OutOfTurn}
@@ -88,30 +87,19 @@ all_pass_plain d c k (r ∷ rs) = append_plain (passes_to_client d c k r) (all_p
 
 later_plain : (places : ℕ) (h : History) (by : By) (event : Event)
     → list_all plain (later_checks places h by event) ≡ true
-later_plain places h by (Open who policy) = refl
-later_plain places h by (Connect who) = refl
 later_plain places h by (Add name NullRef allow dump) = refl
-later_plain places h by (Add name (OwnRef o) allow dump) = refl
-later_plain places h by (Add name (HandleRef r) allow dump) = refl
 later_plain places h by (Get name) =
     let d = effects_of h in
     let c = client_of by in
     append_plain (handing_checks d c (service_at d name)) _ (handing_plain d c (service_at d name)) refl
-later_plain places h by (WatchName name object) = refl
-later_plain places h by (Unwatch name object) = refl
 later_plain places h by (Unregister name NullRef) = refl
-later_plain places h by (Unregister name (OwnRef o)) = refl
-later_plain places h by (Unregister name (HandleRef r)) = refl
 later_plain places h by (Call handle payload refs) =
     let d = effects_of h in
     let c = client_of by in
     let k = (found (node_at d c handle)).owner.0 in
     append_plain (all_pass_to_client d c k refs ++ _ ∷ []) _
     (append_plain (all_pass_to_client d c k refs) (_ ∷ []) (all_pass_plain d c k refs) refl) refl
-later_plain places h by (Release handle) = refl
-later_plain places h by Take = refl
-later_plain places h by Die = refl
-later_plain places h by (Reload expected policy) = refl
+later_plain places h by _ = refl
 
 -- ---- the checks of the actor, by whether each is met
 

@@ -29,14 +29,9 @@ turned k j = elim (k == j) as (λ a. (k == j) ≡ a → a ≡ (j == k)) [
 
 pub same_turned : (a b : By) → is_same a b ≡ is_same b a
 same_turned Manager Manager = refl
-same_turned Manager (Client b) = refl
-same_turned Manager (Admin b) = refl
-same_turned (Client a) Manager = refl
 same_turned (Client a) (Client b) = turned a.0 b.0
-same_turned (Client a) (Admin b) = refl
-same_turned (Admin a) Manager = refl
-same_turned (Admin a) (Client b) = refl
 same_turned (Admin a) (Admin b) = turned a.0 b.0
+same_turned _ _ = refl
 
 least : (v g : ℕ) → v < g → min (v + 1) g ≡ v + 1
 least v g lt = omega (arith, lt)

@@ -1,5 +1,4 @@
-use Rattle.std.proofs.Common.{◌∷◌, refl, sym, ap, ◌∙◌}
-use Rattle.std.proofs.Common.{List, [], ◌++◌}
+use Rattle.std.proofs.Common.{◌∷◌, refl, sym, ap, ◌∙◌, List, [], ◌++◌}
 use Rattle.sm_history.specs.declared.effect.Watch.{Watch}
 use Rattle.sm_history.proofs.AfterWatches.{watches_watches}
 use Rattle.sm_history.specs.declared.effect.Effect.TheVariants.{Watches}
