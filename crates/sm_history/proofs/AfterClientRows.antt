@@ -20,7 +20,7 @@ use Rattle.sm_history.specs.Sound.{Sound, HasOneEach}
 use Rattle.sm_history.specs.Following.{MayFollow, MayGive}
 use Rattle.sm_history.specs.Tables.{slot, slot_at, client_row_of, clients_of, IsPut, IsPlace, given_slot, released_slot}
 use Rattle.sm_history.specs.Tables.{IsClient, IsRowFor, TracksClients}
-use Rattle.sm_history.proofs.Balanced.{number_same, node_same}
+use Rattle.sm_history.proofs.Balanced.{number_same, node_same, turned}
 use Rattle.sm_history.proofs.Grants.{same_self, held_gives}
 use Rattle.sm_history.proofs.HeldAlike.{node_held, node_not_held, node_is, number_is}
 use Rattle.sm_history.proofs.Living.{any_live}
@@ -32,6 +32,8 @@ use Rattle.sm_history.proofs.AfterInboxes.{inbox_connects, inbox_dies, inbox_del
 use Rattle.sm_history.proofs.Followed.{sound_follows}
 use Rattle.sm_history.proofs.Counted.{one_more}
 use Rattle.sm_history.proofs.ClientRows.{by_client, self_same, row_read, row_written, row_pushed, row_gone}
+use Rattle.sm_history.proofs.NumbersFit.{below}
+use Rattle.std.proofs.lemmas.List.Elements.{filter_agree}
 
 -- ---- rows that stay
 
@@ -214,16 +216,6 @@ ids_gone (r ∷ rs) c = elim (r.client == c) as (λ b. clients_of (if not b then
     (clients_of rs)))
     [ true ↦ ids_gone rs c | false ↦ ap (λ (ks : List ℕ). r.client ∷ ks) (ids_gone rs c) ]
 
-turned : (k j : ℕ) → (k == j) ≡ (j == k)
-turned k j = elim (k == j) as (λ a. (k == j) ≡ a → a ≡ (j == k)) [
-  | true ↦ λ e. let f : (j == k) ≡ true = grind (arith, nat_tests) in sym f
-  | false ↦ λ e. let f : (j == k) ≡ false = grind (arith, nat_tests) in sym f
-] refl
-
-filter_turned : (c : ℕ) (ks : List ℕ) → filter (λ k. not (k == c)) ks ≡ filter (λ k. not (c == k)) ks
-filter_turned c [] = refl
-filter_turned c (k ∷ ks) = rw (turned k c, filter_turned c ks) refl
-
 pub same_dies : (d : Effects) (c k : ℕ) → Sound d → is_live d c ≡ true → (c == k) ≡ false → SameClient d (Dies c ∷ d) k
 same_dies d c k s live f =
     let e = Dies c ∷ d in
@@ -241,7 +233,8 @@ tracks_dies d c rows s live tr =
     let left = filter (λ (r : ClientRow). not (r.client == c)) rows in
     let changed = row_gone _ rows c in
     record {
-      ids = ids_gone rows c ∙ filter_turned c (clients_of rows) ∙ ap (filter (λ k. not (c == k))) tr.ids
+      ids = ids_gone rows c ∙ filter_agree (λ k. not (k == c)) (λ k. not (c == k)) (λ k. ap not (turned k c))
+          (clients_of rows) ∙ ap (filter (λ k. not (c == k))) tr.ids
           ∙ sym (list_dies d c);
       each = by_client (λ k. IsRowFor e k (client_row_of left k)) c (subst (IsRowFor e c) (sym changed.own) tt)
           (λ k f. subst (IsRowFor e k) (sym (changed.other k f))
@@ -299,9 +292,6 @@ own_gives d c n r s may =
 
 least : (v g : ℕ) → v < g → min v g ≡ v
 least v g lt = omega (arith, lt)
-
-below : (a b : ℕ) → nat_lt a b ≡ true → a < b
-below a b h = grind (arith, nat_tests)
 
 zero_refs : (v : ℕ) → nat_lt 0 v ≡ false → v ≡ 0
 zero_refs v h = grind (arith, nat_tests)

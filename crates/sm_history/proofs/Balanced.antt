@@ -30,6 +30,9 @@ balanced_lasts x d plain h = step x d (λ c n. refl) h
 pub number_same : (a b : ℕ) → (a == b) ≡ true → a ≡ b
 number_same a b h = grind (arith, nat_tests)
 
+pub turned : (k j : ℕ) → (k == j) ≡ (j == k)
+turned k j = grind (arith, nat_tests)
+
 pub node_same : (n m : Node) → same_node n m ≡ true → n ≡ m
 node_same n m h =
     let o = number_same n.owner.0 m.owner.0 (and_parts (n.owner.0 == m.owner.0) (n.object == m.object) h).0 in

@@ -4,7 +4,7 @@ use Rattle.std.proofs.Common.{◌≡◌, ℕ, ◌+◌, ◌≤◌, ◌<◌, Bool,
 use Rattle.std.proofs.Common.{subst, if◌then◌else◌, arith}
 use Rattle.std.specs.Prelude.{not}
 use Rattle.std.specs.List.{list_all}
-use Rattle.std.proofs.lemmas.Bool.{true≢false, and_parts}
+use Rattle.std.proofs.lemmas.Bool.{true≢false, and_parts, not-true}
 use Rattle.sm_kinds.specs.declared.number.Node.{Node}
 use Rattle.sm_history.specs.declared.limits.TheConstants.{GREATEST}
 use Rattle.sm_history.specs.Effects.{Effect, Effects, Connects, Dies, Gives, Releases, Resumes, same_node}
@@ -74,17 +74,13 @@ apart_sound d (Gives c n r) s m = sound_gives d c n r m.0
 apart_sound d (Resumes v n) s m = absurd m
 apart_sound d x s m = sound_follows d x s m
 
-none_back : (b : Bool) → not b ≡ true → b ≡ false
-none_back true e = absurd (true≢false (sym e))
-none_back false e = refl
-
 -- No count is less behind effects that give nothing back.
 pub counts_rise : (d : Effects) (xs : List Effect) → Sound d → MayAllApart d xs
     → list_all (λ x. not (gives_back x)) xs ≡ true → (k : ℕ) (m : Node) → refs_at d k m ≤ refs_at (followed d xs) k m
 counts_rise d [] s may back k m = omega arith
 counts_rise d (x ∷ xs) s (one, may) back k m =
     let parts = and_parts (not (gives_back x)) (list_all (λ y. not (gives_back y)) xs) back in
-    let first = refs_grow d x s.balanced (none_back (gives_back x) parts.0) k m in
+    let first = refs_grow d x s.balanced (not-true (gives_back x) parts.0) k m in
     let rest = counts_rise (x ∷ d) xs (apart_sound d x s one) may parts.1 k m in
     omega (arith, first, rest)
 

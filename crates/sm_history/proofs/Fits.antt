@@ -1,9 +1,7 @@
 -- An accepted change, a death too, leaves the places for the deaths to come.
-use Rattle.std.proofs.Common.{◌≡◌, ℕ, ◌+◌, ◌≤◌, true, false, ◌==◌, List, [], ◌∷◌, refl, ap, ◌∙◌, length, arith}
-use Rattle.std.proofs.Common.{if◌then◌else◌}
+use Rattle.std.proofs.Common.{◌≡◌, ℕ, ◌+◌, ◌≤◌, true, ◌==◌, List, [], ◌∷◌, refl, ap, ◌∙◌, length, arith, subst}
 use Rattle.std.specs.Prelude.{filter, not}
 use Rattle.std.specs.List.{list_any}
-use Rattle.std.proofs.lemmas.Bool.Decides.{nat_tests}
 use Rattle.sm_history.specs.declared.by.By.{By}
 use Rattle.sm_history.specs.declared.event.Event.{Event}
 use Rattle.sm_history.specs.declared.event.Event.TheVariants.{Die}
@@ -21,27 +19,15 @@ use Rattle.sm_history.proofs.SoundHistory.{met}
 use Rattle.sm_history.proofs.AfterClients.{list_dies}
 use Rattle.sm_history.proofs.Fitting.{fits_more}
 use Rattle.sm_history.proofs.Living.{any_live}
-
-less : (c : ℕ) (xs : List ℕ) → length (filter (λ k. not (c == k)) xs) ≤ length xs
-less c [] = omega arith
-less c (x ∷ xs) = let i = less c xs in
-    elim (c == x) as (λ b. length (if not b then x ∷ filter (λ k. not (c == k)) xs else filter (λ k. not (c == k)) xs)
-    ≤ length (x ∷ xs)) [ true ↦ omega (arith, i) | false ↦ omega (arith, i) ]
+use Rattle.sm_history.proofs.Lists.{filter_fewer}
+use Rattle.sm_history.proofs.Balanced.{turned}
+use Rattle.std.proofs.lemmas.List.Elements.{filter_agree}
 
 pub fewer : (c : ℕ) (xs : List ℕ) → list_any (λ x. x == c) xs ≡ true
     → length (filter (λ k. not (c == k)) xs) + 1 ≤ length xs
-fewer c [] h = cc
-fewer c (x ∷ xs) h =
-    let l = less c xs in
-    elim (c == x) as (λ b. (c == x) ≡ b →
-    length (if not b then x ∷ filter (λ k. not (c == k)) xs else filter (λ k. not (c == k)) xs) + 1 ≤ length
-    (x ∷ xs)) [
-      | true ↦ λ e. omega (arith, l)
-      | false ↦ λ e.
-          let other : (x == c) ≡ false = grind (arith, nat_tests) in
-          let i = fewer c xs (rw other at h) in
-          omega (arith, i)
-    ] refl
+fewer c xs h = subst (λ (ks : List ℕ). length ks + 1 ≤ length xs)
+    (filter_agree (λ k. not (k == c)) (λ k. not (c == k)) (λ k. ap not (turned k c)) xs)
+    (filter_fewer (λ x. x == c) xs h)
 
 pub fits_any : (places : ℕ) (h : History) (by : By) (turn : ℕ) (event : Event) (outcome : Outcome)
     → Sound (effects_of h) → FitsPlaces places h → verdict places h by turn event ≡ Done outcome

@@ -1,8 +1,8 @@
 -- The outcomes of a lawful history list just the deliveries, the numbers of handles and the clients of its effects.
-use Rattle.std.proofs.Common.{inl, inr, ◌≡◌, ℕ, Bool, true, false, ◌==◌, List, [], ◌∷◌, ◌++◌, refl, ap, sym, ◌∙◌}
-use Rattle.std.proofs.Common.{subst, Option, Some, None, if◌then◌else◌}
-use Rattle.std.specs.Prelude.{filter_map, reverse, not, is_some}
-use Rattle.std.proofs.lemmas.Bool.{true≢false}
+use Rattle.std.proofs.Common.{inl, inr, ◌≡◌, ℕ, true, false, ◌==◌, List, [], ◌∷◌, ◌++◌, refl, ap, sym, ◌∙◌, subst}
+use Rattle.std.proofs.Common.{Option, Some, None, if◌then◌else◌}
+use Rattle.std.specs.Prelude.{filter_map, reverse, is_some}
+use Rattle.std.proofs.lemmas.Bool.{true≢false, not-true}
 use Rattle.std.proofs.lemmas.List.{reverse-append, append_assoc, append-nil}
 use Rattle.sm_kinds.specs.declared.number.Node.{Node}
 use Rattle.sm_kinds.specs.declared.number.ObjRef.{ObjRef}
@@ -124,14 +124,10 @@ record Lists (d : Effects) (c : ℕ) (event : Event) : Type 0 where
   pub numbers : Puts number_made d (listed_numbers (outcome_of d c event)) (after_event d c event)
   pub clients : Puts connected d (listed_clients (outcome_of d c event)) (after_event d c event)
 
-not_true : (b : Bool) → not b ≡ true → b ≡ false
-not_true true e = absurd (true≢false (sym e))
-not_true false e = refl
-
 found_other : (d : Effects) (c : ℕ) (name : List ℕ) → Passes d c (Get name) → (s : Service)
     → service_at d name ≡ Some s → (s.node.owner.0 == c) ≡ false
 found_other d c name a s is =
-    not_true (s.node.owner.0 == c)
+    not-true (s.node.owner.0 == c)
     (subst (λ (o : Option Service). AllHold (policy_at d) (handing_checks d c o)) is a.1.1.1.1.1).0
 
 lists_get : (d : Effects) (c : ℕ) (name : List ℕ) (o : Option Service) → service_at d name ≡ o

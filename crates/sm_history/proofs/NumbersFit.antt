@@ -31,7 +31,7 @@ use Rattle.sm_history.proofs.HeldAlike.{held_among}
 use Rattle.sm_history.proofs.AfterClients.{list_dies}
 use Rattle.sm_history.proofs.AfterHoldings.{refs_dies}
 use Rattle.sm_history.proofs.Living.{any_live}
-use Rattle.sm_history.proofs.RowsBack.{list_back, refs_back}
+use Rattle.sm_history.proofs.RowsBack.{list_back, refs_back, held_live}
 use Rattle.sm_history.proofs.SoundHistory.{met}
 use Rattle.sm_history.proofs.Induction.{sound_lawful}
 use Rattle.sm_history.proofs.Sealing.{sealed_left}
@@ -64,10 +64,6 @@ is_below a b h = grind (arith, nat_tests)
 none : (v g : ℕ) → nat_lt 0 v ≡ false → 0 < g → v < g
 none v g h some = grind (arith, nat_tests)
 
-live_if : (live : Bool) (v : ℕ) → nat_lt 0 (if live then v else 0) ≡ true → live ≡ true
-live_if true v h = refl
-live_if false v h = absurd (true≢false (sym h))
-
 pub counts_each : (d : Effects) → counts_fit d ≡ true → (c : ℕ) (n : Node) → refs_at d c n < GREATEST
 counts_each d fit c n =
     elim (is_held d c n) as (λ b. is_held d c n ≡ b → refs_at d c n < GREATEST) [
@@ -82,7 +78,7 @@ counts_each d fit c n =
           (subst (λ (v : ℕ). list_all (λ m. nat_lt (refs_at d v m) GREATEST) (held_nodes d v) ≡ true)
           (number_same k c same) all)
           (held_among d c n e))
-          fit (any_live d c ∙ live_if (is_live d c) _ e)
+          fit (any_live d c ∙ held_live (is_live d c) _ e)
     ] refl
 
 pub counts_all : (d : Effects) → ((c : ℕ) (n : Node) → refs_at d c n < GREATEST) → counts_fit d ≡ true

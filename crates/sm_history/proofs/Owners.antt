@@ -16,21 +16,30 @@ use Rattle.sm_history.specs.declared.failed_check.FailedCheck.TheVariants.{Unmet
 use Rattle.sm_history.specs.Verdict.{answered}
 use Rattle.sm_history.proofs.Keeps.{Lasts}
 use Rattle.sm_history.specs.Sound.{IsOwned}
+use Rattle.std.proofs.Common.{Option, None}
 
 pub not_done : (x : FailedCheck) (outcome : Outcome) → answer_of x ≡ Done outcome → ⊥
 not_done (Unmet IsNull) outcome h = cc
 not_done _ outcome h = cc
 
+pub none_hold : (p : Policy) (xs : List Check) → first_failing p xs ≡ None → AllHold p xs
+none_hold p [] h = tt
+none_hold p (x ∷ xs) h =
+    elim (holds p x) as (λ b. holds p x ≡ b →
+    (let o : Option FailedCheck = if b then first_failing p xs else Some (failed_check_of x) in o) ≡ None →
+    (holds p x ≡ true) × AllHold p xs) [
+      | true ↦ λ e i. (e, none_hold p xs i)
+      | false ↦ λ e i. cc
+    ] refl h
+
+none_failing : (x : Option FailedCheck) (o outcome : Outcome) → answered x o ≡ Done outcome → x ≡ None
+none_failing None o outcome h = refl
+none_failing (Some s) o outcome h = absurd (not_done s outcome h)
+
 -- What is answered Done met every check.
 pub all_hold : (p : Policy) (xs : List Check) (o outcome : Outcome) → answered (first_failing p xs) o ≡ Done outcome
     → AllHold p xs
-all_hold p [] o outcome h = tt
-all_hold p (x ∷ xs) o outcome h =
-    elim (holds p x) as (λ b. holds p x ≡ b → answered (if b then first_failing p xs else Some (failed_check_of x)) o
-    ≡ Done outcome → (holds p x ≡ true) × AllHold p xs) [
-      | true ↦ λ e h'. (e, all_hold p xs o outcome h')
-      | false ↦ λ e h'. absurd (not_done (failed_check_of x) outcome h')
-    ] refl h
+all_hold p xs o outcome h = none_hold p xs (none_failing (first_failing p xs) o outcome h)
 
 pub owned_lasts : Lasts IsOwned
 owned_lasts (Connects c who) d plain h = absurd (true≢false (sym plain))

@@ -1,6 +1,6 @@
 -- A replay of a lawful history comes to the rows that it leaves.
-use Rattle.std.proofs.Common.{inl, inr, ◌≡◌, ℕ, zero, suc, ◌+◌, ◌<◌, ◌≤◌, List, [], ◌∷◌, ◌++◌, refl, ap, sym, ◌∙◌}
-use Rattle.std.proofs.Common.{subst, length, take, drop, get_or, arith, append_assoc}
+use Rattle.std.proofs.Common.{inl, inr, ◌≡◌, ℕ, ◌+◌, ◌<◌, ◌≤◌, List, [], ◌∷◌, ◌++◌, refl, ap, sym, ◌∙◌, subst, length}
+use Rattle.std.proofs.Common.{take, drop, get_or, arith, append_assoc}
 use Rattle.std.specs.Prelude.{reverse}
 use Rattle.std.proofs.lemmas.List.{append-nil, length-append, reverse-append, length-reverse, take-append-drop}
 use Rattle.sm_history.specs.declared.limits.TheConstants.{GREATEST}
@@ -32,6 +32,7 @@ use Rattle.sm_history.proofs.Versions.{version_small}
 use Rattle.sm_history.proofs.Listing.{outcome_is}
 use Rattle.sm_history.proofs.SameTables.{take_item}
 use Rattle.sm_history.proofs.ReplaySteps.{sound_start, opening_next}
+use Rattle.std.proofs.lemmas.List.{take_all}
 
 -- ---- the next change of a lawful history
 
@@ -207,12 +208,6 @@ take_none : {X : Type 0} (xs : List X) → take 0 xs ≡ []
 take_none [] = refl
 take_none (x ∷ xs) = refl
 
-take_past : {X : Type 0} (xs : List X) (i : ℕ) → length xs ≤ i → take i xs ≡ xs
-take_past [] zero le = refl
-take_past [] (suc i) le = refl
-take_past (x ∷ xs) zero le = absurd (omega (arith, le))
-take_past (x ∷ xs) (suc i) le = ap (λ l. x ∷ l) (take_past xs i (omega (arith, le)))
-
 pub none_yet : (places number : ℕ) (o : Opening) (zs es : List Entry) (r : Replay)
     → HasCome places number o (reverse zs) r
     → HasCome places number o (reverse (zs ++ take 0 es)) r
@@ -223,7 +218,7 @@ none_yet places number o zs es r come =
 pub all_come : (places number : ℕ) (o : Opening) (zs es : List Entry) (i : ℕ) (r : Replay) → length es ≤ i
     → HasCome places number o (reverse (zs ++ take i es)) r → HasCome places number o (reverse (zs ++ es)) r
 all_come places number o zs es i r le come =
-    subst (λ (v : List Entry). HasCome places number o (reverse (zs ++ v)) r) (take_past es i le) come
+    subst (λ (v : List Entry). HasCome places number o (reverse (zs ++ v)) r) (take_all i es le) come
 
 -- ---- chunks in order
 
@@ -236,10 +231,6 @@ joined_both [] ds = refl
 joined_both (c ∷ cs) ds = ap (λ (l : List Entry). c ++ l) (joined_both cs ds)
     ∙ sym (append_assoc c (joined cs) (joined ds))
 
-chunk_item : (xs : List (List Entry)) (i : ℕ) (x : List Entry) → i < length xs → x ≡ get_or xs i x
-    → take (i + 1) xs ≡ take i xs ++ x ∷ []
-chunk_item xs i x lt is = take_item xs i x lt is
-
 -- All entries, at a chunk.
 pub at_chunk : (cs : List (List Entry)) (c rest : List Entry) (i : ℕ) → i < length cs → c ≡ get_or cs i c
     → joined cs ++ rest ≡ joined (take i cs) ++ (c ++ (joined (drop (i + 1) cs) ++ rest))
@@ -249,7 +240,7 @@ at_chunk cs c rest i lt is =
     ap (λ (l : List Entry). l ++ rest)
     (ap (λ (l : List (List Entry)). joined l) (sym (take-append-drop (i + 1) cs))
     ∙ joined_both (take (i + 1) cs) (drop (i + 1) cs)
-    ∙ ap (λ (l : List Entry). l ++ ys) (ap (λ (l : List (List Entry)). joined l) (chunk_item cs i c lt is)
+    ∙ ap (λ (l : List Entry). l ++ ys) (ap (λ (l : List (List Entry)). joined l) (take_item cs i c lt is)
     ∙ joined_more (take i cs) c))
     ∙ append_assoc (xs ++ c) ys rest ∙ append_assoc xs c (ys ++ rest)
 
@@ -265,7 +256,7 @@ pub one_chunk : (places number : ℕ) (o : Opening) (cs : List (List Entry)) (c 
     → HasCome places number o (reverse (joined (take (i + 1) cs))) r'
 one_chunk places number o cs c rest i r r' lt is l enters come =
     subst (λ (v : List Entry). HasCome places number o (reverse v) r')
-    (sym (ap (λ (v : List (List Entry)). joined v) (chunk_item cs i c lt is) ∙ joined_more (take i cs) c))
+    (sym (ap (λ (v : List (List Entry)). joined v) (take_item cs i c lt is) ∙ joined_more (take i cs) c))
     (enters places number o (joined (take i cs)) (joined (drop (i + 1) cs) ++ rest)
     (subst (λ (v : List Entry). IsLawful places (segment number o v)) (at_chunk cs c rest i lt is) l) come)
 
@@ -277,7 +268,7 @@ no_chunk places number o cs r come =
 pub all_chunks : (places number : ℕ) (o : Opening) (cs : List (List Entry)) (i : ℕ) (r : Replay) → length cs ≤ i
     → HasCome places number o (reverse (joined (take i cs))) r → HasCome places number o (reverse (joined cs)) r
 all_chunks places number o cs i r le come =
-    subst (λ (v : List (List Entry)). HasCome places number o (reverse (joined v)) r) (take_past cs i le) come
+    subst (λ (v : List (List Entry)). HasCome places number o (reverse (joined v)) r) (take_all i cs le) come
 
 -- Both parts of a segment, from its beginning.
 pub run : (places number : ℕ) (o : Opening) (cs : List (List Entry)) (es : List Entry) (a b c : Replay)
@@ -309,7 +300,7 @@ length_fits places number o cs es a b k l first second third =
 pub counted_more : (cs : List (List Entry)) (c : List Entry) (i : ℕ) → i < length cs → c ≡ get_or cs i c
     → length (joined (take (i + 1) cs)) ≡ length (joined (take i cs)) + length c
 counted_more cs c i lt is =
-    ap (length {A = Entry}) (ap (λ (v : List (List Entry)). joined v) (chunk_item cs i c lt is)
+    ap (length {A = Entry}) (ap (λ (v : List (List Entry)). joined v) (take_item cs i c lt is)
     ∙ joined_more (take i cs) c)
     ∙ length-append (joined (take i cs)) c
 

@@ -283,7 +283,7 @@ held_number d c n k r (Some m) e = λ h.
     sym f.1 ∙ ap (λ j. number_at d j m) (number_same k c (and_parts (k == c) (same_node m n) h).0) ∙
     ap (number_at d c) (node_same m n (and_parts (k == c) (same_node m n) h).1)
 
-held_live : (live : Bool) (v : ℕ) → nat_lt 0 (if live then v else 0) ≡ true → live ≡ true
+pub held_live : (live : Bool) (v : ℕ) → nat_lt 0 (if live then v else 0) ≡ true → live ≡ true
 held_live true v h = refl
 held_live false v h = absurd (true≢false (sym h))
 

@@ -118,7 +118,7 @@ pub map_alike : {X Y : Type 0} (P : X → Type 0) (f g : X → Y) (xs : List X) 
 map_alike P f g [] same all = refl
 map_alike P f g (x ∷ xs) same all = rw (same x all.0, map_alike P f g xs same all.1) refl
 
-filter_map_alike : {X Y : Type 0} (f g : X → Option Y) (xs : List X) → ((x : X) → f x ≡ g x)
+pub filter_map_alike : {X Y : Type 0} (f g : X → Option Y) (xs : List X) → ((x : X) → f x ≡ g x)
     → filter_map f xs ≡ filter_map g xs
 filter_map_alike f g [] same = refl
 filter_map_alike f g (x ∷ xs) same = rw (same x, filter_map_alike f g xs same) refl

@@ -1,9 +1,8 @@
 -- A history is read like the segment of its older part's rows and its newer part.
-use Rattle.std.proofs.Common.{inl, inr, ◌⊎◌, ◌≡◌, ℕ, ◌+◌, ◌≤◌, Bool, true, false, ◌||◌, ◌==◌, List, [], ◌∷◌, ◌++◌}
-use Rattle.std.proofs.Common.{refl, ap, sym, ◌∙◌, map, Option, Some, None, if◌then◌else◌, arith}
+use Rattle.std.proofs.Common.{inl, inr, ◌⊎◌, ◌≡◌, ℕ, ◌+◌, ◌≤◌, Bool, true, false, ◌||◌, List, [], ◌∷◌, ◌++◌, refl, ap}
+use Rattle.std.proofs.Common.{sym, ◌∙◌, map, Option, Some, None, if◌then◌else◌, arith}
 use Rattle.std.specs.Prelude.{filter, cond}
 use Rattle.std.specs.List.{list_any}
-use Rattle.std.proofs.lemmas.Bool.Decides.{nat_tests}
 use Rattle.std.proofs.lemmas.Bool.{true≢false, or_parts}
 use Rattle.std.proofs.lemmas.List.{length-append}
 use Rattle.std.proofs.lemmas.List.Folds.{list_any-append}
@@ -46,19 +45,14 @@ use Rattle.sm_history.proofs.Rising.{names_alike}
 use Rattle.sm_history.proofs.AgreeEffects.{Sim}
 use Rattle.sm_history.proofs.AgreeNotices.{both, cons_alike, to_manager_alike}
 use Rattle.sm_history.proofs.AgreeChecks.{behind_alike}
-use Rattle.sm_history.proofs.AgreeEvents.{judged_alike, sim_event}
+use Rattle.sm_history.proofs.AgreeEvents.{judged_alike, sim_event, there_alike}
 use Rattle.sm_history.proofs.Living.{any_live}
 use Rattle.sm_history.proofs.RowsSound.{sim_rows}
 use Rattle.sm_history.proofs.PutRows.{among}
 use Rattle.sm_history.proofs.SoundHistory.{met, live_or_new}
+use Rattle.sm_history.proofs.Balanced.{turned}
 
 -- ---- the turns in rows
-
-turned : (k j : ℕ) → (k == j) ≡ (j == k)
-turned k j = elim (k == j) as (λ a. (k == j) ≡ a → a ≡ (j == k)) [
-  | true ↦ λ e. let f : (j == k) ≡ true = grind (arith, nat_tests) in sym f
-  | false ↦ λ e. let f : (j == k) ≡ false = grind (arith, nat_tests) in sym f
-] refl
 
 pub any_client : (k : ℕ) (ks : List ℕ) → list_any (is_same (client k)) (map client ks) ≡ among k ks
 any_client k [] = refl
@@ -216,14 +210,8 @@ query_checks_alike : (d e : Effects) (by : By) (q : Query) → Sim d e → is_th
     → is_there d by ≡ true → query_checks d (client_of by) q ≡ query_checks e (client_of by) q
 query_checks_alike d e by AskVersion s theirs there = refl
 query_checks_alike d e by (Explain x t class perm) s theirs there = refl
-query_checks_alike d e Manager (ListNames mask) s theirs there = absurd (true≢false (sym theirs))
 query_checks_alike d e (Client c) (ListNames mask) s theirs there = list_alike d e c.0 s there
-query_checks_alike d e (Admin a) (ListNames mask) s theirs there = absurd (true≢false (sym theirs))
-
-there_alike : (d e : Effects) (by : By) → Sim d e → is_there d by ≡ is_there e by
-there_alike d e Manager s = refl
-there_alike d e (Client c) s = s.agree.lives c.0
-there_alike d e (Admin a) s = refl
+query_checks_alike d e by (ListNames mask) s theirs there = absurd (true≢false (sym theirs))
 
 looked_alike : (d e : Effects) (len : ℕ) (q : Query) (o : Option FailedCheck) → Sim d e
     → looked_at d len q o ≡ looked_at e len q o

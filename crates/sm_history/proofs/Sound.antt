@@ -23,8 +23,8 @@ use Rattle.sm_history.proofs.Fresh.{fresh_more, fresh_connect, below, live_below
 use Rattle.sm_history.proofs.Owners.{owned_lasts, add_owned}
 use Rattle.sm_history.proofs.Balanced.{balanced_lasts, step, release, node_same, number_same}
 use Rattle.sm_history.proofs.Grants.{held_gives}
-use Rattle.sm_history.proofs.HeldAlike.{node_not_held}
-use Rattle.sm_history.proofs.AfterClients.{IsNew, list_connects, list_dies, none_new}
+use Rattle.sm_history.proofs.HeldAlike.{node_not_held, number_is}
+use Rattle.sm_history.proofs.AfterClients.{IsNew, list_connects, list_dies, none_new, other_way}
 use Rattle.sm_history.proofs.AfterHoldings.{refs_connects, refs_dies, refs_releases, number_gives}
 use Rattle.sm_history.specs.Sound.{HasOneEach, IsBalanced, IsFresh, IsOnce, IsTakenFrom, Sound, deliveries, names}
 use Rattle.sm_history.specs.Sound.{takes}
@@ -56,9 +56,6 @@ held_releases d c n k m h =
 pub record Numbers (d : Effects) (c : ℕ) (n : Node) (r : ℕ) : Type 0 where
   pub old : is_held d c n ≡ true → r ≡ number_at d c n
   pub free : is_held d c n ≡ false → node_at d c r ≡ None
-
-number_is : (a r : ℕ) → a ≡ r → (a == r) ≡ true
-number_is a r e = grind (arith, nat_tests)
 
 -- A number that is given with n is no other object's.
 number_apart : (d : Effects) (c : ℕ) (n : Node) (r : ℕ) (m : Node) → HasOneEach d c → Numbers d c n r
@@ -108,14 +105,11 @@ once_filter p (x ∷ xs) h =
     elim (p x) as (λ b. IsOnce (if b then x ∷ filter p xs else filter p xs))
     [ true ↦ (any_filter (λ y. y == x) p xs h.0, i) | false ↦ i ]
 
-apart_numbers : (n x : ℕ) → (x == n) ≡ false → (n == x) ≡ false
-apart_numbers n x h = grind (arith, nat_tests)
-
 pub once_more : (n : ℕ) (xs : List ℕ) → list_any (λ y. y == n) xs ≡ false → IsOnce xs → IsOnce (xs ++ n ∷ [])
 once_more n [] none h = (refl, tt)
 once_more n (x ∷ xs) none h = (
   (list_any-append (λ y. y == x) xs (n ∷ []) ∙ or_from (list_any (λ y. y == x) xs) ((n == x) || false) h.0
-      (or_from (n == x) false (apart_numbers n x (or_parts (x == n) (list_any (λ y. y == n) xs) none).0) refl)),
+      (or_from (n == x) false (other_way n x (or_parts (x == n) (list_any (λ y. y == n) xs) none).0) refl)),
   once_more n xs (or_parts (x == n) (list_any (λ y. y == n) xs) none).1 h.1,
 )
 

@@ -1,6 +1,6 @@
 -- A client that lives keeps its number and its identity, however a history goes on.
-use Rattle.std.proofs.Common.{◌≡◌, ℕ, ◌≤◌, ◌<◌, ◌==◌, true, false, true≢false, inl, inr, List, [], ◌∷◌, refl, sym}
-use Rattle.std.proofs.Common.{subst, ◌∙◌, arith}
+use Rattle.std.proofs.Common.{◌≡◌, ℕ, ◌<◌, ◌==◌, true, false, true≢false, inl, inr, List, [], ◌∷◌, refl, sym, subst}
+use Rattle.std.proofs.Common.{◌∙◌, arith}
 use Rattle.std.proofs.lemmas.Bool.Decides.{nat_tests}
 use Rattle.sm_kinds.specs.declared.identity.Identity.{Identity}
 use Rattle.sm_history.specs.declared.event.Event.{Event}
@@ -12,10 +12,10 @@ use Rattle.sm_history.specs.Clients.{identity_at, is_live, next_client}
 use Rattle.sm_history.specs.Effects.{Effects}
 use Rattle.sm_history.specs.Histories.{History, client_of, effects_of}
 use Rattle.sm_history.proofs.Keeps.{Lasts, LeftToKeep, event_keeps}
-use Rattle.sm_history.proofs.LawfulLaws.{next_after}
 use Rattle.sm_history.proofs.RowsBack.{live_back, who_back}
 use Rattle.sm_history.proofs.SoundHistory.{live_or_new}
 use Rattle.sm_history.specs.BookOrder.{Begins}
+use Rattle.sm_history.proofs.Later.{clients_rise}
 
 abbrev IsWho : ℕ → Identity → Effects → Type 0
 IsWho c who d = identity_at d c ≡ who
@@ -38,14 +38,6 @@ who_left d c k (Add name obj allow dump) lt = refl
 who_left d c k (Release handle) lt = refl
 who_left d c k Die lt = refl
 who_left d c k _ lt = tt
-
-clients_rise : (h : History) (ms : List Move) → next_client (effects_of h) ≤ next_client (effects_of (gone_on h ms))
-clients_rise h [] = omega arith
-clients_rise h (Made e ∷ ms) =
-    let i = clients_rise h ms in
-    let one = (next_after (effects_of (gone_on h ms)) (client_of e.by) e.event).0 in
-    omega (arith, i, one)
-clients_rise h (Seals ∷ ms) = clients_rise h ms
 
 -- Who lives in the end lived all along.
 abbrev Stays : ℕ → History → History → Type 0

@@ -3,7 +3,7 @@ use Rattle.std.proofs.Common.{inl, inr, ◌≡◌, ℕ, ◌-◌, Bool, true, fal
 use Rattle.std.proofs.Common.{ap, sym, ◌∙◌, subst, Option, Some, None, if◌then◌else◌, arith}
 use Rattle.std.specs.Prelude.{not, ◌&&◌, is_none}
 use Rattle.std.specs.List.{All, list_all}
-use Rattle.std.proofs.lemmas.Bool.{true≢false, and_parts}
+use Rattle.std.proofs.lemmas.Bool.{true≢false, and_parts, not-true, not-false}
 use Rattle.std.proofs.lemmas.List.Elements.{All-append, All-nil, All-cons}
 use Rattle.sm_kinds.specs.Users.{is_barred, is_isolated_user}
 use Rattle.sm_kinds.specs.Contexts.{type_of}
@@ -15,7 +15,7 @@ use Rattle.sm_kinds.specs.declared.number.ObjRef.{ObjRef}
 use Rattle.sm_kinds.specs.declared.number.ObjRef.TheVariants.{Own, Handle, Null}
 use Rattle.sm_policy.specs.Policy.{Policy, written, silenced, audits}
 use Rattle.sm_history.specs.declared.by.By.{By}
-use Rattle.sm_history.specs.declared.by.By.TheVariants.{Manager, Client, Admin}
+use Rattle.sm_history.specs.declared.by.By.TheVariants.{Client}
 use Rattle.sm_history.specs.declared.denial.Denial.{Denial}
 use Rattle.sm_history.specs.declared.denial.Denial.TheVariants.{Rule, App, Isolated}
 use Rattle.sm_history.specs.declared.event.Event.{Event}
@@ -93,20 +93,12 @@ true_now h r at version stands denied =
       denied = subst (λ (g : History). IsDeniedBy (effects_of g) r r.denial) is denied;
     }
 
-not_true : (b : Bool) → not b ≡ true → b ≡ false
-not_true true e = absurd (true≢false (sym e))
-not_true false e = refl
-
-not_false : (b : Bool) → not b ≡ false → b ≡ true
-not_false true e = refl
-not_false false e = absurd (true≢false e)
-
 -- What is recorded isn't granted by a rule.
 unwritten : (p : Policy) (s t : List ℕ) (class : Class) (perm : Perms) → audits p s t class perm ≡ true
     → written p s t class perm ≡ false
 unfolding audits
 unwritten p s t class perm e =
-    not_true (written p s t class perm)
+    not-true (written p s t class perm)
     (and_parts (not (written p s t class perm)) (not (silenced p s t class perm)) e).0
 
 clause_denied : (h : History) (denial : Denial) (who : Identity) (name : List ℕ) → Bars denial who
@@ -149,14 +141,14 @@ left_all_true h (x ∷ xs) (g, gs) =
 
 barred_good : (d : Effects) (c : ℕ) → is_live d c ≡ true → Stands d (identity_at d c)
     × (not (is_barred (identity_at d c).uid) ≡ false → Bars (App (identity_at d c).uid) (identity_at d c))
-barred_good d c live = (live_stands d c live, λ e. (refl, not_false (is_barred (identity_at d c).uid) e))
+barred_good d c live = (live_stands d c live, λ e. (refl, not-false (is_barred (identity_at d c).uid) e))
 
 isolated_good : (d : Effects) (c : ℕ) (b : Bool) → is_live d c ≡ true → Stands d (identity_at d c)
     × (not (is_isolated_user (identity_at d c).uid && b) ≡ false →
     Bars (Isolated (identity_at d c).uid) (identity_at d c))
 isolated_good d c b live =
     let i = is_isolated_user (identity_at d c).uid in
-    (live_stands d c live, λ e. (refl, (and_parts i b (not_false (i && b) e)).0))
+    (live_stands d c live, λ e. (refl, (and_parts i b (not-false (i && b) e)).0))
 
 to_manager_good : (d : Effects) (c : ℕ) (r : ObjRef) → is_live d c ≡ true → AllGood d (passes_to_manager d c r)
 to_manager_good d c (Own o) live = (tt, (live_stands d c live, tt))
@@ -291,8 +283,7 @@ event_records_true places h by turn event opened =
 query_good : (d : Effects) (by : By) (q : Query) → is_their_query by q ≡ true → is_there d by ≡ true
     → AllGood d (query_checks d (client_of by) q)
 query_good d (Client c) (ListNames mask) theirs there = (live_stands d c.0 there, (live_stands d c.0 there, tt))
-query_good d Manager (ListNames mask) theirs there = absurd (true≢false (sym theirs))
-query_good d (Admin a) (ListNames mask) theirs there = absurd (true≢false (sym theirs))
+query_good d by (ListNames mask) theirs there = absurd (true≢false (sym theirs))
 query_good d by Version theirs there = tt
 query_good d by (Explain s t class perm) theirs there = tt
 

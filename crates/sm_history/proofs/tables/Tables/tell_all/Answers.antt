@@ -1,7 +1,8 @@
 use Rattle.std.proofs.Common.{List, ◌+◌, drop, subst}
 use Rattle.sm_history.specs.declared.notice.Notice.{Notice}
-use Rattle.sm_history.proofs.EnteringLoops.{TellsLeft, tells_next, all_told, drop_item, drop_end}
+use Rattle.sm_history.proofs.EnteringLoops.{TellsLeft, tells_next, all_told, drop_item}
 use Rattle.sm_history.proofs.tables.Tables.tell_all.Goals as goal
+use Rattle.std.proofs.lemmas.List.{drop_all}
 
 pub loop-notice-preserved : goal.loop-notice-preserved
 loop-notice-preserved c d ws s tr lives is fits =
@@ -17,5 +18,5 @@ pub returns : goal.returns
 returns c d ws s tr lives is fits =
     all_told d c.args.node ws c.loop-notice.self
     (subst (λ (l : List Notice). TellsLeft d c.args.node ws l c.loop-notice.self)
-    (drop_end c.args.notices.now c.loop-notice.notice-index c.loop-notice-test.false)
+    (drop_all c.loop-notice.notice-index c.args.notices.now c.loop-notice-test.false)
     (c.loop-notice.invariant d ws s tr lives is fits))
