@@ -1,7 +1,6 @@
 -- The highest count of grants: which counts it bounds, and what changes of rows make of it.
 use Rattle.std.proofs.Common.{inl, inr, ◌∙◌, ◌≡◌, ℕ, zero, suc, ◌+◌, ◌-◌, ◌≤◌, ◌<◌, true, false, ◌==◌, List, [], ◌∷◌}
-use Rattle.std.proofs.Common.{◌++◌, set}
-use Rattle.std.proofs.Common.{Option, Some, None, if◌then◌else◌, refl, ap, sym, subst, arith}
+use Rattle.std.proofs.Common.{◌++◌, set, Option, Some, None, if◌then◌else◌, refl, ap, sym, subst, arith}
 use Rattle.std.specs.Prelude.{max, min, nat_le}
 use Rattle.std.specs.List.{remove}
 use Rattle.std.proofs.lemmas.Bool.{cases_lt}
@@ -11,8 +10,7 @@ use Rattle.sm_history.specs.Holdings.{refs_at, number_at}
 use Rattle.sm_history.specs.declared.client_row.Held.{Held}
 use Rattle.sm_grants.specs.declared.rows.ClientHandles.{ClientHandles}
 use Rattle.sm_history.specs.Tables.{Slots, slot, IsPut, released_slot}
-use Rattle.sm_grants.specs.Slots.{node_of, count_of, HandleTable, IsGranted}
-use Rattle.sm_grants.specs.Slots.{granted_slot}
+use Rattle.sm_grants.specs.Slots.{node_of, count_of, HandleTable, IsGranted, granted_slot}
 use Rattle.sm_grants.specs.Rows.{table_of, slots_in, slots_of, TracksRows}
 use Rattle.sm_grants.specs.Highest.{highest_in, highest}
 use Rattle.sm_grants.proofs.Fits.{held_count_is}

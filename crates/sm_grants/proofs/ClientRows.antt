@@ -19,13 +19,13 @@ use Rattle.sm_history.proofs.Sound.{once_more, once_filter}
 use Rattle.sm_history.specs.declared.client_row.Held.{Held}
 use Rattle.sm_grants.specs.declared.rows.ClientHandles.{ClientHandles}
 use Rattle.sm_history.specs.Tables.{Slots, slot, IsPut, released_slot}
-use Rattle.sm_grants.specs.Slots.{node_of, held_in, IsAbsent, granted_slot}
-use Rattle.sm_grants.specs.Slots.{IsGranted, IsNumberFor, HandleTable}
+use Rattle.sm_grants.specs.Slots.{node_of, held_in, IsAbsent, granted_slot, IsGranted, IsNumberFor, HandleTable}
 use Rattle.sm_grants.specs.Tracking.{TracksSlots}
 use Rattle.sm_grants.specs.Rows.{table_of, index_from, slots_in, slots_of, spare_in, spare_of, TracksRows, CanGrantRow}
 use Rattle.sm_grants.proofs.Tracked.{not_held, tracked_gives, tracked_releases, tracked_same, tracked_none}
 use Rattle.sm_grants.proofs.Tracked.{node_is_slot, node_zero, free_is}
-use Rattle.sm_grants.proofs.Small.{self_same, lt_test, zero_test}
+use Rattle.sm_grants.proofs.Small.{lt_test, zero_test}
+use Rattle.sm_history.proofs.ClientRows.{self_same}
 
 -- ---- rows
 
@@ -280,17 +280,15 @@ number_none d rows c n tr at =
     number_is d c [] n 1 (subst (λ (v : Option HandleTable). TracksSlots d c (slots_in v)) at (tr.slots c))
     (0, refl, (λ m h. cc), (λ e. ((λ i h. cc), (refl, (λ j lt. absurd (omega (arith, lt)))))))
 
-pub row_here : (rows : List ClientHandles) (c i : ℕ) (r : ClientHandles) → index_from 0 rows c ≡ Some i
-    → r ≡ get_or rows i r → (table_of rows c ≡ Some r.handles) × (r.client ≡ c)
-row_here rows c i r h is =
+-- A client's row that was read at its index, and what writing a table there changes.
+pub row_here : {rows seen : List ClientHandles} (c : ℕ) {i : ℕ} {r : ClientHandles} → seen ≡ rows
+    → index_from 0 seen c ≡ Some i → r ≡ get_or rows i r → (table_of rows c ≡ Some r.handles) × (r.client ≡ c)
+    × ((t : HandleTable) → IsChanged rows (set rows i (record { client = r.client; handles = t })) c t)
+row_here {rows} {seen} c {i} {r} same at is =
+    let h : index_from 0 rows c ≡ Some i = rw (← same) at in
     let w = (at_row rows c i h).here r in
-    (w.0 ∙ ap (λ (x : ClientHandles). Some x.handles) (sym is), ap (λ (x : ClientHandles). x.client) is ∙ w.1)
-
-pub row_changed : (rows : List ClientHandles) (c i : ℕ) (r : ClientHandles) (t : HandleTable)
-    → index_from 0 rows c ≡ Some i → r ≡ get_or rows i r
-    → IsChanged rows (set rows i (record { client = r.client; handles = t })) c t
-row_changed rows c i r t h is = row_set rows c i (record { client = r.client; handles = t }) h
-    ((row_here rows c i r h is).1)
+    let own = ap (λ (x : ClientHandles). x.client) is ∙ w.1 in
+    (w.0 ∙ ap (λ (x : ClientHandles). Some x.handles) (sym is), own, λ t. row_set rows c i _ h own)
 
 pub cannot : (rows : List ClientHandles) (c : ℕ) (n : Node) → CanGrantRow rows c n → table_of rows c ≡ None → ⊥
 cannot rows c n can none =

@@ -1,7 +1,6 @@
 -- Grants of several objects to one client, in order.
 use Rattle.std.proofs.Common.{inl, inr, ◌≡◌, ℕ, zero, suc, ◌+◌, ◌-◌, ◌≤◌, ◌<◌, true, false, ◌||◌, ◌==◌, List, [], ◌∷◌}
-use Rattle.std.proofs.Common.{◌++◌, refl, ap, sym, ◌∙◌, subst, length, get_or, Option, Some, None, if◌then◌else◌}
-use Rattle.std.proofs.Common.{arith}
+use Rattle.std.proofs.Common.{◌++◌, refl, ap, sym, ◌∙◌, subst, length, get_or, Option, Some, None, if◌then◌else◌, arith}
 use Rattle.std.specs.Prelude.{is_some}
 use Rattle.std.specs.List.{list_any}
 use Rattle.std.proofs.lemmas.Bool.{true≢false, cases_lt, cases_eq}
@@ -68,15 +67,6 @@ grants_more s [] [] n r are = refl
 grants_more s [] (q ∷ rs) n r are = absurd are
 grants_more s (m ∷ ns) [] n r are = absurd are
 grants_more s (m ∷ ns) (q ∷ rs) n r are = grants_more (with_grant s m q) ns rs n r are.1
-
-pub along_none : (s : Slots) → Along s s [] [] 0
-along_none s = record {
-  kept = λ j n h. h;
-  given = λ p n lt. absurd (omega (arith, lt));
-  only = λ j n h absent. absurd (absent j h);
-  taken = λ j lt. absurd (omega (arith, lt));
-  free = λ j le f. f;
-}
 
 -- A slot has the object that it had, and that of the grant has the granted one.
 stays : (t t' : Slots) (n : Node) (i : ℕ) → IsPut t t' i (granted_slot n (slot t i)) → (j : ℕ) (m : Node)

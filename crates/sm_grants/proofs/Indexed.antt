@@ -242,10 +242,6 @@ pub ok_is : {A E : Type 0} (r : Result A E) (P : Type 0) → IsOk r → OnOk r P
 ok_is (Ok x) P ok p = p
 ok_is (Err e) P ok p = absurd (true≢false (sym ok))
 
-pub ok_if : {A E : Type 0} (r : Result A E) (P : A → Type 0) → IsOk r → IfOk r P → (x : A) × P x
-ok_if (Ok x) P ok p = (x, p)
-ok_if (Err e) P ok p = absurd (true≢false (sym ok))
-
 -- A new entry changes the number of entries so.
 pub one_entry : {E : Type 0} (r : Result (Option ℕ) E) (was : Option ℕ) (m n : ℕ) → was ≡ None → IsOk r
     → IfOk r (λ old. old ≡ was) → IfOk r (λ old. n ≡ m + (if is_some old then 0 else 1)) → n ≡ m + 1

@@ -15,8 +15,7 @@ use Rattle.sm_history.proofs.Grants.{same_self, IsDistinct, given_distinct}
 use Rattle.sm_history.proofs.HeldAlike.{node_is, node_held, fewer, distinct_filter, among_held, held_among}
 use Rattle.sm_history.specs.declared.client_row.Held.{Held}
 use Rattle.sm_history.specs.Tables.{Slots, slot, IsPut, released_slot}
-use Rattle.sm_grants.specs.Slots.{node_of, held_in, nodes_in, is_in, IsAbsent, IsFirstFree}
-use Rattle.sm_grants.specs.Slots.{granted_slot}
+use Rattle.sm_grants.specs.Slots.{node_of, held_in, nodes_in, is_in, IsAbsent, IsFirstFree, granted_slot}
 use Rattle.sm_grants.specs.Tracking.{AreTracked, TracksSlots}
 use Rattle.sm_grants.proofs.Indexed.{taken_front}
 use Rattle.sm_grants.proofs.Small.{some_node, left_over, test_lt, lt_test}
@@ -379,13 +378,6 @@ free_is d c s i t first =
 pub held_slot : (d : Effects) (c : ℕ) (s : Slots) (i : ℕ) (n : Node) → TracksSlots d c s → node_of (slot s i) ≡ Some n
     → is_held d c n ≡ true
 held_slot d c s i n t e = lt_test (refs_at d c n) ((held_some (refs_at d c) (number_at d c) s i n t e).0)
-
-pub held_most : (s : Slots) → held_in s ≤ length s
-held_most [] = omega arith
-held_most (None ∷ s) = let c = sum_by-cons (λ (y : Option Held). cond (is_some y) 1 0) None s in let i =
-    held_most s in omega (arith, c, i)
-held_most (Some h ∷ s) = let c = sum_by-cons (λ (y : Option Held). cond (is_some y) 1 0) (Some h) s in let i =
-    held_most s in omega (arith, c, i)
 
 -- The slots have the objects that are held.
 pub held_is_in : (d : Effects) (c : ℕ) (s : Slots) (n : Node) → TracksSlots d c s → is_held d c n ≡ is_in s n
