@@ -111,8 +111,7 @@ first_say p n r rs say = say r.client r.handles (let e : (r.client == r.client) 
     rw e refl)
 
 count_rows : (c : ℕ) (p : ℕ → Bool) (n : Node) (rows : List ClientHandles) → IsOnce (clients_in rows)
-    → AllSay p n rows
-    → count_by (λ (r : ClientHandles). not (r.client == c) && is_in r.handles.slots n) rows
+    → AllSay p n rows → count_by (λ (r : ClientHandles). not (r.client == c) && is_in r.handles.slots n) rows
     ≡ count_by (λ k. not (k == c) && p k) (clients_in rows)
 count_rows c p n [] once say = refl
 count_rows c p n (r ∷ rs) once say =

@@ -39,8 +39,7 @@ same_nodes p q f g words same alike a = record {
 
 new_index : (p : Nodes) (f g : Index) (n : Node) (i : ℕ) (m : Node) (j : ℕ) (t u : Bool) → (j == i) ≡ t
     → same_node n m ≡ u → (f (key_of n) ≡ None) → ((k : Node) (l : ℕ) → p l ≡ Some k → f (key_of k) ≡ Some l)
-    → g (key_of m) ≡ (if u then Some i else f (key_of m)) → (if t then Some n else p j) ≡ Some m
-    → g (key_of m) ≡ Some j
+    → g (key_of m) ≡ (if u then Some i else f (key_of m)) → (if t then Some n else p j) ≡ Some m → g (key_of m) ≡ Some j
 new_index p f g n i m j true true et eu none index by h = by ∙ ap (λ (x : ℕ). Some x) (sym (number_same j i et))
 new_index p f g n i m j true false et eu none index by h =
     let same = some_node n m h in
@@ -271,5 +270,4 @@ pub only_slot : (s : Slots) (f : Index) (words : List ℕ) (many : ℕ) (n : Nod
 only_slot s f words many n a i j p q = some_number i j (sym (a.indexed.index n i p) ∙ a.indexed.index n j q)
 
 pub count_at : (s : Slots) (i j : ℕ) (x : Held) → j ≡ i → Some x ≡ slot s i → x.count ≡ count_of (slot s j)
-count_at s i j x same at =
-    ap (λ (o : Option Held). count_of o) (at ∙ ap (λ (v : ℕ). slot s v) (sym same))
+count_at s i j x same at = ap (λ (o : Option Held). count_of o) (at ∙ ap (λ (v : ℕ). slot s v) (sym same))

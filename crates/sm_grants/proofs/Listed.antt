@@ -31,8 +31,7 @@ listed_held d c s (suc i) t =
     (ap (node_at d c) one ∙ node_is_slot d c s i t))
 
 pub listed_is : (d : Effects) (rows : List ClientHandles) (c : ℕ) (t : HandleTable) (xs : List (Option Held))
-    → TracksRows d rows → table_of rows c ≡ Some t → xs ≡ listed_slots t.slots → (k : ℕ)
-    → slot xs k ≡ slot_at d c k
+    → TracksRows d rows → table_of rows c ≡ Some t → xs ≡ listed_slots t.slots → (k : ℕ) → slot xs k ≡ slot_at d c k
 listed_is d rows c t xs tr at is k =
     ap (λ (v : List (Option Held)). slot v k) is
     ∙ listed_held d c t.slots k (in_slots d rows c (Some t) tr at)

@@ -120,12 +120,10 @@ gives_found refs num refs' num' s t n i m false a other made put eu er en h =
 
 pub tracked_gives : (refs num refs' num' : Node → ℕ) (s t : Slots) (n : Node) (i : ℕ) → AreTracked refs num s
     → ((m : Node) → node_of (slot s i) ≡ Some m → m ≡ n) → (slot s i ≡ None → IsAbsent s n)
-    → IsPut s t i (granted_slot n (slot s i))
-    → ((m : Node) → refs' m ≡ (if same_node n m then refs m + 1 else refs m))
+    → IsPut s t i (granted_slot n (slot s i)) → ((m : Node) → refs' m ≡ (if same_node n m then refs m + 1 else refs m))
     → ((m : Node) → num' m ≡ (if same_node n m then i + 1 else num m)) → AreTracked refs' num' t
 tracked_gives refs num refs' num' s t n i a other absent put er en =
-    let only : (k : ℕ) → node_of (slot s k) ≡ Some n → k ≡ i =
-    λ k e. let w = held_some refs num s k n a e in
+    let only : (k : ℕ) → node_of (slot s k) ≡ Some n → k ≡ i = λ k e. let w = held_some refs num s k n a e in
     elim (slot s i) as (λ o. slot s i ≡ o → k ≡ i) [
       | None ↦ λ f. absurd (absent f k e)
       | Some x ↦ λ f.
@@ -363,8 +361,7 @@ free_is d c s i t first =
     let p : ℕ → Bool = λ r. is_none (node_at d c r) in
     let many = held_count d c s t in
     let front = taken_front i s first.1 in
-    let free : p (1 + i) ≡ true =
-    (let e : 1 + i ≡ i + 1 = omega arith in
+    let free : p (1 + i) ≡ true = (let e : 1 + i ≡ i + 1 = omega arith in
     ap p e ∙ ap (λ (o : Option Node). is_none o) (node_is_slot d c s i t) ∙
     ap (λ (o : Option Held). is_none (node_of o)) first.0) in
     let below : (r : ℕ) → 1 ≤ r → r < 1 + i → p r ≡ false = λ r ge lt.

@@ -69,8 +69,7 @@ rows_stay d e rows list same tr = record {
 ids_set : (rows : List ClientRow) (i : ℕ) (r r' : ClientRow) → i < length rows → r ≡ get_or rows i r
     → r'.client ≡ r.client → clients_of (set rows i r') ≡ clients_of rows
 ids_set [] i r r' lt at same = absurd (omega (arith, lt))
-ids_set (x ∷ xs) zero r r' lt at same =
-    ap (λ (k : ℕ). k ∷ clients_of xs) (same ∙ ap (λ (v : ClientRow). v.client) at)
+ids_set (x ∷ xs) zero r r' lt at same = ap (λ (k : ℕ). k ∷ clients_of xs) (same ∙ ap (λ (v : ClientRow). v.client) at)
 ids_set (x ∷ xs) (suc i) r r' lt at same = ap (λ (ks : List ℕ). x.client ∷ ks) (ids_set xs i r r' (omega
     (arith, lt)) at same)
 
@@ -451,8 +450,7 @@ client_releases d c n number r r' s may at who waiting put i =
     }
 
 pub tracks_releases : (d : Effects) (rows : List ClientRow) (c i : ℕ) (n : Node) (number : ℕ) (r r' : ClientRow)
-    → Sound d
-    → MayFollow d (Releases c n) → node_at d c number ≡ Some n → IsClientPlace rows c i → r ≡ get_or rows i r
+    → Sound d → MayFollow d (Releases c n) → node_at d c number ≡ Some n → IsClientPlace rows c i → r ≡ get_or rows i r
     → r'.client ≡ r.client → r'.who ≡ r.who → r'.waiting.items ≡ r.waiting.items
     → IsPut r.held.items r'.held.items number (released_slot (slot r.held.items number)) → TracksClients d rows
     → TracksClients (Releases c n ∷ d) (set rows i r')

@@ -117,14 +117,12 @@ module _ {R : Type 0} (key : R → ℕ) where
 
   -- Another row was written at a client's place.
   pub row_written : (rows : List R) (c i : ℕ) (r r' : R) → IsPlace key rows c i → r ≡ get_or rows i r
-      → key r' ≡ key r
-      → IsChanged key rows (set rows i r') c (Some r')
+      → key r' ≡ key r → IsChanged key rows (set rows i r') c (Some r')
   row_written rows c i r r' at e same = at.written r' (same ∙ ap (λ (x : R). key x) e ∙ at.own r)
 
   -- The place of a row was sought.
   pub sought : (rows : List R) (c : ℕ) (o : Option ℕ)
-      → MatchOption o (first_of key rows c ≡ None) (IsPlace key rows c)
-      → is_some o ≡ is_some (first_of key rows c)
+      → MatchOption o (first_of key rows c ≡ None) (IsPlace key rows c) → is_some o ≡ is_some (first_of key rows c)
   sought rows c None none = sym (ap (λ (o : Option R). is_some o) none)
   sought rows c (Some i) at = elim (first_of key rows c) as (λ o. first_of key rows c ≡ o → true ≡ is_some o) [
     | None ↦ λ e. elim rows as (λ rs. IsPlace key rs c i → first_of key rs c ≡ None → true ≡ false) [
@@ -135,7 +133,6 @@ module _ {R : Type 0} (key : R → ℕ) where
   ] refl
 
   pub none_sought : (rows : List R) (c : ℕ) (o : Option ℕ)
-      → MatchOption o (first_of key rows c ≡ None) (IsPlace key rows c)
-      → is_some o ≡ false → first_of key rows c ≡ None
+      → MatchOption o (first_of key rows c ≡ None) (IsPlace key rows c) → is_some o ≡ false → first_of key rows c ≡ None
   none_sought rows c None none e = none
   none_sought rows c (Some i) at e = absurd (true≢false e)

@@ -50,8 +50,7 @@ joins b after old seat who due c is s sees =
 
 pub turns_away : (b after : Book) (old new : Knows) (who : Identity) (due : ℕ) (refusal : Refusal)
     → due ≡ turn_of b.history Manager → Steps b Manager due (Connect who) (Refused refusal) after
-    → ((refusal ≡ Memory) × (new ≡ old)) ⊎ ((refusal ≢ Memory) × Sees old after new)
-    → Turned old new who refusal
+    → ((refusal ≡ Memory) × (new ≡ old)) ⊎ ((refusal ≢ Memory) × Sees old after new) → Turned old new who refusal
 turns_away b after old new who due refusal is s which =
     ⊎_elim inl (λ moved. inr (⊎_elim (λ t. absurd (moved.0 (unwrapped t.0))) (λ t. (
       moved.1.0,

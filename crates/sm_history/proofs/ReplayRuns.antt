@@ -70,8 +70,7 @@ zero_more : (v w : ℕ) → v ≡ w → v ≡ w + 0
 zero_more v w e = omega (arith, e)
 
 begins : (number : ℕ) (o : Opening) (r : Replay) → StartsFrom o r → Sound (resumed o.tables)
-    → o.tables ≡ rows_at (resumed o.tables)
-    → TracksHistory (record { number = number; opening = o; entries = [] }) r
+    → o.tables ≡ rows_at (resumed o.tables) → TracksHistory (record { number = number; opening = o; entries = [] }) r
 begins number o r s sound rows = record {
   tables = s.tables (resumed o.tables) sound rows;
   turning = record {
@@ -101,8 +100,7 @@ starts_nothing number o r is s =
 pub has_begun : (places number : ℕ) (o : Opening) (es : List Entry) (r : Replay) → AreLawful places number o es
     → StartsFrom o r → HasCome places number o [] r
 has_begun places number o [] r (left, fits) s = (inr (left, fits), starts_left number o r left s)
-has_begun places number o (e ∷ es) r (inl (first, is, none, opens)) s =
-    (inl (is, refl), starts_nothing number o r is s)
+has_begun places number o (e ∷ es) r (inl (first, is, none, opens)) s = (inl (is, refl), starts_nothing number o r is s)
 has_begun places number o (e ∷ es) r (inr (before, done, ok)) s = has_begun places number o es r before s
 
 -- ---- one entry more
@@ -209,8 +207,7 @@ take_none [] = refl
 take_none (x ∷ xs) = refl
 
 pub none_yet : (places number : ℕ) (o : Opening) (zs es : List Entry) (r : Replay)
-    → HasCome places number o (reverse zs) r
-    → HasCome places number o (reverse (zs ++ take 0 es)) r
+    → HasCome places number o (reverse zs) r → HasCome places number o (reverse (zs ++ take 0 es)) r
 none_yet places number o zs es r come =
     subst (λ (v : List Entry). HasCome places number o (reverse v) r)
     (sym (ap (λ (v : List Entry). zs ++ v) (take_none es) ∙ append-nil zs)) come

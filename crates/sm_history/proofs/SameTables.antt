@@ -97,8 +97,7 @@ ids_same (x ∷ xs) [] same = absurd same
 ids_same (x ∷ xs) (y ∷ ys) same = rw (same.0, ids_same xs ys same.4) refl
 
 each_same : (d : Effects) (c : ℕ) (rows copies : List ClientRow) → AreSameRows rows copies
-    → IsRowFor d c (client_row_of rows c)
-    → IsRowFor d c (client_row_of copies c)
+    → IsRowFor d c (client_row_of rows c) → IsRowFor d c (client_row_of copies c)
 each_same d c [] [] same i = tt
 each_same d c [] (y ∷ ys) same i = absurd same
 each_same d c (x ∷ xs) [] same i = absurd same

@@ -151,8 +151,7 @@ pub record Grown (o : Opening) (es : List Entry) : Type 0 where
 
 goes_on : (number : ℕ) (o : Opening) (e : Entry) (es : List Entry)
     → verdict_apart (record { number = number; opening = o; entries = es }) e.by e.turn e.event ≡ Done e.outcome
-    → HasSoundPolicy e.event
-    → ((o ≡ blank_opening) × AreLawfulApart es) ⊎ Grown o es
+    → HasSoundPolicy e.event → ((o ≡ blank_opening) × AreLawfulApart es) ⊎ Grown o es
     → ((o ≡ blank_opening) × AreLawfulApart (e ∷ es)) ⊎ Grown o (e ∷ es)
 goes_on number o e es done ok (inl (is, l)) =
     inl (

@@ -78,8 +78,7 @@ own_single d c n r m p false true one num em ep hm hp is = sym (number_apart d c
 own_single d c n r m p false false one num em ep hm hp is = one m p hm hp is
 
 single_case : (d : Effects) (c : ℕ) (n : Node) (r k : ℕ) (m p : Node) (b : Bool) → (c == k) ≡ b → HasOneEach d k
-    → is_live d c ≡ true → Numbers d c n r
-    → (if b && same_node n m then is_live d k else is_held d k m) ≡ true
+    → is_live d c ≡ true → Numbers d c n r → (if b && same_node n m then is_live d k else is_held d k m) ≡ true
     → (if b && same_node n p then is_live d k else is_held d k p) ≡ true
     → (if b && same_node n m then r else number_at d k m) ≡ (if b && same_node n p then r else number_at d k p) → m ≡ p
 single_case d c n r k m p false e one live num hm hp is = one m p hm hp is

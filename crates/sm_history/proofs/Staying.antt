@@ -66,8 +66,7 @@ stays_on old (Seals ∷ ms) c lt live =
     (i.0, sym (who_back d c before) ∙ i.1)
 
 pub client_stays : (new old : Book) (c : ℕ) → Begins new old → c < next_client (effects_of old.history)
-    → is_live (effects_of new.history) c ≡ true
-    → (is_live (effects_of old.history) c ≡ true)
+    → is_live (effects_of new.history) c ≡ true → (is_live (effects_of old.history) c ≡ true)
     × (identity_at (effects_of new.history) c ≡ identity_at (effects_of old.history) c)
 client_stays new old c p lt live =
     let o = old.history in

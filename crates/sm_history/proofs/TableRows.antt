@@ -114,8 +114,7 @@ each_row d (r ∷ rs) once each = (
 live_are : (d : Effects) (rows : List ClientRow) → AllOf (λ r. IsClient d r.client r) rows
     → map live_of rows ≡ map (live_row d) (clients_of rows)
 live_are d [] all = refl
-live_are d (r ∷ rs) all =
-    rw (all.0.who) (ap (λ (l : List LiveRow). live_row d r.client ∷ l) (live_are d rs all.1))
+live_are d (r ∷ rs) all = rw (all.0.who) (ap (λ (l : List LiveRow). live_row d r.client ∷ l) (live_are d rs all.1))
 
 all_held : (d : Effects) (rows : List ClientRow) → AllOf (λ r. IsClient d r.client r) rows
     → flat_map held_of rows ≡ flat_map (held_rows d) (clients_of rows)

@@ -205,8 +205,7 @@ pub record SameProcesses (d e : Effects) : Type 0 where
   pub manager : manager_at e ≡ manager_at d
 
 notice_good : (d e : Effects) (n : Node) (w : Watch) → SameProcesses d e → is_opened d ≡ true
-    → is_live d w.client ≡ true
-    → AllGood d (notice_checks e n w)
+    → is_live d w.client ≡ true → AllGood d (notice_checks e n w)
 notice_good d e n w s opened live =
     let manager = subst (Stands d) (sym s.manager) (opened_stands d opened) in
     (subst (Stands d) (sym (s.clients w.client)) (live_stands d w.client live), (manager, (manager, (tt, tt))))
@@ -248,8 +247,7 @@ telling_true h c _ opened acts = All-nil (IsTrueOf h)
 
 -- What is left behind two conditions, which hold or nothing is left.
 behind_true : (h : History) (a b : Bool) (i j : EarlyAnswer) (xs : List Check) (told : List Record)
-    → (a ≡ true → b ≡ true → AllGood (effects_of h) xs)
-    → (a ≡ true → b ≡ true → All (IsTrueOf h) told)
+    → (a ≡ true → b ≡ true → AllGood (effects_of h) xs) → (a ≡ true → b ≡ true → All (IsTrueOf h) told)
     → All (IsTrueOf h) (left_by_all (moment_of h) (Wants a i ∷ Wants b j ∷ xs)
     ++ (if is_none (first_failing (policy_at (effects_of h)) (Wants a i ∷ Wants b j ∷ xs)) then told else []))
 behind_true h false b i j xs told good tells = All-nil (IsTrueOf h)
@@ -264,8 +262,7 @@ behind_true h true true i j xs told good tells =
     ])
 
 pub event_records_true : (places : ℕ) (h : History) (by : By) (turn : ℕ) (event : Event)
-    → is_opened (effects_of h) ≡ true
-    → All (IsTrueOf h) (records places h by turn event)
+    → is_opened (effects_of h) ≡ true → All (IsTrueOf h) (records places h by turn event)
 event_records_true places h by turn event opened =
     let d = effects_of h in
     let c = client_of by in

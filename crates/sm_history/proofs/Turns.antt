@@ -158,8 +158,7 @@ out_of_turn places h by turn event n is =
 pub others_in_turn : (places : ℕ) (h : History) (by : By) (turn : ℕ) (event : Event)
     → verdict places h by turn event ≢ Refused (Failed NotYours)
     → verdict places h by turn event ≢ Refused (Failed NotConnected)
-    → ((n : ℕ) → verdict places h by turn event ≢ Refused (Failed (OutOfTurn n)))
-    → turn ≡ turn_of h by
+    → ((n : ℕ) → verdict places h by turn event ≢ Refused (Failed (OutOfTurn n))) → turn ≡ turn_of h by
 others_in_turn places h by turn event x y z =
     let d = effects_of h in
     number_same turn (turn_of h by)

@@ -84,8 +84,7 @@ known_is (Admin a) k as' = known_case k a (list_any (is_same (Admin a)) as') as'
 
 -- One change more of an actor.
 pub counted_more : (h : History) (e : Entry) (t t' : Turning) → ((b : By) → turn_of h b < GREATEST)
-    → CountsTurns (turn_of h) (admins_of h) t
-    → ((b : By) → made t' b ≡ more_by (is_same e.by b) (made t b))
+    → CountsTurns (turn_of h) (admins_of h) t → ((b : By) → made t' b ≡ more_by (is_same e.by b) (made t b))
     → ((a : ℕ) → is_known t' a ≡ (is_same e.by (admin a) || is_known t a))
     → t'.order.items ≡ with_order e.by (has_made t e.by) t.order.items
     → CountsTurns (turn_of (entered e h)) (admins_of (entered e h)) t'

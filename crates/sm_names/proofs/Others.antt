@@ -30,8 +30,7 @@ is_heard (Unwatches w) = true
 is_heard x = false
 
 pub same_rows : (x : Effect) (d : Effects) (rows : List NamedRow)
-    → ((name : List ℕ) → service_at (x ∷ d) name ≡ service_at d name)
-    → TracksRows d rows → TracksRows (x ∷ d) rows
+    → ((name : List ℕ) → service_at (x ∷ d) name ≡ service_at d name) → TracksRows d rows → TracksRows (x ∷ d) rows
 same_rows x d rows same tr = record { services = λ name. tr.services name ∙ sym (same name); rises = tr.rises }
 
 pub same_list : (x : Effect) (d : Effects) (ws : List Watch) → watches_at (x ∷ d) ≡ watches_at d → TracksList d ws

@@ -99,8 +99,7 @@ filter_empty p (x ∷ xs) h = rw (h 0 x (omega arith) (omega arith)) (filter_emp
     (omega arith) (omega (arith, b))))
 
 filter_rest : {X : Type 0} (p : X → Bool) (xs : List X) (n : ℕ) → n ≤ length xs
-    → AllWithin (λ x. p x ≡ false) xs 0 n
-    → filter p (drop n xs) ≡ filter p xs
+    → AllWithin (λ x. p x ≡ false) xs 0 n → filter p (drop n xs) ≡ filter p xs
 filter_rest p xs zero le h = refl
 filter_rest p [] (suc n) le h = refl
 filter_rest p (x ∷ xs) (suc n) le h =
@@ -168,16 +167,14 @@ parted_up_to ws name h i j d le lt e = le_le (get_or ws i d).name (get_or ws j d
 
 -- Behind those of lesser names come those of the name, and then no more of them.
 of_case : (ws : List Watch) (name : List ℕ) (i j : ℕ) (d : Watch) → AreInOrder ws → i ≤ j → j < length ws
-    → comes_before name (get_or ws i d) ≡ false → is_of name (get_or ws j d) ≡ true
-    → is_of name (get_or ws i d) ≡ true
+    → comes_before name (get_or ws i d) ≡ false → is_of name (get_or ws j d) ≡ true → is_of name (get_or ws i d) ≡ true
 of_case ws name i j d h le lt low e =
     between (get_or ws i d).name name low
     (subst (λ (v : List ℕ). is_le (order (get_or ws i d).name v)
     ≡ true) (same_bytes (get_or ws j d).name name e) (in_order ws i j d h le lt))
 
 pub parted_of : (ws : List Watch) (name : List ℕ) (n : ℕ) → AreInOrder ws
-    → AllWithin (λ w. comes_before name w ≡ false) ws n (length ws)
-    → IsPartitionedBy (is_of name) (drop n ws)
+    → AllWithin (λ w. comes_before name w ≡ false) ws n (length ws) → IsPartitionedBy (is_of name) (drop n ws)
 parted_of ws name n h low i j d le lt e =
     let lt' : n + j < length ws = let long = length-drop n ws in omega (arith, lt, long) in
     let at_i = get_or-drop n ws i d in
@@ -187,8 +184,7 @@ parted_of ws name n h low i j d le lt e =
     subst (λ (w : Watch). is_of name w ≡ true) (sym at_i) r
 
 pub watchers_rest : (ws : List Watch) (name : List ℕ) (n : ℕ) → n ≤ length ws
-    → AllWithin (λ w. comes_before name w ≡ true) ws 0 n
-    → watchers_in (drop n ws) name ≡ watchers_in ws name
+    → AllWithin (λ w. comes_before name w ≡ true) ws 0 n → watchers_in (drop n ws) name ≡ watchers_in ws name
 watchers_rest ws name n le h = filter_rest (is_of name) ws n le (λ k d a b. before_apart (get_or ws k d).name name
     (h k d a b))
 
