@@ -292,9 +292,6 @@ own_gives d c n r s may =
 least : (v g : ℕ) → v < g → min v g ≡ v
 least v g lt = omega (arith, lt)
 
-zero_refs : (v : ℕ) → nat_lt 0 v ≡ false → v ≡ 0
-zero_refs v h = grind (arith, nat_tests)
-
 -- The slot of the number, after the grant.
 given_is : (d : Effects) (c : ℕ) (n : Node) (r : ℕ) → HasOneEach d c → Numbers d c n r
     → nat_lt (refs_at d c n + 1) GREATEST ≡ true
@@ -311,7 +308,7 @@ given_is d c n r one num fits =
           (m : Node). let h : Held = record { node = m; count = refs_at d c m } in h))
           (num.free held))
           ∙ ap (λ (v : ℕ). let o : Option Held = Some (record { node = n; count = v }) in o)
-          (let z = zero_refs (refs_at d c n) held in let one : 1 ≡ refs_at d c n + 1 = omega (arith, z) in one)
+          (let z : refs_at d c n ≡ 0 = grind (arith, nat_tests) in let one : 1 ≡ refs_at d c n + 1 = omega (arith, z) in one)
     ] refl
 
 given_case : (b : Bool) (x y z w : Option Held) → (b ≡ true → x ≡ z) → (b ≡ false → y ≡ z) → (if b then x else y) ≡ z

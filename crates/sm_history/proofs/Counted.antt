@@ -46,9 +46,6 @@ refs_grow d _ b e k m = omega arith
 pub under : {a b g : ℕ} → a ≤ b → b < g → a < g
 under le lt = omega (arith, le, lt)
 
-up_to : {a b g : ℕ} → a ≡ b → a < g → b < g
-up_to e lt = omega (arith, e, lt)
-
 -- The count behind a grant, to a client that is live.
 pub one_more : (d : Effects) (c : ℕ) (n : Node) (r : ℕ) → IsBalanced d → is_live d c ≡ true
     → refs_at (Gives c n r ∷ d) c n ≡ refs_at d c n + 1
@@ -64,7 +61,7 @@ may_one : (d : Effects) (x : Effect) → Sound d → MayFollowApart d x
 may_one d (Gives c n r) s (live, number, other, fits) below =
     let lt = below c n in
     let more = one_more d c n r s.balanced live in
-    (live, number, other, fits, is_below (refs_at d c n + 1) GREATEST (up_to more lt))
+    (live, number, other, fits, is_below (refs_at d c n + 1) GREATEST (omega (arith, more, lt)))
 may_one d _ s m below = m
 
 -- An effect that may come next but for its count keeps what holds of lawful histories.

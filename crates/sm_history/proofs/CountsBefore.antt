@@ -18,15 +18,11 @@ pub record Grows (b : Effects) (k : ℕ) (m : Node) (d : Effects) : Type 0 where
   pub balanced : IsBalanced d
   pub more : refs_at b k m ≤ refs_at d k m
 
-through : (a b c : ℕ) → a ≤ b → b ≤ c → a ≤ c
-through a b c p q = omega (arith, p, q)
-
 grows_gives : (b : Effects) (k : ℕ) (m : Node) (c : ℕ) (n : Node) (r : ℕ) (d : Effects) → Grows b k m d
     → Grows b k m (Gives c n r ∷ d)
 grows_gives b k m c n r d h = record {
   balanced = balanced_lasts (Gives c n r) d refl h.balanced;
-  more = through (refs_at b k m) (refs_at d k m) (refs_at (Gives c n r ∷ d) k m) h.more
-      (refs_grow d (Gives c n r) h.balanced refl k m);
+  more = let before = h.more in let grow = refs_grow d (Gives c n r) h.balanced refl k m in omega (arith, before, grow);
 }
 
 grows_delivers : (b : Effects) (k : ℕ) (m : Node) (c : ℕ) (x : Delivery) (d : Effects) → Grows b k m d

@@ -6,7 +6,6 @@ use Rattle.sm_kinds.specs.declared.number.ObjRef.{ObjRef}
 use Rattle.sm_history.specs.declared.service.Service.{Service}
 use Rattle.sm_history.specs.declared.delivery.Given.{Given}
 use Rattle.sm_history.specs.declared.delivery.Delivery.{Delivery}
-use Rattle.sm_history.specs.declared.delivery.Message.{Message}
 use Rattle.sm_history.specs.declared.delivery.Message.TheVariants.{Called}
 use Rattle.sm_history.specs.declared.notice.Notice.{Notice}
 use Rattle.sm_history.specs.declared.event.Event.TheVariants.{Add, Get, Watch as WatchName, Call}
@@ -17,7 +16,7 @@ use Rattle.sm_history.specs.Effects.{Effects, Watch, Adds, Gives, Watches, Deliv
 use Rattle.sm_history.specs.Clients.{is_live}
 use Rattle.sm_history.specs.Holdings.{number_for, node_at, resolve_at, handed}
 use Rattle.sm_history.specs.Services.{service_at, watchers_at}
-use Rattle.sm_history.specs.Notices.{notice_at, notices_at, after_notice, after_notices}
+use Rattle.sm_history.specs.Notices.{notice_at, notices_at, after_notices}
 use Rattle.sm_history.specs.Histories.{found, given_refs, handed_refs, call_delivery, service, watch, after_add}
 use Rattle.sm_history.specs.Histories.{after_get, after_watch, after_call}
 use Rattle.sm_history.specs.Verdict.{handle_number, notice_of_watch}
@@ -30,11 +29,9 @@ use Rattle.sm_history.proofs.AgreeNotices.{AllLive, watchers_live, sim_refs, liv
 use Rattle.sm_history.proofs.Followed.{sound_follows}
 use Rattle.sm_history.proofs.Sound.{sound_watches}
 use Rattle.sm_history.proofs.EnteringSteps.{sim_self, may_give}
+use Rattle.sm_history.proofs.EnteringLoops.{TellsOne}
 
 -- ---- getting
-
-granted_is : (a b : ℕ) → (let o : Outcome = Granted a in o) ≡ Granted b → a ≡ b
-granted_is a b is = cc
 
 get_case : (d : Effects) (c : ℕ) (sv : Service) (r : ℕ) (t : Tables) (b : Bool) → (sv.node.owner.0 == c) ≡ b → b ≡ false
     → Sound d → is_live d c ≡ true → r ≡ number_for d c sv.node → AllFit (handed d c sv.node)
@@ -52,8 +49,7 @@ pub get_step : (d : Effects) (c : ℕ) (name : List ℕ) (sv : Service) (r : ℕ
     → (sv.node.owner.0 == c) ≡ false → (MayGive d c sv.node r → TracksTables (Gives c sv.node r ∷ d) t)
     → TracksTables (after_get d c (service_at d name)) t
 get_step d c name sv r outcome t s done is found other give =
-    let number : r ≡ handle_number d c (service_at d name) = granted_is r (handle_number d c (service_at d name))
-    (sym is ∙ done.outcome_is) in
+    let granted = sym is ∙ done.outcome_is in let number : r ≡ handle_number d c (service_at d name) = cc in
     subst (λ (o : Option Service). r ≡ handle_number d c o → AllFit (after_get d c o)
     → TracksTables (after_get d c o) t)
     (sym found)
@@ -61,9 +57,6 @@ get_step d c name sv r outcome t s done is found other give =
     number done.fits
 
 -- ---- adding
-
-added_is : (a b : List Notice) → (let o : Outcome = Added a in o) ≡ Added b → a ≡ b
-added_is a b is = cc
 
 -- This is what setting the service of a name promises, with the notices to watchers.
 abbrev pub Puts : ℕ → List ℕ → Node → Bool → ℕ → Tables → Tables → Type 0
@@ -87,50 +80,33 @@ add_step d c name copy obj allow dump n notices told outcome old mid new s tr do
     subst (λ (v : List ℕ). Puts c v m allow dump old mid) copied
     (subst (λ (v : Node). Puts c copy v allow dump old mid) node put) in
     let tell' : TellsAll m told mid new = subst (λ (v : Node). TellsAll v told mid new) node tell in
+    let listed = sym is ∙ done.outcome_is in let all : notices ≡ notices_at e m (watchers_at d name) = cc in
     tell' e (watchers_at d name) (sound_follows d (Adds name (service c m allow dump)) s owner) (put' d tr owner)
     (watchers_live d name)
-    (same ∙ added_is notices (notices_at e m (watchers_at d name)) (sym is ∙ done.outcome_is)) done.fits
+    (same ∙ all) done.fits
 
 -- ---- watching
-
-watched_is : (a b : Option Notice) → (let o : Outcome = Watched a in o) ≡ Watched b → a ≡ b
-watched_is a b is = cc
-
-some_notice : (a b : Notice) → (let o : Option Notice = Some a in o) ≡ Some b → a ≡ b
-some_notice a b is = cc
 
 abbrev pub Watching : Watch → Tables → Tables → Type 0
 Watching w t t' = (e : Effects) → TracksTables e t → is_live e w.client ≡ true → TracksTables (Watches w ∷ e) t'
 
-abbrev pub TellsThis : Node → Notice → Tables → Tables → Type 0
-TellsThis n x t t' = (e : Effects) (w : Watch) → Sound e → TracksTables e t → is_live e w.client ≡ true
-    → x ≡ notice_at e n w → AllFit (after_notice e n w) → TracksTables (after_notice e n w) t'
-
 pub watch_step : (d : Effects) (c : ℕ) (name copy : List ℕ) (object : ℕ) (sv : Service) (told : Option Notice)
     (notice x : Notice) (outcome : Outcome) (old mid new : Tables) → Sound d → TracksTables d old
     → IsDone d c (WatchName name object) outcome → outcome ≡ Watched told → told ≡ Some notice → x ≡ notice
-    → service_at d name ≡ Some sv → copy ≡ name → Watching (watch c copy object) old mid → TellsThis sv.node x mid new
+    → service_at d name ≡ Some sv → copy ≡ name → Watching (watch c copy object) old mid → TellsOne sv.node x mid new
     → TracksTables (after_watch (Watches (watch c name object) ∷ d) (watch c name object) (service_at d name)) new
 watch_step d c name copy object sv told notice x outcome old mid new s tr done is some same found copied put tell =
     let w = watch c name object in
     let e : Effects = Watches w ∷ d in
     let put' : Watching w old mid = subst (λ (v : List ℕ). Watching (watch c v object) old mid) copied put in
-    let told' : told ≡ notice_of_watch e w (service_at d name) =
-    watched_is told (notice_of_watch e w (service_at d name)) (sym is ∙ done.outcome_is) in
+    let watched = sym is ∙ done.outcome_is in let told' : told ≡ notice_of_watch e w (service_at d name) = cc in
     subst (λ (o : Option Service). told ≡ notice_of_watch e w o → AllFit (after_watch e w o)
     → TracksTables (after_watch e w o) new) (sym found)
     (λ at fits. tell e w (sound_watches d w done.acts s)
-    (put' d tr done.acts) done.acts (same ∙ some_notice notice (notice_at e sv.node w) (sym some ∙ at)) fits)
+    (put' d tr done.acts) done.acts (same ∙ (let here : notice ≡ notice_at e sv.node w = cc in here)) fits)
     told' done.fits
 
 -- ---- calling
-
-sent_is : (a b : Delivery) → (let o : Outcome = Sent a in o) ≡ Sent b → a ≡ b
-sent_is a b is = cc
-
-refs_are : (pid uid pid' uid' : ℕ) (payload payload' : List ℕ) (a b : List Given)
-    → (let m : Message = Called pid uid payload a in m) ≡ Called pid' uid' payload' b → a ≡ b
-refs_are pid uid pid' uid' payload payload' a b is = cc
 
 abbrev pub HandsAll : ℕ → ℕ → List ObjRef → List Given → Tables → Tables → Type 0
 HandsAll from to refs gs t t' = (e : Effects) → Sound e → TracksTables e t → is_live e from ≡ true → is_live e to ≡ true
@@ -152,9 +128,8 @@ call_step d c handle payload refs n sent copy pid uid text gs outcome old mid ne
     let to = m.owner.0 in
     let x = call_delivery d c m payload refs in
     let live : is_live d to ≡ true = done.passes.1.0 in
-    let made : sent ≡ x = sent_is sent x (sym is ∙ done.outcome_is) in
-    let given : gs ≡ given_refs d c to refs =
-    refs_are pid uid _ _ text payload gs (given_refs d c to refs) (sym what ∙ ap (λ (v : Delivery). v.what) made) in
+    let done' = sym is ∙ done.outcome_is in let made : sent ≡ x = cc in
+    let said = sym what ∙ ap (λ (v : Delivery). v.what) made in let given : gs ≡ given_refs d c to refs = cc in
     let hand' : HandsAll c to refs gs old mid = subst (λ (v : Node). HandsAll c v.owner.0 refs gs old mid) node hand in
     let put' : Puts1 to x mid new =
     subst (λ (v : Delivery). Puts1 to v mid new) (copied ∙ made)

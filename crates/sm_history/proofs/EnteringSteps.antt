@@ -1,6 +1,6 @@
 -- What an accepted change does to tables, step by step.
-use Rattle.std.proofs.Common.{◌≡◌, ℕ, ◌+◌, ◌<◌, true, false, ◌==◌, ◌∷◌, ap, sym, ◌∙◌, subst}
-use Rattle.std.proofs.Common.{Some, None, if◌then◌else◌, arith}
+use Rattle.std.proofs.Common.{◌≡◌, ℕ, ◌+◌, true, false, ◌==◌, ◌∷◌, ap, sym, ◌∙◌, subst, Some, None, if◌then◌else◌}
+use Rattle.std.proofs.Common.{arith}
 use Rattle.sm_kinds.specs.declared.number.Node.{Node}
 use Rattle.sm_history.specs.declared.limits.TheConstants.{GREATEST}
 use Rattle.sm_history.specs.declared.delivery.Given.{Given}
@@ -36,16 +36,13 @@ sound_notice d n w s live = (sim_notice d d n w (sim_self d s) live).left
 
 -- ---- passing
 
-more_below : (v w g : ℕ) → w ≡ v + 1 → w < g → v + 1 < g
-more_below v w g e lt = omega (arith, e, lt)
-
 pub may_give : (d : Effects) (c : ℕ) (n : Node) (r : ℕ) → Sound d → is_live d c ≡ true → r ≡ number_for d c n
     → AllFit (Gives c n r ∷ d) → MayGive d c n r
 may_give d c n r s live number fits = (
   live,
   number,
-  is_below (refs_at d c n + 1) GREATEST (more_below (refs_at d c n) (refs_at (Gives c n r ∷ d) c n) GREATEST
-      (one_more d c n r s.balanced live) (fits c n)),
+  is_below (refs_at d c n + 1) GREATEST (let more = one_more d c n r s.balanced live in let lt = fits c n in
+      omega (arith, more, lt)),
 )
 
 -- An object that reaches a client as a handle is given to it.

@@ -9,7 +9,7 @@ use Rattle.std.proofs.lemmas.Bool.{true≢false}
 use Rattle.sm_kinds.specs.declared.number.Node.{Node}
 use Rattle.sm_history.specs.Effects.{Effects, same_node}
 use Rattle.sm_history.specs.Holdings.{is_held, held_nodes, given_nodes, number_at, node_at, free_number}
-use Rattle.sm_history.proofs.Balanced.{node_same}
+use Rattle.sm_history.proofs.Balanced.{node_same, number_same}
 use Rattle.sm_history.proofs.Grants.{IsDistinct, given_distinct, held_given, same_self}
 use Rattle.sm_history.proofs.Lists.{any_filter, filter_fewer}
 use Rattle.sm_history.specs.Sound.{HasOneEach}
@@ -121,16 +121,13 @@ pub counts_alike : (d e : Effects) (c : ℕ) → HoldAlike d e c → length (hel
 counts_alike d e c same = let a = no_fewer d e c same in let b = no_fewer e d c (λ n. sym (same n)) in
     omega (arith, a, b)
 
-is_number : (d : Effects) (c r : ℕ) (n : Node) → (number_at d c n == r) ≡ true → number_at d c n ≡ r
-is_number d c r n h = grind (arith, nat_tests)
-
 pub number_is : (a r : ℕ) → a ≡ r → (a == r) ≡ true
 number_is a r e = grind (arith, nat_tests)
 
 pub node_held : (d : Effects) (c r : ℕ) (n : Node) → node_at d c r ≡ Some n
     → (is_held d c n ≡ true) × (number_at d c n ≡ r)
 node_held d c r n h = let f = find_some (λ m. number_at d c m == r) (held_nodes d c) n h in
-    (among_held d c n f.1, is_number d c r n f.0)
+    (among_held d c n f.1, number_same (number_at d c n) r f.0)
 
 pub node_not_held : (d : Effects) (c r : ℕ) (n : Node) → node_at d c r ≡ None → is_held d c n ≡ true
     → (number_at d c n == r) ≡ false

@@ -29,7 +29,7 @@ use Rattle.sm_history.specs.Verdict.{notice_of_watch}
 use Rattle.sm_history.specs.Checks.{Wants, first_failing}
 use Rattle.sm_history.specs.declared.failed_check.EarlyAnswer.TheVariants.{Refused}
 use Rattle.sm_history.specs.declared.refusal.Refusal.TheVariants.{JournalFull}
-use Rattle.sm_history.specs.declared.outcome.Outcome.TheVariants.{Watched}
+use Rattle.sm_history.specs.declared.outcome.Outcome.TheVariants.{Granted, Watched}
 use Rattle.sm_history.specs.Lawful.{AreLawful, IsLawful}
 use Rattle.sm_history.specs.Listing.{told_deliveries, notice_deliveries, listed_deliveries, number_in, numbers_in}
 use Rattle.sm_history.specs.Listing.{message_numbers, delivery_numbers, listed_numbers, listed_clients, all_listed}
@@ -118,11 +118,11 @@ notices_numbers d n (w ∷ ws) =
 
 -- ---- each event
 
--- What an event adds is what its outcome lists.
-record Lists (d : Effects) (c : ℕ) (event : Event) : Type 0 where
-  pub deliveries : Puts delivery_made d (listed_deliveries (outcome_of d c event)) (after_event d c event)
-  pub numbers : Puts number_made d (listed_numbers (outcome_of d c event)) (after_event d c event)
-  pub clients : Puts connected d (listed_clients (outcome_of d c event)) (after_event d c event)
+-- What effects add is what an outcome lists.
+record Lists (d e : Effects) (outcome : Outcome) : Type 0 where
+  pub deliveries : Puts delivery_made d (listed_deliveries outcome) e
+  pub numbers : Puts number_made d (listed_numbers outcome) e
+  pub clients : Puts connected d (listed_clients outcome) e
 
 found_other : (d : Effects) (c : ℕ) (name : List ℕ) → Passes d c (Get name) → (s : Service)
     → service_at d name ≡ Some s → (s.node.owner.0 == c) ≡ false
@@ -130,45 +130,29 @@ found_other d c name a s is =
     not-true (s.node.owner.0 == c)
     (subst (λ (o : Option Service). AllHold (policy_at d) (handing_checks d c o)) is a.1.1.1.1.1).0
 
-lists_get : (d : Effects) (c : ℕ) (name : List ℕ) (o : Option Service) → service_at d name ≡ o
-    → Passes d c (Get name) → Lists d c (Get name)
+lists_get : (d : Effects) (c : ℕ) (name : List ℕ) (o : Option Service) → service_at d name ≡ o → Passes d c (Get name)
+    → Lists d (after_get d c o) (Granted (handle_number d c o))
 lists_get d c name None is a = absurd (true≢false (sym a.1.1.1.0 ∙ ap (λ (o : Option Service). is_some o) is))
 lists_get d c name (Some s) is a =
     let other = found_other d c name a s is in
-    let numbers : Puts number_made d (number_for d c s.node ∷ []) (handed d c s.node) = rw other refl in
     record {
-      deliveries = ap (λ o. filter_map delivery_made (after_get d c o)) is ∙ handed_deliveries d c s.node;
-      numbers = ap (λ o. filter_map number_made (after_get d c o)) is ∙ numbers
-          ∙ ap (λ o. handle_number d c o ∷ filter_map number_made d) (sym is);
-      clients = ap (λ o. filter_map connected (after_get d c o)) is
-          ∙ handed_keeps (Puts connected d []) (λ k m r b h. h) d c s.node refl;
+      deliveries = handed_deliveries d c s.node;
+      numbers = rw other refl;
+      clients = handed_keeps (Puts connected d []) (λ k m r b h. h) d c s.node refl;
     }
 
-lists_watch : (d : Effects) (c : ℕ) (name : List ℕ) (object : ℕ) (o : Option Service) → service_at d name ≡ o
-    → Lists d c (WatchName name object)
-lists_watch d c name object None is =
-    let w = watch c name object in let e : Effects = Watches w ∷ d in
+lists_watch : (d : Effects) (w : Watch) (o : Option Service)
+    → Lists d (after_watch (Watches w ∷ d) w o) (Watched (notice_of_watch (Watches w ∷ d) w o))
+lists_watch d w None = record { deliveries = refl; numbers = refl; clients = refl }
+lists_watch d w (Some s) =
+    let e : Effects = Watches w ∷ d in let x = first_missing e s.node w in
     record {
-      deliveries = ap (λ o. filter_map delivery_made (after_watch e w o)) is
-          ∙ ap (λ o. reverse (listed_deliveries (Watched (notice_of_watch e w o))) ++ filter_map delivery_made d)
-          (sym is);
-      numbers = ap (λ o. filter_map number_made (after_watch e w o)) is
-          ∙ ap (λ o. reverse (listed_numbers (Watched (notice_of_watch e w o))) ++ filter_map number_made d) (sym is);
-      clients = ap (λ o. filter_map connected (after_watch e w o)) is;
-    }
-lists_watch d c name object (Some s) is =
-    let w = watch c name object in let e : Effects = Watches w ∷ d in let x = first_missing e s.node w in
-    record {
-      deliveries = ap (λ o. filter_map delivery_made (after_watch e w o)) is ∙ told_puts e s.node w x
-          ∙ ap (λ o. reverse (listed_deliveries (Watched (notice_of_watch e w o))) ++ filter_map delivery_made d)
-          (sym is);
-      numbers = ap (λ o. filter_map number_made (after_watch e w o)) is ∙ told_numbers e s.node w x
-          ∙ ap (λ o. reverse (listed_numbers (Watched (notice_of_watch e w o))) ++ filter_map number_made d) (sym is);
-      clients = ap (λ o. filter_map connected (after_watch e w o)) is
-          ∙ told_keeps (Puts connected d []) (λ k m r b h. h) (λ k y b h. h) e s.node w x refl;
+      deliveries = told_puts e s.node w x;
+      numbers = told_numbers e s.node w x;
+      clients = told_keeps (Puts connected d []) (λ k m r b h. h) (λ k y b h. h) e s.node w x refl;
     }
 
-lists : (d : Effects) (c : ℕ) (event : Event) → Passes d c event → Lists d c event
+lists : (d : Effects) (c : ℕ) (event : Event) → Passes d c event → Lists d (after_event d c event) (outcome_of d c event)
 lists d c (Add name obj allow dump) a =
     let n = found (resolve_at d c obj) in let e : Effects = Adds name (service c n allow dump) ∷ d in
     record {
@@ -177,7 +161,7 @@ lists d c (Add name obj allow dump) a =
       clients = notices_keep (Puts connected d []) (λ k m r b h. h) (λ k x b h. h) e n (watchers_at d name) refl;
     }
 lists d c (Get name) a = lists_get d c name (service_at d name) refl a
-lists d c (WatchName name object) a = lists_watch d c name object (service_at d name) refl
+lists d c (WatchName name object) a = lists_watch d (watch c name object) (service_at d name)
 lists d c (Call handle payload refs) a =
     let n = found (node_at d c handle) in
     record {

@@ -1,6 +1,6 @@
 -- Lengths and counts of grants of lawful histories stay below the greatest number.
-use Rattle.std.proofs.Common.{inl, inr, ◌⊎◌, ◌≡◌, ℕ, ◌+◌, ◌<◌, ◌≤◌, Bool, true, false, ◌||◌, ◌==◌, List, [], ◌∷◌}
-use Rattle.std.proofs.Common.{refl, ap, sym, ◌∙◌, subst, length, if◌then◌else◌, arith}
+use Rattle.std.proofs.Common.{inl, inr, ◌⊎◌, ◌≡◌, ℕ, ◌<◌, Bool, true, false, ◌||◌, ◌==◌, List, [], ◌∷◌, refl, ap, sym}
+use Rattle.std.proofs.Common.{◌∙◌, subst, length, if◌then◌else◌, arith}
 use Rattle.std.specs.Prelude.{nat_lt}
 use Rattle.std.specs.List.{list_any, list_all}
 use Rattle.std.proofs.lemmas.Bool.Decides.{nat_tests}
@@ -20,9 +20,9 @@ use Rattle.sm_history.specs.Clients.{is_live, live_clients}
 use Rattle.sm_history.specs.Holdings.{refs_at, is_held, held_nodes, counts_fit}
 use Rattle.sm_history.specs.Rows.{rows_at, resumed}
 use Rattle.sm_history.specs.Openings.{Opening}
-use Rattle.sm_history.specs.Histories.{History, whole, entered, effects_of, length_of, client_of, turn_of}
+use Rattle.sm_history.specs.Histories.{History, whole, entered, effects_of, client_of, turn_of}
 use Rattle.sm_history.specs.Checks.{Wants}
-use Rattle.sm_history.specs.Verdict.{verdict, has_place, is_die, places_needed}
+use Rattle.sm_history.specs.Verdict.{verdict, has_place, is_die}
 use Rattle.sm_history.specs.Segments.{sealed}
 use Rattle.sm_history.specs.Lawful.{IsOpening, AreLawful, IsLawful, FitsNumbers, FitsPlaces}
 use Rattle.sm_history.specs.Sound.{Sound}
@@ -99,15 +99,6 @@ counts_die d c fit =
     counts_all (Dies c ∷ d) (λ k n. less_case (c == k) (refs_at d k n) (refs_at (Dies c ∷ d) k n) GREATEST
     (refs_dies d c k n) (counts_each d fit k n))
 
-die_lengths : (n live now g m : ℕ) → now + 1 ≤ live → m ≡ n + 1 → n + live < g → m + now < g
-die_lengths n live now g m one is lt = omega (arith, one, is, lt)
-
-more_lengths : (n live now needed g m : ℕ) → now + 1 ≤ live + needed → m ≡ n + 1 → n + live + needed < g → m + now < g
-more_lengths n live now needed g m one is lt = omega (arith, one, is, lt)
-
-same_lengths : (n live now m g : ℕ) → m ≡ n → now ≡ live → n + live < g → m + now < g
-same_lengths n live now m g is same lt = omega (arith, is, same, lt)
-
 numbers_die : (places : ℕ) (h : History) (by : By) (turn : ℕ) (outcome : Outcome) → FitsNumbers h
     → verdict places h by turn Die ≡ Done outcome
     → FitsNumbers (entered (record { by = by; turn = turn; event = Die; outcome = outcome }) h)
@@ -121,8 +112,7 @@ numbers_die places h by turn outcome fits done =
     let now = ap (length {A = ℕ}) (list_dies d c) in
     let e : Entry = record { by = by; turn = turn; event = Die; outcome = outcome } in
     record {
-      lengths = die_lengths (length_of h) (length (live_clients d)) (length (live_clients (Dies c ∷ d))) GREATEST
-          (length_of (entered e h)) (omega (arith, one, now)) (omega arith) fits.lengths;
+      lengths = let lt = fits.lengths in omega (arith, one, now, lt);
       counts = counts_die d c fits.counts;
     }
 
@@ -142,9 +132,7 @@ numbers_case places h e s fits done (inr alive) =
     let room = room_done places h e alive done in
     let lives = lives_after (effects_of h) (client_of e.by) e.event s alive in
     record {
-      lengths = more_lengths (length_of h) (length (live_clients (effects_of h)))
-          (length (live_clients (effects_of (entered e h)))) (places_needed e.event) GREATEST (length_of (entered e h))
-          lives (omega arith) room.lengths;
+      lengths = let lt = room.lengths in omega (arith, lives, lt);
       counts = room.counts;
     }
 
@@ -175,8 +163,7 @@ sealed_numbers h s fits =
     let d = effects_of h in
     let same = ap (length {A = ℕ}) (list_back d) in
     record {
-      lengths = same_lengths (length_of h) (length (live_clients d)) (length (live_clients (resumed (rows_at d))))
-          (length_of (sealed h)) GREATEST (omega arith) same fits.lengths;
+      lengths = let lt = fits.lengths in omega (arith, same, lt);
       counts = counts_all (resumed (rows_at d)) (λ c n. subst (λ (v : ℕ). v < GREATEST) (refs_back d c n s)
           (counts_each d fits.counts c n));
     }

@@ -280,9 +280,6 @@ run places number o cs es a b c l s chunks last =
     (subst (λ (v : List Entry). IsLawful places (segment number o (joined cs ++ v))) (sym (append-nil es)) l)
     (chunks l (has_begun places number o (reverse all) a l s)))
 
-shorter : (a b k c d e m n g : ℕ) → a ≡ c → b ≡ d → k ≡ e → m ≡ d + e → n ≡ m → c + n < g → a + b + k < g
-shorter a b k c d e m n g p q r u v lt = omega (arith, p, q, r, u, v, lt)
-
 -- The length of a lawful history is a number.
 pub length_fits : (places number : ℕ) (o : Opening) (cs : List (List Entry)) (es : List Entry) (a b k : ℕ)
     → IsLawful places (segment number o (joined cs ++ es))
@@ -291,8 +288,9 @@ length_fits places number o cs es a b k l first second third =
     let all = joined cs ++ es in
     let small = first_part (length_of (segment number o all)) _ GREATEST
     (numbers_fit places (segment number o all) l).lengths in
-    shorter a b k o.length (length (joined cs)) (length es) (length all) (length (reverse all)) GREATEST first second
-    third (length-append (joined cs) es) (length-reverse all) small
+    let more = length-append (joined cs) es in
+    let back = length-reverse all in
+    omega (arith, first, second, third, more, back, small)
 
 pub counted_more : (cs : List (List Entry)) (c : List Entry) (i : ℕ) → i < length cs → c ≡ get_or cs i c
     → length (joined (take (i + 1) cs)) ≡ length (joined (take i cs)) + length c

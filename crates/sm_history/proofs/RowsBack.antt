@@ -229,9 +229,6 @@ below_top f (m ∷ ns) n h =
       | false ↦ λ e i. let j = below_top f ns n i in omega (arith, j)
     ] refl h
 
-none_held : (r : ℕ) → nat_lt 0 r ≡ false → r ≡ 0
-none_held r h = grind (arith, nat_tests)
-
 own_sum : (d : Effects) (c : ℕ) (n : Node) → HasOneEach d c → sum_by (weight c n) (held_rows d c) ≡ refs_at d c n
 own_sum d c n one =
     let v = refs_at d c n in
@@ -241,7 +238,7 @@ own_sum d c n one =
     ∙ elim (is_held d c n) as (λ b. is_held d c n ≡ b → sum_by (at_number b a v) rs ≡ v) [
       | true ↦ λ e. let le = below_top (number_at d c) (held_nodes d c) n (held_among d c n e) in
           at_sum a v 0 (top_number d c + 1) (omega arith) (omega (arith, le))
-      | false ↦ λ e. none_sum a v rs ∙ sym (none_held v e)
+      | false ↦ λ e. none_sum a v rs ∙ (let z : 0 ≡ v = grind (arith, nat_tests) in z)
     ] refl
 
 weight_all : (d : Effects) (c : ℕ) (n : Node) → Sound d → is_live d c ≡ true

@@ -159,9 +159,6 @@ older : (e : Entry) (a b : List Entry) → AreLawfulApart a → AreLawfulApart (
 older e a [] la l = la
 older e a (f ∷ b) la l = l.0
 
-turn_case : (k n m v w t : ℕ) → k ≡ v + n → m ≡ v + w → 0 + n ≡ t + w → 0 + k ≡ t + m
-turn_case k n m v w t ek em h = omega (arith, ek, em, h)
-
 pub follows : (a b : List Entry) → AreLawfulApart a → AreLawfulApart (b ++ a) → Follows a b
 follows a [] la l = record {
   sim = sim_rows (effects_of (whole a)) (sound_apart a la);
@@ -176,10 +173,9 @@ follows a (e ∷ b) la l =
     record {
       sim = sim_event d (effects_of (segment_of a b)) (client_of e.by) e.event f.sim m.acts m.passes;
       turns = λ by speaks.
-          turn_case _ _ _ _ _ (turns_in (rows_of (whole a)).turns by)
-          (sum_by-cons (λ (x : Entry). cond (is_same by x.by) 1 0) e (b ++ a))
-          (sum_by-cons (λ (x : Entry). cond (is_same by x.by) 1 0) e b)
-          (f.turns by (spoke d (client_of e.by) e.event by speaks));
+          let all = sum_by-cons (λ (x : Entry). cond (is_same by x.by) 1 0) e (b ++ a) in
+          let new = sum_by-cons (λ (x : Entry). cond (is_same by x.by) 1 0) e b in
+          let before = f.turns by (spoke d (client_of e.by) e.event by speaks) in omega (arith, all, new, before);
     }
 
 -- ---- verdicts and answers

@@ -44,21 +44,7 @@ met d have by turn event rest outcome done =
 -- ---- soundness
 
 pub agree_self : (d : Effects) → Agree d d
-agree_self d = record {
-  policy = refl;
-  version = refl;
-  manager = refl;
-  clients = refl;
-  lives = λ c. refl;
-  live_list =
-      refl;
-  who = λ c h. refl;
-  refs = λ c n. refl;
-  numbers = λ c n h. refl;
-  services = λ n. refl;
-  watches = refl;
-  inboxes = λ c. refl;
-}
+agree_self d = search
 
 pub sound_event : (d : Effects) (by : By) (event : Event) → Sound d → Met d by event
     → Sound (after_event d (client_of by) event)
