@@ -8,9 +8,7 @@ use Rattle.std.proofs.lemmas.List.{length-append}
 use Rattle.std.proofs.lemmas.List.Folds.{list_any-append}
 use Rattle.std.proofs.lemmas.List.Sums.{sum_by-cons}
 use Rattle.std.proofs.lemmas.List.Elements.{filter_agree}
-use Rattle.sm_kinds.specs.declared.identity.Identity.{Identity}
-use Rattle.sm_kinds.specs.declared.class.Class.TheVariants.{ServiceManager}
-use Rattle.sm_policy.specs.Policy.{Policy, written_at}
+use Rattle.sm_policy.specs.Policy.{Policy}
 use Rattle.sm_history.specs.declared.failed_check.FailedCheck.{FailedCheck}
 use Rattle.sm_history.specs.declared.by.By.{By}
 use Rattle.sm_history.specs.declared.by.By.TheVariants.{Manager, Client, Admin}
@@ -18,16 +16,14 @@ use Rattle.sm_history.specs.declared.event.Event.{Event}
 use Rattle.sm_history.specs.declared.entry.Entry.{Entry}
 use Rattle.sm_history.specs.declared.query.Query.{Query}
 use Rattle.sm_history.specs.declared.query.Query.TheVariants.{List as ListNames, Version as AskVersion, Explain}
-use Rattle.sm_history.specs.declared.reply.Answer.{Answer}
-use Rattle.sm_history.specs.declared.reply.Answer.TheVariants.{Names, Why}
-use Rattle.sm_history.specs.declared.reply.Reply.TheVariants.{Done, Looked}
+use Rattle.sm_history.specs.declared.reply.Reply.TheVariants.{Done}
 use Rattle.sm_history.specs.declared.failed_check.EarlyAnswer.TheVariants.{Refused}
 use Rattle.sm_history.specs.declared.refusal.Refusal.TheVariants.{Failed}
 use Rattle.sm_history.specs.declared.refusal.Failure.TheVariants.{NotYours, NotConnected}
 use Rattle.sm_history.specs.Effects.{Effects}
 use Rattle.sm_history.specs.Clients.{is_live, live_clients, next_client, policy_at}
 use Rattle.sm_history.specs.Services.{service_at, current_names}
-use Rattle.sm_history.specs.Checks.{Needs, Wants, first_failing, calling, listing}
+use Rattle.sm_history.specs.Checks.{Wants, first_failing}
 use Rattle.sm_history.specs.Histories.{History, whole, length_of, turn_of, client_of, effects_of, after_event}
 use Rattle.sm_history.specs.Openings.{is_same, turns_in}
 use Rattle.sm_history.specs.Lawful.{AreLawfulApart}
@@ -43,7 +39,6 @@ use Rattle.sm_history.specs.Segments.{looked_at, asked, verdict_apart}
 use Rattle.sm_history.proofs.LawfulLaws.{next_after}
 use Rattle.sm_history.proofs.Rising.{names_alike}
 use Rattle.sm_history.proofs.AgreeEffects.{Sim}
-use Rattle.sm_history.proofs.AgreeNotices.{both, cons_alike, to_manager_alike}
 use Rattle.sm_history.proofs.AgreeChecks.{behind_alike}
 use Rattle.sm_history.proofs.AgreeEvents.{judged_alike, sim_event, there_alike}
 use Rattle.sm_history.proofs.Living.{any_live}
@@ -56,7 +51,7 @@ use Rattle.sm_history.proofs.Balanced.{turned}
 
 pub any_client : (k : ℕ) (ks : List ℕ) → list_any (is_same (client k)) (map client ks) ≡ among k ks
 any_client k [] = refl
-any_client k (j ∷ js) = both (λ a b. a || b) (turned k j) (any_client k js)
+any_client k (j ∷ js) = rw (turned k j, any_client k js) refl
 
 pub with_more : (a b : By) (bys : List By) → list_any (is_same a) (with_admin b bys) ≡ false
     → list_any (is_same a) bys ≡ false
@@ -193,14 +188,12 @@ masked_alike d e mask s =
     ∙ ap (filter (λ name. service_meets (shares_bit mask) (service_at e name))) (names_alike d e s.agree.services)
 
 found_alike : (d e : Effects) (q : Query) → Sim d e → found_out d q ≡ found_out e q
-found_alike d e (ListNames mask) s = ap (λ (ns : List (List ℕ)). Names ns) (masked_alike d e mask s)
+found_alike d e (ListNames mask) s = rw (masked_alike d e mask s) refl
 found_alike d e AskVersion s = refl
-found_alike d e (Explain x t class perm) s = ap (λ (p : Policy). Why (written_at p x t class perm)) s.agree.policy
+found_alike d e (Explain x t class perm) s = rw s.agree.policy refl
 
 list_alike : (d e : Effects) (c : ℕ) → Sim d e → is_live d c ≡ true → list_checks d c ≡ list_checks e c
-list_alike d e c s live = cons_alike (to_manager_alike d e c calling s live)
-    (cons_alike (both (λ (w m : Identity). Needs ServiceManager listing w m.context None) (s.agree.who c live)
-    s.agree.manager) refl)
+list_alike d e c s live = rw (s.agree.who c live, s.agree.manager) refl
 
 query_checks_alike : (d e : Effects) (by : By) (q : Query) → Sim d e → is_their_query by q ≡ true
     → is_there d by ≡ true → query_checks d (client_of by) q ≡ query_checks e (client_of by) q
@@ -211,7 +204,7 @@ query_checks_alike d e by (ListNames mask) s theirs there = absurd (true≢false
 
 looked_alike : (d e : Effects) (len : ℕ) (q : Query) (o : Option FailedCheck) → Sim d e
     → looked_at d len q o ≡ looked_at e len q o
-looked_alike d e len q None s = both (λ (v : ℕ) (x : Answer). Looked v len x) s.agree.version (found_alike d e q s)
+looked_alike d e len q None s = rw (s.agree.version, found_alike d e q s) refl
 looked_alike d e len q (Some failing) s = refl
 
 pub asked_alike : (d e : Effects) (len : ℕ) (by : By) (q : Query) → Sim d e → asked d len by q ≡ asked e len by q
