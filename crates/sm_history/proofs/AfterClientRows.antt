@@ -308,7 +308,8 @@ given_is d c n r one num fits =
           (m : Node). let h : Held = record { node = m; count = refs_at d c m } in h))
           (num.free held))
           ∙ ap (λ (v : ℕ). let o : Option Held = Some (record { node = n; count = v }) in o)
-          (let z : refs_at d c n ≡ 0 = grind (arith, nat_tests) in let one : 1 ≡ refs_at d c n + 1 = omega (arith, z) in one)
+          (let z : refs_at d c n ≡ 0 = grind (arith, nat_tests) in let one : 1 ≡ refs_at d c n + 1 = omega (arith, z)
+          in one)
     ] refl
 
 given_case : (b : Bool) (x y z w : Option Held) → (b ≡ true → x ≡ z) → (b ≡ false → y ≡ z) → (if b then x else y) ≡ z

@@ -128,15 +128,11 @@ served_checks d c refs n =
 
 served_alike : (d e : Effects) (c : ℕ) (refs : List ObjRef) (n : Node) → Sim d e → is_live d c ≡ true
     → is_live d n.owner.0 ≡ true → served_checks d c refs n ≡ served_checks e c refs n
-served_alike d e c refs n s live there = let k = n.owner.0 in
-    rw (
-      all_pass_alike d e c k refs s live there,
-      room_alike d e k s,
-      fits_alike (handed_refs d c k refs)
-          (handed_refs e c k refs) k (sim_refs d e c k refs there s),
-      s.agree.who c live,
-      s.agree.who k there,
-    ) refl
+served_alike d e c refs n s live there =
+    let k = n.owner.0 in
+    let fits = fits_alike (handed_refs d c k refs) (handed_refs e c k refs) k (sim_refs d e c k refs there s) in
+    rw (all_pass_alike d e c k refs s live there, room_alike d e k s, fits)
+    (rw (s.agree.who c live, s.agree.who k there) refl)
 
 rest_alike : (p : Policy) (rest : List Check) {xs ys : List Check} → xs ≡ ys
     → first_failing p (xs ++ rest) ≡ first_failing p (ys ++ rest)

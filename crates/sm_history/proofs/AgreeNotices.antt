@@ -1,6 +1,6 @@
 -- Where tables agree, objects are passed and watchers are notified alike, and the tables agree afterwards.
-use Rattle.std.proofs.Common.{◌≡◌, ℕ, Bool, true, false, ◌==◌, List, [], ◌∷◌, refl, ap, sym, ◌∙◌, subst, length, Option}
-use Rattle.std.proofs.Common.{Some, None, if◌then◌else◌}
+use Rattle.std.proofs.Common.{◌≡◌, ℕ, Bool, true, false, ◌==◌, List, [], ◌∷◌, refl, ap, sym, ◌∙◌, length, Option, Some}
+use Rattle.std.proofs.Common.{None, if◌then◌else◌}
 use Rattle.std.specs.Prelude.{nat_lt, nat_le, filter, is_none, bytes_eq}
 use Rattle.std.specs.List.{list_all}
 use Rattle.std.proofs.lemmas.Bool.{true≢false, and_parts}
@@ -12,7 +12,7 @@ use Rattle.sm_history.specs.declared.notice.Notice.{Notice}
 use Rattle.sm_history.specs.declared.notice.Told.TheVariants.{Told as IsTold}
 use Rattle.sm_history.specs.declared.delivery.Delivery.{Delivery}
 use Rattle.sm_history.specs.declared.delivery.Given.{Given}
-use Rattle.sm_history.specs.Effects.{Effects, Watch, Gives, Delivers}
+use Rattle.sm_history.specs.Effects.{Effects, Watch, Gives}
 use Rattle.sm_history.specs.Clients.{is_live}
 use Rattle.sm_history.specs.Holdings.{is_held, number_at, node_at, free_number, number_for, given_to, handed}
 use Rattle.sm_history.specs.Holdings.{fits_handles, resolve_at}
@@ -66,8 +66,7 @@ given_alike d e c n s = rw (number_for_alike d e c n s) refl
 pub sim_handed : (d e : Effects) (c : ℕ) (n : Node) → is_live d c ≡ true → Sim d e → Sim (handed d c n) (handed e c n)
 sim_handed d e c n live s =
     let given : Sim (Gives c n (number_for d c n) ∷ d) (Gives c n (number_for e c n) ∷ e) =
-    subst (λ r. Sim (Gives c n (number_for d c n) ∷ d) (Gives c n r ∷ e)) (number_for_alike d e c n s)
-    (sim_gives d e c n (number_for d c n) live (number_for_is d c n) s) in
+    rw (← number_for_alike d e c n s) (sim_gives d e c n (number_for d c n) live (number_for_is d c n) s) in
     elim (n.owner.0 == c) as (λ b. Sim (if b then d else Gives c n (number_for d c n) ∷ d)
     (if b then e else Gives c n (number_for e c n) ∷ e)) [ true ↦ s | false ↦ given ]
 
@@ -107,17 +106,14 @@ notice_alike d e n w s live = rw (missing_alike d e n w s live, told_alike d e n
 sim_told : (d e : Effects) (n : Node) (w : Watch) (o : Option FailedCheck) → Sim d e → is_live d w.client ≡ true
     → Sim (after_told d n w o) (after_told e n w o)
 sim_told d e n w None s live =
-    let h = sim_handed d e w.client n live s in
-    subst (λ (x : Delivery). Sim (Delivers w.client (registration d n w) ∷ handed d w.client n)
-    (Delivers w.client x ∷ handed e w.client n)) (registration_alike d e n w s)
+    rw (← registration_alike d e n w s)
     (sim_delivers (handed d w.client n) (handed e w.client n) w.client (registration d n w)
-    (live_handed d w.client n w.client ∙ live) h)
+    (live_handed d w.client n w.client ∙ live) (sim_handed d e w.client n live s))
 sim_told d e n w (Some failing) s live = s
 
 pub sim_notice : (d e : Effects) (n : Node) (w : Watch) → Sim d e → is_live d w.client ≡ true
     → Sim (after_notice d n w) (after_notice e n w)
-sim_notice d e n w s live = subst (λ (o : Option FailedCheck). Sim (after_notice d n w) (after_told e n w o))
-    (missing_alike d e n w s live) (sim_told d e n w (first_missing d n w) s live)
+sim_notice d e n w s live = rw (← missing_alike d e n w s live) (sim_told d e n w (first_missing d n w) s live)
 
 pub live_notice : (d : Effects) (n : Node) (w : Watch) (k : ℕ) → is_live (after_notice d n w) k ≡ is_live d k
 live_notice d n w k =
@@ -130,9 +126,8 @@ AllLive d ws = list_all (λ w. is_live d w.client) ws ≡ true
 pub all_same : (p q : ℕ → Bool) (ws : List Watch) → ((k : ℕ) → q k ≡ p k) → list_all (λ w. p w.client) ws ≡ true
     → list_all (λ w. q w.client) ws ≡ true
 all_same p q [] same h = refl
-all_same p q (w ∷ ws) same h =
-    rw (same w.client ∙ (and_parts (p w.client) (list_all (λ (v : Watch). p v.client) ws) h).0)
-    (all_same p q ws same (and_parts (p w.client) (list_all (λ (v : Watch). p v.client) ws) h).1)
+all_same p q (w ∷ ws) same h = let parts = and_parts (p w.client) (list_all (λ (v : Watch). p v.client) ws) h in
+    rw (same w.client ∙ parts.0) (all_same p q ws same parts.1)
 
 pub sim_notices : (d e : Effects) (n : Node) (ws : List Watch) → Sim d e → AllLive d ws
     → Sim (after_notices d n ws) (after_notices e n ws)
@@ -183,9 +178,7 @@ live_ref d to o k = ref_keeps (λ e. is_live e k ≡ is_live d k) (λ i m r e h.
 
 sim_resolved : (d e : Effects) (from to : ℕ) (r : ObjRef) → is_live d to ≡ true → Sim d e
     → Sim (handed_ref d to (resolve_at d from r)) (handed_ref e to (resolve_at e from r))
-sim_resolved d e from to r live s =
-    subst (λ (o : Option Node). Sim (handed_ref d to (resolve_at d from r)) (handed_ref e to o))
-    (resolve_alike d e from r s) (sim_ref d e to (resolve_at d from r) live s)
+sim_resolved d e from to r live s = rw (← resolve_alike d e from r s) (sim_ref d e to (resolve_at d from r) live s)
 
 pub sim_refs : (d e : Effects) (from to : ℕ) (rs : List ObjRef) → is_live d to ≡ true → Sim d e
     → Sim (handed_refs d from to rs) (handed_refs e from to rs)

@@ -76,10 +76,8 @@ add_step d c name copy obj allow dump n notices told outcome old mid new s tr do
     let m = found (resolve_at d c obj) in
     let e : Effects = Adds name (service c m allow dump) ∷ d in
     let owner = add_owner d c name obj allow dump done.passes in
-    let put' : Puts c name m allow dump old mid =
-    subst (λ (v : List ℕ). Puts c v m allow dump old mid) copied
-    (subst (λ (v : Node). Puts c copy v allow dump old mid) node put) in
-    let tell' : TellsAll m told mid new = subst (λ (v : Node). TellsAll v told mid new) node tell in
+    let put' : Puts c name m allow dump old mid = rw (← copied, ← node) put in
+    let tell' : TellsAll m told mid new = rw (← node) tell in
     let listed = sym is ∙ done.outcome_is in let all : notices ≡ notices_at e m (watchers_at d name) = cc in
     tell' e (watchers_at d name) (sound_follows d (Adds name (service c m allow dump)) s owner) (put' d tr owner)
     (watchers_live d name)
@@ -98,7 +96,7 @@ pub watch_step : (d : Effects) (c : ℕ) (name copy : List ℕ) (object : ℕ) (
 watch_step d c name copy object sv told notice x outcome old mid new s tr done is some same found copied put tell =
     let w = watch c name object in
     let e : Effects = Watches w ∷ d in
-    let put' : Watching w old mid = subst (λ (v : List ℕ). Watching (watch c v object) old mid) copied put in
+    let put' : Watching w old mid = rw (← copied) put in
     let watched = sym is ∙ done.outcome_is in let told' : told ≡ notice_of_watch e w (service_at d name) = cc in
     subst (λ (o : Option Service). told ≡ notice_of_watch e w o → AllFit (after_watch e w o)
     → TracksTables (after_watch e w o) new) (sym found)
@@ -130,9 +128,7 @@ call_step d c handle payload refs n sent copy pid uid text gs outcome old mid ne
     let live : is_live d to ≡ true = done.passes.1.0 in
     let done' = sym is ∙ done.outcome_is in let made : sent ≡ x = cc in
     let said = sym what ∙ ap (λ (v : Delivery). v.what) made in let given : gs ≡ given_refs d c to refs = cc in
-    let hand' : HandsAll c to refs gs old mid = subst (λ (v : Node). HandsAll c v.owner.0 refs gs old mid) node hand in
-    let put' : Puts1 to x mid new =
-    subst (λ (v : Delivery). Puts1 to v mid new) (copied ∙ made)
-    (subst (λ (v : Node). Puts1 v.owner.0 copy mid new) node put) in
+    let hand' : HandsAll c to refs gs old mid = rw (← node) hand in
+    let put' : Puts1 to x mid new = rw (← (copied ∙ made), ← node) put in
     put' (handed_refs d c to refs) (sim_refs d d c to refs live (sim_self d s)).left
     (hand' d s tr done.acts live given done.fits) (live_refs d c to refs to ∙ live)

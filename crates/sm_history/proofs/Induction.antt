@@ -35,12 +35,9 @@ holds_apart P holds (e ∷ f ∷ es) (before, done, ok) =
 holds_after : (P : History → Type 0) → Holds P → (places number : ℕ) (o : Opening) (es : List Entry)
     → AreLawful places number o es → P (record { number = number; opening = o; entries = es })
 holds_after P holds places number o [] ((a, l, is), fits) =
-    subst (λ (v : Opening). P (record { number = number; opening = v; entries = [] })) (sym is)
-    (holds.resumes number a l (holds_apart P holds a l))
+    rw is (holds.resumes number a l (holds_apart P holds a l))
 holds_after P holds places number o (e ∷ es) (inl (first, is, none, opens)) =
-    subst (λ (n : ℕ). P (record { number = n; opening = o; entries = e ∷ es })) (sym first)
-    (subst (λ (v : Opening). P (record { number = 1; opening = v; entries = e ∷ es })) (sym is)
-    (subst (λ (v : List Entry). P (whole (e ∷ v))) (sym none) (holds.opens e opens)))
+    rw (first, is, none) (holds.opens e opens)
 holds_after P holds places number o (e ∷ es) (inr (before, done, ok)) =
     let h : History = record { number = number; opening = o; entries = es } in
     holds.goes_on e h (met (effects_of h) (turn_of h e.by) e.by e.turn e.event

@@ -21,9 +21,9 @@ use Rattle.sm_history.specs.Services.{service_at, watchers_at}
 use Rattle.sm_history.specs.Notices.{after_told, after_notices, first_missing, notices_at, registration, told_of}
 use Rattle.sm_history.specs.Rows.{resumed}
 use Rattle.sm_history.specs.Openings.{Opening}
-use Rattle.sm_history.specs.Histories.{History, whole, entered, effects_of, after_event, after_get, after_watch}
-use Rattle.sm_history.specs.Histories.{client_of, turn_of, found, given_ref, given_refs, handed_ref, handed_refs}
-use Rattle.sm_history.specs.Histories.{call_delivery, service, watch}
+use Rattle.sm_history.specs.Histories.{History, entered, effects_of, after_event, after_get, after_watch, client_of}
+use Rattle.sm_history.specs.Histories.{turn_of, found, given_ref, given_refs, handed_ref, handed_refs, call_delivery}
+use Rattle.sm_history.specs.Histories.{service, watch}
 use Rattle.sm_history.specs.Verdict.{answered, checks, handing_checks, has_place, outcome_of, handle_number}
 use Rattle.sm_history.specs.Verdict.{notice_of_watch}
 use Rattle.sm_history.specs.Checks.{Wants, first_failing}
@@ -152,7 +152,8 @@ lists_watch d w (Some s) =
       clients = told_keeps (Puts connected d []) (λ k m r b h. h) (λ k y b h. h) e s.node w x refl;
     }
 
-lists : (d : Effects) (c : ℕ) (event : Event) → Passes d c event → Lists d (after_event d c event) (outcome_of d c event)
+lists : (d : Effects) (c : ℕ) (event : Event) → Passes d c event → Lists d (after_event d c event)
+    (outcome_of d c event)
 lists d c (Add name obj allow dump) a =
     let n = found (resolve_at d c obj) in let e : Effects = Adds name (service c n allow dump) ∷ d in
     record {
@@ -192,11 +193,7 @@ lists_after : (places number : ℕ) (o : Opening) (es : List Entry) → AreLawfu
     → ListsEffects (record { number = number; opening = o; entries = es })
 lists_after places number o [] l = record { deliveries = refl; numbers = refl; clients = refl }
 lists_after places number o (e ∷ es) (inl (first, is, none, (who, policy, opens, may, ok))) =
-    subst (λ (n : ℕ). ListsEffects (record { number = n; opening = o; entries = e ∷ es })) (sym first)
-    (subst (λ (v : Opening). ListsEffects (record { number = 1; opening = v; entries = e ∷ es })) (sym is)
-    (subst (λ (v : List Entry). ListsEffects (whole (e ∷ v))) (sym none)
-    (subst (λ (v : Entry). ListsEffects (whole (v ∷ []))) (sym opens)
-    (record { deliveries = refl; numbers = refl; clients = refl }))))
+    rw (first, is, none, opens) (record { deliveries = refl; numbers = refl; clients = refl })
 lists_after places number o (e ∷ es) (inr (before, done, ok)) =
     let h : History = record { number = number; opening = o; entries = es } in
     let d = effects_of h in

@@ -137,16 +137,13 @@ numbers_case places h e s fits done (inr alive) =
     }
 
 opening_fits : (e : Entry) → IsOpening e → FitsNumbers (whole (e ∷ []))
-opening_fits e (who, policy, is, may, ok) = subst (λ (x : Entry). FitsNumbers (whole (x ∷ []))) (sym is)
-    (record { lengths = below 1 GREATEST refl; counts = refl })
+opening_fits e (who, policy, is, may, ok) = rw is (record { lengths = below 1 GREATEST refl; counts = refl })
 
 fits_after : (places number : ℕ) (o : Opening) (es : List Entry) → AreLawful places number o es
     → FitsNumbers (record { number = number; opening = o; entries = es })
 fits_after places number o [] (left, fits) = fits
 fits_after places number o (e ∷ es) (inl (first, is, none, opens)) =
-    subst (λ (n : ℕ). FitsNumbers (record { number = n; opening = o; entries = e ∷ es })) (sym first)
-    (subst (λ (v : Opening). FitsNumbers (record { number = 1; opening = v; entries = e ∷ es })) (sym is)
-    (subst (λ (v : List Entry). FitsNumbers (whole (e ∷ v))) (sym none) (opening_fits e opens)))
+    rw (first, is, none) (opening_fits e opens)
 fits_after places number o (e ∷ es) (inr (before, done, ok)) =
     let h : History = record { number = number; opening = o; entries = es } in
     numbers_case places h e (sound_lawful places h before) (fits_after places number o es before) done

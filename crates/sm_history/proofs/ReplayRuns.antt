@@ -209,8 +209,7 @@ take_none (x ∷ xs) = refl
 pub none_yet : (places number : ℕ) (o : Opening) (zs es : List Entry) (r : Replay)
     → HasCome places number o (reverse zs) r → HasCome places number o (reverse (zs ++ take 0 es)) r
 none_yet places number o zs es r come =
-    subst (λ (v : List Entry). HasCome places number o (reverse v) r)
-    (sym (ap (λ (v : List Entry). zs ++ v) (take_none es) ∙ append-nil zs)) come
+    rw (take_none es, append-nil zs) come
 
 pub all_come : (places number : ℕ) (o : Opening) (zs es : List Entry) (i : ℕ) (r : Replay) → length es ≤ i
     → HasCome places number o (reverse (zs ++ take i es)) r → HasCome places number o (reverse (zs ++ es)) r
