@@ -59,8 +59,7 @@ release d c n held h k m =
     let who = number_same c k (and_parts (c == k) (same_node n m) e).0 in
     let what = node_same n m (and_parts (c == k) (same_node n m) e).1 in
     let own = held_more (is_live d c) (granted d c n) (released d c n) held in
-    subst (λ (x : ℕ). released d x m < granted d x m) who
-    (subst (λ (x : Node). released d c x < granted d c x) what own))
+    rw (← who, ← what) own)
 
 found_kept : {X : Type 0} (p q : X → Bool) (xs : List X) (x : X) → find p (filter q xs) ≡ Some x → q x ≡ true
 found_kept p q [] x h = cc

@@ -1,6 +1,5 @@
 -- What entering each event comes to.
-use Rattle.std.proofs.Common.{◌≡◌, ℕ, Bool, true, false, ◌==◌, List, ◌∷◌, refl, ap, sym, ◌∙◌, subst, Option, Some}
-use Rattle.std.proofs.Common.{if◌then◌else◌}
+use Rattle.std.proofs.Common.{◌≡◌, ℕ, Bool, true, false, ◌==◌, List, ◌∷◌, ap, sym, ◌∙◌, Option, Some}
 use Rattle.sm_kinds.specs.declared.number.Node.{Node}
 use Rattle.sm_kinds.specs.declared.number.ObjRef.{ObjRef}
 use Rattle.sm_history.specs.declared.service.Service.{Service}
@@ -14,7 +13,7 @@ use Rattle.sm_history.specs.declared.outcome.Outcome.TheVariants.{Added, Granted
 use Rattle.sm_history.specs.declared.tables.Tables.{Tables}
 use Rattle.sm_history.specs.Effects.{Effects, Watch, Adds, Gives, Watches, Delivers}
 use Rattle.sm_history.specs.Clients.{is_live}
-use Rattle.sm_history.specs.Holdings.{number_for, node_at, resolve_at, handed}
+use Rattle.sm_history.specs.Holdings.{node_at, resolve_at}
 use Rattle.sm_history.specs.Services.{service_at, watchers_at}
 use Rattle.sm_history.specs.Notices.{notice_at, notices_at, after_notices}
 use Rattle.sm_history.specs.Histories.{found, given_refs, handed_refs, call_delivery, service, watch, after_add}
@@ -33,28 +32,14 @@ use Rattle.sm_history.proofs.EnteringLoops.{TellsOne}
 
 -- ---- getting
 
-get_case : (d : Effects) (c : ℕ) (sv : Service) (r : ℕ) (t : Tables) (b : Bool) → (sv.node.owner.0 == c) ≡ b → b ≡ false
-    → Sound d → is_live d c ≡ true → r ≡ number_for d c sv.node → AllFit (handed d c sv.node)
-    → (MayGive d c sv.node r → TracksTables (Gives c sv.node r ∷ d) t)
-    → TracksTables (let e : Effects = if b then d else Gives c sv.node (number_for d c sv.node) ∷ d in e) t
-get_case d c sv r t true e other s live number fits give = cc
-get_case d c sv r t false e other s live number fits give =
-    let after : AllFit (Gives c sv.node (number_for d c sv.node) ∷ d) =
-    subst (λ (b : Bool). AllFit (if b then d else Gives c sv.node (number_for d c sv.node) ∷ d)) e fits in
-    subst (λ (v : ℕ). TracksTables (Gives c sv.node v ∷ d) t) number
-    (give (may_give d c sv.node r s live number (subst (λ (v : ℕ). AllFit (Gives c sv.node v ∷ d)) (sym number) after)))
-
 pub get_step : (d : Effects) (c : ℕ) (name : List ℕ) (sv : Service) (r : ℕ) (outcome : Outcome) (t : Tables) → Sound d
     → IsDone d c (Get name) outcome → outcome ≡ Granted r → service_at d name ≡ Some sv
     → (sv.node.owner.0 == c) ≡ false → (MayGive d c sv.node r → TracksTables (Gives c sv.node r ∷ d) t)
     → TracksTables (after_get d c (service_at d name)) t
 get_step d c name sv r outcome t s done is found other give =
     let granted = sym is ∙ done.outcome_is in let number : r ≡ handle_number d c (service_at d name) = cc in
-    subst (λ (o : Option Service). r ≡ handle_number d c o → AllFit (after_get d c o)
-    → TracksTables (after_get d c o) t)
-    (sym found)
-    (λ number' fits'. get_case d c sv r t (sv.node.owner.0 == c) refl other s done.acts number' fits' give)
-    number done.fits
+    let number' = rw found at number in let fits = rw (found, other) at done.fits in
+    rw (found, other, ← number') (give (may_give d c sv.node r s done.acts number' (rw number' fits)))
 
 -- ---- adding
 
@@ -98,11 +83,9 @@ watch_step d c name copy object sv told notice x outcome old mid new s tr done i
     let e : Effects = Watches w ∷ d in
     let put' : Watching w old mid = rw (← copied) put in
     let watched = sym is ∙ done.outcome_is in let told' : told ≡ notice_of_watch e w (service_at d name) = cc in
-    subst (λ (o : Option Service). told ≡ notice_of_watch e w o → AllFit (after_watch e w o)
-    → TracksTables (after_watch e w o) new) (sym found)
-    (λ at fits. tell e w (sound_watches d w done.acts s)
-    (put' d tr done.acts) done.acts (same ∙ (let here : notice ≡ notice_at e sv.node w = cc in here)) fits)
-    told' done.fits
+    let at = sym some ∙ rw found at told' in let here : notice ≡ notice_at e sv.node w = cc in
+    rw found (tell e w (sound_watches d w done.acts s) (put' d tr done.acts) done.acts (same ∙ here)
+    (rw found at done.fits))
 
 -- ---- calling
 

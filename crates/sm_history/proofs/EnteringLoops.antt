@@ -126,9 +126,6 @@ pub drop_item : {X : Type 0} (xs : List X) (i : ℕ) (x : X) → i < length xs �
     → drop i xs ≡ x ∷ drop (i + 1) xs
 drop_item xs i x lt is = drop_more xs i x lt ∙ ap (λ v. v ∷ drop (i + 1) xs) (sym is)
 
-some_given : (x y : Given) → (let o : Option Given = Some x in o) ≡ Some y → x ≡ y
-some_given x y is = cc
-
 get_first : {X : Type 0} (xs : List X) (i : ℕ) (y : X) (ys : List X) → drop i xs ≡ y ∷ ys → slice_get xs i ≡ Some y
 get_first [] zero y ys is = absurd (nothing_more y ys is)
 get_first [] (suc i) y ys is = absurd (nothing_more y ys is)
@@ -149,17 +146,12 @@ refs_step d from to refs obj rest gs i t t' l fits one =
     let o = resolve_at e from obj in
     let g = given_ref e to o in
     let more = given_refs (handed_ref e to o) from to rest in
-    subst (λ (k : ℕ). RefsLeft d from to refs rest (drop k gs) t') (sym (add-one i))
-    (subst (λ (v : List Given). RefsLeft d from to refs rest v t') (sym (drop_rest gs i g more l.given))
-    (refs_next d from to refs obj rest g more t t'
-    (subst (λ (v : List Given). RefsLeft d from to refs (obj ∷ rest) v t) l.given l) fits
-    (subst (λ (v : Option Given). HandsOne from to obj v t t') (get_first gs i g more l.given) one)))
+    rw (add-one i, drop_rest gs i g more l.given)
+    (refs_next d from to refs obj rest g more t t' (rw l.given at l) fits (rw (get_first gs i g more l.given) at one))
 
 pub hand_step : (d : Effects) (to : ℕ) (o : Option Node) (n : Node) (g : Option Given) (x : Given) (t : Tables)
     → o ≡ Some n → g ≡ Some x → g ≡ Some (given_ref d to o) → AllFit (handed_ref d to o)
     → (x ≡ given_to d to n → AllFit (handed d to n) → TracksTables (handed d to n) t)
     → TracksTables (handed_ref d to o) t
 hand_step d to o n g x t is was given fits hand =
-    subst (λ (v : Option Node). g ≡ Some (given_ref d to v) → AllFit (handed_ref d to v)
-    → TracksTables (handed_ref d to v) t) (sym is)
-    (λ given' fits'. hand (some_given x (given_to d to n) (sym was ∙ given')) fits') given fits
+    let given' = sym was ∙ rw is at given in let here : x ≡ given_to d to n = cc in rw is (hand here (rw is at fits))

@@ -8,7 +8,6 @@ use Rattle.sm_history.specs.declared.delivery.Given.TheVariants.{Handle, Own}
 use Rattle.sm_history.specs.declared.delivery.Delivery.{Delivery}
 use Rattle.sm_history.specs.declared.notice.Notice.{Notice}
 use Rattle.sm_history.specs.declared.notice.Told.TheVariants.{Told as IsTold}
-use Rattle.sm_history.specs.declared.failed_check.FailedCheck.{FailedCheck}
 use Rattle.sm_history.specs.declared.tables.Tables.{Tables}
 use Rattle.sm_history.specs.Effects.{Effects, Watch, Gives, Delivers}
 use Rattle.sm_history.specs.Clients.{is_live}
@@ -64,10 +63,6 @@ hand_given d c n r s live =
 
 -- ---- notifying
 
-not_told : (d : Effects) (n : Node) (w : Watch) (failing : FailedCheck) (x : Delivery)
-    → told_of d n w (Some failing) ≡ IsTold x → ⊥
-not_told d n w failing x is = cc
-
 -- These are the effects of the steps of notifying a watcher.
 pub tell_step : (d : Effects) (w : Watch) (n : Node) (notice : Notice) (x copy : Delivery) (given : Given)
     (old mid new : Tables) → Sound d → TracksTables d old → is_live d w.client ≡ true → notice ≡ notice_at d n w
@@ -79,22 +74,16 @@ pub tell_step : (d : Effects) (w : Watch) (n : Node) (notice : Notice) (x copy :
     → TracksTables (Delivers notice.client.0 copy ∷ e) new)
     → TracksTables (after_notice d n w) new
 tell_step d w n notice x copy given old mid new s tr live is fits told by same hand deliver =
-    subst (λ (v : Notice). v.result ≡ IsTold x
-    → ((e : Effects) → Sound e → TracksTables e old → is_live e v.client.0 ≡ true
-    → given ≡ given_to e v.client.0 n → AllFit (handed e v.client.0 n)
-    → TracksTables (handed e v.client.0 n) mid)
-    → ((e : Effects) → Sound e → TracksTables e mid → is_live e v.client.0 ≡ true
-    → TracksTables (Delivers v.client.0 copy ∷ e) new)
-    → TracksTables (after_notice d n w) new) (sym is)
-    (λ told' hand' deliver'.
+    let told' = rw is at told in
+    let hand' = rw is at hand in
+    let deliver' = rw is at deliver in
     elim (first_missing d n w) as (λ o. told_of d n w o ≡ IsTold x → AllFit (after_told d n w o)
     → TracksTables (after_told d n w o) new) [
       | None ↦ λ is' fits'.
           let registered : registration d n w ≡ x = cc in
           let given' : given ≡ given_to d w.client n = by ∙ ap given_of (sym registered) in
-          subst (λ (v : Delivery). TracksTables (Delivers w.client v ∷ handed d w.client n) new)
-          (same ∙ sym registered)
+          rw (← (same ∙ sym registered))
           (deliver' (handed d w.client n) (sound_handed d w.client n s live) (hand' d s tr live given' fits')
           (live_handed d w.client n w.client ∙ live))
-      | Some failing ↦ λ is' fits'. absurd (not_told d n w failing x is')
-    ] told' fits) told hand deliver
+      | Some failing ↦ λ is' fits'. cc
+    ] told' fits

@@ -1,6 +1,6 @@
 -- Every lawful manager was opened, and what is true of a history stays true of the histories that begin with it.
-use Rattle.std.proofs.Common.{inl, inr, ◌≡◌, ℕ, ◌+◌, ◌-◌, ◌≤◌, true, false, List, [], ◌∷◌, length, drop, refl, ap, sym}
-use Rattle.std.proofs.Common.{◌∙◌, subst, arith}
+use Rattle.std.proofs.Common.{inl, inr, ◌≡◌, ℕ, ◌+◌, ◌-◌, ◌≤◌, true, List, [], ◌∷◌, length, drop, refl, ap, sym, ◌∙◌}
+use Rattle.std.proofs.Common.{subst, arith}
 use Rattle.std.specs.List.{All, list_any}
 use Rattle.std.proofs.Math.Seq.{drop-append-add}
 use Rattle.std.proofs.lemmas.Bool.{or_right}
@@ -11,7 +11,6 @@ use Rattle.sm_history.specs.declared.records.Record.{Record}
 use Rattle.sm_history.specs.Effects.{Effect, Effects, Watch, Opens, Sets, Connects, Dies, Adds, Gives, Releases}
 use Rattle.sm_history.specs.Effects.{Watches, Delivers}
 use Rattle.sm_kinds.specs.declared.identity.Identity.{Identity}
-use Rattle.sm_policy.specs.Policy.{Policy, written, allowed}
 use Rattle.sm_history.specs.declared.denial.Denial.{Denial}
 use Rattle.sm_history.specs.declared.denial.Denial.TheVariants.{Rule, App, Isolated}
 use Rattle.sm_history.specs.Clients.{version_at, next_client, policy_at, is_opening, is_opened}
@@ -111,14 +110,8 @@ stands_back d who (inr (c, live, is)) = inr (c, live_back d c ∙ live, is ∙ w
 
 denied_alike : (d e : Effects) (r : Record) (x : Denial) → policy_at d ≡ policy_at e → IsDeniedBy d r x
     → IsDeniedBy e r x
-denied_alike d e r (Rule s t class perm) same (target, is, source, of, unwritten, passed) = (
-  target,
-  is,
-  source,
-  of,
-  subst (λ (p : Policy). written p s t class perm ≡ false) same unwritten,
-  subst (λ (p : Policy). r.permissive ≡ allowed p s t class perm) same passed,
-)
+denied_alike d e r (Rule s t class perm) same (target, is, source, of, unwritten, passed) =
+    (target, is, source, of, rw (← same) unwritten, rw (← same) passed)
 denied_alike d e r (App uid) same denied = denied
 denied_alike d e r (Isolated uid) same denied = denied
 

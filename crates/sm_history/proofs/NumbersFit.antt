@@ -161,7 +161,7 @@ sealed_numbers h s fits =
     let same = ap (length {A = ℕ}) (list_back d) in
     record {
       lengths = let lt = fits.lengths in omega (arith, same, lt);
-      counts = counts_all (resumed (rows_at d)) (λ c n. subst (λ (v : ℕ). v < GREATEST) (refs_back d c n s)
+      counts = counts_all (resumed (rows_at d)) (λ c n. rw (← refs_back d c n s)
           (counts_each d fits.counts c n));
     }
 

@@ -11,8 +11,8 @@ use Rattle.sm_history.specs.declared.failed_check.EarlyAnswer.TheVariants.{Refus
 use Rattle.sm_history.specs.declared.replay.Replay.{Replay}
 use Rattle.sm_history.specs.Clients.{policy_at, version_at}
 use Rattle.sm_history.specs.Checks.{Wants, first_failing}
-use Rattle.sm_history.specs.Rows.{Rows, rows_at, resumed}
-use Rattle.sm_history.specs.Openings.{Opening, TurnRow, blank_opening}
+use Rattle.sm_history.specs.Rows.{rows_at, resumed}
+use Rattle.sm_history.specs.Openings.{Opening, blank_opening}
 use Rattle.sm_history.specs.Histories.{History, whole, entered, effects_of, length_of, turn_of, client_of}
 use Rattle.sm_history.specs.Verdict.{verdict, checks, has_place, outcome_of}
 use Rattle.sm_history.specs.Segments.{rows_of}
@@ -85,17 +85,12 @@ starts_left : (number : ℕ) (o : Opening) (r : Replay) → IsLeft o → StartsF
     → TracksHistory (record { number = number; opening = o; entries = [] }) r
 starts_left number o r (a, l, is) s =
     let d = effects_of (whole a) in
-    begins number o r s
-    (subst (λ (v : Opening). Sound (resumed v.tables)) (sym is) (sound_back d (sound_apart a l)))
-    (ap (λ (v : Opening). v.tables) is ∙ rows_alike d (resumed (rows_at d)) (sim_rows d (sound_apart a l))
-    ∙ ap (λ (v : Opening). rows_at (resumed v.tables)) (sym is))
+    let sound = sound_apart a l in
+    begins number o r s (rw is (sound_back d sound)) (rw is (rows_alike d (resumed (rows_at d)) (sim_rows d sound)))
 
 starts_nothing : (number : ℕ) (o : Opening) (r : Replay) → o ≡ blank_opening → StartsFrom o r
     → TracksHistory (record { number = number; opening = o; entries = [] }) r
-starts_nothing number o r is s =
-    begins number o r s
-    (subst (λ (v : Opening). Sound (resumed v.tables)) (sym is) (sound_start number))
-    (ap (λ (v : Opening). v.tables) is ∙ ap (λ (v : Opening). rows_at (resumed v.tables)) (sym is))
+starts_nothing number o r is s = begins number o r s (rw is (sound_start number)) (rw is refl)
 
 pub has_begun : (places number : ℕ) (o : Opening) (es : List Entry) (r : Replay) → AreLawful places number o es
     → StartsFrom o r → HasCome places number o [] r
@@ -120,12 +115,8 @@ not_behind (z ∷ zs) e es is = not_empty z (zs ++ e ∷ es) is
 opened : (number : ℕ) (o : Opening) (e : Entry) (es : List Entry) (r r' : Replay) → o ≡ blank_opening → es ≡ []
     → IsOpening e → EntersOne e r r' → TracksHistory (record { number = number; opening = o; entries = es }) r
     → TracksHistory (record { number = number; opening = o; entries = e ∷ es }) r'
-opened number o e es r r' is none opens one =
-    subst (λ (v : Opening). TracksHistory (record { number = number; opening = v; entries = es }) r
-    → TracksHistory (record { number = number; opening = v; entries = e ∷ es }) r') (sym is)
-    (subst (λ (v : List Entry). TracksHistory (record { number = number; opening = blank_opening; entries = v }) r
-    → TracksHistory (record { number = number; opening = blank_opening; entries = e ∷ v }) r') (sym none)
-    (λ tr. one (start number) (sound_start number) tr (opening_next number e opens)))
+opened number o e es r r' is none opens one tr =
+    rw (is, none) (one (start number) (sound_start number) (rw (is, none) at tr) (opening_next number e opens))
 
 pub comes_on : (places number : ℕ) (o : Opening) (e : Entry) (es : List Entry) (r r' : Replay)
     → AreLawful places number o (e ∷ es) → EntersOne e r r' → HasCome places number o es r
@@ -159,14 +150,9 @@ pub rows_come : (places : ℕ) (h : History) (r : Replay) → IsLawful places h 
       turns = turn_rows r.turning r.tables.live.items;
     } in o) ≡ rows_of h
 rows_come places h r l tr =
-    let turns = turn_rows r.turning r.tables.live.items in
-    ap (λ (t : Rows). let o : Opening = record { tables = t; length = r.length; turns = turns } in o)
-    (tables_are (effects_of h) r.tables (sound_lawful places h l) tr.tables)
-    ∙ ap (λ (n : ℕ). let o : Opening = record { tables = rows_at (effects_of h); length = n; turns = turns } in o)
-    tr.length
-    ∙ ap (λ (ts : List TurnRow). let o : Opening =
-    record { tables = rows_at (effects_of h); length = length_of h; turns = ts } in o)
-    (rows_are h r.turning r.tables.live.items tr.turning tr.tables.live.ids)
+    let tables = tables_are (effects_of h) r.tables (sound_lawful places h l) tr.tables in
+    let turns = rows_are h r.turning r.tables.live.items tr.turning tr.tables.live.ids in
+    rw (tables, tr.length, turns) refl
 
 pub are_left : (places : ℕ) (h : History) (r : Replay) → IsLawful places h → TracksHistory h r → AreLeft r.tables
 are_left places h r l tr = (effects_of h, sound_lawful places h l, tr.tables)
@@ -196,10 +182,7 @@ one_more places number o zs es rest i e r r' lt is l one come =
     let lawful : AreLawful places number o (e ∷ reverse (zs ++ xs)) =
     lawful_older places number o (reverse (drop (i + 1) es ++ rest)) e (reverse (zs ++ xs))
     (subst (λ (v : List Entry). AreLawful places number o v) (older zs es rest i e lt is) l) in
-    let next : e ∷ reverse (zs ++ xs) ≡ reverse (zs ++ take (i + 1) es) =
-    sym (ap (λ (v : List Entry). reverse (zs ++ v)) (take_item es i e lt is)
-    ∙ ap (λ (v : List Entry). reverse v) (sym (append_assoc zs xs (e ∷ []))) ∙ reverse-append (zs ++ xs) (e ∷ [])) in
-    subst (λ (v : List Entry). HasCome places number o v r') next
+    rw (take_item es i e lt is, ← append_assoc zs xs (e ∷ []), reverse-append (zs ++ xs) (e ∷ []))
     (comes_on places number o e (reverse (zs ++ xs)) r r' lawful one come)
 
 take_none : {X : Type 0} (xs : List X) → take 0 xs ≡ []
@@ -251,10 +234,9 @@ pub one_chunk : (places number : ℕ) (o : Opening) (cs : List (List Entry)) (c 
     → HasCome places number o (reverse (joined (take i cs))) r
     → HasCome places number o (reverse (joined (take (i + 1) cs))) r'
 one_chunk places number o cs c rest i r r' lt is l enters come =
-    subst (λ (v : List Entry). HasCome places number o (reverse v) r')
-    (sym (ap (λ (v : List (List Entry)). joined v) (take_item cs i c lt is) ∙ joined_more (take i cs) c))
+    rw (take_item cs i c lt is, joined_more (take i cs) c)
     (enters places number o (joined (take i cs)) (joined (drop (i + 1) cs) ++ rest)
-    (subst (λ (v : List Entry). IsLawful places (segment number o v)) (at_chunk cs c rest i lt is) l) come)
+    (rw (at_chunk cs c rest i lt is) at l) come)
 
 pub no_chunk : (places number : ℕ) (o : Opening) (cs : List (List Entry)) (r : Replay) → HasCome places number o [] r
     → HasCome places number o (reverse (joined (take 0 cs))) r

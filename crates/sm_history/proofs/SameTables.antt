@@ -137,6 +137,4 @@ pub copied_more : (rows copies more : List ClientRow) (i : ℕ) (x y : ClientRow
     → AreSameRows (take i rows) copies → more ≡ copies ++ y ∷ [] → y.client ≡ x.client → y.who ≡ x.who
     → y.held.items ≡ x.held.items → y.waiting.items ≡ x.waiting.items → AreSameRows (take (i + 1) rows) more
 copied_more rows copies more i x y lt is same put client who held waiting =
-    subst (λ (l : List ClientRow). AreSameRows l more) (sym (take_item rows i x lt is))
-    (subst (λ (l : List ClientRow). AreSameRows (take i rows ++ x ∷ []) l) (sym put)
-    (same_more (take i rows) copies x y same client who held waiting))
+    rw (take_item rows i x lt is, put) (same_more (take i rows) copies x y same client who held waiting)

@@ -116,17 +116,9 @@ admins_rows h t (a ∷ as') same = rw (same (admin a), admins_rows h t as' same)
 pub rows_are : (h : History) (t : Turning) (rows : List ClientRow) → CountsTurns (turn_of h) (admins_of h) t
     → clients_of rows ≡ live_clients (effects_of h) → turn_rows t rows ≡ map (turn_row h) (actors_of h)
 rows_are h t rows c ids =
-    ap (λ (n : ℕ). let x : TurnRow = record { by = Manager; turns = n } in x ∷ (map (λ (r : ClientRow).
-    let y : TurnRow = record { by = client r.client; turns = made t (client r.client) } in y) rows
-    ++ map (λ (a : ℕ). let y : TurnRow = record { by = admin a; turns = made t (admin a) } in y) t.order.items))
-    (c.made_is Manager)
-    ∙ ap (λ (l : List TurnRow). turn_row h Manager ∷ (l ++ map (λ (a : ℕ).
-    let y : TurnRow = record { by = admin a; turns = made t (admin a) } in y) t.order.items))
-    (clients_rows h t rows c.made_is ∙ ap (λ (ks : List ℕ). map (turn_row h) (map client ks)) ids)
-    ∙ ap (λ (l : List TurnRow). turn_row h Manager ∷ (map (turn_row h) (map client (live_clients (effects_of h))) ++ l))
-    (admins_rows h t t.order.items c.made_is ∙ ap (map (turn_row h)) c.order)
-    ∙ ap (λ (l : List TurnRow). turn_row h Manager ∷ l)
-    (sym (map-append (turn_row h) (map client (live_clients (effects_of h))) (admins_of h)))
+    let ks = map client (live_clients (effects_of h)) in
+    rw (c.made_is Manager, map-append (turn_row h) ks (admins_of h), clients_rows h t rows c.made_is, ids)
+    (rw (admins_rows h t t.order.items c.made_is, c.order) refl)
 
 -- ---- rows to begin with
 
