@@ -128,8 +128,7 @@ has_row d rows k n tr held =
     → b ≡ true) [
       | true ↦ λ e. refl
       | false ↦ λ e.
-          let none : TracksSlots d k [] = subst (λ (o : Option HandleTable). TracksSlots d k (slots_in o))
-          (none_table rows k e) (tr.slots k) in
+          let none = rw (none_table rows k e) at (tr.slots k) in
           absurd (true≢false (sym held ∙ held_is_in d k [] n none))
     ] refl
 

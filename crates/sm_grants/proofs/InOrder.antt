@@ -129,10 +129,8 @@ along_more s t t' ns rs n r behind behind' a as_many some is put taken free = re
   only = λ j m h absent. elim (j == r - 1) as (λ b. (j == r - 1) ≡ b →
       list_any (λ (k : Node). same_node k m) (ns ++ n ∷ []) ≡ true) [
         | true ↦ λ e.
-            let there : node_of (slot t' (r - 1)) ≡ Some m = subst (λ (v : ℕ). node_of (slot t' v) ≡ Some m)
-            (number_same j (r - 1) e) h in
-            subst (λ (v : Node). list_any (λ (k : Node). same_node k v) (ns ++ n ∷ []) ≡ true)
-            (some_node n m (sym here ∙ there)) (among_last ns n)
+            let there : node_of (slot t' (r - 1)) ≡ Some m = rw (← number_same j (r - 1) e) h in
+            rw (← some_node n m (sym here ∙ there)) (among_last ns n)
         | false ↦ λ e.
             let was : slot t' j ≡ slot t j = put j ∙ rw e refl in
             among_more ns n m (a.only j m (sym (ap (λ (o : Option Held). node_of o) was) ∙ h) absent)

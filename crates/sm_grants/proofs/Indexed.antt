@@ -55,8 +55,7 @@ new_back : (p : Nodes) (f g : Index) (n : Node) (i : ℕ) (m : Node) (j : ℕ) (
 new_back p f g n i m j true true et eu free back h = ap (λ (x : Node). Some x) (node_same n m eu)
 new_back p f g n i m j false true et eu free back h =
     let same = some_number i j h in
-    absurd (true≢false (sym (subst (λ (v : ℕ). (v == i) ≡ true) same
-    (let e : (i == i) ≡ true = grind (arith, nat_tests) in e)) ∙ et))
+    absurd (grind (arith, nat_tests))
 new_back p f g n i m j true false et eu free back h =
     let same = number_same j i et in
     absurd (none_some (p j) m (subst (λ (v : ℕ). p v ≡ None) (sym same) free) (back m j h))
@@ -87,8 +86,7 @@ last_index p f g n i m j false true et eu here index by h =
     let a = index n i here in
     let b : f (key_of n) ≡ Some j = subst (λ (v : Node). f (key_of v) ≡ Some j) (sym same) (index m j h) in
     let e : i ≡ j = some_number i j (sym a ∙ b) in
-    absurd (true≢false (sym (subst (λ (v : ℕ). (v == i) ≡ true) e
-    (let e : (i == i) ≡ true = grind (arith, nat_tests) in e)) ∙ et))
+    absurd (grind (arith, nat_tests))
 last_index p f g n i m j false false et eu here index by h = by ∙ index m j h
 
 last_back : (p : Nodes) (f g : Index) (n : Node) (i : ℕ) (m : Node) (j : ℕ) (t u : Bool) → (j == i) ≡ t

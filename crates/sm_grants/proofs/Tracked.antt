@@ -86,8 +86,7 @@ gives_held refs num refs' num' s t n i j h (Some x) true false a zero_if other o
 gives_held refs num refs' num' s t n i j h o false true a zero_if other only absent e eb eu is er en =
     let node = node_same n h.node eu in
     let at : j ≡ i = only j (ap (λ (y : Option Held). node_of y) is ∙ ap (λ (v : Node). Some v) (sym node)) in
-    absurd (true≢false (sym (subst (λ (v : ℕ). (v == i) ≡ true) (sym at)
-    (let e : (i == i) ≡ true = grind (arith, nat_tests) in e)) ∙ eb))
+    absurd (grind (arith, nat_tests))
 gives_held refs num refs' num' s t n i j h o false false a zero_if other only absent e eb eu is er en =
     let w = a.held j h is in
     (er ∙ w.0, w.1, en ∙ w.2)
@@ -176,8 +175,7 @@ releases_held refs num refs' s x i j h false true a at eb eu is er =
     let e : num h.node ≡ i + 1 = subst (λ (y : Node). num y ≡ i + 1) node w.2 in
     let f = v.2 in
     let same : j ≡ i = omega (arith, e, f) in
-    absurd (true≢false (sym (subst (λ (v : ℕ). (v == i) ≡ true) (sym same)
-    (let e : (i == i) ≡ true = grind (arith, nat_tests) in e)) ∙ eb))
+    absurd (grind (arith, nat_tests))
 releases_held refs num refs' s x i j h false false a at eb eu is er = let w = a.held j h is in (er ∙ w.0, w.1, w.2)
 
 releases_found : (refs num refs' : Node → ℕ) (s t : Slots) (x : Held) (i : ℕ) (m : Node) (u : Bool)

@@ -1,8 +1,8 @@
 use Rattle.std.proofs.Common.{◌≡◌, ◌≤◌, set, arith, ℕ, None, refl, sym, ap, subst}
 use Rattle.std.proofs.lemmas.Bool.{true≢false}
 use Rattle.std.specs.Prelude.{Option}
-use Rattle.sm_grants.specs.Slots.{HandleTable, IsGranted}
-use Rattle.sm_grants.specs.Rows.{index_from, slots_in, spare_in, slots_of}
+use Rattle.sm_grants.specs.Slots.{HandleTable}
+use Rattle.sm_grants.specs.Rows.{index_from, spare_in, slots_of}
 use Rattle.sm_grants.specs.Highest.{highest_in, highest}
 use Rattle.sm_grants.proofs.Bound.{client_bounded, set_bounded, granted_bounded}
 use Rattle.sm_grants.proofs.ClientRows.{tracks_gives, row_here, no_row, cannot, changed_own, changed_other}
@@ -45,8 +45,7 @@ invariant_of-self-2 c =
       })) ≤ m) (sym c.saturating_add-self.ensures) (set_bounded rows c.in-Some.i _ _ (omega (arith, all, small))
           (granted_bounded (slots_of rows c.args.client) c.grant.new.self.slots c.args.node c.in-Some-grant.number
           c.args.self.now.bound 18446744073709551615
-          (subst (λ (o : Option HandleTable). IsGranted (slots_in o) c.grant.new.self.slots c.args.node
-          c.in-Some-grant.number) (sym here.0) c.in-Some-grant.ensures.granted) can.few own small (omega arith)));
+          (rw here.0 c.in-Some-grant.ensures.granted) can.few own small (omega arith)));
     }
 
 pub returns-clause-ready : goal.returns-clause-ready
@@ -63,9 +62,7 @@ returns-clause-tracks c d tr live =
     let rows = c.args.self.now.rows.items in
     let here = row_here c.args.client c.deref.ensures.value (sym c.in-Some.ensures.at) c.index_mut-row.ensures.value in
     tracks_gives d rows _ c.args.client c.grant.new.self c.args.node c.in-Some-grant.number (here.2 c.grant.new.self)
-    (subst (λ (o : Option HandleTable).
-    IsGranted (slots_in o) c.grant.new.self.slots c.args.node c.in-Some-grant.number)
-    (sym here.0) c.in-Some-grant.ensures.granted) tr live
+    (rw here.0 c.in-Some-grant.ensures.granted) tr live
 
 pub returns-clause-spare : goal.returns-clause-spare
 returns-clause-spare c =

@@ -1,6 +1,6 @@
-use Rattle.std.proofs.Common.{◌≡◌, ◌≤◌, ◌<◌, ◌-◌, Some, None, sym, ap, subst, ◌∙◌, arith}
+use Rattle.std.proofs.Common.{◌≡◌, ◌≤◌, ◌<◌, ◌-◌, Some, None, sym, ap, ◌∙◌, arith}
 use Rattle.std.specs.Prelude.{Option}
-use Rattle.sm_history.specs.Tables.{slot, IsPut, released_slot}
+use Rattle.sm_history.specs.Tables.{slot}
 use Rattle.sm_grants.specs.Slots.{HandleTable}
 use Rattle.sm_grants.specs.Rows.{index_from, slots_in, spare_in, spare_of, slots_of}
 use Rattle.sm_grants.proofs.ClientRows.{spare_kept, tracks_releases, tracks_room, row_here, no_row, node_found}
@@ -45,8 +45,7 @@ returns-clause-tracks c d tr =
       tracks_releases d rows _ c.args.client c.release.new.self c.in-Some-at.held _
           (here.2 c.release.new.self)
           (ap (λ (o : Option HandleTable). slot (slots_in o) (c.args.number - 1)) here.0 ∙ sym there)
-          (subst (λ (o : Option HandleTable). IsPut (slots_in o) c.release.new.self.slots (c.args.number - 1)
-          (released_slot (slot (slots_in o) (c.args.number - 1)))) (sym here.0) c.release.ensures.put) tr,
+          (rw here.0 c.release.ensures.put) tr,
     )
 
 pub returns-in_default-at-clause-spare : goal.returns-in_default-at-clause-spare
@@ -78,6 +77,5 @@ invariant_of-self-2 c =
       bounded = set_bounded rows c.in-Some.i c.args.self.now.bound _ all
           (released_bounded (slots_of rows c.args.client) c.release.new.self.slots (c.args.number - 1)
           c.args.self.now.bound
-          (subst (λ (o : Option HandleTable). IsPut (slots_in o) c.release.new.self.slots (c.args.number - 1)
-          (released_slot (slot (slots_in o) (c.args.number - 1)))) (sym here.0) c.release.ensures.put) own);
+          (rw here.0 c.release.ensures.put) own);
     }

@@ -57,7 +57,7 @@ pub returns-in-Some-clause-succeeds : goal.returns-in-Some-clause-succeeds
 returns-in-Some-clause-succeeds c le =
     let rows = c.args.self.now.rows.items in
     let here = row_here c.args.client c.deref.ensures.value (sym c.in-Some.ensures.at) c.index_mut-row.ensures.value in
-    c.reserve.ensures.succeeds (subst (λ (o : Option HandleTable). c.args.n ≤ spare_in o) here.0 le)
+    c.reserve.ensures.succeeds (rw here.0 at le)
 
 no_spare : (rows : List ClientHandles) (client n : ℕ) → index_from 0 rows client ≡ None → 0 < n
     → n ≤ spare_of rows client → ⊥
