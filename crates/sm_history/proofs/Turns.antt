@@ -1,6 +1,6 @@
 -- What a verdict says of the actor's turn.
-use Rattle.std.proofs.Common.{◌≡◌, ◌≢◌, ℕ, ◌==◌, ◌++◌, ◌&&◌, Bool, true, false, List, [], ◌∷◌, Option, Some, None}
-use Rattle.std.proofs.Common.{refl, sym, ap, ◌∙◌, arith, if◌then◌else◌}
+use Rattle.std.proofs.Common.{◌≡◌, ◌≢◌, ℕ, ◌==◌, ◌++◌, Bool, true, false, List, [], ◌∷◌, Option, Some, None, refl, sym}
+use Rattle.std.proofs.Common.{ap, ◌∙◌, arith, if◌then◌else◌}
 use Rattle.std.specs.List.{list_all}
 use Rattle.std.proofs.lemmas.Bool.{true≢false, and_parts}
 use Rattle.std.proofs.lemmas.Bool.Decides.{nat_tests}
@@ -30,6 +30,7 @@ use Rattle.sm_history.specs.Verdict.{passes_to_client, all_pass_to_client}
 use Rattle.sm_history.specs.Records.{records}
 use Rattle.sm_history.proofs.Passed.{actor_done, later_checks}
 use Rattle.sm_history.proofs.Balanced.{number_same}
+use Rattle.std.proofs.lemmas.List.Folds.{list_all-append}
 
 -- ---- the checks behind those of the actor
 
@@ -59,17 +60,9 @@ first_plain p (x ∷ xs) o all =
       | false ↦ plain_answer x (and_parts (plain x) (list_all plain xs) all).0
     ]
 
-both : (x y : Bool) → x ≡ true → y ≡ true → (x && y) ≡ true
-both true true p q = refl
-both true false p q = q
-both false y p q = p
-
 append_plain : (xs ys : List Check) → list_all plain xs ≡ true → list_all plain ys ≡ true
     → list_all plain (xs ++ ys) ≡ true
-append_plain [] ys a b = b
-append_plain (x ∷ xs) ys a b =
-    let parts = and_parts (plain x) (list_all plain xs) a in
-    both (plain x) (list_all plain (xs ++ ys)) parts.0 (append_plain xs ys parts.1 b)
+append_plain xs ys a b = rw (list_all-append plain xs ys, a, b) refl
 
 handing_plain : (d : Effects) (c : ℕ) (s : Option Service) → list_all plain (handing_checks d c s) ≡ true
 handing_plain d c None = refl
