@@ -30,6 +30,7 @@ use Rattle.sm_history.proofs.PutRows.{among, identity_put, said_put, watches_mad
 use Rattle.sm_history.proofs.PutRows.{for_one, weight, granted_put, HasNumber, number_put}
 use Rattle.sm_history.specs.Sound.{HasOneEach, IsOnce, Sound, deliveries, granted, released, takes}
 use Rattle.sm_history.proofs.Living.{any_live}
+use Rattle.std.proofs.Math.Bool.{or-false, and-true, and_self}
 
 -- ---- live clients
 
@@ -38,17 +39,13 @@ any_rows : (d : Effects) (c : ℕ) (ks : List ℕ)
 any_rows d c [] = refl
 any_rows d c (k ∷ ks) = ap (λ b. (k == c) || b) (any_rows d c ks)
 
-or_none : (a : Bool) → (a || false) ≡ a
-or_none true = refl
-or_none false = refl
-
 connect_back : (d : Effects) (c : ℕ) → list_any (is_connect_of c) (resumed (rows_at d)) ≡ is_live d c
 connect_back d c =
     let r = rows_at d in
     let F = λ (b : Effects). list_any (is_connect_of c) b in
     past_rows F r (λ k x b. refl) (λ w b. refl) (λ k n j b. refl) (λ n s b. refl)
     ∙ connects_put c r.live (Sets r.policy ∷ Opens r.manager ∷ [])
-    ∙ or_none (list_any (λ (x : LiveRow). x.client == c) r.live)
+    ∙ or-false (list_any (λ (x : LiveRow). x.client == c) r.live)
     ∙ any_rows d c (live_clients d) ∙ any_live d c
 
 death_back : (d : Effects) (c : ℕ) → list_any (is_death_of c) (resumed (rows_at d)) ≡ false
@@ -57,26 +54,18 @@ death_back d c =
     (λ n s b. refl)
     (λ x b. refl)
 
-and_true : (a : Bool) → (a && true) ≡ a
-and_true true = refl
-and_true false = refl
-
 pub live_back : (d : Effects) (c : ℕ) → is_live (resumed (rows_at d)) c ≡ is_live d c
 live_back d c =
     ap (λ b. b && not (list_any (is_death_of c) (resumed (rows_at d)))) (connect_back d c)
     ∙ ap (λ b. is_live d c && not b) (death_back d c)
-    ∙ and_true (is_live d c)
+    ∙ and-true (is_live d c)
 
 ids_back : (d : Effects) (ks : List ℕ) → map (λ (x : LiveRow). x.client) (map (live_row d) ks) ≡ ks
 ids_back d [] = refl
 ids_back d (k ∷ ks) = ap (λ l. k ∷ l) (ids_back d ks)
 
-again : (b : Bool) → b ≡ (b && b)
-again true = refl
-again false = refl
-
 filter_again : {X : Type 0} (p : X → Bool) (xs : List X) → filter p (filter p xs) ≡ filter p xs
-filter_again p xs = sym (filter_both p p p xs (λ x. again (p x)))
+filter_again p xs = sym (filter_both p p p xs (λ x. sym (and_self (p x))))
 
 pub list_back : (d : Effects) → live_clients (resumed (rows_at d)) ≡ live_clients d
 list_back d =

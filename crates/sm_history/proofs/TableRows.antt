@@ -133,7 +133,7 @@ is_some-service None = refl
 is_some-service (Some r) = refl
 
 -- The rows are those of the names that have a service.
-names_are : (d : Effects) (rows : List NamedRow) → TracksNames d rows → names_of rows ≡ current_names d
+pub names_are : (d : Effects) (rows : List NamedRow) → TracksNames d rows → names_of rows ≡ current_names d
 names_are d rows tr =
     rising_same (names_of rows) (current_names d) tr.rises (rising_filter (λ n. is_some (service_at d n))
     (names_added d) (rising_added d))

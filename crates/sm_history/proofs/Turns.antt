@@ -5,7 +5,7 @@ use Rattle.std.specs.List.{list_all}
 use Rattle.std.proofs.lemmas.Bool.{true≢false, and_parts}
 use Rattle.std.proofs.lemmas.Bool.Decides.{nat_tests}
 use Rattle.sm_kinds.specs.declared.number.ObjRef.{ObjRef}
-use Rattle.sm_kinds.specs.declared.number.ObjRef.TheVariants.{Own as OwnRef, Handle as HandleRef, Null as NullRef}
+use Rattle.sm_kinds.specs.declared.number.ObjRef.TheVariants.{Null as NullRef}
 use Rattle.sm_policy.specs.Policy.{Policy}
 use Rattle.sm_history.specs.declared.by.By.{By}
 use Rattle.sm_history.specs.declared.event.Event.{Event}
@@ -70,8 +70,7 @@ handing_plain d c (Some s) = refl
 
 passes_plain : (d : Effects) (c k : ℕ) (r : ObjRef) → list_all plain (passes_to_client d c k r) ≡ true
 passes_plain d c k NullRef = refl
-passes_plain d c k (OwnRef o) = refl
-passes_plain d c k (HandleRef n) = refl
+passes_plain d c k _ = refl
 
 all_pass_plain : (d : Effects) (c k : ℕ) (rs : List ObjRef) → list_all plain (all_pass_to_client d c k rs) ≡ true
 all_pass_plain d c k [] = refl
