@@ -1,8 +1,7 @@
 -- Tables that agree go on to agree, effect by effect.
-use Rattle.std.proofs.Common.{◌≡◌, ℕ, ◌+◌, ◌-◌, Bool, true, false, ◌&&◌, ◌==◌, List, [], ◌∷◌, ◌++◌, refl, ap, sym}
-use Rattle.std.proofs.Common.{◌∙◌, length, drop, Option, Some, None, if◌then◌else◌}
-use Rattle.std.specs.Prelude.{nat_lt, not, filter, bytes_eq, unwrap_or}
-use Rattle.std.proofs.lemmas.List.Elements.{filter_agree}
+use Rattle.std.proofs.Common.{◌≡◌, ℕ, ◌+◌, Bool, true, false, ◌&&◌, ◌==◌, List, [], ◌∷◌, ◌++◌, refl, ap, sym, ◌∙◌}
+use Rattle.std.proofs.Common.{length, Option, Some, None, if◌then◌else◌}
+use Rattle.std.specs.Prelude.{nat_lt, not, filter, unwrap_or}
 use Rattle.sm_kinds.specs.declared.number.Node.{Node}
 use Rattle.sm_kinds.specs.declared.identity.Identity.{Identity}
 use Rattle.sm_policy.specs.Policy.{Policy}
@@ -11,7 +10,7 @@ use Rattle.sm_history.specs.Effects.{Effects, Service, Watch, Opens, Sets, Conne
 use Rattle.sm_history.specs.Effects.{Releases, Watches, Unwatches, Delivers, Takes, same_node}
 use Rattle.sm_history.specs.Clients.{is_live, next_client, identity_at, manager_at, policy_at, version_at}
 use Rattle.sm_history.specs.Holdings.{refs_at, is_held, number_at, node_at, free_number}
-use Rattle.sm_history.specs.Services.{same_watch, service_at, watches_at}
+use Rattle.sm_history.specs.Services.{service_at, watches_at}
 use Rattle.sm_history.specs.Inboxes.{inbox_at}
 use Rattle.sm_history.specs.Agreeing.{Agree}
 use Rattle.sm_history.proofs.Grants.{held_gives}
@@ -64,8 +63,7 @@ agree_connects d e n who is is' s t a =
       version = a.version;
       manager = a.manager;
       clients = ap (λ v. v + 1) a.clients;
-      lives = λ c. live_connects d n who c new ∙ ap (λ (l : Bool). let r : Bool = if n == c then true else l in r)
-          (a.lives c) ∙ sym (live_connects e n who c new');
+      lives = λ c. rw (live_connects d n who c new, live_connects e n who c new', a.lives c) refl;
       live_list = list_connects d n who new ∙ ap (λ xs. xs ++ n ∷ []) a.live_list ∙ sym (list_connects e n who new');
       who = λ c live. identity_case (n == c) who (identity_at d c) (identity_at e c)
           (λ f. a.who c (rw f at (sym (live_connects d n who c new) ∙ live)));
@@ -86,14 +84,11 @@ agree_dies d e c a = record {
   lives = λ k. live_dies d c k ∙ ap (λ l. l && not (c == k)) (a.lives k) ∙ sym (live_dies e c k);
   live_list = list_dies d c ∙ ap (filter (λ k. not (c == k))) a.live_list ∙ sym (list_dies e c);
   who = λ k live. a.who k (and_parts (is_live d k) (not (c == k)) (sym (live_dies d c k) ∙ live)).0;
-  refs = λ k n. refs_dies d c k n ∙ ap (λ (r : ℕ). let v : ℕ = if c == k then 0 else r in v) (a.refs k n) ∙
-      sym (refs_dies e c k n);
+  refs = λ k n. rw (refs_dies d c k n, refs_dies e c k n, a.refs k n) refl;
   numbers = λ k m held. a.numbers k m (held_dies d c k m held);
   services = λ name. service_dies d c name ∙ ap (unless_owned c) (a.services name) ∙ sym (service_dies e c name);
   watches = watches_dies d c ∙ ap (filter (λ (w : Watch). not (c == w.client))) a.watches ∙ sym (watches_dies e c);
-  inboxes = λ k. inbox_dies d c k ∙
-      ap (λ (xs : List Delivery). let v : List Delivery = if c == k then [] else xs in v) (a.inboxes k) ∙
-      sym (inbox_dies e c k);
+  inboxes = λ k. rw (inbox_dies d c k, inbox_dies e c k, a.inboxes k) refl;
 }
 
 -- ---- names
@@ -101,19 +96,12 @@ agree_dies d e c a = record {
 agree_adds : (d e : Effects) (name : List ℕ) (s : Service) → Agree d e → Agree (Adds name s ∷ d) (Adds name s ∷ e)
 agree_adds d e name s a =
     let services : (x : List ℕ) → service_at (Adds name s ∷ d) x ≡ service_at (Adds name s ∷ e) x =
-    λ x. service_adds d name s x
-    ∙ ap (λ (l : Bool). let o : Option Service = if bytes_eq name x then (if l then Some s else None)
-    else service_at d x in o) (a.lives s.node.owner.0)
-    ∙ ap (λ (v : Option Service). let o : Option Service =
-    if bytes_eq name x then (if is_live e s.node.owner.0 then Some s else None) else v in o) (a.services x)
-    ∙ sym (service_adds e name s x) in assumption
+    λ x. rw (service_adds d name s x, service_adds e name s x, a.lives s.node.owner.0, a.services x) refl in assumption
 
 agree_removes : (d e : Effects) (name : List ℕ) → Agree d e → Agree (Removes name ∷ d) (Removes name ∷ e)
 agree_removes d e name a =
     let services : (x : List ℕ) → service_at (Removes name ∷ d) x ≡ service_at (Removes name ∷ e) x =
-    λ x. service_removes d name x ∙
-    ap (λ (v : Option Service). let o : Option Service = if bytes_eq name x then None else v in o) (a.services x) ∙
-    sym (service_removes e name x) in assumption
+    λ x. rw (service_removes d name x, service_removes e name x, a.services x) refl in assumption
 
 -- ---- holdings
 
@@ -125,11 +113,7 @@ agree_gives : (d e : Effects) (c : ℕ) (n : Node) (r : ℕ) → Sound d → Sou
     → Agree (Gives c n r ∷ d) (Gives c n r ∷ e)
 agree_gives d e c n r s t a =
     let refs : (k : ℕ) (m : Node) → refs_at (Gives c n r ∷ d) k m ≡ refs_at (Gives c n r ∷ e) k m =
-    λ k m. refs_gives d c n r k m s.balanced
-    ∙ ap (λ (l : Bool). let v : ℕ = if ((c == k) && same_node n m) && l then refs_at d k m + 1 else refs_at d k m in
-    v) (a.lives k)
-    ∙ ap (λ (x : ℕ). let v : ℕ = if ((c == k) && same_node n m) && is_live e k then x + 1 else x in v) (a.refs k m)
-    ∙ sym (refs_gives e c n r k m t.balanced) in
+    λ k m. rw (refs_gives d c n r k m s.balanced, refs_gives e c n r k m t.balanced, a.refs k m, a.lives k) refl in
     let numbers : (k : ℕ) (m : Node) → is_held (Gives c n r ∷ d) k m ≡ true → number_at (Gives c n r ∷ d) k m ≡
     number_at (Gives c n r ∷ e) k m =
     λ k m held. number_gives d c n r k m
@@ -140,9 +124,7 @@ agree_gives d e c n r s t a =
 agree_releases : (d e : Effects) (c : ℕ) (n : Node) → Agree d e → Agree (Releases c n ∷ d) (Releases c n ∷ e)
 agree_releases d e c n a =
     let refs : (k : ℕ) (m : Node) → refs_at (Releases c n ∷ d) k m ≡ refs_at (Releases c n ∷ e) k m =
-    λ k m. refs_releases d c n k m ∙
-    ap (λ (x : ℕ). let v : ℕ = if (c == k) && same_node n m then x - 1 else x in v) (a.refs k m) ∙
-    sym (refs_releases e c n k m) in
+    λ k m. rw (refs_releases d c n k m, refs_releases e c n k m, a.refs k m) refl in
     let numbers : (k : ℕ) (m : Node) → is_held (Releases c n ∷ d) k m ≡ true → number_at (Releases c n ∷ d) k m ≡
     number_at (Releases c n ∷ e) k m =
     λ k m held. a.numbers k m (held_releases d c n k m held) in assumption
@@ -152,35 +134,23 @@ agree_releases d e c n a =
 agree_watches : (d e : Effects) (w : Watch) → Agree d e → Agree (Watches w ∷ d) (Watches w ∷ e)
 agree_watches d e w a =
     let watches : watches_at (Watches w ∷ d) ≡ watches_at (Watches w ∷ e) =
-    watches_watches d w
-    ∙ ap (λ ws. ws ++ filter (λ (v : Watch). is_live d v.client) (w ∷ [])) a.watches
-    ∙ ap (λ ws. watches_at e ++ ws)
-    (filter_agree (λ (v : Watch). is_live d v.client) (λ v. is_live e v.client) (λ v. a.lives v.client) (w ∷ []))
-    ∙ sym (watches_watches e w) in assumption
+    rw (watches_watches d w, watches_watches e w, a.watches, a.lives w.client) refl in assumption
 
 agree_unwatches : (d e : Effects) (w : Watch) → Agree d e → Agree (Unwatches w ∷ d) (Unwatches w ∷ e)
 agree_unwatches d e w a =
     let watches : watches_at (Unwatches w ∷ d) ≡ watches_at (Unwatches w ∷ e) =
-    watches_unwatches d w ∙ ap (filter (λ v. not (same_watch w v))) a.watches ∙ sym (watches_unwatches e w) in
-    assumption
+    rw (watches_unwatches d w, watches_unwatches e w, a.watches) refl in assumption
 
 agree_delivers : (d e : Effects) (c : ℕ) (x : Delivery) → Sound d → Sound e → Agree d e
     → Agree (Delivers c x ∷ d) (Delivers c x ∷ e)
 agree_delivers d e c x s t a =
     let inboxes : (k : ℕ) → inbox_at (Delivers c x ∷ d) k ≡ inbox_at (Delivers c x ∷ e) k =
-    λ k. inbox_delivers d c x k s.taken
-    ∙ ap (λ (l : Bool). let v : List Delivery = if (c == k) && l then inbox_at d k ++ x ∷ [] else inbox_at d k in v)
-    (a.lives k)
-    ∙ ap (λ (xs : List Delivery). let v : List Delivery = if (c == k) && is_live e k then xs ++ x ∷ [] else xs in v)
-    (a.inboxes k)
-    ∙ sym (inbox_delivers e c x k t.taken) in assumption
+    λ k. rw (inbox_delivers d c x k s.taken, inbox_delivers e c x k t.taken, a.inboxes k, a.lives k) refl in assumption
 
 agree_takes : (d e : Effects) (c : ℕ) → Agree d e → Agree (Takes c ∷ d) (Takes c ∷ e)
 agree_takes d e c a =
     let inboxes : (k : ℕ) → inbox_at (Takes c ∷ d) k ≡ inbox_at (Takes c ∷ e) k =
-    λ k. inbox_takes d c k ∙
-    ap (λ (xs : List Delivery). let v : List Delivery = if c == k then drop 1 xs else xs in v) (a.inboxes k) ∙
-    sym (inbox_takes e c k) in assumption
+    λ k. rw (inbox_takes d c k, inbox_takes e c k, a.inboxes k) refl in assumption
 
 -- ---- both at once
 

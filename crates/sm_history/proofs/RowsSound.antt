@@ -151,8 +151,7 @@ under_alike : (d e : Effects) (c r : ℕ) (o : Option Node) → Sim d e
     → option_map (held_row d c r) o ≡ option_map (held_row e c r) o
 under_alike d e c r None s = refl
 under_alike d e c r (Some n) s =
-    ap (λ (k : ℕ). let v : Option HeldRow = Some (record { client = c; node = n; number = r; count = k }) in v)
-    (s.agree.refs c n)
+    rw (s.agree.refs c n) refl
 
 held_rows_alike : (d e : Effects) (c : ℕ) → Sim d e → held_rows d c ≡ held_rows e c
 held_rows_alike d e c s =
