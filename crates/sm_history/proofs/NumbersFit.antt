@@ -74,9 +74,8 @@ counts_each d fit c n =
           (λ k same all.
           all_at (λ m. nat_lt (refs_at d c m) GREATEST) (same_node n) (refs_at d c n < GREATEST) (held_nodes d c)
           (λ m alike fits. below (refs_at d c n) GREATEST
-          (subst (λ (v : Node). nat_lt (refs_at d c v) GREATEST ≡ true) (sym (node_same n m alike)) fits))
-          (subst (λ (v : ℕ). list_all (λ m. nat_lt (refs_at d v m) GREATEST) (held_nodes d v) ≡ true)
-          (number_same k c same) all)
+          (rw (node_same n m alike) fits))
+          (rw (number_same k c same) at all)
           (held_among d c n e))
           fit (any_live d c ∙ held_live (is_live d c) _ e)
     ] refl

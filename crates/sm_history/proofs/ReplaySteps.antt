@@ -1,5 +1,5 @@
 -- A replay goes on as the history does.
-use Rattle.std.proofs.Common.{◌≡◌, ℕ, ◌+◌, [], refl, sym, subst, arith}
+use Rattle.std.proofs.Common.{◌≡◌, ℕ, ◌+◌, [], refl, arith}
 use Rattle.std.specs.Prelude.{min, ◌||◌}
 use Rattle.sm_policy.specs.Policy.{Policy}
 use Rattle.sm_kinds.specs.declared.identity.Identity.{Identity}
@@ -40,8 +40,7 @@ pub next_step : (h : History) (e : Entry) (c : ℕ) (old new : Replay) → Sound
     → new.turning.order.items ≡ with_order e.by (has_made old.turning e.by) old.turning.order.items
     → new.length ≡ min (old.length + 1) GREATEST → TracksHistory (entered e h) new
 next_step h e c old new s tr next own enters counts knows orders longer =
-    let enters' : Enters (client_of e.by) e.event e.outcome old.tables new.tables =
-    subst (λ (k : ℕ). Enters k e.event e.outcome old.tables new.tables) own enters in
+    let enters' = rw own at enters in
     record {
       tables = enters' (effects_of h) s tr.tables next.done;
       turning = counted_more h e old.turning new.turning next.turns tr.turning counts knows orders;
@@ -66,8 +65,7 @@ opening_done number who policy = record {
 -- The manager's opening is the next change where nothing was before.
 pub opening_next : (number : ℕ) (e : Entry) → IsOpening e → IsNext (start number) e
 opening_next number e (who, policy, is, may, ok) =
-    subst (λ (v : Entry). IsNext (start number) v) (sym is)
-    (record {
+    rw is (record {
       done = opening_done number who policy;
       turns = λ by. below 0 GREATEST refl;
       length = below 0 GREATEST refl;

@@ -140,19 +140,17 @@ pub record Grown (o : Opening) (es : List Entry) : Type 0 where
   pub opens : o ≡ rows_of (whole before)
   pub grown : AreLawfulApart (es ++ before)
 
-goes_on : (number : ℕ) (o : Opening) (e : Entry) (es : List Entry)
-    → verdict_apart (record { number = number; opening = o; entries = es }) e.by e.turn e.event ≡ Done e.outcome
-    → HasSoundPolicy e.event → ((o ≡ blank_opening) × AreLawfulApart es) ⊎ Grown o es
+-- A change meets its checks after an opening and changes.
+abbrev IsMet : ℕ → List Entry → Entry → Opening → Type 0
+IsMet number es e o =
+    verdict_apart (record { number = number; opening = o; entries = es }) e.by e.turn e.event ≡ Done e.outcome
+
+goes_on : (number : ℕ) (o : Opening) (e : Entry) (es : List Entry) → IsMet number es e o → HasSoundPolicy e.event
+    → ((o ≡ blank_opening) × AreLawfulApart es) ⊎ Grown o es
     → ((o ≡ blank_opening) × AreLawfulApart (e ∷ es)) ⊎ Grown o (e ∷ es)
-goes_on number o e es done ok (inl (is, l)) =
-    let done' = subst (λ (v : Opening). verdict_apart (record { number = number; opening = v; entries = es }) e.by
-    e.turn
-    e.event ≡ Done e.outcome) is done in
-    inl (is, apart_more e es l done' ok)
+goes_on number o e es done ok (inl (is, l)) = inl (is, apart_more e es l (subst (IsMet number es e) is done) ok)
 goes_on number o e es done ok (inr g) =
-    let done' = subst (λ (v : Opening). verdict_apart (record { number = number; opening = v; entries = es }) e.by
-    e.turn
-    e.event ≡ Done e.outcome) g.opens done in
+    let done' = subst (IsMet number es e) g.opens done in
     inr (record {
       before = g.before;
       lawful = g.lawful;

@@ -1,4 +1,4 @@
-use Rattle.std.proofs.Common.{◌≡◌, ◌≤◌, set, arith, ℕ, None, refl, sym, ap, subst}
+use Rattle.std.proofs.Common.{◌≡◌, ◌≤◌, arith, None, refl, sym, ap}
 use Rattle.std.proofs.lemmas.Bool.{true≢false}
 use Rattle.std.specs.Prelude.{Option}
 use Rattle.sm_grants.specs.Slots.{HandleTable}
@@ -21,7 +21,8 @@ returns-in_default-clause-ready c =
 pub returns-in_default-grant-clause-ready : goal.returns-in_default-grant-clause-ready
 returns-in_default-grant-clause-ready c =
     let rows = c.args.self.now.rows.items in
-    let here = row_here c.args.client c.deref.ensures.value (sym c.in-Some.ensures.at) c.index_mut-row.ensures.value in (
+    let here = row_here c.args.client c.deref.ensures.value (sym c.in-Some.ensures.at) c.index_mut-row.ensures.value in
+    (
       (λ some. absurd (true≢false (sym some))),
       (λ can.
           let inside = can_in rows c.args.client c.args.node c.index_mut-row.result.now.handles here.0 can in
@@ -39,10 +40,7 @@ invariant_of-self-2 c =
     let le = client_bounded rows c.args.client in omega (arith, le, all) in
     let small : c.args.self.now.bound ≤ 18446744073709551615 = omega arith in
     record {
-      bounded = subst (λ (m : ℕ). highest (set rows c.in-Some.i (record {
-        client = c.index_mut-row.result.now.client;
-        handles = c.grant.new.self;
-      })) ≤ m) (sym c.saturating_add-self.ensures) (set_bounded rows c.in-Some.i _ _ (omega (arith, all, small))
+      bounded = rw c.saturating_add-self.ensures (set_bounded rows c.in-Some.i _ _ (omega (arith, all, small))
           (granted_bounded (slots_of rows c.args.client) c.grant.new.self.slots c.args.node c.in-Some-grant.number
           c.args.self.now.bound 18446744073709551615
           (rw here.0 c.in-Some-grant.ensures.granted) can.few own small (omega arith)));
@@ -51,7 +49,8 @@ invariant_of-self-2 c =
 pub returns-clause-ready : goal.returns-clause-ready
 returns-clause-ready c =
     let rows = c.args.self.now.rows.items in
-    let here = row_here c.args.client c.deref.ensures.value (sym c.in-Some.ensures.at) c.index_mut-row.ensures.value in (
+    let here = row_here c.args.client c.deref.ensures.value (sym c.in-Some.ensures.at) c.index_mut-row.ensures.value in
+    (
       (λ some. can_here rows c.args.client c.args.node c.index_mut-row.result.now.handles here.0
           (c.in-Some-grant.ensures.placed refl, c.in-Some-grant.ensures.few refl)),
       (λ can. refl),
