@@ -21,19 +21,18 @@ returns-in_default-clause-ready c =
 pub returns-in_default-grant-clause-ready : goal.returns-in_default-grant-clause-ready
 returns-in_default-grant-clause-ready c =
     let rows = c.args.self.now.rows.items in
-    let here = row_here c.args.client c.deref.ensures.value (sym c.in-Some.ensures.at) c.index_mut-row.ensures.value in
-    (
+    let r = row_here c.args.client c.deref.ensures.value (sym c.in-Some.ensures.at) c.index_mut-row.ensures.value in (
       (λ some. absurd (true≢false (sym some))),
       (λ can.
-          let inside = can_in rows c.args.client c.args.node c.index_mut-row.result.now.handles here.0 can in
+          let inside = can_in rows c.args.client c.args.node c.index_mut-row.result.now.handles r.0 can in
           c.in_default-grant.ensures.all inside.0 inside.1),
     )
 
 pub invariant_of-self-2 : goal.invariant_of-self-2
 invariant_of-self-2 c =
     let rows = c.args.self.now.rows.items in
-    let here = row_here c.args.client c.deref.ensures.value (sym c.in-Some.ensures.at) c.index_mut-row.ensures.value in
-    let can = can_here rows c.args.client c.args.node c.index_mut-row.result.now.handles here.0
+    let r = row_here c.args.client c.deref.ensures.value (sym c.in-Some.ensures.at) c.index_mut-row.ensures.value in
+    let can = can_here rows c.args.client c.args.node c.index_mut-row.result.now.handles r.0
     (c.in-Some-grant.ensures.placed refl, c.in-Some-grant.ensures.few refl) in
     let all : highest rows ≤ c.args.self.now.bound = c.args.self.now.bounded in
     let own : highest_in (slots_of rows c.args.client) ≤ c.args.self.now.bound =
@@ -43,15 +42,14 @@ invariant_of-self-2 c =
       bounded = rw c.saturating_add-self.ensures (set_bounded rows c.in-Some.i _ _ (omega (arith, all, small))
           (granted_bounded (slots_of rows c.args.client) c.grant.new.self.slots c.args.node c.in-Some-grant.number
           c.args.self.now.bound 18446744073709551615
-          (rw here.0 c.in-Some-grant.ensures.granted) can.few own small (omega arith)));
+          (rw r.0 c.in-Some-grant.ensures.granted) can.few own small (omega arith)));
     }
 
 pub returns-clause-ready : goal.returns-clause-ready
 returns-clause-ready c =
     let rows = c.args.self.now.rows.items in
-    let here = row_here c.args.client c.deref.ensures.value (sym c.in-Some.ensures.at) c.index_mut-row.ensures.value in
-    (
-      (λ some. can_here rows c.args.client c.args.node c.index_mut-row.result.now.handles here.0
+    let r = row_here c.args.client c.deref.ensures.value (sym c.in-Some.ensures.at) c.index_mut-row.ensures.value in (
+      (λ some. can_here rows c.args.client c.args.node c.index_mut-row.result.now.handles r.0
           (c.in-Some-grant.ensures.placed refl, c.in-Some-grant.ensures.few refl)),
       (λ can. refl),
     )
@@ -59,20 +57,20 @@ returns-clause-ready c =
 pub returns-clause-tracks : goal.returns-clause-tracks
 returns-clause-tracks c d tr live =
     let rows = c.args.self.now.rows.items in
-    let here = row_here c.args.client c.deref.ensures.value (sym c.in-Some.ensures.at) c.index_mut-row.ensures.value in
-    tracks_gives d rows _ c.args.client c.grant.new.self c.args.node c.in-Some-grant.number (here.2 c.grant.new.self)
-    (rw here.0 c.in-Some-grant.ensures.granted) tr live
+    let r = row_here c.args.client c.deref.ensures.value (sym c.in-Some.ensures.at) c.index_mut-row.ensures.value in
+    tracks_gives d rows _ c.args.client c.grant.new.self c.args.node c.in-Some-grant.number (r.2 c.grant.new.self)
+    (rw r.0 c.in-Some-grant.ensures.granted) tr live
 
 pub returns-clause-spare : goal.returns-clause-spare
 returns-clause-spare c =
     let rows = c.args.self.now.rows.items in
-    let here = row_here c.args.client c.deref.ensures.value (sym c.in-Some.ensures.at) c.index_mut-row.ensures.value in
-    let own = changed_own rows _ c.args.client c.grant.new.self (here.2 c.grant.new.self) in
-    rw (here.0, own) c.in-Some-grant.ensures.spare
+    let r = row_here c.args.client c.deref.ensures.value (sym c.in-Some.ensures.at) c.index_mut-row.ensures.value in
+    let own = changed_own rows _ c.args.client c.grant.new.self (r.2 c.grant.new.self) in
+    rw (r.0, own) c.in-Some-grant.ensures.spare
 
 pub returns-clause-others : goal.returns-clause-others
 returns-clause-others c k e =
     let rows = c.args.self.now.rows.items in
-    let here = row_here c.args.client c.deref.ensures.value (sym c.in-Some.ensures.at) c.index_mut-row.ensures.value in
+    let r = row_here c.args.client c.deref.ensures.value (sym c.in-Some.ensures.at) c.index_mut-row.ensures.value in
     ap (λ (o : Option HandleTable). spare_in o) (changed_other rows _ c.args.client k c.grant.new.self
-    (here.2 c.grant.new.self) e)
+    (r.2 c.grant.new.self) e)

@@ -17,7 +17,7 @@ loop-k-preserved c =
       λ z b. rw split (begun_made row rest b (made c.set.new.self b) (made c.loop-k.self b) (c.in_ok-set.ensures.made b)
           (c.loop-k.invariant.0 z b)),
       λ z a. rw split (begun_known row rest a (is_known c.set.new.self a) (is_known c.loop-k.self a)
-      (c.in_ok-set.ensures.known a)
+          (c.in_ok-set.ensures.known a)
           (c.loop-k.invariant.1 z a)),
       c.in_ok-set.ensures.order ∙ c.loop-k.invariant.2,
     )
