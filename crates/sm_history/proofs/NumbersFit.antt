@@ -141,8 +141,7 @@ opening_fits e (who, policy, is, may, ok) = rw is (record { lengths = below 1 GR
 fits_after : (places number : ℕ) (o : Opening) (es : List Entry) → AreLawful places number o es
     → FitsNumbers (record { number = number; opening = o; entries = es })
 fits_after places number o [] (left, fits) = fits
-fits_after places number o (e ∷ es) (inl (first, is, none, opens)) =
-    rw (first, is, none) (opening_fits e opens)
+fits_after places number o (e ∷ es) (inl (first, is, none, opens)) = rw (first, is, none) (opening_fits e opens)
 fits_after places number o (e ∷ es) (inr (before, done, ok)) =
     let h : History = record { number = number; opening = o; entries = es } in
     numbers_case places h e (sound_lawful places h before) (fits_after places number o es before) done
