@@ -1,7 +1,6 @@
 -- The highest count of grants: which counts it bounds, and what changes of rows make of it.
 use Rattle.std.proofs.Common.{inl, inr, ◌∙◌, ◌≡◌, ℕ, zero, suc, ◌+◌, ◌-◌, ◌≤◌, ◌<◌, true, false, ◌==◌, List, [], ◌∷◌}
-use Rattle.std.proofs.Common.{◌++◌, set}
-use Rattle.std.proofs.Common.{Option, Some, None, if◌then◌else◌, refl, ap, sym, subst, arith}
+use Rattle.std.proofs.Common.{◌++◌, set, Option, Some, None, if◌then◌else◌, refl, ap, subst, arith}
 use Rattle.std.specs.Prelude.{max, min, nat_le}
 use Rattle.std.specs.List.{remove}
 use Rattle.std.proofs.lemmas.Bool.{cases_lt}
@@ -11,8 +10,7 @@ use Rattle.sm_history.specs.Holdings.{refs_at, number_at}
 use Rattle.sm_history.specs.declared.client_row.Held.{Held}
 use Rattle.sm_grants.specs.declared.rows.ClientHandles.{ClientHandles}
 use Rattle.sm_history.specs.Tables.{Slots, slot, IsPut, released_slot}
-use Rattle.sm_grants.specs.Slots.{node_of, count_of, HandleTable, IsGranted}
-use Rattle.sm_grants.specs.Slots.{granted_slot}
+use Rattle.sm_grants.specs.Slots.{node_of, count_of, HandleTable, IsGranted, granted_slot}
 use Rattle.sm_grants.specs.Rows.{table_of, slots_in, slots_of, TracksRows}
 use Rattle.sm_grants.specs.Highest.{highest_in, highest}
 use Rattle.sm_grants.proofs.Fits.{held_count_is}
@@ -36,8 +34,7 @@ highest_least (x ∷ s) m each =
 put_bounded : (s t : Slots) (i m : ℕ) (x : Option Held) → IsPut s t i x → count_of x ≤ m → highest_in s ≤ m
     → highest_in t ≤ m
 put_bounded s t i m x put here all = highest_least t m (λ j.
-    subst (λ (o : Option Held). count_of o ≤ m) (sym (put j))
-    (elim (j == i) as (λ b. count_of (let o : Option Held = if b then x else slot s j in o) ≤ m) [
+    rw (put j) (elim (j == i) as (λ b. count_of (let o : Option Held = if b then x else slot s j in o) ≤ m) [
       | true ↦ here
       | false ↦ let le = slot_bounded s j in omega (arith, le, all)
     ]))
@@ -54,8 +51,7 @@ granted_bounded s t n r m most g few all le some =
     let i = g.0.0 in
     let at = g.0.1 in
     let place : r - 1 ≡ i = omega (arith, at) in
-    let put : IsPut s t i (granted_slot n (slot s i)) =
-    subst (λ (v : ℕ). IsPut s t v (granted_slot n (slot s v))) place g.1 in
+    let put : IsPut s t i (granted_slot n (slot s i)) = rw (← place) g.1 in
     let count = granted_count (slot s i) n in
     let here = slot_bounded s i in
     let own : count_of (slot s i) < most =

@@ -19,13 +19,13 @@ use Rattle.sm_history.proofs.Sound.{once_more, once_filter}
 use Rattle.sm_history.specs.declared.client_row.Held.{Held}
 use Rattle.sm_grants.specs.declared.rows.ClientHandles.{ClientHandles}
 use Rattle.sm_history.specs.Tables.{Slots, slot, IsPut, released_slot}
-use Rattle.sm_grants.specs.Slots.{node_of, held_in, IsAbsent, granted_slot}
-use Rattle.sm_grants.specs.Slots.{IsGranted, IsNumberFor, HandleTable}
+use Rattle.sm_grants.specs.Slots.{node_of, granted_slot, IsGranted, IsNumberFor, HandleTable}
 use Rattle.sm_grants.specs.Tracking.{TracksSlots}
 use Rattle.sm_grants.specs.Rows.{table_of, index_from, slots_in, slots_of, spare_in, spare_of, TracksRows, CanGrantRow}
 use Rattle.sm_grants.proofs.Tracked.{not_held, tracked_gives, tracked_releases, tracked_same, tracked_none}
 use Rattle.sm_grants.proofs.Tracked.{node_is_slot, node_zero, free_is}
-use Rattle.sm_grants.proofs.Small.{self_same, lt_test, zero_test}
+use Rattle.sm_grants.proofs.Small.{lt_test, zero_test}
+use Rattle.sm_history.proofs.ClientRows.{self_same}
 
 -- ---- rows
 
@@ -121,12 +121,8 @@ for_all : (P : ℕ → Slots → Type 0) (rows rows' : List ClientHandles) (c : 
     → P k (slots_of rows' k)
 for_all P rows rows' c t ch own other k =
     elim (c == k) as (λ b. (c == k) ≡ b → P k (slots_of rows' k)) [
-      | true ↦ λ e.
-          let same = number_same c k e in
-          subst (λ (v : ℕ). P v (slots_of rows' v)) same
-          (subst (λ (o : Option HandleTable). P c (slots_in o)) (sym (changed_own rows rows' c t ch)) own)
-      | false ↦ λ e. subst (λ (o : Option HandleTable). P k (slots_in o)) (sym (changed_other rows rows' c k t ch e))
-          (other k e)
+      | true ↦ λ e. rw (← number_same c k e, changed_own rows rows' c t ch) own
+      | false ↦ λ e. rw (changed_other rows rows' c k t ch e) (other k e)
     ] refl
 
 pub number_is : (d : Effects) (c : ℕ) (s : Slots) (n : Node) (r : ℕ) → TracksSlots d c s → IsNumberFor s n r
@@ -168,8 +164,7 @@ slots_gives d c s t n r bal live own is put =
     let i = is.0 in
     let r_is = is.1 in
     let place : r - 1 ≡ i = omega (arith, r_is) in
-    let put' : IsPut s t i (granted_slot n (slot s i)) =
-    subst (λ (v : ℕ). IsPut s t v (granted_slot n (slot s v))) place put in
+    let put' : IsPut s t i (granted_slot n (slot s i)) = rw (← place) put in
     tracked_gives (refs_at d c) (number_at d c) (refs_at (Gives c n r ∷ d) c) (number_at (Gives c n r ∷ d) c) s t n i
     own is.2 (λ e. (is.3 e).0) put'
     (λ m. own_refs d c n r m bal live)
@@ -232,11 +227,7 @@ pub spare_kept : (rows rows' : List ClientHandles) (c : ℕ) (t : HandleTable) �
     → spare_of rows c ≤ t.spare → (k : ℕ) → spare_of rows k ≤ spare_of rows' k
 spare_kept rows rows' c t ch le k =
     elim (c == k) as (λ b. (c == k) ≡ b → spare_of rows k ≤ spare_of rows' k) [
-      | true ↦ λ e.
-          let same = number_same c k e in
-          let own : spare_of rows c ≤ spare_of rows' c = subst
-          (λ (o : Option HandleTable). spare_of rows c ≤ spare_in o) (sym (changed_own rows rows' c t ch)) le in
-          subst (λ (v : ℕ). spare_of rows v ≤ spare_of rows' v) same own
+      | true ↦ λ e. rw (← number_same c k e, changed_own rows rows' c t ch) le
       | false ↦ λ e. let same = ap (λ (o : Option HandleTable). spare_in o) (changed_other rows rows' c k t ch e) in
           omega (arith, same)
     ] refl
@@ -280,24 +271,19 @@ number_none d rows c n tr at =
     number_is d c [] n 1 (subst (λ (v : Option HandleTable). TracksSlots d c (slots_in v)) at (tr.slots c))
     (0, refl, (λ m h. cc), (λ e. ((λ i h. cc), (refl, (λ j lt. absurd (omega (arith, lt)))))))
 
-pub row_here : (rows : List ClientHandles) (c i : ℕ) (r : ClientHandles) → index_from 0 rows c ≡ Some i
-    → r ≡ get_or rows i r → (table_of rows c ≡ Some r.handles) × (r.client ≡ c)
-row_here rows c i r h is =
+-- A client's row that was read at its index, and what writing a table there changes.
+pub row_here : {rows seen : List ClientHandles} (c : ℕ) {i : ℕ} {r : ClientHandles} → seen ≡ rows
+    → index_from 0 seen c ≡ Some i → r ≡ get_or rows i r → (table_of rows c ≡ Some r.handles) × (r.client ≡ c)
+    × ((t : HandleTable) → IsChanged rows (set rows i (record { client = r.client; handles = t })) c t)
+row_here {rows} {seen} c {i} {r} same at is =
+    let h : index_from 0 rows c ≡ Some i = rw (← same) at in
     let w = (at_row rows c i h).here r in
-    (w.0 ∙ ap (λ (x : ClientHandles). Some x.handles) (sym is), ap (λ (x : ClientHandles). x.client) is ∙ w.1)
-
-pub row_changed : (rows : List ClientHandles) (c i : ℕ) (r : ClientHandles) (t : HandleTable)
-    → index_from 0 rows c ≡ Some i → r ≡ get_or rows i r
-    → IsChanged rows (set rows i (record { client = r.client; handles = t })) c t
-row_changed rows c i r t h is = row_set rows c i (record { client = r.client; handles = t }) h
-    ((row_here rows c i r h is).1)
+    let own = ap (λ (x : ClientHandles). x.client) is ∙ w.1 in
+    (w.0 ∙ ap (λ (x : ClientHandles). Some x.handles) (sym is), own, λ t. row_set rows c i _ h own)
 
 pub cannot : (rows : List ClientHandles) (c : ℕ) (n : Node) → CanGrantRow rows c n → table_of rows c ≡ None → ⊥
 cannot rows c n can none =
-    let w : (held_in [] < 65536) × (0 < 0) =
-    subst (λ (o : Option HandleTable). IsAbsent (slots_in o) n →
-    (held_in (slots_in o) < 65536) × (0 < spare_in o)) none can.placed (λ i h. cc) in
-    let lt = w.1 in omega (arith, lt)
+    let w = (rw none at can.placed) (λ i h. cc) in let lt = w.1 in omega (arith, lt)
 
 -- ---- a new row
 
@@ -344,19 +330,16 @@ tracks_pushed d rows r none empty tr = record {
   live = tr.live;
   slots = λ k.
       let old = tr.slots k in
-      subst (λ (o : Option HandleTable). TracksSlots d k (slots_in o)) (sym (table_more rows r k none))
-      (elim (r.client == k) as (λ b. (r.client == k) ≡ b →
+      rw (table_more rows r k none) (elim (r.client == k) as (λ b. (r.client == k) ≡ b →
       TracksSlots d k (slots_in (let o : Option HandleTable = if b then Some r.handles else table_of rows k in
       o))) [
         | true ↦ λ e.
-            let same = number_same r.client k e in
-            let none' : table_of rows k ≡ None = subst (λ (v : ℕ). table_of rows v ≡ None) same none in
-            let own : TracksSlots d k [] = subst (λ (o : Option HandleTable). TracksSlots d k (slots_in o)) none' old in
-            subst (λ (v : Slots). TracksSlots d k v) (sym empty) own
+            let none' : table_of rows k ≡ None = rw (← number_same r.client k e) none in
+            rw empty (rw none' at old)
         | false ↦ λ e. old
       ] refl);
-  once = subst IsOnce (sym (clients_more rows r))
-      (once_more r.client (map (λ (x : ClientHandles). x.client) rows) (not_among rows r.client none) tr.once);
+  once = rw (clients_more rows r) (once_more r.client (map (λ (x : ClientHandles). x.client) rows)
+      (not_among rows r.client none) tr.once);
 }
 
 pub spare_pushed : (rows : List ClientHandles) (r : ClientHandles) → table_of rows r.client ≡ None
@@ -369,12 +352,10 @@ spare_pushed rows r none =
 pub spare_more : (rows : List ClientHandles) (r : ClientHandles) → table_of rows r.client ≡ None
     → (k : ℕ) → spare_of rows k ≤ spare_of (rows ++ r ∷ []) k
 spare_more rows r none k =
-    subst (λ (o : Option HandleTable). spare_of rows k ≤ spare_in o) (sym (table_more rows r k none))
-    (elim (r.client == k) as (λ b. (r.client == k) ≡ b →
+    rw (table_more rows r k none) (elim (r.client == k) as (λ b. (r.client == k) ≡ b →
     spare_of rows k ≤ spare_in (let o : Option HandleTable = if b then Some r.handles else table_of rows k in o)) [
       | true ↦ λ e.
-          let same = number_same r.client k e in
-          let none' : table_of rows k ≡ None = subst (λ (v : ℕ). table_of rows v ≡ None) same none in
+          let none' : table_of rows k ≡ None = rw (← number_same r.client k e) none in
           let zero : spare_of rows k ≡ 0 = ap (λ (o : Option HandleTable). spare_in o) none' in
           omega (arith, zero)
       | false ↦ λ e. omega arith

@@ -1,6 +1,6 @@
 -- When a grant can be made: in the handles of a client, and in words of the effects.
-use Rattle.std.proofs.Common.{◌≡◌, ℕ, ◌+◌, ◌-◌, ◌<◌, ◌^◌, List, ◌∷◌, true, false, refl, ap, sym, subst, ◌∙◌, length}
-use Rattle.std.proofs.Common.{Option, Some, None, arith}
+use Rattle.std.proofs.Common.{◌≡◌, ℕ, ◌+◌, ◌-◌, ◌<◌, ◌^◌, List, ◌∷◌, true, false, refl, ap, sym, ◌∙◌, length, Option}
+use Rattle.std.proofs.Common.{Some, None, arith}
 use Rattle.std.specs.Prelude.{nat_le}
 use Rattle.std.proofs.lemmas.Bool.Decides.{nat_tests}
 use Rattle.sm_kinds.specs.declared.number.Node.{Node}
@@ -15,7 +15,7 @@ use Rattle.sm_history.specs.declared.limits.TheConstants.{MOST_HANDLES}
 use Rattle.sm_grants.specs.declared.rows.ClientHandles.{ClientHandles}
 use Rattle.sm_history.specs.Tables.{slot}
 use Rattle.sm_grants.specs.Slots.{HandleTable, node_of, count_of, held_in, IsAbsent}
-use Rattle.sm_grants.specs.Rows.{table_of, slots_in, spare_in, slots_of, spare_for, Tracks, CanGrant, CanGrantRow}
+use Rattle.sm_grants.specs.Rows.{table_of, slots_of, spare_for, Tracks, CanGrant, CanGrantRow}
 use Rattle.sm_grants.proofs.Tracked.{not_held, held_count}
 use Rattle.sm_grants.proofs.Small.{zero_test}
 
@@ -37,21 +37,11 @@ CanGrantIn t n =
 
 pub can_here : (rows : List ClientHandles) (c : ℕ) (n : Node) (t : HandleTable) → table_of rows c ≡ Some t
     → CanGrantIn t n → CanGrantRow rows c n
-can_here rows c n t at can = record {
-  placed = subst (λ (o : Option HandleTable). IsAbsent (slots_in o) n → (held_in (slots_in o) < MOST_HANDLES)
-      × (0 < spare_in o)) (sym at) can.0;
-  few = subst (λ (o : Option HandleTable). (i : ℕ) → node_of (slot (slots_in o) i) ≡ Some n
-      → count_of (slot (slots_in o) i) < 2 ^ 64 - 1) (sym at) can.1;
-}
+can_here rows c n t here can = record { placed = rw here can.0; few = rw here can.1 }
 
 pub can_in : (rows : List ClientHandles) (c : ℕ) (n : Node) (t : HandleTable) → table_of rows c ≡ Some t
     → CanGrantRow rows c n → CanGrantIn t n
-can_in rows c n t at can = (
-  subst (λ (o : Option HandleTable). IsAbsent (slots_in o) n → (held_in (slots_in o) < MOST_HANDLES)
-      × (0 < spare_in o)) at can.placed,
-  subst (λ (o : Option HandleTable). (i : ℕ) → node_of (slot (slots_in o) i) ≡ Some n
-      → count_of (slot (slots_in o) i) < 2 ^ 64 - 1) at can.few,
-)
+can_in rows c n t here can = (rw here at can.placed, rw here at can.few)
 
 -- ---- in words of the effects
 

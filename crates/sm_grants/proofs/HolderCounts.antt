@@ -1,12 +1,12 @@
 -- The number of live clients that hold an object.
-use Rattle.std.proofs.Common.{◌≡◌, ℕ, ◌≤◌, ◌<◌, Bool, true, false, ◌&&◌, ◌||◌, ◌==◌, List, [], ◌∷◌, refl, ap, sym}
-use Rattle.std.proofs.Common.{◌∙◌, subst, length, map, Option, Some, if◌then◌else◌, arith}
+use Rattle.std.proofs.Common.{◌≡◌, ℕ, ◌<◌, Bool, true, false, ◌&&◌, ◌||◌, ◌==◌, List, [], ◌∷◌, refl, ap, sym, ◌∙◌}
+use Rattle.std.proofs.Common.{subst, map, Option, Some, if◌then◌else◌, arith}
 use Rattle.std.specs.Prelude.{nat_lt, nat_eq, not, count_by, cond, filter}
 use Rattle.std.specs.List.{list_any, IsDistinct, AllByRecursion}
 use Rattle.std.proofs.lemmas.Bool.{true≢false, and_parts, or_parts}
 use Rattle.std.proofs.lemmas.Bool.Decides.{nat_tests}
 use Rattle.std.proofs.lemmas.Cmp.{nat_eq_equiv}
-use Rattle.std.proofs.lemmas.List.Sums.{sum_by-cons, length-filter, count_by-le-length}
+use Rattle.std.proofs.lemmas.List.Sums.{sum_by-cons, length-filter}
 use Rattle.std.proofs.lemmas.Map.Made.{length-from_same_keys}
 use Rattle.std.proofs.lemmas.Map.Views.{any-filter_same}
 use Rattle.sm_kinds.specs.declared.number.Node.{Node}
@@ -24,6 +24,7 @@ use Rattle.sm_grants.specs.Rows.{table_of, slots_in, TracksRows}
 use Rattle.sm_grants.specs.Holders.{holders_at}
 use Rattle.sm_grants.proofs.ClientRows.{none_table}
 use Rattle.sm_grants.proofs.Tracked.{held_is_in}
+use Rattle.sm_history.proofs.RowsBack.{held_live}
 
 -- ---- lists in which each number is once
 
@@ -74,10 +75,6 @@ some_counted p (x ∷ xs) =
 pub in_use_is : (d : Effects) (c : ℕ) (n : Node) → nat_lt 0 (holders_at d c n) ≡ is_in_use d c n
 in_use_is d c n = some_counted (λ k. not (k == c) && is_held d k n) (live_clients d)
 
--- There are no more holders than live clients.
-pub holders_few : (d : Effects) (c : ℕ) (n : Node) → holders_at d c n ≤ length (live_clients d)
-holders_few d c n = count_by-le-length (λ k. not (k == c) && is_held d k n) (live_clients d)
-
 -- ---- rows
 
 abbrev clients_in : List ClientHandles → List ℕ
@@ -114,8 +111,7 @@ first_say p n r rs say = say r.client r.handles (let e : (r.client == r.client) 
     rw e refl)
 
 count_rows : (c : ℕ) (p : ℕ → Bool) (n : Node) (rows : List ClientHandles) → IsOnce (clients_in rows)
-    → AllSay p n rows
-    → count_by (λ (r : ClientHandles). not (r.client == c) && is_in r.handles.slots n) rows
+    → AllSay p n rows → count_by (λ (r : ClientHandles). not (r.client == c) && is_in r.handles.slots n) rows
     ≡ count_by (λ k. not (k == c) && p k) (clients_in rows)
 count_rows c p n [] once say = refl
 count_rows c p n (r ∷ rs) once say =
@@ -132,14 +128,9 @@ has_row d rows k n tr held =
     → b ≡ true) [
       | true ↦ λ e. refl
       | false ↦ λ e.
-          let none : TracksSlots d k [] = subst (λ (o : Option HandleTable). TracksSlots d k (slots_in o))
-          (none_table rows k e) (tr.slots k) in
+          let none = rw (none_table rows k e) at (tr.slots k) in
           absurd (true≢false (sym held ∙ held_is_in d k [] n none))
     ] refl
-
-held_live : (live : Bool) (m : ℕ) → nat_lt 0 (if live then m else 0) ≡ true → live ≡ true
-held_live true m h = refl
-held_live false m h = absurd (true≢false (sym h))
 
 -- The rows have as many holders as there are among the live clients.
 pub holders_are : (d : Effects) (rows : List ClientHandles) (c : ℕ) (n : Node) → TracksRows d rows

@@ -1,7 +1,6 @@
 -- Grants of several objects to one client, in order.
 use Rattle.std.proofs.Common.{inl, inr, ◌≡◌, ℕ, zero, suc, ◌+◌, ◌-◌, ◌≤◌, ◌<◌, true, false, ◌||◌, ◌==◌, List, [], ◌∷◌}
-use Rattle.std.proofs.Common.{◌++◌, refl, ap, sym, ◌∙◌, subst, length, get_or, Option, Some, None, if◌then◌else◌}
-use Rattle.std.proofs.Common.{arith}
+use Rattle.std.proofs.Common.{◌++◌, refl, ap, sym, ◌∙◌, subst, length, get_or, Option, Some, None, if◌then◌else◌, arith}
 use Rattle.std.specs.Prelude.{is_some}
 use Rattle.std.specs.List.{list_any}
 use Rattle.std.proofs.lemmas.Bool.{true≢false, cases_lt, cases_eq}
@@ -69,15 +68,6 @@ grants_more s [] (q ∷ rs) n r are = absurd are
 grants_more s (m ∷ ns) [] n r are = absurd are
 grants_more s (m ∷ ns) (q ∷ rs) n r are = grants_more (with_grant s m q) ns rs n r are.1
 
-pub along_none : (s : Slots) → Along s s [] [] 0
-along_none s = record {
-  kept = λ j n h. h;
-  given = λ p n lt. absurd (omega (arith, lt));
-  only = λ j n h absent. absurd (absent j h);
-  taken = λ j lt. absurd (omega (arith, lt));
-  free = λ j le f. f;
-}
-
 -- A slot has the object that it had, and that of the grant has the granted one.
 stays : (t t' : Slots) (n : Node) (i : ℕ) → IsPut t t' i (granted_slot n (slot t i)) → (j : ℕ) (m : Node)
     → node_of (slot t j) ≡ Some m → node_of (slot t' j) ≡ Some m
@@ -139,10 +129,8 @@ along_more s t t' ns rs n r behind behind' a as_many some is put taken free = re
   only = λ j m h absent. elim (j == r - 1) as (λ b. (j == r - 1) ≡ b →
       list_any (λ (k : Node). same_node k m) (ns ++ n ∷ []) ≡ true) [
         | true ↦ λ e.
-            let there : node_of (slot t' (r - 1)) ≡ Some m = subst (λ (v : ℕ). node_of (slot t' v) ≡ Some m)
-            (number_same j (r - 1) e) h in
-            subst (λ (v : Node). list_any (λ (k : Node). same_node k v) (ns ++ n ∷ []) ≡ true)
-            (some_node n m (sym here ∙ there)) (among_last ns n)
+            let there : node_of (slot t' (r - 1)) ≡ Some m = rw (← number_same j (r - 1) e) h in
+            rw (← some_node n m (sym here ∙ there)) (among_last ns n)
         | false ↦ λ e.
             let was : slot t' j ≡ slot t j = put j ∙ rw e refl in
             among_more ns n m (a.only j m (sym (ap (λ (o : Option Held). node_of o) was) ∙ h) absent)

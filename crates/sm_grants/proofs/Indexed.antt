@@ -39,8 +39,7 @@ same_nodes p q f g words same alike a = record {
 
 new_index : (p : Nodes) (f g : Index) (n : Node) (i : ℕ) (m : Node) (j : ℕ) (t u : Bool) → (j == i) ≡ t
     → same_node n m ≡ u → (f (key_of n) ≡ None) → ((k : Node) (l : ℕ) → p l ≡ Some k → f (key_of k) ≡ Some l)
-    → g (key_of m) ≡ (if u then Some i else f (key_of m)) → (if t then Some n else p j) ≡ Some m
-    → g (key_of m) ≡ Some j
+    → g (key_of m) ≡ (if u then Some i else f (key_of m)) → (if t then Some n else p j) ≡ Some m → g (key_of m) ≡ Some j
 new_index p f g n i m j true true et eu none index by h = by ∙ ap (λ (x : ℕ). Some x) (sym (number_same j i et))
 new_index p f g n i m j true false et eu none index by h =
     let same = some_node n m h in
@@ -56,8 +55,7 @@ new_back : (p : Nodes) (f g : Index) (n : Node) (i : ℕ) (m : Node) (j : ℕ) (
 new_back p f g n i m j true true et eu free back h = ap (λ (x : Node). Some x) (node_same n m eu)
 new_back p f g n i m j false true et eu free back h =
     let same = some_number i j h in
-    absurd (true≢false (sym (subst (λ (v : ℕ). (v == i) ≡ true) same
-    (let e : (i == i) ≡ true = grind (arith, nat_tests) in e)) ∙ et))
+    absurd (grind (arith, nat_tests))
 new_back p f g n i m j true false et eu free back h =
     let same = number_same j i et in
     absurd (none_some (p j) m (subst (λ (v : ℕ). p v ≡ None) (sym same) free) (back m j h))
@@ -88,8 +86,7 @@ last_index p f g n i m j false true et eu here index by h =
     let a = index n i here in
     let b : f (key_of n) ≡ Some j = subst (λ (v : Node). f (key_of v) ≡ Some j) (sym same) (index m j h) in
     let e : i ≡ j = some_number i j (sym a ∙ b) in
-    absurd (true≢false (sym (subst (λ (v : ℕ). (v == i) ≡ true) e
-    (let e : (i == i) ≡ true = grind (arith, nat_tests) in e)) ∙ et))
+    absurd (grind (arith, nat_tests))
 last_index p f g n i m j false false et eu here index by h = by ∙ index m j h
 
 last_back : (p : Nodes) (f g : Index) (n : Node) (i : ℕ) (m : Node) (j : ℕ) (t u : Bool) → (j == i) ≡ t
@@ -242,10 +239,6 @@ pub ok_is : {A E : Type 0} (r : Result A E) (P : Type 0) → IsOk r → OnOk r P
 ok_is (Ok x) P ok p = p
 ok_is (Err e) P ok p = absurd (true≢false (sym ok))
 
-pub ok_if : {A E : Type 0} (r : Result A E) (P : A → Type 0) → IsOk r → IfOk r P → (x : A) × P x
-ok_if (Ok x) P ok p = (x, p)
-ok_if (Err e) P ok p = absurd (true≢false (sym ok))
-
 -- A new entry changes the number of entries so.
 pub one_entry : {E : Type 0} (r : Result (Option ℕ) E) (was : Option ℕ) (m n : ℕ) → was ≡ None → IsOk r
     → IfOk r (λ old. old ≡ was) → IfOk r (λ old. n ≡ m + (if is_some old then 0 else 1)) → n ≡ m + 1
@@ -275,5 +268,4 @@ pub only_slot : (s : Slots) (f : Index) (words : List ℕ) (many : ℕ) (n : Nod
 only_slot s f words many n a i j p q = some_number i j (sym (a.indexed.index n i p) ∙ a.indexed.index n j q)
 
 pub count_at : (s : Slots) (i j : ℕ) (x : Held) → j ≡ i → Some x ≡ slot s i → x.count ≡ count_of (slot s j)
-count_at s i j x same at =
-    ap (λ (o : Option Held). count_of o) (at ∙ ap (λ (v : ℕ). slot s v) (sym same))
+count_at s i j x same at = ap (λ (o : Option Held). count_of o) (at ∙ ap (λ (v : ℕ). slot s v) (sym same))

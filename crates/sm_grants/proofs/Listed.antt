@@ -1,6 +1,5 @@
 -- What is listed of a client's handles is what it holds under each number.
-use Rattle.std.proofs.Common.{◌≡◌, ℕ, zero, suc, ◌+◌, List, [], refl, ap, sym, ◌∙◌, Option}
-use Rattle.std.proofs.Common.{Some, None, arith}
+use Rattle.std.proofs.Common.{◌≡◌, ℕ, zero, suc, ◌+◌, List, [], refl, ap, sym, ◌∙◌, Option, Some, None, arith}
 use Rattle.std.specs.Prelude.{option_map}
 use Rattle.sm_kinds.specs.declared.number.Node.{Node}
 use Rattle.sm_history.specs.Effects.{Effects}
@@ -32,8 +31,7 @@ listed_held d c s (suc i) t =
     (ap (node_at d c) one ∙ node_is_slot d c s i t))
 
 pub listed_is : (d : Effects) (rows : List ClientHandles) (c : ℕ) (t : HandleTable) (xs : List (Option Held))
-    → TracksRows d rows → table_of rows c ≡ Some t → xs ≡ listed_slots t.slots → (k : ℕ)
-    → slot xs k ≡ slot_at d c k
+    → TracksRows d rows → table_of rows c ≡ Some t → xs ≡ listed_slots t.slots → (k : ℕ) → slot xs k ≡ slot_at d c k
 listed_is d rows c t xs tr at is k =
     ap (λ (v : List (Option Held)). slot v k) is
     ∙ listed_held d c t.slots k (in_slots d rows c (Some t) tr at)

@@ -4,9 +4,7 @@ use Rattle.std.proofs.lemmas.Bool.{true≢false}
 use Rattle.sm_kinds.specs.declared.identity.Identity.{Identity}
 use Rattle.sm_history.specs.Effects.{Effects}
 use Rattle.sm_history.specs.declared.effect.Effect.{Effect}
-use Rattle.sm_history.specs.declared.effect.Effect.TheVariants.{Opens, Sets, Connects, Dies, Adds, Removes, Gives}
-use Rattle.sm_history.specs.declared.effect.Effect.TheVariants.{Releases, Watches, Unwatches, Delivers, Takes}
-use Rattle.sm_history.specs.declared.effect.Effect.TheVariants.{Resumes}
+use Rattle.sm_history.specs.declared.effect.Effect.TheVariants.{Connects, Dies, Gives, Releases}
 use Rattle.sm_history.specs.Holdings.{refs_at, number_at}
 use Rattle.sm_history.proofs.Balanced.{step}
 use Rattle.sm_history.specs.Clients.{live_clients}
@@ -32,54 +30,8 @@ tracks_other (Connects c who) d rows h tr = absurd (true≢false h)
 tracks_other (Dies c) d rows h tr = absurd (true≢false h)
 tracks_other (Gives c n r) d rows h tr = absurd (true≢false h)
 tracks_other (Releases c n) d rows h tr = absurd (true≢false h)
-tracks_other (Opens who) d rows h tr =
-    record { balanced = step (Opens who) d (λ c n. refl) tr.balanced; live = tr.live; slots = tr.slots; once = tr.once }
-tracks_other (Sets p) d rows h tr =
-    record { balanced = step (Sets p) d (λ c n. refl) tr.balanced; live = tr.live; slots = tr.slots; once = tr.once }
-tracks_other (Adds name s) d rows h tr =
-    record {
-      balanced = step (Adds name s) d (λ c n. refl) tr.balanced;
-      live = tr.live;
-      slots = tr.slots;
-      once =
-          tr.once;
-    }
-tracks_other (Removes name) d rows h tr =
-    record {
-      balanced = step (Removes name) d (λ c n. refl) tr.balanced;
-      live = tr.live;
-      slots = tr.slots;
-      once =
-          tr.once;
-    }
-tracks_other (Watches w) d rows h tr =
-    record { balanced = step (Watches w) d (λ c n. refl) tr.balanced; live = tr.live; slots = tr.slots; once = tr.once }
-tracks_other (Unwatches w) d rows h tr =
-    record {
-      balanced = step (Unwatches w) d (λ c n. refl) tr.balanced;
-      live = tr.live;
-      slots = tr.slots;
-      once =
-          tr.once;
-    }
-tracks_other (Delivers c x) d rows h tr =
-    record {
-      balanced = step (Delivers c x) d (λ c n. refl) tr.balanced;
-      live = tr.live;
-      slots = tr.slots;
-      once =
-          tr.once;
-    }
-tracks_other (Takes c) d rows h tr =
-    record { balanced = step (Takes c) d (λ c n. refl) tr.balanced; live = tr.live; slots = tr.slots; once = tr.once }
-tracks_other (Resumes v n) d rows h tr =
-    record {
-      balanced = step (Resumes v n) d (λ c n. refl) tr.balanced;
-      live = tr.live;
-      slots = tr.slots;
-      once =
-          tr.once;
-    }
+tracks_other x d rows h tr =
+    record { balanced = step x d (λ c n. refl) tr.balanced; live = tr.live; slots = tr.slots; once = tr.once }
 
 -- A client connects that was never named before.
 pub tracks_connects : (d : Effects) (c : ℕ) (who : Identity) (rows : List ClientHandles) → IsNew d c

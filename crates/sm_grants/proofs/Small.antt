@@ -1,15 +1,11 @@
 -- Small facts about slots, objects and numbers.
-use Rattle.std.proofs.Common.{◌≡◌, ℕ, ◌-◌, ◌≤◌, ◌<◌, Bool, true, false, ◌==◌, refl, Option, Some, None, if◌then◌else◌}
-use Rattle.std.proofs.Common.{arith}
+use Rattle.std.proofs.Common.{◌≡◌, ℕ, ◌-◌, ◌≤◌, ◌<◌, Bool, true, false, refl, Option, Some, None, if◌then◌else◌, arith}
 use Rattle.std.specs.Prelude.{is_some, nat_le, nat_lt}
 use Rattle.std.proofs.lemmas.Bool.{true≢false}
 use Rattle.std.proofs.lemmas.Bool.Decides.{nat_tests}
 use Rattle.sm_kinds.specs.declared.number.Node.{Node}
 use Rattle.sm_history.specs.declared.client_row.Held.{Held}
 use Rattle.sm_grants.specs.Slots.{node_of}
-
-pub self_same : (a : ℕ) → (a == a) ≡ true
-self_same a = grind (arith, nat_tests)
 
 pub test_lt : (a : ℕ) → nat_lt 0 a ≡ true → 0 < a
 test_lt a h = grind (arith, nat_tests)

@@ -15,8 +15,7 @@ use Rattle.sm_history.proofs.Grants.{same_self, IsDistinct, given_distinct}
 use Rattle.sm_history.proofs.HeldAlike.{node_is, node_held, fewer, distinct_filter, among_held, held_among}
 use Rattle.sm_history.specs.declared.client_row.Held.{Held}
 use Rattle.sm_history.specs.Tables.{Slots, slot, IsPut, released_slot}
-use Rattle.sm_grants.specs.Slots.{node_of, held_in, nodes_in, is_in, IsAbsent, IsFirstFree}
-use Rattle.sm_grants.specs.Slots.{granted_slot}
+use Rattle.sm_grants.specs.Slots.{node_of, held_in, nodes_in, is_in, IsAbsent, IsFirstFree, granted_slot}
 use Rattle.sm_grants.specs.Tracking.{AreTracked, TracksSlots}
 use Rattle.sm_grants.proofs.Indexed.{taken_front}
 use Rattle.sm_grants.proofs.Small.{some_node, left_over, test_lt, lt_test}
@@ -87,8 +86,7 @@ gives_held refs num refs' num' s t n i j h (Some x) true false a zero_if other o
 gives_held refs num refs' num' s t n i j h o false true a zero_if other only absent e eb eu is er en =
     let node = node_same n h.node eu in
     let at : j ≡ i = only j (ap (λ (y : Option Held). node_of y) is ∙ ap (λ (v : Node). Some v) (sym node)) in
-    absurd (true≢false (sym (subst (λ (v : ℕ). (v == i) ≡ true) (sym at)
-    (let e : (i == i) ≡ true = grind (arith, nat_tests) in e)) ∙ eb))
+    absurd (grind (arith, nat_tests))
 gives_held refs num refs' num' s t n i j h o false false a zero_if other only absent e eb eu is er en =
     let w = a.held j h is in
     (er ∙ w.0, w.1, en ∙ w.2)
@@ -121,12 +119,10 @@ gives_found refs num refs' num' s t n i m false a other made put eu er en h =
 
 pub tracked_gives : (refs num refs' num' : Node → ℕ) (s t : Slots) (n : Node) (i : ℕ) → AreTracked refs num s
     → ((m : Node) → node_of (slot s i) ≡ Some m → m ≡ n) → (slot s i ≡ None → IsAbsent s n)
-    → IsPut s t i (granted_slot n (slot s i))
-    → ((m : Node) → refs' m ≡ (if same_node n m then refs m + 1 else refs m))
+    → IsPut s t i (granted_slot n (slot s i)) → ((m : Node) → refs' m ≡ (if same_node n m then refs m + 1 else refs m))
     → ((m : Node) → num' m ≡ (if same_node n m then i + 1 else num m)) → AreTracked refs' num' t
 tracked_gives refs num refs' num' s t n i a other absent put er en =
-    let only : (k : ℕ) → node_of (slot s k) ≡ Some n → k ≡ i =
-    λ k e. let w = held_some refs num s k n a e in
+    let only : (k : ℕ) → node_of (slot s k) ≡ Some n → k ≡ i = λ k e. let w = held_some refs num s k n a e in
     elim (slot s i) as (λ o. slot s i ≡ o → k ≡ i) [
       | None ↦ λ f. absurd (absent f k e)
       | Some x ↦ λ f.
@@ -179,8 +175,7 @@ releases_held refs num refs' s x i j h false true a at eb eu is er =
     let e : num h.node ≡ i + 1 = subst (λ (y : Node). num y ≡ i + 1) node w.2 in
     let f = v.2 in
     let same : j ≡ i = omega (arith, e, f) in
-    absurd (true≢false (sym (subst (λ (v : ℕ). (v == i) ≡ true) (sym same)
-    (let e : (i == i) ≡ true = grind (arith, nat_tests) in e)) ∙ eb))
+    absurd (grind (arith, nat_tests))
 releases_held refs num refs' s x i j h false false a at eb eu is er = let w = a.held j h is in (er ∙ w.0, w.1, w.2)
 
 releases_found : (refs num refs' : Node → ℕ) (s t : Slots) (x : Held) (i : ℕ) (m : Node) (u : Bool)
@@ -364,8 +359,7 @@ free_is d c s i t first =
     let p : ℕ → Bool = λ r. is_none (node_at d c r) in
     let many = held_count d c s t in
     let front = taken_front i s first.1 in
-    let free : p (1 + i) ≡ true =
-    (let e : 1 + i ≡ i + 1 = omega arith in
+    let free : p (1 + i) ≡ true = (let e : 1 + i ≡ i + 1 = omega arith in
     ap p e ∙ ap (λ (o : Option Node). is_none o) (node_is_slot d c s i t) ∙
     ap (λ (o : Option Held). is_none (node_of o)) first.0) in
     let below : (r : ℕ) → 1 ≤ r → r < 1 + i → p r ≡ false = λ r ge lt.
@@ -379,13 +373,6 @@ free_is d c s i t first =
 pub held_slot : (d : Effects) (c : ℕ) (s : Slots) (i : ℕ) (n : Node) → TracksSlots d c s → node_of (slot s i) ≡ Some n
     → is_held d c n ≡ true
 held_slot d c s i n t e = lt_test (refs_at d c n) ((held_some (refs_at d c) (number_at d c) s i n t e).0)
-
-pub held_most : (s : Slots) → held_in s ≤ length s
-held_most [] = omega arith
-held_most (None ∷ s) = let c = sum_by-cons (λ (y : Option Held). cond (is_some y) 1 0) None s in let i =
-    held_most s in omega (arith, c, i)
-held_most (Some h ∷ s) = let c = sum_by-cons (λ (y : Option Held). cond (is_some y) 1 0) (Some h) s in let i =
-    held_most s in omega (arith, c, i)
 
 -- The slots have the objects that are held.
 pub held_is_in : (d : Effects) (c : ℕ) (s : Slots) (n : Node) → TracksSlots d c s → is_held d c n ≡ is_in s n

@@ -2,8 +2,7 @@
 use Rattle.std.specs.Prelude.{ℕ, ◌+◌, ◌-◌, ◌≡◌, ◌<◌, ◌^◌, ◌==◌, List, [], ◌∷◌, Option, Some, None, if◌then◌else◌, map}
 use Rattle.sm_kinds.specs.declared.number.Node.{Node}
 use Rattle.sm_history.specs.Effects.{Effects}
-use Rattle.sm_history.specs.Sound.{IsBalanced}
-use Rattle.sm_history.specs.Sound.{IsOnce}
+use Rattle.sm_history.specs.Sound.{IsBalanced, IsOnce}
 use Rattle.sm_history.specs.Clients.{live_clients}
 use Rattle.sm_history.specs.declared.limits.TheConstants.{MOST_HANDLES}
 use Rattle.sm_grants.specs.declared.rows.ClientHandles.{ClientHandles}

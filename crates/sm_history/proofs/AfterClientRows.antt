@@ -12,8 +12,7 @@ use Rattle.sm_history.specs.declared.delivery.Delivery.{Delivery}
 use Rattle.sm_history.specs.declared.limits.TheConstants.{GREATEST}
 use Rattle.sm_history.specs.declared.client_row.Held.{Held}
 use Rattle.sm_history.specs.declared.client_row.ClientRow.{ClientRow}
-use Rattle.sm_history.specs.Effects.{Effects, Connects, Dies, Gives}
-use Rattle.sm_history.specs.Effects.{Releases, Delivers, Takes, same_node}
+use Rattle.sm_history.specs.Effects.{Effects, Connects, Dies, Gives, Releases, Delivers, Takes, same_node}
 use Rattle.sm_history.specs.Clients.{is_live, live_clients, identity_at, next_client}
 use Rattle.sm_history.specs.Holdings.{refs_at, is_held, number_at, node_at}
 use Rattle.sm_history.specs.Inboxes.{inbox_at}
@@ -21,7 +20,7 @@ use Rattle.sm_history.specs.Sound.{Sound, HasOneEach}
 use Rattle.sm_history.specs.Following.{MayFollow, MayGive}
 use Rattle.sm_history.specs.Tables.{slot, slot_at, client_row_of, clients_of, IsPut, IsPlace, given_slot, released_slot}
 use Rattle.sm_history.specs.Tables.{IsClient, IsRowFor, TracksClients}
-use Rattle.sm_history.proofs.Balanced.{number_same, node_same}
+use Rattle.sm_history.proofs.Balanced.{number_same, node_same, turned}
 use Rattle.sm_history.proofs.Grants.{same_self, held_gives}
 use Rattle.sm_history.proofs.HeldAlike.{node_held, node_not_held, node_is, number_is}
 use Rattle.sm_history.proofs.Living.{any_live}
@@ -33,6 +32,8 @@ use Rattle.sm_history.proofs.AfterInboxes.{inbox_connects, inbox_dies, inbox_del
 use Rattle.sm_history.proofs.Followed.{sound_follows}
 use Rattle.sm_history.proofs.Counted.{one_more}
 use Rattle.sm_history.proofs.ClientRows.{by_client, self_same, row_read, row_written, row_pushed, row_gone}
+use Rattle.sm_history.proofs.NumbersFit.{below}
+use Rattle.std.proofs.lemmas.List.Elements.{filter_agree}
 
 -- ---- rows that stay
 
@@ -68,8 +69,7 @@ rows_stay d e rows list same tr = record {
 ids_set : (rows : List ClientRow) (i : ℕ) (r r' : ClientRow) → i < length rows → r ≡ get_or rows i r
     → r'.client ≡ r.client → clients_of (set rows i r') ≡ clients_of rows
 ids_set [] i r r' lt at same = absurd (omega (arith, lt))
-ids_set (x ∷ xs) zero r r' lt at same =
-    ap (λ (k : ℕ). k ∷ clients_of xs) (same ∙ ap (λ (v : ClientRow). v.client) at)
+ids_set (x ∷ xs) zero r r' lt at same = ap (λ (k : ℕ). k ∷ clients_of xs) (same ∙ ap (λ (v : ClientRow). v.client) at)
 ids_set (x ∷ xs) (suc i) r r' lt at same = ap (λ (ks : List ℕ). x.client ∷ ks) (ids_set xs i r r' (omega
     (arith, lt)) at same)
 
@@ -215,16 +215,6 @@ ids_gone (r ∷ rs) c = elim (r.client == c) as (λ b. clients_of (if not b then
     (clients_of rs)))
     [ true ↦ ids_gone rs c | false ↦ ap (λ (ks : List ℕ). r.client ∷ ks) (ids_gone rs c) ]
 
-turned : (k j : ℕ) → (k == j) ≡ (j == k)
-turned k j = elim (k == j) as (λ a. (k == j) ≡ a → a ≡ (j == k)) [
-  | true ↦ λ e. let f : (j == k) ≡ true = grind (arith, nat_tests) in sym f
-  | false ↦ λ e. let f : (j == k) ≡ false = grind (arith, nat_tests) in sym f
-] refl
-
-filter_turned : (c : ℕ) (ks : List ℕ) → filter (λ k. not (k == c)) ks ≡ filter (λ k. not (c == k)) ks
-filter_turned c [] = refl
-filter_turned c (k ∷ ks) = rw (turned k c, filter_turned c ks) refl
-
 pub same_dies : (d : Effects) (c k : ℕ) → Sound d → is_live d c ≡ true → (c == k) ≡ false → SameClient d (Dies c ∷ d) k
 same_dies d c k s live f =
     let e = Dies c ∷ d in
@@ -242,7 +232,8 @@ tracks_dies d c rows s live tr =
     let left = filter (λ (r : ClientRow). not (r.client == c)) rows in
     let changed = row_gone _ rows c in
     record {
-      ids = ids_gone rows c ∙ filter_turned c (clients_of rows) ∙ ap (filter (λ k. not (c == k))) tr.ids
+      ids = ids_gone rows c ∙ filter_agree (λ k. not (k == c)) (λ k. not (c == k)) (λ k. ap not (turned k c))
+          (clients_of rows) ∙ ap (filter (λ k. not (c == k))) tr.ids
           ∙ sym (list_dies d c);
       each = by_client (λ k. IsRowFor e k (client_row_of left k)) c (subst (IsRowFor e c) (sym changed.own) tt)
           (λ k f. subst (IsRowFor e k) (sym (changed.other k f))
@@ -301,12 +292,6 @@ own_gives d c n r s may =
 least : (v g : ℕ) → v < g → min v g ≡ v
 least v g lt = omega (arith, lt)
 
-below : (a b : ℕ) → nat_lt a b ≡ true → a < b
-below a b h = grind (arith, nat_tests)
-
-zero_refs : (v : ℕ) → nat_lt 0 v ≡ false → v ≡ 0
-zero_refs v h = grind (arith, nat_tests)
-
 -- The slot of the number, after the grant.
 given_is : (d : Effects) (c : ℕ) (n : Node) (r : ℕ) → HasOneEach d c → Numbers d c n r
     → nat_lt (refs_at d c n + 1) GREATEST ≡ true
@@ -323,7 +308,8 @@ given_is d c n r one num fits =
           (m : Node). let h : Held = record { node = m; count = refs_at d c m } in h))
           (num.free held))
           ∙ ap (λ (v : ℕ). let o : Option Held = Some (record { node = n; count = v }) in o)
-          (let z = zero_refs (refs_at d c n) held in let one : 1 ≡ refs_at d c n + 1 = omega (arith, z) in one)
+          (let z : refs_at d c n ≡ 0 = grind (arith, nat_tests) in let one : 1 ≡ refs_at d c n + 1 = omega (arith, z)
+          in one)
     ] refl
 
 given_case : (b : Bool) (x y z w : Option Held) → (b ≡ true → x ≡ z) → (b ≡ false → y ≡ z) → (if b then x else y) ≡ z
@@ -462,8 +448,7 @@ client_releases d c n number r r' s may at who waiting put i =
     }
 
 pub tracks_releases : (d : Effects) (rows : List ClientRow) (c i : ℕ) (n : Node) (number : ℕ) (r r' : ClientRow)
-    → Sound d
-    → MayFollow d (Releases c n) → node_at d c number ≡ Some n → IsClientPlace rows c i → r ≡ get_or rows i r
+    → Sound d → MayFollow d (Releases c n) → node_at d c number ≡ Some n → IsClientPlace rows c i → r ≡ get_or rows i r
     → r'.client ≡ r.client → r'.who ≡ r.who → r'.waiting.items ≡ r.waiting.items
     → IsPut r.held.items r'.held.items number (released_slot (slot r.held.items number)) → TracksClients d rows
     → TracksClients (Releases c n ∷ d) (set rows i r')

@@ -14,6 +14,7 @@ use Rattle.sm_history.proofs.Living.{any_reversed}
 use Rattle.sm_history.proofs.Lists.{filter_but}
 use Rattle.std.proofs.lemmas.Bool.{or_from, or_parts}
 use Rattle.sm_history.specs.Sound.{names}
+use Rattle.sm_history.proofs.Balanced.{number_same}
 
 -- ---- a Connect
 
@@ -52,14 +53,11 @@ live_new d n who new = let e : (n == n) ≡ true = grind (arith, nat_tests) in r
 pub was_not_live : (d : Effects) (n : ℕ) → IsNew d n → is_live d n ≡ false
 was_not_live d n new = rw (not_connected d n new) refl
 
-number_is : (n c : ℕ) → (n == c) ≡ true → n ≡ c
-number_is n c e = grind (arith, nat_tests)
-
 pub live_connects : (d : Effects) (n : ℕ) (who : Identity) (c : ℕ) → IsNew d n
     → is_live (Connects n who ∷ d) c ≡ (if n == c then true else is_live d c)
 live_connects d n who c new =
     elim (n == c) as (λ b. (n == c) ≡ b → is_live (Connects n who ∷ d) c ≡ (if b then true else is_live d c)) [
-      | true ↦ λ e. subst (λ v. is_live (Connects n who ∷ d) v ≡ true) (number_is n c e) (live_new d n who new)
+      | true ↦ λ e. subst (λ v. is_live (Connects n who ∷ d) v ≡ true) (number_same n c e) (live_new d n who new)
       | false ↦ λ e. live_other d n who c e
     ] refl
 

@@ -2,14 +2,12 @@
 use Rattle.std.proofs.Common.{◌≡◌, ℕ, Bool, true, false, ◌==◌, List, ◌∷◌, refl, ap, sym, ◌∙◌, Option, Some, None}
 use Rattle.std.proofs.Common.{subst, if◌then◌else◌}
 use Rattle.std.specs.Prelude.{not, filter, bytes_eq}
-use Rattle.sm_history.specs.declared.service.Service.{Service}
-use Rattle.sm_history.specs.Effects.{Effects, Adds, Dies, Removes}
-use Rattle.sm_history.specs.Clients.{is_live}
+use Rattle.sm_history.specs.Effects.{Effects, Dies}
 use Rattle.sm_history.specs.Services.{service_at}
 use Rattle.sm_history.specs.Rows.{NamedRow}
-use Rattle.sm_history.specs.Tables.{row_in, service_of, IsNameChanged, TracksNames}
-use Rattle.sm_history.proofs.Rising.{same_bytes, own_bytes}
-use Rattle.sm_history.proofs.AfterNames.{service_adds, service_removes, service_dies, unless_owned}
+use Rattle.sm_history.specs.Tables.{row_in, service_of, TracksNames}
+use Rattle.sm_history.proofs.Rising.{same_bytes}
+use Rattle.sm_history.proofs.AfterNames.{service_dies, unless_owned}
 use Rattle.sm_history.proofs.NamedRows.{keep, row_kept, rising_kept}
 
 -- Where each name has the same service, the rows stay.
@@ -22,36 +20,6 @@ by_name : (P : List ℕ → Type 0) (name : List ℕ) → P name → ((q : List 
     → (q : List ℕ) → P q
 by_name P name own other q = elim (bytes_eq name q) as (λ b. bytes_eq name q ≡ b → P q)
     [ true ↦ λ e. subst P (same_bytes name q e) own | false ↦ λ e. other q e ] refl
-
-pub names_added : (d : Effects) (rows rows' : List NamedRow) (name : List ℕ) (r : NamedRow) (s : Service)
-    → IsNameChanged rows rows' name (Some r) → r.service ≡ s → is_live d s.node.owner.0 ≡ true → TracksNames d rows
-    → TracksNames (Adds name s ∷ d) rows'
-names_added d rows rows' name r s ch is live tr = record {
-  services = by_name (λ q. service_of (row_in rows' q) ≡ service_at (Adds name s ∷ d) q) name
-      (ap service_of ch.own ∙ ap (λ (v : Service). Some v) is
-      ∙ sym (service_adds d name s name ∙ rw (own_bytes name, live) refl))
-      (λ q f. ap service_of (ch.other q f) ∙ tr.services q ∙ sym (service_adds d name s q ∙ rw f refl));
-  rises = ch.rises;
-}
-
-pub names_removed : (d : Effects) (rows rows' : List NamedRow) (name : List ℕ)
-    → IsNameChanged rows rows' name None → TracksNames d rows → TracksNames (Removes name ∷ d) rows'
-names_removed d rows rows' name ch tr = record {
-  services = by_name (λ q. service_of (row_in rows' q) ≡ service_at (Removes name ∷ d) q) name
-      (ap service_of ch.own ∙ sym (service_removes d name name ∙ rw (own_bytes name) refl))
-      (λ q f. ap service_of (ch.other q f) ∙ tr.services q ∙ sym (service_removes d name q ∙ rw f refl));
-  rises = ch.rises;
-}
-
--- A name that has none.
-pub none_removed : (d : Effects) (rows : List NamedRow) (name : List ℕ) → row_in rows name ≡ None → TracksNames d rows
-    → TracksNames (Removes name ∷ d) rows
-none_removed d rows name none tr = record {
-  services = by_name (λ q. service_of (row_in rows q) ≡ service_at (Removes name ∷ d) q) name
-      (ap service_of none ∙ sym (service_removes d name name ∙ rw (own_bytes name) refl))
-      (λ q f. tr.services q ∙ sym (service_removes d name q ∙ rw f refl));
-  rises = tr.rises;
-}
 
 abbrev not_owned : ℕ → NamedRow → Bool
 not_owned c r = not (c == r.service.node.owner.0)

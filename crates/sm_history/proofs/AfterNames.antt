@@ -11,16 +11,13 @@ use Rattle.sm_history.specs.Services.{service_at, last_said, if_owner_lives, sai
 use Rattle.sm_history.proofs.AfterClients.{live_other, live_dies}
 use Rattle.sm_history.specs.Sound.{IsOwned}
 
-apart : (o n : ℕ) → o < n → (n == o) ≡ false
-apart o n lt = grind (arith, nat_tests)
-
 said_lives : (d : Effects) (n : ℕ) (who : Identity) (name : List ℕ) (o : Option Service) → n ≡ next_client d
     → IsOwned d → last_said d name ≡ o → if_owner_lives (Connects n who ∷ d) o ≡ if_owner_lives d o
 said_lives d n who name None is owned e = refl
 said_lives d n who name (Some s) is owned e =
     let lt : s.node.owner.0 < n = rw is (owned name s e) in
     ap (λ (b : Bool). let r : Option Service = if b then Some s else None in r)
-    (live_other d n who s.node.owner.0 (apart s.node.owner.0 n lt))
+    (live_other d n who s.node.owner.0 (grind (arith, nat_tests)))
 
 pub service_connects : (d : Effects) (n : ℕ) (who : Identity) (name : List ℕ) → n ≡ next_client d → IsOwned d
     → service_at (Connects n who ∷ d) name ≡ service_at d name

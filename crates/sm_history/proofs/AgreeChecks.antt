@@ -1,87 +1,55 @@
 -- Where tables agree, so do the checks of an event of a live client, as far as the first that fails.
-use Rattle.std.proofs.Common.{◌≡◌, ℕ, ◌+◌, Bool, true, false, ◌||◌, ◌&&◌, ◌==◌, List, [], ◌∷◌, ◌++◌, refl, ap, sym}
-use Rattle.std.proofs.Common.{◌∙◌, length, Option, Some, None}
-use Rattle.std.specs.Prelude.{nat_lt, nat_le, not, is_some}
+use Rattle.std.proofs.Common.{◌≡◌, ℕ, Bool, true, false, ◌&&◌, ◌==◌, List, [], ◌∷◌, ◌++◌, refl, ap, sym, ◌∙◌}
+use Rattle.std.proofs.Common.{Option, Some, None}
+use Rattle.std.specs.Prelude.{not, is_some}
 use Rattle.std.specs.List.{list_any}
 use Rattle.std.proofs.lemmas.Bool.{true≢false}
 use Rattle.sm_kinds.specs.declared.number.Node.{Node}
 use Rattle.sm_kinds.specs.declared.number.ObjRef.{ObjRef}
 use Rattle.sm_kinds.specs.declared.number.ObjRef.TheVariants.{Own as OwnRef, Handle as HandleRef, Null as NullRef}
-use Rattle.sm_kinds.specs.declared.identity.Identity.{Identity}
-use Rattle.sm_kinds.specs.Users.{is_barred, is_isolated_user}
 use Rattle.sm_policy.specs.Policy.{Policy}
 use Rattle.sm_history.specs.declared.failed_check.EarlyAnswer.{EarlyAnswer}
 use Rattle.sm_history.specs.declared.event.Event.{Event}
 use Rattle.sm_history.specs.declared.event.Event.TheVariants.{Open, Connect, Add, Get, Watch as WatchName, Unwatch}
 use Rattle.sm_history.specs.declared.event.Event.TheVariants.{Unregister, Call, Release, Take, Die, Reload}
-use Rattle.sm_history.specs.declared.denial.Denial.TheVariants.{App, Isolated}
-use Rattle.sm_history.specs.declared.refusal.Refusal.TheVariants.{Exception, Failed, Dead, Empty, TooManyClients}
-use Rattle.sm_history.specs.declared.refusal.Refusal.TheVariants.{VersionMoved}
+use Rattle.sm_history.specs.declared.refusal.Refusal.TheVariants.{Failed, Dead}
 use Rattle.sm_history.specs.declared.refusal.Failure.TheVariants.{BadHandle, TargetFull}
-use Rattle.sm_history.specs.declared.refusal.Exception.TheVariants.{NotAdder, DeadOwner, TableFull}
-use Rattle.sm_history.specs.declared.refusal.Exception.TheVariants.{NothingToUnregister, NotRegistered, OtherObject}
-use Rattle.sm_history.specs.declared.refusal.Exception.TheVariants.{InUse}
-use Rattle.sm_history.specs.declared.failed_check.EarlyAnswer.TheVariants.{GotNull, Refused}
-use Rattle.sm_history.specs.declared.delivery.Delivery.{Delivery}
-use Rattle.sm_history.specs.Effects.{Effects, Service, Watch, same_node}
+use Rattle.sm_history.specs.declared.failed_check.EarlyAnswer.TheVariants.{Refused}
+use Rattle.sm_history.specs.Effects.{Effects, Service}
 use Rattle.sm_history.specs.Clients.{is_live, live_clients}
 use Rattle.sm_history.specs.Holdings.{is_held, node_at, resolve_at, handed, fits_handles, is_in_use}
-use Rattle.sm_history.specs.Services.{service_at, has_name_room, same_watch}
+use Rattle.sm_history.specs.Services.{service_at, has_name_room}
 use Rattle.sm_history.specs.Inboxes.{has_inbox_room}
-use Rattle.sm_history.specs.Checks.{Check, Spares, Wants, first_failing, to_client, adding, finding, calling}
-use Rattle.sm_history.specs.Checks.{transferring}
-use Rattle.sm_history.specs.Histories.{found, handed_refs, watch}
-use Rattle.sm_history.specs.Verdict.{event_checks, not_barred, not_isolated, passes_to_manager, passes_to_client}
-use Rattle.sm_history.specs.Verdict.{all_pass_to_client, owner_lives, service_meets, naming_checks, add_checks}
-use Rattle.sm_history.specs.Verdict.{handing_checks, get_checks, watch_checks, unwatch_checks, unregister_checks}
-use Rattle.sm_history.specs.Verdict.{object_checks, call_checks}
+use Rattle.sm_history.specs.Checks.{Check, Wants, first_failing, to_client, calling}
+use Rattle.sm_history.specs.Histories.{found, handed_refs}
+use Rattle.sm_history.specs.Verdict.{event_checks, passes_to_manager, passes_to_client, all_pass_to_client, owner_lives}
+use Rattle.sm_history.specs.Verdict.{naming_checks, add_checks, handing_checks, get_checks, watch_checks}
+use Rattle.sm_history.specs.Verdict.{unwatch_checks, unregister_checks, object_checks, call_checks}
 use Rattle.sm_history.proofs.Rising.{names_alike}
 pub use Rattle.sm_history.specs.Entering.{Acts}
 use Rattle.sm_history.proofs.AgreeEffects.{Sim, sim_held, sim_nodes}
-use Rattle.sm_history.proofs.AgreeNotices.{both, wants_alike, cons_alike, to_manager_alike, from_manager_alike}
-use Rattle.sm_history.proofs.AgreeNotices.{to_client_alike, to_label_alike, sim_handed, fits_alike, room_alike}
-use Rattle.sm_history.proofs.AgreeNotices.{resolve_alike, sim_refs}
-use Rattle.sm_history.specs.declared.limits.TheConstants.{MOST_NAMES, MOST_WATCHES, MOST_CLIENTS, LAST_CLIENT}
-
-append_alike : {xs ys us vs : List Check} → xs ≡ ys → us ≡ vs → xs ++ us ≡ ys ++ vs
-append_alike {xs} {ys} {us} {vs} p q = both (λ (a b : List Check). a ++ b) p q
+use Rattle.sm_history.proofs.AgreeNotices.{sim_handed, fits_alike, room_alike, resolve_alike, sim_refs}
 
 -- ---- parts
-
-pub not_barred_alike : (d e : Effects) (c : ℕ) (name : List ℕ) → Sim d e → is_live d c ≡ true
-    → not_barred d c name ≡ not_barred e c name
-not_barred_alike d e c name s live = ap (λ (who : Identity). Spares (not (is_barred who.uid)) (App who.uid) who name)
-    (s.agree.who c live)
-
-pub not_isolated_alike : (d e : Effects) (c : ℕ) (name : List ℕ) {a b : Bool} → Sim d e → is_live d c ≡ true → a ≡ b
-    → not_isolated d c name a ≡ not_isolated e c name b
-not_isolated_alike d e c name s live m =
-    both (λ (who : Identity) (t : Bool). Spares (not (is_isolated_user who.uid && t)) (Isolated who.uid) who name)
-    (s.agree.who c live) m
 
 passes_manager_alike : (d e : Effects) (c : ℕ) (r : ObjRef) → Sim d e → is_live d c ≡ true
     → passes_to_manager d c r ≡ passes_to_manager e c r
 passes_manager_alike d e c NullRef s live = refl
-passes_manager_alike d e c (OwnRef o) s live = cons_alike refl
-    (cons_alike (to_manager_alike d e c transferring s live) refl)
-passes_manager_alike d e c (HandleRef r) s live =
-    cons_alike (wants_alike (Refused (Failed BadHandle)) (ap (λ (o : Option Node). is_some o) (sim_nodes d e c r s)))
-    (cons_alike (to_manager_alike d e c transferring s live) refl)
+passes_manager_alike d e c (OwnRef o) s live = rw (s.agree.who c live, s.agree.manager) refl
+passes_manager_alike d e c (HandleRef r) s live = rw (sim_nodes d e c r s, s.agree.who c live, s.agree.manager) refl
 
 passes_client_alike : (d e : Effects) (c k : ℕ) (r : ObjRef) → Sim d e → is_live d c ≡ true → is_live d k ≡ true
     → passes_to_client d c k r ≡ passes_to_client e c k r
 passes_client_alike d e c k NullRef s live there = refl
-passes_client_alike d e c k (OwnRef o) s live there =
-    cons_alike refl (cons_alike (to_client_alike d e c k transferring s live there) refl)
+passes_client_alike d e c k (OwnRef o) s live there = rw (s.agree.who c live, s.agree.who k there) refl
 passes_client_alike d e c k (HandleRef r) s live there =
-    cons_alike (wants_alike (Refused (Failed BadHandle)) (ap (λ (o : Option Node). is_some o) (sim_nodes d e c r s)))
-    (cons_alike (to_client_alike d e c k transferring s live there) refl)
+    rw (sim_nodes d e c r s, s.agree.who c live, s.agree.who k there) refl
 
 all_pass_alike : (d e : Effects) (c k : ℕ) (rs : List ObjRef) → Sim d e → is_live d c ≡ true → is_live d k ≡ true
     → all_pass_to_client d c k rs ≡ all_pass_to_client e c k rs
 all_pass_alike d e c k [] s live there = refl
-all_pass_alike d e c k (r ∷ rs) s live there = append_alike (passes_client_alike d e c k r s live there)
-    (all_pass_alike d e c k rs s live there)
+all_pass_alike d e c k (r ∷ rs) s live there =
+    rw (passes_client_alike d e c k r s live there, all_pass_alike d e c k rs s live there) refl
 
 owner_alike : (d e : Effects) (c : ℕ) (r : ObjRef) → Sim d e
     → owner_lives d (found (resolve_at d c r)) ≡ owner_lives e (found (resolve_at e c r))
@@ -89,13 +57,11 @@ owner_alike d e c r s = ap (λ (o : Option Node). owner_lives d (found o)) (reso
     s.agree.lives (found (resolve_at e c r)).owner.0
 
 name_room_alike : (d e : Effects) (name : List ℕ) → Sim d e → has_name_room d name ≡ has_name_room e name
-name_room_alike d e name s =
-    both (λ (o : Option Service) (ns : List (List ℕ)). is_some o || nat_lt (length ns) MOST_NAMES)
-    (s.agree.services name) (names_alike d e s.agree.services)
+name_room_alike d e name s = rw (s.agree.services name, names_alike d e s.agree.services) refl
 
 any_alike : (p q : ℕ → Bool) (xs : List ℕ) → ((k : ℕ) → p k ≡ q k) → list_any p xs ≡ list_any q xs
 any_alike p q [] same = refl
-any_alike p q (x ∷ xs) same = both (λ a b. a || b) (same x) (any_alike p q xs same)
+any_alike p q (x ∷ xs) same = rw (same x, any_alike p q xs same) refl
 
 in_use_alike : (d e : Effects) (c : ℕ) (n : Node) → Sim d e → is_in_use d c n ≡ is_in_use e c n
 in_use_alike d e c n s =
@@ -108,72 +74,37 @@ in_use_alike d e c n s =
 naming_alike : (d e : Effects) (c : ℕ) (name : List ℕ) (obj : ObjRef) → Sim d e → is_live d c ≡ true
     → naming_checks d c name obj ≡ naming_checks e c name obj
 naming_alike d e c name obj s live =
-    cons_alike (not_barred_alike d e c name s live)
-    (cons_alike (to_label_alike d e c name adding s live)
-    (cons_alike refl
-    (cons_alike refl
-    (cons_alike (wants_alike (Refused (Exception DeadOwner)) (owner_alike d e c obj s))
-    (cons_alike (wants_alike (Refused (Exception TableFull)) (name_room_alike d e name s)) refl)))))
+    rw (owner_alike d e c obj s, name_room_alike d e name s, s.agree.who c live, s.agree.policy) refl
 
 add_alike : (d e : Effects) (c : ℕ) (name : List ℕ) (obj : ObjRef) → Sim d e → is_live d c ≡ true
     → add_checks d c name obj ≡ add_checks e c name obj
-add_alike d e c name obj s live = cons_alike (to_manager_alike d e c calling s live)
-    (append_alike (passes_manager_alike d e c obj s live) (naming_alike d e c name obj s live))
+add_alike d e c name obj s live = rw (passes_manager_alike d e c obj s live, naming_alike d e c name obj s live)
+    (rw (s.agree.who c live, s.agree.manager) refl)
 
 handing_alike : (d e : Effects) (c : ℕ) (o : Option Service) → Sim d e → is_live d c ≡ true
     → handing_checks d c o ≡ handing_checks e c o
 handing_alike d e c None s live = refl
-handing_alike d e c (Some t) s live = cons_alike refl
-    (cons_alike (wants_alike (Refused (Failed TargetFull))
-    (fits_alike (handed d c t.node) (handed e c t.node) c (sim_handed d e c t.node live s))) refl)
+handing_alike d e c (Some t) s live =
+    rw (fits_alike (handed d c t.node) (handed e c t.node) c (sim_handed d e c t.node live s)) refl
 
 get_alike : (d e : Effects) (c : ℕ) (name : List ℕ) → Sim d e → is_live d c ≡ true
     → get_checks d c name ≡ get_checks e c name
-get_alike d e c name s live =
-    let o = s.agree.services name in
-    cons_alike (to_manager_alike d e c calling s live)
-    (cons_alike (not_isolated_alike d e c name s live (ap (service_meets (λ t. not t.allow_isolated)) o))
-    (cons_alike (to_label_alike d e c name finding s live)
-    (cons_alike (wants_alike GotNull (ap (λ (v : Option Service). is_some v) o))
-    (cons_alike (from_manager_alike d e c transferring s live)
-    (ap (handing_checks d c) o ∙ handing_alike d e c (service_at e name) s live)))))
+get_alike d e c name s live = rw (s.agree.services name, handing_alike d e c (service_at e name) s live)
+    (rw (s.agree.who c live, s.agree.manager, s.agree.policy) refl)
 
 watch_alike : (d e : Effects) (c : ℕ) (name : List ℕ) → Sim d e → is_live d c ≡ true
     → watch_checks d c name ≡ watch_checks e c name
-watch_alike d e c name s live =
-    cons_alike (to_manager_alike d e c calling s live)
-    (cons_alike (to_manager_alike d e c transferring s live)
-    (cons_alike (to_label_alike d e c name finding s live)
-    (cons_alike (not_isolated_alike d e c name s live refl)
-    (cons_alike refl
-    (cons_alike (wants_alike (Refused (Exception TableFull))
-    (ap (λ (ws : List Watch). nat_lt (length ws) MOST_WATCHES) s.agree.watches)) refl)))))
+watch_alike d e c name s live = rw (s.agree.who c live, s.agree.manager, s.agree.policy, s.agree.watches) refl
 
 unwatch_alike : (d e : Effects) (c : ℕ) (name : List ℕ) (object : ℕ) → Sim d e → is_live d c ≡ true
     → unwatch_checks d c name object ≡ unwatch_checks e c name object
-unwatch_alike d e c name object s live =
-    cons_alike (to_manager_alike d e c calling s live)
-    (cons_alike (to_manager_alike d e c transferring s live)
-    (cons_alike (to_label_alike d e c name finding s live)
-    (cons_alike (wants_alike (Refused (Exception NothingToUnregister))
-    (ap (list_any (same_watch (watch c name object))) s.agree.watches)) refl)))
+unwatch_alike d e c name object s live = rw (s.agree.who c live, s.agree.manager, s.agree.policy, s.agree.watches) refl
 
 unregister_alike : (d e : Effects) (c : ℕ) (name : List ℕ) (obj : ObjRef) → Sim d e → is_live d c ≡ true
     → unregister_checks d c name obj ≡ unregister_checks e c name obj
 unregister_alike d e c name obj s live =
-    let o = s.agree.services name in
-    let r = resolve_alike d e c obj s in
-    cons_alike (to_manager_alike d e c calling s live)
-    (append_alike (passes_manager_alike d e c obj s live)
-    (cons_alike refl
-    (cons_alike (to_label_alike d e c name adding s live)
-    (cons_alike (wants_alike (Refused (Exception NotRegistered)) (ap (λ (v : Option Service). is_some v) o))
-    (cons_alike (wants_alike (Refused (Exception NotAdder)) (ap (service_meets (λ t. t.adder == c)) o))
-    (cons_alike (wants_alike (Refused (Exception OtherObject))
-    (both (λ (n : Option Node) (v : Option Service). service_meets (λ t. same_node t.node (found n)) v) r o))
-    (cons_alike (wants_alike (Refused (Exception InUse))
-    (ap not (ap (λ (n : Option Node). is_in_use d c (found n)) r ∙
-    in_use_alike d e c (found (resolve_at e c obj)) s))) refl)))))))
+    rw (passes_manager_alike d e c obj s live, s.agree.services name, resolve_alike d e c obj s)
+    (rw (in_use_alike d e c (found (resolve_at e c obj)) s, s.agree.who c live, s.agree.manager, s.agree.policy) refl)
 
 -- ---- the first that fails
 
@@ -198,12 +129,14 @@ served_checks d c refs n =
 served_alike : (d e : Effects) (c : ℕ) (refs : List ObjRef) (n : Node) → Sim d e → is_live d c ≡ true
     → is_live d n.owner.0 ≡ true → served_checks d c refs n ≡ served_checks e c refs n
 served_alike d e c refs n s live there =
-    cons_alike (to_client_alike d e c n.owner.0 calling s live there)
-    (append_alike (all_pass_alike d e c n.owner.0 refs s live there)
-    (cons_alike (wants_alike (Refused (Failed TargetFull))
-    (both (λ a b. a && b) (room_alike d e n.owner.0 s)
-    (fits_alike (handed_refs d c n.owner.0 refs) (handed_refs e c n.owner.0 refs) n.owner.0
-    (sim_refs d e c n.owner.0 refs there s)))) refl))
+    let k = n.owner.0 in
+    let fits = fits_alike (handed_refs d c k refs) (handed_refs e c k refs) k (sim_refs d e c k refs there s) in
+    rw (all_pass_alike d e c k refs s live there, room_alike d e k s, fits)
+    (rw (s.agree.who c live, s.agree.who k there) refl)
+
+rest_alike : (p : Policy) (rest : List Check) {xs ys : List Check} → xs ≡ ys
+    → first_failing p (xs ++ rest) ≡ first_failing p (ys ++ rest)
+rest_alike p rest same = ap (λ zs. first_failing p (zs ++ rest)) same
 
 object_alike : (d e : Effects) (c : ℕ) (refs : List ObjRef) (n : Node) (p : Policy) (rest : List Check) → Sim d e
     → is_live d c ≡ true
@@ -211,7 +144,7 @@ object_alike : (d e : Effects) (c : ℕ) (refs : List ObjRef) (n : Node) (p : Po
 object_alike d e c refs n p rest s live =
     behind_alike p (Refused Dead) (owner_lives d n) (owner_lives e n) (served_checks d c refs n ++ rest)
     (served_checks e c refs n ++ rest) (s.agree.lives n.owner.0)
-    (λ there. ap (λ xs. first_failing p (xs ++ rest)) (served_alike d e c refs n s live there))
+    (λ there. rest_alike p rest (served_alike d e c refs n s live there))
 
 call_alike : (d e : Effects) (c handle : ℕ) (refs : List ObjRef) (p : Policy) (rest : List Check) → Sim d e
     → is_live d c ≡ true
@@ -227,26 +160,14 @@ call_alike d e c handle refs p rest s live =
 pub checks_alike : (d e : Effects) (c : ℕ) (event : Event) (p : Policy) (rest : List Check) → Sim d e → Acts d c event
     → first_failing p (event_checks d c event ++ rest) ≡ first_failing p (event_checks e c event ++ rest)
 checks_alike d e c (Open who policy) p rest s acts = refl
-checks_alike d e c (Connect who) p rest s acts =
-    ap (λ b. first_failing p (Wants b (Refused TooManyClients) ∷ rest))
-    (both (λ (ks : List ℕ) (n : ℕ). nat_lt (length ks) MOST_CLIENTS && nat_le (n + 1) LAST_CLIENT)
-    s.agree.live_list s.agree.clients)
-checks_alike d e c (Add name obj allow dump) p rest s acts =
-    ap (λ xs. first_failing p (xs ++ rest)) (add_alike d e c name obj s acts)
-checks_alike d e c (Get name) p rest s acts = ap (λ xs. first_failing p (xs ++ rest)) (get_alike d e c name s acts)
-checks_alike d e c (WatchName name object) p rest s acts =
-    ap (λ xs. first_failing p (xs ++ rest)) (watch_alike d e c name s acts)
-checks_alike d e c (Unwatch name object) p rest s acts =
-    ap (λ xs. first_failing p (xs ++ rest)) (unwatch_alike d e c name object s acts)
-checks_alike d e c (Unregister name obj) p rest s acts =
-    ap (λ xs. first_failing p (xs ++ rest)) (unregister_alike d e c name obj s acts)
+checks_alike d e c (Connect who) p rest s acts = rw (s.agree.live_list, s.agree.clients) refl
+checks_alike d e c (Add name obj allow dump) p rest s acts = rest_alike p rest (add_alike d e c name obj s acts)
+checks_alike d e c (Get name) p rest s acts = rest_alike p rest (get_alike d e c name s acts)
+checks_alike d e c (WatchName name object) p rest s acts = rest_alike p rest (watch_alike d e c name s acts)
+checks_alike d e c (Unwatch name object) p rest s acts = rest_alike p rest (unwatch_alike d e c name object s acts)
+checks_alike d e c (Unregister name obj) p rest s acts = rest_alike p rest (unregister_alike d e c name obj s acts)
 checks_alike d e c (Call handle payload refs) p rest s acts = call_alike d e c handle refs p rest s acts
-checks_alike d e c (Release handle) p rest s acts =
-    ap (λ (o : Option Node). first_failing p (Wants (is_some o) (Refused (Failed BadHandle)) ∷ rest))
-    (sim_nodes d e c handle s)
-checks_alike d e c Take p rest s acts =
-    ap (λ (xs : List Delivery). first_failing p (Wants (nat_lt 0 (length xs)) (Refused Empty) ∷ rest))
-    (s.agree.inboxes c)
+checks_alike d e c (Release handle) p rest s acts = rw (sim_nodes d e c handle s) refl
+checks_alike d e c Take p rest s acts = rw (s.agree.inboxes c) refl
 checks_alike d e c Die p rest s acts = refl
-checks_alike d e c (Reload expected policy) p rest s acts =
-    ap (λ (v : ℕ). first_failing p (Wants (v == expected) (Refused (VersionMoved v)) ∷ rest)) s.agree.version
+checks_alike d e c (Reload expected policy) p rest s acts = rw s.agree.version refl

@@ -1,17 +1,16 @@
 -- Tables that agree go on to agree, effect by effect.
-use Rattle.std.proofs.Common.{◌≡◌, ℕ, ◌+◌, ◌-◌, Bool, true, false, ◌&&◌, ◌==◌, List, [], ◌∷◌, ◌++◌, refl, ap, sym}
-use Rattle.std.proofs.Common.{◌∙◌, length, drop, Option, Some, None, if◌then◌else◌}
-use Rattle.std.specs.Prelude.{nat_lt, not, filter, bytes_eq, unwrap_or}
-use Rattle.std.proofs.lemmas.List.Elements.{filter_agree}
+use Rattle.std.proofs.Common.{◌≡◌, ℕ, ◌+◌, Bool, true, false, ◌&&◌, ◌==◌, List, [], ◌∷◌, ◌++◌, refl, ap, sym, ◌∙◌}
+use Rattle.std.proofs.Common.{length, Option, Some, None, if◌then◌else◌}
+use Rattle.std.specs.Prelude.{nat_lt, not, filter, unwrap_or}
 use Rattle.sm_kinds.specs.declared.number.Node.{Node}
 use Rattle.sm_kinds.specs.declared.identity.Identity.{Identity}
 use Rattle.sm_policy.specs.Policy.{Policy}
 use Rattle.sm_history.specs.declared.delivery.Delivery.{Delivery}
 use Rattle.sm_history.specs.Effects.{Effects, Service, Watch, Opens, Sets, Connects, Dies, Adds, Removes, Gives}
 use Rattle.sm_history.specs.Effects.{Releases, Watches, Unwatches, Delivers, Takes, same_node}
-use Rattle.sm_history.specs.Clients.{is_live, next_client, identity_at}
+use Rattle.sm_history.specs.Clients.{is_live, next_client, identity_at, manager_at, policy_at, version_at}
 use Rattle.sm_history.specs.Holdings.{refs_at, is_held, number_at, node_at, free_number}
-use Rattle.sm_history.specs.Services.{same_watch, service_at, watches_at}
+use Rattle.sm_history.specs.Services.{service_at, watches_at}
 use Rattle.sm_history.specs.Inboxes.{inbox_at}
 use Rattle.sm_history.specs.Agreeing.{Agree}
 use Rattle.sm_history.proofs.Grants.{held_gives}
@@ -39,39 +38,12 @@ held_alike d e c n a = ap (nat_lt 0) (a.refs c n)
 -- ---- policies and the manager
 
 agree_opens : (d e : Effects) (who : Identity) → Agree d e → Agree (Opens who ∷ d) (Opens who ∷ e)
-agree_opens d e who a = record {
-  policy = a.policy;
-  version = a.version;
-  manager = refl;
-  clients = a.clients;
-  lives =
-      a.lives;
-  live_list = a.live_list;
-  who = a.who;
-  refs = a.refs;
-  numbers = a.numbers;
-  services = a.services;
-  watches = a.watches;
-  inboxes = a.inboxes;
-}
+agree_opens d e who a = let manager : manager_at (Opens who ∷ d) ≡ manager_at (Opens who ∷ e) = refl in assumption
 
 agree_sets : (d e : Effects) (p : Policy) → Agree d e → Agree (Sets p ∷ d) (Sets p ∷ e)
-agree_sets d e p a = record {
-  policy = refl;
-  version = ap (λ v. v + 1) a.version;
-  manager = a.manager;
-  clients =
-      a.clients;
-  lives = a.lives;
-  live_list = a.live_list;
-  who = a.who;
-  refs = a.refs;
-  numbers = a.numbers;
-  services =
-      a.services;
-  watches = a.watches;
-  inboxes = a.inboxes;
-}
+agree_sets d e p a =
+    let policy : policy_at (Sets p ∷ d) ≡ policy_at (Sets p ∷ e) = refl in
+    let version : version_at (Sets p ∷ d) ≡ version_at (Sets p ∷ e) = ap (λ v. v + 1) a.version in assumption
 
 -- ---- clients
 
@@ -91,8 +63,7 @@ agree_connects d e n who is is' s t a =
       version = a.version;
       manager = a.manager;
       clients = ap (λ v. v + 1) a.clients;
-      lives = λ c. live_connects d n who c new ∙ ap (λ (l : Bool). let r : Bool = if n == c then true else l in r)
-          (a.lives c) ∙ sym (live_connects e n who c new');
+      lives = λ c. rw (live_connects d n who c new, live_connects e n who c new', a.lives c) refl;
       live_list = list_connects d n who new ∙ ap (λ xs. xs ++ n ∷ []) a.live_list ∙ sym (list_connects e n who new');
       who = λ c live. identity_case (n == c) who (identity_at d c) (identity_at e c)
           (λ f. a.who c (rw f at (sym (live_connects d n who c new) ∙ live)));
@@ -113,56 +84,24 @@ agree_dies d e c a = record {
   lives = λ k. live_dies d c k ∙ ap (λ l. l && not (c == k)) (a.lives k) ∙ sym (live_dies e c k);
   live_list = list_dies d c ∙ ap (filter (λ k. not (c == k))) a.live_list ∙ sym (list_dies e c);
   who = λ k live. a.who k (and_parts (is_live d k) (not (c == k)) (sym (live_dies d c k) ∙ live)).0;
-  refs = λ k n. refs_dies d c k n ∙ ap (λ (r : ℕ). let v : ℕ = if c == k then 0 else r in v) (a.refs k n) ∙
-      sym (refs_dies e c k n);
+  refs = λ k n. rw (refs_dies d c k n, refs_dies e c k n, a.refs k n) refl;
   numbers = λ k m held. a.numbers k m (held_dies d c k m held);
   services = λ name. service_dies d c name ∙ ap (unless_owned c) (a.services name) ∙ sym (service_dies e c name);
   watches = watches_dies d c ∙ ap (filter (λ (w : Watch). not (c == w.client))) a.watches ∙ sym (watches_dies e c);
-  inboxes = λ k. inbox_dies d c k ∙
-      ap (λ (xs : List Delivery). let v : List Delivery = if c == k then [] else xs in v) (a.inboxes k) ∙
-      sym (inbox_dies e c k);
+  inboxes = λ k. rw (inbox_dies d c k, inbox_dies e c k, a.inboxes k) refl;
 }
 
 -- ---- names
 
 agree_adds : (d e : Effects) (name : List ℕ) (s : Service) → Agree d e → Agree (Adds name s ∷ d) (Adds name s ∷ e)
-agree_adds d e name s a = record {
-  policy = a.policy;
-  version = a.version;
-  manager = a.manager;
-  clients = a.clients;
-  lives = a.lives;
-  live_list = a.live_list;
-  who = a.who;
-  refs = a.refs;
-  numbers = a.numbers;
-  services = λ x. service_adds d name s x
-      ∙ ap (λ (l : Bool). let o : Option Service = if bytes_eq name x then (if l then Some s else None)
-      else service_at d x in o) (a.lives s.node.owner.0)
-      ∙ ap (λ (v : Option Service). let o : Option Service =
-      if bytes_eq name x then (if is_live e s.node.owner.0 then Some s else None) else v in o) (a.services x)
-      ∙ sym (service_adds e name s x);
-  watches = a.watches;
-  inboxes = a.inboxes;
-}
+agree_adds d e name s a =
+    let services : (x : List ℕ) → service_at (Adds name s ∷ d) x ≡ service_at (Adds name s ∷ e) x =
+    λ x. rw (service_adds d name s x, service_adds e name s x, a.lives s.node.owner.0, a.services x) refl in assumption
 
 agree_removes : (d e : Effects) (name : List ℕ) → Agree d e → Agree (Removes name ∷ d) (Removes name ∷ e)
-agree_removes d e name a = record {
-  policy = a.policy;
-  version = a.version;
-  manager = a.manager;
-  clients = a.clients;
-  lives = a.lives;
-  live_list = a.live_list;
-  who = a.who;
-  refs = a.refs;
-  numbers = a.numbers;
-  services = λ x. service_removes d name x ∙
-      ap (λ (v : Option Service). let o : Option Service = if bytes_eq name x then None else v in o) (a.services x) ∙
-      sym (service_removes e name x);
-  watches = a.watches;
-  inboxes = a.inboxes;
-}
+agree_removes d e name a =
+    let services : (x : List ℕ) → service_at (Removes name ∷ d) x ≡ service_at (Removes name ∷ e) x =
+    λ x. rw (service_removes d name x, service_removes e name x, a.services x) refl in assumption
 
 -- ---- holdings
 
@@ -172,177 +111,78 @@ number_case false r x y same = same refl
 
 agree_gives : (d e : Effects) (c : ℕ) (n : Node) (r : ℕ) → Sound d → Sound e → Agree d e
     → Agree (Gives c n r ∷ d) (Gives c n r ∷ e)
-agree_gives d e c n r s t a = record {
-  policy = a.policy;
-  version = a.version;
-  manager = a.manager;
-  clients = a.clients;
-  lives = a.lives;
-  live_list = a.live_list;
-  who = a.who;
-  refs = λ k m. refs_gives d c n r k m s.balanced
-      ∙ ap (λ (l : Bool). let v : ℕ = if ((c == k) && same_node n m) && l then refs_at d k m + 1 else refs_at d k m in
-      v) (a.lives k)
-      ∙ ap (λ (x : ℕ). let v : ℕ = if ((c == k) && same_node n m) && is_live e k then x + 1 else x in v) (a.refs k m)
-      ∙ sym (refs_gives e c n r k m t.balanced);
-  numbers = λ k m held. number_gives d c n r k m
-      ∙ number_case ((c == k) && same_node n m) r (number_at d k m) (number_at e k m)
-      (λ f. a.numbers k m (rw f at (sym (held_gives d c n r k m s.balanced) ∙ held)))
-      ∙ sym (number_gives e c n r k m);
-  services = a.services;
-  watches = a.watches;
-  inboxes = a.inboxes;
-}
+agree_gives d e c n r s t a =
+    let refs : (k : ℕ) (m : Node) → refs_at (Gives c n r ∷ d) k m ≡ refs_at (Gives c n r ∷ e) k m =
+    λ k m. rw (refs_gives d c n r k m s.balanced, refs_gives e c n r k m t.balanced, a.refs k m, a.lives k) refl in
+    let numbers : (k : ℕ) (m : Node) → is_held (Gives c n r ∷ d) k m ≡ true → number_at (Gives c n r ∷ d) k m ≡
+    number_at (Gives c n r ∷ e) k m =
+    λ k m held. number_gives d c n r k m
+    ∙ number_case ((c == k) && same_node n m) r (number_at d k m) (number_at e k m)
+    (λ f. a.numbers k m (rw f at (sym (held_gives d c n r k m s.balanced) ∙ held)))
+    ∙ sym (number_gives e c n r k m) in assumption
 
 agree_releases : (d e : Effects) (c : ℕ) (n : Node) → Agree d e → Agree (Releases c n ∷ d) (Releases c n ∷ e)
-agree_releases d e c n a = record {
-  policy = a.policy;
-  version = a.version;
-  manager = a.manager;
-  clients = a.clients;
-  lives = a.lives;
-  live_list = a.live_list;
-  who = a.who;
-  refs = λ k m. refs_releases d c n k m ∙
-      ap (λ (x : ℕ). let v : ℕ = if (c == k) && same_node n m then x - 1 else x in v) (a.refs k m) ∙
-      sym (refs_releases e c n k m);
-  numbers = λ k m held. a.numbers k m (held_releases d c n k m held);
-  services = a.services;
-  watches = a.watches;
-  inboxes = a.inboxes;
-}
+agree_releases d e c n a =
+    let refs : (k : ℕ) (m : Node) → refs_at (Releases c n ∷ d) k m ≡ refs_at (Releases c n ∷ e) k m =
+    λ k m. rw (refs_releases d c n k m, refs_releases e c n k m, a.refs k m) refl in
+    let numbers : (k : ℕ) (m : Node) → is_held (Releases c n ∷ d) k m ≡ true → number_at (Releases c n ∷ d) k m ≡
+    number_at (Releases c n ∷ e) k m =
+    λ k m held. a.numbers k m (held_releases d c n k m held) in assumption
 
 -- ---- watches and inboxes
 
 agree_watches : (d e : Effects) (w : Watch) → Agree d e → Agree (Watches w ∷ d) (Watches w ∷ e)
-agree_watches d e w a = record {
-  policy = a.policy;
-  version = a.version;
-  manager = a.manager;
-  clients = a.clients;
-  lives = a.lives;
-  live_list = a.live_list;
-  who = a.who;
-  refs = a.refs;
-  numbers = a.numbers;
-  services = a.services;
-  watches = watches_watches d w
-      ∙ ap (λ ws. ws ++ filter (λ (v : Watch). is_live d v.client) (w ∷ [])) a.watches
-      ∙ ap (λ ws. watches_at e ++ ws)
-      (filter_agree (λ (v : Watch). is_live d v.client) (λ v. is_live e v.client) (λ v. a.lives v.client) (w ∷ []))
-      ∙ sym (watches_watches e w);
-  inboxes = a.inboxes;
-}
+agree_watches d e w a =
+    let watches : watches_at (Watches w ∷ d) ≡ watches_at (Watches w ∷ e) =
+    rw (watches_watches d w, watches_watches e w, a.watches, a.lives w.client) refl in assumption
 
 agree_unwatches : (d e : Effects) (w : Watch) → Agree d e → Agree (Unwatches w ∷ d) (Unwatches w ∷ e)
-agree_unwatches d e w a = record {
-  policy = a.policy;
-  version = a.version;
-  manager = a.manager;
-  clients = a.clients;
-  lives = a.lives;
-  live_list = a.live_list;
-  who = a.who;
-  refs = a.refs;
-  numbers = a.numbers;
-  services = a.services;
-  watches = watches_unwatches d w ∙ ap (filter (λ v. not (same_watch w v))) a.watches ∙ sym (watches_unwatches e w);
-  inboxes = a.inboxes;
-}
+agree_unwatches d e w a =
+    let watches : watches_at (Unwatches w ∷ d) ≡ watches_at (Unwatches w ∷ e) =
+    rw (watches_unwatches d w, watches_unwatches e w, a.watches) refl in assumption
 
 agree_delivers : (d e : Effects) (c : ℕ) (x : Delivery) → Sound d → Sound e → Agree d e
     → Agree (Delivers c x ∷ d) (Delivers c x ∷ e)
-agree_delivers d e c x s t a = record {
-  policy = a.policy;
-  version = a.version;
-  manager = a.manager;
-  clients = a.clients;
-  lives = a.lives;
-  live_list = a.live_list;
-  who = a.who;
-  refs = a.refs;
-  numbers = a.numbers;
-  services = a.services;
-  watches = a.watches;
-  inboxes = λ k. inbox_delivers d c x k s.taken
-      ∙ ap (λ (l : Bool). let v : List Delivery = if (c == k) && l then inbox_at d k ++ x ∷ [] else inbox_at d k in v)
-      (a.lives k)
-      ∙ ap (λ (xs : List Delivery). let v : List Delivery = if (c == k) && is_live e k then xs ++ x ∷ [] else xs in v)
-      (a.inboxes k)
-      ∙ sym (inbox_delivers e c x k t.taken);
-}
+agree_delivers d e c x s t a =
+    let inboxes : (k : ℕ) → inbox_at (Delivers c x ∷ d) k ≡ inbox_at (Delivers c x ∷ e) k =
+    λ k. rw (inbox_delivers d c x k s.taken, inbox_delivers e c x k t.taken, a.inboxes k, a.lives k) refl in assumption
 
 agree_takes : (d e : Effects) (c : ℕ) → Agree d e → Agree (Takes c ∷ d) (Takes c ∷ e)
-agree_takes d e c a = record {
-  policy = a.policy;
-  version = a.version;
-  manager = a.manager;
-  clients = a.clients;
-  lives = a.lives;
-  live_list = a.live_list;
-  who = a.who;
-  refs = a.refs;
-  numbers = a.numbers;
-  services = a.services;
-  watches = a.watches;
-  inboxes = λ k. inbox_takes d c k ∙
-      ap (λ (xs : List Delivery). let v : List Delivery = if c == k then drop 1 xs else xs in v) (a.inboxes k) ∙
-      sym (inbox_takes e c k);
-}
+agree_takes d e c a =
+    let inboxes : (k : ℕ) → inbox_at (Takes c ∷ d) k ≡ inbox_at (Takes c ∷ e) k =
+    λ k. rw (inbox_takes d c k, inbox_takes e c k, a.inboxes k) refl in assumption
 
 -- ---- both at once
 
+sim : {d e : Effects} → Agree d e → Sound d → Sound e → Sim d e
+sim a l r = record { agree = a; left = l; right = r }
+
 pub sim_opens : (d e : Effects) (who : Identity) → Sim d e → Sim (Opens who ∷ d) (Opens who ∷ e)
-sim_opens d e who s = record {
-  agree = agree_opens d e who s.agree;
-  left = sound_opens d who s.left;
-  right =
-      sound_opens e who s.right;
-}
+sim_opens d e who s = sim (agree_opens d e who s.agree) (sound_opens d who s.left) (sound_opens e who s.right)
 
 pub sim_sets : (d e : Effects) (p : Policy) → Sim d e → Sim (Sets p ∷ d) (Sets p ∷ e)
-sim_sets d e p s = record {
-  agree = agree_sets d e p s.agree;
-  left = sound_sets d p s.left;
-  right =
-      sound_sets e p s.right;
-}
+sim_sets d e p s = sim (agree_sets d e p s.agree) (sound_sets d p s.left) (sound_sets e p s.right)
 
 pub sim_connects : (d e : Effects) (n : ℕ) (who : Identity) → n ≡ next_client d → Sim d e
     → Sim (Connects n who ∷ d) (Connects n who ∷ e)
 sim_connects d e n who is s =
     let is' : n ≡ next_client e = is ∙ ap (λ v. v + 1) s.agree.clients in
-    record {
-      agree = agree_connects d e n who is is' s.left s.right s.agree;
-      left = sound_connects d n who is s.left;
-      right = sound_connects e n who is' s.right;
-    }
+    sim (agree_connects d e n who is is' s.left s.right s.agree) (sound_connects d n who is s.left)
+    (sound_connects e n who is' s.right)
 
 pub sim_dies : (d e : Effects) (c : ℕ) → is_live d c ≡ true → Sim d e → Sim (Dies c ∷ d) (Dies c ∷ e)
-sim_dies d e c live s = record {
-  agree = agree_dies d e c s.agree;
-  left = sound_dies d c live s.left;
-  right =
-      sound_dies e c (sym (s.agree.lives c) ∙ live) s.right;
-}
+sim_dies d e c live s = sim (agree_dies d e c s.agree) (sound_dies d c live s.left)
+    (sound_dies e c (sym (s.agree.lives c) ∙ live) s.right)
 
 pub sim_adds : (d e : Effects) (name : List ℕ) (t : Service) → is_live d t.node.owner.0 ≡ true → Sim d e
     → Sim (Adds name t ∷ d) (Adds name t ∷ e)
 sim_adds d e name t live s =
-    record {
-      agree = agree_adds d e name t s.agree;
-      left = sound_adds d name t live s.left;
-      right =
-          sound_adds e name t (sym (s.agree.lives t.node.owner.0) ∙ live) s.right;
-    }
+    sim (agree_adds d e name t s.agree) (sound_adds d name t live s.left)
+    (sound_adds e name t (sym (s.agree.lives t.node.owner.0) ∙ live) s.right)
 
 pub sim_removes : (d e : Effects) (name : List ℕ) → Sim d e → Sim (Removes name ∷ d) (Removes name ∷ e)
-sim_removes d e name s = record {
-  agree = agree_removes d e name s.agree;
-  left = sound_removes d name s.left;
-  right =
-      sound_removes e name s.right;
-}
+sim_removes d e name s = sim (agree_removes d e name s.agree) (sound_removes d name s.left)
+    (sound_removes e name s.right)
 
 -- ---- what is looked up
 
@@ -364,58 +204,34 @@ numbers_alike d e c n r s num = record {
 pub sim_gives : (d e : Effects) (c : ℕ) (n : Node) (r : ℕ) → is_live d c ≡ true → Numbers d c n r → Sim d e
     → Sim (Gives c n r ∷ d) (Gives c n r ∷ e)
 sim_gives d e c n r live num s =
-    record {
-      agree = agree_gives d e c n r s.left s.right s.agree;
-      left = sound_gives d c n r live num s.left;
-      right =
-          sound_gives e c n r (sym (s.agree.lives c) ∙ live) (numbers_alike d e c n r s num) s.right;
-    }
+    sim (agree_gives d e c n r s.left s.right s.agree) (sound_gives d c n r live num s.left)
+    (sound_gives e c n r (sym (s.agree.lives c) ∙ live) (numbers_alike d e c n r s num) s.right)
 
 pub sim_releases : (d e : Effects) (c : ℕ) (n : Node) → is_live d c ≡ true → is_held d c n ≡ true → Sim d e
     → Sim (Releases c n ∷ d) (Releases c n ∷ e)
 sim_releases d e c n live held s =
-    record {
-      agree = agree_releases d e c n s.agree;
-      left = sound_releases d c n live held s.left;
-      right =
-          sound_releases e c n (sym (s.agree.lives c) ∙ live) (sym (sim_held d e c n s) ∙ held) s.right;
-    }
+    sim (agree_releases d e c n s.agree) (sound_releases d c n live held s.left)
+    (sound_releases e c n (sym (s.agree.lives c) ∙ live) (sym (sim_held d e c n s) ∙ held) s.right)
 
 pub sim_watches : (d e : Effects) (w : Watch) → is_live d w.client ≡ true → Sim d e
     → Sim (Watches w ∷ d) (Watches w ∷ e)
 sim_watches d e w live s =
-    record {
-      agree = agree_watches d e w s.agree;
-      left = sound_watches d w live s.left;
-      right =
-          sound_watches e w (sym (s.agree.lives w.client) ∙ live) s.right;
-    }
+    sim (agree_watches d e w s.agree) (sound_watches d w live s.left)
+    (sound_watches e w (sym (s.agree.lives w.client) ∙ live) s.right)
 
 pub sim_unwatches : (d e : Effects) (w : Watch) → is_live d w.client ≡ true → Sim d e
     → Sim (Unwatches w ∷ d) (Unwatches w ∷ e)
 sim_unwatches d e w live s =
-    record {
-      agree = agree_unwatches d e w s.agree;
-      left = sound_unwatches d w live s.left;
-      right =
-          sound_unwatches e w (sym (s.agree.lives w.client) ∙ live) s.right;
-    }
+    sim (agree_unwatches d e w s.agree) (sound_unwatches d w live s.left)
+    (sound_unwatches e w (sym (s.agree.lives w.client) ∙ live) s.right)
 
 pub sim_delivers : (d e : Effects) (c : ℕ) (x : Delivery) → is_live d c ≡ true → Sim d e
     → Sim (Delivers c x ∷ d) (Delivers c x ∷ e)
 sim_delivers d e c x live s =
-    record {
-      agree = agree_delivers d e c x s.left s.right s.agree;
-      left = sound_delivers d c x live s.left;
-      right =
-          sound_delivers e c x (sym (s.agree.lives c) ∙ live) s.right;
-    }
+    sim (agree_delivers d e c x s.left s.right s.agree) (sound_delivers d c x live s.left)
+    (sound_delivers e c x (sym (s.agree.lives c) ∙ live) s.right)
 
 pub sim_takes : (d e : Effects) (c : ℕ) → Waits d c → Sim d e → Sim (Takes c ∷ d) (Takes c ∷ e)
 sim_takes d e c waits s =
-    record {
-      agree = agree_takes d e c s.agree;
-      left = sound_takes d c waits s.left;
-      right =
-          sound_takes e c (ap (λ (xs : List Delivery). nat_lt 0 (length xs)) (sym (s.agree.inboxes c)) ∙ waits) s.right;
-    }
+    sim (agree_takes d e c s.agree) (sound_takes d c waits s.left)
+    (sound_takes e c (ap (λ (xs : List Delivery). nat_lt 0 (length xs)) (sym (s.agree.inboxes c)) ∙ waits) s.right)

@@ -1,45 +1,35 @@
 -- Where tables agree, objects are passed and watchers are notified alike, and the tables agree afterwards.
-use Rattle.std.proofs.Common.{◌≡◌, ℕ, Bool, true, false, ◌&&◌, ◌==◌, List, [], ◌∷◌, refl, ap, sym, ◌∙◌, subst, length}
-use Rattle.std.proofs.Common.{Option, Some, None, if◌then◌else◌}
+use Rattle.std.proofs.Common.{◌≡◌, ℕ, Bool, true, false, ◌==◌, List, [], ◌∷◌, refl, ap, sym, ◌∙◌, length, Option, Some}
+use Rattle.std.proofs.Common.{None, if◌then◌else◌}
 use Rattle.std.specs.Prelude.{nat_lt, nat_le, filter, is_none, bytes_eq}
 use Rattle.std.specs.List.{list_all}
 use Rattle.std.proofs.lemmas.Bool.{true≢false, and_parts}
-use Rattle.sm_kinds.specs.declared.class.Class.TheVariants.{ServiceManager, Binder}
-use Rattle.sm_kinds.specs.declared.perms.Perms.{Perms}
 use Rattle.sm_kinds.specs.declared.number.Node.{Node}
 use Rattle.sm_kinds.specs.declared.number.ObjRef.{ObjRef}
 use Rattle.sm_kinds.specs.declared.number.ObjRef.TheVariants.{Own as OwnRef, Handle as HandleRef, Null as NullRef}
-use Rattle.sm_kinds.specs.declared.identity.Identity.{Identity}
-use Rattle.sm_policy.specs.Policy.{Policy, label_of}
-use Rattle.sm_history.specs.declared.failed_check.EarlyAnswer.{EarlyAnswer}
 use Rattle.sm_history.specs.declared.failed_check.FailedCheck.{FailedCheck}
-use Rattle.sm_history.specs.declared.refusal.Refusal.TheVariants.{Failed}
-use Rattle.sm_history.specs.declared.refusal.Failure.TheVariants.{TargetFull as FailsFull}
-use Rattle.sm_history.specs.declared.failed_check.EarlyAnswer.TheVariants.{Refused}
 use Rattle.sm_history.specs.declared.notice.Notice.{Notice}
-use Rattle.sm_history.specs.declared.notice.Told.{Told}
 use Rattle.sm_history.specs.declared.notice.Told.TheVariants.{Told as IsTold}
 use Rattle.sm_history.specs.declared.delivery.Delivery.{Delivery}
 use Rattle.sm_history.specs.declared.delivery.Given.{Given}
-use Rattle.sm_history.specs.declared.delivery.Given.TheVariants.{Handle, Own}
-use Rattle.sm_history.specs.declared.delivery.Message.TheVariants.{Registered}
-use Rattle.sm_history.specs.Effects.{Effects, Watch, Gives, Delivers}
+use Rattle.sm_history.specs.Effects.{Effects, Watch, Gives}
 use Rattle.sm_history.specs.Clients.{is_live}
 use Rattle.sm_history.specs.Holdings.{is_held, number_at, node_at, free_number, number_for, given_to, handed}
 use Rattle.sm_history.specs.Holdings.{fits_handles, resolve_at}
 use Rattle.sm_history.specs.Services.{watches_at, watchers_at, watches_made}
 use Rattle.sm_history.specs.Inboxes.{has_inbox_room}
-use Rattle.sm_history.specs.Checks.{Check, Needs, Wants, first_failing, to_manager, from_manager, to_client, to_label}
-use Rattle.sm_history.specs.Checks.{finding, calling, transferring}
+use Rattle.sm_history.specs.Checks.{first_failing, Check, Wants}
 use Rattle.sm_history.specs.Notices.{notice_checks, first_missing, registration, notice_at, told_of, after_told}
 use Rattle.sm_history.specs.Notices.{after_notice, after_notices, notices_at}
 use Rattle.sm_history.specs.Histories.{given_ref, handed_ref, given_refs, handed_refs}
+use Rattle.sm_history.proofs.Keeps.{handed_keeps, ref_keeps, refs_keep, told_keeps}
 use Rattle.sm_history.proofs.LeastFree.{free_is_free}
 use Rattle.sm_history.proofs.Fresh.{all_filtered, all_filtered_again}
 use Rattle.sm_history.proofs.HeldAlike.{counts_alike}
 use Rattle.sm_history.proofs.Sound.{Numbers}
 use Rattle.sm_history.proofs.AgreeEffects.{Sim, sim_held, sim_nodes, sim_free, sim_gives, sim_delivers}
 use Rattle.sm_history.specs.declared.limits.TheConstants.{MOST_HANDLES, MOST_DELIVERIES}
+use Rattle.sm_history.specs.declared.failed_check.EarlyAnswer.{EarlyAnswer}
 
 pub both : {A B C : Type 0} (f : A → B → C) {a a' : A} {b b' : B} → a ≡ a' → b ≡ b' → f a b ≡ f a' b'
 both {A} {B} {C} f {a} {a'} {b} {b'} p q = ap (λ x. f x b) p ∙ ap (f a') q
@@ -49,29 +39,6 @@ wants_alike r p = ap (λ t. Wants t r) p
 
 pub cons_alike : {x y : Check} {xs ys : List Check} → x ≡ y → xs ≡ ys → (let l : List Check = x ∷ xs in l) ≡ y ∷ ys
 cons_alike {x} {y} {xs} {ys} p q = ap (λ (v : Check). let l : List Check = v ∷ xs in l) p ∙ ap (λ l. y ∷ l) q
-
--- ---- rules
-
-pub to_manager_alike : (d e : Effects) (c : ℕ) (p : Perms) → Sim d e → is_live d c ≡ true
-    → to_manager d c p ≡ to_manager e c p
-to_manager_alike d e c p s live = both (λ (w m : Identity). Needs Binder p w m.context None) (s.agree.who c live)
-    s.agree.manager
-
-pub from_manager_alike : (d e : Effects) (c : ℕ) (p : Perms) → Sim d e → is_live d c ≡ true
-    → from_manager d c p ≡ from_manager e c p
-from_manager_alike d e c p s live = both (λ (w m : Identity). Needs Binder p m w.context None) (s.agree.who c live)
-    s.agree.manager
-
-pub to_client_alike : (d e : Effects) (c k : ℕ) (p : Perms) → Sim d e → is_live d c ≡ true → is_live d k ≡ true
-    → to_client d c k p ≡ to_client e c k p
-to_client_alike d e c k p s live there = both (λ (w t : Identity). Needs Binder p w t.context None)
-    (s.agree.who c live) (s.agree.who k there)
-
-pub to_label_alike : (d e : Effects) (c : ℕ) (name : List ℕ) (p : Perms) → Sim d e → is_live d c ≡ true
-    → to_label d c name p ≡ to_label e c name p
-to_label_alike d e c name p s live =
-    both (λ (w : Identity) (q : Policy). Needs ServiceManager p w (label_of q name) (Some name)) (s.agree.who c live)
-    s.agree.policy
 
 -- ---- passing objects
 
@@ -94,20 +61,17 @@ number_for_is d c n = record {
 }
 
 pub given_alike : (d e : Effects) (c : ℕ) (n : Node) → Sim d e → given_to d c n ≡ given_to e c n
-given_alike d e c n s = ap (λ (r : ℕ). let g : Given = if n.owner.0 == c then Own n.object else Handle r in g)
-    (number_for_alike d e c n s)
+given_alike d e c n s = rw (number_for_alike d e c n s) refl
 
 pub sim_handed : (d e : Effects) (c : ℕ) (n : Node) → is_live d c ≡ true → Sim d e → Sim (handed d c n) (handed e c n)
 sim_handed d e c n live s =
     let given : Sim (Gives c n (number_for d c n) ∷ d) (Gives c n (number_for e c n) ∷ e) =
-    subst (λ r. Sim (Gives c n (number_for d c n) ∷ d) (Gives c n r ∷ e)) (number_for_alike d e c n s)
-    (sim_gives d e c n (number_for d c n) live (number_for_is d c n) s) in
+    rw (← number_for_alike d e c n s) (sim_gives d e c n (number_for d c n) live (number_for_is d c n) s) in
     elim (n.owner.0 == c) as (λ b. Sim (if b then d else Gives c n (number_for d c n) ∷ d)
     (if b then e else Gives c n (number_for e c n) ∷ e)) [ true ↦ s | false ↦ given ]
 
 pub live_handed : (d : Effects) (c : ℕ) (n : Node) (k : ℕ) → is_live (handed d c n) k ≡ is_live d k
-live_handed d c n k = elim (n.owner.0 == c) as (λ b. is_live (if b then d else Gives c n (number_for d c n) ∷ d) k
-    ≡ is_live d k) [ true ↦ refl | false ↦ refl ]
+live_handed d c n k = handed_keeps (λ e. is_live e k ≡ is_live d k) (λ i m r e h. h) d c n refl
 
 pub fits_alike : (d e : Effects) (c : ℕ) → Sim d e → fits_handles d c ≡ fits_handles e c
 fits_alike d e c s = ap (λ k. nat_le k MOST_HANDLES) (counts_alike d e c (λ n. sim_held d e c n s))
@@ -119,23 +83,16 @@ room_alike d e c s = ap (λ (xs : List Delivery). nat_lt (length xs) MOST_DELIVE
 
 notice_checks_alike : (d e : Effects) (n : Node) (w : Watch) → Sim d e → is_live d w.client ≡ true
     → notice_checks d n w ≡ notice_checks e n w
-notice_checks_alike d e n w s live =
-    cons_alike (to_label_alike d e w.client w.name finding s live)
-    (cons_alike (from_manager_alike d e w.client calling s live)
-    (cons_alike (from_manager_alike d e w.client transferring s live)
-    (cons_alike (wants_alike (Refused (Failed FailsFull))
-    (both (λ a b. a && b) (room_alike d e w.client s)
-    (fits_alike (handed d w.client n) (handed e w.client n) w.client (sim_handed d e w.client n live s))))
-    refl)))
+notice_checks_alike d e n w s live = let k = w.client in
+    rw (room_alike d e k s, fits_alike (handed d k n) (handed e k n) k (sim_handed d e k n live s))
+    (rw (s.agree.who k live, s.agree.manager, s.agree.policy) refl)
 
 pub missing_alike : (d e : Effects) (n : Node) (w : Watch) → Sim d e → is_live d w.client ≡ true
     → first_missing d n w ≡ first_missing e n w
 missing_alike d e n w s live = both first_failing s.agree.policy (notice_checks_alike d e n w s live)
 
 pub registration_alike : (d e : Effects) (n : Node) (w : Watch) → Sim d e → registration d n w ≡ registration e n w
-registration_alike d e n w s =
-    ap (λ (g : Given). let v : Delivery = record { object = w.object; what = Registered w.name g } in v)
-    (given_alike d e w.client n s)
+registration_alike d e n w s = rw (given_alike d e w.client n s) refl
 
 told_alike : (d e : Effects) (n : Node) (w : Watch) (o : Option FailedCheck) → Sim d e
     → told_of d n w o ≡ told_of e n w o
@@ -144,32 +101,23 @@ told_alike d e n w (Some failing) s = refl
 
 pub notice_alike : (d e : Effects) (n : Node) (w : Watch) → Sim d e → is_live d w.client ≡ true
     → notice_at d n w ≡ notice_at e n w
-notice_alike d e n w s live =
-    ap (λ (t : Told). let v : Notice = record { client = record { 0 = w.client }; object = w.object; result = t } in v)
-    (ap (told_of d n w) (missing_alike d e n w s live) ∙ told_alike d e n w (first_missing e n w) s)
+notice_alike d e n w s live = rw (missing_alike d e n w s live, told_alike d e n w (first_missing e n w) s) refl
 
 sim_told : (d e : Effects) (n : Node) (w : Watch) (o : Option FailedCheck) → Sim d e → is_live d w.client ≡ true
     → Sim (after_told d n w o) (after_told e n w o)
 sim_told d e n w None s live =
-    let h = sim_handed d e w.client n live s in
-    subst (λ (x : Delivery). Sim (Delivers w.client (registration d n w) ∷ handed d w.client n)
-    (Delivers w.client x ∷ handed e w.client n)) (registration_alike d e n w s)
+    rw (← registration_alike d e n w s)
     (sim_delivers (handed d w.client n) (handed e w.client n) w.client (registration d n w)
-    (live_handed d w.client n w.client ∙ live) h)
+    (live_handed d w.client n w.client ∙ live) (sim_handed d e w.client n live s))
 sim_told d e n w (Some failing) s live = s
 
 pub sim_notice : (d e : Effects) (n : Node) (w : Watch) → Sim d e → is_live d w.client ≡ true
     → Sim (after_notice d n w) (after_notice e n w)
-sim_notice d e n w s live = subst (λ (o : Option FailedCheck). Sim (after_notice d n w) (after_told e n w o))
-    (missing_alike d e n w s live) (sim_told d e n w (first_missing d n w) s live)
-
-live_told : (d : Effects) (n : Node) (w : Watch) (o : Option FailedCheck) (k : ℕ)
-    → is_live (after_told d n w o) k ≡ is_live d k
-live_told d n w None k = live_handed d w.client n k
-live_told d n w (Some failing) k = refl
+sim_notice d e n w s live = rw (← missing_alike d e n w s live) (sim_told d e n w (first_missing d n w) s live)
 
 pub live_notice : (d : Effects) (n : Node) (w : Watch) (k : ℕ) → is_live (after_notice d n w) k ≡ is_live d k
-live_notice d n w k = live_told d n w (first_missing d n w) k
+live_notice d n w k =
+    told_keeps (λ e. is_live e k ≡ is_live d k) (λ i m r e h. h) (λ i x e h. h) d n w (first_missing d n w) refl
 
 -- Every watch is of a live client.
 abbrev pub AllLive : Effects → List Watch → Type 0
@@ -178,9 +126,8 @@ AllLive d ws = list_all (λ w. is_live d w.client) ws ≡ true
 pub all_same : (p q : ℕ → Bool) (ws : List Watch) → ((k : ℕ) → q k ≡ p k) → list_all (λ w. p w.client) ws ≡ true
     → list_all (λ w. q w.client) ws ≡ true
 all_same p q [] same h = refl
-all_same p q (w ∷ ws) same h =
-    rw (same w.client ∙ (and_parts (p w.client) (list_all (λ (v : Watch). p v.client) ws) h).0)
-    (all_same p q ws same (and_parts (p w.client) (list_all (λ (v : Watch). p v.client) ws) h).1)
+all_same p q (w ∷ ws) same h = let parts = and_parts (p w.client) (list_all (λ (v : Watch). p v.client) ws) h in
+    rw (same w.client ∙ parts.0) (all_same p q ws same parts.1)
 
 pub sim_notices : (d e : Effects) (n : Node) (ws : List Watch) → Sim d e → AllLive d ws
     → Sim (after_notices d n ws) (after_notices e n ws)
@@ -227,14 +174,11 @@ sim_ref d e to None live s = s
 sim_ref d e to (Some n) live s = sim_handed d e to n live s
 
 pub live_ref : (d : Effects) (to : ℕ) (o : Option Node) (k : ℕ) → is_live (handed_ref d to o) k ≡ is_live d k
-live_ref d to None k = refl
-live_ref d to (Some n) k = live_handed d to n k
+live_ref d to o k = ref_keeps (λ e. is_live e k ≡ is_live d k) (λ i m r e h. h) d to o refl
 
 sim_resolved : (d e : Effects) (from to : ℕ) (r : ObjRef) → is_live d to ≡ true → Sim d e
     → Sim (handed_ref d to (resolve_at d from r)) (handed_ref e to (resolve_at e from r))
-sim_resolved d e from to r live s =
-    subst (λ (o : Option Node). Sim (handed_ref d to (resolve_at d from r)) (handed_ref e to o))
-    (resolve_alike d e from r s) (sim_ref d e to (resolve_at d from r) live s)
+sim_resolved d e from to r live s = rw (← resolve_alike d e from r s) (sim_ref d e to (resolve_at d from r) live s)
 
 pub sim_refs : (d e : Effects) (from to : ℕ) (rs : List ObjRef) → is_live d to ≡ true → Sim d e
     → Sim (handed_refs d from to rs) (handed_refs e from to rs)
@@ -245,9 +189,7 @@ sim_refs d e from to (r ∷ rs) live s =
 
 pub live_refs : (d : Effects) (from to : ℕ) (rs : List ObjRef) (k : ℕ)
     → is_live (handed_refs d from to rs) k ≡ is_live d k
-live_refs d from to [] k = refl
-live_refs d from to (r ∷ rs) k = live_refs (handed_ref d to (resolve_at d from r)) from to rs k ∙
-    live_ref d to (resolve_at d from r) k
+live_refs d from to rs k = refs_keep (λ e. is_live e k ≡ is_live d k) (λ i m r e h. h) d from to rs refl
 
 pub given_refs_alike : (d e : Effects) (from to : ℕ) (rs : List ObjRef) → is_live d to ≡ true → Sim d e
     → given_refs d from to rs ≡ given_refs e from to rs

@@ -7,8 +7,7 @@ use Rattle.std.proofs.lemmas.Bool.Decides.{nat_tests}
 use Rattle.std.proofs.lemmas.Bool.{true≢false, and_parts}
 use Rattle.std.proofs.lemmas.List.Sums.{sum_by-cons}
 use Rattle.sm_kinds.specs.declared.number.Node.{Node}
-use Rattle.sm_history.specs.Effects.{Effect, Effects, same_node, Opens, Sets, Connects, Dies, Adds, Removes, Gives}
-use Rattle.sm_history.specs.Effects.{Releases, Watches, Unwatches, Delivers, Takes, Resumes}
+use Rattle.sm_history.specs.Effects.{Effect, Effects, same_node, Releases}
 use Rattle.sm_history.specs.Clients.{is_live}
 use Rattle.sm_history.specs.Holdings.{is_held, given_nodes, number_at, node_at, number_given, is_release_of}
 use Rattle.sm_history.specs.Histories.{found}
@@ -25,22 +24,14 @@ step x d none h c n =
     omega (arith, g, s, z, before)
 
 pub balanced_lasts : Lasts IsBalanced
-balanced_lasts (Connects c who) d plain h = absurd (true≢false (sym plain))
-balanced_lasts (Dies c) d plain h = absurd (true≢false (sym plain))
 balanced_lasts (Releases c m) d plain h = absurd (true≢false (sym plain))
-balanced_lasts (Opens who) d plain h = step (Opens who) d (λ c n. refl) h
-balanced_lasts (Sets p) d plain h = step (Sets p) d (λ c n. refl) h
-balanced_lasts (Adds name s) d plain h = absurd (true≢false (sym plain))
-balanced_lasts (Removes name) d plain h = step (Removes name) d (λ c n. refl) h
-balanced_lasts (Gives c m r) d plain h = step (Gives c m r) d (λ k n. refl) h
-balanced_lasts (Watches w) d plain h = step (Watches w) d (λ c n. refl) h
-balanced_lasts (Unwatches w) d plain h = step (Unwatches w) d (λ c n. refl) h
-balanced_lasts (Delivers c x) d plain h = step (Delivers c x) d (λ k n. refl) h
-balanced_lasts (Takes c) d plain h = step (Takes c) d (λ k n. refl) h
-balanced_lasts (Resumes v n) d plain h = absurd (true≢false (sym plain))
+balanced_lasts x d plain h = step x d (λ c n. refl) h
 
 pub number_same : (a b : ℕ) → (a == b) ≡ true → a ≡ b
 number_same a b h = grind (arith, nat_tests)
+
+pub turned : (k j : ℕ) → (k == j) ≡ (j == k)
+turned k j = grind (arith, nat_tests)
 
 pub node_same : (n m : Node) → same_node n m ≡ true → n ≡ m
 node_same n m h =
@@ -68,8 +59,7 @@ release d c n held h k m =
     let who = number_same c k (and_parts (c == k) (same_node n m) e).0 in
     let what = node_same n m (and_parts (c == k) (same_node n m) e).1 in
     let own = held_more (is_live d c) (granted d c n) (released d c n) held in
-    subst (λ (x : ℕ). released d x m < granted d x m) who
-    (subst (λ (x : Node). released d c x < granted d c x) what own))
+    rw (← who, ← what) own)
 
 found_kept : {X : Type 0} (p q : X → Bool) (xs : List X) (x : X) → find p (filter q xs) ≡ Some x → q x ≡ true
 found_kept p q [] x h = cc

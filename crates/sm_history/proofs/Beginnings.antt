@@ -1,7 +1,7 @@
 -- The algebra of "begins with".
-use Rattle.std.proofs.Common.{inl, inr, ◌⊎◌, ◌≡◌, ℕ, ◌≤◌, List, [], ◌∷◌, ◌++◌, refl, ap, sym, subst, ◌∙◌, arith}
+use Rattle.std.proofs.Common.{◌≡◌, ◌≤◌, List, [], ◌∷◌, ◌++◌, refl, ap, sym, subst, ◌∙◌, arith}
 use Rattle.sm_history.specs.declared.entry.Entry.{Entry}
-use Rattle.sm_history.specs.Histories.{History, Opening, entered}
+use Rattle.sm_history.specs.Histories.{History, entered}
 use Rattle.sm_history.specs.Segments.{sealed}
 use Rattle.sm_history.specs.Beginning.{Move, Made, Seals, gone_on, BeginsWith, IsLonger}
 
@@ -50,35 +50,3 @@ longer new old b is =
     (longer_on old b.moves (ap (λ (h : History). h.number) (sym b.is) ∙ is))
 
 -- ---- the change before
-
-history_is : (g h : History) → g.number ≡ h.number → g.opening ≡ h.opening → g.entries ≡ h.entries → g ≡ h
-history_is g h number opening entries =
-    ap (λ (n : ℕ). let x : History = record { number = n; opening = g.opening; entries = g.entries } in x) number
-    ∙ ap (λ (o : Opening). let x : History = record { number = h.number; opening = o; entries = g.entries } in x)
-    opening
-    ∙ ap (λ (es : List Entry). let x : History = record { number = h.number; opening = h.opening; entries = es } in x)
-    entries
-
-not_none : (e : Entry) (es : List Entry) → e ∷ es ≡ [] → ⊥
-not_none e es is = cc
-
-tails : (e f : Entry) (es fs : List Entry) → e ∷ es ≡ f ∷ fs → es ≡ fs
-tails e f es fs is = cc
-
-begins_on : (e : Entry) (h o : History) (ms : List Move) → entered e h ≡ gone_on o ms
-    → (o ≡ entered e h) ⊎ BeginsWith h o
-begins_on e h o [] is = inl (sym is)
-begins_on e h o (Made f ∷ ms) is =
-    let g = gone_on o ms in
-    inr (record {
-      moves = ms;
-      is = history_is h g (ap (λ (x : History). x.number) is) (ap (λ (x : History). x.opening) is)
-          (tails e f h.entries g.entries (ap (λ (x : History). x.entries) is));
-    })
-begins_on e h o (Seals ∷ ms) is =
-    let entries : e ∷ h.entries ≡ [] = ap (λ (x : History). x.entries) is in
-    absurd (not_none e h.entries entries)
-
--- A beginning of a history after a change is that history, or a beginning of the one before.
-pub begins_entered : (e : Entry) (h o : History) → BeginsWith (entered e h) o → (o ≡ entered e h) ⊎ BeginsWith h o
-begins_entered e h o b = begins_on e h o b.moves b.is

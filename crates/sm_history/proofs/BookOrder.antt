@@ -1,6 +1,5 @@
 -- The algebra of books of which one begins with another.
-use Rattle.std.proofs.Common.{◌≡◌, ℕ, ◌+◌, ◌==◌, true, List, [], ◌∷◌, refl, ap, ◌∙◌, arith}
-use Rattle.std.proofs.lemmas.Bool.Decides.{nat_tests}
+use Rattle.std.proofs.Common.{◌≡◌, ◌+◌, true, List, [], ◌∷◌, refl, ap, ◌∙◌, arith}
 use Rattle.sm_history.specs.declared.by.By.{By}
 use Rattle.sm_history.specs.declared.by.By.TheVariants.{Manager, Client, Admin}
 use Rattle.sm_history.specs.declared.entry.Entry.{Entry}
@@ -11,14 +10,12 @@ use Rattle.sm_history.specs.Openings.{is_same}
 use Rattle.sm_history.proofs.Beginnings.{begins_itself, begins_before, begins_sealed, begins_through}
 use Rattle.sm_history.proofs.LawfulLaws.{turn_same}
 use Rattle.sm_history.specs.BookOrder.{Begins, extended, sealed_book}
-
-same_number : (n : ℕ) → (n == n) ≡ true
-same_number n = grind (arith, nat_tests)
+use Rattle.sm_history.proofs.ClientRows.{self_same}
 
 pub same_actor : (by : By) → is_same by by ≡ true
 same_actor Manager = refl
-same_actor (Client c) = same_number c.0
-same_actor (Admin a) = same_number a.0
+same_actor (Client c) = self_same c.0
+same_actor (Admin a) = self_same a.0
 
 pub book_itself : (b : Book) → Begins b b
 book_itself b = record { places = refl; history = begins_itself b.history }

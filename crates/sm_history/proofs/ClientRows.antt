@@ -1,7 +1,6 @@
 -- Rows of clients of any type: the index of a row, and the rows after a change of one.
-use Rattle.std.proofs.Common.{◌≡◌, ℕ, zero, suc, ◌<◌, ◌≤◌, Bool, true, false, ◌==◌, List, [], ◌∷◌, ◌++◌}
-use Rattle.std.proofs.Common.{refl, ap, sym, ◌∙◌, subst, length, get_or, set, cond, Option, Some, None}
-use Rattle.std.proofs.Common.{if◌then◌else◌, arith}
+use Rattle.std.proofs.Common.{◌≡◌, ℕ, ◌<◌, Bool, true, false, ◌==◌, List, [], ◌∷◌, ◌++◌, refl, ap, sym, ◌∙◌, subst}
+use Rattle.std.proofs.Common.{length, get_or, set, cond, Option, Some, None, if◌then◌else◌, arith}
 use Rattle.std.specs.Prelude.{nat_lt, not, filter, position, slice_get, is_some, MatchOption}
 use Rattle.std.specs.List.{find, position_or_len}
 use Rattle.std.specs.Option.{option_or}
@@ -10,9 +9,8 @@ use Rattle.std.proofs.lemmas.Bool.Decides.{nat_tests}
 use Rattle.std.proofs.lemmas.List.Folds.{find_at, find-set, find_past, find-append}
 use Rattle.std.proofs.lemmas.List.Quantifiers.{position-Some}
 use Rattle.sm_history.specs.Tables.{IsChanged, IsPlace}
-
-number_same : (a b : ℕ) → (a == b) ≡ true → a ≡ b
-number_same a b h = grind (arith, nat_tests)
+use Rattle.sm_history.proofs.Balanced.{number_same}
+use Rattle.std.proofs.lemmas.Option.{slice_get-get_or, slice_get_past}
 
 pub self_same : (a : ℕ) → (a == a) ≡ true
 self_same a = grind (arith, nat_tests)
@@ -31,17 +29,6 @@ first_at p rows i h =
       | true ↦ λ e f. let at : position_or_len p rows ≡ i = cc in (sym at, grind (arith, nat_tests))
       | false ↦ λ e f. cc
     ] refl h
-
--- The element at a place within a list.
-at_place : {R : Type 0} (rows : List R) (i : ℕ) (d : R) → i < length rows → slice_get rows i ≡ Some (get_or rows i d)
-at_place [] i d lt = absurd (omega (arith, lt))
-at_place (r ∷ rs) zero d lt = refl
-at_place (r ∷ rs) (suc i) d lt = at_place rs i d (omega (arith, lt))
-
-past_end : {R : Type 0} (rows : List R) (i : ℕ) → length rows ≤ i → slice_get rows i ≡ None
-past_end [] i le = refl
-past_end (r ∷ rs) zero le = absurd (omega (arith, le))
-past_end (r ∷ rs) (suc i) le = past_end rs i (omega (arith, le))
 
 not_of : (a c k : ℕ) → a ≡ c → (c == k) ≡ false → (a == k) ≡ false
 not_of a c k e f = ap (λ v. v == k) e ∙ f
@@ -66,7 +53,7 @@ module _ {R : Type 0} (key : R → ℕ) where
       → (let o : Option ℕ = cond b (Some (position_or_len (is_of key c) rows)) None in o) ≡ None →
       first_of key rows c ≡ None) [
         | true ↦ λ e f. cc
-        | false ↦ λ e f. find_at (is_of key c) rows ∙ past_end rows (position_or_len (is_of key c) rows)
+        | false ↦ λ e f. find_at (is_of key c) rows ∙ slice_get_past rows (position_or_len (is_of key c) rows)
             (grind (arith, nat_tests))
       ] refl h
 
@@ -78,7 +65,7 @@ module _ {R : Type 0} (key : R → ℕ) where
       λ r. number_same (key (get_or rows i r)) c (position-Some (is_of key c) rows i r h).1 in
       record {
         inside = w.1;
-        here = λ r. find_at (is_of key c) rows ∙ ap (slice_get rows) (sym w.0) ∙ at_place rows i r w.1;
+        here = λ r. find_at (is_of key c) rows ∙ ap (slice_get rows) (sym w.0) ∙ slice_get-get_or rows i r w.1;
         own = own;
         written = λ r is. record {
           own = find-set (is_of key c) rows i r w.0 w.1 (ap (λ v. v == c) is ∙ self_same c);
@@ -130,14 +117,12 @@ module _ {R : Type 0} (key : R → ℕ) where
 
   -- Another row was written at a client's place.
   pub row_written : (rows : List R) (c i : ℕ) (r r' : R) → IsPlace key rows c i → r ≡ get_or rows i r
-      → key r' ≡ key r
-      → IsChanged key rows (set rows i r') c (Some r')
+      → key r' ≡ key r → IsChanged key rows (set rows i r') c (Some r')
   row_written rows c i r r' at e same = at.written r' (same ∙ ap (λ (x : R). key x) e ∙ at.own r)
 
   -- The place of a row was sought.
   pub sought : (rows : List R) (c : ℕ) (o : Option ℕ)
-      → MatchOption o (first_of key rows c ≡ None) (IsPlace key rows c)
-      → is_some o ≡ is_some (first_of key rows c)
+      → MatchOption o (first_of key rows c ≡ None) (IsPlace key rows c) → is_some o ≡ is_some (first_of key rows c)
   sought rows c None none = sym (ap (λ (o : Option R). is_some o) none)
   sought rows c (Some i) at = elim (first_of key rows c) as (λ o. first_of key rows c ≡ o → true ≡ is_some o) [
     | None ↦ λ e. elim rows as (λ rs. IsPlace key rs c i → first_of key rs c ≡ None → true ≡ false) [
@@ -148,7 +133,6 @@ module _ {R : Type 0} (key : R → ℕ) where
   ] refl
 
   pub none_sought : (rows : List R) (c : ℕ) (o : Option ℕ)
-      → MatchOption o (first_of key rows c ≡ None) (IsPlace key rows c)
-      → is_some o ≡ false → first_of key rows c ≡ None
+      → MatchOption o (first_of key rows c ≡ None) (IsPlace key rows c) → is_some o ≡ false → first_of key rows c ≡ None
   none_sought rows c None none e = none
   none_sought rows c (Some i) at e = absurd (true≢false e)

@@ -4,11 +4,10 @@ use Rattle.std.proofs.Common.{◌≡◌, ℕ, ◌+◌, ◌≤◌, ◌<◌, Bool,
 use Rattle.std.proofs.Common.{subst, if◌then◌else◌, arith}
 use Rattle.std.specs.Prelude.{not}
 use Rattle.std.specs.List.{list_all}
-use Rattle.std.proofs.lemmas.Bool.{true≢false, and_parts}
+use Rattle.std.proofs.lemmas.Bool.{true≢false, and_parts, not-true}
 use Rattle.sm_kinds.specs.declared.number.Node.{Node}
 use Rattle.sm_history.specs.declared.limits.TheConstants.{GREATEST}
-use Rattle.sm_history.specs.Effects.{Effect, Effects, Opens, Sets, Connects, Dies, Adds, Removes, Gives, Releases}
-use Rattle.sm_history.specs.Effects.{Watches, Unwatches, Delivers, Takes, Resumes, same_node}
+use Rattle.sm_history.specs.Effects.{Effect, Effects, Connects, Dies, Gives, Releases, Resumes, same_node}
 use Rattle.sm_history.specs.Clients.{is_live}
 use Rattle.sm_history.specs.Holdings.{refs_at, counts_fit}
 use Rattle.sm_history.specs.Following.{MayFollow, MayFollowApart, followed, MayAll, MayAllApart}
@@ -42,20 +41,10 @@ refs_grow d (Resumes v n) b e k m = absurd (true≢false e)
 refs_grow d (Gives c n r) b e k m =
     case_grows (((c == k) && same_node n m) && is_live d k) (refs_at d k m) (refs_at (Gives c n r ∷ d) k m)
     (refs_gives d c n r k m b)
-refs_grow d (Opens who) b e k m = omega arith
-refs_grow d (Sets p) b e k m = omega arith
-refs_grow d (Adds name s) b e k m = omega arith
-refs_grow d (Removes name) b e k m = omega arith
-refs_grow d (Watches w) b e k m = omega arith
-refs_grow d (Unwatches w) b e k m = omega arith
-refs_grow d (Delivers c x) b e k m = omega arith
-refs_grow d (Takes c) b e k m = omega arith
+refs_grow d _ b e k m = omega arith
 
 pub under : {a b g : ℕ} → a ≤ b → b < g → a < g
 under le lt = omega (arith, le, lt)
-
-up_to : {a b g : ℕ} → a ≡ b → a < g → b < g
-up_to e lt = omega (arith, e, lt)
 
 -- The count behind a grant, to a client that is live.
 pub one_more : (d : Effects) (c : ℕ) (n : Node) (r : ℕ) → IsBalanced d → is_live d c ≡ true
@@ -72,40 +61,15 @@ may_one : (d : Effects) (x : Effect) → Sound d → MayFollowApart d x
 may_one d (Gives c n r) s (live, number, other, fits) below =
     let lt = below c n in
     let more = one_more d c n r s.balanced live in
-    (live, number, other, fits, is_below (refs_at d c n + 1) GREATEST (up_to more lt))
-may_one d (Connects c who) s m below = m
-may_one d (Dies c) s m below = m
-may_one d (Releases c n) s m below = m
-may_one d (Resumes v n) s m below = m
-may_one d (Opens who) s m below = m
-may_one d (Sets p) s m below = m
-may_one d (Adds name t) s m below = m
-may_one d (Removes name) s m below = m
-may_one d (Watches w) s m below = m
-may_one d (Unwatches w) s m below = m
-may_one d (Delivers c x) s m below = m
-may_one d (Takes c) s m below = m
+    (live, number, other, fits, is_below (refs_at d c n + 1) GREATEST (omega (arith, more, lt)))
+may_one d _ s m below = m
 
 -- An effect that may come next but for its count keeps what holds of lawful histories.
 pub apart_sound : (d : Effects) (x : Effect) → Sound d → MayFollowApart d x → Sound (x ∷ d)
 apart_sound d (Gives c n r) s m = sound_gives d c n r m.0
     (subst (λ (k : ℕ). Numbers d c n k) (sym m.1) (number_for_is d c n)) s
-apart_sound d (Connects c who) s m = sound_follows d (Connects c who) s m
-apart_sound d (Dies c) s m = sound_follows d (Dies c) s m
-apart_sound d (Releases c n) s m = sound_follows d (Releases c n) s m
 apart_sound d (Resumes v n) s m = absurd m
-apart_sound d (Opens who) s m = sound_follows d (Opens who) s m
-apart_sound d (Sets p) s m = sound_follows d (Sets p) s m
-apart_sound d (Adds name t) s m = sound_follows d (Adds name t) s m
-apart_sound d (Removes name) s m = sound_follows d (Removes name) s m
-apart_sound d (Watches w) s m = sound_follows d (Watches w) s m
-apart_sound d (Unwatches w) s m = sound_follows d (Unwatches w) s m
-apart_sound d (Delivers c x) s m = sound_follows d (Delivers c x) s m
-apart_sound d (Takes c) s m = sound_follows d (Takes c) s m
-
-none_back : (b : Bool) → not b ≡ true → b ≡ false
-none_back true e = absurd (true≢false (sym e))
-none_back false e = refl
+apart_sound d x s m = sound_follows d x s m
 
 -- No count is less behind effects that give nothing back.
 pub counts_rise : (d : Effects) (xs : List Effect) → Sound d → MayAllApart d xs
@@ -113,7 +77,7 @@ pub counts_rise : (d : Effects) (xs : List Effect) → Sound d → MayAllApart d
 counts_rise d [] s may back k m = omega arith
 counts_rise d (x ∷ xs) s (one, may) back k m =
     let parts = and_parts (not (gives_back x)) (list_all (λ y. not (gives_back y)) xs) back in
-    let first = refs_grow d x s.balanced (none_back (gives_back x) parts.0) k m in
+    let first = refs_grow d x s.balanced (not-true (gives_back x) parts.0) k m in
     let rest = counts_rise (x ∷ d) xs (apart_sound d x s one) may parts.1 k m in
     omega (arith, first, rest)
 

@@ -1,12 +1,10 @@
 -- What entering each event comes to.
-use Rattle.std.proofs.Common.{◌≡◌, ℕ, Bool, true, false, ◌==◌, List, ◌∷◌, refl, ap, sym, ◌∙◌, subst, Option, Some}
-use Rattle.std.proofs.Common.{if◌then◌else◌}
+use Rattle.std.proofs.Common.{◌≡◌, ℕ, Bool, true, false, ◌==◌, List, ◌∷◌, ap, sym, ◌∙◌, Option, Some}
 use Rattle.sm_kinds.specs.declared.number.Node.{Node}
 use Rattle.sm_kinds.specs.declared.number.ObjRef.{ObjRef}
 use Rattle.sm_history.specs.declared.service.Service.{Service}
 use Rattle.sm_history.specs.declared.delivery.Given.{Given}
 use Rattle.sm_history.specs.declared.delivery.Delivery.{Delivery}
-use Rattle.sm_history.specs.declared.delivery.Message.{Message}
 use Rattle.sm_history.specs.declared.delivery.Message.TheVariants.{Called}
 use Rattle.sm_history.specs.declared.notice.Notice.{Notice}
 use Rattle.sm_history.specs.declared.event.Event.TheVariants.{Add, Get, Watch as WatchName, Call}
@@ -15,12 +13,11 @@ use Rattle.sm_history.specs.declared.outcome.Outcome.TheVariants.{Added, Granted
 use Rattle.sm_history.specs.declared.tables.Tables.{Tables}
 use Rattle.sm_history.specs.Effects.{Effects, Watch, Adds, Gives, Watches, Delivers}
 use Rattle.sm_history.specs.Clients.{is_live}
-use Rattle.sm_history.specs.Holdings.{number_for, node_at, resolve_at, handed}
+use Rattle.sm_history.specs.Holdings.{node_at, resolve_at}
 use Rattle.sm_history.specs.Services.{service_at, watchers_at}
-use Rattle.sm_history.specs.Notices.{notice_at, notices_at, after_notice, after_notices}
+use Rattle.sm_history.specs.Notices.{notice_at, notices_at, after_notices}
 use Rattle.sm_history.specs.Histories.{found, given_refs, handed_refs, call_delivery, service, watch, after_add}
-use Rattle.sm_history.specs.Histories.{after_get}
-use Rattle.sm_history.specs.Histories.{after_watch, after_call}
+use Rattle.sm_history.specs.Histories.{after_get, after_watch, after_call}
 use Rattle.sm_history.specs.Verdict.{handle_number, notice_of_watch}
 use Rattle.sm_history.specs.Following.{MayGive}
 use Rattle.sm_history.specs.Sound.{Sound}
@@ -31,40 +28,20 @@ use Rattle.sm_history.proofs.AgreeNotices.{AllLive, watchers_live, sim_refs, liv
 use Rattle.sm_history.proofs.Followed.{sound_follows}
 use Rattle.sm_history.proofs.Sound.{sound_watches}
 use Rattle.sm_history.proofs.EnteringSteps.{sim_self, may_give}
+use Rattle.sm_history.proofs.EnteringLoops.{TellsOne}
 
 -- ---- getting
-
-granted_is : (a b : ℕ) → (let o : Outcome = Granted a in o) ≡ Granted b → a ≡ b
-granted_is a b is = cc
-
-get_case : (d : Effects) (c : ℕ) (sv : Service) (r : ℕ) (t : Tables) (b : Bool) → (sv.node.owner.0 == c) ≡ b → b ≡ false
-    → Sound d → is_live d c ≡ true → r ≡ number_for d c sv.node → AllFit (handed d c sv.node)
-    → (MayGive d c sv.node r → TracksTables (Gives c sv.node r ∷ d) t)
-    → TracksTables (let e : Effects = if b then d else Gives c sv.node (number_for d c sv.node) ∷ d in e) t
-get_case d c sv r t true e other s live number fits give = cc
-get_case d c sv r t false e other s live number fits give =
-    let after : AllFit (Gives c sv.node (number_for d c sv.node) ∷ d) =
-    subst (λ (b : Bool). AllFit (if b then d else Gives c sv.node (number_for d c sv.node) ∷ d)) e fits in
-    subst (λ (v : ℕ). TracksTables (Gives c sv.node v ∷ d) t) number
-    (give (may_give d c sv.node r s live number (subst (λ (v : ℕ). AllFit (Gives c sv.node v ∷ d)) (sym number) after)))
 
 pub get_step : (d : Effects) (c : ℕ) (name : List ℕ) (sv : Service) (r : ℕ) (outcome : Outcome) (t : Tables) → Sound d
     → IsDone d c (Get name) outcome → outcome ≡ Granted r → service_at d name ≡ Some sv
     → (sv.node.owner.0 == c) ≡ false → (MayGive d c sv.node r → TracksTables (Gives c sv.node r ∷ d) t)
     → TracksTables (after_get d c (service_at d name)) t
 get_step d c name sv r outcome t s done is found other give =
-    let number : r ≡ handle_number d c (service_at d name) = granted_is r (handle_number d c (service_at d name))
-    (sym is ∙ done.outcome_is) in
-    subst (λ (o : Option Service). r ≡ handle_number d c o → AllFit (after_get d c o)
-    → TracksTables (after_get d c o) t)
-    (sym found)
-    (λ number' fits'. get_case d c sv r t (sv.node.owner.0 == c) refl other s done.acts number' fits' give)
-    number done.fits
+    let granted = sym is ∙ done.outcome_is in let number : r ≡ handle_number d c (service_at d name) = cc in
+    let number' = rw found at number in let fits = rw (found, other) at done.fits in
+    rw (found, other, ← number') (give (may_give d c sv.node r s done.acts number' (rw number' fits)))
 
 -- ---- adding
-
-added_is : (a b : List Notice) → (let o : Outcome = Added a in o) ≡ Added b → a ≡ b
-added_is a b is = cc
 
 -- This is what setting the service of a name promises, with the notices to watchers.
 abbrev pub Puts : ℕ → List ℕ → Node → Bool → ℕ → Tables → Tables → Type 0
@@ -84,54 +61,33 @@ add_step d c name copy obj allow dump n notices told outcome old mid new s tr do
     let m = found (resolve_at d c obj) in
     let e : Effects = Adds name (service c m allow dump) ∷ d in
     let owner = add_owner d c name obj allow dump done.passes in
-    let put' : Puts c name m allow dump old mid =
-    subst (λ (v : List ℕ). Puts c v m allow dump old mid) copied
-    (subst (λ (v : Node). Puts c copy v allow dump old mid) node put) in
-    let tell' : TellsAll m told mid new = subst (λ (v : Node). TellsAll v told mid new) node tell in
+    let put' : Puts c name m allow dump old mid = rw (← copied, ← node) put in
+    let tell' : TellsAll m told mid new = rw (← node) tell in
+    let listed = sym is ∙ done.outcome_is in let all : notices ≡ notices_at e m (watchers_at d name) = cc in
     tell' e (watchers_at d name) (sound_follows d (Adds name (service c m allow dump)) s owner) (put' d tr owner)
     (watchers_live d name)
-    (same ∙ added_is notices (notices_at e m (watchers_at d name)) (sym is ∙ done.outcome_is)) done.fits
+    (same ∙ all) done.fits
 
 -- ---- watching
-
-watched_is : (a b : Option Notice) → (let o : Outcome = Watched a in o) ≡ Watched b → a ≡ b
-watched_is a b is = cc
-
-some_notice : (a b : Notice) → (let o : Option Notice = Some a in o) ≡ Some b → a ≡ b
-some_notice a b is = cc
 
 abbrev pub Watching : Watch → Tables → Tables → Type 0
 Watching w t t' = (e : Effects) → TracksTables e t → is_live e w.client ≡ true → TracksTables (Watches w ∷ e) t'
 
-abbrev pub TellsThis : Node → Notice → Tables → Tables → Type 0
-TellsThis n x t t' = (e : Effects) (w : Watch) → Sound e → TracksTables e t → is_live e w.client ≡ true
-    → x ≡ notice_at e n w → AllFit (after_notice e n w) → TracksTables (after_notice e n w) t'
-
 pub watch_step : (d : Effects) (c : ℕ) (name copy : List ℕ) (object : ℕ) (sv : Service) (told : Option Notice)
     (notice x : Notice) (outcome : Outcome) (old mid new : Tables) → Sound d → TracksTables d old
     → IsDone d c (WatchName name object) outcome → outcome ≡ Watched told → told ≡ Some notice → x ≡ notice
-    → service_at d name ≡ Some sv → copy ≡ name → Watching (watch c copy object) old mid → TellsThis sv.node x mid new
+    → service_at d name ≡ Some sv → copy ≡ name → Watching (watch c copy object) old mid → TellsOne sv.node x mid new
     → TracksTables (after_watch (Watches (watch c name object) ∷ d) (watch c name object) (service_at d name)) new
 watch_step d c name copy object sv told notice x outcome old mid new s tr done is some same found copied put tell =
     let w = watch c name object in
     let e : Effects = Watches w ∷ d in
-    let put' : Watching w old mid = subst (λ (v : List ℕ). Watching (watch c v object) old mid) copied put in
-    let told' : told ≡ notice_of_watch e w (service_at d name) =
-    watched_is told (notice_of_watch e w (service_at d name)) (sym is ∙ done.outcome_is) in
-    subst (λ (o : Option Service). told ≡ notice_of_watch e w o → AllFit (after_watch e w o)
-    → TracksTables (after_watch e w o) new) (sym found)
-    (λ at fits. tell e w (sound_watches d w done.acts s)
-    (put' d tr done.acts) done.acts (same ∙ some_notice notice (notice_at e sv.node w) (sym some ∙ at)) fits)
-    told' done.fits
+    let put' : Watching w old mid = rw (← copied) put in
+    let watched = sym is ∙ done.outcome_is in let told' : told ≡ notice_of_watch e w (service_at d name) = cc in
+    let at = sym some ∙ rw found at told' in let here : notice ≡ notice_at e sv.node w = cc in
+    rw found (tell e w (sound_watches d w done.acts s) (put' d tr done.acts) done.acts (same ∙ here)
+    (rw found at done.fits))
 
 -- ---- calling
-
-sent_is : (a b : Delivery) → (let o : Outcome = Sent a in o) ≡ Sent b → a ≡ b
-sent_is a b is = cc
-
-refs_are : (pid uid pid' uid' : ℕ) (payload payload' : List ℕ) (a b : List Given)
-    → (let m : Message = Called pid uid payload a in m) ≡ Called pid' uid' payload' b → a ≡ b
-refs_are pid uid pid' uid' payload payload' a b is = cc
 
 abbrev pub HandsAll : ℕ → ℕ → List ObjRef → List Given → Tables → Tables → Type 0
 HandsAll from to refs gs t t' = (e : Effects) → Sound e → TracksTables e t → is_live e from ≡ true → is_live e to ≡ true
@@ -153,12 +109,9 @@ call_step d c handle payload refs n sent copy pid uid text gs outcome old mid ne
     let to = m.owner.0 in
     let x = call_delivery d c m payload refs in
     let live : is_live d to ≡ true = done.passes.1.0 in
-    let made : sent ≡ x = sent_is sent x (sym is ∙ done.outcome_is) in
-    let given : gs ≡ given_refs d c to refs =
-    refs_are pid uid _ _ text payload gs (given_refs d c to refs) (sym what ∙ ap (λ (v : Delivery). v.what) made) in
-    let hand' : HandsAll c to refs gs old mid = subst (λ (v : Node). HandsAll c v.owner.0 refs gs old mid) node hand in
-    let put' : Puts1 to x mid new =
-    subst (λ (v : Delivery). Puts1 to v mid new) (copied ∙ made)
-    (subst (λ (v : Node). Puts1 v.owner.0 copy mid new) node put) in
+    let done' = sym is ∙ done.outcome_is in let made : sent ≡ x = cc in
+    let said = sym what ∙ ap (λ (v : Delivery). v.what) made in let given : gs ≡ given_refs d c to refs = cc in
+    let hand' : HandsAll c to refs gs old mid = rw (← node) hand in
+    let put' : Puts1 to x mid new = rw (← (copied ∙ made), ← node) put in
     put' (handed_refs d c to refs) (sim_refs d d c to refs live (sim_self d s)).left
     (hand' d s tr done.acts live given done.fits) (live_refs d c to refs to ∙ live)

@@ -1,7 +1,6 @@
 -- The remaining watchers to notify, and the remaining references to pass.
-use Rattle.std.proofs.Common.{◌≡◌, ℕ, zero, suc, ◌+◌, ◌<◌, ◌≤◌, true, List, [], ◌∷◌, refl, ap, sym, ◌∙◌, subst}
-use Rattle.std.proofs.Common.{Option, Some}
-use Rattle.std.proofs.Common.{length, drop, get_or, add-one, arith}
+use Rattle.std.proofs.Common.{◌≡◌, ℕ, zero, suc, ◌+◌, ◌<◌, true, List, [], ◌∷◌, ap, sym, ◌∙◌, subst, Option, Some}
+use Rattle.std.proofs.Common.{length, drop, get_or, add-one}
 use Rattle.std.specs.Prelude.{slice_get}
 use Rattle.std.specs.List.{list_all}
 use Rattle.std.proofs.lemmas.Bool.{and_parts}
@@ -21,6 +20,16 @@ use Rattle.sm_history.specs.Entering.{AllFit}
 use Rattle.sm_history.proofs.AgreeNotices.{AllLive, all_same, live_notice, live_ref, sim_ref}
 use Rattle.sm_history.proofs.EnteringSteps.{sim_self, sound_notice}
 use Rattle.sm_history.proofs.CountsBefore.{fit_before_notices, fit_before_refs}
+use Rattle.std.proofs.lemmas.List.{drop_more}
+
+nothing_more : {X : Type 0} (y : X) (ys : List X) → (let l : List X = [] in l) ≡ y ∷ ys → ⊥
+nothing_more y ys is = cc
+
+first_is : {X : Type 0} (x y : X) (xs ys : List X) → (let l : List X = x ∷ xs in l) ≡ y ∷ ys → x ≡ y
+first_is x y xs ys is = cc
+
+rest_is : {X : Type 0} (x y : X) (xs ys : List X) → (let l : List X = x ∷ xs in l) ≡ y ∷ ys → xs ≡ ys
+rest_is x y xs ys is = cc
 
 -- ---- notifying
 
@@ -39,20 +48,11 @@ abbrev pub TellsOne : Node → Notice → Tables → Tables → Type 0
 TellsOne n x t t' = (e : Effects) (w : Watch) → Sound e → TracksTables e t → is_live e w.client ≡ true
     → x ≡ notice_at e n w → AllFit (after_notice e n w) → TracksTables (after_notice e n w) t'
 
-no_more : (x : Notice) (xs : List Notice) → (let l : List Notice = x ∷ xs in l) ≡ [] → ⊥
-no_more x xs is = cc
-
-head_is : (x y : Notice) (xs ys : List Notice) → (let l : List Notice = x ∷ xs in l) ≡ y ∷ ys → x ≡ y
-head_is x y xs ys is = cc
-
-tail_is : (x y : Notice) (xs ys : List Notice) → (let l : List Notice = x ∷ xs in l) ≡ y ∷ ys → xs ≡ ys
-tail_is x y xs ys is = cc
-
 next_told : (d e : Effects) (n : Node) (ws vs : List Watch) (x : Notice) (rest : List Notice) (t t' : Tables)
     → Sound e → TracksTables e t → (let l : List Notice = x ∷ rest in l) ≡ notices_at e n vs → AllLive e vs
     → after_notices e n vs ≡ after_notices d n ws → AllFit (after_notices d n ws) → TellsOne n x t t'
     → TellsLeft d n ws rest t'
-next_told d e n ws [] x rest t t' s tr told lives same fits one = absurd (no_more x rest told)
+next_told d e n ws [] x rest t t' s tr told lives same fits one = absurd (nothing_more x rest (sym told))
 next_told d e n ws (w ∷ vs) x rest t t' s tr told lives same fits one =
     let parts = and_parts (is_live e w.client) (list_all (λ (v : Watch). is_live e v.client) vs) lives in
     let after = sound_notice e n w s parts.0 in
@@ -61,8 +61,8 @@ next_told d e n ws (w ∷ vs) x rest t t' s tr told lives same fits one =
       now = after_notice e n w;
       left = vs;
       sound = after;
-      tracks = one e w s tr parts.0 (head_is x (notice_at e n w) rest (notices_at (after_notice e n w) n vs) told) fit;
-      told = tail_is x (notice_at e n w) rest (notices_at (after_notice e n w) n vs) told;
+      tracks = one e w s tr parts.0 (first_is x (notice_at e n w) rest (notices_at (after_notice e n w) n vs) told) fit;
+      told = rest_is x (notice_at e n w) rest (notices_at (after_notice e n w) n vs) told;
       lives = all_same (is_live e) (is_live (after_notice e n w)) vs (λ k. live_notice e n w k) parts.1;
       same = same;
     }
@@ -76,8 +76,8 @@ none_left : (d e : Effects) (n : Node) (ws vs : List Watch) (t : Tables) → Tra
     → (let l : List Notice = [] in l) ≡ notices_at e n vs → after_notices e n vs ≡ after_notices d n ws
     → TracksTables (after_notices d n ws) t
 none_left d e n ws [] t tr told same = subst (λ (b : Effects). TracksTables b t) same tr
-none_left d e n ws (w ∷ vs) t tr told same = absurd (no_more (notice_at e n w) (notices_at
-    (after_notice e n w) n vs) (sym told))
+none_left d e n ws (w ∷ vs) t tr told same = absurd (nothing_more (notice_at e n w)
+    (notices_at (after_notice e n w) n vs) told)
 
 pub all_told : (d : Effects) (n : Node) (ws : List Watch) (t : Tables) → TellsLeft d n ws [] t
     → TracksTables (after_notices d n ws) t
@@ -94,12 +94,6 @@ pub record RefsLeft (d : Effects) (from to : ℕ) (refs rest : List ObjRef) (gs 
   pub given : gs ≡ given_refs now from to rest
   pub same : handed_refs now from to rest ≡ handed_refs d from to refs
 
-given_head : (x y : Given) (xs ys : List Given) → (let l : List Given = x ∷ xs in l) ≡ y ∷ ys → x ≡ y
-given_head x y xs ys is = cc
-
-given_tail : (x y : Given) (xs ys : List Given) → (let l : List Given = x ∷ xs in l) ≡ y ∷ ys → xs ≡ ys
-given_tail x y xs ys is = cc
-
 -- What handing one reference over promises.
 abbrev pub HandsOne : ℕ → ℕ → ObjRef → Option Given → Tables → Tables → Type 0
 HandsOne from to obj g t t' = (e : Effects) → Sound e → TracksTables e t → is_live e from ≡ true → is_live e to ≡ true
@@ -113,7 +107,7 @@ refs_next d from to refs obj rest g gs t t' l fits one =
     let e = l.now in
     let o = resolve_at e from obj in
     let after = (sim_ref e e to o l.receiver (sim_self e l.sound)).left in
-    let first = given_head g (given_ref e to o) gs (given_refs (handed_ref e to o) from to rest) l.given in
+    let first = first_is g (given_ref e to o) gs (given_refs (handed_ref e to o) from to rest) l.given in
     record {
       now = handed_ref e to o;
       sound = after;
@@ -121,40 +115,16 @@ refs_next d from to refs obj rest g gs t t' l fits one =
           (fit_before_refs (handed_ref e to o) from to rest after.balanced (subst AllFit (sym l.same) fits));
       giver = live_ref e to o from ∙ l.giver;
       receiver = live_ref e to o to ∙ l.receiver;
-      given = given_tail g (given_ref e to o) gs (given_refs (handed_ref e to o) from to rest) l.given;
+      given = rest_is g (given_ref e to o) gs (given_refs (handed_ref e to o) from to rest) l.given;
       same = l.same;
     }
 
 -- ---- places in lists
 
-drop_suc : {X : Type 0} (xs : List X) (i : ℕ) (x : X) → i < length xs → x ≡ get_or xs i x
-    → drop i xs ≡ x ∷ drop (suc i) xs
-drop_suc [] i x lt is = absurd (omega (arith, lt))
-drop_suc (y ∷ ys) zero x lt is = ap (λ v. v ∷ ys) (sym is)
-drop_suc (y ∷ ys) (suc i) x lt is = drop_suc ys i x (omega (arith, lt)) is
-
 -- The rest of a list from an index on begins with the element at that index.
 pub drop_item : {X : Type 0} (xs : List X) (i : ℕ) (x : X) → i < length xs → x ≡ get_or xs i x
     → drop i xs ≡ x ∷ drop (i + 1) xs
-drop_item xs i x lt is = drop_suc xs i x lt is ∙ ap (λ k. x ∷ drop k xs) (sym (add-one i))
-
-pub drop_end : {X : Type 0} (xs : List X) (i : ℕ) → length xs ≤ i → drop i xs ≡ []
-drop_end [] zero le = refl
-drop_end [] (suc i) le = refl
-drop_end (x ∷ xs) zero le = absurd (omega (arith, le))
-drop_end (x ∷ xs) (suc i) le = drop_end xs i (omega (arith, le))
-
-nothing_more : {X : Type 0} (y : X) (ys : List X) → (let l : List X = [] in l) ≡ y ∷ ys → ⊥
-nothing_more y ys is = cc
-
-first_is : {X : Type 0} (x y : X) (xs ys : List X) → (let l : List X = x ∷ xs in l) ≡ y ∷ ys → x ≡ y
-first_is x y xs ys is = cc
-
-rest_is : {X : Type 0} (x y : X) (xs ys : List X) → (let l : List X = x ∷ xs in l) ≡ y ∷ ys → xs ≡ ys
-rest_is x y xs ys is = cc
-
-some_given : (x y : Given) → (let o : Option Given = Some x in o) ≡ Some y → x ≡ y
-some_given x y is = cc
+drop_item xs i x lt is = drop_more xs i x lt ∙ ap (λ v. v ∷ drop (i + 1) xs) (sym is)
 
 get_first : {X : Type 0} (xs : List X) (i : ℕ) (y : X) (ys : List X) → drop i xs ≡ y ∷ ys → slice_get xs i ≡ Some y
 get_first [] zero y ys is = absurd (nothing_more y ys is)
@@ -176,28 +146,12 @@ refs_step d from to refs obj rest gs i t t' l fits one =
     let o = resolve_at e from obj in
     let g = given_ref e to o in
     let more = given_refs (handed_ref e to o) from to rest in
-    subst (λ (k : ℕ). RefsLeft d from to refs rest (drop k gs) t') (sym (add-one i))
-    (subst (λ (v : List Given). RefsLeft d from to refs rest v t') (sym (drop_rest gs i g more l.given))
-    (refs_next d from to refs obj rest g more t t'
-    (subst (λ (v : List Given). RefsLeft d from to refs (obj ∷ rest) v t) l.given l) fits
-    (subst (λ (v : Option Given). HandsOne from to obj v t t') (get_first gs i g more l.given) one)))
-
-pub all_handed : (d : Effects) (from to : ℕ) (refs : List ObjRef) (gs : List Given) (t : Tables)
-    → RefsLeft d from to refs [] gs t → TracksTables (handed_refs d from to refs) t
-all_handed d from to refs gs t l = subst (λ (b : Effects). TracksTables b t) l.same l.tracks
+    rw (add-one i, drop_rest gs i g more l.given)
+    (refs_next d from to refs obj rest g more t t' (rw l.given at l) fits (rw (get_first gs i g more l.given) at one))
 
 pub hand_step : (d : Effects) (to : ℕ) (o : Option Node) (n : Node) (g : Option Given) (x : Given) (t : Tables)
     → o ≡ Some n → g ≡ Some x → g ≡ Some (given_ref d to o) → AllFit (handed_ref d to o)
     → (x ≡ given_to d to n → AllFit (handed d to n) → TracksTables (handed d to n) t)
     → TracksTables (handed_ref d to o) t
 hand_step d to o n g x t is was given fits hand =
-    subst (λ (v : Option Node). g ≡ Some (given_ref d to v) → AllFit (handed_ref d to v)
-    → TracksTables (handed_ref d to v) t) (sym is)
-    (λ given' fits'. hand (some_given x (given_to d to n) (sym was ∙ given')) fits') given fits
-
-pub drop_at : {X : Type 0} (xs : List X) (i : ℕ) (y : X) → i < length xs → drop i xs ≡ get_or xs i y ∷ drop (i + 1) xs
-drop_at [] i y lt = absurd (omega (arith, lt))
-drop_at (x ∷ xs) zero y lt = refl
-drop_at (x ∷ xs) (suc i) y lt =
-    drop_at xs i y (omega (arith, lt))
-    ∙ ap (λ k. get_or xs i y ∷ drop k (x ∷ xs)) (let e : suc (i + 1) ≡ suc i + 1 = omega arith in e)
+    let given' = sym was ∙ rw is at given in let here : x ≡ given_to d to n = cc in rw is (hand here (rw is at fits))

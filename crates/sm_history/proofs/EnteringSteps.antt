@@ -1,6 +1,6 @@
 -- What an accepted change does to tables, step by step.
-use Rattle.std.proofs.Common.{◌≡◌, ℕ, ◌+◌, ◌<◌, true, false, ◌==◌, ◌∷◌, ap, sym, ◌∙◌, subst}
-use Rattle.std.proofs.Common.{Some, None, if◌then◌else◌, arith}
+use Rattle.std.proofs.Common.{◌≡◌, ℕ, ◌+◌, true, false, ◌==◌, ◌∷◌, ap, sym, ◌∙◌, subst, Some, None, if◌then◌else◌}
+use Rattle.std.proofs.Common.{arith}
 use Rattle.sm_kinds.specs.declared.number.Node.{Node}
 use Rattle.sm_history.specs.declared.limits.TheConstants.{GREATEST}
 use Rattle.sm_history.specs.declared.delivery.Given.{Given}
@@ -8,7 +8,6 @@ use Rattle.sm_history.specs.declared.delivery.Given.TheVariants.{Handle, Own}
 use Rattle.sm_history.specs.declared.delivery.Delivery.{Delivery}
 use Rattle.sm_history.specs.declared.notice.Notice.{Notice}
 use Rattle.sm_history.specs.declared.notice.Told.TheVariants.{Told as IsTold}
-use Rattle.sm_history.specs.declared.failed_check.FailedCheck.{FailedCheck}
 use Rattle.sm_history.specs.declared.tables.Tables.{Tables}
 use Rattle.sm_history.specs.Effects.{Effects, Watch, Gives, Delivers}
 use Rattle.sm_history.specs.Clients.{is_live}
@@ -36,16 +35,13 @@ sound_notice d n w s live = (sim_notice d d n w (sim_self d s) live).left
 
 -- ---- passing
 
-more_below : (v w g : ℕ) → w ≡ v + 1 → w < g → v + 1 < g
-more_below v w g e lt = omega (arith, e, lt)
-
 pub may_give : (d : Effects) (c : ℕ) (n : Node) (r : ℕ) → Sound d → is_live d c ≡ true → r ≡ number_for d c n
     → AllFit (Gives c n r ∷ d) → MayGive d c n r
 may_give d c n r s live number fits = (
   live,
   number,
-  is_below (refs_at d c n + 1) GREATEST (more_below (refs_at d c n) (refs_at (Gives c n r ∷ d) c n) GREATEST
-      (one_more d c n r s.balanced live) (fits c n)),
+  is_below (refs_at d c n + 1) GREATEST (let more = one_more d c n r s.balanced live in let lt = fits c n in
+      omega (arith, more, lt)),
 )
 
 -- An object that reaches a client as a handle is given to it.
@@ -67,10 +63,6 @@ hand_given d c n r s live =
 
 -- ---- notifying
 
-not_told : (d : Effects) (n : Node) (w : Watch) (failing : FailedCheck) (x : Delivery)
-    → told_of d n w (Some failing) ≡ IsTold x → ⊥
-not_told d n w failing x is = cc
-
 -- These are the effects of the steps of notifying a watcher.
 pub tell_step : (d : Effects) (w : Watch) (n : Node) (notice : Notice) (x copy : Delivery) (given : Given)
     (old mid new : Tables) → Sound d → TracksTables d old → is_live d w.client ≡ true → notice ≡ notice_at d n w
@@ -82,22 +74,16 @@ pub tell_step : (d : Effects) (w : Watch) (n : Node) (notice : Notice) (x copy :
     → TracksTables (Delivers notice.client.0 copy ∷ e) new)
     → TracksTables (after_notice d n w) new
 tell_step d w n notice x copy given old mid new s tr live is fits told by same hand deliver =
-    subst (λ (v : Notice). v.result ≡ IsTold x
-    → ((e : Effects) → Sound e → TracksTables e old → is_live e v.client.0 ≡ true
-    → given ≡ given_to e v.client.0 n → AllFit (handed e v.client.0 n)
-    → TracksTables (handed e v.client.0 n) mid)
-    → ((e : Effects) → Sound e → TracksTables e mid → is_live e v.client.0 ≡ true
-    → TracksTables (Delivers v.client.0 copy ∷ e) new)
-    → TracksTables (after_notice d n w) new) (sym is)
-    (λ told' hand' deliver'.
+    let told' = rw is at told in
+    let hand' = rw is at hand in
+    let deliver' = rw is at deliver in
     elim (first_missing d n w) as (λ o. told_of d n w o ≡ IsTold x → AllFit (after_told d n w o)
     → TracksTables (after_told d n w o) new) [
       | None ↦ λ is' fits'.
           let registered : registration d n w ≡ x = cc in
           let given' : given ≡ given_to d w.client n = by ∙ ap given_of (sym registered) in
-          subst (λ (v : Delivery). TracksTables (Delivers w.client v ∷ handed d w.client n) new)
-          (same ∙ sym registered)
+          rw (← (same ∙ sym registered))
           (deliver' (handed d w.client n) (sound_handed d w.client n s live) (hand' d s tr live given' fits')
           (live_handed d w.client n w.client ∙ live))
-      | Some failing ↦ λ is' fits'. absurd (not_told d n w failing x is')
-    ] told' fits) told hand deliver
+      | Some failing ↦ λ is' fits'. cc
+    ] told' fits

@@ -1,13 +1,10 @@
 -- An accepted change, a death too, leaves the places for the deaths to come.
-use Rattle.std.proofs.Common.{◌≡◌, ℕ, ◌+◌, ◌≤◌, true, false, ◌==◌, List, [], ◌∷◌, refl, ap, ◌∙◌, length, arith}
-use Rattle.std.proofs.Common.{if◌then◌else◌}
+use Rattle.std.proofs.Common.{◌≡◌, ℕ, ◌+◌, ◌≤◌, true, ◌==◌, List, [], ◌∷◌, refl, ap, ◌∙◌, length, arith, subst}
 use Rattle.std.specs.Prelude.{filter, not}
 use Rattle.std.specs.List.{list_any}
-use Rattle.std.proofs.lemmas.Bool.Decides.{nat_tests}
 use Rattle.sm_history.specs.declared.by.By.{By}
 use Rattle.sm_history.specs.declared.event.Event.{Event}
-use Rattle.sm_history.specs.declared.event.Event.TheVariants.{Open, Connect, Add, Get, Watch as WatchName, Unwatch}
-use Rattle.sm_history.specs.declared.event.Event.TheVariants.{Unregister, Call, Release, Take, Die, Reload}
+use Rattle.sm_history.specs.declared.event.Event.TheVariants.{Die}
 use Rattle.sm_history.specs.declared.outcome.Outcome.{Outcome}
 use Rattle.sm_history.specs.declared.reply.Reply.TheVariants.{Done}
 use Rattle.sm_history.specs.Clients.{live_clients, is_live}
@@ -22,27 +19,15 @@ use Rattle.sm_history.proofs.SoundHistory.{met}
 use Rattle.sm_history.proofs.AfterClients.{list_dies}
 use Rattle.sm_history.proofs.Fitting.{fits_more}
 use Rattle.sm_history.proofs.Living.{any_live}
-
-less : (c : ℕ) (xs : List ℕ) → length (filter (λ k. not (c == k)) xs) ≤ length xs
-less c [] = omega arith
-less c (x ∷ xs) = let i = less c xs in
-    elim (c == x) as (λ b. length (if not b then x ∷ filter (λ k. not (c == k)) xs else filter (λ k. not (c == k)) xs)
-    ≤ length (x ∷ xs)) [ true ↦ omega (arith, i) | false ↦ omega (arith, i) ]
+use Rattle.sm_history.proofs.Lists.{filter_fewer}
+use Rattle.sm_history.proofs.Balanced.{turned}
+use Rattle.std.proofs.lemmas.List.Elements.{filter_agree}
 
 pub fewer : (c : ℕ) (xs : List ℕ) → list_any (λ x. x == c) xs ≡ true
     → length (filter (λ k. not (c == k)) xs) + 1 ≤ length xs
-fewer c [] h = cc
-fewer c (x ∷ xs) h =
-    let l = less c xs in
-    elim (c == x) as (λ b. (c == x) ≡ b →
-    length (if not b then x ∷ filter (λ k. not (c == k)) xs else filter (λ k. not (c == k)) xs) + 1 ≤ length
-    (x ∷ xs)) [
-      | true ↦ λ e. omega (arith, l)
-      | false ↦ λ e.
-          let other : (x == c) ≡ false = grind (arith, nat_tests) in
-          let i = fewer c xs (rw other at h) in
-          omega (arith, i)
-    ] refl
+fewer c xs h = subst (λ (ks : List ℕ). length ks + 1 ≤ length xs)
+    (filter_agree (λ k. not (k == c)) (λ k. not (c == k)) (λ k. ap not (turned k c)) xs)
+    (filter_fewer (λ x. x == c) xs h)
 
 pub fits_any : (places : ℕ) (h : History) (by : By) (turn : ℕ) (event : Event) (outcome : Outcome)
     → Sound (effects_of h) → FitsPlaces places h → verdict places h by turn event ≡ Done outcome
@@ -56,26 +41,5 @@ fits_any places h by turn Die outcome s fits done =
     let one = fewer c (live_clients d) (any_live d c ∙ live) in
     let now = ap (length {A = ℕ}) (list_dies d c) in
     omega (arith, one, now, fits)
-fits_any places h by turn (Open who policy) outcome s fits done =
-    fits_more places h (record { by = by; turn = turn; event = Open who policy; outcome = outcome }) s refl done
-fits_any places h by turn (Connect who) outcome s fits done =
-    fits_more places h (record { by = by; turn = turn; event = Connect who; outcome = outcome }) s refl done
-fits_any places h by turn (Add name obj allow dump) outcome s fits done =
-    fits_more places h (record { by = by; turn = turn; event = Add name obj allow dump; outcome = outcome }) s refl done
-fits_any places h by turn (Get name) outcome s fits done =
-    fits_more places h (record { by = by; turn = turn; event = Get name; outcome = outcome }) s refl done
-fits_any places h by turn (WatchName name object) outcome s fits done =
-    fits_more places h (record { by = by; turn = turn; event = WatchName name object; outcome = outcome }) s refl done
-fits_any places h by turn (Unwatch name object) outcome s fits done =
-    fits_more places h (record { by = by; turn = turn; event = Unwatch name object; outcome = outcome }) s refl done
-fits_any places h by turn (Unregister name obj) outcome s fits done =
-    fits_more places h (record { by = by; turn = turn; event = Unregister name obj; outcome = outcome }) s refl done
-fits_any places h by turn (Call handle payload refs) outcome s fits done =
-    fits_more places h (record { by = by; turn = turn; event = Call handle payload refs; outcome = outcome }) s refl
-    done
-fits_any places h by turn (Release handle) outcome s fits done =
-    fits_more places h (record { by = by; turn = turn; event = Release handle; outcome = outcome }) s refl done
-fits_any places h by turn Take outcome s fits done =
-    fits_more places h (record { by = by; turn = turn; event = Take; outcome = outcome }) s refl done
-fits_any places h by turn (Reload expected policy) outcome s fits done =
-    fits_more places h (record { by = by; turn = turn; event = Reload expected policy; outcome = outcome }) s refl done
+fits_any places h by turn event outcome s fits done =
+    fits_more places h (record { by = by; turn = turn; event = event; outcome = outcome }) s refl done

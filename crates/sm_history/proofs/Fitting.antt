@@ -8,13 +8,11 @@ use Rattle.std.proofs.lemmas.List.{length-append}
 use Rattle.sm_policy.specs.Policy.{Policy}
 use Rattle.sm_history.specs.declared.entry.Entry.{Entry}
 use Rattle.sm_history.specs.declared.event.Event.{Event}
-use Rattle.sm_history.specs.declared.event.Event.TheVariants.{Open, Connect, Add, Get, Watch as WatchName, Unwatch}
-use Rattle.sm_history.specs.declared.event.Event.TheVariants.{Unregister, Call, Release, Take, Die, Reload}
+use Rattle.sm_history.specs.declared.event.Event.TheVariants.{Connect, Add, Release, Die}
 use Rattle.sm_history.specs.declared.reply.Reply.TheVariants.{Done}
 use Rattle.sm_history.specs.declared.failed_check.EarlyAnswer.TheVariants.{Refused}
 use Rattle.sm_history.specs.declared.refusal.Refusal.TheVariants.{JournalFull}
-use Rattle.sm_history.specs.Effects.{Effects, Opens, Sets, Connects, Dies, Adds, Removes, Gives, Releases, Watches}
-use Rattle.sm_history.specs.Effects.{Unwatches, Delivers, Takes, Resumes}
+use Rattle.sm_history.specs.Effects.{Effects, Connects, Dies}
 use Rattle.sm_history.specs.Checks.{Check, Wants}
 use Rattle.sm_history.specs.Clients.{policy_at, live_clients, next_client}
 use Rattle.sm_history.specs.Histories.{History, effects_of, entered, client_of, length_of, after_event}
@@ -35,34 +33,17 @@ LivesIn n d = length (live_clients d) ≤ n
 lives_last : (n : ℕ) → Lasts (LivesIn n)
 lives_last n (Connects c who) d plain h = absurd (true≢false (sym plain))
 lives_last n (Dies c) d plain h = absurd (true≢false (sym plain))
-lives_last n (Releases c m) d plain h = absurd (true≢false (sym plain))
-lives_last n (Adds name s) d plain h = absurd (true≢false (sym plain))
-lives_last n (Resumes v k) d plain h = absurd (true≢false (sym plain))
-lives_last n (Opens who) d plain h = h
-lives_last n (Sets p) d plain h = h
-lives_last n (Removes name) d plain h = h
-lives_last n (Gives c m r) d plain h = h
-lives_last n (Watches w) d plain h = h
-lives_last n (Unwatches w) d plain h = h
-lives_last n (Delivers c x) d plain h = h
-lives_last n (Takes c) d plain h = h
+lives_last n _ d plain h = h
 
 lives_left : (d : Effects) (c : ℕ) (event : Event) → is_die event ≡ false → Sound d
     → LeftToKeep (LivesIn (length (live_clients d) + (places_needed event - 1))) d c event
-lives_left d c (Open who policy) a s = tt
 lives_left d c (Connect who) a s = let e = ap (length {A = ℕ})
     (list_connects d (next_client d) who (is_new d (next_client d) refl s.fresh)) ∙
     length-append (live_clients d) (next_client d ∷ []) in omega (arith, e)
 lives_left d c (Add name obj allow dump) a s = omega arith
-lives_left d c (Get name) a s = tt
-lives_left d c (WatchName name object) a s = tt
-lives_left d c (Unwatch name object) a s = tt
-lives_left d c (Unregister name obj) a s = tt
-lives_left d c (Call handle payload refs) a s = tt
 lives_left d c (Release handle) a s = omega arith
-lives_left d c Take a s = tt
 lives_left d c Die a s = absurd (true≢false a)
-lives_left d c (Reload expected policy) a s = tt
+lives_left d c _ a s = tt
 
 hold_right : (p : Policy) (xs ys : List Check) → AllHold p (xs ++ ys) → AllHold p ys
 hold_right p [] ys h = h
@@ -79,17 +60,7 @@ place_done places h e done =
 
 needs_one : (event : Event) → 1 ≤ places_needed event
 needs_one (Connect who) = omega arith
-needs_one (Open who policy) = omega arith
-needs_one (Add name obj allow dump) = omega arith
-needs_one (Get name) = omega arith
-needs_one (WatchName name object) = omega arith
-needs_one (Unwatch name object) = omega arith
-needs_one (Unregister name obj) = omega arith
-needs_one (Call handle payload refs) = omega arith
-needs_one (Release handle) = omega arith
-needs_one Take = omega arith
-needs_one Die = omega arith
-needs_one (Reload expected policy) = omega arith
+needs_one _ = omega arith
 
 -- What a change that is no death had: places, room for its length, and counts that fit.
 pub record HasRoom (places : ℕ) (h : History) (c : ℕ) (event : Event) : Type 0 where

@@ -1,5 +1,5 @@
 -- Effects that may come next keep what holds of lawful histories.
-use Rattle.std.proofs.Common.{ℕ, ◌∷◌}
+use Rattle.std.proofs.Common.{ℕ, ◌∷◌, sym, subst}
 use Rattle.sm_history.specs.Effects.{Effect, Effects, Opens, Sets, Connects, Dies, Adds, Removes, Gives, Releases}
 use Rattle.sm_history.specs.Effects.{Watches, Unwatches, Delivers, Takes, Resumes}
 use Rattle.sm_history.specs.Following.{MayFollow}
@@ -7,7 +7,6 @@ use Rattle.sm_history.proofs.Sound.{Numbers, sound_opens, sound_sets, sound_conn
 use Rattle.sm_history.proofs.Sound.{sound_removes, sound_gives, sound_releases, sound_watches, sound_unwatches}
 use Rattle.sm_history.proofs.Sound.{sound_delivers, sound_takes}
 use Rattle.sm_history.proofs.AgreeNotices.{number_for_is}
-use Rattle.std.proofs.Common.{sym, subst}
 use Rattle.sm_history.specs.Sound.{Sound}
 
 pub sound_follows : (d : Effects) (x : Effect) → Sound d → MayFollow d x → Sound (x ∷ d)

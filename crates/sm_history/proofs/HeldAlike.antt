@@ -9,9 +9,9 @@ use Rattle.std.proofs.lemmas.Bool.{true≢false}
 use Rattle.sm_kinds.specs.declared.number.Node.{Node}
 use Rattle.sm_history.specs.Effects.{Effects, same_node}
 use Rattle.sm_history.specs.Holdings.{is_held, held_nodes, given_nodes, number_at, node_at, free_number}
-use Rattle.sm_history.proofs.Balanced.{node_same}
+use Rattle.sm_history.proofs.Balanced.{node_same, number_same}
 use Rattle.sm_history.proofs.Grants.{IsDistinct, given_distinct, held_given, same_self}
-use Rattle.sm_history.proofs.Lists.{any_filter}
+use Rattle.sm_history.proofs.Lists.{any_filter, filter_fewer}
 use Rattle.sm_history.specs.Sound.{HasOneEach}
 
 -- ---- lists of objects
@@ -52,23 +52,6 @@ distinct_filter p (x ∷ xs) h =
       | false ↦ distinct_filter p xs h.1
     ]
 
-shorter : (p : Node → Bool) (xs : List Node) → length (filter p xs) ≤ length xs
-shorter p [] = omega arith
-shorter p (x ∷ xs) = let i = shorter p xs in
-    elim (p x) as (λ b. length (if b then x ∷ filter p xs else filter p xs) ≤ length (x ∷ xs))
-    [ true ↦ omega (arith, i) | false ↦ omega (arith, i) ]
-
-shorter_by_one : (a : Node) (xs : List Node) → list_any (same_node a) xs ≡ true
-    → length (filter (λ m. not (same_node a m)) xs) + 1 ≤ length xs
-shorter_by_one a [] h = absurd (true≢false (sym h))
-shorter_by_one a (x ∷ xs) h =
-    let p = λ (m : Node). not (same_node a m) in
-    elim (same_node a x) as (λ b. (b || list_any (same_node a) xs) ≡ true →
-    length (if not b then x ∷ filter p xs else filter p xs) + 1 ≤ length (x ∷ xs)) [
-      | true ↦ λ e. let i = shorter p xs in omega (arith, i)
-      | false ↦ λ e. let i = shorter_by_one a xs e in omega (arith, i)
-    ] h
-
 pub fewer : (xs ys : List Node) → IsDistinct xs
     → ((n : Node) → list_any (same_node n) xs ≡ true → list_any (same_node n) ys ≡ true) → length xs ≤ length ys
 fewer [] ys dist in_ys = omega arith
@@ -82,7 +65,7 @@ fewer (x ∷ xs) ys dist in_ys =
           (sym h ∙ subst (λ (v : Node). list_any (same_node v) xs ≡ false) (node_same x n e) dist.0))
     ] refl)
     (in_ys n (elim (same_node n x) as (λ b. (b || list_any (same_node n) xs) ≡ true) [ true ↦ refl | false ↦ h ]))) in
-    let s = shorter_by_one x ys here in
+    let s = filter_fewer (same_node x) ys here in
     omega (arith, i, s)
 
 find_some : (p : Node → Bool) (xs : List Node) (x : Node) → find p xs ≡ Some x
@@ -138,16 +121,13 @@ pub counts_alike : (d e : Effects) (c : ℕ) → HoldAlike d e c → length (hel
 counts_alike d e c same = let a = no_fewer d e c same in let b = no_fewer e d c (λ n. sym (same n)) in
     omega (arith, a, b)
 
-is_number : (d : Effects) (c r : ℕ) (n : Node) → (number_at d c n == r) ≡ true → number_at d c n ≡ r
-is_number d c r n h = grind (arith, nat_tests)
-
 pub number_is : (a r : ℕ) → a ≡ r → (a == r) ≡ true
 number_is a r e = grind (arith, nat_tests)
 
 pub node_held : (d : Effects) (c r : ℕ) (n : Node) → node_at d c r ≡ Some n
     → (is_held d c n ≡ true) × (number_at d c n ≡ r)
 node_held d c r n h = let f = find_some (λ m. number_at d c m == r) (held_nodes d c) n h in
-    (among_held d c n f.1, is_number d c r n f.0)
+    (among_held d c n f.1, number_same (number_at d c n) r f.0)
 
 pub node_not_held : (d : Effects) (c r : ℕ) (n : Node) → node_at d c r ≡ None → is_held d c n ≡ true
     → (number_at d c n == r) ≡ false

@@ -37,8 +37,7 @@ pub record HasNoTurns (h : History) : Type 0 where
   pub none : (k : ℕ) → next_client (effects_of h) ≤ k → turn_of h (client k) ≡ 0
 
 none_opening : (e : Entry) (k : ℕ) → IsOpening e → turn_of (whole (e ∷ [])) (client k) ≡ 0
-none_opening e k (who, policy, is, may, ok) = subst (λ (x : Entry). turn_of (whole (x ∷ [])) (client k) ≡ 0) (sym is)
-    (omega arith)
+none_opening e k (who, policy, is, may, ok) = rw is (omega arith)
 
 none_rows : (number : ℕ) (a : List Entry) (k n : ℕ) → n ≡ 0 → turn_of (whole a) (client k) ≡ n →
     turn_of (record { number = number; opening = rows_of (whole a); entries = [] }) (client k) ≡ 0

@@ -15,7 +15,7 @@ use Rattle.sm_history.specs.Lawful.{IsOpening, AreLawfulApart, AreLawful, IsLawf
 use Rattle.sm_history.proofs.Sound.{sound_opens, sound_sets}
 use Rattle.sm_history.proofs.SoundHistory.{Met, met, sound_event, sound_none}
 use Rattle.sm_history.proofs.RowsSound.{sound_back}
-use Rattle.sm_history.specs.Sound.{IsBalanced, IsFresh, IsOwned, Sound}
+use Rattle.sm_history.specs.Sound.{Sound}
 
 -- What an induction has to show.
 pub record Holds (P : History → Type 0) : Type 0 where
@@ -35,12 +35,9 @@ holds_apart P holds (e ∷ f ∷ es) (before, done, ok) =
 holds_after : (P : History → Type 0) → Holds P → (places number : ℕ) (o : Opening) (es : List Entry)
     → AreLawful places number o es → P (record { number = number; opening = o; entries = es })
 holds_after P holds places number o [] ((a, l, is), fits) =
-    subst (λ (v : Opening). P (record { number = number; opening = v; entries = [] })) (sym is)
-    (holds.resumes number a l (holds_apart P holds a l))
+    rw is (holds.resumes number a l (holds_apart P holds a l))
 holds_after P holds places number o (e ∷ es) (inl (first, is, none, opens)) =
-    subst (λ (n : ℕ). P (record { number = n; opening = o; entries = e ∷ es })) (sym first)
-    (subst (λ (v : Opening). P (record { number = 1; opening = v; entries = e ∷ es })) (sym is)
-    (subst (λ (v : List Entry). P (whole (e ∷ v))) (sym none) (holds.opens e opens)))
+    rw (first, is, none) (holds.opens e opens)
 holds_after P holds places number o (e ∷ es) (inr (before, done, ok)) =
     let h : History = record { number = number; opening = o; entries = es } in
     holds.goes_on e h (met (effects_of h) (turn_of h e.by) e.by e.turn e.event
@@ -73,12 +70,3 @@ sound_apart a l = holds_apart LeavesSound holds_sound a l
 
 pub sound_lawful : (places : ℕ) (h : History) → IsLawful places h → Sound (effects_of h)
 sound_lawful places h l = holds_lawful LeavesSound holds_sound places h l
-
-pub fresh_lawful : (places : ℕ) (h : History) → IsLawful places h → IsFresh (effects_of h)
-fresh_lawful places h l = (sound_lawful places h l).fresh
-
-pub owned : (places : ℕ) (h : History) → IsLawful places h → IsOwned (effects_of h)
-owned places h l = (sound_lawful places h l).owned
-
-pub balanced : (places : ℕ) (h : History) → IsLawful places h → IsBalanced (effects_of h)
-balanced places h l = (sound_lawful places h l).balanced

@@ -23,12 +23,7 @@ use Rattle.sm_history.proofs.PossibleReplies.{connect_answer}
 pub connect_answered : (b after : Book) (who : Identity) (due : ℕ) (r : Reply) → due ≡ turn_of b.history Manager
     → Steps b Manager due (Connect who) r after → ConnectReply r
 connect_answered b after who due r is s =
-    ⊎_elim
-    (λ t. subst ConnectReply (sym t.0) tt)
-    (λ t. subst ConnectReply (sym t.0)
-    (subst (λ (n : ℕ). ConnectReply (verdict b.places b.history Manager n (Connect who))) (sym is)
-    (connect_answer b.places b.history who)))
-    s
+    ⊎_elim (λ t. subst ConnectReply (sym t.0) tt) (λ t. rw (t.0, is) (connect_answer b.places b.history who)) s
 
 pub sees_alike : (old new : Knows) (b : Book) (by : By) → Sees old b new
     → Sees (token by old.seen old.reads) b (token by new.seen new.reads)
@@ -50,8 +45,7 @@ joins b after old seat who due c is s sees =
 
 pub turns_away : (b after : Book) (old new : Knows) (who : Identity) (due : ℕ) (refusal : Refusal)
     → due ≡ turn_of b.history Manager → Steps b Manager due (Connect who) (Refused refusal) after
-    → ((refusal ≡ Memory) × (new ≡ old)) ⊎ ((refusal ≢ Memory) × Sees old after new)
-    → Turned old new who refusal
+    → ((refusal ≡ Memory) × (new ≡ old)) ⊎ ((refusal ≢ Memory) × Sees old after new) → Turned old new who refusal
 turns_away b after old new who due refusal is s which =
     ⊎_elim inl (λ moved. inr (⊎_elim (λ t. absurd (moved.0 (unwrapped t.0))) (λ t. (
       moved.1.0,

@@ -38,7 +38,7 @@ versions_rise h (Made e ∷ ms) =
     omega (arith, i, one)
 versions_rise h (Seals ∷ ms) = versions_rise h ms
 
-clients_rise : (h : History) (ms : List Move) → next_client (effects_of h) ≤ next_client (effects_of (gone_on h ms))
+pub clients_rise : (h : History) (ms : List Move) → next_client (effects_of h) ≤ next_client (effects_of (gone_on h ms))
 clients_rise h [] = omega arith
 clients_rise h (Made e ∷ ms) =
     let i = clients_rise h ms in

@@ -1,6 +1,6 @@
 -- Every lawful manager was opened, and what is true of a history stays true of the histories that begin with it.
-use Rattle.std.proofs.Common.{inl, inr, ◌≡◌, ℕ, ◌+◌, ◌-◌, ◌≤◌, true, false, List, [], ◌∷◌, length, drop, refl, ap, sym}
-use Rattle.std.proofs.Common.{◌∙◌, subst, arith}
+use Rattle.std.proofs.Common.{inl, inr, ◌≡◌, ℕ, ◌+◌, ◌-◌, ◌≤◌, true, List, [], ◌∷◌, length, drop, refl, ap, sym, ◌∙◌}
+use Rattle.std.proofs.Common.{subst, arith}
 use Rattle.std.specs.List.{All, list_any}
 use Rattle.std.proofs.Math.Seq.{drop-append-add}
 use Rattle.std.proofs.lemmas.Bool.{or_right}
@@ -11,7 +11,6 @@ use Rattle.sm_history.specs.declared.records.Record.{Record}
 use Rattle.sm_history.specs.Effects.{Effect, Effects, Watch, Opens, Sets, Connects, Dies, Adds, Gives, Releases}
 use Rattle.sm_history.specs.Effects.{Watches, Delivers}
 use Rattle.sm_kinds.specs.declared.identity.Identity.{Identity}
-use Rattle.sm_policy.specs.Policy.{Policy, written, allowed}
 use Rattle.sm_history.specs.declared.denial.Denial.{Denial}
 use Rattle.sm_history.specs.declared.denial.Denial.TheVariants.{Rule, App, Isolated}
 use Rattle.sm_history.specs.Clients.{version_at, next_client, policy_at, is_opening, is_opened}
@@ -19,11 +18,9 @@ use Rattle.sm_history.specs.Holdings.{resolve_at, node_at}
 use Rattle.sm_history.specs.Histories.{History, whole, entered, length_of, client_of, effects_of, after_event, found}
 use Rattle.sm_history.specs.Histories.{service}
 use Rattle.sm_history.specs.Segments.{sealed}
-use Rattle.sm_history.specs.declared.event.Event.TheVariants.{Open, Connect, Add, Get, Watch as WatchName, Unwatch}
-use Rattle.sm_history.specs.declared.event.Event.TheVariants.{Unregister, Call, Release, Take, Die, Reload}
+use Rattle.sm_history.specs.declared.event.Event.TheVariants.{Connect, Add, Release, Die}
 use Rattle.sm_history.specs.Rows.{LiveRow, HeldRow, NamedRow, WaitingRow, Rows, rows_at, put_all, put_live, put_named}
-use Rattle.sm_history.specs.Rows.{put_held, put_watch, put_waiting, live_put, names_put, held_put, watches_put}
-use Rattle.sm_history.specs.Rows.{resumed}
+use Rattle.sm_history.specs.Rows.{put_held, put_watch, put_waiting, live_put, names_put, held_put, watches_put, resumed}
 use Rattle.sm_history.specs.Lawful.{IsLawful, IsOpening}
 use Rattle.sm_history.specs.Beginning.{Move, Made, Seals, gone_on, BeginsWith}
 use Rattle.sm_history.specs.Records.{records, prefix_at, Stands, IsDeniedBy, IsTrueOf, IsTrueSince}
@@ -42,18 +39,11 @@ more : (x : Effect) (d : Effects) → IsOpened d → IsOpened (x ∷ d)
 more x d h = or_right (is_opening x) (list_any is_opening d) h
 
 opened_left : (d : Effects) (c : ℕ) (event : Event) → IsOpened d → LeftToKeep IsOpened d c event
-opened_left d c (Open who policy) h = tt
 opened_left d c (Connect who) h = more (Connects (next_client d) who) d h
 opened_left d c (Add name obj allow dump) h = more (Adds name (service c (found (resolve_at d c obj)) allow dump)) d h
-opened_left d c (Get name) h = tt
-opened_left d c (WatchName name object) h = tt
-opened_left d c (Unwatch name object) h = tt
-opened_left d c (Unregister name obj) h = tt
-opened_left d c (Call handle payload refs) h = tt
 opened_left d c (Release handle) h = more (Releases c (found (node_at d c handle))) d h
-opened_left d c Take h = tt
 opened_left d c Die h = more (Dies c) d h
-opened_left d c (Reload expected policy) h = tt
+opened_left d c _ h = tt
 
 opened_event : (d : Effects) (c : ℕ) (event : Event) → IsOpened d → IsOpened (after_event d c event)
 opened_event d c event h = event_keeps IsOpened (λ x b plain i. more x b i) d c event (opened_left d c event h) h
@@ -120,14 +110,8 @@ stands_back d who (inr (c, live, is)) = inr (c, live_back d c ∙ live, is ∙ w
 
 denied_alike : (d e : Effects) (r : Record) (x : Denial) → policy_at d ≡ policy_at e → IsDeniedBy d r x
     → IsDeniedBy e r x
-denied_alike d e r (Rule s t class perm) same (target, is, source, of, unwritten, passed) = (
-  target,
-  is,
-  source,
-  of,
-  subst (λ (p : Policy). written p s t class perm ≡ false) same unwritten,
-  subst (λ (p : Policy). r.permissive ≡ allowed p s t class perm) same passed,
-)
+denied_alike d e r (Rule s t class perm) same (target, is, source, of, unwritten, passed) =
+    (target, is, source, of, rw (← same) unwritten, rw (← same) passed)
 denied_alike d e r (App uid) same denied = denied
 denied_alike d e r (Isolated uid) same denied = denied
 

@@ -3,12 +3,11 @@ use Rattle.std.proofs.Common.{◌≡◌, ⊎_elim, sym, subst, ℕ}
 use Rattle.sm_kinds.specs.declared.number.AdminId.{AdminId}
 use Rattle.sm_kinds.specs.declared.number.ClientId.{ClientId}
 use Rattle.sm_policy.specs.Policy.{Policy}
-use Rattle.sm_history.specs.declared.by.By.{By}
 use Rattle.sm_history.specs.declared.by.By.TheVariants.{Client, Admin}
 use Rattle.sm_history.specs.declared.event.Event.{Event}
 use Rattle.sm_history.specs.declared.event.Event.TheVariants.{Die, Reload}
 use Rattle.sm_history.specs.declared.reply.Reply.{Reply}
-use Rattle.sm_history.specs.declared.reply.Reply.TheVariants.{Done, GotNull, GotOwn, Looked, Sealed, Refused}
+use Rattle.sm_history.specs.declared.reply.Reply.TheVariants.{Done, Refused}
 use Rattle.sm_history.specs.declared.refusal.Refusal.TheVariants.{Memory}
 use Rattle.sm_history.specs.Books.{Book}
 use Rattle.sm_history.specs.Verdict.{verdict}
@@ -16,6 +15,7 @@ use Rattle.sm_history.specs.Promises.{Submitted, NotMade}
 use Rattle.sm_history.specs.PossibleReplies.{LeaveReply, InstallReply}
 use Rattle.sm_history.specs.Tokens.{Knows, turn}
 use Rattle.sm_history.proofs.PossibleReplies.{leave_answer, install_answer}
+use Rattle.sm_history.specs.declared.by.By.{By}
 
 -- What holds of a failed allocation and of each verdict holds of the answer.
 module _ (Of : Reply → Type 0) (old new : Knows) (event : Event) (memory : Of (Refused Memory))
@@ -29,11 +29,7 @@ module _ (Of : Reply → Type 0) (old new : Knows) (event : Event) (memory : Of 
 
   of_submitted : (r : Reply) → Submitted old new event r → Of r
   of_submitted (Done o) s = subst Of s.verdict_is (verdicts s.before)
-  of_submitted GotNull s = not_made GotNull s
-  of_submitted (GotOwn o) s = not_made (GotOwn o) s
-  of_submitted (Looked v l a) s = not_made (Looked v l a) s
-  of_submitted (Sealed n l) s = not_made (Sealed n l) s
-  of_submitted (Refused r) s = not_made (Refused r) s
+  of_submitted r s = not_made r s
 
 pub leave_answered : (old new : Knows) (c : ClientId) (r : Reply) → old.by ≡ Client c → Submitted old new Die r
     → LeaveReply r

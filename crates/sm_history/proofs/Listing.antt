@@ -1,8 +1,8 @@
 -- The outcomes of a lawful history list just the deliveries, the numbers of handles and the clients of its effects.
-use Rattle.std.proofs.Common.{inl, inr, ◌≡◌, ℕ, Bool, true, false, ◌==◌, List, [], ◌∷◌, ◌++◌, refl, ap, sym, ◌∙◌}
-use Rattle.std.proofs.Common.{subst, Option, Some, None, if◌then◌else◌}
-use Rattle.std.specs.Prelude.{filter_map, reverse, not, is_some}
-use Rattle.std.proofs.lemmas.Bool.{true≢false}
+use Rattle.std.proofs.Common.{inl, inr, ◌≡◌, ℕ, true, false, ◌==◌, List, [], ◌∷◌, ◌++◌, refl, ap, sym, ◌∙◌, subst}
+use Rattle.std.proofs.Common.{Option, Some, None, if◌then◌else◌}
+use Rattle.std.specs.Prelude.{filter_map, reverse, is_some}
+use Rattle.std.proofs.lemmas.Bool.{true≢false, not-true}
 use Rattle.std.proofs.lemmas.List.{reverse-append, append_assoc, append-nil}
 use Rattle.sm_kinds.specs.declared.number.Node.{Node}
 use Rattle.sm_kinds.specs.declared.number.ObjRef.{ObjRef}
@@ -11,8 +11,7 @@ use Rattle.sm_history.specs.declared.delivery.Delivery.{Delivery}
 use Rattle.sm_history.specs.declared.outcome.Outcome.{Outcome}
 use Rattle.sm_history.specs.declared.entry.Entry.{Entry}
 use Rattle.sm_history.specs.declared.event.Event.{Event}
-use Rattle.sm_history.specs.declared.event.Event.TheVariants.{Open, Connect, Add, Get, Watch as WatchName, Unwatch}
-use Rattle.sm_history.specs.declared.event.Event.TheVariants.{Unregister, Call, Release, Take, Die, Reload}
+use Rattle.sm_history.specs.declared.event.Event.TheVariants.{Add, Get, Watch as WatchName, Call}
 use Rattle.sm_history.specs.declared.reply.Reply.TheVariants.{Done}
 use Rattle.sm_history.specs.declared.failed_check.FailedCheck.{FailedCheck}
 use Rattle.sm_history.specs.Effects.{Effect, Effects, Service, Watch, Adds, Gives, Watches}
@@ -22,19 +21,20 @@ use Rattle.sm_history.specs.Services.{service_at, watchers_at}
 use Rattle.sm_history.specs.Notices.{after_told, after_notices, first_missing, notices_at, registration, told_of}
 use Rattle.sm_history.specs.Rows.{resumed}
 use Rattle.sm_history.specs.Openings.{Opening}
-use Rattle.sm_history.specs.Histories.{History, whole, entered, effects_of, after_event, after_get, after_watch}
-use Rattle.sm_history.specs.Histories.{client_of, turn_of, found, given_ref, given_refs, handed_ref, handed_refs}
-use Rattle.sm_history.specs.Histories.{call_delivery, service, watch}
+use Rattle.sm_history.specs.Histories.{History, entered, effects_of, after_event, after_get, after_watch, client_of}
+use Rattle.sm_history.specs.Histories.{turn_of, found, given_ref, given_refs, handed_ref, handed_refs, call_delivery}
+use Rattle.sm_history.specs.Histories.{service, watch}
 use Rattle.sm_history.specs.Verdict.{answered, checks, handing_checks, has_place, outcome_of, handle_number}
 use Rattle.sm_history.specs.Verdict.{notice_of_watch}
 use Rattle.sm_history.specs.Checks.{Wants, first_failing}
 use Rattle.sm_history.specs.declared.failed_check.EarlyAnswer.TheVariants.{Refused}
 use Rattle.sm_history.specs.declared.refusal.Refusal.TheVariants.{JournalFull}
-use Rattle.sm_history.specs.declared.outcome.Outcome.TheVariants.{Watched}
+use Rattle.sm_history.specs.declared.outcome.Outcome.TheVariants.{Granted, Watched}
 use Rattle.sm_history.specs.Lawful.{AreLawful, IsLawful}
 use Rattle.sm_history.specs.Listing.{told_deliveries, notice_deliveries, listed_deliveries, number_in, numbers_in}
 use Rattle.sm_history.specs.Listing.{message_numbers, delivery_numbers, listed_numbers, listed_clients, all_listed}
 use Rattle.sm_history.specs.Listing.{delivery_made, number_made, ListsEffects}
+use Rattle.sm_history.proofs.Keeps.{handed_keeps, notices_keep, refs_keep, told_keeps}
 use Rattle.sm_history.proofs.Owners.{not_done, AllHold}
 use Rattle.sm_history.proofs.AgreeEvents.{Passes}
 use Rattle.sm_history.proofs.SoundHistory.{met}
@@ -42,10 +42,6 @@ use Rattle.sm_history.proofs.SoundHistory.{met}
 -- What a change adds, in front of what was there.
 abbrev Puts : {A : Type 0} → (Effect → Option A) → Effects → List A → Effects → Type 0
 Puts of d xs e = filter_map of e ≡ reverse xs ++ filter_map of d
-
-puts_nothing : {A : Type 0} (of : Effect → Option A) (d e : Effects) → filter_map of e ≡ filter_map of d →
-    Puts of d [] e
-puts_nothing of d e same = same
 
 puts_more : {A : Type 0} (of : Effect → Option A) (d e f : Effects) (xs ys : List A) → Puts of d xs e → Puts of e ys f
     → Puts of d (xs ++ ys) f
@@ -56,14 +52,7 @@ puts_more of d e f xs ys first then_ =
 -- ---- one object passed
 
 handed_deliveries : (d : Effects) (c : ℕ) (n : Node) → Puts delivery_made d [] (handed d c n)
-handed_deliveries d c n =
-    elim (n.owner.0 == c) as (λ b. filter_map delivery_made (if b then d else Gives c n (number_for d c n) ∷ d)
-    ≡ filter_map delivery_made d) [ true ↦ refl | false ↦ refl ]
-
-handed_clients : (d : Effects) (c : ℕ) (n : Node) → Puts connected d [] (handed d c n)
-handed_clients d c n =
-    elim (n.owner.0 == c) as (λ b. filter_map connected (if b then d else Gives c n (number_for d c n) ∷ d)
-    ≡ filter_map connected d) [ true ↦ refl | false ↦ refl ]
+handed_deliveries d c n = handed_keeps (Puts delivery_made d []) (λ k m r e h. h) d c n refl
 
 handed_numbers : (d : Effects) (c : ℕ) (n : Node) → Puts number_made d (number_in (given_to d c n)) (handed d c n)
 handed_numbers d c n =
@@ -75,28 +64,10 @@ handed_numbers d c n =
 
 -- ---- references in order
 
-ref_deliveries : (d : Effects) (to : ℕ) (o : Option Node) → Puts delivery_made d [] (handed_ref d to o)
-ref_deliveries d to None = refl
-ref_deliveries d to (Some n) = handed_deliveries d to n
-
-ref_clients : (d : Effects) (to : ℕ) (o : Option Node) → Puts connected d [] (handed_ref d to o)
-ref_clients d to None = refl
-ref_clients d to (Some n) = handed_clients d to n
-
 ref_numbers : (d : Effects) (to : ℕ) (o : Option Node)
     → Puts number_made d (number_in (given_ref d to o)) (handed_ref d to o)
 ref_numbers d to None = refl
 ref_numbers d to (Some n) = handed_numbers d to n
-
-refs_deliveries : (d : Effects) (from to : ℕ) (rs : List ObjRef) → Puts delivery_made d [] (handed_refs d from to rs)
-refs_deliveries d from to [] = refl
-refs_deliveries d from to (r ∷ rs) =
-    let o = resolve_at d from r in refs_deliveries (handed_ref d to o) from to rs ∙ ref_deliveries d to o
-
-refs_clients : (d : Effects) (from to : ℕ) (rs : List ObjRef) → Puts connected d [] (handed_refs d from to rs)
-refs_clients d from to [] = refl
-refs_clients d from to (r ∷ rs) =
-    let o = resolve_at d from r in refs_clients (handed_ref d to o) from to rs ∙ ref_clients d to o
 
 refs_numbers : (d : Effects) (from to : ℕ) (rs : List ObjRef)
     → Puts number_made d (numbers_in (given_refs d from to rs)) (handed_refs d from to rs)
@@ -119,10 +90,6 @@ told_numbers d n w None =
     handed_numbers d w.client n
     ∙ ap (λ xs. reverse xs ++ filter_map number_made d) (sym (append-nil (number_in (given_to d w.client n))))
 told_numbers d n w (Some failing) = refl
-
-told_clients : (d : Effects) (n : Node) (w : Watch) (o : Option FailedCheck) → Puts connected d [] (after_told d n w o)
-told_clients d n w None = handed_clients d w.client n
-told_clients d n w (Some failing) = refl
 
 numbers_both : (xs ys : List Delivery)
     → delivery_numbers (xs ++ ys) ≡ delivery_numbers xs ++ delivery_numbers ys
@@ -149,92 +116,64 @@ notices_numbers d n (w ∷ ws) =
     (told_numbers d n w o) (notices_numbers e n ws)
     ∙ ap (λ ns. reverse ns ++ filter_map number_made d) (sym (numbers_both xs ys))
 
-notices_clients : (d : Effects) (n : Node) (ws : List Watch) → Puts connected d [] (after_notices d n ws)
-notices_clients d n [] = refl
-notices_clients d n (w ∷ ws) =
-    let o = first_missing d n w in notices_clients (after_told d n w o) n ws ∙ told_clients d n w o
-
 -- ---- each event
 
--- What an event adds is what its outcome lists.
-record Lists (d : Effects) (c : ℕ) (event : Event) : Type 0 where
-  pub deliveries : Puts delivery_made d (listed_deliveries (outcome_of d c event)) (after_event d c event)
-  pub numbers : Puts number_made d (listed_numbers (outcome_of d c event)) (after_event d c event)
-  pub clients : Puts connected d (listed_clients (outcome_of d c event)) (after_event d c event)
-
-not_true : (b : Bool) → not b ≡ true → b ≡ false
-not_true true e = absurd (true≢false (sym e))
-not_true false e = refl
+-- What effects add is what an outcome lists.
+record Lists (d e : Effects) (outcome : Outcome) : Type 0 where
+  pub deliveries : Puts delivery_made d (listed_deliveries outcome) e
+  pub numbers : Puts number_made d (listed_numbers outcome) e
+  pub clients : Puts connected d (listed_clients outcome) e
 
 found_other : (d : Effects) (c : ℕ) (name : List ℕ) → Passes d c (Get name) → (s : Service)
     → service_at d name ≡ Some s → (s.node.owner.0 == c) ≡ false
 found_other d c name a s is =
-    not_true (s.node.owner.0 == c)
+    not-true (s.node.owner.0 == c)
     (subst (λ (o : Option Service). AllHold (policy_at d) (handing_checks d c o)) is a.1.1.1.1.1).0
 
-lists_get : (d : Effects) (c : ℕ) (name : List ℕ) (o : Option Service) → service_at d name ≡ o
-    → Passes d c (Get name) → Lists d c (Get name)
+lists_get : (d : Effects) (c : ℕ) (name : List ℕ) (o : Option Service) → service_at d name ≡ o → Passes d c (Get name)
+    → Lists d (after_get d c o) (Granted (handle_number d c o))
 lists_get d c name None is a = absurd (true≢false (sym a.1.1.1.0 ∙ ap (λ (o : Option Service). is_some o) is))
 lists_get d c name (Some s) is a =
     let other = found_other d c name a s is in
-    let numbers : Puts number_made d (number_for d c s.node ∷ []) (handed d c s.node) = rw other refl in
     record {
-      deliveries = ap (λ o. filter_map delivery_made (after_get d c o)) is ∙ handed_deliveries d c s.node;
-      numbers = ap (λ o. filter_map number_made (after_get d c o)) is ∙ numbers
-          ∙ ap (λ o. handle_number d c o ∷ filter_map number_made d) (sym is);
-      clients = ap (λ o. filter_map connected (after_get d c o)) is ∙ handed_clients d c s.node;
+      deliveries = handed_deliveries d c s.node;
+      numbers = rw other refl;
+      clients = handed_keeps (Puts connected d []) (λ k m r b h. h) d c s.node refl;
     }
 
-lists_watch : (d : Effects) (c : ℕ) (name : List ℕ) (object : ℕ) (o : Option Service) → service_at d name ≡ o
-    → Lists d c (WatchName name object)
-lists_watch d c name object None is =
-    let w = watch c name object in let e : Effects = Watches w ∷ d in
+lists_watch : (d : Effects) (w : Watch) (o : Option Service)
+    → Lists d (after_watch (Watches w ∷ d) w o) (Watched (notice_of_watch (Watches w ∷ d) w o))
+lists_watch d w None = record { deliveries = refl; numbers = refl; clients = refl }
+lists_watch d w (Some s) =
+    let e : Effects = Watches w ∷ d in let x = first_missing e s.node w in
     record {
-      deliveries = ap (λ o. filter_map delivery_made (after_watch e w o)) is
-          ∙ ap (λ o. reverse (listed_deliveries (Watched (notice_of_watch e w o))) ++ filter_map delivery_made d)
-          (sym is);
-      numbers = ap (λ o. filter_map number_made (after_watch e w o)) is
-          ∙ ap (λ o. reverse (listed_numbers (Watched (notice_of_watch e w o))) ++ filter_map number_made d) (sym is);
-      clients = ap (λ o. filter_map connected (after_watch e w o)) is;
-    }
-lists_watch d c name object (Some s) is =
-    let w = watch c name object in let e : Effects = Watches w ∷ d in let x = first_missing e s.node w in
-    record {
-      deliveries = ap (λ o. filter_map delivery_made (after_watch e w o)) is ∙ told_puts e s.node w x
-          ∙ ap (λ o. reverse (listed_deliveries (Watched (notice_of_watch e w o))) ++ filter_map delivery_made d)
-          (sym is);
-      numbers = ap (λ o. filter_map number_made (after_watch e w o)) is ∙ told_numbers e s.node w x
-          ∙ ap (λ o. reverse (listed_numbers (Watched (notice_of_watch e w o))) ++ filter_map number_made d) (sym is);
-      clients = ap (λ o. filter_map connected (after_watch e w o)) is ∙ told_clients e s.node w x;
+      deliveries = told_puts e s.node w x;
+      numbers = told_numbers e s.node w x;
+      clients = told_keeps (Puts connected d []) (λ k m r b h. h) (λ k y b h. h) e s.node w x refl;
     }
 
-lists : (d : Effects) (c : ℕ) (event : Event) → Passes d c event → Lists d c event
-lists d c (Open who policy) a = record { deliveries = refl; numbers = refl; clients = refl }
-lists d c (Connect who) a = record { deliveries = refl; numbers = refl; clients = refl }
+lists : (d : Effects) (c : ℕ) (event : Event) → Passes d c event → Lists d (after_event d c event)
+    (outcome_of d c event)
 lists d c (Add name obj allow dump) a =
     let n = found (resolve_at d c obj) in let e : Effects = Adds name (service c n allow dump) ∷ d in
     record {
       deliveries = notices_put e n (watchers_at d name);
       numbers = notices_numbers e n (watchers_at d name);
-      clients = notices_clients e n (watchers_at d name);
+      clients = notices_keep (Puts connected d []) (λ k m r b h. h) (λ k x b h. h) e n (watchers_at d name) refl;
     }
 lists d c (Get name) a = lists_get d c name (service_at d name) refl a
-lists d c (WatchName name object) a = lists_watch d c name object (service_at d name) refl
-lists d c (Unwatch name object) a = record { deliveries = refl; numbers = refl; clients = refl }
-lists d c (Unregister name obj) a = record { deliveries = refl; numbers = refl; clients = refl }
+lists d c (WatchName name object) a = lists_watch d (watch c name object) (service_at d name)
 lists d c (Call handle payload refs) a =
     let n = found (node_at d c handle) in
     record {
-      deliveries = ap (λ xs. call_delivery d c n payload refs ∷ xs) (refs_deliveries d c n.owner.0 refs);
+      deliveries = ap (λ xs. call_delivery d c n payload refs ∷ xs)
+          (refs_keep (Puts delivery_made d []) (λ k m r b h. h) d c n.owner.0 refs refl);
       numbers = refs_numbers d c n.owner.0 refs
           ∙ ap (λ xs. reverse xs ++ filter_map number_made d)
           (sym (append-nil (numbers_in (given_refs d c n.owner.0 refs))));
-      clients = refs_clients d c n.owner.0 refs;
+      clients = refs_keep (Puts connected d []) (λ k m r b h. h) d c n.owner.0 refs refl;
     }
-lists d c (Release handle) a = record { deliveries = refl; numbers = refl; clients = refl }
-lists d c Take a = record { deliveries = refl; numbers = refl; clients = refl }
-lists d c Die a = record { deliveries = refl; numbers = refl; clients = refl }
-lists d c (Reload expected policy) a = record { deliveries = refl; numbers = refl; clients = refl }
+lists d c _ a = record { deliveries = refl; numbers = refl; clients = refl }
 
 -- ---- histories
 
@@ -254,11 +193,7 @@ lists_after : (places number : ℕ) (o : Opening) (es : List Entry) → AreLawfu
     → ListsEffects (record { number = number; opening = o; entries = es })
 lists_after places number o [] l = record { deliveries = refl; numbers = refl; clients = refl }
 lists_after places number o (e ∷ es) (inl (first, is, none, (who, policy, opens, may, ok))) =
-    subst (λ (n : ℕ). ListsEffects (record { number = n; opening = o; entries = e ∷ es })) (sym first)
-    (subst (λ (v : Opening). ListsEffects (record { number = 1; opening = v; entries = e ∷ es })) (sym is)
-    (subst (λ (v : List Entry). ListsEffects (whole (e ∷ v))) (sym none)
-    (subst (λ (v : Entry). ListsEffects (whole (v ∷ []))) (sym opens)
-    (record { deliveries = refl; numbers = refl; clients = refl }))))
+    rw (first, is, none, opens) (record { deliveries = refl; numbers = refl; clients = refl })
 lists_after places number o (e ∷ es) (inr (before, done, ok)) =
     let h : History = record { number = number; opening = o; entries = es } in
     let d = effects_of h in

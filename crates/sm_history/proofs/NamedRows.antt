@@ -166,8 +166,7 @@ sorted rows h k d a b = let e = add-one k in
     ≡ false) (sym e) (next_after rows k d h (omega (arith, b)))
 
 pub searched : (rows : List NamedRow) (name : List ℕ) (o : Result ℕ ℕ) → IsRising (names_of rows)
-    → IsSearchInRange o (length rows)
-    → IsBinarySearchResult (λ (r : NamedRow). slice_cmp nat_cmp r.name name) rows o
+    → IsSearchInRange o (length rows) → IsBinarySearchResult (λ (r : NamedRow). slice_cmp nat_cmp r.name name) rows o
     → MatchResult o (IsNamePlace rows name) (IsNameGap rows name)
 searched rows name (Ok i) h lt at = place_here rows name i h lt (λ r. equal_names (get_or rows i r).name name (at r))
 searched rows name (Err i) h le at =

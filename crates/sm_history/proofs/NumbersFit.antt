@@ -1,6 +1,6 @@
 -- Lengths and counts of grants of lawful histories stay below the greatest number.
-use Rattle.std.proofs.Common.{inl, inr, ◌⊎◌, ◌≡◌, ℕ, ◌+◌, ◌<◌, ◌≤◌, Bool, true, false, ◌||◌, ◌==◌, List, [], ◌∷◌}
-use Rattle.std.proofs.Common.{refl, ap, sym, ◌∙◌, subst, length, if◌then◌else◌, arith}
+use Rattle.std.proofs.Common.{inl, inr, ◌⊎◌, ◌≡◌, ℕ, ◌<◌, Bool, true, false, ◌||◌, ◌==◌, List, [], ◌∷◌, refl, ap, sym}
+use Rattle.std.proofs.Common.{◌∙◌, subst, length, if◌then◌else◌, arith}
 use Rattle.std.specs.Prelude.{nat_lt}
 use Rattle.std.specs.List.{list_any, list_all}
 use Rattle.std.proofs.lemmas.Bool.Decides.{nat_tests}
@@ -8,8 +8,7 @@ use Rattle.std.proofs.lemmas.Bool.{true≢false, and_parts}
 use Rattle.sm_kinds.specs.declared.number.Node.{Node}
 use Rattle.sm_history.specs.declared.by.By.{By}
 use Rattle.sm_history.specs.declared.event.Event.{Event}
-use Rattle.sm_history.specs.declared.event.Event.TheVariants.{Open, Connect, Add, Get, Watch as WatchName, Unwatch}
-use Rattle.sm_history.specs.declared.event.Event.TheVariants.{Unregister, Call, Release, Take, Die, Reload}
+use Rattle.sm_history.specs.declared.event.Event.TheVariants.{Die}
 use Rattle.sm_history.specs.declared.entry.Entry.{Entry}
 use Rattle.sm_history.specs.declared.limits.TheConstants.{GREATEST}
 use Rattle.sm_history.specs.declared.outcome.Outcome.{Outcome}
@@ -21,9 +20,9 @@ use Rattle.sm_history.specs.Clients.{is_live, live_clients}
 use Rattle.sm_history.specs.Holdings.{refs_at, is_held, held_nodes, counts_fit}
 use Rattle.sm_history.specs.Rows.{rows_at, resumed}
 use Rattle.sm_history.specs.Openings.{Opening}
-use Rattle.sm_history.specs.Histories.{History, whole, entered, effects_of, length_of, client_of, turn_of}
+use Rattle.sm_history.specs.Histories.{History, whole, entered, effects_of, client_of, turn_of}
 use Rattle.sm_history.specs.Checks.{Wants}
-use Rattle.sm_history.specs.Verdict.{verdict, has_place, is_die, places_needed}
+use Rattle.sm_history.specs.Verdict.{verdict, has_place, is_die}
 use Rattle.sm_history.specs.Segments.{sealed}
 use Rattle.sm_history.specs.Lawful.{IsOpening, AreLawful, IsLawful, FitsNumbers, FitsPlaces}
 use Rattle.sm_history.specs.Sound.{Sound}
@@ -32,7 +31,7 @@ use Rattle.sm_history.proofs.HeldAlike.{held_among}
 use Rattle.sm_history.proofs.AfterClients.{list_dies}
 use Rattle.sm_history.proofs.AfterHoldings.{refs_dies}
 use Rattle.sm_history.proofs.Living.{any_live}
-use Rattle.sm_history.proofs.RowsBack.{list_back, refs_back}
+use Rattle.sm_history.proofs.RowsBack.{list_back, refs_back, held_live}
 use Rattle.sm_history.proofs.SoundHistory.{met}
 use Rattle.sm_history.proofs.Induction.{sound_lawful}
 use Rattle.sm_history.proofs.Sealing.{sealed_left}
@@ -65,10 +64,6 @@ is_below a b h = grind (arith, nat_tests)
 none : (v g : ℕ) → nat_lt 0 v ≡ false → 0 < g → v < g
 none v g h some = grind (arith, nat_tests)
 
-live_if : (live : Bool) (v : ℕ) → nat_lt 0 (if live then v else 0) ≡ true → live ≡ true
-live_if true v h = refl
-live_if false v h = absurd (true≢false (sym h))
-
 pub counts_each : (d : Effects) → counts_fit d ≡ true → (c : ℕ) (n : Node) → refs_at d c n < GREATEST
 counts_each d fit c n =
     elim (is_held d c n) as (λ b. is_held d c n ≡ b → refs_at d c n < GREATEST) [
@@ -79,11 +74,10 @@ counts_each d fit c n =
           (λ k same all.
           all_at (λ m. nat_lt (refs_at d c m) GREATEST) (same_node n) (refs_at d c n < GREATEST) (held_nodes d c)
           (λ m alike fits. below (refs_at d c n) GREATEST
-          (subst (λ (v : Node). nat_lt (refs_at d c v) GREATEST ≡ true) (sym (node_same n m alike)) fits))
-          (subst (λ (v : ℕ). list_all (λ m. nat_lt (refs_at d v m) GREATEST) (held_nodes d v) ≡ true)
-          (number_same k c same) all)
+          (rw (node_same n m alike) fits))
+          (rw (number_same k c same) at all)
           (held_among d c n e))
-          fit (any_live d c ∙ live_if (is_live d c) _ e)
+          fit (any_live d c ∙ held_live (is_live d c) _ e)
     ] refl
 
 pub counts_all : (d : Effects) → ((c : ℕ) (n : Node) → refs_at d c n < GREATEST) → counts_fit d ≡ true
@@ -104,15 +98,6 @@ counts_die d c fit =
     counts_all (Dies c ∷ d) (λ k n. less_case (c == k) (refs_at d k n) (refs_at (Dies c ∷ d) k n) GREATEST
     (refs_dies d c k n) (counts_each d fit k n))
 
-die_lengths : (n live now g m : ℕ) → now + 1 ≤ live → m ≡ n + 1 → n + live < g → m + now < g
-die_lengths n live now g m one is lt = omega (arith, one, is, lt)
-
-more_lengths : (n live now needed g m : ℕ) → now + 1 ≤ live + needed → m ≡ n + 1 → n + live + needed < g → m + now < g
-more_lengths n live now needed g m one is lt = omega (arith, one, is, lt)
-
-same_lengths : (n live now m g : ℕ) → m ≡ n → now ≡ live → n + live < g → m + now < g
-same_lengths n live now m g is same lt = omega (arith, is, same, lt)
-
 numbers_die : (places : ℕ) (h : History) (by : By) (turn : ℕ) (outcome : Outcome) → FitsNumbers h
     → verdict places h by turn Die ≡ Done outcome
     → FitsNumbers (entered (record { by = by; turn = turn; event = Die; outcome = outcome }) h)
@@ -126,25 +111,14 @@ numbers_die places h by turn outcome fits done =
     let now = ap (length {A = ℕ}) (list_dies d c) in
     let e : Entry = record { by = by; turn = turn; event = Die; outcome = outcome } in
     record {
-      lengths = die_lengths (length_of h) (length (live_clients d)) (length (live_clients (Dies c ∷ d))) GREATEST
-          (length_of (entered e h)) (omega (arith, one, now)) (omega arith) fits.lengths;
+      lengths = let lt = fits.lengths in omega (arith, one, now, lt);
       counts = counts_die d c fits.counts;
     }
 
 -- A death, or another event.
 death_or : (event : Event) → (event ≡ Die) ⊎ (is_die event ≡ false)
-death_or (Open who policy) = inr refl
-death_or (Connect who) = inr refl
-death_or (Add name obj allow dump) = inr refl
-death_or (Get name) = inr refl
-death_or (WatchName name object) = inr refl
-death_or (Unwatch name object) = inr refl
-death_or (Unregister name obj) = inr refl
-death_or (Call handle payload refs) = inr refl
-death_or (Release handle) = inr refl
-death_or Take = inr refl
 death_or Die = inl refl
-death_or (Reload expected policy) = inr refl
+death_or _ = inr refl
 
 numbers_case : (places : ℕ) (h : History) (e : Entry) → Sound (effects_of h) → FitsNumbers h
     → verdict places h e.by e.turn e.event ≡ Done e.outcome → (e.event ≡ Die) ⊎ (is_die e.event ≡ false)
@@ -157,23 +131,17 @@ numbers_case places h e s fits done (inr alive) =
     let room = room_done places h e alive done in
     let lives = lives_after (effects_of h) (client_of e.by) e.event s alive in
     record {
-      lengths = more_lengths (length_of h) (length (live_clients (effects_of h)))
-          (length (live_clients (effects_of (entered e h)))) (places_needed e.event) GREATEST (length_of (entered e h))
-          lives (omega arith) room.lengths;
+      lengths = let lt = room.lengths in omega (arith, lives, lt);
       counts = room.counts;
     }
 
 opening_fits : (e : Entry) → IsOpening e → FitsNumbers (whole (e ∷ []))
-opening_fits e (who, policy, is, may, ok) = subst (λ (x : Entry). FitsNumbers (whole (x ∷ []))) (sym is)
-    (record { lengths = below 1 GREATEST refl; counts = refl })
+opening_fits e (who, policy, is, may, ok) = rw is (record { lengths = below 1 GREATEST refl; counts = refl })
 
 fits_after : (places number : ℕ) (o : Opening) (es : List Entry) → AreLawful places number o es
     → FitsNumbers (record { number = number; opening = o; entries = es })
 fits_after places number o [] (left, fits) = fits
-fits_after places number o (e ∷ es) (inl (first, is, none, opens)) =
-    subst (λ (n : ℕ). FitsNumbers (record { number = n; opening = o; entries = e ∷ es })) (sym first)
-    (subst (λ (v : Opening). FitsNumbers (record { number = 1; opening = v; entries = e ∷ es })) (sym is)
-    (subst (λ (v : List Entry). FitsNumbers (whole (e ∷ v))) (sym none) (opening_fits e opens)))
+fits_after places number o (e ∷ es) (inl (first, is, none, opens)) = rw (first, is, none) (opening_fits e opens)
 fits_after places number o (e ∷ es) (inr (before, done, ok)) =
     let h : History = record { number = number; opening = o; entries = es } in
     numbers_case places h e (sound_lawful places h before) (fits_after places number o es before) done
@@ -190,9 +158,8 @@ sealed_numbers h s fits =
     let d = effects_of h in
     let same = ap (length {A = ℕ}) (list_back d) in
     record {
-      lengths = same_lengths (length_of h) (length (live_clients d)) (length (live_clients (resumed (rows_at d))))
-          (length_of (sealed h)) GREATEST (omega arith) same fits.lengths;
-      counts = counts_all (resumed (rows_at d)) (λ c n. subst (λ (v : ℕ). v < GREATEST) (refs_back d c n s)
+      lengths = let lt = fits.lengths in omega (arith, same, lt);
+      counts = counts_all (resumed (rows_at d)) (λ c n. rw (← refs_back d c n s)
           (counts_each d fits.counts c n));
     }
 

@@ -9,7 +9,8 @@ use Rattle.std.proofs.lemmas.List.Sums.{sum_by-cons}
 use Rattle.sm_kinds.specs.declared.number.Node.{Node}
 use Rattle.sm_kinds.specs.declared.identity.Identity.{Identity}
 use Rattle.sm_history.specs.declared.delivery.Delivery.{Delivery}
-use Rattle.sm_history.specs.Effects.{Effect, Effects, Service, Watch, Adds, Gives, Watches, Delivers, same_node}
+use Rattle.sm_history.specs.Effects.{Effect, Effects, Service, Watch, Opens, Sets, Adds, Gives, Watches}
+use Rattle.sm_history.specs.Effects.{Delivers, same_node}
 use Rattle.sm_history.specs.Clients.{identity_at, connected, is_connect_of}
 use Rattle.sm_history.specs.Holdings.{number_at, number_given}
 use Rattle.sm_history.specs.Services.{service_at, last_said, said_or, Here, Silent, watches_made}
@@ -49,6 +50,19 @@ past_held F r same = quiet F put_held
 pub past_names : {T : Type 0} (F : Effects → T) (r : Rows)
     → ((name : List ℕ) (s : Service) (d : Effects) → F (Adds name s ∷ d) ≡ F d) → F (names_put r) ≡ F (live_put r)
 past_names F r same = quiet F put_named (λ x d. same x.name x.service d) r.names (live_put r)
+
+-- A value that no effect of the rows behind those of clients changes, and one that those of clients don't change, too.
+module _ {T : Type 0} (F : Effects → T) (r : Rows)
+    (waiting : (c : ℕ) (x : Delivery) (d : Effects) → F (Delivers c x ∷ d) ≡ F d)
+    (watches : (w : Watch) (d : Effects) → F (Watches w ∷ d) ≡ F d)
+    (held : (c : ℕ) (n : Node) (k : ℕ) (d : Effects) → F (Gives c n k ∷ d) ≡ F d)
+    (names : (name : List ℕ) (s : Service) (d : Effects) → F (Adds name s ∷ d) ≡ F d) where
+  pub past_rows : F (waiting_put r) ≡ F (live_put r)
+  past_rows = past_waiting F r waiting ∙ past_watches F r watches ∙ past_held F r held ∙ past_names F r names
+
+  pub untouched : ((x : LiveRow) (d : Effects) → F (put_live x d) ≡ F d)
+      → F (waiting_put r) ≡ F (Sets r.policy ∷ Opens r.manager ∷ [])
+  untouched live = past_rows ∙ quiet F put_live live r.live (Sets r.policy ∷ Opens r.manager ∷ [])
 
 -- ---- lists of which each element has a property
 

@@ -1,6 +1,6 @@
 -- A replay of a lawful history comes to the rows that it leaves.
-use Rattle.std.proofs.Common.{inl, inr, ◌≡◌, ℕ, zero, suc, ◌+◌, ◌<◌, ◌≤◌, List, [], ◌∷◌, ◌++◌, refl, ap, sym, ◌∙◌}
-use Rattle.std.proofs.Common.{subst, length, take, drop, get_or, arith, append_assoc}
+use Rattle.std.proofs.Common.{inl, inr, ◌≡◌, ℕ, ◌+◌, ◌<◌, ◌≤◌, List, [], ◌∷◌, ◌++◌, refl, ap, sym, ◌∙◌, subst, length}
+use Rattle.std.proofs.Common.{take, drop, get_or, arith, append_assoc}
 use Rattle.std.specs.Prelude.{reverse}
 use Rattle.std.proofs.lemmas.List.{append-nil, length-append, reverse-append, length-reverse, take-append-drop}
 use Rattle.sm_history.specs.declared.limits.TheConstants.{GREATEST}
@@ -11,8 +11,8 @@ use Rattle.sm_history.specs.declared.failed_check.EarlyAnswer.TheVariants.{Refus
 use Rattle.sm_history.specs.declared.replay.Replay.{Replay}
 use Rattle.sm_history.specs.Clients.{policy_at, version_at}
 use Rattle.sm_history.specs.Checks.{Wants, first_failing}
-use Rattle.sm_history.specs.Rows.{Rows, rows_at, resumed}
-use Rattle.sm_history.specs.Openings.{Opening, TurnRow, blank_opening}
+use Rattle.sm_history.specs.Rows.{rows_at, resumed}
+use Rattle.sm_history.specs.Openings.{Opening, blank_opening}
 use Rattle.sm_history.specs.Histories.{History, whole, entered, effects_of, length_of, turn_of, client_of}
 use Rattle.sm_history.specs.Verdict.{verdict, checks, has_place, outcome_of}
 use Rattle.sm_history.specs.Segments.{rows_of}
@@ -32,6 +32,7 @@ use Rattle.sm_history.proofs.Versions.{version_small}
 use Rattle.sm_history.proofs.Listing.{outcome_is}
 use Rattle.sm_history.proofs.SameTables.{take_item}
 use Rattle.sm_history.proofs.ReplaySteps.{sound_start, opening_next}
+use Rattle.std.proofs.lemmas.List.{take_all}
 
 -- ---- the next change of a lawful history
 
@@ -69,8 +70,7 @@ zero_more : (v w : ℕ) → v ≡ w → v ≡ w + 0
 zero_more v w e = omega (arith, e)
 
 begins : (number : ℕ) (o : Opening) (r : Replay) → StartsFrom o r → Sound (resumed o.tables)
-    → o.tables ≡ rows_at (resumed o.tables)
-    → TracksHistory (record { number = number; opening = o; entries = [] }) r
+    → o.tables ≡ rows_at (resumed o.tables) → TracksHistory (record { number = number; opening = o; entries = [] }) r
 begins number o r s sound rows = record {
   tables = s.tables (resumed o.tables) sound rows;
   turning = record {
@@ -85,23 +85,17 @@ starts_left : (number : ℕ) (o : Opening) (r : Replay) → IsLeft o → StartsF
     → TracksHistory (record { number = number; opening = o; entries = [] }) r
 starts_left number o r (a, l, is) s =
     let d = effects_of (whole a) in
-    begins number o r s
-    (subst (λ (v : Opening). Sound (resumed v.tables)) (sym is) (sound_back d (sound_apart a l)))
-    (ap (λ (v : Opening). v.tables) is ∙ rows_alike d (resumed (rows_at d)) (sim_rows d (sound_apart a l))
-    ∙ ap (λ (v : Opening). rows_at (resumed v.tables)) (sym is))
+    let sound = sound_apart a l in
+    begins number o r s (rw is (sound_back d sound)) (rw is (rows_alike d (resumed (rows_at d)) (sim_rows d sound)))
 
 starts_nothing : (number : ℕ) (o : Opening) (r : Replay) → o ≡ blank_opening → StartsFrom o r
     → TracksHistory (record { number = number; opening = o; entries = [] }) r
-starts_nothing number o r is s =
-    begins number o r s
-    (subst (λ (v : Opening). Sound (resumed v.tables)) (sym is) (sound_start number))
-    (ap (λ (v : Opening). v.tables) is ∙ ap (λ (v : Opening). rows_at (resumed v.tables)) (sym is))
+starts_nothing number o r is s = begins number o r s (rw is (sound_start number)) (rw is refl)
 
 pub has_begun : (places number : ℕ) (o : Opening) (es : List Entry) (r : Replay) → AreLawful places number o es
     → StartsFrom o r → HasCome places number o [] r
 has_begun places number o [] r (left, fits) s = (inr (left, fits), starts_left number o r left s)
-has_begun places number o (e ∷ es) r (inl (first, is, none, opens)) s =
-    (inl (is, refl), starts_nothing number o r is s)
+has_begun places number o (e ∷ es) r (inl (first, is, none, opens)) s = (inl (is, refl), starts_nothing number o r is s)
 has_begun places number o (e ∷ es) r (inr (before, done, ok)) s = has_begun places number o es r before s
 
 -- ---- one entry more
@@ -121,12 +115,8 @@ not_behind (z ∷ zs) e es is = not_empty z (zs ++ e ∷ es) is
 opened : (number : ℕ) (o : Opening) (e : Entry) (es : List Entry) (r r' : Replay) → o ≡ blank_opening → es ≡ []
     → IsOpening e → EntersOne e r r' → TracksHistory (record { number = number; opening = o; entries = es }) r
     → TracksHistory (record { number = number; opening = o; entries = e ∷ es }) r'
-opened number o e es r r' is none opens one =
-    subst (λ (v : Opening). TracksHistory (record { number = number; opening = v; entries = es }) r
-    → TracksHistory (record { number = number; opening = v; entries = e ∷ es }) r') (sym is)
-    (subst (λ (v : List Entry). TracksHistory (record { number = number; opening = blank_opening; entries = v }) r
-    → TracksHistory (record { number = number; opening = blank_opening; entries = e ∷ v }) r') (sym none)
-    (λ tr. one (start number) (sound_start number) tr (opening_next number e opens)))
+opened number o e es r r' is none opens one tr =
+    rw (is, none) (one (start number) (sound_start number) (rw (is, none) at tr) (opening_next number e opens))
 
 pub comes_on : (places number : ℕ) (o : Opening) (e : Entry) (es : List Entry) (r r' : Replay)
     → AreLawful places number o (e ∷ es) → EntersOne e r r' → HasCome places number o es r
@@ -160,14 +150,9 @@ pub rows_come : (places : ℕ) (h : History) (r : Replay) → IsLawful places h 
       turns = turn_rows r.turning r.tables.live.items;
     } in o) ≡ rows_of h
 rows_come places h r l tr =
-    let turns = turn_rows r.turning r.tables.live.items in
-    ap (λ (t : Rows). let o : Opening = record { tables = t; length = r.length; turns = turns } in o)
-    (tables_are (effects_of h) r.tables (sound_lawful places h l) tr.tables)
-    ∙ ap (λ (n : ℕ). let o : Opening = record { tables = rows_at (effects_of h); length = n; turns = turns } in o)
-    tr.length
-    ∙ ap (λ (ts : List TurnRow). let o : Opening =
-    record { tables = rows_at (effects_of h); length = length_of h; turns = ts } in o)
-    (rows_are h r.turning r.tables.live.items tr.turning tr.tables.live.ids)
+    let tables = tables_are (effects_of h) r.tables (sound_lawful places h l) tr.tables in
+    let turns = rows_are h r.turning r.tables.live.items tr.turning tr.tables.live.ids in
+    rw (tables, tr.length, turns) refl
 
 pub are_left : (places : ℕ) (h : History) (r : Replay) → IsLawful places h → TracksHistory h r → AreLeft r.tables
 are_left places h r l tr = (effects_of h, sound_lawful places h l, tr.tables)
@@ -197,33 +182,22 @@ one_more places number o zs es rest i e r r' lt is l one come =
     let lawful : AreLawful places number o (e ∷ reverse (zs ++ xs)) =
     lawful_older places number o (reverse (drop (i + 1) es ++ rest)) e (reverse (zs ++ xs))
     (subst (λ (v : List Entry). AreLawful places number o v) (older zs es rest i e lt is) l) in
-    let next : e ∷ reverse (zs ++ xs) ≡ reverse (zs ++ take (i + 1) es) =
-    sym (ap (λ (v : List Entry). reverse (zs ++ v)) (take_item es i e lt is)
-    ∙ ap (λ (v : List Entry). reverse v) (sym (append_assoc zs xs (e ∷ []))) ∙ reverse-append (zs ++ xs) (e ∷ [])) in
-    subst (λ (v : List Entry). HasCome places number o v r') next
+    rw (take_item es i e lt is, ← append_assoc zs xs (e ∷ []), reverse-append (zs ++ xs) (e ∷ []))
     (comes_on places number o e (reverse (zs ++ xs)) r r' lawful one come)
 
 take_none : {X : Type 0} (xs : List X) → take 0 xs ≡ []
 take_none [] = refl
 take_none (x ∷ xs) = refl
 
-take_past : {X : Type 0} (xs : List X) (i : ℕ) → length xs ≤ i → take i xs ≡ xs
-take_past [] zero le = refl
-take_past [] (suc i) le = refl
-take_past (x ∷ xs) zero le = absurd (omega (arith, le))
-take_past (x ∷ xs) (suc i) le = ap (λ l. x ∷ l) (take_past xs i (omega (arith, le)))
-
 pub none_yet : (places number : ℕ) (o : Opening) (zs es : List Entry) (r : Replay)
-    → HasCome places number o (reverse zs) r
-    → HasCome places number o (reverse (zs ++ take 0 es)) r
+    → HasCome places number o (reverse zs) r → HasCome places number o (reverse (zs ++ take 0 es)) r
 none_yet places number o zs es r come =
-    subst (λ (v : List Entry). HasCome places number o (reverse v) r)
-    (sym (ap (λ (v : List Entry). zs ++ v) (take_none es) ∙ append-nil zs)) come
+    rw (take_none es, append-nil zs) come
 
 pub all_come : (places number : ℕ) (o : Opening) (zs es : List Entry) (i : ℕ) (r : Replay) → length es ≤ i
     → HasCome places number o (reverse (zs ++ take i es)) r → HasCome places number o (reverse (zs ++ es)) r
 all_come places number o zs es i r le come =
-    subst (λ (v : List Entry). HasCome places number o (reverse (zs ++ v)) r) (take_past es i le) come
+    subst (λ (v : List Entry). HasCome places number o (reverse (zs ++ v)) r) (take_all i es le) come
 
 -- ---- chunks in order
 
@@ -236,10 +210,6 @@ joined_both [] ds = refl
 joined_both (c ∷ cs) ds = ap (λ (l : List Entry). c ++ l) (joined_both cs ds)
     ∙ sym (append_assoc c (joined cs) (joined ds))
 
-chunk_item : (xs : List (List Entry)) (i : ℕ) (x : List Entry) → i < length xs → x ≡ get_or xs i x
-    → take (i + 1) xs ≡ take i xs ++ x ∷ []
-chunk_item xs i x lt is = take_item xs i x lt is
-
 -- All entries, at a chunk.
 pub at_chunk : (cs : List (List Entry)) (c rest : List Entry) (i : ℕ) → i < length cs → c ≡ get_or cs i c
     → joined cs ++ rest ≡ joined (take i cs) ++ (c ++ (joined (drop (i + 1) cs) ++ rest))
@@ -249,7 +219,7 @@ at_chunk cs c rest i lt is =
     ap (λ (l : List Entry). l ++ rest)
     (ap (λ (l : List (List Entry)). joined l) (sym (take-append-drop (i + 1) cs))
     ∙ joined_both (take (i + 1) cs) (drop (i + 1) cs)
-    ∙ ap (λ (l : List Entry). l ++ ys) (ap (λ (l : List (List Entry)). joined l) (chunk_item cs i c lt is)
+    ∙ ap (λ (l : List Entry). l ++ ys) (ap (λ (l : List (List Entry)). joined l) (take_item cs i c lt is)
     ∙ joined_more (take i cs) c))
     ∙ append_assoc (xs ++ c) ys rest ∙ append_assoc xs c (ys ++ rest)
 
@@ -264,10 +234,9 @@ pub one_chunk : (places number : ℕ) (o : Opening) (cs : List (List Entry)) (c 
     → HasCome places number o (reverse (joined (take i cs))) r
     → HasCome places number o (reverse (joined (take (i + 1) cs))) r'
 one_chunk places number o cs c rest i r r' lt is l enters come =
-    subst (λ (v : List Entry). HasCome places number o (reverse v) r')
-    (sym (ap (λ (v : List (List Entry)). joined v) (chunk_item cs i c lt is) ∙ joined_more (take i cs) c))
+    rw (take_item cs i c lt is, joined_more (take i cs) c)
     (enters places number o (joined (take i cs)) (joined (drop (i + 1) cs) ++ rest)
-    (subst (λ (v : List Entry). IsLawful places (segment number o v)) (at_chunk cs c rest i lt is) l) come)
+    (rw (at_chunk cs c rest i lt is) at l) come)
 
 pub no_chunk : (places number : ℕ) (o : Opening) (cs : List (List Entry)) (r : Replay) → HasCome places number o [] r
     → HasCome places number o (reverse (joined (take 0 cs))) r
@@ -277,7 +246,7 @@ no_chunk places number o cs r come =
 pub all_chunks : (places number : ℕ) (o : Opening) (cs : List (List Entry)) (i : ℕ) (r : Replay) → length cs ≤ i
     → HasCome places number o (reverse (joined (take i cs))) r → HasCome places number o (reverse (joined cs)) r
 all_chunks places number o cs i r le come =
-    subst (λ (v : List (List Entry)). HasCome places number o (reverse (joined v)) r) (take_past cs i le) come
+    subst (λ (v : List (List Entry)). HasCome places number o (reverse (joined v)) r) (take_all i cs le) come
 
 -- Both parts of a segment, from its beginning.
 pub run : (places number : ℕ) (o : Opening) (cs : List (List Entry)) (es : List Entry) (a b c : Replay)
@@ -292,9 +261,6 @@ run places number o cs es a b c l s chunks last =
     (subst (λ (v : List Entry). IsLawful places (segment number o (joined cs ++ v))) (sym (append-nil es)) l)
     (chunks l (has_begun places number o (reverse all) a l s)))
 
-shorter : (a b k c d e m n g : ℕ) → a ≡ c → b ≡ d → k ≡ e → m ≡ d + e → n ≡ m → c + n < g → a + b + k < g
-shorter a b k c d e m n g p q r u v lt = omega (arith, p, q, r, u, v, lt)
-
 -- The length of a lawful history is a number.
 pub length_fits : (places number : ℕ) (o : Opening) (cs : List (List Entry)) (es : List Entry) (a b k : ℕ)
     → IsLawful places (segment number o (joined cs ++ es))
@@ -303,13 +269,14 @@ length_fits places number o cs es a b k l first second third =
     let all = joined cs ++ es in
     let small = first_part (length_of (segment number o all)) _ GREATEST
     (numbers_fit places (segment number o all) l).lengths in
-    shorter a b k o.length (length (joined cs)) (length es) (length all) (length (reverse all)) GREATEST first second
-    third (length-append (joined cs) es) (length-reverse all) small
+    let more = length-append (joined cs) es in
+    let back = length-reverse all in
+    omega (arith, first, second, third, more, back, small)
 
 pub counted_more : (cs : List (List Entry)) (c : List Entry) (i : ℕ) → i < length cs → c ≡ get_or cs i c
     → length (joined (take (i + 1) cs)) ≡ length (joined (take i cs)) + length c
 counted_more cs c i lt is =
-    ap (length {A = Entry}) (ap (λ (v : List (List Entry)). joined v) (chunk_item cs i c lt is)
+    ap (length {A = Entry}) (ap (λ (v : List (List Entry)). joined v) (take_item cs i c lt is)
     ∙ joined_more (take i cs) c)
     ∙ length-append (joined (take i cs)) c
 

@@ -1,5 +1,5 @@
 -- A replay goes on as the history does.
-use Rattle.std.proofs.Common.{◌≡◌, ℕ, ◌+◌, ◌<◌, [], refl, sym, subst, arith}
+use Rattle.std.proofs.Common.{◌≡◌, ℕ, ◌+◌, [], refl, arith}
 use Rattle.std.specs.Prelude.{min, ◌||◌}
 use Rattle.sm_policy.specs.Policy.{Policy}
 use Rattle.sm_kinds.specs.declared.identity.Identity.{Identity}
@@ -13,7 +13,7 @@ use Rattle.sm_history.specs.declared.entry.Entry.{Entry}
 use Rattle.sm_history.specs.declared.replay.Replay.{Replay}
 use Rattle.sm_history.specs.declared.tables.Tables.{Tables}
 use Rattle.sm_history.specs.Effects.{Effects}
-use Rattle.sm_history.specs.Histories.{History, entered, effects_of, length_of, client_of, after_event, turn_of}
+use Rattle.sm_history.specs.Histories.{History, entered, effects_of, client_of, after_event}
 use Rattle.sm_history.specs.Lawful.{IsOpening}
 use Rattle.sm_history.specs.Sound.{Sound}
 use Rattle.sm_history.specs.Tables.{TracksTables}
@@ -33,12 +33,6 @@ abbrev pub Enters : ℕ → Event → Outcome → Tables → Tables → Type 0
 Enters c event outcome t t' = (d : Effects) → Sound d → TracksTables d t → IsDone d c event outcome
     → TracksTables (after_event d c event) t'
 
-grow : (old new h g m : ℕ) → new ≡ min (old + 1) m → old ≡ h → h < m → g ≡ h + 1 → new ≡ g
-grow old new h g m is was lt after = omega (arith, is, was, lt, after)
-
-more_length : (old new h g : ℕ) → new ≡ min (old + 1) GREATEST → old ≡ h → h < GREATEST → g ≡ h + 1 → new ≡ g
-more_length old new h g is was lt after = grow old new h g GREATEST is was lt after
-
 pub next_step : (h : History) (e : Entry) (c : ℕ) (old new : Replay) → Sound (effects_of h) → TracksHistory h old
     → IsNext h e → c ≡ client_of e.by → Enters c e.event e.outcome old.tables new.tables
     → ((b : By) → made new.turning b ≡ more_by (is_same e.by b) (made old.turning b))
@@ -46,22 +40,17 @@ pub next_step : (h : History) (e : Entry) (c : ℕ) (old new : Replay) → Sound
     → new.turning.order.items ≡ with_order e.by (has_made old.turning e.by) old.turning.order.items
     → new.length ≡ min (old.length + 1) GREATEST → TracksHistory (entered e h) new
 next_step h e c old new s tr next own enters counts knows orders longer =
-    let enters' : Enters (client_of e.by) e.event e.outcome old.tables new.tables =
-    subst (λ (k : ℕ). Enters k e.event e.outcome old.tables new.tables) own enters in
+    let enters' = rw own at enters in
     record {
       tables = enters' (effects_of h) s tr.tables next.done;
       turning = counted_more h e old.turning new.turning next.turns tr.turning counts knows orders;
-      length = more_length old.length new.length (length_of h) (length_of (entered e h)) longer tr.length next.length
-          (omega arith);
+      length = let was = tr.length in let lt = next.length in omega (arith, longer, was, lt);
     }
 
 -- ---- the opening
 
 pub sound_start : (number : ℕ) → Sound (effects_of (start number))
 sound_start number = sound_back [] sound_none
-
-zero_turns : (v g : ℕ) → v ≡ 0 → 0 < g → v < g
-zero_turns v g z lt = omega (arith, z, lt)
 
 opening_done : (number : ℕ) (who : Identity) (policy : Policy)
     → IsDone (effects_of (start number)) 0 (Open who policy) Opened
@@ -76,9 +65,8 @@ opening_done number who policy = record {
 -- The manager's opening is the next change where nothing was before.
 pub opening_next : (number : ℕ) (e : Entry) → IsOpening e → IsNext (start number) e
 opening_next number e (who, policy, is, may, ok) =
-    subst (λ (v : Entry). IsNext (start number) v) (sym is)
-    (record {
+    rw is (record {
       done = opening_done number who policy;
-      turns = λ by. zero_turns (turn_of (start number) by) GREATEST (omega arith) (below 0 GREATEST refl);
+      turns = λ by. below 0 GREATEST refl;
       length = below 0 GREATEST refl;
     })

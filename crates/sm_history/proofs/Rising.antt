@@ -16,8 +16,8 @@ use Rattle.sm_history.specs.declared.service.Service.{Service}
 use Rattle.sm_history.specs.Effects.{Effects, Adds, Removes}
 use Rattle.sm_history.specs.Rising.{AllAfter, IsRising}
 use Rattle.sm_history.specs.Services.{service_at, last_said, names_added, current_names, inserted_name, placed_by}
-use Rattle.sm_history.specs.Services.{said_or}
-use Rattle.sm_history.specs.Services.{Silent, Gone}
+use Rattle.sm_history.specs.Services.{said_or, Silent, Gone}
+use Rattle.std.proofs.Math.Bool.{and-true}
 
 pub same_bytes : (a b : List ℕ) → bytes_eq a b ≡ true → a ≡ b
 same_bytes a b e = (bytes_eq-Decides a b).0 e
@@ -34,10 +34,9 @@ apart_names a b o e n = sym (is_eq-slice_cmp a b) ∙ ap is_eq e ∙ n
 pub turned : (a b : List ℕ) → slice_cmp nat_cmp a b ≡ Greater → slice_cmp nat_cmp b a ≡ Less
 turned a b e = nat_list_cmp_total.antisymm b a ∙ ap ordering_reverse e
 
-less_is : (o : Ordering) → is_lt o ≡ true → o ≡ Less
+pub less_is : (o : Ordering) → is_lt o ≡ true → o ≡ Less
 less_is Less h = refl
-less_is Equal h = absurd (true≢false (sym h))
-less_is Greater h = absurd (true≢false (sym h))
+less_is _ h = absurd (true≢false (sym h))
 
 pub head_after : (name x : List ℕ) (xs : List (List ℕ)) → AllAfter name (x ∷ xs) → slice_cmp nat_cmp name x ≡ Less
 head_after name x xs h = less_is (slice_cmp nat_cmp name x)
@@ -145,10 +144,7 @@ rising_same (x ∷ xs) (y ∷ ys) hx hy same =
           let is : x ≡ y = equal_names x y e in
           let tails : (q : List ℕ) → is_in q xs ≡ is_in q ys = λ q.
           elim (bytes_eq x q) as (λ b. bytes_eq x q ≡ b → is_in q xs ≡ is_in q ys) [
-            | true ↦ λ f.
-                let at : x ≡ q = same_bytes x q f in
-                subst (λ (v : List ℕ). is_in v xs ≡ is_in v ys) at
-                (not_in x xs hx.0 ∙ sym (not_in x ys (subst (λ (v : List ℕ). AllAfter v ys) (sym is) hy.0)))
+            | true ↦ λ f. rw (← same_bytes x q f) (not_in x xs hx.0 ∙ sym (not_in x ys (rw is hy.0)))
             | false ↦ λ f.
                 let g : bytes_eq y q ≡ false = subst (λ (v : List ℕ). bytes_eq v q ≡ false) is f in
                 let s : (bytes_eq x q || is_in q xs) ≡ (bytes_eq y q || is_in q ys) = same q in
@@ -180,7 +176,7 @@ in_current d q =
     (λ k e. ap (λ (n : List ℕ). is_some (service_at d n)) (same_bytes k q e)) (names_added d)
     ∙ elim (is_in q (names_added d)) as (λ b. is_in q (names_added d) ≡ b →
     (is_some (service_at d q) && b) ≡ is_some (service_at d q)) [
-      | true ↦ λ e. elim (is_some (service_at d q)) as (λ t. (t && true) ≡ t) [ true ↦ refl | false ↦ refl ]
+      | true ↦ λ e. and-true (is_some (service_at d q))
       | false ↦ λ e. rw (never_said d q e) refl
     ] refl
 

@@ -18,19 +18,19 @@ use Rattle.sm_history.specs.Services.{service_at, last_said, if_owner_lives, cur
 use Rattle.sm_history.specs.Inboxes.{inbox_at}
 use Rattle.sm_history.specs.Agreeing.{Agree}
 use Rattle.sm_history.specs.Rows.{LiveRow, HeldRow, live_row, greatest, top_number, held_under, held_row, held_rows}
-use Rattle.sm_history.specs.Rows.{waiting_rows, rows_at, put_live, live_put, names_put, held_put, watches_put}
-use Rattle.sm_history.specs.Rows.{resumed}
+use Rattle.sm_history.specs.Rows.{waiting_rows, rows_at, put_live, live_put, names_put, held_put, watches_put, resumed}
 use Rattle.sm_history.proofs.Balanced.{number_same, node_same}
 use Rattle.sm_history.proofs.Grants.{same_self}
 use Rattle.sm_history.proofs.Rising.{in_current}
 use Rattle.sm_history.proofs.HeldAlike.{node_held, node_not_held, held_among}
 use Rattle.sm_history.proofs.AfterClients.{filter_both}
-use Rattle.sm_history.proofs.PutRows.{quiet, past_waiting, past_watches, past_held, past_names, AllOf, IfSomeOf}
-use Rattle.sm_history.proofs.PutRows.{all_each, all_flat, all_filter_map, connects_put, connected_put, among}
-use Rattle.sm_history.proofs.PutRows.{identity_put, said_put, watches_made_put, for_client, deliveries_put, for_one}
-use Rattle.sm_history.proofs.PutRows.{weight, granted_put, HasNumber, number_put}
+use Rattle.sm_history.proofs.PutRows.{quiet, past_rows, untouched, past_waiting, past_watches, past_held, past_names}
+use Rattle.sm_history.proofs.PutRows.{AllOf, IfSomeOf, all_each, all_flat, all_filter_map, connects_put, connected_put}
+use Rattle.sm_history.proofs.PutRows.{among, identity_put, said_put, watches_made_put, for_client, deliveries_put}
+use Rattle.sm_history.proofs.PutRows.{for_one, weight, granted_put, HasNumber, number_put}
 use Rattle.sm_history.specs.Sound.{HasOneEach, IsOnce, Sound, deliveries, granted, released, takes}
 use Rattle.sm_history.proofs.Living.{any_live}
+use Rattle.std.proofs.Math.Bool.{or-false, and-true, and_self}
 
 -- ---- live clients
 
@@ -39,48 +39,33 @@ any_rows : (d : Effects) (c : ℕ) (ks : List ℕ)
 any_rows d c [] = refl
 any_rows d c (k ∷ ks) = ap (λ b. (k == c) || b) (any_rows d c ks)
 
-or_none : (a : Bool) → (a || false) ≡ a
-or_none true = refl
-or_none false = refl
-
 connect_back : (d : Effects) (c : ℕ) → list_any (is_connect_of c) (resumed (rows_at d)) ≡ is_live d c
 connect_back d c =
     let r = rows_at d in
     let F = λ (b : Effects). list_any (is_connect_of c) b in
-    past_waiting F r (λ k x b. refl) ∙ past_watches F r (λ w b. refl) ∙ past_held F r (λ k n j b. refl) ∙
-    past_names F r (λ n s b. refl)
+    past_rows F r (λ k x b. refl) (λ w b. refl) (λ k n j b. refl) (λ n s b. refl)
     ∙ connects_put c r.live (Sets r.policy ∷ Opens r.manager ∷ [])
-    ∙ or_none (list_any (λ (x : LiveRow). x.client == c) r.live)
+    ∙ or-false (list_any (λ (x : LiveRow). x.client == c) r.live)
     ∙ any_rows d c (live_clients d) ∙ any_live d c
 
 death_back : (d : Effects) (c : ℕ) → list_any (is_death_of c) (resumed (rows_at d)) ≡ false
 death_back d c =
-    let r = rows_at d in
-    let F = λ (b : Effects). list_any (is_death_of c) b in
-    past_waiting F r (λ k x b. refl) ∙ past_watches F r (λ w b. refl) ∙ past_held F r (λ k n j b. refl) ∙
-    past_names F r (λ n s b. refl)
-    ∙ quiet F put_live (λ x b. refl) r.live (Sets r.policy ∷ Opens r.manager ∷ [])
-
-and_true : (a : Bool) → (a && true) ≡ a
-and_true true = refl
-and_true false = refl
+    untouched (λ (b : Effects). list_any (is_death_of c) b) (rows_at d) (λ k x b. refl) (λ w b. refl) (λ k n j b. refl)
+    (λ n s b. refl)
+    (λ x b. refl)
 
 pub live_back : (d : Effects) (c : ℕ) → is_live (resumed (rows_at d)) c ≡ is_live d c
 live_back d c =
     ap (λ b. b && not (list_any (is_death_of c) (resumed (rows_at d)))) (connect_back d c)
     ∙ ap (λ b. is_live d c && not b) (death_back d c)
-    ∙ and_true (is_live d c)
+    ∙ and-true (is_live d c)
 
 ids_back : (d : Effects) (ks : List ℕ) → map (λ (x : LiveRow). x.client) (map (live_row d) ks) ≡ ks
 ids_back d [] = refl
 ids_back d (k ∷ ks) = ap (λ l. k ∷ l) (ids_back d ks)
 
-again : (b : Bool) → b ≡ (b && b)
-again true = refl
-again false = refl
-
 filter_again : {X : Type 0} (p : X → Bool) (xs : List X) → filter p (filter p xs) ≡ filter p xs
-filter_again p xs = sym (filter_both p p p xs (λ x. again (p x)))
+filter_again p xs = sym (filter_both p p p xs (λ x. sym (and_self (p x))))
 
 pub list_back : (d : Effects) → live_clients (resumed (rows_at d)) ≡ live_clients d
 list_back d =
@@ -89,8 +74,7 @@ list_back d =
     let F = λ (b : Effects). filter_map connected b in
     let ids = map (λ (x : LiveRow). x.client) r.live in
     ap (λ xs. filter (is_live (resumed r)) (reverse xs))
-    (past_waiting F r (λ k x b. refl) ∙ past_watches F r (λ w b. refl) ∙ past_held F r (λ k n j b. refl) ∙
-    past_names F r (λ n s b. refl)
+    (past_rows F r (λ k x b. refl) (λ w b. refl) (λ k n j b. refl) (λ n s b. refl)
     ∙ connected_put r.live (Sets r.policy ∷ Opens r.manager ∷ []) ∙ append-nil (reverse ids))
     ∙ ap (filter (is_live (resumed r))) (reverse-reverse ids ∙ ids_back d ks)
     ∙ filter_agree (is_live (resumed r)) (is_live d) (λ c. live_back d c) ks
@@ -100,8 +84,7 @@ pub who_back : (d : Effects) (c : ℕ) → is_live d c ≡ true → identity_at 
 who_back d c live =
     let r = rows_at d in
     let F = λ (b : Effects). identity_at b c in
-    sym (past_waiting F r (λ k x b. refl) ∙ past_watches F r (λ w b. refl) ∙ past_held F r (λ k n j b. refl) ∙
-    past_names F r (λ n s b. refl)
+    sym (past_rows F r (λ k x b. refl) (λ w b. refl) (λ k n j b. refl) (λ n s b. refl)
     ∙ identity_put d c (live_clients d) (Sets r.policy ∷ Opens r.manager ∷ [])
     ∙ rw (any_live d c ∙ live) refl)
 
@@ -235,9 +218,6 @@ below_top f (m ∷ ns) n h =
       | false ↦ λ e i. let j = below_top f ns n i in omega (arith, j)
     ] refl h
 
-none_held : (r : ℕ) → nat_lt 0 r ≡ false → r ≡ 0
-none_held r h = grind (arith, nat_tests)
-
 own_sum : (d : Effects) (c : ℕ) (n : Node) → HasOneEach d c → sum_by (weight c n) (held_rows d c) ≡ refs_at d c n
 own_sum d c n one =
     let v = refs_at d c n in
@@ -247,7 +227,7 @@ own_sum d c n one =
     ∙ elim (is_held d c n) as (λ b. is_held d c n ≡ b → sum_by (at_number b a v) rs ≡ v) [
       | true ↦ λ e. let le = below_top (number_at d c) (held_nodes d c) n (held_among d c n e) in
           at_sum a v 0 (top_number d c + 1) (omega arith) (omega (arith, le))
-      | false ↦ λ e. none_sum a v rs ∙ sym (none_held v e)
+      | false ↦ λ e. none_sum a v rs ∙ (let z : 0 ≡ v = grind (arith, nat_tests) in z)
     ] refl
 
 weight_all : (d : Effects) (c : ℕ) (n : Node) → Sound d → is_live d c ≡ true
@@ -266,11 +246,9 @@ granted_back d c n =
 
 pub released_back : (d : Effects) (c : ℕ) (n : Node) → released (resumed (rows_at d)) c n ≡ 0
 released_back d c n =
-    let r = rows_at d in
-    let F = λ (b : Effects). released b c n in
-    past_waiting F r (λ k x b. refl) ∙ past_watches F r (λ w b. refl) ∙ past_held F r (λ k m j b. refl) ∙
-    past_names F r (λ x s b. refl)
-    ∙ quiet F put_live (λ x b. refl) r.live (Sets r.policy ∷ Opens r.manager ∷ [])
+    untouched (λ (b : Effects). released b c n) (rows_at d) (λ k x b. refl) (λ w b. refl) (λ k m j b. refl)
+    (λ x s b. refl)
+    (λ x b. refl)
 
 refs_case : (live live' : Bool) (v g s : ℕ) → live' ≡ live → s ≡ 0 → (live ≡ true → g ≡ v) → (live ≡ false → v ≡ 0)
     → v ≡ (if live' then g - s else 0)
@@ -291,7 +269,7 @@ held_number d c n k r (Some m) e = λ h.
     sym f.1 ∙ ap (λ j. number_at d j m) (number_same k c (and_parts (k == c) (same_node m n) h).0) ∙
     ap (number_at d c) (node_same m n (and_parts (k == c) (same_node m n) h).1)
 
-held_live : (live : Bool) (v : ℕ) → nat_lt 0 (if live then v else 0) ≡ true → live ≡ true
+pub held_live : (live : Bool) (v : ℕ) → nat_lt 0 (if live then v else 0) ≡ true → live ≡ true
 held_live true v h = refl
 held_live false v h = absurd (true≢false (sym h))
 
@@ -376,11 +354,8 @@ waits_flat c d (k ∷ ks) once =
 
 pub takes_back : (d : Effects) (c : ℕ) → takes (resumed (rows_at d)) c ≡ 0
 takes_back d c =
-    let r = rows_at d in
-    let F = λ (b : Effects). takes b c in
-    past_waiting F r (λ k x b. refl) ∙ past_watches F r (λ w b. refl) ∙ past_held F r (λ k m j b. refl) ∙
-    past_names F r (λ x s b. refl)
-    ∙ quiet F put_live (λ x b. refl) r.live (Sets r.policy ∷ Opens r.manager ∷ [])
+    untouched (λ (b : Effects). takes b c) (rows_at d) (λ k x b. refl) (λ w b. refl) (λ k m j b. refl) (λ x s b. refl)
+    (λ x b. refl)
 
 deliveries_back : (d : Effects) (c : ℕ)
     → reverse (deliveries (resumed (rows_at d)) c) ≡ filter_map (for_client c) (rows_at d).waiting
@@ -410,19 +385,13 @@ inbox_back d c s =
 
 pub policy_back : (d : Effects) → policy_at d ≡ policy_at (resumed (rows_at d))
 policy_back d =
-    let r = rows_at d in
-    let F = policy_at in
-    sym (past_waiting F r (λ k x b. refl) ∙ past_watches F r (λ w b. refl) ∙ past_held F r (λ k m j b. refl) ∙
-    past_names F r (λ x s b. refl)
-    ∙ quiet F put_live (λ x b. refl) r.live (Sets r.policy ∷ Opens r.manager ∷ []))
+    sym (untouched policy_at (rows_at d) (λ k x b. refl) (λ w b. refl) (λ k m j b. refl) (λ x s b. refl)
+    (λ x b. refl))
 
 pub manager_back : (d : Effects) → manager_at d ≡ manager_at (resumed (rows_at d))
 manager_back d =
-    let r = rows_at d in
-    let F = manager_at in
-    sym (past_waiting F r (λ k x b. refl) ∙ past_watches F r (λ w b. refl) ∙ past_held F r (λ k m j b. refl) ∙
-    past_names F r (λ x s b. refl)
-    ∙ quiet F put_live (λ x b. refl) r.live (Sets r.policy ∷ Opens r.manager ∷ []))
+    sym (untouched manager_at (rows_at d) (λ k x b. refl) (λ w b. refl) (λ k m j b. refl) (λ x s b. refl)
+    (λ x b. refl))
 
 pub agree_rows : (d : Effects) → Sound d → Agree d (resumed (rows_at d))
 agree_rows d s = record {

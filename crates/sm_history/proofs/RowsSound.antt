@@ -118,7 +118,7 @@ pub map_alike : {X Y : Type 0} (P : X → Type 0) (f g : X → Y) (xs : List X) 
 map_alike P f g [] same all = refl
 map_alike P f g (x ∷ xs) same all = rw (same x all.0, map_alike P f g xs same all.1) refl
 
-filter_map_alike : {X Y : Type 0} (f g : X → Option Y) (xs : List X) → ((x : X) → f x ≡ g x)
+pub filter_map_alike : {X Y : Type 0} (f g : X → Option Y) (xs : List X) → ((x : X) → f x ≡ g x)
     → filter_map f xs ≡ filter_map g xs
 filter_map_alike f g [] same = refl
 filter_map_alike f g (x ∷ xs) same = rw (same x, filter_map_alike f g xs same) refl
@@ -151,8 +151,7 @@ under_alike : (d e : Effects) (c r : ℕ) (o : Option Node) → Sim d e
     → option_map (held_row d c r) o ≡ option_map (held_row e c r) o
 under_alike d e c r None s = refl
 under_alike d e c r (Some n) s =
-    ap (λ (k : ℕ). let v : Option HeldRow = Some (record { client = c; node = n; number = r; count = k }) in v)
-    (s.agree.refs c n)
+    rw (s.agree.refs c n) refl
 
 held_rows_alike : (d e : Effects) (c : ℕ) → Sim d e → held_rows d c ≡ held_rows e c
 held_rows_alike d e c s =

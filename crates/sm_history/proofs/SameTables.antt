@@ -1,6 +1,6 @@
 -- Tables that are what effects left are what other effects with the same rows left, and so are copies of the tables.
 use Rattle.std.proofs.Common.{◌≡◌, ℕ, true, false, ◌==◌, List, [], ◌∷◌, refl, ap, sym, ◌∙◌, subst, Option, Some, None}
-use Rattle.std.proofs.Common.{cond, zero, suc, ◌+◌, ◌<◌, ◌++◌, length, take, get_or, add-one, arith}
+use Rattle.std.proofs.Common.{cond, ◌+◌, ◌<◌, ◌++◌, length, take, get_or}
 use Rattle.std.specs.Prelude.{is_some}
 use Rattle.std.specs.List.{list_any}
 use Rattle.sm_history.specs.declared.client_row.Held.{Held}
@@ -18,6 +18,7 @@ use Rattle.sm_history.proofs.AgreeEffects.{Sim, held_alike}
 use Rattle.sm_history.proofs.RowsSound.{sim_rows}
 use Rattle.sm_history.proofs.AfterClientRows.{in_ids, slots_alike}
 use Rattle.sm_history.proofs.AfterNamedRows.{names_stay}
+use Rattle.std.proofs.lemmas.List.{take_more}
 
 -- ---- effects that agree
 
@@ -96,8 +97,7 @@ ids_same (x ∷ xs) [] same = absurd same
 ids_same (x ∷ xs) (y ∷ ys) same = rw (same.0, ids_same xs ys same.4) refl
 
 each_same : (d : Effects) (c : ℕ) (rows copies : List ClientRow) → AreSameRows rows copies
-    → IsRowFor d c (client_row_of rows c)
-    → IsRowFor d c (client_row_of copies c)
+    → IsRowFor d c (client_row_of rows c) → IsRowFor d c (client_row_of copies c)
 each_same d c [] [] same i = tt
 each_same d c [] (y ∷ ys) same i = absurd same
 each_same d c (x ∷ xs) [] same i = absurd same
@@ -128,21 +128,13 @@ same_more (a ∷ xs) [] x y same client who held waiting = absurd same
 same_more (a ∷ xs) (b ∷ ys) x y same client who held waiting =
     (same.0, same.1, same.2, same.3, same_more xs ys x y same.4 client who held waiting)
 
-take_suc : {X : Type 0} (xs : List X) (i : ℕ) (x : X) → i < length xs → x ≡ get_or xs i x
-    → take (suc i) xs ≡ take i xs ++ x ∷ []
-take_suc [] i x lt is = absurd (omega (arith, lt))
-take_suc (y ∷ ys) zero x lt is = ap (λ v. v ∷ []) (sym is)
-take_suc (y ∷ ys) (suc i) x lt is = ap (λ l. y ∷ l) (take_suc ys i x (omega (arith, lt)) is)
-
 pub take_item : {X : Type 0} (xs : List X) (i : ℕ) (x : X) → i < length xs → x ≡ get_or xs i x
     → take (i + 1) xs ≡ take i xs ++ x ∷ []
-take_item xs i x lt is = ap (λ k. take k xs) (add-one i) ∙ take_suc xs i x lt is
+take_item xs i x lt is = take_more xs i x lt ∙ ap (λ v. take i xs ++ v ∷ []) (sym is)
 
 -- One more row of a copy.
 pub copied_more : (rows copies more : List ClientRow) (i : ℕ) (x y : ClientRow) → i < length rows → x ≡ get_or rows i x
     → AreSameRows (take i rows) copies → more ≡ copies ++ y ∷ [] → y.client ≡ x.client → y.who ≡ x.who
     → y.held.items ≡ x.held.items → y.waiting.items ≡ x.waiting.items → AreSameRows (take (i + 1) rows) more
 copied_more rows copies more i x y lt is same put client who held waiting =
-    subst (λ (l : List ClientRow). AreSameRows l more) (sym (take_item rows i x lt is))
-    (subst (λ (l : List ClientRow). AreSameRows (take i rows ++ x ∷ []) l) (sym put)
-    (same_more (take i rows) copies x y same client who held waiting))
+    rw (take_item rows i x lt is, put) (same_more (take i rows) copies x y same client who held waiting)

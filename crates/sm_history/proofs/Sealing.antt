@@ -1,8 +1,8 @@
 -- The rows that a lawful history leaves are those that lawful changes left from the beginning: a sealed history may
 -- be gone on from.
-use Rattle.std.proofs.Common.{inl, inr, ◌⊎◌, ◌≡◌, ℕ, Bool, true, false, List, [], ◌∷◌, ◌++◌, refl, ap, sym, ◌∙◌}
-use Rattle.std.proofs.Common.{subst, map, Option, None, if◌then◌else◌, arith}
-use Rattle.std.specs.Prelude.{filter}
+use Rattle.std.proofs.Common.{inl, inr, ◌⊎◌, ◌≡◌, ℕ, Bool, true, false, List, [], ◌∷◌, ◌++◌, refl, ap, sym, ◌∙◌, map}
+use Rattle.std.proofs.Common.{Option, None, if◌then◌else◌, arith, subst}
+use Rattle.std.specs.Prelude.{filter, reverse, filter_map}
 use Rattle.std.specs.List.{list_any}
 use Rattle.std.proofs.lemmas.Bool.{true≢false}
 use Rattle.std.proofs.lemmas.List.{length-append}
@@ -18,9 +18,7 @@ use Rattle.sm_history.specs.declared.failed_check.EarlyAnswer.TheVariants.{Refus
 use Rattle.sm_history.specs.declared.refusal.Refusal.TheVariants.{JournalFull}
 use Rattle.sm_history.specs.Effects.{Effects}
 use Rattle.sm_history.specs.Clients.{is_live, live_clients, policy_at, connected}
-use Rattle.std.specs.Prelude.{reverse, filter_map}
 use Rattle.sm_history.specs.Checks.{Check, Wants, first_failing}
-use Rattle.sm_history.specs.Rows.{Rows, rows_at}
 use Rattle.sm_history.specs.Openings.{Opening, TurnRow, blank_opening, is_same}
 use Rattle.sm_history.specs.Histories.{History, whole, length_of, effects_of, client_of, turn_of}
 use Rattle.sm_history.specs.Verdict.{answered, outcome_of, event_checks, has_place}
@@ -95,10 +93,7 @@ replayed a b la l =
     let f = follows a b la l in
     let g = segment_of a b in
     let h = whole (b ++ a) in
-    let actors : actors_of h ≡ actors_of g =
-    ap (λ (ks : List ℕ). let l : List By = Manager ∷ map client ks ++ admins_of h in l) f.sim.agree.live_list
-    ∙ ap (λ (as' : List By). let l : List By = Manager ∷ map client (live_clients (effects_of g)) ++ as' in l)
-    (sym (admins_alike a b)) in
+    let actors : actors_of h ≡ actors_of g = rw (f.sim.agree.live_list, ← admins_alike a b) refl in
     let turns : map (turn_row h) (actors_of h) ≡ map (turn_row g) (actors_of g) =
     map_alike (Speaks (effects_of h)) (turn_row h) (turn_row g) (actors_of h)
     (λ by s. ap (λ (n : ℕ). let r : TurnRow = record { by = by; turns = n } in r) (f.turns by s))
@@ -106,12 +101,7 @@ replayed a b la l =
     ∙ ap (map (turn_row g)) actors in
     let tables = rows_alike (effects_of h) (effects_of g) f.sim in
     let len : length_of h ≡ length_of g = let n = length-append b a in omega (arith, n) in
-    sym (ap (λ (t : Rows). let o : Opening =
-    record { tables = t; length = length_of h; turns = map (turn_row h) (actors_of h) } in o) tables
-    ∙ ap (λ (n : ℕ). let o : Opening =
-    record { tables = rows_at (effects_of g); length = n; turns = map (turn_row h) (actors_of h) } in o) len
-    ∙ ap (λ (ts : List TurnRow). let o : Opening = record
-    { tables = rows_at (effects_of g); length = length_of g; turns = ts } in o) turns)
+    rw (tables, len, turns) refl
 
 -- ---- the verdict without the place
 
@@ -150,22 +140,17 @@ pub record Grown (o : Opening) (es : List Entry) : Type 0 where
   pub opens : o ≡ rows_of (whole before)
   pub grown : AreLawfulApart (es ++ before)
 
-goes_on : (number : ℕ) (o : Opening) (e : Entry) (es : List Entry)
-    → verdict_apart (record { number = number; opening = o; entries = es }) e.by e.turn e.event ≡ Done e.outcome
-    → HasSoundPolicy e.event
+-- A change meets its checks after an opening and changes.
+abbrev IsMet : ℕ → List Entry → Entry → Opening → Type 0
+IsMet number es e o =
+    verdict_apart (record { number = number; opening = o; entries = es }) e.by e.turn e.event ≡ Done e.outcome
+
+goes_on : (number : ℕ) (o : Opening) (e : Entry) (es : List Entry) → IsMet number es e o → HasSoundPolicy e.event
     → ((o ≡ blank_opening) × AreLawfulApart es) ⊎ Grown o es
     → ((o ≡ blank_opening) × AreLawfulApart (e ∷ es)) ⊎ Grown o (e ∷ es)
-goes_on number o e es done ok (inl (is, l)) =
-    inl (
-      is,
-      apart_more e es l
-          (subst (λ (v : Opening). verdict_apart (record { number = number; opening = v; entries = es }) e.by e.turn
-          e.event ≡ Done e.outcome) is done) ok,
-    )
+goes_on number o e es done ok (inl (is, l)) = inl (is, apart_more e es l (subst (IsMet number es e) is done) ok)
 goes_on number o e es done ok (inr g) =
-    let done' : verdict_apart (segment_of g.before es) e.by e.turn e.event ≡ Done e.outcome =
-    subst (λ (v : Opening). verdict_apart (record { number = number; opening = v; entries = es }) e.by e.turn e.event
-    ≡ Done e.outcome) g.opens done in
+    let done' = subst (IsMet number es e) g.opens done in
     inr (record {
       before = g.before;
       lawful = g.lawful;
@@ -177,8 +162,7 @@ goes_on number o e es done ok (inr g) =
 pub grown_from : (places number : ℕ) (o : Opening) (es : List Entry) → AreLawful places number o es
     → ((o ≡ blank_opening) × AreLawfulApart es) ⊎ Grown o es
 grown_from places number o [] ((a, l, is), fits) = inr (record { before = a; lawful = l; opens = is; grown = l })
-grown_from places number o (e ∷ es) (inl (first, is, none, opens)) =
-    inl (is, subst (λ (v : List Entry). AreLawfulApart (e ∷ v)) (sym none) opens)
+grown_from places number o (e ∷ es) (inl (first, is, none, opens)) = inl (is, rw none opens)
 grown_from places number o (e ∷ es) (inr (before, done, ok)) =
     let h : History = record { number = number; opening = o; entries = es } in
     let apart : verdict_apart h e.by e.turn e.event ≡ Done e.outcome =

@@ -1,17 +1,14 @@
 -- A history is read like the segment of its older part's rows and its newer part.
-use Rattle.std.proofs.Common.{inl, inr, ◌⊎◌, ◌≡◌, ℕ, ◌+◌, ◌≤◌, Bool, true, false, ◌||◌, ◌==◌, List, [], ◌∷◌, ◌++◌}
-use Rattle.std.proofs.Common.{refl, ap, sym, ◌∙◌, map, Option, Some, None, if◌then◌else◌, arith}
+use Rattle.std.proofs.Common.{inl, inr, ◌⊎◌, ◌≡◌, ℕ, ◌+◌, ◌≤◌, Bool, true, false, ◌||◌, List, [], ◌∷◌, ◌++◌, refl, ap}
+use Rattle.std.proofs.Common.{sym, ◌∙◌, map, Option, Some, None, if◌then◌else◌, arith}
 use Rattle.std.specs.Prelude.{filter, cond}
 use Rattle.std.specs.List.{list_any}
-use Rattle.std.proofs.lemmas.Bool.Decides.{nat_tests}
 use Rattle.std.proofs.lemmas.Bool.{true≢false, or_parts}
 use Rattle.std.proofs.lemmas.List.{length-append}
 use Rattle.std.proofs.lemmas.List.Folds.{list_any-append}
 use Rattle.std.proofs.lemmas.List.Sums.{sum_by-cons}
 use Rattle.std.proofs.lemmas.List.Elements.{filter_agree}
-use Rattle.sm_kinds.specs.declared.identity.Identity.{Identity}
-use Rattle.sm_kinds.specs.declared.class.Class.TheVariants.{ServiceManager}
-use Rattle.sm_policy.specs.Policy.{Policy, written_at}
+use Rattle.sm_policy.specs.Policy.{Policy}
 use Rattle.sm_history.specs.declared.failed_check.FailedCheck.{FailedCheck}
 use Rattle.sm_history.specs.declared.by.By.{By}
 use Rattle.sm_history.specs.declared.by.By.TheVariants.{Manager, Client, Admin}
@@ -19,16 +16,14 @@ use Rattle.sm_history.specs.declared.event.Event.{Event}
 use Rattle.sm_history.specs.declared.entry.Entry.{Entry}
 use Rattle.sm_history.specs.declared.query.Query.{Query}
 use Rattle.sm_history.specs.declared.query.Query.TheVariants.{List as ListNames, Version as AskVersion, Explain}
-use Rattle.sm_history.specs.declared.reply.Answer.{Answer}
-use Rattle.sm_history.specs.declared.reply.Answer.TheVariants.{Names, Why}
-use Rattle.sm_history.specs.declared.reply.Reply.TheVariants.{Done, Looked}
+use Rattle.sm_history.specs.declared.reply.Reply.TheVariants.{Done}
 use Rattle.sm_history.specs.declared.failed_check.EarlyAnswer.TheVariants.{Refused}
-use Rattle.sm_history.specs.declared.refusal.Refusal.TheVariants.{Failed, JournalFull}
+use Rattle.sm_history.specs.declared.refusal.Refusal.TheVariants.{Failed}
 use Rattle.sm_history.specs.declared.refusal.Failure.TheVariants.{NotYours, NotConnected}
 use Rattle.sm_history.specs.Effects.{Effects}
 use Rattle.sm_history.specs.Clients.{is_live, live_clients, next_client, policy_at}
 use Rattle.sm_history.specs.Services.{service_at, current_names}
-use Rattle.sm_history.specs.Checks.{Needs, Wants, first_failing, calling, listing}
+use Rattle.sm_history.specs.Checks.{Wants, first_failing}
 use Rattle.sm_history.specs.Histories.{History, whole, length_of, turn_of, client_of, effects_of, after_event}
 use Rattle.sm_history.specs.Openings.{is_same, turns_in}
 use Rattle.sm_history.specs.Lawful.{AreLawfulApart}
@@ -36,33 +31,27 @@ use Rattle.sm_history.specs.SegmentLaw.{SegmentsRead}
 use Rattle.sm_history.proofs.TurnRows.{same_actor, turn_rows}
 use Rattle.sm_history.proofs.HistoryLaws.{no_turns_apart}
 use Rattle.sm_history.proofs.Induction.{sound_apart}
-use Rattle.sm_history.specs.Verdict.{is_there, service_meets, verdict, has_place}
+use Rattle.sm_history.specs.Verdict.{is_there, service_meets}
 use Rattle.sm_history.specs.Queries.{is_their_query, query_checks, list_checks, found_out, names_by_mask, shares_bit}
 use Rattle.sm_history.specs.Queries.{query_verdict, looked, checks_of_query}
 use Rattle.sm_history.specs.Segments.{with_admin, admins_after, admins_of, client, actors_of, rows_of, segment_of}
-use Rattle.sm_history.specs.Segments.{judged, looked_at, asked, verdict_apart}
+use Rattle.sm_history.specs.Segments.{looked_at, asked, verdict_apart}
 use Rattle.sm_history.proofs.LawfulLaws.{next_after}
 use Rattle.sm_history.proofs.Rising.{names_alike}
 use Rattle.sm_history.proofs.AgreeEffects.{Sim}
-use Rattle.sm_history.proofs.AgreeNotices.{both, cons_alike, to_manager_alike}
 use Rattle.sm_history.proofs.AgreeChecks.{behind_alike}
-use Rattle.sm_history.proofs.AgreeEvents.{judged_alike, sim_event}
+use Rattle.sm_history.proofs.AgreeEvents.{judged_alike, sim_event, there_alike}
 use Rattle.sm_history.proofs.Living.{any_live}
 use Rattle.sm_history.proofs.RowsSound.{sim_rows}
 use Rattle.sm_history.proofs.PutRows.{among}
 use Rattle.sm_history.proofs.SoundHistory.{met, live_or_new}
+use Rattle.sm_history.proofs.Balanced.{turned}
 
 -- ---- the turns in rows
 
-turned : (k j : ℕ) → (k == j) ≡ (j == k)
-turned k j = elim (k == j) as (λ a. (k == j) ≡ a → a ≡ (j == k)) [
-  | true ↦ λ e. let f : (j == k) ≡ true = grind (arith, nat_tests) in sym f
-  | false ↦ λ e. let f : (j == k) ≡ false = grind (arith, nat_tests) in sym f
-] refl
-
 pub any_client : (k : ℕ) (ks : List ℕ) → list_any (is_same (client k)) (map client ks) ≡ among k ks
 any_client k [] = refl
-any_client k (j ∷ js) = both (λ a b. a || b) (turned k j) (any_client k js)
+any_client k (j ∷ js) = rw (turned k j, any_client k js) refl
 
 pub with_more : (a b : By) (bys : List By) → list_any (is_same a) (with_admin b bys) ≡ false
     → list_any (is_same a) bys ≡ false
@@ -165,9 +154,6 @@ older : (e : Entry) (a b : List Entry) → AreLawfulApart a → AreLawfulApart (
 older e a [] la l = la
 older e a (f ∷ b) la l = l.0
 
-turn_case : (k n m v w t : ℕ) → k ≡ v + n → m ≡ v + w → 0 + n ≡ t + w → 0 + k ≡ t + m
-turn_case k n m v w t ek em h = omega (arith, ek, em, h)
-
 pub follows : (a b : List Entry) → AreLawfulApart a → AreLawfulApart (b ++ a) → Follows a b
 follows a [] la l = record {
   sim = sim_rows (effects_of (whole a)) (sound_apart a la);
@@ -182,10 +168,9 @@ follows a (e ∷ b) la l =
     record {
       sim = sim_event d (effects_of (segment_of a b)) (client_of e.by) e.event f.sim m.acts m.passes;
       turns = λ by speaks.
-          turn_case _ _ _ _ _ (turns_in (rows_of (whole a)).turns by)
-          (sum_by-cons (λ (x : Entry). cond (is_same by x.by) 1 0) e (b ++ a))
-          (sum_by-cons (λ (x : Entry). cond (is_same by x.by) 1 0) e b)
-          (f.turns by (spoke d (client_of e.by) e.event by speaks));
+          let all = sum_by-cons (λ (x : Entry). cond (is_same by x.by) 1 0) e (b ++ a) in
+          let new = sum_by-cons (λ (x : Entry). cond (is_same by x.by) 1 0) e b in
+          let before = f.turns by (spoke d (client_of e.by) e.event by speaks) in omega (arith, all, new, before);
     }
 
 -- ---- verdicts and answers
@@ -203,31 +188,23 @@ masked_alike d e mask s =
     ∙ ap (filter (λ name. service_meets (shares_bit mask) (service_at e name))) (names_alike d e s.agree.services)
 
 found_alike : (d e : Effects) (q : Query) → Sim d e → found_out d q ≡ found_out e q
-found_alike d e (ListNames mask) s = ap (λ (ns : List (List ℕ)). Names ns) (masked_alike d e mask s)
+found_alike d e (ListNames mask) s = rw (masked_alike d e mask s) refl
 found_alike d e AskVersion s = refl
-found_alike d e (Explain x t class perm) s = ap (λ (p : Policy). Why (written_at p x t class perm)) s.agree.policy
+found_alike d e (Explain x t class perm) s = rw s.agree.policy refl
 
 list_alike : (d e : Effects) (c : ℕ) → Sim d e → is_live d c ≡ true → list_checks d c ≡ list_checks e c
-list_alike d e c s live = cons_alike (to_manager_alike d e c calling s live)
-    (cons_alike (both (λ (w m : Identity). Needs ServiceManager listing w m.context None) (s.agree.who c live)
-    s.agree.manager) refl)
+list_alike d e c s live = rw (s.agree.who c live, s.agree.manager) refl
 
 query_checks_alike : (d e : Effects) (by : By) (q : Query) → Sim d e → is_their_query by q ≡ true
     → is_there d by ≡ true → query_checks d (client_of by) q ≡ query_checks e (client_of by) q
 query_checks_alike d e by AskVersion s theirs there = refl
 query_checks_alike d e by (Explain x t class perm) s theirs there = refl
-query_checks_alike d e Manager (ListNames mask) s theirs there = absurd (true≢false (sym theirs))
 query_checks_alike d e (Client c) (ListNames mask) s theirs there = list_alike d e c.0 s there
-query_checks_alike d e (Admin a) (ListNames mask) s theirs there = absurd (true≢false (sym theirs))
-
-there_alike : (d e : Effects) (by : By) → Sim d e → is_there d by ≡ is_there e by
-there_alike d e Manager s = refl
-there_alike d e (Client c) s = s.agree.lives c.0
-there_alike d e (Admin a) s = refl
+query_checks_alike d e by (ListNames mask) s theirs there = absurd (true≢false (sym theirs))
 
 looked_alike : (d e : Effects) (len : ℕ) (q : Query) (o : Option FailedCheck) → Sim d e
     → looked_at d len q o ≡ looked_at e len q o
-looked_alike d e len q None s = both (λ (v : ℕ) (x : Answer). Looked v len x) s.agree.version (found_alike d e q s)
+looked_alike d e len q None s = rw (s.agree.version, found_alike d e q s) refl
 looked_alike d e len q (Some failing) s = refl
 
 pub asked_alike : (d e : Effects) (len : ℕ) (by : By) (q : Query) → Sim d e → asked d len by q ≡ asked e len by q
@@ -244,12 +221,6 @@ asked_alike d e len by q s =
     s.agree.policy)
     ∙ looked_alike d e len q (first_failing (policy_at e)
     (Wants (is_their_query by q) (Refused (Failed NotYours)) ∷ rest e)) s
-
--- The words above are those of the verdict.
-verdict_is : (places : ℕ) (h : History) (by : By) (turn : ℕ) (event : Event)
-    → verdict places h by turn event ≡ judged (effects_of h) (turn_of h by) by turn event
-    (Wants (has_place places h (client_of by) event) (Refused JournalFull) ∷ [])
-verdict_is places h by turn event = refl
 
 looked_is : (h : History) (q : Query) (o : Option FailedCheck)
     → looked h q o ≡ looked_at (effects_of h) (length_of h) q o
@@ -273,17 +244,3 @@ segments_read a b la l =
           ∙ ap (λ (n : ℕ). asked (effects_of g) n by q) (let n = length-append b a in omega (arith, n))
           ∙ sym (answer_is g by q);
     }
-
--- Where both have a place or neither has, the whole verdicts are the same.
-pub verdicts_read : (p q : ℕ) (a b : List Entry) (by : By) (turn : ℕ) (event : Event) → AreLawfulApart a
-    → AreLawfulApart (b ++ a)
-    → has_place p (whole (b ++ a)) (client_of by) event ≡ has_place q (segment_of a b) (client_of by) event
-    → verdict p (whole (b ++ a)) by turn event ≡ verdict q (segment_of a b) by turn event
-verdicts_read p q a b by turn event la l same =
-    let f = follows a b la l in
-    let h = whole (b ++ a) in
-    let g = segment_of a b in
-    judged_alike (effects_of h) (effects_of g) (turn_of h by) (turn_of g by) by turn event
-    (Wants (has_place p h (client_of by) event) (Refused JournalFull) ∷ []) f.sim
-    (λ there. f.turns by (speaks_there (effects_of h) by there))
-    ∙ ap (λ (t : Bool). judged (effects_of g) (turn_of g by) by turn event (Wants t (Refused JournalFull) ∷ [])) same

@@ -23,8 +23,8 @@ use Rattle.sm_history.proofs.Fresh.{fresh_more, fresh_connect, below, live_below
 use Rattle.sm_history.proofs.Owners.{owned_lasts, add_owned}
 use Rattle.sm_history.proofs.Balanced.{balanced_lasts, step, release, node_same, number_same}
 use Rattle.sm_history.proofs.Grants.{held_gives}
-use Rattle.sm_history.proofs.HeldAlike.{node_not_held}
-use Rattle.sm_history.proofs.AfterClients.{IsNew, list_connects, list_dies, none_new}
+use Rattle.sm_history.proofs.HeldAlike.{node_not_held, number_is}
+use Rattle.sm_history.proofs.AfterClients.{IsNew, list_connects, list_dies, none_new, other_way}
 use Rattle.sm_history.proofs.AfterHoldings.{refs_connects, refs_dies, refs_releases, number_gives}
 use Rattle.sm_history.specs.Sound.{HasOneEach, IsBalanced, IsFresh, IsOnce, IsTakenFrom, Sound, deliveries, names}
 use Rattle.sm_history.specs.Sound.{takes}
@@ -57,9 +57,6 @@ pub record Numbers (d : Effects) (c : ℕ) (n : Node) (r : ℕ) : Type 0 where
   pub old : is_held d c n ≡ true → r ≡ number_at d c n
   pub free : is_held d c n ≡ false → node_at d c r ≡ None
 
-number_is : (a r : ℕ) → a ≡ r → (a == r) ≡ true
-number_is a r e = grind (arith, nat_tests)
-
 -- A number that is given with n is no other object's.
 number_apart : (d : Effects) (c : ℕ) (n : Node) (r : ℕ) (m : Node) → HasOneEach d c → Numbers d c n r
     → is_held d c m ≡ true → r ≡ number_at d c m → n ≡ m
@@ -81,8 +78,7 @@ own_single d c n r m p false true one num em ep hm hp is = sym (number_apart d c
 own_single d c n r m p false false one num em ep hm hp is = one m p hm hp is
 
 single_case : (d : Effects) (c : ℕ) (n : Node) (r k : ℕ) (m p : Node) (b : Bool) → (c == k) ≡ b → HasOneEach d k
-    → is_live d c ≡ true → Numbers d c n r
-    → (if b && same_node n m then is_live d k else is_held d k m) ≡ true
+    → is_live d c ≡ true → Numbers d c n r → (if b && same_node n m then is_live d k else is_held d k m) ≡ true
     → (if b && same_node n p then is_live d k else is_held d k p) ≡ true
     → (if b && same_node n m then r else number_at d k m) ≡ (if b && same_node n p then r else number_at d k p) → m ≡ p
 single_case d c n r k m p false e one live num hm hp is = one m p hm hp is
@@ -108,14 +104,11 @@ once_filter p (x ∷ xs) h =
     elim (p x) as (λ b. IsOnce (if b then x ∷ filter p xs else filter p xs))
     [ true ↦ (any_filter (λ y. y == x) p xs h.0, i) | false ↦ i ]
 
-apart_numbers : (n x : ℕ) → (x == n) ≡ false → (n == x) ≡ false
-apart_numbers n x h = grind (arith, nat_tests)
-
 pub once_more : (n : ℕ) (xs : List ℕ) → list_any (λ y. y == n) xs ≡ false → IsOnce xs → IsOnce (xs ++ n ∷ [])
 once_more n [] none h = (refl, tt)
 once_more n (x ∷ xs) none h = (
   (list_any-append (λ y. y == x) xs (n ∷ []) ∙ or_from (list_any (λ y. y == x) xs) ((n == x) || false) h.0
-      (or_from (n == x) false (apart_numbers n x (or_parts (x == n) (list_any (λ y. y == n) xs) none).0) refl)),
+      (or_from (n == x) false (other_way n x (or_parts (x == n) (list_any (λ y. y == n) xs) none).0) refl)),
   once_more n xs (or_parts (x == n) (list_any (λ y. y == n) xs) none).1 h.1,
 )
 
@@ -125,25 +118,10 @@ none_live d n new = any_filter (λ y. y == n) (is_live d) (reverse (filter_map c
 -- ---- effects
 
 pub sound_opens : (d : Effects) (who : Identity) → Sound d → Sound (Opens who ∷ d)
-sound_opens d who s = record {
-  fresh = s.fresh;
-  owned = s.owned;
-  balanced =
-      balanced_lasts (Opens who) d refl s.balanced;
-  single = s.single;
-  taken = s.taken;
-  once = s.once;
-}
+sound_opens d who s = let balanced = balanced_lasts (Opens who) d refl s.balanced in assumption
 
 pub sound_sets : (d : Effects) (p : Policy) → Sound d → Sound (Sets p ∷ d)
-sound_sets d p s = record {
-  fresh = s.fresh;
-  owned = s.owned;
-  balanced = balanced_lasts (Sets p) d refl s.balanced;
-  single = s.single;
-  taken = s.taken;
-  once = s.once;
-}
+sound_sets d p s = let balanced = balanced_lasts (Sets p) d refl s.balanced in assumption
 
 pub is_new : (d : Effects) (n : ℕ) → n ≡ next_client d → IsFresh d → IsNew d n
 is_new d n is fresh = fresh n (omega (arith, is))
@@ -167,82 +145,50 @@ fresh_own x d c fresh live same only = let lt = live_below d c fresh live in
     fresh_more x d fresh same (λ k le. only k (below c (next_client d) k lt le))
 
 pub sound_dies : (d : Effects) (c : ℕ) → is_live d c ≡ true → Sound d → Sound (Dies c ∷ d)
-sound_dies d c live s = record {
-  fresh = fresh_own (Dies c) d c s.fresh live refl (λ k e. e);
-  owned = s.owned;
-  balanced = step (Dies c) d (λ k m. refl) s.balanced;
-  single = λ k m p hm hp e. s.single k m p (held_dies d c k m hm) (held_dies d c k p hp) e;
-  taken = s.taken;
-  once = subst IsOnce (sym (list_dies d c)) (once_filter (λ k. not (c == k)) (live_clients d) s.once);
-}
+sound_dies d c live s =
+    let fresh = fresh_own (Dies c) d c s.fresh live refl (λ k e. e) in
+    let balanced = step (Dies c) d (λ k m. refl) s.balanced in
+    let single : (k : ℕ) → HasOneEach (Dies c ∷ d) k =
+    λ k m p hm hp e. s.single k m p (held_dies d c k m hm) (held_dies d c k p hp) e in
+    let once = subst IsOnce (sym (list_dies d c)) (once_filter (λ k. not (c == k)) (live_clients d) s.once) in
+    assumption
 
 pub sound_adds : (d : Effects) (name : List ℕ) (t : Service) → is_live d t.node.owner.0 ≡ true → Sound d
     → Sound (Adds name t ∷ d)
-sound_adds d name t live s = record {
-  fresh = s.fresh;
-  owned = add_owned d name t (live_below d t.node.owner.0 s.fresh live) s.owned;
-  balanced = step (Adds name t) d (λ k m. refl) s.balanced;
-  single = s.single;
-  taken = s.taken;
-  once = s.once;
-}
+sound_adds d name t live s =
+    let owned = add_owned d name t (live_below d t.node.owner.0 s.fresh live) s.owned in
+    let balanced = step (Adds name t) d (λ k m. refl) s.balanced in assumption
 
 pub sound_removes : (d : Effects) (name : List ℕ) → Sound d → Sound (Removes name ∷ d)
-sound_removes d name s = record {
-  fresh = s.fresh;
-  owned = owned_lasts (Removes name) d refl s.owned;
-  balanced =
-      balanced_lasts (Removes name) d refl s.balanced;
-  single = s.single;
-  taken = s.taken;
-  once = s.once;
-}
+sound_removes d name s =
+    let owned = owned_lasts (Removes name) d refl s.owned in
+    let balanced = balanced_lasts (Removes name) d refl s.balanced in assumption
 
 pub sound_gives : (d : Effects) (c : ℕ) (n : Node) (r : ℕ) → is_live d c ≡ true → Numbers d c n r → Sound d
     → Sound (Gives c n r ∷ d)
-sound_gives d c n r live num s = record {
-  fresh = fresh_own (Gives c n r) d c s.fresh live refl (λ k e. e);
-  owned = s.owned;
-  balanced = balanced_lasts (Gives c n r) d refl s.balanced;
-  single = λ k. single_gives d c n r k s.balanced (s.single k) live num;
-  taken = s.taken;
-  once = s.once;
-}
+sound_gives d c n r live num s =
+    let fresh = fresh_own (Gives c n r) d c s.fresh live refl (λ k e. e) in
+    let balanced = balanced_lasts (Gives c n r) d refl s.balanced in
+    let single = λ (k : ℕ). single_gives d c n r k s.balanced (s.single k) live num in assumption
 
 pub sound_releases : (d : Effects) (c : ℕ) (n : Node) → is_live d c ≡ true → is_held d c n ≡ true → Sound d
     → Sound (Releases c n ∷ d)
-sound_releases d c n live held s = record {
-  fresh = fresh_own (Releases c n) d c s.fresh live refl (λ k e. e);
-  owned = s.owned;
-  balanced = release d c n held s.balanced;
-  single = λ k m p hm hp e. s.single k m p (held_releases d c n k m hm) (held_releases d c n k p hp) e;
-  taken = s.taken;
-  once = s.once;
-}
+sound_releases d c n live held s =
+    let fresh = fresh_own (Releases c n) d c s.fresh live refl (λ k e. e) in
+    let balanced = release d c n held s.balanced in
+    let single : (k : ℕ) → HasOneEach (Releases c n ∷ d) k =
+    λ k m p hm hp e. s.single k m p (held_releases d c n k m hm) (held_releases d c n k p hp) e in
+    assumption
 
 pub sound_watches : (d : Effects) (w : Watch) → is_live d w.client ≡ true → Sound d → Sound (Watches w ∷ d)
 sound_watches d w live s =
-    record {
-      fresh = fresh_own (Watches w) d w.client s.fresh live refl (λ k e. e);
-      owned = s.owned;
-      balanced =
-          balanced_lasts (Watches w) d refl s.balanced;
-      single = s.single;
-      taken = s.taken;
-      once = s.once;
-    }
+    let fresh = fresh_own (Watches w) d w.client s.fresh live refl (λ k e. e) in
+    let balanced = balanced_lasts (Watches w) d refl s.balanced in assumption
 
 pub sound_unwatches : (d : Effects) (w : Watch) → is_live d w.client ≡ true → Sound d → Sound (Unwatches w ∷ d)
 sound_unwatches d w live s =
-    record {
-      fresh = fresh_own (Unwatches w) d w.client s.fresh live refl (λ k e. e);
-      owned = s.owned;
-      balanced =
-          balanced_lasts (Unwatches w) d refl s.balanced;
-      single = s.single;
-      taken = s.taken;
-      once = s.once;
-    }
+    let fresh = fresh_own (Unwatches w) d w.client s.fresh live refl (λ k e. e) in
+    let balanced = balanced_lasts (Unwatches w) d refl s.balanced in assumption
 
 delivers_case : (t : Bool) (n : ℕ) (x : Delivery) (xs : List Delivery) → n ≤ length xs
     → n ≤ length (cons_option (let o : Option Delivery = if t then Some x else None in o) xs)
@@ -253,14 +199,10 @@ pub taken_delivers : (d : Effects) (c : ℕ) (x : Delivery) → IsTakenFrom d �
 taken_delivers d c x taken k = delivers_case (c == k) (takes d k) x (deliveries d k) (taken k)
 
 pub sound_delivers : (d : Effects) (c : ℕ) (x : Delivery) → is_live d c ≡ true → Sound d → Sound (Delivers c x ∷ d)
-sound_delivers d c x live s = record {
-  fresh = fresh_own (Delivers c x) d c s.fresh live refl (λ k e. e);
-  owned = s.owned;
-  balanced = balanced_lasts (Delivers c x) d refl s.balanced;
-  single = s.single;
-  taken = taken_delivers d c x s.taken;
-  once = s.once;
-}
+sound_delivers d c x live s =
+    let fresh = fresh_own (Delivers c x) d c s.fresh live refl (λ k e. e) in
+    let balanced = balanced_lasts (Delivers c x) d refl s.balanced in
+    let taken = taken_delivers d c x s.taken in assumption
 
 waits_case : (live : Bool) (n : ℕ) (xs : List Delivery)
     → nat_lt 0 (length (if live then drop n (reverse xs) else [])) ≡ true → (live ≡ true) × (n < length xs)
@@ -288,11 +230,6 @@ taken_takes d c waits taken k =
 pub sound_takes : (d : Effects) (c : ℕ) → Waits d c → Sound d → Sound (Takes c ∷ d)
 sound_takes d c waits s =
     let w = waits_case (is_live d c) (takes d c) (deliveries d c) waits in
-    record {
-      fresh = fresh_own (Takes c) d c s.fresh w.0 refl (λ k e. e);
-      owned = s.owned;
-      balanced = balanced_lasts (Takes c) d refl s.balanced;
-      single = s.single;
-      taken = taken_takes d c waits s.taken;
-      once = s.once;
-    }
+    let fresh = fresh_own (Takes c) d c s.fresh w.0 refl (λ k e. e) in
+    let balanced = balanced_lasts (Takes c) d refl s.balanced in
+    let taken = taken_takes d c waits s.taken in assumption

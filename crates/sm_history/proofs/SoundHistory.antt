@@ -1,6 +1,5 @@
 -- What holds of the effects of a history that is lawful apart from the journal's places.
-use Rattle.std.proofs.Common.{inl, inr, ◌⊎◌, ◌≡◌, ℕ, ◌≤◌, ◌<◌, true, false, ◌==◌, List, [], ◌∷◌, refl, sym, ◌∙◌}
-use Rattle.std.proofs.Common.{arith}
+use Rattle.std.proofs.Common.{inl, inr, ◌⊎◌, ◌≡◌, ℕ, ◌≤◌, ◌<◌, true, false, ◌==◌, List, [], ◌∷◌, refl, sym, ◌∙◌, arith}
 use Rattle.std.specs.Prelude.{not, ◌&&◌, ◌||◌}
 use Rattle.std.specs.List.{list_any}
 use Rattle.std.proofs.lemmas.Bool.Decides.{nat_tests}
@@ -8,12 +7,10 @@ use Rattle.std.proofs.lemmas.Bool.{true≢false, and_parts}
 use Rattle.sm_history.specs.declared.by.By.{By}
 use Rattle.sm_history.specs.declared.by.By.TheVariants.{Manager, Client, Admin}
 use Rattle.sm_history.specs.declared.event.Event.{Event}
-use Rattle.sm_history.specs.declared.event.Event.TheVariants.{Open, Connect, Add, Get, Watch as WatchName, Unwatch}
-use Rattle.sm_history.specs.declared.event.Event.TheVariants.{Unregister, Call, Release, Take, Die, Reload}
+use Rattle.sm_history.specs.declared.event.Event.TheVariants.{Connect, Add, Release, Die}
 use Rattle.sm_history.specs.declared.outcome.Outcome.{Outcome}
 use Rattle.sm_history.specs.declared.reply.Reply.TheVariants.{Done}
-use Rattle.sm_history.specs.Effects.{Effects, Opens, Sets, Connects, Dies, Adds, Removes, Gives, Releases, Watches}
-use Rattle.sm_history.specs.Effects.{Unwatches, Delivers, Takes, Resumes}
+use Rattle.sm_history.specs.Effects.{Effects, Connects, Dies, Resumes}
 use Rattle.sm_history.specs.Clients.{is_live, next_client, policy_at, is_connect_of, is_death_of}
 use Rattle.sm_history.specs.Checks.{Check}
 use Rattle.sm_history.specs.Histories.{client_of, after_event}
@@ -47,21 +44,7 @@ met d have by turn event rest outcome done =
 -- ---- soundness
 
 pub agree_self : (d : Effects) → Agree d d
-agree_self d = record {
-  policy = refl;
-  version = refl;
-  manager = refl;
-  clients = refl;
-  lives = λ c. refl;
-  live_list =
-      refl;
-  who = λ c h. refl;
-  refs = λ c n. refl;
-  numbers = λ c n h. refl;
-  services = λ n. refl;
-  watches = refl;
-  inboxes = λ c. refl;
-}
+agree_self d = search
 
 pub sound_event : (d : Effects) (by : By) (event : Event) → Sound d → Met d by event
     → Sound (after_event d (client_of by) event)
@@ -93,17 +76,8 @@ LiveOrNew d e = (k : ℕ) → is_live e k ≡ true → (is_live d k ≡ true) �
 lasting : (b : Effects) → Lasts (LiveOrNew b)
 lasting b (Connects c who) d plain h = absurd (true≢false (sym plain))
 lasting b (Dies c) d plain h = absurd (true≢false (sym plain))
-lasting b (Releases c m) d plain h = absurd (true≢false (sym plain))
-lasting b (Opens who) d plain h = h
-lasting b (Sets p) d plain h = h
-lasting b (Adds name s) d plain h = absurd (true≢false (sym plain))
-lasting b (Removes name) d plain h = h
-lasting b (Gives c m r) d plain h = h
-lasting b (Watches w) d plain h = h
-lasting b (Unwatches w) d plain h = h
-lasting b (Delivers c x) d plain h = h
-lasting b (Takes c) d plain h = h
 lasting b (Resumes v n) d plain h = absurd (true≢false (sym plain))
+lasting b _ d plain h = h
 
 same_lives : (d : Effects) → LiveOrNew d d
 same_lives d k live = inl live
@@ -119,18 +93,11 @@ connect_lives d who k live =
     ] refl live
 
 left_lives : (d : Effects) (c : ℕ) (event : Event) → LeftToKeep (LiveOrNew d) d c event
-left_lives d c (Open who policy) = tt
 left_lives d c (Connect who) = connect_lives d who
 left_lives d c (Add name obj allow dump) = same_lives d
-left_lives d c (Get name) = tt
-left_lives d c (WatchName name object) = tt
-left_lives d c (Unwatch name object) = tt
-left_lives d c (Unregister name obj) = tt
-left_lives d c (Call handle payload refs) = tt
 left_lives d c (Release handle) = same_lives d
-left_lives d c Take = tt
 left_lives d c Die = λ k live. inl (and_parts (is_live d k) (not (c == k)) (sym (live_dies d c k) ∙ live)).0
-left_lives d c (Reload expected policy) = tt
+left_lives d c _ = tt
 
 pub live_or_new : (d : Effects) (c : ℕ) (event : Event) → LiveOrNew d (after_event d c event)
 live_or_new d c event = event_keeps (LiveOrNew d) (lasting d) d c event (left_lives d c event) (same_lives d)

@@ -1,43 +1,28 @@
 -- A client that lives keeps its number and its identity, however a history goes on.
-use Rattle.std.proofs.Common.{◌≡◌, ℕ, ◌≤◌, ◌<◌, ◌==◌, true, false, true≢false, inl, inr, List, [], ◌∷◌, refl, sym}
-use Rattle.std.proofs.Common.{subst}
+use Rattle.std.proofs.Common.{◌≡◌, ℕ, ◌<◌, ◌==◌, true, false, true≢false, inl, inr, List, [], ◌∷◌, refl, sym, subst}
 use Rattle.std.proofs.Common.{◌∙◌, arith}
 use Rattle.std.proofs.lemmas.Bool.Decides.{nat_tests}
 use Rattle.sm_kinds.specs.declared.identity.Identity.{Identity}
 use Rattle.sm_history.specs.declared.event.Event.{Event}
-use Rattle.sm_history.specs.declared.event.Event.TheVariants.{Open, Connect, Add, Get, Watch as WatchName, Unwatch}
-use Rattle.sm_history.specs.declared.event.Event.TheVariants.{Unregister, Call, Release, Take, Die, Reload}
-use Rattle.sm_history.specs.declared.effect.Effect.TheVariants.{Opens, Sets, Connects, Dies, Adds, Removes, Gives}
-use Rattle.sm_history.specs.declared.effect.Effect.TheVariants.{Releases, Watches, Unwatches, Delivers, Takes}
-use Rattle.sm_history.specs.declared.effect.Effect.TheVariants.{Resumes}
+use Rattle.sm_history.specs.declared.event.Event.TheVariants.{Connect, Add, Release, Die}
+use Rattle.sm_history.specs.declared.effect.Effect.TheVariants.{Connects}
 use Rattle.sm_history.specs.Beginning.{Move, Made, Seals, gone_on}
 use Rattle.sm_history.specs.Books.{Book}
 use Rattle.sm_history.specs.Clients.{identity_at, is_live, next_client}
 use Rattle.sm_history.specs.Effects.{Effects}
 use Rattle.sm_history.specs.Histories.{History, client_of, effects_of}
 use Rattle.sm_history.proofs.Keeps.{Lasts, LeftToKeep, event_keeps}
-use Rattle.sm_history.proofs.LawfulLaws.{next_after}
 use Rattle.sm_history.proofs.RowsBack.{live_back, who_back}
 use Rattle.sm_history.proofs.SoundHistory.{live_or_new}
 use Rattle.sm_history.specs.BookOrder.{Begins}
+use Rattle.sm_history.proofs.Later.{clients_rise}
 
 abbrev IsWho : ℕ → Identity → Effects → Type 0
 IsWho c who d = identity_at d c ≡ who
 
 who_lasts : (c : ℕ) (who : Identity) → Lasts (IsWho c who)
 who_lasts c who (Connects k w) d plain h = absurd (true≢false (sym plain))
-who_lasts c who (Dies k) d plain h = h
-who_lasts c who (Releases k m) d plain h = h
-who_lasts c who (Opens w) d plain h = h
-who_lasts c who (Sets p) d plain h = h
-who_lasts c who (Adds name s) d plain h = h
-who_lasts c who (Removes name) d plain h = h
-who_lasts c who (Gives k m r) d plain h = h
-who_lasts c who (Watches w) d plain h = h
-who_lasts c who (Unwatches w) d plain h = h
-who_lasts c who (Delivers k x) d plain h = h
-who_lasts c who (Takes k) d plain h = h
-who_lasts c who (Resumes v n) d plain h = h
+who_lasts c who _ d plain h = h
 
 -- Who connects gets a new number.
 connects_other : (d : Effects) (c : ℕ) (who : Identity) → c < next_client d
@@ -48,26 +33,11 @@ connects_other d c who lt =
 
 who_left : (d : Effects) (c k : ℕ) (event : Event) → c < next_client d
     → LeftToKeep (IsWho c (identity_at d c)) d k event
-who_left d c k (Open who policy) lt = tt
 who_left d c k (Connect who) lt = connects_other d c who lt
 who_left d c k (Add name obj allow dump) lt = refl
-who_left d c k (Get name) lt = tt
-who_left d c k (WatchName name object) lt = tt
-who_left d c k (Unwatch name object) lt = tt
-who_left d c k (Unregister name obj) lt = tt
-who_left d c k (Call handle payload refs) lt = tt
 who_left d c k (Release handle) lt = refl
-who_left d c k Take lt = tt
 who_left d c k Die lt = refl
-who_left d c k (Reload expected policy) lt = tt
-
-clients_rise : (h : History) (ms : List Move) → next_client (effects_of h) ≤ next_client (effects_of (gone_on h ms))
-clients_rise h [] = omega arith
-clients_rise h (Made e ∷ ms) =
-    let i = clients_rise h ms in
-    let one = (next_after (effects_of (gone_on h ms)) (client_of e.by) e.event).0 in
-    omega (arith, i, one)
-clients_rise h (Seals ∷ ms) = clients_rise h ms
+who_left d c k _ lt = tt
 
 -- Who lives in the end lived all along.
 abbrev Stays : ℕ → History → History → Type 0
@@ -96,8 +66,7 @@ stays_on old (Seals ∷ ms) c lt live =
     (i.0, sym (who_back d c before) ∙ i.1)
 
 pub client_stays : (new old : Book) (c : ℕ) → Begins new old → c < next_client (effects_of old.history)
-    → is_live (effects_of new.history) c ≡ true
-    → (is_live (effects_of old.history) c ≡ true)
+    → is_live (effects_of new.history) c ≡ true → (is_live (effects_of old.history) c ≡ true)
     × (identity_at (effects_of new.history) c ≡ identity_at (effects_of old.history) c)
 client_stays new old c p lt live =
     let o = old.history in

@@ -6,7 +6,7 @@ use Rattle.sm_history.specs.declared.refusal.Refusal.{Refusal}
 use Rattle.sm_history.specs.declared.refusal.Refusal.TheVariants.{Failed, Memory}
 use Rattle.sm_history.specs.declared.refusal.Failure.TheVariants.{NotYours, OutOfTurn}
 use Rattle.sm_history.specs.declared.reply.Reply.{Reply}
-use Rattle.sm_history.specs.declared.reply.Reply.TheVariants.{Done, GotNull, GotOwn, Looked, Sealed, Refused}
+use Rattle.sm_history.specs.declared.reply.Reply.TheVariants.{Done, Refused}
 use Rattle.sm_history.specs.Books.{Book}
 use Rattle.sm_history.specs.Histories.{turn_of}
 use Rattle.sm_history.specs.Verdict.{verdict}
@@ -66,11 +66,7 @@ module _ (b after : Book) (old new : Knows) (event : Event) (sees : Sees old aft
 
   pub submitted : (r : Reply) → moves r ≡ true → Steps b old.by (turn old) event r after → Submitted old new event r
   submitted (Done o) m s = ⊎_elim (λ t. absurd (cc t.0)) (λ t. done o t.0 t.1) s
-  submitted GotNull m s = not_made GotNull m s
-  submitted (GotOwn o) m s = not_made (GotOwn o) m s
-  submitted (Looked v l a) m s = not_made (Looked v l a) m s
-  submitted (Sealed n l) m s = not_made (Sealed n l) m s
-  submitted (Refused r) m s = not_made (Refused r) m s
+  submitted r m s = not_made r m s
 
 -- The token stays as it is if an allocation failed, or if the event isn't its actor's, which each history refuses in
 -- the same way.
@@ -101,8 +97,4 @@ which_stays _ m = absurd (true≢false m)
 pub unseen : (b after : Book) (old : Knows) (event : Event) (r : Reply) → IsLawfulBook old.seen → moves r ≡ false
     → Steps b old.by (turn old) event r after → Submitted old old event r
 unseen b after old event (Refused r) lawful m s = stays b after old event r lawful (which_stays r m) s
-unseen b after old event (Done o) lawful m s = absurd (true≢false m)
-unseen b after old event GotNull lawful m s = absurd (true≢false m)
-unseen b after old event (GotOwn o) lawful m s = absurd (true≢false m)
-unseen b after old event (Looked v l a) lawful m s = absurd (true≢false m)
-unseen b after old event (Sealed n l) lawful m s = absurd (true≢false m)
+unseen b after old event _ lawful m s = absurd (true≢false m)

@@ -1,35 +1,32 @@
 -- Tables that are what effects left are the rows of the effects.
-use Rattle.std.proofs.Common.{inl, inr, ◌⊎◌, ◌≡◌, ℕ, zero, suc, ◌+◌, ◌≤◌, Bool, true, false, ◌==◌, List, []}
-use Rattle.std.proofs.Common.{◌∷◌, refl, ap, sym, ◌∙◌, subst, length, map, Option, Some, None, arith}
-use Rattle.std.proofs.Common.{cond}
+use Rattle.std.proofs.Common.{inl, inr, ◌⊎◌, ◌≡◌, ℕ, zero, suc, ◌+◌, ◌≤◌, Bool, true, false, ◌==◌, List, [], ◌∷◌, refl}
+use Rattle.std.proofs.Common.{ap, sym, ◌∙◌, subst, length, map, Option, Some, None, arith, cond}
 use Rattle.std.specs.Prelude.{filter_map, option_map, is_some}
 use Rattle.std.specs.List.{list_any, flat_map, range_with_len, cons_option}
 use Rattle.std.proofs.lemmas.Bool.{or_parts}
-use Rattle.std.proofs.lemmas.Bool.Decides.{nat_tests}
 use Rattle.std.proofs.lemmas.List.{get_or_past}
 use Rattle.sm_kinds.specs.declared.number.Node.{Node}
-use Rattle.sm_policy.specs.Policy.{Policy}
-use Rattle.sm_kinds.specs.declared.identity.Identity.{Identity}
 use Rattle.sm_history.specs.declared.service.Service.{Service}
 use Rattle.sm_history.specs.declared.client_row.Held.{Held}
 use Rattle.sm_history.specs.declared.client_row.ClientRow.{ClientRow}
 use Rattle.sm_history.specs.declared.tables.Tables.{Tables}
-use Rattle.sm_history.specs.Effects.{Effects, Watch}
+use Rattle.sm_history.specs.Effects.{Effects}
 use Rattle.sm_history.specs.Holdings.{number_at, node_at, held_nodes, refs_at}
 use Rattle.sm_history.specs.Services.{service_at, current_names, names_added}
 use Rattle.sm_history.specs.Sound.{Sound, IsOnce}
-use Rattle.sm_history.specs.Rows.{Rows, LiveRow, HeldRow, NamedRow, WaitingRow, live_row, top_number, held_row}
-use Rattle.sm_history.specs.Rows.{held_under, held_rows, named_under, waiting_rows, rows_at}
+use Rattle.sm_history.specs.Rows.{LiveRow, NamedRow, live_row, top_number, held_row, held_under, held_rows, named_under}
+use Rattle.sm_history.specs.Rows.{waiting_rows, rows_at}
 use Rattle.sm_history.specs.Tables.{Slots, slot, slot_at, slot_row, slot_under, client_row_of, row_in, names_of}
-use Rattle.sm_history.specs.Tables.{service_of}
-use Rattle.sm_history.specs.Tables.{clients_of, live_of, held_of, waiting_of, tables_of, IsClient, IsRowFor}
-use Rattle.sm_history.specs.Tables.{TracksNames, TracksTables}
+use Rattle.sm_history.specs.Tables.{service_of, clients_of, live_of, held_of, waiting_of, tables_of, IsClient}
+use Rattle.sm_history.specs.Tables.{IsRowFor, TracksNames, TracksTables}
 use Rattle.sm_history.proofs.HeldAlike.{node_held, held_among}
 use Rattle.sm_history.proofs.RowsBack.{below_top}
 use Rattle.sm_history.proofs.PutRows.{AllOf}
 use Rattle.sm_history.proofs.Rising.{rising_same, rising_filter, rising_added, in_current}
 use Rattle.sm_history.proofs.ClientRows.{self_same}
 use Rattle.sm_history.proofs.NamedRows.{in_names, rows_found}
+use Rattle.sm_history.proofs.Balanced.{number_same}
+use Rattle.sm_history.proofs.RowsSound.{filter_map_alike}
 
 -- ---- what is held, by numbers
 
@@ -58,10 +55,6 @@ order (suc n) zero = inr (omega arith)
 order (suc n) (suc m) = elim (order n m) as (λ _. (suc n ≤ suc m) ⊎ (suc m ≤ suc n))
     [ inl le ↦ inl (omega (arith, le)) | inr le ↦ inr (omega (arith, le)) ]
 
-map_alike : {X : Type 0} (f g : ℕ → Option X) (ks : List ℕ) → ((k : ℕ) → f k ≡ g k) → filter_map f ks ≡ filter_map g ks
-map_alike f g [] same = refl
-map_alike f g (k ∷ ks) same = rw (same k, map_alike f g ks same) refl
-
 -- Under no number behind the greatest is anything held.
 none_above : (d : Effects) (c k : ℕ) (o : Option Node) → node_at d c k ≡ o → top_number d c + 1 ≤ k → o ≡ None
 none_above d c k None is le = refl
@@ -85,7 +78,7 @@ held_are d c s held =
     λ k. ap (option_map (slot_row c k)) (held k) ∙ under_case d c k (node_at d c k) in
     let above : (k : ℕ) → top_number d c + 1 ≤ k → held_under d c k ≡ None =
     λ k le. ap (option_map (held_row d c k)) (none_above d c k (node_at d c k) refl le) in
-    map_alike (slot_under c s) (held_under d c) (range_with_len 0 (length s)) same
+    filter_map_alike (slot_under c s) (held_under d c) (range_with_len 0 (length s)) same
     ∙ any_range (held_under d c) (length s) (top_number d c + 1)
     (λ k le. sym (same k) ∙ ap (option_map (slot_row c k)) (get_or_past s k None le)) above
     (order (length s) (top_number d c + 1))
@@ -105,9 +98,6 @@ tail_for : (d : Effects) (r : ClientRow) (rs : List ClientRow) (c : ℕ) (t : Bo
 tail_for d r rs c true e none h = subst (IsRowFor d c) (sym (none refl)) tt
 tail_for d r rs c false e none h = h
 
-number_same : (a b : ℕ) → (a == b) ≡ true → a ≡ b
-number_same a b h = grind (arith, nat_tests)
-
 -- Each row is the one of its client.
 pub each_row : (d : Effects) (rows : List ClientRow) → IsOnce (clients_of rows) → ((c : ℕ)
     → IsRowFor d c (client_row_of rows c))
@@ -124,8 +114,7 @@ each_row d (r ∷ rs) once each = (
 live_are : (d : Effects) (rows : List ClientRow) → AllOf (λ r. IsClient d r.client r) rows
     → map live_of rows ≡ map (live_row d) (clients_of rows)
 live_are d [] all = refl
-live_are d (r ∷ rs) all =
-    rw (all.0.who) (ap (λ (l : List LiveRow). live_row d r.client ∷ l) (live_are d rs all.1))
+live_are d (r ∷ rs) all = rw (all.0.who) (ap (λ (l : List LiveRow). live_row d r.client ∷ l) (live_are d rs all.1))
 
 all_held : (d : Effects) (rows : List ClientRow) → AllOf (λ r. IsClient d r.client r) rows
     → flat_map held_of rows ≡ flat_map (held_rows d) (clients_of rows)
@@ -144,7 +133,7 @@ is_some-service None = refl
 is_some-service (Some r) = refl
 
 -- The rows are those of the names that have a service.
-names_are : (d : Effects) (rows : List NamedRow) → TracksNames d rows → names_of rows ≡ current_names d
+pub names_are : (d : Effects) (rows : List NamedRow) → TracksNames d rows → names_of rows ≡ current_names d
 names_are d rows tr =
     rising_same (names_of rows) (current_names d) tr.rises (rising_filter (λ n. is_some (service_at d n))
     (names_added d) (rising_added d))
@@ -159,46 +148,13 @@ named_are d rows tr =
 
 -- ---- all of them
 
-rows_is : (a b : Rows) → a.manager ≡ b.manager → a.policy ≡ b.policy → a.version ≡ b.version → a.clients ≡ b.clients
-    → a.live ≡ b.live → a.held ≡ b.held → a.names ≡ b.names → a.watches ≡ b.watches → a.waiting ≡ b.waiting → a ≡ b
-rows_is a b manager policy version clients live held names watches waiting =
-    ap (λ (v : Identity). let x : Rows = record a { manager = v } in x) manager
-    ∙ ap (λ (v : Policy). let x : Rows = record a { manager = b.manager; policy = v } in x) policy
-    ∙ ap (λ (v : ℕ). let x : Rows = record a { manager = b.manager; policy = b.policy; version = v } in x) version
-    ∙ ap (λ (v : ℕ). let x : Rows = record b {
-      clients = v;
-      live = a.live;
-      held = a.held;
-      names = a.names;
-      watches = a.watches;
-      waiting = a.waiting;
-    } in x) clients
-    ∙ ap (λ (v : List LiveRow). let x : Rows = record b {
-      live = v;
-      held = a.held;
-      names = a.names;
-      watches = a.watches;
-      waiting = a.waiting;
-    } in x) live
-    ∙ ap (λ (v : List HeldRow). let x : Rows = record b {
-      held = v;
-      names = a.names;
-      watches = a.watches;
-      waiting = a.waiting;
-    } in x) held
-    ∙ ap (λ (v : List NamedRow). let x : Rows = record b { names = v; watches = a.watches; waiting = a.waiting } in x)
-    names
-    ∙ ap (λ (v : List Watch). let x : Rows = record b { watches = v; waiting = a.waiting } in x) watches
-    ∙ ap (λ (v : List WaitingRow). let x : Rows = record b { waiting = v } in x) waiting
-
 pub tables_are : (d : Effects) (t : Tables) → Sound d → TracksTables d t → tables_of t ≡ rows_at d
 tables_are d t s tr =
     let rows = t.live.items in
     let ids = tr.live.ids in
     let all = each_row d rows (subst IsOnce (sym ids) s.once) tr.live.each in
-    rows_is (tables_of t) (rows_at d) tr.manager tr.policy tr.version tr.clients
-    (live_are d rows all ∙ ap (map (live_row d)) ids)
-    (all_held d rows all ∙ ap (flat_map (held_rows d)) ids)
-    (named_are d t.names.items tr.names)
-    tr.watches
-    (all_waiting d rows all ∙ ap (flat_map (waiting_rows d)) ids)
+    let live = live_are d rows all ∙ ap (map (live_row d)) ids in
+    let held = all_held d rows all ∙ ap (flat_map (held_rows d)) ids in
+    let waiting = all_waiting d rows all ∙ ap (flat_map (waiting_rows d)) ids in
+    let named = named_are d t.names.items tr.names in
+    rw (tr.manager, tr.policy, tr.version, tr.clients, live, held, named, tr.watches, waiting) refl

@@ -3,7 +3,7 @@ use Rattle.std.proofs.Common.{inl, inr, ◌≡◌, ℕ, ◌-◌, Bool, true, fal
 use Rattle.std.proofs.Common.{ap, sym, ◌∙◌, subst, Option, Some, None, if◌then◌else◌, arith}
 use Rattle.std.specs.Prelude.{not, ◌&&◌, is_none}
 use Rattle.std.specs.List.{All, list_all}
-use Rattle.std.proofs.lemmas.Bool.{true≢false, and_parts}
+use Rattle.std.proofs.lemmas.Bool.{true≢false, and_parts, not-true, not-false}
 use Rattle.std.proofs.lemmas.List.Elements.{All-append, All-nil, All-cons}
 use Rattle.sm_kinds.specs.Users.{is_barred, is_isolated_user}
 use Rattle.sm_kinds.specs.Contexts.{type_of}
@@ -15,27 +15,25 @@ use Rattle.sm_kinds.specs.declared.number.ObjRef.{ObjRef}
 use Rattle.sm_kinds.specs.declared.number.ObjRef.TheVariants.{Own, Handle, Null}
 use Rattle.sm_policy.specs.Policy.{Policy, written, silenced, audits}
 use Rattle.sm_history.specs.declared.by.By.{By}
-use Rattle.sm_history.specs.declared.by.By.TheVariants.{Manager, Client, Admin}
+use Rattle.sm_history.specs.declared.by.By.TheVariants.{Client}
 use Rattle.sm_history.specs.declared.denial.Denial.{Denial}
 use Rattle.sm_history.specs.declared.denial.Denial.TheVariants.{Rule, App, Isolated}
 use Rattle.sm_history.specs.declared.event.Event.{Event}
 use Rattle.sm_history.specs.declared.event.Event.TheVariants.{Open, Connect, Add, Get, Watch as WatchName, Unwatch}
-use Rattle.sm_history.specs.declared.event.Event.TheVariants.{Unregister, Call, Release, Take, Die, Reload}
+use Rattle.sm_history.specs.declared.event.Event.TheVariants.{Unregister, Call, Die}
 use Rattle.sm_history.specs.declared.query.Query.{Query}
 use Rattle.sm_history.specs.declared.query.Query.TheVariants.{List as ListNames, Version, Explain}
 use Rattle.sm_history.specs.declared.records.Record.{Record}
 use Rattle.sm_history.specs.declared.failed_check.EarlyAnswer.{EarlyAnswer}
 use Rattle.sm_history.specs.declared.failed_check.EarlyAnswer.TheVariants.{Refused}
-use Rattle.sm_history.specs.declared.failed_check.FailedCheck.{FailedCheck}
 use Rattle.sm_history.specs.declared.refusal.Refusal.TheVariants.{Failed, JournalFull}
 use Rattle.sm_history.specs.declared.refusal.Failure.TheVariants.{NotYours, NotConnected, OutOfTurn}
-use Rattle.sm_history.specs.Effects.{Effects, Service, Watch, Adds, Watches, Gives}
-use Rattle.sm_history.specs.Clients.{manager_at, identity_at, is_live, is_opened, policy_at}
-use Rattle.sm_history.specs.Clients.{version_at}
+use Rattle.sm_history.specs.Effects.{Effects, Service, Watch, Adds, Watches}
+use Rattle.sm_history.specs.Clients.{manager_at, identity_at, is_live, is_opened, policy_at, version_at}
 use Rattle.sm_history.specs.Checks.{Check, Needs, Spares, Wants, holds, first_failing}
-use Rattle.sm_history.specs.Holdings.{resolve_at, node_at, handed, number_for}
+use Rattle.sm_history.specs.Holdings.{resolve_at, node_at}
 use Rattle.sm_history.specs.Services.{service_at, watchers_at}
-use Rattle.sm_history.specs.Notices.{notice_checks, first_missing, after_told, after_notice}
+use Rattle.sm_history.specs.Notices.{notice_checks, first_missing, after_notice}
 use Rattle.sm_history.specs.Histories.{History, length_of, turn_of, client_of, effects_of, found, service, watch}
 use Rattle.sm_history.specs.Verdict.{event_checks, is_theirs, is_there, has_place, passes_to_manager}
 use Rattle.sm_history.specs.Verdict.{passes_to_client, all_pass_to_client, handing_checks}
@@ -46,6 +44,7 @@ use Rattle.sm_history.specs.Records.{IsDeniedBy, IsTrueOf}
 use Rattle.sm_history.proofs.AgreeChecks.{Acts}
 use Rattle.sm_history.proofs.AgreeEvents.{acts_of}
 use Rattle.sm_history.proofs.AgreeNotices.{AllLive, watchers_live}
+use Rattle.sm_history.proofs.Keeps.{told_keeps}
 
 -- ---- the identities of effects
 
@@ -94,20 +93,12 @@ true_now h r at version stands denied =
       denied = subst (λ (g : History). IsDeniedBy (effects_of g) r r.denial) is denied;
     }
 
-not_true : (b : Bool) → not b ≡ true → b ≡ false
-not_true true e = absurd (true≢false (sym e))
-not_true false e = refl
-
-not_false : (b : Bool) → not b ≡ false → b ≡ true
-not_false true e = refl
-not_false false e = absurd (true≢false e)
-
 -- What is recorded isn't granted by a rule.
 unwritten : (p : Policy) (s t : List ℕ) (class : Class) (perm : Perms) → audits p s t class perm ≡ true
     → written p s t class perm ≡ false
 unfolding audits
 unwritten p s t class perm e =
-    not_true (written p s t class perm)
+    not-true (written p s t class perm)
     (and_parts (not (written p s t class perm)) (not (silenced p s t class perm)) e).0
 
 clause_denied : (h : History) (denial : Denial) (who : Identity) (name : List ℕ) → Bars denial who
@@ -150,14 +141,14 @@ left_all_true h (x ∷ xs) (g, gs) =
 
 barred_good : (d : Effects) (c : ℕ) → is_live d c ≡ true → Stands d (identity_at d c)
     × (not (is_barred (identity_at d c).uid) ≡ false → Bars (App (identity_at d c).uid) (identity_at d c))
-barred_good d c live = (live_stands d c live, λ e. (refl, not_false (is_barred (identity_at d c).uid) e))
+barred_good d c live = (live_stands d c live, λ e. (refl, not-false (is_barred (identity_at d c).uid) e))
 
 isolated_good : (d : Effects) (c : ℕ) (b : Bool) → is_live d c ≡ true → Stands d (identity_at d c)
     × (not (is_isolated_user (identity_at d c).uid && b) ≡ false →
     Bars (Isolated (identity_at d c).uid) (identity_at d c))
 isolated_good d c b live =
     let i = is_isolated_user (identity_at d c).uid in
-    (live_stands d c live, λ e. (refl, (and_parts i b (not_false (i && b) e)).0))
+    (live_stands d c live, λ e. (refl, (and_parts i b (not-false (i && b) e)).0))
 
 to_manager_good : (d : Effects) (c : ℕ) (r : ObjRef) → is_live d c ≡ true → AllGood d (passes_to_manager d c r)
 to_manager_good d c (Own o) live = (tt, (live_stands d c live, tt))
@@ -185,53 +176,26 @@ event_good : (d : Effects) (c : ℕ) (event : Event) → is_opened d ≡ true �
     → AllGood d (event_checks d c event)
 event_good d c (Open who policy) opened acts = tt
 event_good d c (Connect who) opened acts = (tt, tt)
-event_good d c (Reload expected policy) opened acts = (tt, tt)
 event_good d c (Add name obj allow dump) opened live = (
   live_stands d c live,
   good_append d (passes_to_manager d c obj) _ (to_manager_good d c obj live)
       (barred_good d c live, (live_stands d c live, (tt, (tt, (tt, (tt, tt)))))),
 )
-event_good d c (Get name) opened live = (
-  live_stands d c live,
-  (
-    isolated_good d c _ live,
-    (
-      live_stands d c live,
-      (
-        tt,
-        (
-          opened_stands d opened,
-          handing_good d c (service_at d name),
-        ),
-      ),
-    ),
-  ),
-)
-event_good d c (WatchName name object) opened live = (
-  live_stands d c live,
-  (live_stands d c live, (live_stands d c live, (isolated_good d c true live, (tt, (tt, tt))))),
-)
-event_good d c (Unwatch name object) opened live =
-    (live_stands d c live, (live_stands d c live, (live_stands d c live, (tt, tt))))
+event_good d c (Get name) opened live = let here = live_stands d c live in
+    (here, (isolated_good d c _ live, (here, (tt, (opened_stands d opened, handing_good d c (service_at d name))))))
+event_good d c (WatchName name object) opened live = let here = live_stands d c live in
+    (here, (here, (here, (isolated_good d c true live, (tt, (tt, tt))))))
+event_good d c (Unwatch name object) opened live = let here = live_stands d c live in (here, (here, (here, (tt, tt))))
 event_good d c (Unregister name obj) opened live = (
   live_stands d c live,
   good_append d (passes_to_manager d c obj) _ (to_manager_good d c obj live)
       (tt, (live_stands d c live, (tt, (tt, (tt, (tt, tt)))))),
 )
-event_good d c (Call handle payload refs) opened live = (
-  tt,
-  (
-    tt,
-    (
-      live_stands d c live,
-      good_append d (all_pass_to_client d c (found (node_at d c handle)).owner.0 refs) _
-          (all_to_client_good d c (found (node_at d c handle)).owner.0 refs live) (tt, tt),
-    ),
-  ),
-)
-event_good d c (Release handle) opened live = (tt, tt)
-event_good d c Take opened live = (tt, tt)
+event_good d c (Call handle payload refs) opened live = let k = (found (node_at d c handle)).owner.0 in
+    let all = all_to_client_good d c k refs live in
+    (tt, (tt, (live_stands d c live, good_append d (all_pass_to_client d c k refs) _ all (tt, tt))))
 event_good d c Die opened live = tt
+event_good d c _ opened acts = (tt, tt)
 
 -- ---- notices
 
@@ -240,20 +204,8 @@ pub record SameProcesses (d e : Effects) : Type 0 where
   pub clients : (c : ℕ) → identity_at e c ≡ identity_at d c
   pub manager : manager_at e ≡ manager_at d
 
-handed_same : (d e : Effects) (c : ℕ) (n : Node) → SameProcesses d e → SameProcesses d (handed e c n)
-handed_same d e c n s = elim (n.owner.0 == c) as (λ b.
-    SameProcesses d (let f : Effects = if b then e else Gives c n (number_for e c n) ∷ e in f))
-    [ true ↦ s | false ↦ record { clients = s.clients; manager = s.manager } ]
-
-told_same : (d e : Effects) (n : Node) (w : Watch) (o : Option FailedCheck) → SameProcesses d e
-    → SameProcesses d (after_told e n w o)
-told_same d e n w None s = let t = handed_same d e w.client n s in
-    record { clients = t.clients; manager = t.manager }
-told_same d e n w (Some stop) s = s
-
 notice_good : (d e : Effects) (n : Node) (w : Watch) → SameProcesses d e → is_opened d ≡ true
-    → is_live d w.client ≡ true
-    → AllGood d (notice_checks e n w)
+    → is_live d w.client ≡ true → AllGood d (notice_checks e n w)
 notice_good d e n w s opened live =
     let manager = subst (Stands d) (sym s.manager) (opened_stands d opened) in
     (subst (Stands d) (sym (s.clients w.client)) (live_stands d w.client live), (manager, (manager, (tt, tt))))
@@ -265,10 +217,12 @@ notices_true h e n [] s opened live = All-nil (IsTrueOf h)
 notices_true h e n (w ∷ ws) s opened live =
     let d = effects_of h in
     let lives = and_parts (is_live d w.client) (list_all (λ (v : Watch). is_live d v.client) ws) live in
+    let same = told_keeps (SameProcesses d) (λ c m r b i. record { clients = i.clients; manager = i.manager })
+    (λ c x b i. record { clients = i.clients; manager = i.manager }) e n w (first_missing e n w) s in
     All-append (IsTrueOf h) (left_by_all (moment_of h) (notice_checks e n w))
     (left_by_notices (moment_of h) (after_notice e n w) n ws)
     (left_all_true h (notice_checks e n w) (notice_good d e n w s opened lives.0))
-    (notices_true h (after_notice e n w) n ws (told_same d e n w (first_missing e n w) s) opened lives.1)
+    (notices_true h (after_notice e n w) n ws same opened lives.1)
 
 watch_true : (h : History) (e : Effects) (w : Watch) (o : Option Service) → SameProcesses (effects_of h) e
     → is_opened (effects_of h) ≡ true → is_live (effects_of h) w.client ≡ true
@@ -287,23 +241,13 @@ telling_true h c (WatchName name object) opened live =
     let d = effects_of h in
     watch_true h (Watches (watch c name object) ∷ d) (watch c name object) (service_at d name)
     (record { clients = λ k. refl; manager = refl }) opened live
-telling_true h c (Open who policy) opened acts = All-nil (IsTrueOf h)
-telling_true h c (Connect who) opened acts = All-nil (IsTrueOf h)
-telling_true h c (Reload expected policy) opened acts = All-nil (IsTrueOf h)
-telling_true h c (Get name) opened acts = All-nil (IsTrueOf h)
-telling_true h c (Unwatch name object) opened acts = All-nil (IsTrueOf h)
-telling_true h c (Unregister name obj) opened acts = All-nil (IsTrueOf h)
-telling_true h c (Call handle payload refs) opened acts = All-nil (IsTrueOf h)
-telling_true h c (Release handle) opened acts = All-nil (IsTrueOf h)
-telling_true h c Take opened acts = All-nil (IsTrueOf h)
-telling_true h c Die opened acts = All-nil (IsTrueOf h)
+telling_true h c _ opened acts = All-nil (IsTrueOf h)
 
 -- ---- events and queries
 
 -- What is left behind two conditions, which hold or nothing is left.
 behind_true : (h : History) (a b : Bool) (i j : EarlyAnswer) (xs : List Check) (told : List Record)
-    → (a ≡ true → b ≡ true → AllGood (effects_of h) xs)
-    → (a ≡ true → b ≡ true → All (IsTrueOf h) told)
+    → (a ≡ true → b ≡ true → AllGood (effects_of h) xs) → (a ≡ true → b ≡ true → All (IsTrueOf h) told)
     → All (IsTrueOf h) (left_by_all (moment_of h) (Wants a i ∷ Wants b j ∷ xs)
     ++ (if is_none (first_failing (policy_at (effects_of h)) (Wants a i ∷ Wants b j ∷ xs)) then told else []))
 behind_true h false b i j xs told good tells = All-nil (IsTrueOf h)
@@ -318,8 +262,7 @@ behind_true h true true i j xs told good tells =
     ])
 
 pub event_records_true : (places : ℕ) (h : History) (by : By) (turn : ℕ) (event : Event)
-    → is_opened (effects_of h) ≡ true
-    → All (IsTrueOf h) (records places h by turn event)
+    → is_opened (effects_of h) ≡ true → All (IsTrueOf h) (records places h by turn event)
 event_records_true places h by turn event opened =
     let d = effects_of h in
     let c = client_of by in
@@ -337,8 +280,7 @@ event_records_true places h by turn event opened =
 query_good : (d : Effects) (by : By) (q : Query) → is_their_query by q ≡ true → is_there d by ≡ true
     → AllGood d (query_checks d (client_of by) q)
 query_good d (Client c) (ListNames mask) theirs there = (live_stands d c.0 there, (live_stands d c.0 there, tt))
-query_good d Manager (ListNames mask) theirs there = absurd (true≢false (sym theirs))
-query_good d (Admin a) (ListNames mask) theirs there = absurd (true≢false (sym theirs))
+query_good d by (ListNames mask) theirs there = absurd (true≢false (sym theirs))
 query_good d by Version theirs there = tt
 query_good d by (Explain s t class perm) theirs there = tt
 

@@ -1,16 +1,15 @@
 -- What a verdict says of the actor's turn.
-use Rattle.std.proofs.Common.{◌≡◌, ◌≢◌, ℕ, ◌==◌, ◌++◌, ◌&&◌, Bool, true, false, List, [], ◌∷◌, Option, Some, None}
-use Rattle.std.proofs.Common.{refl, sym, ap, ◌∙◌, arith, if◌then◌else◌}
+use Rattle.std.proofs.Common.{◌≡◌, ◌≢◌, ℕ, ◌==◌, ◌++◌, Bool, true, false, List, [], ◌∷◌, Option, Some, None, refl, sym}
+use Rattle.std.proofs.Common.{ap, ◌∙◌, arith, if◌then◌else◌}
 use Rattle.std.specs.List.{list_all}
 use Rattle.std.proofs.lemmas.Bool.{true≢false, and_parts}
 use Rattle.std.proofs.lemmas.Bool.Decides.{nat_tests}
 use Rattle.sm_kinds.specs.declared.number.ObjRef.{ObjRef}
-use Rattle.sm_kinds.specs.declared.number.ObjRef.TheVariants.{Own as OwnRef, Handle as HandleRef, Null as NullRef}
+use Rattle.sm_kinds.specs.declared.number.ObjRef.TheVariants.{Null as NullRef}
 use Rattle.sm_policy.specs.Policy.{Policy}
 use Rattle.sm_history.specs.declared.by.By.{By}
 use Rattle.sm_history.specs.declared.event.Event.{Event}
-use Rattle.sm_history.specs.declared.event.Event.TheVariants.{Open, Connect, Add, Get, Watch as WatchName, Unwatch}
-use Rattle.sm_history.specs.declared.event.Event.TheVariants.{Unregister, Call, Release, Take, Die, Reload}
+use Rattle.sm_history.specs.declared.event.Event.TheVariants.{Add, Get, Unregister, Call}
 use Rattle.sm_history.specs.declared.outcome.Outcome.{Outcome}
 use Rattle.sm_history.specs.declared.refusal.Refusal.TheVariants.{Failed}
 use Rattle.sm_history.specs.declared.refusal.Failure.TheVariants.{NotYours, NotConnected, OutOfTurn}
@@ -31,6 +30,7 @@ use Rattle.sm_history.specs.Verdict.{passes_to_client, all_pass_to_client}
 use Rattle.sm_history.specs.Records.{records}
 use Rattle.sm_history.proofs.Passed.{actor_done, later_checks}
 use Rattle.sm_history.proofs.Balanced.{number_same}
+use Rattle.std.proofs.lemmas.List.Folds.{list_all-append}
 
 -- ---- the checks behind those of the actor
 
@@ -60,17 +60,9 @@ first_plain p (x ∷ xs) o all =
       | false ↦ plain_answer x (and_parts (plain x) (list_all plain xs) all).0
     ]
 
-both : (x y : Bool) → x ≡ true → y ≡ true → (x && y) ≡ true
-both true true p q = refl
-both true false p q = q
-both false y p q = p
-
 append_plain : (xs ys : List Check) → list_all plain xs ≡ true → list_all plain ys ≡ true
     → list_all plain (xs ++ ys) ≡ true
-append_plain [] ys a b = b
-append_plain (x ∷ xs) ys a b =
-    let parts = and_parts (plain x) (list_all plain xs) a in
-    both (plain x) (list_all plain (xs ++ ys)) parts.0 (append_plain xs ys parts.1 b)
+append_plain xs ys a b = rw (list_all-append plain xs ys, a, b) refl
 
 handing_plain : (d : Effects) (c : ℕ) (s : Option Service) → list_all plain (handing_checks d c s) ≡ true
 handing_plain d c None = refl
@@ -78,8 +70,7 @@ handing_plain d c (Some s) = refl
 
 passes_plain : (d : Effects) (c k : ℕ) (r : ObjRef) → list_all plain (passes_to_client d c k r) ≡ true
 passes_plain d c k NullRef = refl
-passes_plain d c k (OwnRef o) = refl
-passes_plain d c k (HandleRef n) = refl
+passes_plain d c k _ = refl
 
 all_pass_plain : (d : Effects) (c k : ℕ) (rs : List ObjRef) → list_all plain (all_pass_to_client d c k rs) ≡ true
 all_pass_plain d c k [] = refl
@@ -88,30 +79,19 @@ all_pass_plain d c k (r ∷ rs) = append_plain (passes_to_client d c k r) (all_p
 
 later_plain : (places : ℕ) (h : History) (by : By) (event : Event)
     → list_all plain (later_checks places h by event) ≡ true
-later_plain places h by (Open who policy) = refl
-later_plain places h by (Connect who) = refl
 later_plain places h by (Add name NullRef allow dump) = refl
-later_plain places h by (Add name (OwnRef o) allow dump) = refl
-later_plain places h by (Add name (HandleRef r) allow dump) = refl
 later_plain places h by (Get name) =
     let d = effects_of h in
     let c = client_of by in
     append_plain (handing_checks d c (service_at d name)) _ (handing_plain d c (service_at d name)) refl
-later_plain places h by (WatchName name object) = refl
-later_plain places h by (Unwatch name object) = refl
 later_plain places h by (Unregister name NullRef) = refl
-later_plain places h by (Unregister name (OwnRef o)) = refl
-later_plain places h by (Unregister name (HandleRef r)) = refl
 later_plain places h by (Call handle payload refs) =
     let d = effects_of h in
     let c = client_of by in
     let k = (found (node_at d c handle)).owner.0 in
     append_plain (all_pass_to_client d c k refs ++ _ ∷ []) _
     (append_plain (all_pass_to_client d c k refs) (_ ∷ []) (all_pass_plain d c k refs) refl) refl
-later_plain places h by (Release handle) = refl
-later_plain places h by Take = refl
-later_plain places h by Die = refl
-later_plain places h by (Reload expected policy) = refl
+later_plain places h by _ = refl
 
 -- ---- the checks of the actor, by whether each is met
 
@@ -170,8 +150,7 @@ out_of_turn places h by turn event n is =
 pub others_in_turn : (places : ℕ) (h : History) (by : By) (turn : ℕ) (event : Event)
     → verdict places h by turn event ≢ Refused (Failed NotYours)
     → verdict places h by turn event ≢ Refused (Failed NotConnected)
-    → ((n : ℕ) → verdict places h by turn event ≢ Refused (Failed (OutOfTurn n)))
-    → turn ≡ turn_of h by
+    → ((n : ℕ) → verdict places h by turn event ≢ Refused (Failed (OutOfTurn n))) → turn ≡ turn_of h by
 others_in_turn places h by turn event x y z =
     let d = effects_of h in
     number_same turn (turn_of h by)

@@ -3,7 +3,6 @@ use Rattle.std.proofs.Common.{◌≡◌, ℕ, ◌+◌, ◌<◌, Bool, true, fals
 use Rattle.std.proofs.Common.{map, length, drop, get_or, ◌-◌, if◌then◌else◌, arith}
 use Rattle.std.specs.Prelude.{min}
 use Rattle.std.specs.List.{list_any}
-use Rattle.std.proofs.lemmas.Bool.Decides.{nat_tests}
 use Rattle.std.proofs.lemmas.List.Folds.{list_any-append}
 use Rattle.sm_history.specs.declared.limits.TheConstants.{GREATEST}
 use Rattle.sm_history.specs.declared.by.By.{By}
@@ -18,25 +17,15 @@ use Rattle.sm_history.specs.Segments.{is_admin, with_admin, admins_of, client, a
 use Rattle.sm_history.specs.Tables.{clients_of}
 use Rattle.sm_history.specs.Turning.{CountsTurns, admin, admins_in, has_made, is_known, made, more_by, turn_rows}
 use Rattle.sm_history.specs.Turning.{with_order}
-use Rattle.sm_history.proofs.EnteringLoops.{drop_at}
 use Rattle.sm_history.proofs.LawfulLaws.{turn_more, turn_same}
-
-turned : (k j : ℕ) → (k == j) ≡ (j == k)
-turned k j = elim (k == j) as (λ a. (k == j) ≡ a → a ≡ (j == k)) [
-  | true ↦ λ e. let f : (j == k) ≡ true = grind (arith, nat_tests) in sym f
-  | false ↦ λ e. let f : (j == k) ≡ false = grind (arith, nat_tests) in sym f
-] refl
+use Rattle.sm_history.proofs.Balanced.{turned, number_same}
+use Rattle.std.proofs.lemmas.List.{drop_more, map-append}
 
 pub same_turned : (a b : By) → is_same a b ≡ is_same b a
 same_turned Manager Manager = refl
-same_turned Manager (Client b) = refl
-same_turned Manager (Admin b) = refl
-same_turned (Client a) Manager = refl
 same_turned (Client a) (Client b) = turned a.0 b.0
-same_turned (Client a) (Admin b) = refl
-same_turned (Admin a) Manager = refl
-same_turned (Admin a) (Client b) = refl
 same_turned (Admin a) (Admin b) = turned a.0 b.0
+same_turned _ _ = refl
 
 least : (v g : ℕ) → v < g → min (v + 1) g ≡ v + 1
 least v g lt = omega (arith, lt)
@@ -50,17 +39,10 @@ more_is h e b lt =
       | false ↦ λ other. sym (turn_more e h b (same_turned b e.by ∙ other))
     ] refl
 
-number_is : (a b : ℕ) → (a == b) ≡ true → a ≡ b
-number_is a b h = grind (arith, nat_tests)
-
-pub map_append : {X Y : Type 0} (f : X → Y) (xs ys : List X) → map f (xs ++ ys) ≡ map f xs ++ map f ys
-map_append f [] ys = refl
-map_append f (x ∷ xs) ys = ap (λ l. f x ∷ l) (map_append f xs ys)
-
 order_case : (a : _) (t : Bool) (order : List ℕ) (as' : List By) → map admin order ≡ as'
     → map admin (with_order (Admin a) t order) ≡ (if t then as' else as' ++ Admin a ∷ [])
 order_case a true order as' is = is
-order_case a false order as' is = map_append admin order (a.0 ∷ []) ∙ ap (λ (l : List By). l ++ Admin a ∷ []) is
+order_case a false order as' is = map-append admin order (a.0 ∷ []) ∙ ap (λ (l : List By). l ++ Admin a ∷ []) is
 
 order_is : (by : By) (t : Bool) (order : List ℕ) (as' : List By) → map admin order ≡ as'
     → ((a : _) → by ≡ Admin a → t ≡ list_any (is_same (Admin a)) as')
@@ -88,7 +70,7 @@ known_case : (k : ℕ) (a : _) (t : Bool) (as' : List By) → list_any (is_same 
     ≡ list_any (is_same (admin k)) (if t then as' else as' ++ Admin a ∷ [])
 known_case k a true as' is =
     absorbed (a.0 == k) (list_any (is_same (admin k)) as')
-    (λ same. ap (λ (v : ℕ). list_any (is_same (admin v)) as') (sym (number_is a.0 k same)) ∙ is)
+    (λ same. ap (λ (v : ℕ). list_any (is_same (admin v)) as') (sym (number_same a.0 k same)) ∙ is)
 known_case k a false as' is =
     or_turned (a.0 == k) (list_any (is_same (admin k)) as')
     ∙ ap (λ (v : Bool). list_any (is_same (admin k)) as' || (v || false)) (turned a.0 k)
@@ -102,8 +84,7 @@ known_is (Admin a) k as' = known_case k a (list_any (is_same (Admin a)) as') as'
 
 -- One change more of an actor.
 pub counted_more : (h : History) (e : Entry) (t t' : Turning) → ((b : By) → turn_of h b < GREATEST)
-    → CountsTurns (turn_of h) (admins_of h) t
-    → ((b : By) → made t' b ≡ more_by (is_same e.by b) (made t b))
+    → CountsTurns (turn_of h) (admins_of h) t → ((b : By) → made t' b ≡ more_by (is_same e.by b) (made t b))
     → ((a : ℕ) → is_known t' a ≡ (is_same e.by (admin a) || is_known t a))
     → t'.order.items ≡ with_order e.by (has_made t e.by) t.order.items
     → CountsTurns (turn_of (entered e h)) (admins_of (entered e h)) t'
@@ -135,17 +116,9 @@ admins_rows h t (a ∷ as') same = rw (same (admin a), admins_rows h t as' same)
 pub rows_are : (h : History) (t : Turning) (rows : List ClientRow) → CountsTurns (turn_of h) (admins_of h) t
     → clients_of rows ≡ live_clients (effects_of h) → turn_rows t rows ≡ map (turn_row h) (actors_of h)
 rows_are h t rows c ids =
-    ap (λ (n : ℕ). let x : TurnRow = record { by = Manager; turns = n } in x ∷ (map (λ (r : ClientRow).
-    let y : TurnRow = record { by = client r.client; turns = made t (client r.client) } in y) rows
-    ++ map (λ (a : ℕ). let y : TurnRow = record { by = admin a; turns = made t (admin a) } in y) t.order.items))
-    (c.made_is Manager)
-    ∙ ap (λ (l : List TurnRow). turn_row h Manager ∷ (l ++ map (λ (a : ℕ).
-    let y : TurnRow = record { by = admin a; turns = made t (admin a) } in y) t.order.items))
-    (clients_rows h t rows c.made_is ∙ ap (λ (ks : List ℕ). map (turn_row h) (map client ks)) ids)
-    ∙ ap (λ (l : List TurnRow). turn_row h Manager ∷ (map (turn_row h) (map client (live_clients (effects_of h))) ++ l))
-    (admins_rows h t t.order.items c.made_is ∙ ap (map (turn_row h)) c.order)
-    ∙ ap (λ (l : List TurnRow). turn_row h Manager ∷ l)
-    (sym (map_append (turn_row h) (map client (live_clients (effects_of h))) (admins_of h)))
+    let ks = map client (live_clients (effects_of h)) in
+    rw (c.made_is Manager, map-append (turn_row h) ks (admins_of h), clients_rows h t rows c.made_is, ids)
+    (rw (admins_rows h t t.order.items c.made_is, c.order) refl)
 
 -- ---- rows to begin with
 
@@ -178,5 +151,5 @@ from_behind rows k d lt =
     let i = length rows - 1 - k in
     let here : length rows - (k + 1) ≡ i = omega (arith, lt) in
     let more : i + 1 ≡ length rows - k = omega (arith, lt) in
-    ap (λ (j : ℕ). drop j rows) here ∙ drop_at rows i d (omega (arith, lt))
+    ap (λ (j : ℕ). drop j rows) here ∙ drop_more rows i d (omega (arith, lt))
     ∙ ap (λ (j : ℕ). get_or rows i d ∷ drop j rows) more

@@ -19,9 +19,8 @@ use Rattle.sm_history.specs.declared.event.Event.{Event}
 use Rattle.sm_history.specs.declared.event.Event.TheVariants.{Open, Connect, Add, Get, Watch as WatchName, Unwatch}
 use Rattle.sm_history.specs.declared.event.Event.TheVariants.{Unregister, Call, Release, Take, Die, Reload}
 use Rattle.sm_history.specs.declared.outcome.Outcome.{Outcome}
-use Rattle.sm_history.specs.declared.outcome.Outcome.TheVariants.{Opened, Connected, Added, Granted, Watched}
-use Rattle.sm_history.specs.declared.outcome.Outcome.TheVariants.{Unwatched, Unregistered, Sent, Released, Taken}
-use Rattle.sm_history.specs.declared.outcome.Outcome.TheVariants.{Died, Reloaded}
+use Rattle.sm_history.specs.declared.outcome.Outcome.TheVariants.{Opened, Connected, Added, Granted, Watched, Unwatched}
+use Rattle.sm_history.specs.declared.outcome.Outcome.TheVariants.{Unregistered, Sent, Released, Taken, Died, Reloaded}
 use Rattle.sm_history.specs.declared.denial.Denial.TheVariants.{App, Isolated}
 use Rattle.sm_history.specs.declared.refusal.Refusal.TheVariants.{Exception, Failed, Dead, Empty, TooManyClients}
 use Rattle.sm_history.specs.declared.refusal.Refusal.TheVariants.{VersionMoved, JournalFull}

@@ -62,7 +62,8 @@ fn names_of(alloc: Global, rows: &[NamedRow]) -> Result<Vec<NamedRow>, AllocErro
     Ok(copies)
 }
 
-fn watches_of(alloc: Global, watches: &[Watch]) -> Result<Vec<Watch>, AllocError>
+/// Copies watches; their names are shared. Returns an error if an allocation fails.
+pub fn watches_of(alloc: Global, watches: &[Watch]) -> Result<Vec<Watch>, AllocError>
     ensures { IfOk result (λ v. v.items ≡ watches.now) }
 {
     let mut copies = Vec::new(alloc);

@@ -48,6 +48,7 @@ mod turning;
 pub use by::By;
 pub use chunk::Chunk;
 pub use client_row::{ClientRow, Held};
+pub use copying::watches_of;
 pub use delivery::{BoxedDelivery, Delivery, Given, GivenRefs, Message};
 pub use denial::Denial;
 pub use effect::{Effect, Watch, WatchPair};

@@ -25,13 +25,12 @@ pub fn connect(
     ensures { OnOk result ((d : Effects) → Sound d → TracksClients d live.old.items
         → MayFollow d (Connects client who) → TracksClients (Connects client who ∷ d) live.new.items) }
 {
-    let row = ClientRow {
+    live.push(ClientRow {
         client,
         who,
         held: Vec::new(alloc),
         waiting: Vec::new(alloc),
-    };
-    live.push(row)?;
+    })?;
     Ok(())
 }
 
@@ -56,8 +55,7 @@ pub fn give_to(
     let Some(i) = place_of(live, client) else {
         return Ok(());
     };
-    let row = &mut live[i];
-    give(row, node, number)?;
+    give(&mut live[i], node, number)?;
     Ok(())
 }
 
@@ -70,8 +68,7 @@ pub fn release_of(live: &mut Vec<ClientRow>, client: u32, number: u32) -> Result
     let Some(i) = place_of(live, client) else {
         return Ok(());
     };
-    let row = &mut live[i];
-    release(row, number)?;
+    release(&mut live[i], number)?;
     Ok(())
 }
 
@@ -87,8 +84,7 @@ pub fn deliver_to(
     let Some(i) = place_of(live, client) else {
         return Ok(());
     };
-    let row = &mut live[i];
-    row.waiting.push(delivery)?;
+    live[i].waiting.push(delivery)?;
     Ok(())
 }
 
@@ -100,8 +96,7 @@ pub fn take_from(live: &mut Vec<ClientRow>, client: u32)
     let Some(i) = place_of(live, client) else {
         return;
     };
-    let row = &mut live[i];
-    take_first(&mut row.waiting);
+    take_first(&mut live[i].waiting);
 }
 
 /// Removes the oldest delivery, if there is one.

@@ -5,8 +5,7 @@ ghost use Rattle.sm_history.specs.Verdict.{is_die};
 ghost use Rattle.sm_history.specs.declared.outcome.Outcome.TheVariants.{Connected, Died, Reloaded};
 ghost use Rattle.sm_history.specs.declared.reply.Reply.TheVariants.{Done, Refused};
 ghost use Rattle.sm_history.specs.PossibleReplies.{moves, refusal_moves, ConnectReply, LeaveReply, InstallReply};
-ghost use Rattle.sm_history.specs.PossibleReplies.{OfConnect};
-ghost use Rattle.sm_history.specs.PossibleReplies.{OfLeave, OfInstall};
+ghost use Rattle.sm_history.specs.PossibleReplies.{OfConnect, OfLeave, OfInstall};
 
 use crate::{Event, Failure, Outcome, Refusal, Reply};
 use sm_kinds::ClientId;

@@ -3,9 +3,7 @@ use Rattle.std.proofs.Common.{◌≡◌, ℕ, Bool, true, false, ◌∷◌, sym,
 use Rattle.std.proofs.lemmas.Bool.{true≢false}
 use Rattle.sm_kinds.specs.declared.identity.Identity.{Identity}
 use Rattle.sm_history.specs.declared.effect.Effect.{Effect}
-use Rattle.sm_history.specs.declared.effect.Effect.TheVariants.{Opens, Sets, Connects, Dies, Adds, Removes, Gives}
-use Rattle.sm_history.specs.declared.effect.Effect.TheVariants.{Releases, Watches, Unwatches, Delivers, Takes}
-use Rattle.sm_history.specs.declared.effect.Effect.TheVariants.{Resumes}
+use Rattle.sm_history.specs.declared.effect.Effect.TheVariants.{Connects, Dies, Delivers, Takes}
 use Rattle.sm_history.specs.Effects.{Effects}
 use Rattle.sm_history.proofs.AfterClients.{IsNew}
 use Rattle.sm_history.proofs.AfterInboxes.{inbox_connects}
@@ -26,15 +24,7 @@ tracks_other (Connects c who) d t h tr = absurd (true≢false h)
 tracks_other (Dies c) d t h tr = absurd (true≢false h)
 tracks_other (Delivers c x) d t h tr = absurd (true≢false h)
 tracks_other (Takes c) d t h tr = absurd (true≢false h)
-tracks_other (Opens who) d t h tr = record { taken = tr.taken; queues = tr.queues }
-tracks_other (Sets p) d t h tr = record { taken = tr.taken; queues = tr.queues }
-tracks_other (Adds name s) d t h tr = record { taken = tr.taken; queues = tr.queues }
-tracks_other (Removes name) d t h tr = record { taken = tr.taken; queues = tr.queues }
-tracks_other (Gives c n r) d t h tr = record { taken = tr.taken; queues = tr.queues }
-tracks_other (Releases c n) d t h tr = record { taken = tr.taken; queues = tr.queues }
-tracks_other (Watches w) d t h tr = record { taken = tr.taken; queues = tr.queues }
-tracks_other (Unwatches w) d t h tr = record { taken = tr.taken; queues = tr.queues }
-tracks_other (Resumes v n) d t h tr = record { taken = tr.taken; queues = tr.queues }
+tracks_other _ d t h tr = record { taken = tr.taken; queues = tr.queues }
 
 -- A client connects that no effect named before.
 pub tracks_connects : (d : Effects) (c : ℕ) (who : Identity) (t : Inboxes) → IsNew d c → TracksInboxes d t

@@ -1,7 +1,6 @@
 -- Room in inboxes, and what a change of one leaves of the others.
-use Rattle.std.proofs.Common.{◌≡◌, ℕ, ◌+◌, ◌-◌, ◌<◌, ◌≤◌, true, false, ◌==◌, List, [], ◌∷◌, ◌++◌}
-use Rattle.std.proofs.Common.{refl, ap, sym, ◌∙◌, length, get_or, set, drop, Option, Some, None}
-use Rattle.std.proofs.Common.{arith, length-append, length-drop}
+use Rattle.std.proofs.Common.{◌≡◌, ℕ, ◌+◌, ◌-◌, ◌<◌, ◌≤◌, true, false, ◌==◌, List, [], ◌∷◌, ◌++◌, refl, ap, sym, ◌∙◌}
+use Rattle.std.proofs.Common.{length, get_or, set, drop, Option, Some, None, arith, length-append, length-drop}
 use Rattle.std.specs.Prelude.{nat_lt, is_some, MatchOption, IsTrue, IsSome, IfSome}
 use Rattle.std.specs.Borrow.{Bor}
 use Rattle.std.specs.Option.{option_to_list}
@@ -27,8 +26,7 @@ waiting_read o r e = ap (λ v. length (waiting_in v)) e ∙ sym r.waiting.ok.0
 
 -- The room of the others stays where one row changed.
 pub room_others : (rows rows' : List Inbox) (c : ℕ) (o : Option Inbox) → IsChanged client rows rows' c o → (k : ℕ)
-    → (c == k) ≡ false
-    → room_in (inbox_of rows' k) ≡ room_in (inbox_of rows k)
+    → (c == k) ≡ false → room_in (inbox_of rows' k) ≡ room_in (inbox_of rows k)
 room_others rows rows' c o ch k f = ap room_in (ch.other k f)
 
 pub lets_put : (n m : ℕ) → m ≡ 256 - n → (IsTrue (nat_lt n 256) → 0 < m) × (0 < m → IsTrue (nat_lt n 256))
@@ -73,8 +71,7 @@ popped xs ys n (Some x) e some is = is
 
 -- No inbox loses room where the first of one was taken.
 pub room_kept : (rows : List Inbox) (c i : ℕ) (r r' : Inbox) → IsPlace client rows c i → r ≡ get_or rows i r
-    → r'.client ≡ r.client
-    → r'.waiting.items ≡ drop 1 r.waiting.items → (k : ℕ)
+    → r'.client ≡ r.client → r'.waiting.items ≡ drop 1 r.waiting.items → (k : ℕ)
     → room_in (inbox_of rows k) ≤ room_in (inbox_of (set rows i r') k)
 room_kept rows c i r r' at e same rest =
     let changed = row_written _ rows c i r r' at e same in

@@ -53,8 +53,7 @@ tracks_takes d rows rows' c o x ch e tr =
     }
 
 pub tracks_dies : (d : Effects) (rows rows' : List Inbox) (c : ℕ) → IsChanged client rows rows' c None
-    → TracksRows d rows
-    → TracksRows (Dies c ∷ d) rows'
+    → TracksRows d rows → TracksRows (Dies c ∷ d) rows'
 tracks_dies d rows rows' c ch tr = record {
   taken = tr.taken;
   queues = by_client (λ k. waiting_in (inbox_of rows' k) ≡ inbox_at (Dies c ∷ d) k) c
@@ -64,15 +63,13 @@ tracks_dies d rows rows' c ch tr = record {
 
 -- A row of which nothing waits.
 pub tracks_pushed : (d : Effects) (rows : List Inbox) (r : Inbox) → inbox_of rows r.client ≡ None
-    → r.waiting.items ≡ []
-    → TracksRows d rows → TracksRows d (rows ++ r ∷ [])
+    → r.waiting.items ≡ [] → TracksRows d rows → TracksRows d (rows ++ r ∷ [])
 tracks_pushed d rows r none empty tr = tracks_same d rows (rows ++ r ∷ []) r.client (Some r) (row_pushed _ rows r none)
     (empty ∙ sym (ap waiting_in none)) tr
 
 -- What a take found, and left.
 pub tracks_popped : (d : Effects) (rows : List Inbox) (c i : ℕ) (r r' : Inbox) (o : Option Delivery)
-    → IsPlace client rows c i
-    → r ≡ get_or rows i r → r'.client ≡ r.client
+    → IsPlace client rows c i → r ≡ get_or rows i r → r'.client ≡ r.client
     → MatchOption o ((r.waiting.items ≡ []) × (r'.waiting.items ≡ [])) (λ x. r.waiting.items ≡ x ∷ r'.waiting.items) →
     TracksRows d rows
     → MatchOption o ((inbox_at d c ≡ []) × TracksRows d (set rows i r'))

@@ -5,9 +5,7 @@ use Rattle.std.proofs.lemmas.Bool.{true≢false}
 use Rattle.sm_kinds.specs.declared.identity.Identity.{Identity}
 use Rattle.sm_history.specs.declared.effect.Watch.{Watch}
 use Rattle.sm_history.specs.declared.effect.Effect.{Effect}
-use Rattle.sm_history.specs.declared.effect.Effect.TheVariants.{Opens, Sets, Connects, Dies, Adds, Removes, Gives}
-use Rattle.sm_history.specs.declared.effect.Effect.TheVariants.{Releases, Watches, Unwatches, Delivers, Takes}
-use Rattle.sm_history.specs.declared.effect.Effect.TheVariants.{Resumes}
+use Rattle.sm_history.specs.declared.effect.Effect.TheVariants.{Connects, Dies, Adds, Removes, Watches, Unwatches}
 use Rattle.sm_history.specs.Effects.{Effects}
 use Rattle.sm_history.specs.Clients.{next_client}
 use Rattle.sm_history.specs.Services.{service_at, watches_at}
@@ -32,8 +30,7 @@ is_heard (Unwatches w) = true
 is_heard x = false
 
 pub same_rows : (x : Effect) (d : Effects) (rows : List NamedRow)
-    → ((name : List ℕ) → service_at (x ∷ d) name ≡ service_at d name)
-    → TracksRows d rows → TracksRows (x ∷ d) rows
+    → ((name : List ℕ) → service_at (x ∷ d) name ≡ service_at d name) → TracksRows d rows → TracksRows (x ∷ d) rows
 same_rows x d rows same tr = record { services = λ name. tr.services name ∙ sym (same name); rises = tr.rises }
 
 pub same_list : (x : Effect) (d : Effects) (ws : List Watch) → watches_at (x ∷ d) ≡ watches_at d → TracksList d ws
@@ -60,13 +57,7 @@ tracks_other (Adds name s) d t h tr = absurd (true≢false h)
 tracks_other (Removes name) d t h tr = absurd (true≢false h)
 tracks_other (Watches w) d t h tr = absurd (true≢false h)
 tracks_other (Unwatches w) d t h tr = absurd (true≢false h)
-tracks_other (Opens who) d t h tr = tracks_same (Opens who) d t (λ name. refl) refl tr
-tracks_other (Sets p) d t h tr = tracks_same (Sets p) d t (λ name. refl) refl tr
-tracks_other (Gives c n r) d t h tr = tracks_same (Gives c n r) d t (λ name. refl) refl tr
-tracks_other (Releases c n) d t h tr = tracks_same (Releases c n) d t (λ name. refl) refl tr
-tracks_other (Delivers c x) d t h tr = tracks_same (Delivers c x) d t (λ name. refl) refl tr
-tracks_other (Takes c) d t h tr = tracks_same (Takes c) d t (λ name. refl) refl tr
-tracks_other (Resumes v n) d t h tr = tracks_same (Resumes v n) d t (λ name. refl) refl tr
+tracks_other x d t h tr = tracks_same x d t (λ name. refl) refl tr
 
 -- The next client connects: no effect named it before, and it owns no service.
 pub tracks_connects : (d : Effects) (c : ℕ) (who : Identity) (t : Names) → c ≡ next_client d → IsFresh d → IsOwned d

@@ -13,7 +13,7 @@ use Rattle.std.proofs.lemmas.Cmp.{nat_list_cmp_total}
 use Rattle.std.proofs.lemmas.List.{append-nil, get_or-drop, length-drop, take_all}
 use Rattle.std.proofs.lemmas.Map.Text.{is_eq-slice_cmp}
 use Rattle.sm_history.specs.declared.effect.Watch.{Watch}
-use Rattle.sm_history.proofs.Rising.{same_bytes, own_bytes, equal_names, apart_names, turned}
+use Rattle.sm_history.proofs.Rising.{same_bytes, own_bytes, equal_names, apart_names, turned, less_is}
 use Rattle.sm_names.specs.Watching.{watchers_in, NoneBefore, AreInOrder}
 
 -- ---- names in order
@@ -22,9 +22,8 @@ abbrev order : List ℕ → List ℕ → Ordering
 order a b = slice_cmp nat_cmp a b
 
 equal_is : (o : Ordering) → is_eq o ≡ true → o ≡ Equal
-equal_is Less h = absurd (true≢false (sym h))
 equal_is Equal h = refl
-equal_is Greater h = absurd (true≢false (sym h))
+equal_is _ h = absurd (true≢false (sym h))
 
 order_own : (a : List ℕ) → order a a ≡ Equal
 order_own a = equal_is (order a a) (is_eq-slice_cmp a a ∙ own_bytes a)
@@ -37,11 +36,6 @@ le_lt a b c h k =
       | Equal ↦ λ e g. subst (λ (v : List ℕ). is_lt (order v c) ≡ true) (sym (equal_names a b e)) k
       | Greater ↦ λ e g. absurd (true≢false (sym g))
     ] refl h
-  where
-    less_is : (o : Ordering) → is_lt o ≡ true → o ≡ Less
-    less_is Less h = refl
-    less_is Equal h = absurd (true≢false (sym h))
-    less_is Greater h = absurd (true≢false (sym h))
 
 le_le : (a b c : List ℕ) → is_le (order a b) ≡ true → is_le (order b c) ≡ true → is_le (order a c) ≡ true
 le_le a b c h k =
@@ -53,8 +47,7 @@ le_le a b c h k =
   where
     lt_le : (o : Ordering) → is_lt o ≡ true → is_le o ≡ true
     lt_le Less h = refl
-    lt_le Equal h = absurd (true≢false (sym h))
-    lt_le Greater h = absurd (true≢false (sym h))
+    lt_le _ h = absurd (true≢false (sym h))
 
 -- Neither before nor behind.
 between : (a b : List ℕ) → is_lt (order a b) ≡ false → is_le (order a b) ≡ true → bytes_eq a b ≡ true
@@ -69,25 +62,22 @@ between a b h k =
 behind : (a b : List ℕ) → is_le (order a b) ≡ false → is_le (order b a) ≡ true
 behind a b h =
     elim (order a b) as (λ o. order a b ≡ o → is_le o ≡ false → is_le (order b a) ≡ true) [
-      | Less ↦ λ e f. absurd (true≢false f)
-      | Equal ↦ λ e f. absurd (true≢false f)
       | Greater ↦ λ e f. ap is_le (turned a b e)
+      | _ ↦ λ e f. absurd (true≢false f)
     ] refl h
 
 behind_apart : (a b : List ℕ) → is_le (order a b) ≡ false → bytes_eq a b ≡ false
 behind_apart a b h =
     elim (order a b) as (λ o. order a b ≡ o → is_le o ≡ false → bytes_eq a b ≡ false) [
-      | Less ↦ λ e f. absurd (true≢false f)
-      | Equal ↦ λ e f. absurd (true≢false f)
       | Greater ↦ λ e f. apart_names a b Greater e refl
+      | _ ↦ λ e f. absurd (true≢false f)
     ] refl h
 
 before_apart : (a b : List ℕ) → is_lt (order a b) ≡ true → bytes_eq a b ≡ false
 before_apart a b h =
     elim (order a b) as (λ o. order a b ≡ o → is_lt o ≡ true → bytes_eq a b ≡ false) [
       | Less ↦ λ e f. apart_names a b Less e refl
-      | Equal ↦ λ e f. absurd (true≢false (sym f))
-      | Greater ↦ λ e f. absurd (true≢false (sym f))
+      | _ ↦ λ e f. absurd (true≢false (sym f))
     ] refl h
 
 -- ---- filters of the front and of the rest
@@ -99,8 +89,7 @@ filter_empty p (x ∷ xs) h = rw (h 0 x (omega arith) (omega arith)) (filter_emp
     (omega arith) (omega (arith, b))))
 
 filter_rest : {X : Type 0} (p : X → Bool) (xs : List X) (n : ℕ) → n ≤ length xs
-    → AllWithin (λ x. p x ≡ false) xs 0 n
-    → filter p (drop n xs) ≡ filter p xs
+    → AllWithin (λ x. p x ≡ false) xs 0 n → filter p (drop n xs) ≡ filter p xs
 filter_rest p xs zero le h = refl
 filter_rest p [] (suc n) le h = refl
 filter_rest p (x ∷ xs) (suc n) le h =
@@ -168,16 +157,13 @@ parted_up_to ws name h i j d le lt e = le_le (get_or ws i d).name (get_or ws j d
 
 -- Behind those of lesser names come those of the name, and then no more of them.
 of_case : (ws : List Watch) (name : List ℕ) (i j : ℕ) (d : Watch) → AreInOrder ws → i ≤ j → j < length ws
-    → comes_before name (get_or ws i d) ≡ false → is_of name (get_or ws j d) ≡ true
-    → is_of name (get_or ws i d) ≡ true
+    → comes_before name (get_or ws i d) ≡ false → is_of name (get_or ws j d) ≡ true → is_of name (get_or ws i d) ≡ true
 of_case ws name i j d h le lt low e =
     between (get_or ws i d).name name low
-    (subst (λ (v : List ℕ). is_le (order (get_or ws i d).name v)
-    ≡ true) (same_bytes (get_or ws j d).name name e) (in_order ws i j d h le lt))
+    (rw (same_bytes (get_or ws j d).name name e) at (in_order ws i j d h le lt))
 
 pub parted_of : (ws : List Watch) (name : List ℕ) (n : ℕ) → AreInOrder ws
-    → AllWithin (λ w. comes_before name w ≡ false) ws n (length ws)
-    → IsPartitionedBy (is_of name) (drop n ws)
+    → AllWithin (λ w. comes_before name w ≡ false) ws n (length ws) → IsPartitionedBy (is_of name) (drop n ws)
 parted_of ws name n h low i j d le lt e =
     let lt' : n + j < length ws = let long = length-drop n ws in omega (arith, lt, long) in
     let at_i = get_or-drop n ws i d in
@@ -187,8 +173,7 @@ parted_of ws name n h low i j d le lt e =
     subst (λ (w : Watch). is_of name w ≡ true) (sym at_i) r
 
 pub watchers_rest : (ws : List Watch) (name : List ℕ) (n : ℕ) → n ≤ length ws
-    → AllWithin (λ w. comes_before name w ≡ true) ws 0 n
-    → watchers_in (drop n ws) name ≡ watchers_in ws name
+    → AllWithin (λ w. comes_before name w ≡ true) ws 0 n → watchers_in (drop n ws) name ≡ watchers_in ws name
 watchers_rest ws name n le h = filter_rest (is_of name) ws n le (λ k d a b. before_apart (get_or ws k d).name name
     (h k d a b))
 
@@ -254,8 +239,7 @@ watchers_insert ws i w q le at =
     elim (bytes_eq w.name q) as (λ b. bytes_eq w.name q ≡ b → watchers_in (insert ws i w) q
     ≡ watchers_in ws q ++ (if b then w ∷ [] else [])) [
       | true ↦ λ e. insert_yes (is_of q) ws i w e le
-          (λ k d a b. subst (λ (v : List ℕ). bytes_eq (get_or ws k d).name v
-          ≡ false) (same_bytes w.name q e) (behind_apart (get_or ws k d).name w.name (at.1 k d a b)))
+          (λ k d a b. rw (← same_bytes w.name q e) (behind_apart (get_or ws k d).name w.name (at.1 k d a b)))
       | false ↦ λ e. insert_no (is_of q) ws i w e ∙ sym (append-nil (watchers_in ws q))
     ] refl
 
@@ -277,5 +261,4 @@ ordered_kept p (w ∷ ws) h =
 
 pub not_behind : (o : Ordering) → not (is_gt o) ≡ is_le o
 not_behind Less = refl
-not_behind Equal = refl
-not_behind Greater = refl
+not_behind _ = refl

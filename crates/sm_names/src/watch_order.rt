@@ -9,7 +9,7 @@ ghost use Rattle.sm_history.specs.Services.{watches_at};
 ghost use Rattle.sm_history.specs.Histories.{watch as make_watch};
 
 use crate::watch_list::is_same;
-use sm_history::Watch;
+use sm_history::{Watch, watches_of};
 use std::alloc::{AllocError, Global};
 
 /// The watches of live clients, oldest first. A segment begins with them in this order, which the list by name doesn't
@@ -88,24 +88,6 @@ impl WatchOrder {
     pub fn listed(&self, alloc: Global) -> Result<Vec<Watch>, AllocError>
         ensures { IfOk result (λ v. v.items ≡ self.now.list.items) }
     {
-        copies_of(alloc, &self.list)
+        watches_of(alloc, &self.list)
     }
-}
-
-/// Copies watches; their names are shared.
-fn copies_of(alloc: Global, watches: &[Watch]) -> Result<Vec<Watch>, AllocError>
-    ensures { IfOk result (λ v. v.items ≡ watches.now) }
-{
-    let mut copies = Vec::new(alloc);
-    for watch in watches {
-        let client = watch.client;
-        let name = watch.name.clone()?;
-        let object = watch.object;
-        copies.push(Watch {
-            client,
-            name,
-            object,
-        })?;
-    }
-    Ok(copies)
 }

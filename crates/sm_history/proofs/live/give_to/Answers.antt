@@ -13,5 +13,5 @@ pub returns : goal.returns
 returns c d s tr may =
     let at = rw c.deref.ensures.value at c.in-Some.ensures in
     tracks_gives d c.args.live.now.items c.args.client c.in-Some.i c.args.node c.args.number
-    c.index_mut-row.result.now c.give.new.row s may at c.index_mut-row.ensures.value c.in_ok-give.ensures.client
+    c.index_mut.result.now c.give.new.row s may at c.index_mut.ensures.value c.in_ok-give.ensures.client
     c.in_ok-give.ensures.who (ap (λ v. v.items) c.in_ok-give.ensures.waiting) c.in_ok-give.ensures.held tr

@@ -13,6 +13,6 @@ pub returns : goal.returns
 returns c d n s tr there may =
     let at = rw c.deref.ensures.value at c.in-Some.ensures in
     tracks_releases d c.args.live.now.items c.args.client c.in-Some.i n c.args.number
-    c.index_mut-row.result.now c.release.new.row s may there at c.index_mut-row.ensures.value
+    c.index_mut.result.now c.release.new.row s may there at c.index_mut.ensures.value
     c.in_ok-release.ensures.client c.in_ok-release.ensures.who (ap (λ v. v.items) c.in_ok-release.ensures.waiting)
     c.in_ok-release.ensures.held tr

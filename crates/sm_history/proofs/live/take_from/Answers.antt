@@ -12,5 +12,5 @@ returns-in_default c d tr live =
 pub returns : goal.returns
 returns c d tr live =
     let at = rw c.deref.ensures.value at c.in-Some.ensures in
-    tracks_takes d c.args.live.now.items c.args.client c.in-Some.i c.index_mut-row.result.now _ at
-    c.index_mut-row.ensures.value refl refl refl c.take_first.ensures tr
+    tracks_takes d c.args.live.now.items c.args.client c.in-Some.i c.index_mut.result.now _ at
+    c.index_mut.ensures.value refl refl refl c.take_first.ensures tr

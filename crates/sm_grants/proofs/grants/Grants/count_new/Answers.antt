@@ -1,5 +1,4 @@
-use Rattle.std.proofs.Common.{◌≡◌, ◌+◌, ◌||◌, ◌∙◌, sym, ap, refl, true, false, Bool, if◌then◌else◌, get_or, take, arith}
-use Rattle.std.specs.Prelude.{not}
+use Rattle.std.proofs.Common.{◌≡◌, ◌+◌, ◌||◌, ◌∙◌, sym, ap, refl, true, false, if◌then◌else◌, get_or, take, arith}
 use Rattle.std.specs.List.{list_any}
 use Rattle.std.proofs.lemmas.List.{take_more}
 use Rattle.sm_kinds.specs.declared.number.Node.{Node}
@@ -10,14 +9,7 @@ use Rattle.sm_grants.specs.Several.{new_among}
 use Rattle.sm_grants.proofs.NewObjects.{new_more}
 use Rattle.sm_grants.proofs.grants.Grants.count_new.Goals as goal
 use Rattle.sm_grants.proofs.grants.Grants.count_new.Goals.{then-is_new, else-is_new}
-
-turned : (b : Bool) → not b ≡ true → b ≡ false
-turned true h = sym h
-turned false h = refl
-
-kept : (b : Bool) → not b ≡ false → b ≡ true
-kept true h = refl
-kept false h = sym h
+use Rattle.std.proofs.lemmas.Bool.{not-true, not-false}
 
 pub loop-i-preserved : goal.loop-i-preserved
 loop-i-preserved c =
@@ -33,13 +25,13 @@ loop-i-preserved c =
     elim c.if-is_new.branch [
       | then-is_new w ↦
           let b : (p n || list_any (λ m. same_node m n) ns) ≡ false =
-          turned _ (sym c.is_new.ensures ∙ w.if-is_new.true) in
+          not-true _ (sym c.is_new.ensures ∙ w.if-is_new.true) in
           let one : new_among p (take (c.loop-i.i + 1) c.args.nodes.now) ≡ new_among p ns + 1 = more ∙ rw b refl in
           let count = w.count-is in
           record { counted = omega (arith, before, one, count); few = omega (arith, few, count) }
       | else-is_new w ↦
           let b : (p n || list_any (λ m. same_node m n) ns) ≡ true =
-          kept _ (sym c.is_new.ensures ∙ w.if-is_new.false) in
+          not-false _ (sym c.is_new.ensures ∙ w.if-is_new.false) in
           let same : new_among p (take (c.loop-i.i + 1) c.args.nodes.now) ≡ new_among p ns + 0 = more ∙ rw b refl in
           let count = w.count-is in
           record { counted = omega (arith, before, same, count); few = omega (arith, few, count) }

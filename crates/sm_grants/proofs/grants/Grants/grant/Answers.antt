@@ -1,11 +1,11 @@
-use Rattle.std.proofs.Common.{◌≡◌, ◌≤◌, set, arith, ℕ, Some, None, refl, sym, ap, subst}
+use Rattle.std.proofs.Common.{◌≡◌, ◌≤◌, arith, None, refl, sym, ap}
 use Rattle.std.proofs.lemmas.Bool.{true≢false}
 use Rattle.std.specs.Prelude.{Option}
-use Rattle.sm_grants.specs.Slots.{HandleTable, IsGranted}
-use Rattle.sm_grants.specs.Rows.{index_from, slots_in, spare_in, slots_of}
+use Rattle.sm_grants.specs.Slots.{HandleTable}
+use Rattle.sm_grants.specs.Rows.{index_from, spare_in, slots_of}
 use Rattle.sm_grants.specs.Highest.{highest_in, highest}
 use Rattle.sm_grants.proofs.Bound.{client_bounded, set_bounded, granted_bounded}
-use Rattle.sm_grants.proofs.ClientRows.{tracks_gives, row_here, row_changed, no_row, cannot, changed_own, changed_other}
+use Rattle.sm_grants.proofs.ClientRows.{tracks_gives, row_here, no_row, cannot, changed_own, changed_other}
 use Rattle.sm_grants.proofs.Granting.{can_here, can_in}
 use Rattle.sm_grants.proofs.grants.Grants.grant.Goals as goal
 
@@ -21,45 +21,35 @@ returns-in_default-clause-ready c =
 pub returns-in_default-grant-clause-ready : goal.returns-in_default-grant-clause-ready
 returns-in_default-grant-clause-ready c =
     let rows = c.args.self.now.rows.items in
-    let at : index_from 0 rows c.args.client ≡ Some c.in-Some.i =
-    rw (← c.deref.ensures.value) (sym c.in-Some.ensures.at) in
-    let here = row_here rows c.args.client c.in-Some.i c.index_mut-row.result.now at c.index_mut-row.ensures.value in (
+    let r = row_here c.args.client c.deref.ensures.value (sym c.in-Some.ensures.at) c.index_mut-row.ensures.value in (
       (λ some. absurd (true≢false (sym some))),
       (λ can.
-          let inside = can_in rows c.args.client c.args.node c.index_mut-row.result.now.handles here.0 can in
+          let inside = can_in rows c.args.client c.args.node c.index_mut-row.result.now.handles r.0 can in
           c.in_default-grant.ensures.all inside.0 inside.1),
     )
 
 pub invariant_of-self-2 : goal.invariant_of-self-2
 invariant_of-self-2 c =
     let rows = c.args.self.now.rows.items in
-    let at : index_from 0 rows c.args.client ≡ Some c.in-Some.i =
-    rw (← c.deref.ensures.value) (sym c.in-Some.ensures.at) in
-    let here = row_here rows c.args.client c.in-Some.i c.index_mut-row.result.now at c.index_mut-row.ensures.value in
-    let can = can_here rows c.args.client c.args.node c.index_mut-row.result.now.handles here.0
+    let r = row_here c.args.client c.deref.ensures.value (sym c.in-Some.ensures.at) c.index_mut-row.ensures.value in
+    let can = can_here rows c.args.client c.args.node c.index_mut-row.result.now.handles r.0
     (c.in-Some-grant.ensures.placed refl, c.in-Some-grant.ensures.few refl) in
     let all : highest rows ≤ c.args.self.now.bound = c.args.self.now.bounded in
     let own : highest_in (slots_of rows c.args.client) ≤ c.args.self.now.bound =
     let le = client_bounded rows c.args.client in omega (arith, le, all) in
     let small : c.args.self.now.bound ≤ 18446744073709551615 = omega arith in
     record {
-      bounded = subst (λ (m : ℕ). highest (set rows c.in-Some.i (record {
-        client = c.index_mut-row.result.now.client;
-        handles = c.grant.new.self;
-      })) ≤ m) (sym c.saturating_add-self.ensures) (set_bounded rows c.in-Some.i _ _ (omega (arith, all, small))
+      bounded = rw c.saturating_add-self.ensures (set_bounded rows c.in-Some.i _ _ (omega (arith, all, small))
           (granted_bounded (slots_of rows c.args.client) c.grant.new.self.slots c.args.node c.in-Some-grant.number
           c.args.self.now.bound 18446744073709551615
-          (subst (λ (o : Option HandleTable). IsGranted (slots_in o) c.grant.new.self.slots c.args.node
-          c.in-Some-grant.number) (sym here.0) c.in-Some-grant.ensures.granted) can.few own small (omega arith)));
+          (rw r.0 c.in-Some-grant.ensures.granted) can.few own small (omega arith)));
     }
 
 pub returns-clause-ready : goal.returns-clause-ready
 returns-clause-ready c =
     let rows = c.args.self.now.rows.items in
-    let at : index_from 0 rows c.args.client ≡ Some c.in-Some.i =
-    rw (← c.deref.ensures.value) (sym c.in-Some.ensures.at) in
-    let here = row_here rows c.args.client c.in-Some.i c.index_mut-row.result.now at c.index_mut-row.ensures.value in (
-      (λ some. can_here rows c.args.client c.args.node c.index_mut-row.result.now.handles here.0
+    let r = row_here c.args.client c.deref.ensures.value (sym c.in-Some.ensures.at) c.index_mut-row.ensures.value in (
+      (λ some. can_here rows c.args.client c.args.node c.index_mut-row.result.now.handles r.0
           (c.in-Some-grant.ensures.placed refl, c.in-Some-grant.ensures.few refl)),
       (λ can. refl),
     )
@@ -67,33 +57,20 @@ returns-clause-ready c =
 pub returns-clause-tracks : goal.returns-clause-tracks
 returns-clause-tracks c d tr live =
     let rows = c.args.self.now.rows.items in
-    let at : index_from 0 rows c.args.client ≡ Some c.in-Some.i =
-    rw (← c.deref.ensures.value) (sym c.in-Some.ensures.at) in
-    let here = row_here rows c.args.client c.in-Some.i c.index_mut-row.result.now at c.index_mut-row.ensures.value in
-    tracks_gives d rows _ c.args.client c.grant.new.self c.args.node c.in-Some-grant.number
-    (row_changed rows c.args.client c.in-Some.i c.index_mut-row.result.now c.grant.new.self at
-    c.index_mut-row.ensures.value)
-    (subst (λ (o : Option HandleTable).
-    IsGranted (slots_in o) c.grant.new.self.slots c.args.node c.in-Some-grant.number)
-    (sym here.0) c.in-Some-grant.ensures.granted) tr live
+    let r = row_here c.args.client c.deref.ensures.value (sym c.in-Some.ensures.at) c.index_mut-row.ensures.value in
+    tracks_gives d rows _ c.args.client c.grant.new.self c.args.node c.in-Some-grant.number (r.2 c.grant.new.self)
+    (rw r.0 c.in-Some-grant.ensures.granted) tr live
 
 pub returns-clause-spare : goal.returns-clause-spare
 returns-clause-spare c =
     let rows = c.args.self.now.rows.items in
-    let at : index_from 0 rows c.args.client ≡ Some c.in-Some.i =
-    rw (← c.deref.ensures.value) (sym c.in-Some.ensures.at) in
-    let here = row_here rows c.args.client c.in-Some.i c.index_mut-row.result.now at c.index_mut-row.ensures.value in
-    let own = changed_own rows _ c.args.client c.grant.new.self
-    (row_changed rows c.args.client c.in-Some.i c.index_mut-row.result.now c.grant.new.self at
-    c.index_mut-row.ensures.value) in
-    rw (here.0, own) c.in-Some-grant.ensures.spare
+    let r = row_here c.args.client c.deref.ensures.value (sym c.in-Some.ensures.at) c.index_mut-row.ensures.value in
+    let own = changed_own rows _ c.args.client c.grant.new.self (r.2 c.grant.new.self) in
+    rw (r.0, own) c.in-Some-grant.ensures.spare
 
 pub returns-clause-others : goal.returns-clause-others
 returns-clause-others c k e =
     let rows = c.args.self.now.rows.items in
-    let at : index_from 0 rows c.args.client ≡ Some c.in-Some.i =
-    rw (← c.deref.ensures.value) (sym c.in-Some.ensures.at) in
-    ap (λ (o : Option HandleTable). spare_in o)
-    (changed_other rows _ c.args.client k c.grant.new.self
-    (row_changed rows c.args.client c.in-Some.i c.index_mut-row.result.now c.grant.new.self at
-    c.index_mut-row.ensures.value) e)
+    let r = row_here c.args.client c.deref.ensures.value (sym c.in-Some.ensures.at) c.index_mut-row.ensures.value in
+    ap (λ (o : Option HandleTable). spare_in o) (changed_other rows _ c.args.client k c.grant.new.self
+    (r.2 c.grant.new.self) e)

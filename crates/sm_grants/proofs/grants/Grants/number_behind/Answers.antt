@@ -1,4 +1,4 @@
-use Rattle.std.proofs.Common.{◌≡◌, ◌+◌, ◌-◌, ℕ, Some, None, ◌∙◌, sym, ap, subst, get_or, arith}
+use Rattle.std.proofs.Common.{◌≡◌, ◌+◌, ◌-◌, Some, None, ◌∙◌, ap, get_or, arith}
 use Rattle.sm_kinds.specs.declared.number.Node.{Node}
 use Rattle.sm_history.proofs.Balanced.{node_same}
 use Rattle.sm_history.specs.Tables.{slot}
@@ -14,8 +14,7 @@ returns-in-Some-clause-step c t a =
     let s = slots_of c.args.self.now.rows.items c.args.client in
     let place : (c.in-Some.i + 1) - 1 ≡ c.in-Some.i = omega arith in
     let here : node_of (slot t ((c.in-Some.i + 1) - 1)) ≡ Some c.args.node =
-    subst (λ (v : ℕ). node_of (slot t v) ≡ Some c.args.node) (sym place)
-    (a.kept c.in-Some.i c.args.node c.in-Some.ensures.found) in
+    rw place (a.kept c.in-Some.i c.args.node c.in-Some.ensures.found) in
     along_held s t c.args.earlier.now c.args.numbers.now c.args.node (c.in-Some.i + 1) c.args.behind a
     c.requires.as_many (omega arith) here
 

@@ -1,10 +1,8 @@
-use Rattle.std.proofs.Common.{◌≡◌, ◌+◌, ◌∷◌, [], ◌++◌, sym, subst, get_or, take, arith, List, ℕ}
+use Rattle.std.proofs.Common.{◌≡◌, ◌+◌, ◌∷◌, [], ◌++◌, get_or, take, arith}
 use Rattle.sm_kinds.specs.declared.number.Node.{Node}
 use Rattle.std.proofs.lemmas.List.{take_more, take_all, length-take-le}
-use Rattle.sm_history.specs.Tables.{Slots}
-use Rattle.sm_grants.specs.Slots.{IsNumberFor}
 use Rattle.sm_grants.specs.Rows.{slots_of}
-use Rattle.sm_grants.specs.Several.{with_grant, with_grants, Along, AreNumbersFor}
+use Rattle.sm_grants.specs.Several.{with_grants}
 use Rattle.sm_grants.proofs.InOrder.{numbers_are, numbers_more, grants_more}
 use Rattle.sm_grants.proofs.grants.Grants.numbers.Goals as goal
 
@@ -18,10 +16,7 @@ loop-i-preserved c =
     let n = get_or c.args.nodes.now c.loop-i.i none in
     let r = c.number_behind-number.result.0 in
     let behind = c.number_behind-number.result.1 in
-    let step : IsNumberFor t n r × Along s (with_grant t n r) (ns ++ n ∷ []) (rs ++ r ∷ []) behind =
-    subst (λ (v : List ℕ). Along s t ns v c.loop-i.behind →
-    IsNumberFor t n r × Along s (with_grant t n r) (ns ++ n ∷ []) (v ++ r ∷ []) behind) c.deref.ensures.value
-    (c.number_behind-number.ensures.step t) c.loop-i.invariant.along in
+    let step = (rw c.deref.ensures.value at (c.number_behind-number.ensures.step t)) c.loop-i.invariant.along in
     let more : take (c.loop-i.i + 1) c.args.nodes.now ≡ ns ++ n ∷ [] =
     take_more c.args.nodes.now c.loop-i.i none c.loop-i-test.true in
     let are = c.loop-i.invariant.numbered in
@@ -29,8 +24,7 @@ loop-i-preserved c =
     let long = length-take-le c.loop-i.i c.args.nodes.now (omega (arith, c.loop-i-test.true)) in
     record {
       numbered = rw (more, items) (numbers_more s ns rs n r are step.0);
-      along = rw (more, items) (subst (λ (v : Slots). Along s v (ns ++ n ∷ []) (rs ++ r ∷ []) behind)
-          (sym (grants_more s ns rs n r are)) step.1);
+      along = rw (more, items, grants_more s ns rs n r are) step.1;
       many = let a = c.push_reserved.ensures.len in let b = c.loop-i.invariant.many in omega (arith, a, b);
       room = let a = c.push_reserved.ensures.capacity in let b = c.loop-i.invariant.room in omega (arith, a, b);
       near = let a = c.number_behind-number.ensures.near in omega (arith, a, long);
@@ -42,5 +36,4 @@ returns c d tr live =
     take_all c.loop-i.i c.args.nodes.now c.loop-i-test.false in
     numbers_are d c.args.client (slots_of c.args.self.now.rows.items c.args.client) c.args.nodes.now
     c.loop-i.numbers.items tr.balanced live (tr.slots c.args.client)
-    (subst (λ (ns : List Node). AreNumbersFor (slots_of c.args.self.now.rows.items c.args.client) ns
-    c.loop-i.numbers.items) whole c.loop-i.invariant.numbered)
+    (rw whole at c.loop-i.invariant.numbered)

@@ -1,11 +1,10 @@
-use Rattle.std.proofs.Common.{◌≡◌, ◌≤◌, ◌<◌, ◌-◌, Some, None, sym, ap, subst, ◌∙◌, arith}
+use Rattle.std.proofs.Common.{◌≡◌, ◌≤◌, ◌<◌, ◌-◌, Some, None, sym, ap, ◌∙◌, arith}
 use Rattle.std.specs.Prelude.{Option}
-use Rattle.sm_history.specs.Tables.{slot, IsPut, released_slot}
+use Rattle.sm_history.specs.Tables.{slot}
 use Rattle.sm_grants.specs.Slots.{HandleTable}
-use Rattle.sm_grants.specs.Rows.{index_from, slots_in, spare_in, spare_of}
-use Rattle.sm_grants.proofs.ClientRows.{spare_kept, tracks_releases, tracks_room, row_here, row_changed, no_row}
-use Rattle.sm_grants.proofs.ClientRows.{node_found, node_none, node_no_number}
-use Rattle.sm_grants.specs.Rows.{slots_of}
+use Rattle.sm_grants.specs.Rows.{index_from, slots_in, spare_in, spare_of, slots_of}
+use Rattle.sm_grants.proofs.ClientRows.{spare_kept, tracks_releases, tracks_room, row_here, no_row, node_found}
+use Rattle.sm_grants.proofs.ClientRows.{node_none, node_no_number}
 use Rattle.sm_grants.specs.Highest.{highest_in, highest}
 use Rattle.sm_grants.proofs.Bound.{client_bounded, set_bounded, released_bounded}
 use Rattle.sm_grants.proofs.grants.Grants.release.Goals as goal
@@ -27,68 +26,50 @@ returns-in_default-clause-tracks c d tr =
 pub returns-in_default-at-clause-tracks : goal.returns-in_default-at-clause-tracks
 returns-in_default-at-clause-tracks c d tr =
     let rows = c.args.self.now.rows.items in
-    let at : index_from 0 rows c.args.client ≡ Some c.in-Some.i =
-    rw (← c.deref.ensures.value) (sym c.in-Some.ensures.at) in
-    let here = row_here rows c.args.client c.in-Some.i c.index_mut-row.result.now at c.index_mut-row.ensures.value in
+    let here = row_here c.args.client c.deref.ensures.value (sym c.in-Some.ensures.at) c.index_mut-row.ensures.value in
     let some : 0 < c.args.number = omega (arith, c.if-number-eq0.false) in (
       node_found d rows c.args.client c.index_mut-row.result.now.handles c.args.number None tr here.0 some
           (sym c.in_default-at.is ∙ c.at.ensures),
       tracks_room d rows _ c.args.client c.index_mut-row.result.now.handles
-          (row_changed rows c.args.client c.in-Some.i c.index_mut-row.result.now c.index_mut-row.result.now.handles at
-          c.index_mut-row.ensures.value)
-          (sym (ap (λ (o : Option HandleTable). slots_in o) here.0)) tr,
+          (here.2 c.index_mut-row.result.now.handles) (sym (ap (λ (o : Option HandleTable). slots_in o) here.0)) tr,
     )
 
 pub returns-clause-tracks : goal.returns-clause-tracks
 returns-clause-tracks c d tr =
     let rows = c.args.self.now.rows.items in
-    let at : index_from 0 rows c.args.client ≡ Some c.in-Some.i =
-    rw (← c.deref.ensures.value) (sym c.in-Some.ensures.at) in
-    let here = row_here rows c.args.client c.in-Some.i c.index_mut-row.result.now at c.index_mut-row.ensures.value in
+    let here = row_here c.args.client c.deref.ensures.value (sym c.in-Some.ensures.at) c.index_mut-row.ensures.value in
     let some : 0 < c.args.number = omega (arith, c.if-number-eq0.false) in
     let there = sym c.in-Some-at.is ∙ c.at.ensures in (
       node_found d rows c.args.client c.index_mut-row.result.now.handles c.args.number (Some c.in-Some-at.held) tr
           here.0 some there,
       tracks_releases d rows _ c.args.client c.release.new.self c.in-Some-at.held _
-          (row_changed rows c.args.client c.in-Some.i c.index_mut-row.result.now c.release.new.self at
-          c.index_mut-row.ensures.value)
+          (here.2 c.release.new.self)
           (ap (λ (o : Option HandleTable). slot (slots_in o) (c.args.number - 1)) here.0 ∙ sym there)
-          (subst (λ (o : Option HandleTable). IsPut (slots_in o) c.release.new.self.slots (c.args.number - 1)
-          (released_slot (slot (slots_in o) (c.args.number - 1)))) (sym here.0) c.release.ensures.put) tr,
+          (rw here.0 c.release.ensures.put) tr,
     )
 
 pub returns-in_default-at-clause-spare : goal.returns-in_default-at-clause-spare
 returns-in_default-at-clause-spare c k =
     let rows = c.args.self.now.rows.items in
-    let at : index_from 0 rows c.args.client ≡ Some c.in-Some.i =
-    rw (← c.deref.ensures.value) (sym c.in-Some.ensures.at) in
-    let here = row_here rows c.args.client c.in-Some.i c.index_mut-row.result.now at c.index_mut-row.ensures.value in
+    let here = row_here c.args.client c.deref.ensures.value (sym c.in-Some.ensures.at) c.index_mut-row.ensures.value in
     let was : spare_of rows c.args.client ≡ c.index_mut-row.result.now.handles.spare =
     ap (λ (o : Option HandleTable). spare_in o) here.0 in
-    spare_kept rows _ c.args.client c.index_mut-row.result.now.handles
-    (row_changed rows c.args.client c.in-Some.i c.index_mut-row.result.now c.index_mut-row.result.now.handles at
-    c.index_mut-row.ensures.value)
+    spare_kept rows _ c.args.client c.index_mut-row.result.now.handles (here.2 c.index_mut-row.result.now.handles)
     (omega (arith, was)) k
 
 pub returns-clause-spare : goal.returns-clause-spare
 returns-clause-spare c k =
     let rows = c.args.self.now.rows.items in
-    let at : index_from 0 rows c.args.client ≡ Some c.in-Some.i =
-    rw (← c.deref.ensures.value) (sym c.in-Some.ensures.at) in
-    let here = row_here rows c.args.client c.in-Some.i c.index_mut-row.result.now at c.index_mut-row.ensures.value in
+    let here = row_here c.args.client c.deref.ensures.value (sym c.in-Some.ensures.at) c.index_mut-row.ensures.value in
     let was : spare_of rows c.args.client ≡ c.index_mut-row.result.now.handles.spare =
     ap (λ (o : Option HandleTable). spare_in o) here.0 in
-    spare_kept rows _ c.args.client c.release.new.self
-    (row_changed rows c.args.client c.in-Some.i c.index_mut-row.result.now c.release.new.self at
-    c.index_mut-row.ensures.value)
+    spare_kept rows _ c.args.client c.release.new.self (here.2 c.release.new.self)
     (omega (arith, was, c.release.ensures.spare)) k
 
 pub invariant_of-self-2 : goal.invariant_of-self-2
 invariant_of-self-2 c =
     let rows = c.args.self.now.rows.items in
-    let at : index_from 0 rows c.args.client ≡ Some c.in-Some.i =
-    rw (← c.deref.ensures.value) (sym c.in-Some.ensures.at) in
-    let here = row_here rows c.args.client c.in-Some.i c.index_mut-row.result.now at c.index_mut-row.ensures.value in
+    let here = row_here c.args.client c.deref.ensures.value (sym c.in-Some.ensures.at) c.index_mut-row.ensures.value in
     let all : highest rows ≤ c.args.self.now.bound = c.args.self.now.bounded in
     let own : highest_in (slots_of rows c.args.client) ≤ c.args.self.now.bound =
     let le = client_bounded rows c.args.client in omega (arith, le, all) in
@@ -96,6 +77,5 @@ invariant_of-self-2 c =
       bounded = set_bounded rows c.in-Some.i c.args.self.now.bound _ all
           (released_bounded (slots_of rows c.args.client) c.release.new.self.slots (c.args.number - 1)
           c.args.self.now.bound
-          (subst (λ (o : Option HandleTable). IsPut (slots_in o) c.release.new.self.slots (c.args.number - 1)
-          (released_slot (slot (slots_in o) (c.args.number - 1)))) (sym here.0) c.release.ensures.put) own);
+          (rw here.0 c.release.ensures.put) own);
     }

@@ -1,12 +1,11 @@
-use Rattle.std.proofs.Common.{◌≡◌, ◌≤◌, ◌<◌, ℕ, List, Some, None, sym, ap, subst, ◌∙◌, arith}
+use Rattle.std.proofs.Common.{◌≡◌, ◌≤◌, ◌<◌, ℕ, List, None, sym, ap, subst, ◌∙◌, arith}
 use Rattle.std.specs.Prelude.{Option}
 use Rattle.sm_grants.specs.declared.rows.ClientHandles.{ClientHandles}
 use Rattle.sm_grants.specs.Slots.{HandleTable}
-use Rattle.sm_grants.specs.Rows.{index_from, slots_in, spare_in, spare_of}
-use Rattle.sm_grants.proofs.ClientRows.{tracks_room, row_here, row_changed, no_row, tracks_pushed, changed_own}
-use Rattle.sm_grants.proofs.ClientRows.{spare_pushed, spare_kept, spare_more}
+use Rattle.sm_grants.specs.Rows.{index_from, slots_in, spare_in, spare_of, slots_of}
+use Rattle.sm_grants.proofs.ClientRows.{tracks_room, row_here, no_row, tracks_pushed, changed_own, spare_pushed}
+use Rattle.sm_grants.proofs.ClientRows.{spare_kept, spare_more}
 use Rattle.sm_history.specs.Tables.{Slots}
-use Rattle.sm_grants.specs.Rows.{slots_of}
 use Rattle.sm_grants.specs.Highest.{highest_in, highest}
 use Rattle.sm_grants.proofs.Bound.{client_bounded, set_bounded, pushed_bounded}
 use Rattle.sm_grants.proofs.grants.Grants.reserve.Goals as goal
@@ -14,23 +13,15 @@ use Rattle.sm_grants.proofs.grants.Grants.reserve.Goals as goal
 pub returns-in-Some-clause-same : goal.returns-in-Some-clause-same
 returns-in-Some-clause-same c d tr =
     let rows = c.args.self.now.rows.items in
-    let at : index_from 0 rows c.args.client ≡ Some c.in-Some.i =
-    rw (← c.deref.ensures.value) (sym c.in-Some.ensures.at) in
-    let here = row_here rows c.args.client c.in-Some.i c.index_mut-row.result.now at c.index_mut-row.ensures.value in
-    tracks_room d rows _ c.args.client c.reserve.new.self
-    (row_changed rows c.args.client c.in-Some.i c.index_mut-row.result.now c.reserve.new.self at
-    c.index_mut-row.ensures.value)
+    let here = row_here c.args.client c.deref.ensures.value (sym c.in-Some.ensures.at) c.index_mut-row.ensures.value in
+    tracks_room d rows _ c.args.client c.reserve.new.self (here.2 c.reserve.new.self)
     (c.reserve.ensures.slots ∙ sym (ap (λ (o : Option HandleTable). slots_in o) here.0)) tr
 
 pub returns-in-Some-clause-room : goal.returns-in-Some-clause-room
 returns-in-Some-clause-room c =
     let rows = c.args.self.now.rows.items in
-    let at : index_from 0 rows c.args.client ≡ Some c.in-Some.i =
-    rw (← c.deref.ensures.value) (sym c.in-Some.ensures.at) in
-    let here = row_here rows c.args.client c.in-Some.i c.index_mut-row.result.now at c.index_mut-row.ensures.value in
-    let own = changed_own rows _ c.args.client c.reserve.new.self
-    (row_changed rows c.args.client c.in-Some.i c.index_mut-row.result.now c.reserve.new.self at
-    c.index_mut-row.ensures.value) in
+    let here = row_here c.args.client c.deref.ensures.value (sym c.in-Some.ensures.at) c.index_mut-row.ensures.value in
+    let own = changed_own rows _ c.args.client c.reserve.new.self (here.2 c.reserve.new.self) in
     rw own c.reserve.ensures.room
 
 pub returns-in_ok-reserve-in-None-2-clause-same : goal.returns-in_ok-reserve-in-None-2-clause-same
@@ -56,23 +47,17 @@ returns-in_ok-reserve-in-None-2-clause-room c =
 pub returns-in-Some-clause-spare : goal.returns-in-Some-clause-spare
 returns-in-Some-clause-spare c k =
     let rows = c.args.self.now.rows.items in
-    let at : index_from 0 rows c.args.client ≡ Some c.in-Some.i =
-    rw (← c.deref.ensures.value) (sym c.in-Some.ensures.at) in
-    let here = row_here rows c.args.client c.in-Some.i c.index_mut-row.result.now at c.index_mut-row.ensures.value in
+    let here = row_here c.args.client c.deref.ensures.value (sym c.in-Some.ensures.at) c.index_mut-row.ensures.value in
     let was : spare_of rows c.args.client ≡ c.index_mut-row.result.now.handles.spare =
     ap (λ (o : Option HandleTable). spare_in o) here.0 in
-    spare_kept rows _ c.args.client c.reserve.new.self
-    (row_changed rows c.args.client c.in-Some.i c.index_mut-row.result.now c.reserve.new.self at
-    c.index_mut-row.ensures.value)
+    spare_kept rows _ c.args.client c.reserve.new.self (here.2 c.reserve.new.self)
     (omega (arith, was, c.reserve.ensures.spare)) k
 
 pub returns-in-Some-clause-succeeds : goal.returns-in-Some-clause-succeeds
 returns-in-Some-clause-succeeds c le =
     let rows = c.args.self.now.rows.items in
-    let at : index_from 0 rows c.args.client ≡ Some c.in-Some.i =
-    rw (← c.deref.ensures.value) (sym c.in-Some.ensures.at) in
-    let here = row_here rows c.args.client c.in-Some.i c.index_mut-row.result.now at c.index_mut-row.ensures.value in
-    c.reserve.ensures.succeeds (subst (λ (o : Option HandleTable). c.args.n ≤ spare_in o) here.0 le)
+    let here = row_here c.args.client c.deref.ensures.value (sym c.in-Some.ensures.at) c.index_mut-row.ensures.value in
+    c.reserve.ensures.succeeds (rw here.0 at le)
 
 no_spare : (rows : List ClientHandles) (client n : ℕ) → index_from 0 rows client ≡ None → 0 < n
     → n ≤ spare_of rows client → ⊥
@@ -106,9 +91,7 @@ returns-in_ok-reserve-in-None-2-clause-spare c k =
 pub invariant_of-self : goal.invariant_of-self
 invariant_of-self c =
     let rows = c.args.self.now.rows.items in
-    let at : index_from 0 rows c.args.client ≡ Some c.in-Some.i =
-    rw (← c.deref.ensures.value) (sym c.in-Some.ensures.at) in
-    let here = row_here rows c.args.client c.in-Some.i c.index_mut-row.result.now at c.index_mut-row.ensures.value in
+    let here = row_here c.args.client c.deref.ensures.value (sym c.in-Some.ensures.at) c.index_mut-row.ensures.value in
     let same : slots_of rows c.args.client ≡ c.reserve.new.self.slots =
     ap (λ (o : Option HandleTable). slots_in o) here.0 ∙ sym c.reserve.ensures.slots in
     let all : highest rows ≤ c.args.self.now.bound = c.args.self.now.bounded in

@@ -1,12 +1,10 @@
-use Rattle.std.proofs.Common.{refl, ◌<◌, sym, subst, arith, rules}
-use Rattle.sm_grants.specs.Slots.{HandleTable, held_in, IsAbsent}
+use Rattle.std.proofs.Common.{refl, arith, rules}
 use Rattle.sm_grants.proofs.Indexed.{kept_new, one_entry, ok_is, free_within, not_indexed}
 use Rattle.sm_grants.proofs.handles.Handles.grant_new.Goals as goal
 
 pub insert_first-requires-clause-inside : goal.insert_first-requires-clause-inside
 insert_first-requires-clause-inside c =
-    let few : held_in c.self.inside.slots.items < 65536 =
-    subst (λ (t : HandleTable). held_in t.slots < 65536) (sym c.self.view_is) c.requires.fits in
+    let few = rw (← c.self.view_is) at c.requires.fits in
     let w = free_within c.self.inside.slots.items _ _ _ c.first_free-i.result c.self.invariant few
     c.first_free-i.ensures.free c.first_free-i.ensures.least in
     let room = c.self.invariant.indexed.room in
@@ -14,11 +12,9 @@ insert_first-requires-clause-inside c =
 
 pub invariant_of-self : goal.invariant_of-self
 invariant_of-self c =
-    let few : held_in c.self.inside.slots.items < 65536 =
-    subst (λ (t : HandleTable). held_in t.slots < 65536) (sym c.self.view_is) c.requires.fits in
-    let absent : IsAbsent c.self.inside.slots.items c.args.node =
-    subst (λ (t : HandleTable). IsAbsent t.slots c.args.node) (sym c.self.view_is) c.requires.absent in
-    let spare = subst (λ (t : HandleTable). 0 < t.spare) (sym c.self.view_is) c.requires.room in
+    let few = rw (← c.self.view_is) at c.requires.fits in
+    let absent = rw (← c.self.view_is) at c.requires.absent in
+    let spare = rw (← c.self.view_is) at c.requires.room in
     let w = free_within c.self.inside.slots.items _ _ _ c.first_free-i.result c.self.invariant few
     c.first_free-i.ensures.free c.first_free-i.ensures.least in
     let ok = c.insert.ensures.succeeds (grind (arith, rules, spare)) in
@@ -31,16 +27,14 @@ invariant_of-self c =
 
 pub returns-clause-small : goal.returns-clause-small
 returns-clause-small c =
-    let few : held_in c.self.inside.slots.items < 65536 =
-    subst (λ (t : HandleTable). held_in t.slots < 65536) (sym c.self.view_is) c.requires.fits in
+    let few = rw (← c.self.view_is) at c.requires.fits in
     let w = free_within c.self.inside.slots.items _ _ _ c.first_free-i.result c.self.invariant few
     c.first_free-i.ensures.free c.first_free-i.ensures.least in
     w.1
 
 pub overflow_cast-result : goal.overflow_cast-result
 overflow_cast-result c =
-    let few : held_in c.self.inside.slots.items < 65536 =
-    subst (λ (t : HandleTable). held_in t.slots < 65536) (sym c.self.view_is) c.requires.fits in
+    let few = rw (← c.self.view_is) at c.requires.fits in
     let w = free_within c.self.inside.slots.items _ _ _ c.first_free-i.result c.self.invariant few
     c.first_free-i.ensures.free c.first_free-i.ensures.least in
     let lt = w.1 in

@@ -1,6 +1,4 @@
-use Rattle.std.proofs.Common.{◌≡◌, ℕ, Some, subst, ◌∙◌}
-use Rattle.sm_history.specs.Tables.{slot}
-use Rattle.sm_grants.specs.Slots.{node_of, HandleTable}
+use Rattle.std.proofs.Common.{◌∙◌}
 use Rattle.sm_grants.proofs.Indexed.{index_found, inside_most, only_slot}
 use Rattle.sm_grants.proofs.handles.Handles.index_of.Goals as goal
 
@@ -14,6 +12,5 @@ returns-clause-small c = inside_most c.self.inside.slots.items _ _ _ c.args.node
     (c.copied.ensures ∙ c.get.ensures.value)
 
 pub returns-clause-alone : goal.returns-clause-alone
-returns-clause-alone c = subst (λ (t : HandleTable). (i j : ℕ) → node_of (slot t.slots i) ≡ Some c.args.node
-    → node_of (slot t.slots j) ≡ Some c.args.node → i ≡ j) c.self.view_is
+returns-clause-alone c = rw (← c.self.view_is)
     (only_slot c.self.inside.slots.items _ _ _ c.args.node c.self.invariant)

@@ -1,14 +1,9 @@
-use Rattle.std.proofs.Common.{◌≡◌, Some, sym, subst}
-use Rattle.sm_history.specs.Tables.{slot}
-use Rattle.sm_grants.specs.Slots.{HandleTable, node_of}
 use Rattle.sm_grants.proofs.Indexed.{kept_last, one_less}
 use Rattle.sm_grants.proofs.handles.Handles.release_last.Goals as goal
 
 pub invariant_of-self : goal.invariant_of-self
 invariant_of-self c =
-    let here : node_of (slot c.self.inside.slots.items c.args.i) ≡ Some c.args.node =
-    subst (λ (t : HandleTable). node_of (slot t.slots c.args.i) ≡ Some c.args.node) (sym c.self.view_is)
-    c.requires in
+    let here = rw (← c.self.view_is) at c.requires in
     kept_last c.self.inside.slots.items c.empty.new.slots.items _ _ _ _ _ _ c.args.i c.args.node c.self.invariant here
     c.empty.ensures.put c.remove.ensures.updates.0 c.remove-2.ensures.removed c.remove-2.ensures.room
     c.empty.ensures.long c.empty.ensures.less

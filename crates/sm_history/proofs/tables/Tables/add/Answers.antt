@@ -5,13 +5,6 @@ use Rattle.sm_history.proofs.tables.Tables.add.Goals as goal
 
 pub returns : goal.returns
 returns c d tr may =
-    record {
-      manager = tr.manager;
-      policy = tr.policy;
-      version = tr.version;
-      clients = tr.clients;
-      live = rows_stay d ((Adds c.args.name c.args.service) ∷ d) _ refl
-          (λ k. record { who = refl; held = λ j. refl; waiting = refl }) tr.live;
-      names = c.in_ok-put_name.ensures d tr.names may;
-      watches = tr.watches;
-    }
+    let live = rows_stay d (Adds c.args.name c.args.service ∷ d) _ refl
+    (λ k. record { who = refl; held = λ j. refl; waiting = refl }) tr.live in
+    let names = c.in_ok-put_name.ensures d tr.names may in assumption

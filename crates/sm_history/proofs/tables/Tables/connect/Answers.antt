@@ -8,13 +8,9 @@ use Rattle.sm_history.proofs.tables.Tables.connect.Goals as goal
 
 pub returns : goal.returns
 returns c d s tr may =
-    record {
-      manager = tr.manager;
-      policy = tr.policy;
-      version = tr.version;
-      clients = c.from-connected.ensures ∙ may;
-      live = c.in_ok-connect.ensures d s tr.live may;
-      names = names_stay d (Connects c.args.client c.args.who ∷ d) _
-          (λ q. service_connects d c.args.client c.args.who q may s.owned) tr.names;
-      watches = tr.watches ∙ sym (watches_connects d c.args.client c.args.who (is_new d c.args.client may s.fresh));
-    }
+    let clients = c.from-connected.ensures ∙ may in
+    let live = c.in_ok-connect.ensures d s tr.live may in
+    let names = names_stay d (Connects c.args.client c.args.who ∷ d) _
+    (λ q. service_connects d c.args.client c.args.who q may s.owned) tr.names in
+    let watches = tr.watches ∙ sym (watches_connects d c.args.client c.args.who (is_new d c.args.client may s.fresh)) in
+    assumption

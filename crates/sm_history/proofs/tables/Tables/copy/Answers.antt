@@ -1,9 +1,7 @@
-use Rattle.std.proofs.Common.{List, ap, subst, sym, ◌∙◌, Option}
+use Rattle.std.proofs.Common.{ap, ◌∙◌, Option}
 use Rattle.sm_kinds.specs.declared.identity.Identity.{Identity}
 use Rattle.sm_policy.specs.Policy.{Policy}
-use Rattle.sm_history.specs.declared.client_row.ClientRow.{ClientRow}
-use Rattle.sm_history.specs.Rows.{NamedRow}
-use Rattle.sm_history.specs.Tables.{AreSameRows, TracksNames, manager_of, policy_of}
+use Rattle.sm_history.specs.Tables.{manager_of, policy_of}
 use Rattle.sm_history.proofs.SameTables.{clients_copied}
 use Rattle.sm_history.proofs.tables.Tables.copy.Goals as goal
 
@@ -15,9 +13,7 @@ returns c d tr =
       version = tr.version;
       clients = tr.clients;
       live = clients_copied d c.args.self.now.live.items c.in_ok-live.live.items
-          (subst (λ (l : List ClientRow). AreSameRows l c.in_ok-live.live.items) c.deref.ensures.value
-          c.in_ok-live.ensures) tr.live;
-      names = subst (λ (l : List NamedRow). TracksNames d l) (sym (c.in_ok-names.ensures ∙ c.deref-2.ensures.value))
-          tr.names;
+          (rw c.deref.ensures.value at c.in_ok-live.ensures) tr.live;
+      names = rw (c.in_ok-names.ensures, c.deref-2.ensures.value) tr.names;
       watches = c.in_ok-watches.ensures ∙ c.deref-3.ensures.value ∙ tr.watches;
     }

@@ -1,22 +1,14 @@
-use Rattle.std.proofs.Common.{ap, sym, ◌∙◌, Option, List, subst}
+use Rattle.std.proofs.Common.{ap, sym, ◌∙◌, Option}
 use Rattle.sm_kinds.specs.declared.number.Node.{Node}
-use Rattle.sm_kinds.specs.declared.number.ObjRef.{ObjRef}
-use Rattle.sm_history.specs.declared.delivery.Given.{Given}
 use Rattle.sm_history.specs.declared.delivery.Delivery.{Delivery}
 use Rattle.sm_history.specs.Histories.{found}
-use Rattle.sm_history.proofs.EnteringEvents.{call_step, HandsAll}
+use Rattle.sm_history.proofs.EnteringEvents.{call_step}
 use Rattle.sm_history.proofs.tables.Tables.enter_call.Goals as goal
 
 pub returns : goal.returns
 returns c d s tr done =
     let n = c.found-to.result in
-    let hand : HandsAll c.args.client n.owner.0 c.args.refs.now c.in-Called.given c.args.self.now c.hand_all.new.self =
-    subst (λ (v : List ObjRef). HandsAll c.args.client n.owner.0 v c.in-Called.given c.args.self.now
-    c.hand_all.new.self)
-    c.list.ensures.value
-    (subst (λ (v : List Given). HandsAll c.args.client n.owner.0 c.list.result.now v c.args.self.now
-    c.hand_all.new.self)
-    c.list-2.ensures c.in_ok-hand_all.ensures) in
+    let hand = rw (c.list-2.ensures, c.list.ensures.value) at c.in_ok-hand_all.ensures in
     call_step d c.args.client c.args.handle c.args.payload.now c.args.refs.now n c.in-Sent.sent c.in_ok-clone.field-0
     c.in-Called.pid c.in-Called.uid c.in-Called.payload c.in-Called.given c.args.outcome.now c.args.self.now
     c.hand_all.new.self c.deliver.new.self s tr done c.in-Sent.is

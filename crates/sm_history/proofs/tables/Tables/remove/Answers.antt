@@ -5,13 +5,6 @@ use Rattle.sm_history.proofs.tables.Tables.remove.Goals as goal
 
 pub returns : goal.returns
 returns c d tr =
-    record {
-      manager = tr.manager;
-      policy = tr.policy;
-      version = tr.version;
-      clients = tr.clients;
-      live = rows_stay d ((Removes c.args.name.now) ∷ d) _ refl
-          (λ k. record { who = refl; held = λ j. refl; waiting = refl }) tr.live;
-      names = c.remove_name.ensures d tr.names;
-      watches = tr.watches;
-    }
+    let live = rows_stay d (Removes c.args.name.now ∷ d) _ refl
+    (λ k. record { who = refl; held = λ j. refl; waiting = refl }) tr.live in
+    let names = c.remove_name.ensures d tr.names in assumption

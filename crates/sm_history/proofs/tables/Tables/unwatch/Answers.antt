@@ -5,19 +5,12 @@ use Rattle.sm_history.specs.Histories.{watch as make_watch}
 use Rattle.sm_history.proofs.AfterWatches.{watches_unwatches}
 use Rattle.sm_history.specs.declared.effect.Effect.TheVariants.{Unwatches}
 use Rattle.sm_history.proofs.AfterClientRows.{rows_stay}
-use Rattle.sm_history.proofs.AfterNamedRows.{names_stay}
 use Rattle.sm_history.proofs.tables.Tables.unwatch.Goals as goal
 
 pub returns : goal.returns
-returns c d tr = let w = make_watch c.args.client c.args.name.now c.args.object in
-    record {
-      manager = tr.manager;
-      policy = tr.policy;
-      version = tr.version;
-      clients = tr.clients;
-      live = rows_stay d ((Unwatches w) ∷ d) _ refl
-          (λ k. record { who = refl; held = λ j. refl; waiting = refl }) tr.live;
-      names = names_stay d ((Unwatches w) ∷ d) _ (λ q. refl) tr.names;
-      watches = c.end_watches.ensures ∙ ap (filter (λ v. not (same_watch w v))) tr.watches
-          ∙ sym (watches_unwatches d w);
-    }
+returns c d tr =
+    let w = make_watch c.args.client c.args.name.now c.args.object in
+    let live = rows_stay d (Unwatches w ∷ d) _ refl
+    (λ k. record { who = refl; held = λ j. refl; waiting = refl }) tr.live in
+    let watches = c.end_watches.ensures ∙ ap (filter (λ v. not (same_watch w v))) tr.watches
+    ∙ sym (watches_unwatches d w) in assumption

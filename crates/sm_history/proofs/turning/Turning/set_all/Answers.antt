@@ -1,8 +1,7 @@
-use Rattle.std.proofs.Common.{◌≡◌, ◌+◌, ◌-◌, List, ◌∷◌, length, drop, get_or, sym, subst, arith, ◌∙◌}
-use Rattle.std.specs.List.{list_any}
+use Rattle.std.proofs.Common.{◌≡◌, ◌+◌, ◌-◌, ◌∷◌, length, drop, get_or, arith, ◌∙◌}
 use Rattle.sm_history.specs.declared.by.By.TheVariants.{Manager}
-use Rattle.sm_history.specs.Openings.{TurnRow, is_same, turns_in}
-use Rattle.sm_history.specs.Turning.{admin, admins_in, is_known, made}
+use Rattle.sm_history.specs.Openings.{TurnRow}
+use Rattle.sm_history.specs.Turning.{is_known, made}
 use Rattle.sm_history.proofs.TurnsCounted.{begun_made, begun_known, from_behind}
 use Rattle.sm_history.proofs.turning.Turning.set_all.Goals as goal
 
@@ -15,12 +14,10 @@ loop-k-preserved c =
     let rest = drop (length rows - k) rows in
     let split : drop (length rows - (k + 1)) rows ≡ row ∷ rest =
     from_behind rows k none (omega (arith, c.loop-k-test.true)) in (
-      λ z b. subst (λ (l : List TurnRow). made c.set.new.self b ≡ turns_in l b) (sym split)
-          (begun_made row rest b (made c.set.new.self b) (made c.loop-k.self b) (c.in_ok-set.ensures.made b)
+      λ z b. rw split (begun_made row rest b (made c.set.new.self b) (made c.loop-k.self b) (c.in_ok-set.ensures.made b)
           (c.loop-k.invariant.0 z b)),
-      λ z a. subst (λ (l : List TurnRow). is_known c.set.new.self a ≡ list_any (is_same (admin a)) (admins_in l))
-          (sym split)
-          (begun_known row rest a (is_known c.set.new.self a) (is_known c.loop-k.self a) (c.in_ok-set.ensures.known a)
+      λ z a. rw split (begun_known row rest a (is_known c.set.new.self a) (is_known c.loop-k.self a)
+          (c.in_ok-set.ensures.known a)
           (c.loop-k.invariant.1 z a)),
       c.in_ok-set.ensures.order ∙ c.loop-k.invariant.2,
     )

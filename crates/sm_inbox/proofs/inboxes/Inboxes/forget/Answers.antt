@@ -1,6 +1,5 @@
 use Rattle.std.proofs.Common.{rules, ap}
-use Rattle.std.specs.Prelude.{is_some, Option}
-use Rattle.std.specs.Prelude.{not, ◌==◌}
+use Rattle.std.specs.Prelude.{is_some, Option, not, ◌==◌}
 use Rattle.std.proofs.lemmas.Fn.{filter_same}
 use Rattle.sm_inbox.specs.declared.inbox.Inbox.{Inbox}
 use Rattle.sm_history.proofs.ClientRows.{row_gone}
