@@ -1,12 +1,9 @@
 -- What effects in order do to versions, to the number of clients and to counts of grants.
-use Rattle.std.proofs.Common.{inr, ◌≡◌, ℕ, ◌+◌, ◌<◌, true, false, List, [], ◌∷◌, ap, sym}
-use Rattle.std.proofs.Common.{◌∙◌, if◌then◌else◌, arith}
+use Rattle.std.proofs.Common.{inr, ◌≡◌, ℕ, ◌+◌, ◌<◌, true, false, List, [], ◌∷◌, ap, sym, ◌∙◌, if◌then◌else◌, arith}
 use Rattle.std.specs.Prelude.{nat_lt}
 use Rattle.std.proofs.lemmas.Bool.Decides.{nat_tests}
 use Rattle.sm_history.specs.declared.entry.Entry.{Entry}
 use Rattle.sm_history.specs.declared.effect.Effect.{Effect}
-use Rattle.sm_history.specs.declared.effect.Effect.TheVariants.{Opens, Sets, Connects, Dies, Adds, Removes, Gives}
-use Rattle.sm_history.specs.declared.effect.Effect.TheVariants.{Releases, Watches, Unwatches, Delivers, Takes}
 use Rattle.sm_history.specs.declared.effect.Effect.TheVariants.{Resumes}
 use Rattle.sm_history.specs.declared.limits.TheConstants.{GREATEST}
 use Rattle.sm_history.specs.declared.reply.Reply.TheVariants.{Done}
@@ -39,19 +36,8 @@ connects_first x xs =
     [ true ↦ omega arith | false ↦ omega arith ]
 
 version_one : (x : Effect) (d : Effects) → MayFollowApart d x → version_at (x ∷ d) ≡ version_at d + sets_in (x ∷ [])
-version_one (Opens who) d m = omega arith
-version_one (Sets p) d m = omega arith
-version_one (Connects c who) d m = omega arith
-version_one (Dies c) d m = omega arith
-version_one (Adds name t) d m = omega arith
-version_one (Removes name) d m = omega arith
-version_one (Gives c n r) d m = omega arith
-version_one (Releases c n) d m = omega arith
-version_one (Watches w) d m = omega arith
-version_one (Unwatches w) d m = omega arith
-version_one (Delivers c x) d m = omega arith
-version_one (Takes c) d m = omega arith
 version_one (Resumes v n) d m = absurd m
+version_one x d m = omega arith
 
 version_followed : (d : Effects) (xs : List Effect) → MayAllApart d xs
     → version_at (followed d xs) ≡ version_at d + sets_in xs
@@ -63,19 +49,8 @@ version_followed d (x ∷ xs) m =
     omega (arith, rest, one, first)
 
 next_one : (x : Effect) (d : Effects) → MayFollowApart d x → next_client (x ∷ d) ≡ next_client d + connects_in (x ∷ [])
-next_one (Opens who) d m = omega arith
-next_one (Sets p) d m = omega arith
-next_one (Connects c who) d m = omega arith
-next_one (Dies c) d m = omega arith
-next_one (Adds name t) d m = omega arith
-next_one (Removes name) d m = omega arith
-next_one (Gives c n r) d m = omega arith
-next_one (Releases c n) d m = omega arith
-next_one (Watches w) d m = omega arith
-next_one (Unwatches w) d m = omega arith
-next_one (Delivers c x) d m = omega arith
-next_one (Takes c) d m = omega arith
 next_one (Resumes v n) d m = absurd m
+next_one x d m = omega arith
 
 next_followed : (d : Effects) (xs : List Effect) → MayAllApart d xs
     → next_client (followed d xs) ≡ next_client d + connects_in xs

@@ -36,7 +36,10 @@ fn registration(alloc: Global, watch: &Watch, given: Given) -> Result<BoxedDeliv
 }
 
 /// Shares a notice between two owners.
-pub fn boxed_twice(alloc: Global, notice: Notice) -> Result<(BoxedNotice, BoxedNotice), AllocError>
+pub fn shared_notice(
+    alloc: Global,
+    notice: Notice,
+) -> Result<(BoxedNotice, BoxedNotice), AllocError>
     ensures { IfOk result (λ both. (both.0 ≡ notice) × (both.1 ≡ notice)) }
 {
     let first = BoxedNotice::new(alloc, notice)?;
@@ -45,7 +48,7 @@ pub fn boxed_twice(alloc: Global, notice: Notice) -> Result<(BoxedNotice, BoxedN
 }
 
 /// Shares notices between two owners.
-pub fn listed_twice(alloc: Global, notices: Vec<Notice>) -> Result<(Notices, Notices), AllocError>
+pub fn shared_notices(alloc: Global, notices: Vec<Notice>) -> Result<(Notices, Notices), AllocError>
     ensures { IfOk result (λ both. (both.0 ≡ notices.items) × (both.1 ≡ notices.items)) }
 {
     let first = Notices::new(alloc, notices)?;

@@ -108,16 +108,13 @@ impl View {
         requires { Kept places journal.now.history turns.now state.now [] }
         ensures { IfOk result (λ v. v ≡ record { places = places; history = journal.now.history }) }
     {
-        let principals = Arc::new(alloc, state.principals.copy(alloc)?)?;
-        let services = Arc::new(alloc, state.names.services().copy(alloc, 0)?)?;
-        let turn_counts = TurnCounts::of(alloc, turns)?;
         Ok(View {
             alloc,
             places,
             length: journal.length(),
-            principals,
-            services,
-            turn_counts,
+            principals: Arc::new(alloc, state.principals.copy(alloc)?)?,
+            services: Arc::new(alloc, state.names.services().copy(alloc, 0)?)?,
+            turn_counts: TurnCounts::of(alloc, turns)?,
             journal: Snapshot::of(journal),
             next: None,
         })
@@ -138,16 +135,14 @@ impl View {
             (λ v. v ≡ record { places = self.now.places; history = entered ready.now.entry self.now.history }) }
     {
         let alloc = self.alloc;
-        let principals = next_principals(alloc, &self.principals, &ready.effects)?;
-        let services = next_services(alloc, &self.services, &ready.effects)?;
-        let turn_counts = self.turn_counts.after(alloc, turns, ready.entry.by)?;
+        let effects = ready.effects.as_slice();
         Ok(View {
             alloc,
             places: self.places,
             length: self.length + 1,
-            principals,
-            services,
-            turn_counts,
+            principals: next_principals(alloc, &self.principals, effects)?,
+            services: next_services(alloc, &self.services, effects)?,
+            turn_counts: self.turn_counts.after(alloc, turns, ready.entry.by)?,
             journal: Snapshot::of(journal),
             next: Some(Snapshot::of(&ready.entry)),
         })
@@ -160,17 +155,13 @@ impl View {
         requires turns { (by : By) → change_count turns.now by ≡ turn_of (sealed self.now.history) by }
         ensures { IfOk result (λ v. v ≡ record { places = self.now.places; history = journal.now.history }) }
     {
-        let alloc = self.alloc;
-        let principals = Arc::try_clone(&self.principals)?;
-        let services = Arc::try_clone(&self.services)?;
-        let turn_counts = TurnCounts::of(alloc, turns)?;
         Ok(View {
-            alloc,
+            alloc: self.alloc,
             places: self.places,
             length: self.length,
-            principals,
-            services,
-            turn_counts,
+            principals: Arc::try_clone(&self.principals)?,
+            services: Arc::try_clone(&self.services)?,
+            turn_counts: TurnCounts::of(self.alloc, turns)?,
             journal: Snapshot::of(journal),
             next: None,
         })
