@@ -120,8 +120,8 @@ impl View {
         })
     }
 
-    /// Returns the view after a ready event is committed. `journal` is the present segment, `turns` are its counts. Parts
-    /// that the event doesn't change are shared with this view, which is of the present state.
+    /// Returns the view after a ready event is committed. `journal` is the present segment, `turns` are its counts.
+    /// Parts that the event doesn't change are shared with this view, which is of the present state.
     pub(crate) fn after(
         &self,
         journal: &Journal,

@@ -3,16 +3,9 @@ use Rattle.std.proofs.lemmas.Result.{err_from_is_err_and}
 use Rattle.sm_history.specs.Histories.{effects_of}
 use Rattle.sm_history.specs.Records.{moment_of}
 use Rattle.sm_history.specs.Sound.{Sound}
-use Rattle.sm_core.proofs.CallChecks.{target_halts, references_halt, room_halts}
+use Rattle.sm_core.proofs.CallChecks.{references_halt, room_halts}
 use Rattle.sm_core.proofs.CallEffects.{call_judged, named_many, others_few}
 use Rattle.sm_core.proofs.manager.Manager.judge_call.Goals as goal
-
-pub returns-in_err-target : goal.returns-in_err-target
-returns-in_err-target c =
-    let m = moment_of c.args.self.now.book.history in
-    let d = effects_of c.args.self.now.book.history in
-    let p = err_from_is_err_and c.from_residual.result c.from_residual.ensures.1 in
-    rw (p.1, p.2) (target_halts m _ _ d c.args.row.now.id c.args.handle c.args.refs.now c.in_err-target.field-0.0 c.in_err-target.ensures)
 
 pub returns-in_err-named : goal.returns-in_err-named
 returns-in_err-named c =

@@ -14,8 +14,8 @@ returns-in_err-node c =
     let i = c.loop-obj.obj-index in
     let rs = c.args.refs.now in
     let p = err_from_is_err_and c.from_residual.result c.from_residual.ensures.1 in
-    rw (p.1, p.2) (halts_left m _ _ _ d c.args.row.now.id c.args.receiver rs (drop i rs) (drop (i + 1) rs) (get_or rs i (Own 0))
-    c.in_err-node.field-0.0 c.loop-obj.invariant.passed (drop_more rs i (Own 0) c.loop-obj-test.true)
+    rw (p.1, p.2) (halts_left m _ _ _ d c.args.row.now.id c.args.receiver rs (drop i rs) (drop (i + 1) rs) (get_or rs
+    i (Own 0)) c.in_err-node.field-0.0 c.loop-obj.invariant.passed (drop_more rs i (Own 0) c.loop-obj-test.true)
     c.in_err-node.ensures)
 
 pub loop-obj-preserved : goal.loop-obj-preserved

@@ -12,8 +12,10 @@ returns-in_err-judge_removal c =
     let d = effects_of c.args.self.now.book.history in
     let k = c.args.row.now.id in
     let pass = c.in_ok-node.ensures in
-    let p = err_from_is_err_and c.from_residual-in_err-judge_removal.result c.from_residual-in_err-judge_removal.ensures.1 in
-    rw (p.1, p.2) (halts_behind m _ _ _ _ d k c.args.obj _ (removing d k c.args.name.now c.args.obj) c.in_err-judge_removal.field-0.0
+    let p = err_from_is_err_and c.from_residual-in_err-judge_removal.result
+    c.from_residual-in_err-judge_removal.ensures.1 in
+    rw (p.1, p.2) (halts_behind m _ _ _ _ d k c.args.obj _ (removing d k c.args.name.now c.args.obj)
+    c.in_err-judge_removal.field-0.0
     (search rules) pass.0 (removing_is m _ _ d k c.args.name.now c.args.obj c.in_ok-node.node pass.0 pass.1)
     c.in_err-judge_removal.ensures)
 

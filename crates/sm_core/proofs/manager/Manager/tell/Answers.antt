@@ -9,7 +9,8 @@ use Rattle.sm_core.proofs.manager.Manager.tell.Goals as goal
 pub returns-in_ok-told-in-Ok : goal.returns-in_ok-told-in-Ok
 returns-in_ok-told-in-Ok c =
     tells c.args.self.now.book.history c.args.node c.args.watch.now c.args.notifications.now c.tell.new.self _
-    c.left-left.result c.in-Ok.given c.in_ok-told-in-Ok.told c.requires.notifications c.requires.live c.left-left.ensures
+    c.left-left.result c.in-Ok.given c.in_ok-told-in-Ok.told c.requires.notifications c.requires.live
+    c.left-left.ensures
     c.in-Ok.ensures.0 c.in_ok-told-in-Ok.ensures.records c.in-Ok.ensures.1 c.in_ok-told-in-Ok.ensures.told
     (c.in_ok-told-in-Ok.ensures.effects
     ∙ ap (λ (x : Delivery).
