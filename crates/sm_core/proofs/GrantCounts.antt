@@ -29,25 +29,36 @@ use Rattle.sm_history.proofs.Keeps.{Lasts, LeftToKeep, event_keeps}
 use Rattle.sm_history.proofs.NumbersFit.{counts_all, counts_each, is_below}
 use Rattle.sm_history.proofs.Sound.{is_new}
 use Rattle.sm_core.specs.Stands.{is_grant_of, given_in, fits_among}
+use Rattle.sm_core.proofs.Numbers.{one_first}
 
-one_first : (b : Bool) (n : ℕ) → (if b then n + 1 else n) ≡ n + (if b then 1 else 0)
-one_first true n = omega arith
-one_first false n = omega arith
+-- This is the number of effects that pass a test.
+abbrev passing : (Effect → Bool) → List Effect → ℕ
+passing p [] = 0
+passing p (x ∷ xs) = if p x then passing p xs + 1 else passing p xs
+
+passing_followed : (p : Effect → Bool) (d : Effects) (xs : List Effect)
+    → passing p (followed d xs) ≡ passing p d + passing p xs
+passing_followed p d [] = omega arith
+passing_followed p d (x ∷ xs) =
+    let rest = passing_followed p (x ∷ d) xs in
+    let a = one_first (p x) (passing p d) in
+    let b = one_first (p x) (passing p xs) in
+    omega (arith, rest, a, b)
+
+-- Where none passes, neither does the first, nor one of the others.
+none_passes : (p : Effect → Bool) (x : Effect) (xs : List Effect) → passing p (x ∷ xs) ≡ 0
+    → (p x ≡ false) × (passing p xs ≡ 0)
+none_passes p x xs e =
+    elim (p x) as (λ b. (if b then passing p xs + 1 else passing p xs) ≡ 0 → (b ≡ false) × (passing p xs ≡ 0)) [
+      | true ↦ λ f. absurd (omega (arith, f))
+      | false ↦ λ f. (refl, f)
+    ] e
 
 -- ---- effects that give something back
 
 -- This is the number of effects that release something, or make a client.
 abbrev backs : List Effect → ℕ
-backs [] = 0
-backs (x ∷ xs) = if gives_back x then backs xs + 1 else backs xs
-
-backs_followed : (d : Effects) (xs : List Effect) → backs (followed d xs) ≡ backs d + backs xs
-backs_followed d [] = omega arith
-backs_followed d (x ∷ xs) =
-    let rest = backs_followed (x ∷ d) xs in
-    let a = one_first (gives_back x) (backs d) in
-    let b = one_first (gives_back x) (backs xs) in
-    omega (arith, rest, a, b)
+backs = passing gives_back
 
 backs_last : (n : ℕ) → Lasts (λ e. backs e ≡ n)
 backs_last n (Connects c who) d plain h = absurd (true≢false (sym plain))
@@ -78,19 +89,12 @@ none_back d c event xs h is =
     let kept : backs (after_event d c event) ≡ backs d =
     event_keeps (λ e. backs e ≡ backs d) (backs_last (backs d)) d c event (backs_left d c event h) refl in
     let same = ap backs is in
-    let all = backs_followed d xs in
+    let all = passing_followed gives_back d xs in
     omega (arith, kept, same, all)
-
-parts_back : (x : Effect) (xs : List Effect) → backs (x ∷ xs) ≡ 0 → (gives_back x ≡ false) × (backs xs ≡ 0)
-parts_back x xs e =
-    elim (gives_back x) as (λ b. (if b then backs xs + 1 else backs xs) ≡ 0 → (b ≡ false) × (backs xs ≡ 0)) [
-      | true ↦ λ f. absurd (omega (arith, f))
-      | false ↦ λ f. (refl, f)
-    ] e
 
 each_back : (xs : List Effect) → backs xs ≡ 0 → list_all (λ x. not (gives_back x)) xs ≡ true
 each_back [] e = refl
-each_back (x ∷ xs) e = let parts = parts_back x xs e in rw parts.0 (each_back xs parts.1)
+each_back (x ∷ xs) e = let parts = none_passes gives_back x xs e in rw parts.0 (each_back xs parts.1)
 
 -- ---- grants
 
@@ -99,16 +103,7 @@ is_give (Gives c n r) = true
 is_give _ = false
 
 abbrev gives : List Effect → ℕ
-gives [] = 0
-gives (x ∷ xs) = if is_give x then gives xs + 1 else gives xs
-
-gives_followed : (d : Effects) (xs : List Effect) → gives (followed d xs) ≡ gives d + gives xs
-gives_followed d [] = omega arith
-gives_followed d (x ∷ xs) =
-    let rest = gives_followed (x ∷ d) xs in
-    let a = one_first (is_give x) (gives d) in
-    let b = one_first (is_give x) (gives xs) in
-    omega (arith, rest, a, b)
+gives = passing is_give
 
 back_alone : (d : Effects) (c : ℕ) (event : Event) → is_back event ≡ true → gives (after_event d c event) ≡ gives d
 back_alone d c (Connect who) h = refl
@@ -121,15 +116,8 @@ no_gives : (d : Effects) (c : ℕ) (event : Event) (xs : List Effect) → is_bac
 no_gives d c event xs h is =
     let alone = back_alone d c event h in
     let same = ap gives is in
-    let all = gives_followed d xs in
+    let all = passing_followed is_give d xs in
     omega (arith, alone, same, all)
-
-parts_gives : (x : Effect) (xs : List Effect) → gives (x ∷ xs) ≡ 0 → (is_give x ≡ false) × (gives xs ≡ 0)
-parts_gives x xs e =
-    elim (is_give x) as (λ b. (if b then gives xs + 1 else gives xs) ≡ 0 → (b ≡ false) × (gives xs ≡ 0)) [
-      | true ↦ λ f. absurd (omega (arith, f))
-      | false ↦ λ f. (refl, f)
-    ] e
 
 may_plain_one : (d : Effects) (x : Effect) → is_give x ≡ false → MayFollowApart d x → MayFollow d x
 may_plain_one d (Gives c n r) h m = absurd (true≢false h)
@@ -138,7 +126,7 @@ may_plain_one d x h m = m
 may_plain : (d : Effects) (xs : List Effect) → gives xs ≡ 0 → MayAllApart d xs → MayAll d xs
 may_plain d [] e m = tt
 may_plain d (x ∷ xs) e m =
-    let parts = parts_gives x xs e in (may_plain_one d x parts.0 m.0, may_plain (x ∷ d) xs parts.1 m.1)
+    let parts = none_passes is_give x xs e in (may_plain_one d x parts.0 m.0, may_plain (x ∷ d) xs parts.1 m.1)
 
 -- ---- what may come next
 
@@ -191,7 +179,7 @@ refs_all : (d : Effects) (xs : List Effect) → Sound d → MayAllApart d xs →
     → refs_at (followed d xs) k m ≡ refs_at d k m + given_in k m xs
 refs_all d [] s may none k m = omega arith
 refs_all d (x ∷ xs) s may none k m =
-    let parts = parts_back x xs none in
+    let parts = none_passes gives_back x xs none in
     let one = refs_one d x s may.0 parts.0 k m in
     let rest = refs_all (x ∷ d) xs (apart_sound d x s may.0) may.1 parts.1 k m in
     let first = given_first k m x xs in
@@ -245,7 +233,7 @@ plain_fits_one d xs x h = refl
 plain_fits : (d : Effects) (xs ys : List Effect) → gives ys ≡ 0 → list_all (fits_among d xs) ys ≡ true
 plain_fits d xs [] e = refl
 plain_fits d xs (y ∷ ys) e =
-    let parts = parts_gives y ys e in rw (plain_fits_one d xs y parts.0) (plain_fits d xs ys parts.1)
+    let parts = none_passes is_give y ys e in rw (plain_fits_one d xs y parts.0) (plain_fits d xs ys parts.1)
 
 same_count : {a b g : ℕ} → a ≡ b → b < g → a < g
 same_count e lt = omega (arith, e, lt)
