@@ -60,18 +60,14 @@ pub fn shared_notices(alloc: Global, notices: Vec<Notice>) -> Result<(Notices, N
 fn give(effects: &mut Vec<Effect>, client: u32, node: Node, given: Given) -> Result<(), AllocError>
     ensures { OnOk result (effects.new.items ≡ effects.old.items ++ gives_of client node given) }
 {
-    match given {
-        Given::Handle(number) => {
-            effects.push(Effect::Gives {
-                client,
-                node,
-                number,
-            })?;
-            Ok(())
-        }
-        Given::Own(_) => Ok(()),
-        Given::Null => Ok(()),
+    if let Given::Handle(number) = given {
+        effects.push(Effect::Gives {
+            client,
+            node,
+            number,
+        })?;
     }
+    Ok(())
 }
 
 impl Notifications {

@@ -204,8 +204,7 @@ impl Manager {
     {
         match obj {
             ObjRef::Null => Ok(None),
-            ObjRef::Own(_) => self.judge_named(row, receiver, self.resolved(row.id, obj), notes),
-            ObjRef::Handle(_) => self.judge_named(row, receiver, self.resolved(row.id, obj), notes),
+            _ => self.judge_named(row, receiver, self.resolved(row.id, obj), notes),
         }
     }
 
