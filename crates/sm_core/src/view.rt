@@ -188,8 +188,7 @@ impl View {
     pub fn look(&self, by: By, query: Query) -> Reply
         ensures { Looks self.now by query result }
     {
-        let (reply, _records) = self.look_recorded(by, query);
-        reply
+        self.look_recorded(by, query).0
     }
 
     /// As `look`, and returns the audit records of the query, oldest first.
