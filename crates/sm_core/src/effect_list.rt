@@ -40,6 +40,7 @@ impl Drop for EffectList {
 
 impl EffectList {
     /// Makes a list of one effect.
+    #[inline]
     pub fn one(effect: Effect) -> EffectList
         ensures { result ≡ effect ∷ [] }
     {
