@@ -1,11 +1,10 @@
 -- A call's checks, judged part by part.
 use Rattle.std.proofs.Common.{◌≡◌, inl, inr, ℕ, true, false, ◌&&◌, List, [], ◌∷◌, ◌++◌}
-use Rattle.std.proofs.Common.{Option, Some, None, refl, ap, sym, ◌∙◌, subst}
+use Rattle.std.proofs.Common.{Option, Some, refl, ap, sym, ◌∙◌, subst}
 use Rattle.std.specs.Prelude.{is_some}
 use Rattle.std.proofs.lemmas.List.{append_assoc, append-nil}
 use Rattle.sm_kinds.specs.declared.number.Node.{Node}
 use Rattle.sm_kinds.specs.declared.number.ObjRef.{ObjRef}
-use Rattle.sm_kinds.specs.declared.class.Class.TheVariants.{Binder}
 use Rattle.sm_history.specs.Records.{Moment}
 use Rattle.sm_history.specs.declared.records.Record.{Record}
 use Rattle.sm_history.specs.declared.refusal.Refusal.TheVariants.{Failed}
@@ -14,8 +13,8 @@ use Rattle.sm_history.specs.declared.failed_check.FailedCheck.{FailedCheck}
 use Rattle.sm_history.specs.declared.failed_check.FailedCheck.TheVariants.{Unmet}
 use Rattle.sm_history.specs.declared.failed_check.EarlyAnswer.TheVariants.{Refused}
 use Rattle.sm_history.specs.Effects.{Effects}
-use Rattle.sm_history.specs.Clients.{identity_at, is_live}
-use Rattle.sm_history.specs.Checks.{Check, Wants, calling}
+use Rattle.sm_history.specs.Clients.{is_live}
+use Rattle.sm_history.specs.Checks.{Check, Wants}
 use Rattle.sm_history.specs.Holdings.{resolve_at, node_at, fits_handles}
 use Rattle.sm_history.specs.Histories.{handed_refs, found}
 use Rattle.sm_history.specs.Inboxes.{has_inbox_room}
@@ -24,7 +23,7 @@ use Rattle.sm_history.specs.Verdict.{all_pass_to_client, passes_to_client, call_
 use Rattle.sm_grants.specs.Several.{after_grants}
 use Rattle.sm_grants.specs.Handing.{AreNamed, others}
 use Rattle.sm_grants.proofs.Handing.{handed_are}
-use Rattle.sm_core.specs.Judging.{Halts, AllPass, Lacks, after_checks}
+use Rattle.sm_core.specs.Judging.{Halts, AllPass, after_checks}
 use Rattle.sm_core.specs.Calling.{target_checks, room_check}
 use Rattle.sm_core.proofs.Stopping.{halts_first, halts_then, pass_both, pass_first}
 
@@ -33,14 +32,6 @@ halts_alike : (m : Moment) (old mid new : List Record) (all xs : List Check) (s 
     → after_checks m old all ≡ after_checks m mid xs → Halts m mid new xs s → Halts m old new all s
 halts_alike m old mid new all xs s e (inl w) = inl w
 halts_alike m old mid new all xs s e (inr h) = inr (e ∙ h)
-
--- A call is stopped where no rule lets the caller call the owner of the object, which lives.
-pub target_stops : (m : Moment) (old new : List Record) (d : Effects) (c : ℕ) (n : Node) (s : FailedCheck)
-    → is_live d n.owner.0 ≡ true
-    → Lacks m old new Binder calling (identity_at d c) (identity_at d n.owner.0).context None s
-    → Halts m old new (target_checks d c (Some n)) s
-target_stops m old new d c n s live (inl w) = inl w
-target_stops m old new d c n s live (inr lacks) = inr (rw (live, lacks.0, lacks.1, lacks.2) refl)
 
 -- The references from one on are stopped at that one.
 pub halts_left : (m : Moment) (old mid new : List Record) (d : Effects) (c k : ℕ) (refs left rest : List ObjRef)
@@ -108,16 +99,7 @@ checks_are d c handle n refs at =
     sym (ap (λ (o : Option Node). Wants (is_some o) (Refused (Failed BadHandle)) ∷ object_checks d c refs (found o))
     at)
 
--- A call is stopped at its target, at one of its references, or at its receiver's room, or at no check.
-pub target_halts : (m : Moment) (old new : List Record) (d : Effects) (c handle : ℕ) (refs : List ObjRef)
-    (s : FailedCheck)
-    → Halts m old new (target_checks d c (node_at d c handle)) s
-    → Halts m old new (call_checks d c handle refs) s
-target_halts m old new d c handle refs s h =
-    let n = found (node_at d c handle) in
-    halts_first m old new (target_checks d c (node_at d c handle))
-    (all_pass_to_client d c n.owner.0 refs ++ room_behind d c n refs) s h
-
+-- A call whose target passes is stopped at one of its references, or at its receiver's room, or at no check.
 pub references_halt : (m : Moment) (old one new : List Record) (d : Effects) (c handle : ℕ) (n : Node)
     (refs : List ObjRef) (s : FailedCheck)
     → AllPass m old one (target_checks d c (node_at d c handle)) → node_at d c handle ≡ Some n

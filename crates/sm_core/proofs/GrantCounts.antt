@@ -9,12 +9,9 @@ use Rattle.std.proofs.lemmas.List.Sums.{sum_by-cons}
 use Rattle.sm_kinds.specs.declared.number.Node.{Node}
 use Rattle.sm_history.specs.declared.entry.Entry.{Entry}
 use Rattle.sm_history.specs.declared.event.Event.{Event}
-use Rattle.sm_history.specs.declared.event.Event.TheVariants.{Open, Connect, Add, Get, Watch as WatchName, Unwatch}
-use Rattle.sm_history.specs.declared.event.Event.TheVariants.{Unregister, Call, Release, Take, Die, Reload}
+use Rattle.sm_history.specs.declared.event.Event.TheVariants.{Connect, Add, Release, Die}
 use Rattle.sm_history.specs.declared.effect.Effect.{Effect}
-use Rattle.sm_history.specs.declared.effect.Effect.TheVariants.{Opens, Sets, Connects, Dies, Adds, Removes, Gives}
-use Rattle.sm_history.specs.declared.effect.Effect.TheVariants.{Releases, Watches, Unwatches, Delivers, Takes}
-use Rattle.sm_history.specs.declared.effect.Effect.TheVariants.{Resumes}
+use Rattle.sm_history.specs.declared.effect.Effect.TheVariants.{Connects, Dies, Adds, Gives, Releases, Resumes}
 use Rattle.sm_history.specs.declared.limits.TheConstants.{GREATEST}
 use Rattle.sm_history.specs.declared.reply.Reply.TheVariants.{Done}
 use Rattle.sm_history.specs.Effects.{Effects, same_node}
@@ -32,40 +29,44 @@ use Rattle.sm_history.proofs.Keeps.{Lasts, LeftToKeep, event_keeps}
 use Rattle.sm_history.proofs.NumbersFit.{counts_all, counts_each, is_below}
 use Rattle.sm_history.proofs.Sound.{is_new}
 use Rattle.sm_core.specs.Stands.{is_grant_of, given_in, fits_among}
+use Rattle.sm_core.proofs.Numbers.{one_first}
 
-one_first : (b : Bool) (n : ℕ) → (if b then n + 1 else n) ≡ n + (if b then 1 else 0)
-one_first true n = omega arith
-one_first false n = omega arith
+-- This is the number of effects that pass a test.
+abbrev passing : (Effect → Bool) → List Effect → ℕ
+passing p [] = 0
+passing p (x ∷ xs) = if p x then passing p xs + 1 else passing p xs
+
+passing_followed : (p : Effect → Bool) (d : Effects) (xs : List Effect)
+    → passing p (followed d xs) ≡ passing p d + passing p xs
+passing_followed p d [] = omega arith
+passing_followed p d (x ∷ xs) =
+    let rest = passing_followed p (x ∷ d) xs in
+    let a = one_first (p x) (passing p d) in
+    let b = one_first (p x) (passing p xs) in
+    omega (arith, rest, a, b)
+
+-- Where none passes, neither does the first, nor one of the others.
+none_passes : (p : Effect → Bool) (x : Effect) (xs : List Effect) → passing p (x ∷ xs) ≡ 0
+    → (p x ≡ false) × (passing p xs ≡ 0)
+none_passes p x xs e =
+    elim (p x) as (λ b. (if b then passing p xs + 1 else passing p xs) ≡ 0 → (b ≡ false) × (passing p xs ≡ 0)) [
+      | true ↦ λ f. absurd (omega (arith, f))
+      | false ↦ λ f. (refl, f)
+    ] e
 
 -- ---- effects that give something back
 
 -- This is the number of effects that release something, or make a client.
 abbrev backs : List Effect → ℕ
-backs [] = 0
-backs (x ∷ xs) = if gives_back x then backs xs + 1 else backs xs
-
-backs_followed : (d : Effects) (xs : List Effect) → backs (followed d xs) ≡ backs d + backs xs
-backs_followed d [] = omega arith
-backs_followed d (x ∷ xs) =
-    let rest = backs_followed (x ∷ d) xs in
-    let a = one_first (gives_back x) (backs d) in
-    let b = one_first (gives_back x) (backs xs) in
-    omega (arith, rest, a, b)
+backs = passing gives_back
 
 backs_last : (n : ℕ) → Lasts (λ e. backs e ≡ n)
-backs_last n (Opens who) d plain h = h
-backs_last n (Sets p) d plain h = h
 backs_last n (Connects c who) d plain h = absurd (true≢false (sym plain))
 backs_last n (Dies c) d plain h = absurd (true≢false (sym plain))
 backs_last n (Adds name s) d plain h = absurd (true≢false (sym plain))
-backs_last n (Removes name) d plain h = h
-backs_last n (Gives c m r) d plain h = h
 backs_last n (Releases c m) d plain h = absurd (true≢false (sym plain))
-backs_last n (Watches w) d plain h = h
-backs_last n (Unwatches w) d plain h = h
-backs_last n (Delivers c x) d plain h = h
-backs_last n (Takes c) d plain h = h
 backs_last n (Resumes v k) d plain h = absurd (true≢false (sym plain))
+backs_last n x d plain h = h
 
 -- The events with such an effect, which is their only one.
 abbrev is_back : Event → Bool
@@ -76,18 +77,11 @@ is_back _ = false
 
 backs_left : (d : Effects) (c : ℕ) (event : Event) → is_back event ≡ false
     → LeftToKeep (λ e. backs e ≡ backs d) d c event
-backs_left d c (Open who policy) h = tt
 backs_left d c (Connect who) h = absurd (true≢false h)
 backs_left d c (Add name obj allow dump) h = refl
-backs_left d c (Get name) h = tt
-backs_left d c (WatchName name object) h = tt
-backs_left d c (Unwatch name object) h = tt
-backs_left d c (Unregister name obj) h = tt
-backs_left d c (Call handle payload refs) h = tt
 backs_left d c (Release handle) h = absurd (true≢false h)
-backs_left d c Take h = tt
 backs_left d c Die h = absurd (true≢false h)
-backs_left d c (Reload expected policy) h = tt
+backs_left d c x h = tt
 
 none_back : (d : Effects) (c : ℕ) (event : Event) (xs : List Effect) → is_back event ≡ false
     → followed d xs ≡ after_event d c event → backs xs ≡ 0
@@ -95,19 +89,12 @@ none_back d c event xs h is =
     let kept : backs (after_event d c event) ≡ backs d =
     event_keeps (λ e. backs e ≡ backs d) (backs_last (backs d)) d c event (backs_left d c event h) refl in
     let same = ap backs is in
-    let all = backs_followed d xs in
+    let all = passing_followed gives_back d xs in
     omega (arith, kept, same, all)
-
-parts_back : (x : Effect) (xs : List Effect) → backs (x ∷ xs) ≡ 0 → (gives_back x ≡ false) × (backs xs ≡ 0)
-parts_back x xs e =
-    elim (gives_back x) as (λ b. (if b then backs xs + 1 else backs xs) ≡ 0 → (b ≡ false) × (backs xs ≡ 0)) [
-      | true ↦ λ f. absurd (omega (arith, f))
-      | false ↦ λ f. (refl, f)
-    ] e
 
 each_back : (xs : List Effect) → backs xs ≡ 0 → list_all (λ x. not (gives_back x)) xs ≡ true
 each_back [] e = refl
-each_back (x ∷ xs) e = let parts = parts_back x xs e in rw parts.0 (each_back xs parts.1)
+each_back (x ∷ xs) e = let parts = none_passes gives_back x xs e in rw parts.0 (each_back xs parts.1)
 
 -- ---- grants
 
@@ -116,81 +103,36 @@ is_give (Gives c n r) = true
 is_give _ = false
 
 abbrev gives : List Effect → ℕ
-gives [] = 0
-gives (x ∷ xs) = if is_give x then gives xs + 1 else gives xs
-
-gives_followed : (d : Effects) (xs : List Effect) → gives (followed d xs) ≡ gives d + gives xs
-gives_followed d [] = omega arith
-gives_followed d (x ∷ xs) =
-    let rest = gives_followed (x ∷ d) xs in
-    let a = one_first (is_give x) (gives d) in
-    let b = one_first (is_give x) (gives xs) in
-    omega (arith, rest, a, b)
+gives = passing is_give
 
 back_alone : (d : Effects) (c : ℕ) (event : Event) → is_back event ≡ true → gives (after_event d c event) ≡ gives d
-back_alone d c (Open who policy) h = absurd (true≢false (sym h))
 back_alone d c (Connect who) h = refl
-back_alone d c (Add name obj allow dump) h = absurd (true≢false (sym h))
-back_alone d c (Get name) h = absurd (true≢false (sym h))
-back_alone d c (WatchName name object) h = absurd (true≢false (sym h))
-back_alone d c (Unwatch name object) h = absurd (true≢false (sym h))
-back_alone d c (Unregister name obj) h = absurd (true≢false (sym h))
-back_alone d c (Call handle payload refs) h = absurd (true≢false (sym h))
 back_alone d c (Release handle) h = refl
-back_alone d c Take h = absurd (true≢false (sym h))
 back_alone d c Die h = refl
-back_alone d c (Reload expected policy) h = absurd (true≢false (sym h))
+back_alone d c x h = absurd (true≢false (sym h))
 
 no_gives : (d : Effects) (c : ℕ) (event : Event) (xs : List Effect) → is_back event ≡ true
     → followed d xs ≡ after_event d c event → gives xs ≡ 0
 no_gives d c event xs h is =
     let alone = back_alone d c event h in
     let same = ap gives is in
-    let all = gives_followed d xs in
+    let all = passing_followed is_give d xs in
     omega (arith, alone, same, all)
 
-parts_gives : (x : Effect) (xs : List Effect) → gives (x ∷ xs) ≡ 0 → (is_give x ≡ false) × (gives xs ≡ 0)
-parts_gives x xs e =
-    elim (is_give x) as (λ b. (if b then gives xs + 1 else gives xs) ≡ 0 → (b ≡ false) × (gives xs ≡ 0)) [
-      | true ↦ λ f. absurd (omega (arith, f))
-      | false ↦ λ f. (refl, f)
-    ] e
-
 may_plain_one : (d : Effects) (x : Effect) → is_give x ≡ false → MayFollowApart d x → MayFollow d x
-may_plain_one d (Opens who) h m = m
-may_plain_one d (Sets p) h m = m
-may_plain_one d (Connects c who) h m = m
-may_plain_one d (Dies c) h m = m
-may_plain_one d (Adds name s) h m = m
-may_plain_one d (Removes name) h m = m
 may_plain_one d (Gives c n r) h m = absurd (true≢false h)
-may_plain_one d (Releases c n) h m = m
-may_plain_one d (Watches w) h m = m
-may_plain_one d (Unwatches w) h m = m
-may_plain_one d (Delivers c x) h m = m
-may_plain_one d (Takes c) h m = m
-may_plain_one d (Resumes v k) h m = m
+may_plain_one d x h m = m
 
 may_plain : (d : Effects) (xs : List Effect) → gives xs ≡ 0 → MayAllApart d xs → MayAll d xs
 may_plain d [] e m = tt
 may_plain d (x ∷ xs) e m =
-    let parts = parts_gives x xs e in (may_plain_one d x parts.0 m.0, may_plain (x ∷ d) xs parts.1 m.1)
+    let parts = none_passes is_give x xs e in (may_plain_one d x parts.0 m.0, may_plain (x ∷ d) xs parts.1 m.1)
 
 -- ---- what may come next
 
 not_die : (event : Event) → is_back event ≡ false → is_die event ≡ false
-not_die (Open who policy) h = refl
-not_die (Connect who) h = refl
-not_die (Add name obj allow dump) h = refl
-not_die (Get name) h = refl
-not_die (WatchName name object) h = refl
-not_die (Unwatch name object) h = refl
-not_die (Unregister name obj) h = refl
-not_die (Call handle payload refs) h = refl
-not_die (Release handle) h = refl
-not_die Take h = refl
 not_die Die h = absurd (true≢false h)
-not_die (Reload expected policy) h = refl
+not_die x h = refl
 
 -- Each effect of a change that is done may come next.
 pub may_done : (places : ℕ) (h : History) (e : Entry) (xs : List Effect) → Sound (effects_of h)
@@ -230,21 +172,14 @@ refs_one d (Connects c who) s may h k m = absurd (true≢false h)
 refs_one d (Dies c) s may h k m = absurd (true≢false h)
 refs_one d (Releases c n) s may h k m = absurd (true≢false h)
 refs_one d (Resumes v n) s may h k m = absurd (true≢false h)
-refs_one d (Opens who) s may h k m = omega arith
-refs_one d (Sets p) s may h k m = omega arith
-refs_one d (Adds name t) s may h k m = omega arith
-refs_one d (Removes name) s may h k m = omega arith
-refs_one d (Watches w) s may h k m = omega arith
-refs_one d (Unwatches w) s may h k m = omega arith
-refs_one d (Delivers c x) s may h k m = omega arith
-refs_one d (Takes c) s may h k m = omega arith
+refs_one d x s may h k m = omega arith
 
 -- If nothing is released, each count rises by what is granted.
 refs_all : (d : Effects) (xs : List Effect) → Sound d → MayAllApart d xs → backs xs ≡ 0 → (k : ℕ) (m : Node)
     → refs_at (followed d xs) k m ≡ refs_at d k m + given_in k m xs
 refs_all d [] s may none k m = omega arith
 refs_all d (x ∷ xs) s may none k m =
-    let parts = parts_back x xs none in
+    let parts = none_passes gives_back x xs none in
     let one = refs_one d x s may.0 parts.0 k m in
     let rest = refs_all (x ∷ d) xs (apart_sound d x s may.0) may.1 parts.1 k m in
     let first = given_first k m x xs in
@@ -260,18 +195,7 @@ grant_fits d xs (Gives c n r) k m e fits =
     subst (λ (v : Node). refs_at d k v + given_in k v xs < GREATEST) (node_same n m parts.1)
     (subst (λ (v : ℕ). refs_at d v n + given_in v n xs < GREATEST) (number_same c k parts.0)
     (below_is (refs_at d c n + given_in c n xs) GREATEST fits))
-grant_fits d xs (Opens who) k m e fits = absurd (true≢false (sym e))
-grant_fits d xs (Sets p) k m e fits = absurd (true≢false (sym e))
-grant_fits d xs (Connects c who) k m e fits = absurd (true≢false (sym e))
-grant_fits d xs (Dies c) k m e fits = absurd (true≢false (sym e))
-grant_fits d xs (Adds name t) k m e fits = absurd (true≢false (sym e))
-grant_fits d xs (Removes name) k m e fits = absurd (true≢false (sym e))
-grant_fits d xs (Releases c n) k m e fits = absurd (true≢false (sym e))
-grant_fits d xs (Watches w) k m e fits = absurd (true≢false (sym e))
-grant_fits d xs (Unwatches w) k m e fits = absurd (true≢false (sym e))
-grant_fits d xs (Delivers c x) k m e fits = absurd (true≢false (sym e))
-grant_fits d xs (Takes c) k m e fits = absurd (true≢false (sym e))
-grant_fits d xs (Resumes v n) k m e fits = absurd (true≢false (sym e))
+grant_fits d xs x k m e fits = absurd (true≢false (sym e))
 
 none_or_fits : (d : Effects) (xs ys : List Effect) (k : ℕ) (m : Node) → list_all (fits_among d xs) ys ≡ true
     → (given_in k m ys ≡ 0) ⊎ (refs_at d k m + given_in k m xs < GREATEST)
@@ -295,18 +219,7 @@ all_fit d xs fit all k m =
 one_fits : (d : Effects) (xs : List Effect) (y : Effect)
     → ((k : ℕ) (m : Node) → refs_at d k m + given_in k m xs < GREATEST) → fits_among d xs y ≡ true
 one_fits d xs (Gives c n r) each = is_below (refs_at d c n + given_in c n xs) GREATEST (each c n)
-one_fits d xs (Opens who) each = refl
-one_fits d xs (Sets p) each = refl
-one_fits d xs (Connects c who) each = refl
-one_fits d xs (Dies c) each = refl
-one_fits d xs (Adds name t) each = refl
-one_fits d xs (Removes name) each = refl
-one_fits d xs (Releases c n) each = refl
-one_fits d xs (Watches w) each = refl
-one_fits d xs (Unwatches w) each = refl
-one_fits d xs (Delivers c x) each = refl
-one_fits d xs (Takes c) each = refl
-one_fits d xs (Resumes v n) each = refl
+one_fits d xs x each = refl
 
 fit_all : (d : Effects) (xs ys : List Effect)
     → ((k : ℕ) (m : Node) → refs_at d k m + given_in k m xs < GREATEST) → list_all (fits_among d xs) ys ≡ true
@@ -315,23 +228,12 @@ fit_all d xs (y ∷ ys) each = rw (one_fits d xs y each) (fit_all d xs ys each)
 
 plain_fits_one : (d : Effects) (xs : List Effect) (y : Effect) → is_give y ≡ false → fits_among d xs y ≡ true
 plain_fits_one d xs (Gives c n r) h = absurd (true≢false h)
-plain_fits_one d xs (Opens who) h = refl
-plain_fits_one d xs (Sets p) h = refl
-plain_fits_one d xs (Connects c who) h = refl
-plain_fits_one d xs (Dies c) h = refl
-plain_fits_one d xs (Adds name t) h = refl
-plain_fits_one d xs (Removes name) h = refl
-plain_fits_one d xs (Releases c n) h = refl
-plain_fits_one d xs (Watches w) h = refl
-plain_fits_one d xs (Unwatches w) h = refl
-plain_fits_one d xs (Delivers c x) h = refl
-plain_fits_one d xs (Takes c) h = refl
-plain_fits_one d xs (Resumes v n) h = refl
+plain_fits_one d xs x h = refl
 
 plain_fits : (d : Effects) (xs ys : List Effect) → gives ys ≡ 0 → list_all (fits_among d xs) ys ≡ true
 plain_fits d xs [] e = refl
 plain_fits d xs (y ∷ ys) e =
-    let parts = parts_gives y ys e in rw (plain_fits_one d xs y parts.0) (plain_fits d xs ys parts.1)
+    let parts = none_passes is_give y ys e in rw (plain_fits_one d xs y parts.0) (plain_fits d xs ys parts.1)
 
 same_count : {a b g : ℕ} → a ≡ b → b < g → a < g
 same_count e lt = omega (arith, e, lt)
@@ -342,24 +244,16 @@ less_count false v w g e lt = omega (arith, e, lt)
 
 back_fits : (d : Effects) (c : ℕ) (event : Event) → Sound d → is_back event ≡ true → is_die event ≡ false
     → counts_fit d ≡ true → counts_fit (after_event d c event) ≡ true
-back_fits d c (Open who policy) s h alive fit = absurd (true≢false (sym h))
 back_fits d c (Connect who) s h alive fit =
     let new = is_new d (next_client d) refl s.fresh in
     counts_all (after_event d c (Connect who)) (λ k m. same_count (refs_connects d (next_client d) who k m new)
     (counts_each d fit k m))
-back_fits d c (Add name obj allow dump) s h alive fit = absurd (true≢false (sym h))
-back_fits d c (Get name) s h alive fit = absurd (true≢false (sym h))
-back_fits d c (WatchName name object) s h alive fit = absurd (true≢false (sym h))
-back_fits d c (Unwatch name object) s h alive fit = absurd (true≢false (sym h))
-back_fits d c (Unregister name obj) s h alive fit = absurd (true≢false (sym h))
-back_fits d c (Call handle payload refs) s h alive fit = absurd (true≢false (sym h))
 back_fits d c (Release handle) s h alive fit =
     let n = found (node_at d c handle) in
     counts_all (after_event d c (Release handle)) (λ k m. less_count ((c == k) && same_node n m) (refs_at d k m)
     (refs_at (after_event d c (Release handle)) k m) GREATEST (refs_releases d c n k m) (counts_each d fit k m))
-back_fits d c Take s h alive fit = absurd (true≢false (sym h))
 back_fits d c Die s h alive fit = absurd (true≢false alive)
-back_fits d c (Reload expected policy) s h alive fit = absurd (true≢false (sym h))
+back_fits d c event s h alive fit = absurd (true≢false (sym h))
 
 both_true : (a b : Bool) → (a ≡ true → b ≡ true) → (b ≡ true → a ≡ true) → a ≡ b
 both_true true b to from = sym (to refl)

@@ -1,8 +1,6 @@
 -- Watchers are notified in order.
-use Rattle.std.proofs.Common.{◌≡◌, ℕ, suc, ◌+◌, ◌<◌, Bool, true, List, [], ◌∷◌, ◌++◌}
-use Rattle.std.proofs.Common.{ap, sym, ◌∙◌, length, drop, get_or, append_assoc, arith}
+use Rattle.std.proofs.Common.{◌≡◌, Bool, true, List, [], ◌∷◌, ◌++◌, ap, sym, ◌∙◌, append_assoc}
 use Rattle.std.specs.List.{list_all}
-use Rattle.std.proofs.Math.Seq.{drop-cons}
 use Rattle.std.proofs.lemmas.Bool.{and_parts}
 use Rattle.sm_kinds.specs.declared.number.Node.{Node}
 use Rattle.sm_history.specs.declared.effect.Watch.{Watch}
@@ -11,12 +9,6 @@ use Rattle.sm_history.specs.Effects.{Effects}
 use Rattle.sm_history.specs.declared.records.Record.{Record}
 use Rattle.sm_history.specs.Records.{Moment, left_by_all, left_by_notices}
 use Rattle.sm_history.specs.Notices.{notice_checks, notice_at, after_notice, notices_at, after_notices}
-
-pub one_further : (ws : List Watch) (i : ℕ) (w : Watch) → w ≡ get_or ws i w → i < length ws
-    → drop i ws ≡ w ∷ drop (i + 1) ws
-one_further ws i w is lt =
-    let one : suc i ≡ i + 1 = omega arith in
-    drop-cons ws i w lt ∙ ap (λ n. get_or ws i w ∷ drop n ws) one ∙ ap (λ y. y ∷ drop (i + 1) ws) (sym is)
 
 pub live_further : (p : Watch → Bool) (rest more : List Watch) (w : Watch) → rest ≡ w ∷ more → list_all p rest ≡ true
     → (p w ≡ true) × (list_all p more ≡ true)

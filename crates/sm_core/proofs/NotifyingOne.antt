@@ -175,9 +175,6 @@ missing_same d e n w left b live is = both first_failing (sym b.policy) (checks_
 
 -- ---- inboxes
 
-less_room : (a b n m : ℕ) → n ≡ m + 1 → a ≡ 256 - m → b ≡ a - 1 → b ≡ 256 - n
-less_room a b n m more at is = omega (arith, more, at, is)
-
 left_case : (t : Bool) (left : ℕ) (o : Option ℕ) (free after : ℕ) → (t ≡ true → left - 1 ≡ after)
     → (t ≡ false → unwrap_or o free ≡ after) → unwrap_or (cond t (Some (left - 1)) o) free ≡ after
 left_case true left o free after a b = a refl

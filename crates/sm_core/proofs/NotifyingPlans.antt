@@ -54,7 +54,7 @@ told_plan m d c event plan after records t outcome is sound = record {
   told = t.told;
   effects = t.effects ∙ is;
   may = t.may;
-  last = last_of_none plan.effects.items t.none_dies;
+  last = last_of_none plan.effects t.none_dies;
   sound = sound;
 }
 
@@ -137,7 +137,7 @@ watch_judged h old new c name object s w v xs r pass is told made items done =
 -- Where the name has no service, a Watch only watches.
 pub watch_alone : (m : Moment) (d : Effects) (c : ℕ) (name : List ℕ) (object : ℕ) (v : Watch) (plan : Plan)
     → plan.records ≡ [] → None ≡ service_at d name → v ≡ watch c name object → is_live d c ≡ true
-    → nat_lt (length (watches_at d)) MOST_WATCHES ≡ true → plan.effects.items ≡ Watches v ∷ []
+    → nat_lt (length (watches_at d)) MOST_WATCHES ≡ true → plan.effects ≡ Watches v ∷ []
     → plan.outcome ≡ Watched None → plan.told ≡ plan.outcome → IsPlan m d c (WatchName name object) plan
 watch_alone m d c name object v plan none is made live few items outcome told =
     one_plan m d c (WatchName name object) plan (Watches v) (none ∙ rw (← is) refl) items

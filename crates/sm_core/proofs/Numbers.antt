@@ -1,12 +1,10 @@
 -- What effects in order do to versions, to the number of clients and to counts of grants.
-use Rattle.std.proofs.Common.{inr, ◌≡◌, ℕ, ◌+◌, ◌<◌, true, false, List, [], ◌∷◌, ap, sym}
-use Rattle.std.proofs.Common.{◌∙◌, if◌then◌else◌, arith}
+use Rattle.std.proofs.Common.{inr, ◌≡◌, ℕ, ◌+◌, ◌<◌, Bool, true, false, List, [], ◌∷◌, ap, sym, ◌∙◌}
+use Rattle.std.proofs.Common.{if◌then◌else◌, arith}
 use Rattle.std.specs.Prelude.{nat_lt}
 use Rattle.std.proofs.lemmas.Bool.Decides.{nat_tests}
 use Rattle.sm_history.specs.declared.entry.Entry.{Entry}
 use Rattle.sm_history.specs.declared.effect.Effect.{Effect}
-use Rattle.sm_history.specs.declared.effect.Effect.TheVariants.{Opens, Sets, Connects, Dies, Adds, Removes, Gives}
-use Rattle.sm_history.specs.declared.effect.Effect.TheVariants.{Releases, Watches, Unwatches, Delivers, Takes}
 use Rattle.sm_history.specs.declared.effect.Effect.TheVariants.{Resumes}
 use Rattle.sm_history.specs.declared.limits.TheConstants.{GREATEST}
 use Rattle.sm_history.specs.declared.reply.Reply.TheVariants.{Done}
@@ -27,31 +25,19 @@ count_grows n h = let less : n + 1 < GREATEST = grind (arith, nat_tests) in omeg
 
 -- ---- policies that are set, and clients that connect
 
+pub one_first : (b : Bool) (n : ℕ) → (if b then n + 1 else n) ≡ n + (if b then 1 else 0)
+one_first true n = omega arith
+one_first false n = omega arith
+
 pub sets_first : (x : Effect) (xs : List Effect) → sets_in (x ∷ xs) ≡ sets_in xs + sets_in (x ∷ [])
-sets_first x xs =
-    elim (is_set x) as (λ b. (if b then sets_in xs + 1 else sets_in xs) ≡ sets_in xs + (if b then 1 else 0))
-    [ true ↦ omega arith | false ↦ omega arith ]
+sets_first x xs = one_first (is_set x) (sets_in xs)
 
 pub connects_first : (x : Effect) (xs : List Effect) → connects_in (x ∷ xs) ≡ connects_in xs + connects_in (x ∷ [])
-connects_first x xs =
-    elim (is_connect x) as (λ b. (if b then connects_in xs + 1 else connects_in xs)
-    ≡ connects_in xs + (if b then 1 else 0))
-    [ true ↦ omega arith | false ↦ omega arith ]
+connects_first x xs = one_first (is_connect x) (connects_in xs)
 
 version_one : (x : Effect) (d : Effects) → MayFollowApart d x → version_at (x ∷ d) ≡ version_at d + sets_in (x ∷ [])
-version_one (Opens who) d m = omega arith
-version_one (Sets p) d m = omega arith
-version_one (Connects c who) d m = omega arith
-version_one (Dies c) d m = omega arith
-version_one (Adds name t) d m = omega arith
-version_one (Removes name) d m = omega arith
-version_one (Gives c n r) d m = omega arith
-version_one (Releases c n) d m = omega arith
-version_one (Watches w) d m = omega arith
-version_one (Unwatches w) d m = omega arith
-version_one (Delivers c x) d m = omega arith
-version_one (Takes c) d m = omega arith
 version_one (Resumes v n) d m = absurd m
+version_one x d m = omega arith
 
 version_followed : (d : Effects) (xs : List Effect) → MayAllApart d xs
     → version_at (followed d xs) ≡ version_at d + sets_in xs
@@ -63,19 +49,8 @@ version_followed d (x ∷ xs) m =
     omega (arith, rest, one, first)
 
 next_one : (x : Effect) (d : Effects) → MayFollowApart d x → next_client (x ∷ d) ≡ next_client d + connects_in (x ∷ [])
-next_one (Opens who) d m = omega arith
-next_one (Sets p) d m = omega arith
-next_one (Connects c who) d m = omega arith
-next_one (Dies c) d m = omega arith
-next_one (Adds name t) d m = omega arith
-next_one (Removes name) d m = omega arith
-next_one (Gives c n r) d m = omega arith
-next_one (Releases c n) d m = omega arith
-next_one (Watches w) d m = omega arith
-next_one (Unwatches w) d m = omega arith
-next_one (Delivers c x) d m = omega arith
-next_one (Takes c) d m = omega arith
 next_one (Resumes v n) d m = absurd m
+next_one x d m = omega arith
 
 next_followed : (d : Effects) (xs : List Effect) → MayAllApart d xs
     → next_client (followed d xs) ≡ next_client d + connects_in xs

@@ -1,7 +1,6 @@
 -- Tables of effects are also those of all effects that leave the same.
 use Rattle.std.proofs.Common.{Some, ◌-◌, ◌≡◌, ℕ, ◌+◌, ◌<◌, Bool, true, false, List, [], ◌∷◌, refl, ap, sym, subst, ◌∙◌}
-use Rattle.std.proofs.Common.{map}
-use Rattle.std.proofs.Common.{if◌then◌else◌, arith}
+use Rattle.std.proofs.Common.{map, if◌then◌else◌, arith}
 use Rattle.std.specs.Prelude.{nat_lt, filter, bytes_eq, reverse, filter_map, count_by}
 use Rattle.std.proofs.lemmas.Bool.Decides.{nat_tests}
 use Rattle.sm_kinds.specs.declared.identity.Identity.{Identity}

@@ -4,9 +4,7 @@ use Rattle.std.proofs.Common.{inr, if◌then◌else◌, arith}
 use Rattle.std.specs.List.{list_any}
 use Rattle.std.proofs.lemmas.Bool.{true≢false}
 use Rattle.sm_history.specs.declared.effect.Effect.{Effect}
-use Rattle.sm_history.specs.declared.effect.Effect.TheVariants.{Opens, Sets, Connects, Dies, Adds, Removes, Gives}
-use Rattle.sm_history.specs.declared.effect.Effect.TheVariants.{Releases, Watches, Unwatches, Delivers, Takes}
-use Rattle.sm_history.specs.declared.effect.Effect.TheVariants.{Resumes}
+use Rattle.sm_history.specs.declared.effect.Effect.TheVariants.{Opens, Sets, Connects, Dies, Adds, Removes, Resumes}
 use Rattle.sm_history.specs.Effects.{Effects}
 use Rattle.sm_history.specs.Following.{MayFollowApart, MayAllApart, followed}
 use Rattle.sm_history.specs.Histories.{History, effects_of, entered, length_of, turn_of}
@@ -48,22 +46,12 @@ same_principals (Sets policy) d p h s = absurd (true≢false h)
 same_principals (Connects c who) d p h s = absurd (true≢false h)
 same_principals (Dies c) d p h s = absurd (true≢false h)
 same_principals (Resumes v n) d p h s = absurd (true≢false h)
-same_principals (Adds name t) d p h s =
-    record { manager = s.manager; policy = s.policy; version = s.version; clients = s.clients }
-same_principals (Removes name) d p h s =
-    record { manager = s.manager; policy = s.policy; version = s.version; clients = s.clients }
-same_principals (Gives c n r) d p h s =
-    record { manager = s.manager; policy = s.policy; version = s.version; clients = s.clients }
-same_principals (Releases c n) d p h s =
-    record { manager = s.manager; policy = s.policy; version = s.version; clients = s.clients }
-same_principals (Watches w) d p h s =
-    record { manager = s.manager; policy = s.policy; version = s.version; clients = s.clients }
-same_principals (Unwatches w) d p h s =
-    record { manager = s.manager; policy = s.policy; version = s.version; clients = s.clients }
-same_principals (Delivers c x) d p h s =
-    record { manager = s.manager; policy = s.policy; version = s.version; clients = s.clients }
-same_principals (Takes c) d p h s =
-    record { manager = s.manager; policy = s.policy; version = s.version; clients = s.clients }
+same_principals x d p h s = record {
+  manager = s.manager;
+  policy = s.policy;
+  version = s.version;
+  clients = s.clients;
+}
 
 -- Where only the room for more clients is another, they stay.
 pub same_but_room : (d : Effects) (p q : Principals) → q.manager ≡ p.manager → q.policy ≡ p.policy
@@ -82,15 +70,8 @@ same_services (Removes name) d rows h s m tr = absurd (true≢false h)
 same_services (Dies c) d rows h s m tr = absurd (true≢false h)
 same_services (Connects c who) d rows h s m tr =
     same_rows (Connects c who) d rows (λ name. service_connects d c who name m s.owned) tr
-same_services (Opens who) d rows h s m tr = same_rows (Opens who) d rows (λ name. refl) tr
-same_services (Sets p) d rows h s m tr = same_rows (Sets p) d rows (λ name. refl) tr
-same_services (Gives c n r) d rows h s m tr = same_rows (Gives c n r) d rows (λ name. refl) tr
-same_services (Releases c n) d rows h s m tr = same_rows (Releases c n) d rows (λ name. refl) tr
-same_services (Watches w) d rows h s m tr = same_rows (Watches w) d rows (λ name. refl) tr
-same_services (Unwatches w) d rows h s m tr = same_rows (Unwatches w) d rows (λ name. refl) tr
-same_services (Delivers c x) d rows h s m tr = same_rows (Delivers c x) d rows (λ name. refl) tr
-same_services (Takes c) d rows h s m tr = same_rows (Takes c) d rows (λ name. refl) tr
 same_services (Resumes v n) d rows h s m tr = absurd m
+same_services x d rows h s m tr = same_rows x d rows (λ name. refl) tr
 
 -- Where none of some effects is one that the part hears of, it stays.
 none_first : (a b : Bool) → a || b ≡ false → a ≡ false
@@ -159,10 +140,10 @@ pub viewed_more : (places : ℕ) (h : History) (turns : Turns) (r : Ready) (len 
     (since since' : List TurnRow)
     → ((b : By) → change_count turns b ≡ turn_of h b) → IsComing places h r
     → Viewed places h len principals services base since
-    → ((d : Effects) → Sound d → StandPrincipals d principals → MayAllApart d r.effects.items
-    → StandPrincipals (followed d r.effects.items) principals')
-    → ((d : Effects) → Sound d → TracksRows d services.rows.items → MayAllApart d r.effects.items
-    → TracksRows (followed d r.effects.items) services'.rows.items)
+    → ((d : Effects) → Sound d → StandPrincipals d principals → MayAllApart d r.effects
+    → StandPrincipals (followed d r.effects) principals')
+    → ((d : Effects) → Sound d → TracksRows d services.rows.items → MayAllApart d r.effects
+    → TracksRows (followed d r.effects) services'.rows.items)
     → ((b : By) → counted_in base' since' b
     ≡ (if is_same b r.entry.by then change_count turns b + 1 else change_count turns b))
     → Viewed places (entered r.entry h) (len + 1) principals' services' base' since'
@@ -224,7 +205,7 @@ viewed_turns places h len principals services base since by v =
 -- The version of a view and the policies that an event sets are below the greatest number.
 pub viewed_version : (places : ℕ) (h : History) (len : ℕ) (principals : Principals) (services : Services)
     (base : Turns) (since : List TurnRow) (r : Ready) → Viewed places h len principals services base since
-    → IsComing places h r → principals.version + sets_in r.effects.items < GREATEST
+    → IsComing places h r → principals.version + sets_in r.effects < GREATEST
 viewed_version places h len principals services base since r v coming =
     let is = v.asks.version in
     let small = coming.numbers in

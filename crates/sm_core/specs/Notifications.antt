@@ -1,6 +1,5 @@
 -- Notifying watchers, in terms of the state before the first notice.
-use Rattle.std.specs.Prelude.{ℕ, ◌-◌, ◌≡◌, true, false, ◌&&◌, nat_lt}
-use Rattle.std.specs.Prelude.{List, [], ◌∷◌, ◌++◌, Option, length, unwrap_or}
+use Rattle.std.specs.Prelude.{ℕ, ◌-◌, ◌≡◌, true, false, ◌&&◌, nat_lt, List, [], ◌∷◌, ◌++◌, Option, length, unwrap_or}
 use Rattle.std.specs.List.{list_any}
 use Rattle.sm_kinds.specs.declared.number.Node.{Node}
 use Rattle.sm_history.specs.declared.failed_check.EarlyAnswer.TheVariants.{Refused}
@@ -99,6 +98,6 @@ pub record MayPrecede (d : Effects) (n : Node) (xs : List Effect) : Type 0 where
 -- This is a plan of notices, apart from its outcome.
 pub record Tells (d after : Effects) (plan : Plan) : Type 0 where
   pub told : plan.told ≡ plan.outcome
-  pub effects : followed d plan.effects.items ≡ after
-  pub may : MayAllApart d plan.effects.items
-  pub none_dies : list_any is_death plan.effects.items ≡ false
+  pub effects : followed d plan.effects ≡ after
+  pub may : MayAllApart d plan.effects
+  pub none_dies : list_any is_death plan.effects ≡ false

@@ -71,7 +71,7 @@ pub record Viewed (places : ℕ) (h : History) (length : ℕ) (principals : Prin
 pub record IsComing (places : ℕ) (h : History) (r : Ready) : Type 0 where
   pub done : verdict places h r.entry.by r.entry.turn r.entry.event ≡ Done r.entry.outcome
   pub sound : HasSoundPolicy r.entry.event
-  pub effects : followed (effects_of h) r.effects.items
+  pub effects : followed (effects_of h) r.effects
       ≡ after_event (effects_of h) (client_of r.entry.by) r.entry.event
-  pub may : MayAllApart (effects_of h) r.effects.items
-  pub numbers : version_at (effects_of h) + sets_in r.effects.items < GREATEST
+  pub may : MayAllApart (effects_of h) r.effects
+  pub numbers : version_at (effects_of h) + sets_in r.effects < GREATEST

@@ -1,21 +1,21 @@
 //! Access checks: each check of an allow rule, as in AOSP's `Access.cpp`. All rule checks go through these functions.
 
-ghost use Rattle.std.specs.Prelude.{◌≡◌, ◌⊎◌, [], ◌∷◌, ◌++◌, None, Some, option_map, IfOk, MatchResult};
+ghost use Rattle.std.specs.Prelude.{◌≡◌, ◌⊎◌, [], ◌∷◌, ◌++◌, None, Some, option_map, IfOk, OnOk};
 ghost use Rattle.sm_kinds.specs.Contexts.{type_of};
 ghost use Rattle.sm_kinds.specs.declared.class.Class.TheVariants.{ServiceManager};
 ghost use Rattle.sm_policy.specs.Policy.{allowed, decision, label_of, type_index};
 ghost use Rattle.sm_history.specs.Checks.{rule_denial};
 ghost use Rattle.sm_history.specs.Records.{rule_record};
 ghost use Rattle.sm_history.specs.declared.failed_check.FailedCheck.TheVariants.{Unruled, Barred};
+ghost use Rattle.sm_history.specs.declared.refusal.Refusal.TheVariants.{Memory, Denied};
 ghost use Rattle.sm_core.specs.Judging.{IsRuled, noted, clause_noted};
-ghost use Rattle.sm_core.specs.Judging as spec;
 ghost use Rattle.sm_core.specs.Tables.{process_under, IsLabelUnder};
 
 use crate::notes::Notes;
 use crate::principals::Principals;
 use crate::process::Process;
-use crate::small_failed_check::{SmallFailedCheck, wanted};
-use sm_history::{Denial, FailedCheck, Record};
+use crate::small_failed_check::SmallFailedCheck;
+use sm_history::{Denial, FailedCheck, Record, Refusal};
 use sm_kinds::{Class, Context, Identity, Name, Perms};
 use sm_policy::{Decision, Label, Prepared};
 use std::alloc::{AllocError, Global};
@@ -41,6 +41,26 @@ pub fn denial(
     })
 }
 
+/// Returns the refusal for a missing rule.
+pub fn denied(alloc: Global, class: Class, perm: Perms, who: &Identity, target: &Context) -> Refusal
+    ensures { (result ≡ Memory) ⊎ (result ≡ Denied (rule_denial class perm who.now target.now)) }
+{
+    match denial(alloc, class, perm, who, target) {
+        Ok(denial) => Refusal::Denied(denial),
+        Err(_) => Refusal::Memory,
+    }
+}
+
+/// Copies a name, if there is one.
+fn copied(name: Option<&Name>) -> Result<Option<Name>, AllocError>
+    ensures { IfOk result (λ copy. copy ≡ option_map (λ n. n.now) name.entry) }
+{
+    match name {
+        None => Ok(None),
+        Some(name) => Ok(Some(name.clone()?)),
+    }
+}
+
 /// Returns the failed check of an access that no allow rule grants. Has the name if the target is its label.
 #[cold]
 #[inline(never)]
@@ -51,29 +71,16 @@ fn unruled(
     name: Option<&Name>,
     class: Class,
     perm: Perms,
-) -> SmallFailedCheck
-    ensures { (result ≡ spec.wanted)
-        ⊎ (result ≡ Unruled class perm who.now target.now (option_map (λ n. n.now) name.entry)) }
+) -> Result<SmallFailedCheck, AllocError>
+    ensures { IfOk result
+        (λ s. s ≡ Unruled class perm who.now target.now (option_map (λ n. n.now) name.entry)) }
 {
-    let Ok(who) = who.clone() else {
-        return wanted();
-    };
-    let Ok(target) = target.clone() else {
-        return wanted();
-    };
-    let name = match name {
-        None => None,
-        Some(name) => match name.clone() {
-            Ok(name) => Some(name),
-            Err(_) => return wanted(),
-        },
-    };
     let stop = FailedCheck::Unruled {
         class,
         perm,
-        who,
-        target,
-        name,
+        who: who.clone()?,
+        target: target.clone()?,
+        name: copied(name)?,
     };
     SmallFailedCheck::whole(alloc, stop)
 }
@@ -120,13 +127,12 @@ impl<'a> Access<'a> {
         class: Class,
         perm: Perms,
         notes: &mut Notes,
-    ) -> Result<(), SmallFailedCheck>
+    ) -> Result<(), AllocError>
         requires { made ≡ decision self.now.policy (type_of who.now.context)
             (type_of target.now) class perm }
-        ensures { MatchResult result
-            (λ done. notes.new ≡ noted self.now notes.old class perm who.now target.now
-            (option_map (λ n. n.now) name.entry))
-            (λ s. s ≡ spec.wanted) }
+        ensures { OnOk result
+            (notes.new ≡ noted self.now notes.old class perm who.now target.now
+            (option_map (λ n. n.now) name.entry)) }
     {
         if !made.audited {
             return Ok(());
@@ -146,83 +152,35 @@ impl<'a> Access<'a> {
         class: Class,
         perm: Perms,
         notes: &mut Notes,
-    ) -> Result<(), SmallFailedCheck>
+    ) -> Result<(), AllocError>
         requires { permissive
             ≡ allowed self.now.policy (type_of who.now.context) (type_of target.now) class perm }
-        ensures { MatchResult result
-            (λ done. notes.new ≡ notes.old
-            ++ rule_record self.now class perm who.now target.now (option_map (λ n. n.now) name.entry) ∷ [])
-            (λ s. s ≡ spec.wanted) }
+        ensures { OnOk result
+            (notes.new ≡ notes.old
+            ++ rule_record self.now class perm who.now target.now (option_map (λ n. n.now) name.entry) ∷ []) }
     {
-        let Ok(denied) = self.missing(who, target, name, class, perm, permissive) else {
-            return Err(wanted());
-        };
-        match notes.note(denied) {
-            Ok(()) => Ok(()),
-            Err(_) => Err(wanted()),
-        }
-    }
-
-    /// Returns the record of a missing rule.
-    fn missing(
-        &self,
-        who: &Identity,
-        target: &Context,
-        name: Option<&Name>,
-        class: Class,
-        perm: Perms,
-        permissive: bool,
-    ) -> Result<Record, AllocError>
-        requires { permissive
-            ≡ allowed self.now.policy (type_of who.now.context) (type_of target.now) class perm }
-        ensures { IfOk result
-            (λ r. r ≡ rule_record self.now class perm who.now target.now
-            (option_map (λ n. n.now) name.entry)) }
-    {
-        let denial = denial(self.alloc, class, perm, who, target)?;
-        let name = match name {
-            None => None,
-            Some(name) => Some(name.clone()?),
-        };
-        Ok(Record {
+        notes.note(Record {
             length: self.length,
             version: self.version,
-            denial,
+            denial: denial(self.alloc, class, perm, who, target)?,
             permissive,
             who: who.clone()?,
             target: Some(target.clone()?),
-            name,
+            name: copied(name)?,
         })
     }
 
     /// Returns the failed check of a clause on the user number, and appends its record.
     #[cold]
     #[inline(never)]
+    #[tactic(auto, unfolding(crate::specs::Judging::clause_noted))]
     pub fn barred(
         &self,
         denial: Denial,
         who: &Identity,
         name: &Name,
         notes: &mut Notes,
-    ) -> SmallFailedCheck
-        ensures { (result ≡ spec.wanted) ⊎ ((result ≡ Barred denial who.now name.now)
-            × (notes.new ≡ clause_noted self.now notes.old denial who.now name.now)) }
-    {
-        match self.bars(denial, who, name, notes) {
-            Ok(stop) => SmallFailedCheck::whole(self.alloc, stop),
-            Err(_) => wanted(),
-        }
-    }
-
-    /// The same, or the one for a failed allocation.
-    #[tactic(auto, unfolding(crate::specs::Judging::clause_noted))]
-    fn bars(
-        &self,
-        denial: Denial,
-        who: &Identity,
-        name: &Name,
-        notes: &mut Notes,
-    ) -> Result<FailedCheck, AllocError>
+    ) -> Result<SmallFailedCheck, AllocError>
         ensures { IfOk result (λ s. (s ≡ Barred denial who.now name.now)
             × (notes.new ≡ clause_noted self.now notes.old denial who.now name.now)) }
     {
@@ -236,11 +194,12 @@ impl<'a> Access<'a> {
             target: None,
             name: Some(name.clone()?),
         })?;
-        Ok(FailedCheck::Barred {
+        let stop = FailedCheck::Barred {
             denial,
             who: who.clone()?,
             name: name.clone()?,
-        })
+        };
+        SmallFailedCheck::whole(self.alloc, stop)
     }
 
     /// Checks that an allow rule grants a permission from a process to another one.
@@ -308,6 +267,6 @@ impl<'a> Access<'a> {
         if decision.allowed {
             return Ok(());
         }
-        Err(unruled(self.alloc, &source.who, target, name, class, perm))
+        Err(unruled(self.alloc, &source.who, target, name, class, perm)?)
     }
 }

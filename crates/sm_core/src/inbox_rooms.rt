@@ -49,10 +49,8 @@ impl InboxRooms {
     pub fn of(&self, client: u32) -> Option<usize>
         ensures { result ≡ left_of self.now.rows.items client }
     {
-        match place_of(&self.rows, client) {
-            Some(i) => Some(self.rows[i].left),
-            None => None,
-        }
+        let i = place_of(&self.rows, client)?;
+        Some(self.rows[i].left)
     }
 
     /// Sets the number of deliveries for which a client's inbox still has room.

@@ -25,14 +25,11 @@ fn listed_client(
     ensures { IfOk result
         (λ l. (d : Effects) → Tracks d grants.now → TracksInboxes d inboxes.now → IsListed d row.now l) }
 {
-    let who = row.process.who.clone()?;
-    let held = grants.listed(alloc, row.id)?;
-    let waiting = inboxes.listed(alloc, row.id)?;
     Ok(Listed {
         client: row.id,
-        who,
-        held,
-        waiting,
+        who: row.process.who.clone()?,
+        held: grants.listed(alloc, row.id)?,
+        waiting: inboxes.listed(alloc, row.id)?,
     })
 }
 
@@ -62,19 +59,14 @@ pub fn tables_of(alloc: Global, state: &State) -> Result<Tables, AllocError>
     ensures { IfOk result (λ t. (d : Effects) → Stands d state.now → TracksTables d t) }
 {
     let principals = &state.principals;
-    let who = principals.manager.who.clone()?;
-    let policy = principals.policy.share()?;
-    let live = listed_clients(alloc, &state.grants, &state.inboxes, &principals.clients)?;
-    let names = state.names.services().listed(alloc)?;
-    let watches = state.names.listed_watches(alloc)?;
     Ok(Tables {
         alloc,
-        manager: Some(who),
-        policy: Some(policy),
+        manager: Some(principals.manager.who.clone()?),
+        policy: Some(principals.policy.share()?),
         version: principals.version,
         clients: state.next.saturating_sub(1),
-        live,
-        names,
-        watches,
+        live: listed_clients(alloc, &state.grants, &state.inboxes, &principals.clients)?,
+        names: state.names.services().listed(alloc)?,
+        watches: state.names.listed_watches(alloc)?,
     })
 }

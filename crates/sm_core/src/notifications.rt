@@ -36,7 +36,10 @@ fn registration(alloc: Global, watch: &Watch, given: Given) -> Result<BoxedDeliv
 }
 
 /// Shares a notice between two owners.
-pub fn boxed_twice(alloc: Global, notice: Notice) -> Result<(BoxedNotice, BoxedNotice), AllocError>
+pub fn shared_notice(
+    alloc: Global,
+    notice: Notice,
+) -> Result<(BoxedNotice, BoxedNotice), AllocError>
     ensures { IfOk result (λ both. (both.0 ≡ notice) × (both.1 ≡ notice)) }
 {
     let first = BoxedNotice::new(alloc, notice)?;
@@ -45,7 +48,7 @@ pub fn boxed_twice(alloc: Global, notice: Notice) -> Result<(BoxedNotice, BoxedN
 }
 
 /// Shares notices between two owners.
-pub fn listed_twice(alloc: Global, notices: Vec<Notice>) -> Result<(Notices, Notices), AllocError>
+pub fn shared_notices(alloc: Global, notices: Vec<Notice>) -> Result<(Notices, Notices), AllocError>
     ensures { IfOk result (λ both. (both.0 ≡ notices.items) × (both.1 ≡ notices.items)) }
 {
     let first = Notices::new(alloc, notices)?;
@@ -57,18 +60,14 @@ pub fn listed_twice(alloc: Global, notices: Vec<Notice>) -> Result<(Notices, Not
 fn give(effects: &mut Vec<Effect>, client: u32, node: Node, given: Given) -> Result<(), AllocError>
     ensures { OnOk result (effects.new.items ≡ effects.old.items ++ gives_of client node given) }
 {
-    match given {
-        Given::Handle(number) => {
-            effects.push(Effect::Gives {
-                client,
-                node,
-                number,
-            })?;
-            Ok(())
-        }
-        Given::Own(_) => Ok(()),
-        Given::Null => Ok(()),
+    if let Given::Handle(number) = given {
+        effects.push(Effect::Gives {
+            client,
+            node,
+            number,
+        })?;
     }
+    Ok(())
 }
 
 impl Notifications {

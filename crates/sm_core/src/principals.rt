@@ -64,15 +64,11 @@ impl Principals {
         ensures stand { IfOk result (λ p. (d : Effects) → StandPrincipals d self.now → StandPrincipals d p) }
         ensures version { IfOk result (λ p. p.version ≡ self.now.version) }
     {
-        let manager = self.manager.clone()?;
-        let policy = self.policy.share()?;
-        let clients = copies_of(alloc, &self.clients)?;
-        let version = self.version;
         Ok(Principals {
-            manager,
-            policy,
-            version,
-            clients,
+            manager: self.manager.clone()?,
+            policy: self.policy.share()?,
+            version: self.version,
+            clients: copies_of(alloc, &self.clients)?,
         })
     }
 
@@ -176,10 +172,7 @@ impl Principals {
     {
         match by {
             By::Manager => Some(Caller::Manager),
-            By::Client(client) => match self.client(client.0) {
-                Some(row) => Some(Caller::Client(row)),
-                None => None,
-            },
+            By::Client(client) => Some(Caller::Client(self.client(client.0)?)),
             By::Admin(admin) => Some(Caller::Admin(admin)),
         }
     }

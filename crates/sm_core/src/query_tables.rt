@@ -20,7 +20,7 @@ use crate::journal::Journal;
 use crate::manager::replying::{answer, is_memory};
 use crate::notes::Notes;
 use crate::principals::Principals;
-use crate::small_failed_check::{Plain, SmallFailedCheck, wanted};
+use crate::small_failed_check::{Plain, SmallFailedCheck};
 use sm_history::{Answer, BoxedNames, By, Entry, Failure, Query, Record, Reply};
 use sm_kinds::{Class, Perms};
 use sm_names::Services;
@@ -157,10 +157,7 @@ impl<'a> QueryTables<'a> {
         let manager = &self.principals.manager;
         access.to_process(who, manager, Class::Binder, Perms::CALL, notes)?;
         access.to_process(who, manager, Class::ServiceManager, Perms::LIST, notes)?;
-        match self.names(mask) {
-            Ok(names) => Ok(Answer::Names(names)),
-            Err(_) => Err(wanted()),
-        }
+        Ok(Answer::Names(self.names(mask)?))
     }
 
     /// Returns the names whose dump flags share a bit with a mask, in rising byte order.

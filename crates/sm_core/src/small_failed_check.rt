@@ -1,12 +1,12 @@
 //! Why a request makes no change, in a small value.
 
-ghost use Rattle.std.specs.Prelude.{◌≡◌, ◌⊎◌};
+ghost use Rattle.std.specs.Prelude.{◌≡◌, IfOk};
 ghost use Rattle.sm_history.specs.declared.failed_check.FailedCheck.TheVariants.{Unmet};
 ghost use Rattle.sm_core.specs.SmallFailedChecks.{early_answer, stored_check};
 ghost use Rattle.sm_core.specs.Judging as spec;
 
 use sm_history::{Exception, FailedCheck, Failure};
-use std::alloc::Global;
+use std::alloc::{AllocError, AllocFailed, Global};
 use std::marker::Model;
 
 /// The answer to a condition that failed, where it has no texts: `EarlyAnswer` without its denials.
@@ -72,6 +72,28 @@ impl Drop for SmallFailedCheck {
     }
 }
 
+impl From<AllocError> for SmallFailedCheck {
+    ghost use Rattle.std.specs.Prelude.{◌≡◌};
+    ghost use Rattle.sm_core.specs.Judging as spec;
+
+    ghost from_gives = { λ _ s. s ≡ spec.wanted };
+
+    fn from(_e: AllocError) -> SmallFailedCheck {
+        wanted()
+    }
+}
+
+impl<T: Drop> From<AllocFailed<T>> for SmallFailedCheck {
+    ghost use Rattle.std.specs.Prelude.{◌≡◌};
+    ghost use Rattle.sm_core.specs.Judging as spec;
+
+    ghost from_gives = { λ _ s. s ≡ spec.wanted };
+
+    fn from(_e: AllocFailed<T>) -> SmallFailedCheck {
+        wanted()
+    }
+}
+
 impl SmallFailedCheck {
     /// Makes a failed check without texts.
     #[inline]
@@ -83,16 +105,12 @@ impl SmallFailedCheck {
         }
     }
 
-    /// Boxes a failed check with texts. If that fails, returns the one for a failed allocation.
-    pub fn whole(alloc: Global, stop: FailedCheck) -> SmallFailedCheck
-        ensures { (result ≡ spec.wanted) ⊎ (result ≡ stop) }
+    /// Boxes a failed check with texts.
+    pub fn whole(alloc: Global, stop: FailedCheck) -> Result<SmallFailedCheck, AllocError>
+        ensures { IfOk result (λ s. s ≡ stop) }
     {
-        match Box::new(alloc, stop) {
-            Ok(stop) => SmallFailedCheck {
-                held: Stored::Whole(stop),
-            },
-            Err(_) => wanted(),
-        }
+        let held = Stored::Whole(Box::new(alloc, stop)?);
+        Ok(SmallFailedCheck { held })
     }
 
     /// Returns how the failed check is stored.

@@ -105,9 +105,6 @@ impl TurnCounts {
     pub fn of_actor(&self, by: By) -> u64
         ensures { result ≡ counted_in (arc_value self.now.base) self.now.since.items by }
     {
-        match listed_turns(by, &self.since) {
-            Some(turns) => turns,
-            None => self.base.of(by),
-        }
+        listed_turns(by, &self.since).unwrap_or_else(|| self.base.of(by))
     }
 }

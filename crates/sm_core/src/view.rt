@@ -108,23 +108,20 @@ impl View {
         requires { Kept places journal.now.history turns.now state.now [] }
         ensures { IfOk result (λ v. v ≡ record { places = places; history = journal.now.history }) }
     {
-        let principals = Arc::new(alloc, state.principals.copy(alloc)?)?;
-        let services = Arc::new(alloc, state.names.services().copy(alloc, 0)?)?;
-        let turn_counts = TurnCounts::of(alloc, turns)?;
         Ok(View {
             alloc,
             places,
             length: journal.length(),
-            principals,
-            services,
-            turn_counts,
+            principals: Arc::new(alloc, state.principals.copy(alloc)?)?,
+            services: Arc::new(alloc, state.names.services().copy(alloc, 0)?)?,
+            turn_counts: TurnCounts::of(alloc, turns)?,
             journal: Snapshot::of(journal),
             next: None,
         })
     }
 
-    /// Returns the view after a ready event is committed. `journal` is the present segment, `turns` are its counts. Parts
-    /// that the event doesn't change are shared with this view, which is of the present state.
+    /// Returns the view after a ready event is committed. `journal` is the present segment, `turns` are its counts.
+    /// Parts that the event doesn't change are shared with this view, which is of the present state.
     pub(crate) fn after(
         &self,
         journal: &Journal,
@@ -138,16 +135,14 @@ impl View {
             (λ v. v ≡ record { places = self.now.places; history = entered ready.now.entry self.now.history }) }
     {
         let alloc = self.alloc;
-        let principals = next_principals(alloc, &self.principals, &ready.effects)?;
-        let services = next_services(alloc, &self.services, &ready.effects)?;
-        let turn_counts = self.turn_counts.after(alloc, turns, ready.entry.by)?;
+        let effects = ready.effects.as_slice();
         Ok(View {
             alloc,
             places: self.places,
             length: self.length + 1,
-            principals,
-            services,
-            turn_counts,
+            principals: next_principals(alloc, &self.principals, effects)?,
+            services: next_services(alloc, &self.services, effects)?,
+            turn_counts: self.turn_counts.after(alloc, turns, ready.entry.by)?,
             journal: Snapshot::of(journal),
             next: Some(Snapshot::of(&ready.entry)),
         })
@@ -160,17 +155,13 @@ impl View {
         requires turns { (by : By) → change_count turns.now by ≡ turn_of (sealed self.now.history) by }
         ensures { IfOk result (λ v. v ≡ record { places = self.now.places; history = journal.now.history }) }
     {
-        let alloc = self.alloc;
-        let principals = Arc::try_clone(&self.principals)?;
-        let services = Arc::try_clone(&self.services)?;
-        let turn_counts = TurnCounts::of(alloc, turns)?;
         Ok(View {
-            alloc,
+            alloc: self.alloc,
             places: self.places,
             length: self.length,
-            principals,
-            services,
-            turn_counts,
+            principals: Arc::try_clone(&self.principals)?,
+            services: Arc::try_clone(&self.services)?,
+            turn_counts: TurnCounts::of(self.alloc, turns)?,
             journal: Snapshot::of(journal),
             next: None,
         })
@@ -197,8 +188,7 @@ impl View {
     pub fn look(&self, by: By, query: Query) -> Reply
         ensures { Looks self.now by query result }
     {
-        let (reply, _records) = self.look_recorded(by, query);
-        reply
+        self.look_recorded(by, query).0
     }
 
     /// As `look`, and returns the audit records of the query, oldest first.

@@ -34,9 +34,7 @@ impl Manager {
         ensures { IsRuled (moment_in self.now) notes.old notes.new Binder perm who.now.who
             (manager_at (effects_in self.now)).context None result }
     {
-        let manager = &self.state.principals.manager;
-        let access = self.access();
-        access.to_process(who, manager, Class::Binder, perm, notes)
+        self.check_to_client(who, &self.state.principals.manager, perm, notes)
     }
 
     /// Checks a permission of Binder from the manager to a process.
@@ -50,9 +48,7 @@ impl Manager {
         ensures { IsRuled (moment_in self.now) notes.old notes.new Binder perm
             (manager_at (effects_in self.now)) who.now.who.context None result }
     {
-        let manager = &self.state.principals.manager;
-        let access = self.access();
-        access.to_process(manager, who, Class::Binder, perm, notes)
+        self.check_to_client(&self.state.principals.manager, who, perm, notes)
     }
 
     /// Checks a permission of Binder from a process to another one.
@@ -68,8 +64,8 @@ impl Manager {
         ensures { IsRuled (moment_in self.now) notes.old notes.new Binder perm who.now.who
             other.now.who.context None result }
     {
-        let access = self.access();
-        access.to_process(who, other, Class::Binder, perm, notes)
+        self.access()
+            .to_process(who, other, Class::Binder, perm, notes)
     }
 
     /// Returns the label of a name.

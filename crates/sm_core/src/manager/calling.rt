@@ -17,10 +17,11 @@ ghost use Rattle.sm_core.specs.Calling.{Sends, gives_of, passing_checks, target_
 ghost use Rattle.sm_core.specs.Managed.{effects_in, moment_in};
 
 use crate::client::LiveClient;
+use crate::effect_list::EffectList;
 use crate::manager::Manager;
 use crate::notes::Notes;
 use crate::plan::Plan;
-use crate::small_failed_check::{Plain, SmallFailedCheck, wanted};
+use crate::small_failed_check::{Plain, SmallFailedCheck};
 use sm_history::{BoxedDelivery, Delivery, Effect, Failure, Given, GivenRefs, Message, Outcome};
 use sm_kinds::{Identity, Node, ObjRef, Payload, Perms, Refs};
 use std::alloc::{AllocError, Global};
@@ -124,17 +125,9 @@ impl Manager {
         ensures { Judged self.now.book.history notes.old notes.new row.now.id
             (Call handle payload.now refs.now) result }
     {
-        let target = match self.judge_target(row, handle, notes) {
-            Ok(target) => target,
-            Err(stop) => return Err(stop),
-        };
-        let named = match self.judge_references(row, target.owner.0, refs.list(), notes) {
-            Ok(named) => named,
-            Err(stop) => return Err(stop),
-        };
-        let Ok(nodes) = foreign(self.alloc, target.owner.0, named.as_slice()) else {
-            return Err(wanted());
-        };
+        let target = self.judge_target(row, handle, notes)?;
+        let named = self.judge_references(row, target.owner.0, refs.list(), notes)?;
+        let nodes = foreign(self.alloc, target.owner.0, named.as_slice())?;
         if !self.has_room(target.owner.0, nodes.as_slice()) {
             return Err(SmallFailedCheck::unmet(Plain::Failed(Failure::TargetFull)));
         }
@@ -163,9 +156,7 @@ impl Manager {
         let Some(owner) = self.client_row(node.owner.0) else {
             return Err(SmallFailedCheck::unmet(Plain::Dead));
         };
-        if let Err(stop) = self.check_to_client(&row.process, &owner.process, Perms::CALL, notes) {
-            return Err(stop);
-        }
+        self.check_to_client(&row.process, &owner.process, Perms::CALL, notes)?;
         Ok(node)
     }
 
@@ -188,13 +179,8 @@ impl Manager {
     {
         let mut named = Vec::new(self.alloc);
         for obj in refs {
-            let node = match self.judge_passed(row, receiver, *obj, notes) {
-                Ok(node) => node,
-                Err(stop) => return Err(stop),
-            };
-            if named.push(node).is_err() {
-                return Err(wanted());
-            }
+            let node = self.judge_passed(row, receiver, *obj, notes)?;
+            named.push(node)?;
         }
         Ok(named)
     }
@@ -218,8 +204,7 @@ impl Manager {
     {
         match obj {
             ObjRef::Null => Ok(None),
-            ObjRef::Own(_) => self.judge_named(row, receiver, self.resolved(row.id, obj), notes),
-            ObjRef::Handle(_) => self.judge_named(row, receiver, self.resolved(row.id, obj), notes),
+            _ => self.judge_named(row, receiver, self.resolved(row.id, obj), notes),
         }
     }
 
@@ -285,36 +270,20 @@ impl Manager {
             (λ s. s ≡ spec.wanted) }
     {
         let owner = target.owner.0;
-        let Ok(numbers) = self.numbers(owner, nodes) else {
-            return Err(wanted());
-        };
-        let Ok(mut effects) = gives(self.alloc, owner, nodes, numbers.as_slice()) else {
-            return Err(wanted());
-        };
-        let Ok(given) = given(self.alloc, owner, named, numbers.as_slice()) else {
-            return Err(wanted());
-        };
-        let Ok(delivery) = delivery(self.alloc, &row.process.who, target.object, payload, given)
-        else {
-            return Err(wanted());
-        };
-        let Ok(outcome) = delivery.clone() else {
-            return Err(wanted());
-        };
-        let Ok(told) = delivery.clone() else {
-            return Err(wanted());
-        };
-        let delivers = Effect::Delivers {
+        let numbers = self.numbers(owner, nodes)?;
+        let mut effects = gives(self.alloc, owner, nodes, numbers.as_slice())?;
+        let given = given(self.alloc, owner, named, numbers.as_slice())?;
+        let delivery = delivery(self.alloc, &row.process.who, target.object, payload, given)?;
+        let outcome = Outcome::Sent(delivery.clone()?);
+        let told = Outcome::Sent(delivery.clone()?);
+        effects.push(Effect::Delivers {
             client: owner,
             delivery,
-        };
-        if effects.push(delivers).is_err() {
-            return Err(wanted());
-        }
+        })?;
         Ok(Plan {
-            outcome: Outcome::Sent(outcome),
-            told: Outcome::Sent(told),
-            effects,
+            outcome,
+            told,
+            effects: EffectList::many(effects),
             records: Notes::none(self.alloc),
         })
     }

@@ -17,8 +17,7 @@ impl Manager {
     pub fn look(&self, by: By, query: Query) -> Reply
         ensures { Looks self.now.book by query result }
     {
-        let (reply, _records) = self.answered(by, &query);
-        reply
+        self.answered(by, &query).0
     }
 
     /// As `look`, and returns the records of the query.

@@ -16,12 +16,13 @@ ghost use Rattle.sm_core.specs.Notifications.{Tells};
 ghost use Rattle.sm_core.specs.Managed.{effects_in, moment_in};
 ghost use Rattle.sm_core.specs.Tables.{IsLabel};
 
+use crate::effect_list::EffectList;
 use crate::manager::Manager;
 use crate::manager::replying::reason;
 use crate::notes::Notes;
-use crate::notifications::{Notifications, boxed_twice, listed_twice};
+use crate::notifications::{Notifications, shared_notice, shared_notices};
 use crate::plan::Plan;
-use crate::small_failed_check::{Plain, SmallFailedCheck, wanted};
+use crate::small_failed_check::{Plain, SmallFailedCheck};
 use sm_history::{Effect, Failure, Given, Notice, Outcome, Told, Watch};
 use sm_kinds::{ClientId, Name, Node, Perms};
 use sm_policy::Label;
@@ -55,10 +56,7 @@ impl Manager {
             }
             return Some(Given::Own(node.object));
         }
-        match self.number_for(client, node) {
-            Some(number) => Some(Given::Handle(number)),
-            None => None,
-        }
+        Some(Given::Handle(self.number_for(client, node)?))
     }
 
     /// Returns the number of deliveries for which a client's inbox still has room.
@@ -97,10 +95,7 @@ impl Manager {
         if left == 0 {
             return Err(full());
         }
-        match self.given_to(watch.client, node) {
-            Some(given) => Ok(given),
-            None => Err(full()),
-        }
+        self.given_to(watch.client, node).ok_or_else(full)
     }
 
     /// Notifies a watcher, or finds why it may not be notified.
@@ -122,14 +117,11 @@ impl Manager {
     {
         let left = self.left(notifications, watch.client);
         match self.judge_told(watch, node, label, left, &mut notifications.records) {
-            Ok(given) => match notifications.tell(self.alloc, watch, node, given, left) {
-                Ok(told) => Ok(Told::Told(told)),
-                Err(_) => Err(wanted()),
-            },
-            Err(stop) => match reason(self.alloc, stop) {
-                Ok(reason) => Ok(Told::NotTold(reason)),
-                Err(stop) => Err(stop),
-            },
+            Ok(given) => {
+                let told = notifications.tell(self.alloc, watch, node, given, left)?;
+                Ok(Told::Told(told))
+            }
+            Err(stop) => Ok(Told::NotTold(reason(self.alloc, stop)?)),
         }
     }
 
@@ -178,11 +170,8 @@ impl Manager {
     {
         let mut notices = Vec::new(self.alloc);
         for watch in watches {
-            if notices.reserve(1).is_err() {
-                return Err(wanted());
-            }
             let notice = self.notify(watch, node, label, notifications)?;
-            notices.push_reserved(notice);
+            notices.push(notice)?;
         }
         Ok(notices)
     }
@@ -215,13 +204,11 @@ impl Manager {
         let mut notifications = Notifications::behind(self.alloc, effects);
         let label = self.label(watch.name.bytes());
         let notice = self.notify(watch, node, label, &mut notifications)?;
-        let Ok((outcome, told)) = boxed_twice(self.alloc, notice) else {
-            return Err(wanted());
-        };
+        let (outcome, told) = shared_notice(self.alloc, notice)?;
         Ok(Plan {
             outcome: Outcome::Watched(Some(outcome)),
             told: Outcome::Watched(Some(told)),
-            effects: notifications.effects,
+            effects: EffectList::many(notifications.effects),
             records: notifications.records,
         })
     }
@@ -250,13 +237,11 @@ impl Manager {
         let mut notifications = Notifications::behind(self.alloc, effects);
         let watchers = self.watchers(name.bytes());
         let notices = self.notify_all(watchers, node, label, &mut notifications)?;
-        let Ok((outcome, told)) = listed_twice(self.alloc, notices) else {
-            return Err(wanted());
-        };
+        let (outcome, told) = shared_notices(self.alloc, notices)?;
         Ok(Plan {
             outcome: Outcome::Added(outcome),
             told: Outcome::Added(told),
-            effects: notifications.effects,
+            effects: EffectList::many(notifications.effects),
             records: notifications.records,
         })
     }

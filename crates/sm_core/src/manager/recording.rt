@@ -7,7 +7,6 @@ ghost use Rattle.sm_history.specs.Records.{records};
 use crate::manager::Manager;
 use crate::manager::replying::is_wanted;
 use crate::notes::Notes;
-use crate::plan::Plan;
 use sm_history::{By, Event, Record};
 use std::alloc::AllocError;
 
@@ -27,15 +26,7 @@ impl Manager {
     {
         let mut notes = Notes::none(self.alloc);
         match self.judge(by, turn, event, &mut notes) {
-            Ok(plan) => {
-                let Plan {
-                    outcome: _,
-                    told: _,
-                    effects: _,
-                    records,
-                } = plan;
-                notes.and(records)
-            }
+            Ok(plan) => notes.and(plan.records),
             Err(stop) => {
                 if is_wanted(&stop) {
                     return Err(AllocError);

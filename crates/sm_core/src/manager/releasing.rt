@@ -9,8 +9,6 @@ ghost use Rattle.sm_core.specs.Judging.{Judged};
 ghost use Rattle.sm_core.specs.Managed.{effects_in};
 
 use crate::manager::Manager;
-use crate::manager::judging::one;
-use crate::notes::Notes;
 use crate::plan::Plan;
 use crate::small_failed_check::{Plain, SmallFailedCheck};
 use sm_history::{Effect, Failure, Outcome};
@@ -25,12 +23,7 @@ impl Manager {
         let Some(node) = self.resolved(client, ObjRef::Handle(handle)) else {
             return Err(SmallFailedCheck::unmet(Plain::Failed(Failure::BadHandle)));
         };
-        let effects = one(self.alloc, Effect::Releases { client, node })?;
-        Ok(Plan {
-            outcome: Outcome::Released,
-            told: Outcome::Released,
-            effects,
-            records: Notes::none(self.alloc),
-        })
+        let releases = Effect::Releases { client, node };
+        Ok(Plan::quiet(self.alloc, releases, Outcome::Released, Outcome::Released))
     }
 }

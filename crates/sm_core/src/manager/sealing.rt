@@ -28,10 +28,8 @@ impl Manager {
             (λ r. StaysOpen self.old.book r self.new.book) }
         ensures ring { self.new.ring ≡ self.old.ring }
     {
-        match self.ready_seal() {
-            Ok(ready) => Ok(self.commit_seal(ready)),
-            Err(refusal) => Err(refusal),
-        }
+        let ready = self.ready_seal()?;
+        Ok(self.commit_seal(ready))
     }
 
     /// Makes all allocations of a seal.
@@ -48,10 +46,7 @@ impl Manager {
         if self.journal.len() == 0 {
             return Err(Refusal::Empty);
         }
-        match self.opened_next() {
-            Ok(ready) => Ok(ready),
-            Err(_) => Err(Refusal::Memory),
-        }
+        self.opened_next().map_err(|_| Refusal::Memory)
     }
 
     /// Makes the next segment, and the counts that it begins with.

@@ -10,10 +10,8 @@ ghost use Rattle.sm_core.specs.Judging.{Judged};
 ghost use Rattle.sm_core.specs.Managed.{effects_in};
 
 use crate::manager::Manager;
-use crate::manager::judging::one;
-use crate::notes::Notes;
 use crate::plan::Plan;
-use crate::small_failed_check::{Plain, SmallFailedCheck, wanted};
+use crate::small_failed_check::{Plain, SmallFailedCheck};
 use sm_history::{BoxedDelivery, Effect, Outcome};
 
 impl Manager {
@@ -34,18 +32,8 @@ impl Manager {
         let Some(oldest) = self.oldest(client) else {
             return Err(SmallFailedCheck::unmet(Plain::Empty));
         };
-        let Ok(outcome) = oldest.clone() else {
-            return Err(wanted());
-        };
-        let Ok(told) = oldest.clone() else {
-            return Err(wanted());
-        };
-        let effects = one(self.alloc, Effect::Takes { client })?;
-        Ok(Plan {
-            outcome: Outcome::Taken(outcome),
-            told: Outcome::Taken(told),
-            effects,
-            records: Notes::none(self.alloc),
-        })
+        let outcome = Outcome::Taken(oldest.clone()?);
+        let told = Outcome::Taken(oldest.clone()?);
+        Ok(Plan::quiet(self.alloc, Effect::Takes { client }, outcome, told))
     }
 }

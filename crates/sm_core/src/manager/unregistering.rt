@@ -13,10 +13,9 @@ ghost use Rattle.sm_core.specs.Managed.{effects_in, moment_in};
 
 use crate::client::LiveClient;
 use crate::manager::Manager;
-use crate::manager::judging::one;
 use crate::notes::Notes;
 use crate::plan::Plan;
-use crate::small_failed_check::{Plain, SmallFailedCheck, wanted};
+use crate::small_failed_check::{Plain, SmallFailedCheck};
 use sm_history::{Effect, Exception, Outcome};
 use sm_kinds::{Name, Node, ObjRef, Perms};
 
@@ -42,19 +41,12 @@ impl Manager {
     {
         self.check_to_manager(&row.process, Perms::CALL, notes)?;
         let node = self.judge_reference(row, obj, notes)?;
-        if let Err(stop) = self.judge_removal(row, name, node, notes) {
-            return Err(stop);
-        }
-        let Ok(copy) = name.clone() else {
-            return Err(wanted());
+        self.judge_removal(row, name, node, notes)?;
+        let removes = Effect::Removes {
+            name: name.clone()?,
         };
-        let effects = one(self.alloc, Effect::Removes { name: copy })?;
-        Ok(Plan {
-            outcome: Outcome::Unregistered,
-            told: Outcome::Unregistered,
-            effects,
-            records: Notes::none(self.alloc),
-        })
+        let outcome = Outcome::Unregistered;
+        Ok(Plan::quiet(self.alloc, removes, outcome, Outcome::Unregistered))
     }
 
     /// Checks that the caller may remove an object from a name.

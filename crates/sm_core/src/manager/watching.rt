@@ -1,6 +1,6 @@
 //! Watches of names.
 
-ghost use Rattle.std.specs.Prelude.{◌≡◌, ◌≤◌, true, length, count_by, nat_lt, MatchResult};
+ghost use Rattle.std.specs.Prelude.{◌≡◌, ◌≤◌, true, length, count_by, nat_lt, IfOk, MatchResult};
 ghost use Rattle.std.specs.List.{list_any};
 ghost use Rattle.sm_history.specs.declared.event.Event.TheVariants.{Unwatch, Watch as WatchName};
 ghost use Rattle.sm_history.specs.Clients.{is_live};
@@ -10,40 +10,27 @@ ghost use Rattle.sm_history.specs.declared.limits.TheConstants.{MOST_WATCHES};
 ghost use Rattle.sm_history.specs.Verdict.{watch_checks};
 ghost use Rattle.sm_core.specs.Tables.{client_row};
 ghost use Rattle.sm_core.specs.Judging.{AllPass, Halts, Judged};
-ghost use Rattle.sm_core.specs.Judging as spec;
 ghost use Rattle.sm_core.specs.Managed.{effects_in, moment_in};
 
 use crate::client::LiveClient;
 use crate::manager::Manager;
-use crate::manager::judging::one;
 use crate::notes::Notes;
 use crate::plan::Plan;
-use crate::small_failed_check::{Plain, SmallFailedCheck, wanted};
+use crate::small_failed_check::{Plain, SmallFailedCheck};
 use sm_history::{Denial, Effect, Exception, MOST_WATCHES, Outcome, Watch, WatchPair};
 use sm_kinds::{Name, Perms, is_isolated, valid_name};
+use std::alloc::AllocError;
 
 /// Makes the watch of a name by a client's object.
-fn watch_of(client: u32, name: &Name, object: u32) -> Result<Watch, SmallFailedCheck>
-    ensures { MatchResult result (λ w. w ≡ watch client name.now object) (λ s. s ≡ spec.wanted) }
+fn watch_of(client: u32, name: &Name, object: u32) -> Result<Watch, AllocError>
+    ensures { IfOk result (λ w. w ≡ watch client name.now object) }
 {
-    match name.clone() {
-        Ok(name) => Ok(Watch {
-            client,
-            name,
-            object,
-        }),
-        Err(_) => Err(wanted()),
-    }
-}
-
-/// Makes the watch and its copy.
-fn pair_of(client: u32, name: &Name, object: u32) -> Result<WatchPair, SmallFailedCheck>
-    ensures { MatchResult result (λ w. w ≡ watch client name.now object) (λ s. s ≡ spec.wanted) }
-{
-    match WatchPair::new(client, name, object) {
-        Ok(made) => Ok(made),
-        Err(_) => Err(wanted()),
-    }
+    let name = name.clone()?;
+    Ok(Watch {
+        client,
+        name,
+        object,
+    })
 }
 
 impl Manager {
@@ -59,21 +46,16 @@ impl Manager {
         requires row { row.now ≡ client_row (effects_in self.now) row.now.id }
         ensures { Judged self.now.book.history notes.old notes.new row.now.id (WatchName name.now object) result }
     {
-        if let Err(stop) = self.judge_watching(row, name, notes) {
-            return Err(stop);
-        }
+        self.judge_watching(row, name, notes)?;
+        let made = WatchPair::new(row.id, name, object)?;
+        let watches = Effect::Watches(made);
+        let Some(service) = self.service(name.bytes()) else {
+            let outcome = Outcome::Watched(None);
+            return Ok(Plan::quiet(self.alloc, watches, outcome, Outcome::Watched(None)));
+        };
         let watch = watch_of(row.id, name, object)?;
-        let made = pair_of(row.id, name, object)?;
-        let effects = one(self.alloc, Effect::Watches(made))?;
-        match self.service(name.bytes()) {
-            Some(service) => self.plan_watched(&watch, service.node, effects),
-            None => Ok(Plan {
-                outcome: Outcome::Watched(None),
-                told: Outcome::Watched(None),
-                effects,
-                records: Notes::none(self.alloc),
-            }),
-        }
+        let effects = vec![in self.alloc; watches]?;
+        self.plan_watched(&watch, service.node, effects)
     }
 
     /// Checks that a client may watch a name.
@@ -95,7 +77,7 @@ impl Manager {
         self.check_to_label(&row.process, name, Perms::FIND, notes)?;
         if is_isolated(row.process.who.uid) {
             let denial = Denial::Isolated(row.process.who.uid);
-            return Err(self.access().barred(denial, &row.process.who, name, notes));
+            return Err(self.access().barred(denial, &row.process.who, name, notes)?);
         }
         if !valid_name(name.bytes()) {
             return Err(SmallFailedCheck::unmet(Plain::Exception(Exception::InvalidName)));
@@ -133,14 +115,9 @@ impl Manager {
             return Err(SmallFailedCheck::unmet(Plain::Exception(Exception::NothingToUnregister)));
         }
         let ended = self.watching(row.id, name.bytes(), object);
-        let watch = watch_of(row.id, name, object)?;
-        let effects = one(self.alloc, Effect::Unwatches(watch))?;
-        Ok(Plan {
-            outcome: Outcome::Unwatched(ended),
-            told: Outcome::Unwatched(ended),
-            effects,
-            records: Notes::none(self.alloc),
-        })
+        let unwatches = Effect::Unwatches(watch_of(row.id, name, object)?);
+        let outcome = Outcome::Unwatched(ended);
+        Ok(Plan::quiet(self.alloc, unwatches, outcome, Outcome::Unwatched(ended)))
     }
 
     /// Returns whether a client's object watches a name.

@@ -2,7 +2,7 @@ use Rattle.std.proofs.Common.{◌≡◌, ◌+◌, ◌⊎◌, inl, inr, true, dro
 use Rattle.std.specs.List.{list_any}
 use Rattle.sm_history.specs.Clients.{is_connect_of}
 use Rattle.sm_inbox.specs.Tracking.{is_open}
-use Rattle.sm_core.proofs.HandedOver.{further_at}
+use Rattle.sm_core.proofs.ListSteps.{further_at}
 use Rattle.sm_core.proofs.handing.reserve_inboxes.Goals as goal
 
 pub returns-in_err-reserve_inbox-clause-same : goal.returns-in_err-reserve_inbox-clause-same
@@ -17,7 +17,7 @@ loop-effect-preserved c = record {
       (list_any (is_connect_of k) (drop (c.loop-effect.effect-index + 1) c.args.effects.now) ≡ true)) [
         | inl o ↦ inl (c.reserve_inbox.ensures.still k o)
         | inr rest ↦
-            elim (further_at (is_connect_of k) c.args.effects.now c.loop-effect.effect-index c.effect-item.result _
+            elim (further_at (is_connect_of k) c.args.effects.now c.loop-effect.effect-index c.effect-item.result
             c.effect-item.is (search rules) rest) as (λ s. (is_open c.reserve_inbox.new.inboxes k ≡ true) ⊎
             (list_any (is_connect_of k) (drop (c.loop-effect.effect-index + 1) c.args.effects.now) ≡ true)) [
               | inl here ↦ inl (c.in_ok-reserve_inbox.ensures.room k here)

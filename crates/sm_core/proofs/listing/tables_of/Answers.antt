@@ -8,14 +8,15 @@ use Rattle.sm_core.proofs.listing.tables_of.Goals as goal
 
 pub returns : goal.returns
 returns c d s = record {
-  manager = c.in_ok-who.ensures.cases ∙ ap (λ (p : Process). p.who) s.principals.manager;
-  policy = c.in_ok-policy.ensures.same ∙ s.principals.policy;
+  manager = c.in_ok-clone.ensures.cases ∙ ap (λ (p : Process). p.who) s.principals.manager;
+  policy = c.in_ok-share.ensures.same ∙ s.principals.policy;
   version = s.principals.version;
   clients = before_next c.args.state.now.next (clients_made d) c.saturating_sub.result s.next
       c.saturating_sub.ensures;
-  live = tracks_clients d c.args.state.now.principals.clients.items c.in_ok-live.live.items s.principals.clients
-      (subst (λ (rs : List LiveClient). AreListed d rs c.in_ok-live.live.items) c.deref.ensures.value
-      (c.in_ok-live.ensures d s.grants s.inboxes));
-  names = c.in_ok-names.ensures d (c.services.ensures d s.names);
-  watches = c.in_ok-watches.ensures d s.names;
+  live = tracks_clients d c.args.state.now.principals.clients.items c.in_ok-listed_clients.field-0.items
+      s.principals.clients
+      (subst (λ (rs : List LiveClient). AreListed d rs c.in_ok-listed_clients.field-0.items) c.deref.ensures.value
+      (c.in_ok-listed_clients.ensures d s.grants s.inboxes));
+  names = c.in_ok-listed.ensures d (c.services.ensures d s.names);
+  watches = c.in_ok-listed_watches.ensures d s.names;
 }

@@ -1,11 +1,10 @@
-use Rattle.std.proofs.Common.{◌≡◌, sym, subst, rules}
+use Rattle.std.proofs.Common.{◌≡◌, rules}
 use Rattle.std.specs.Arc.{arc_value}
 use Rattle.std.proofs.lemmas.Result.{IfOk-weaker}
 use Rattle.sm_history.specs.Effects.{Effects}
 use Rattle.sm_history.specs.Following.{MayAllApart, followed}
 use Rattle.sm_history.specs.Sound.{Sound}
 use Rattle.sm_core.specs.Stands.{StandPrincipals}
-use Rattle.sm_core.specs.declared.principals.Principals.{Principals}
 use Rattle.sm_core.proofs.Viewing.{principals_stay}
 use Rattle.sm_core.proofs.view.next_principals.Goals as goal
 
@@ -16,5 +15,4 @@ returns-then-not-moves_any_principals c =
     IfOk-weaker c.try_clone.result (λ p. arc_value p ≡ last)
     (λ p. (d : Effects) → Sound d → StandPrincipals d last → MayAllApart d xs
     → StandPrincipals (followed d xs) (arc_value p))
-    (λ p is d sound s m. subst (λ (q : Principals). StandPrincipals (followed d xs) q) (sym is)
-    (principals_stay xs d last (search rules) s)) c.try_clone.ensures
+    (λ p is d sound s m. rw is (principals_stay xs d last (search rules) s)) c.try_clone.ensures

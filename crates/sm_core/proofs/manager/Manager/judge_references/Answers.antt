@@ -1,20 +1,22 @@
-use Rattle.std.proofs.Common.{◌≡◌, ◌+◌, ◌∷◌, [], ◌++◌, drop, get_or, ap, ◌∙◌, suc, arith, rules}
-use Rattle.std.proofs.Math.Seq.{drop-cons}
-use Rattle.std.proofs.lemmas.List.{drop_all}
+use Rattle.std.proofs.Common.{◌≡◌, ◌+◌, ◌∷◌, [], ◌++◌, drop, get_or, rules}
+use Rattle.std.proofs.lemmas.List.{drop_all, drop_more}
+use Rattle.std.proofs.lemmas.Result.{err_from_is_err_and}
 use Rattle.sm_kinds.specs.declared.number.ObjRef.TheVariants.{Own}
 use Rattle.sm_history.specs.Histories.{effects_of}
 use Rattle.sm_history.specs.Records.{moment_of}
 use Rattle.sm_core.proofs.CallChecks.{halts_left, left_behind, names_on, all_named}
 use Rattle.sm_core.proofs.manager.Manager.judge_references.Goals as goal
 
-pub returns-in-Err : goal.returns-in-Err
-returns-in-Err c =
+pub returns-in_err-node : goal.returns-in_err-node
+returns-in_err-node c =
     let m = moment_of c.args.self.now.book.history in
     let d = effects_of c.args.self.now.book.history in
     let i = c.loop-obj.obj-index in
     let rs = c.args.refs.now in
-    halts_left m _ _ _ d c.args.row.now.id c.args.receiver rs (drop i rs) (drop (suc i) rs) (get_or rs i (Own 0))
-    c.in-Err.stop c.loop-obj.invariant.passed (drop-cons rs i (Own 0) c.loop-obj-test.true) c.in-Err.ensures
+    let p = err_from_is_err_and c.from_residual.result c.from_residual.ensures.1 in
+    rw (p.1, p.2) (halts_left m _ _ _ d c.args.row.now.id c.args.receiver rs (drop i rs) (drop (i + 1) rs) (get_or rs
+    i (Own 0)) c.in_err-node.field-0.0 c.loop-obj.invariant.passed (drop_more rs i (Own 0) c.loop-obj-test.true)
+    c.in_err-node.ensures)
 
 pub loop-obj-preserved : goal.loop-obj-preserved
 loop-obj-preserved c =
@@ -24,15 +26,13 @@ loop-obj-preserved c =
     let i = c.loop-obj.obj-index in
     let rs = c.args.refs.now in
     let r = get_or rs i (Own 0) in
-    let one : suc i ≡ i + 1 = omega arith in
-    let left : drop i rs ≡ r ∷ drop (i + 1) rs = drop-cons rs i (Own 0) c.loop-obj-test.true ∙
-    ap (λ n. r ∷ drop n rs) one in
-    let more : c.push.new.self.items ≡ c.loop-obj.named.items ++ c.in-Ok.node ∷ [] = search rules in
+    let left = drop_more rs i (Own 0) c.loop-obj-test.true in
+    let more : c.push.new.self.items ≡ c.loop-obj.named.items ++ c.in_ok-node.node ∷ [] = search rules in
     record {
       passed = left_behind m _ _ _ d k c.args.receiver rs (drop i rs) (drop (i + 1) rs) r
-          c.loop-obj.invariant.passed left c.in-Ok.ensures.0;
-      names = names_on d k rs (drop i rs) (drop (i + 1) rs) r c.in-Ok.node c.loop-obj.named.items c.push.new.self.items
-          c.loop-obj.invariant.names left more c.in-Ok.ensures.1 c.in-Ok.ensures.2;
+          c.loop-obj.invariant.passed left c.in_ok-node.ensures.0;
+      names = names_on d k rs (drop i rs) (drop (i + 1) rs) r c.in_ok-node.node c.loop-obj.named.items
+          c.push.new.self.items c.loop-obj.invariant.names left more c.in_ok-node.ensures.1 c.in_ok-node.ensures.2;
     }
 
 pub returns : goal.returns

@@ -1,20 +1,6 @@
-use Rattle.std.proofs.Common.{inr, refl, ap, sym}
-use Rattle.sm_history.specs.Histories.{effects_of}
-use Rattle.sm_history.specs.Records.{moment_of}
-use Rattle.sm_core.specs.declared.client.LiveClient.{LiveClient}
-use Rattle.sm_core.proofs.CallChecks.{target_stops}
+use Rattle.std.proofs.Common.{inr, refl, sym}
 use Rattle.sm_core.proofs.manager.Manager.judge_target.Goals as goal
 
 pub returns-in_default-client_row : goal.returns-in_default-client_row
 returns-in_default-client_row c =
     inr (rw (sym c.in-Some.ensures, c.in_default-client_row.ensures, c.unmet-in_default-client_row.ensures) refl)
-
-pub returns-in-Err : goal.returns-in-Err
-returns-in-Err c =
-    let m = moment_of c.args.self.now.book.history in
-    let d = effects_of c.args.self.now.book.history in
-    let who = ap (λ (r : LiveClient). r.process.who) c.requires in
-    let other = ap (λ (r : LiveClient). r.process.who) c.in-Some-client_row.ensures.1 in
-    rw (sym c.in-Some.ensures)
-    (target_stops m _ _ d c.args.row.now.id c.in-Some.node c.in-Err.stop c.in-Some-client_row.ensures.0
-    (rw (who, other) at c.in-Err.ensures))

@@ -1,4 +1,4 @@
-use Rattle.std.proofs.Common.{ℕ, List, ap, ◌∙◌, refl, rules, count_by}
+use Rattle.std.proofs.Common.{ℕ, List, ap, ◌∙◌, rules, count_by}
 use Rattle.sm_history.specs.declared.outcome.Outcome.TheVariants.{Unwatched}
 use Rattle.sm_history.specs.Histories.{effects_of, watch}
 use Rattle.sm_history.specs.Services.{same_watch, watches_at}
@@ -13,8 +13,9 @@ returns c =
     let name = c.args.name.now in
     let object = c.args.object in (
       search rules,
-      unwatch_plan (moment_of c.args.self.now.book.history) d k name object c.in_ok-watch.watch _ (search rules)
-          c.in_ok-watch.ensures c.requires.live c.in_ok-effects.ensures
-          (ap (λ (n : ℕ). Unwatched n) (c.watching-ended.ensures
-          ∙ ap (λ (v : List ℕ). count_by (same_watch (watch k v object)) (watches_at d)) c.bytes-2.ensures)) refl,
+      unwatch_plan (moment_of c.args.self.now.book.history) d k name object c.in_ok-watch_of.field-0 _
+          c.quiet.ensures.records c.in_ok-watch_of.ensures c.requires.live c.quiet.ensures.effects
+          (c.quiet.ensures.outcome ∙ ap (λ (n : ℕ). Unwatched n) (c.watching-ended.ensures
+          ∙ ap (λ (v : List ℕ). count_by (same_watch (watch k v object)) (watches_at d)) c.bytes-2.ensures))
+          (search rules),
     )

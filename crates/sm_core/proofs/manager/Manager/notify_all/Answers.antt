@@ -1,12 +1,11 @@
-use Rattle.std.proofs.Common.{List, [], ◌∷◌, ◌++◌, ◌+◌, ap, ◌∙◌, drop}
-use Rattle.sm_history.specs.declared.notice.Notice.{Notice}
+use Rattle.std.proofs.Common.{◌+◌, drop, rules}
 use Rattle.sm_history.specs.declared.effect.Watch.{Watch}
 use Rattle.sm_history.specs.Clients.{is_live}
 use Rattle.sm_history.specs.Histories.{effects_of}
 use Rattle.sm_history.specs.Following.{followed}
 use Rattle.sm_history.specs.Records.{moment_of}
-use Rattle.sm_core.proofs.NotifyingAll.{records_further, one_further, live_further, notices_further}
-use Rattle.sm_core.proofs.NotifyingAll.{after_further}
+use Rattle.sm_core.proofs.NotifyingAll.{records_further, live_further, notices_further, after_further}
+use Rattle.sm_core.proofs.ListSteps.{rest_from}
 use Rattle.sm_core.proofs.manager.Manager.notify_all.Goals as goal
 
 pub notify-requires-clause-live : goal.notify-requires-clause-live
@@ -14,7 +13,7 @@ notify-requires-clause-live c =
     let d = effects_of c.args.self.now.book.history in
     (live_further (λ (w : Watch). is_live d w.client) (drop c.loop-watch.watch-index c.args.watches.now)
     (drop (c.loop-watch.watch-index + 1) c.args.watches.now) c.watch-item.result
-    (one_further c.args.watches.now c.loop-watch.watch-index c.watch-item.result c.watch-item.is c.loop-watch-test.true)
+    (rest_from c.args.watches.now c.loop-watch.watch-index c.watch-item.result c.watch-item.is c.loop-watch-test.true)
     c.loop-watch.invariant.live).0
 
 pub loop-watch-preserved : goal.loop-watch-preserved
@@ -23,7 +22,7 @@ loop-watch-preserved c =
     let ws = c.args.watches.now in
     let i = c.loop-watch.watch-index in
     let w = c.watch-item.result in
-    let is = one_further ws i w c.watch-item.is c.loop-watch-test.true in
+    let is = rest_from ws i w c.watch-item.is c.loop-watch-test.true in
     let on = c.in_ok-notice.ensures.1 in
     record {
       live = (live_further (λ (w : Watch). is_live d w.client) (drop i ws) (drop (i + 1) ws) w is
@@ -31,10 +30,9 @@ loop-watch-preserved c =
       notifications = on.notifications;
       notices = notices_further (followed d c.loop-watch.notifications.effects.items)
           (followed d c.notify.new.notifications.effects.items) c.args.node (drop i ws) (drop (i + 1) ws) w
-          c.loop-watch.notices.items c.push_reserved.new.self.items _ c.in_ok-notice.notice is c.in_ok-notice.ensures.0
+          c.loop-watch.notices.items c.push.new.self.items _ c.in_ok-notice.notice is c.in_ok-notice.ensures.0
           on.after
-          (c.push_reserved.ensures.items
-          ∙ ap (λ (xs : List Notice). xs ++ c.in_ok-notice.notice ∷ []) c.reserve.ensures.items)
+          (search rules)
           c.loop-watch.invariant.notices;
       records = records_further (moment_of c.args.self.now.book.history)
           (followed d c.loop-watch.notifications.effects.items)

@@ -34,7 +34,7 @@ returns c =
     subst (λ (m : Managed). IsReadySeal m (record { journal = c.in_ok-journal.journal; turns = c.in_ok-turns.turns }))
     c.self.view_is (record {
       some = some;
-      opens = c.in_ok-journal.ensures
+      opens = c.in_ok-journal.ensures.history
           ∙ ap (λ (n : ℕ). journal_segment (n + 1) c.in_ok-opening.opening []) c.number.ensures
           ∙ ap (λ (o : Opening). journal_segment (h.number + 1) o []) opening;
       turns = turns_sealed h c.self.inside.turns c.in_ok-turns.turns c.self.inside.state.principals.clients.items

@@ -4,7 +4,7 @@ use Rattle.sm_core.proofs.manager.Manager.prepare.Goals as goal
 
 pub make_room-requires : goal.make_room-requires
 make_room-requires c =
-    rw c.deref-2.ensures.value (numbers_planned c.args.self.now.book c.args.self.now.state c.self.inside.turns
+    rw c.as_slice.ensures (numbers_planned c.args.self.now.book c.args.self.now.state c.self.inside.turns
     c.self.inside.ring c.args.by c.args.turn c.args.event c.args.plan
     (rw (← c.self.view_is) c.self.invariant) c.requires.pass c.requires.plan)
 

@@ -1,9 +1,6 @@
 use Rattle.std.proofs.Common.{◌≡◌, List, subst, ◌∙◌}
 use Rattle.std.specs.Prelude.{IfOk}
 use Rattle.sm_history.specs.declared.records.Record.{Record}
-use Rattle.sm_history.specs.Records.{moment_of}
-use Rattle.sm_history.specs.Verdict.{checks}
-use Rattle.sm_core.specs.Judging.{Halts, AllPass}
 use Rattle.sm_core.proofs.Keeping.{done_records}
 use Rattle.sm_core.proofs.Looking.{event_left, not_wanted}
 use Rattle.sm_core.proofs.manager.Manager.step_records.Goals as goal
@@ -13,17 +10,12 @@ returns-in-Ok c =
     let b = c.args.self.now.book in
     subst (λ (rs : List Record). IfOk c.and.result (λ v. v.items ≡ rs))
     (done_records b.places b.history c.args.by c.args.turn c.args.event.now c.judge.new.notes c.in-Ok.plan.records
-    (subst (λ (old : List Record). AllPass (moment_of b.history) old c.judge.new.notes
-    (checks b.places b.history c.args.by c.args.turn c.args.event.now)) c.none-notes.ensures c.in-Ok.ensures.0)
-    c.in-Ok.ensures.1.records)
-    c.and.ensures
+    (rw c.none-notes.ensures at c.in-Ok.ensures.0) c.in-Ok.ensures.1.records) c.and.ensures
 
 pub returns-else-is_wanted : goal.returns-else-is_wanted
 returns-else-is_wanted c =
     let b = c.args.self.now.book in
     c.into_list.ensures
     ∙ event_left b.places b.history c.args.by c.args.turn c.args.event.now c.judge.new.notes c.in-Err.stop
-    (subst (λ (old : List Record). Halts (moment_of b.history) old c.judge.new.notes
-    (checks b.places b.history c.args.by c.args.turn c.args.event.now) c.in-Err.stop) c.none-notes.ensures
-    c.in-Err.ensures)
+    (rw c.none-notes.ensures at c.in-Err.ensures)
     (not_wanted c.is_wanted.result c.in-Err.stop c.is_wanted.ensures c.if-is_wanted.false)

@@ -1,6 +1,6 @@
-use Rattle.std.proofs.Common.{◌≡◌, ◌+◌, ◌∷◌, drop, ap, ◌∙◌, rules, suc, arith}
-use Rattle.std.proofs.Math.Seq.{drop-cons}
+use Rattle.std.proofs.Common.{◌+◌, drop, arith}
 use Rattle.sm_core.specs.Stands.{StandPrincipals}
+use Rattle.sm_core.proofs.ListSteps.{rest_from}
 use Rattle.sm_core.proofs.Numbers.{sets_first}
 use Rattle.sm_core.proofs.Viewing.{goes_on}
 use Rattle.sm_core.proofs.principals.Principals.after.Goals as goal
@@ -10,10 +10,7 @@ follow-requires c =
     let i = c.loop-effect.effect-index in
     let xs = c.args.effects.now in
     let x = c.effect-item.result in
-    let one : suc i ≡ i + 1 = omega arith in
-    let left : drop i xs ≡ x ∷ drop (i + 1) xs =
-    drop-cons xs i x c.loop-effect-test.true ∙ ap (λ y. y ∷ drop (suc i) xs) (search rules)
-    ∙ ap (λ n. x ∷ drop n xs) one in
+    let left = rest_from xs i x c.effect-item.is c.loop-effect-test.true in
     let s = rw left at c.loop-effect.invariant.small in
     let first = sets_first x (drop (i + 1) xs) in
     omega (arith, s, first)
@@ -23,10 +20,7 @@ loop-effect-preserved c =
     let i = c.loop-effect.effect-index in
     let xs = c.args.effects.now in
     let x = c.effect-item.result in
-    let one : suc i ≡ i + 1 = omega arith in
-    let left : drop i xs ≡ x ∷ drop (i + 1) xs =
-    drop-cons xs i x c.loop-effect-test.true ∙ ap (λ y. y ∷ drop (suc i) xs) (search rules)
-    ∙ ap (λ n. x ∷ drop n xs) one in
+    let left = rest_from xs i x c.effect-item.is c.loop-effect-test.true in
     record {
       small =
           let s = rw left at c.loop-effect.invariant.small in

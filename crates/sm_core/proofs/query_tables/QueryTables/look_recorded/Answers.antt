@@ -1,8 +1,4 @@
-use Rattle.std.proofs.Common.{rules, List, subst, ◌∙◌}
-use Rattle.sm_history.specs.declared.records.Record.{Record}
-use Rattle.sm_history.specs.Queries.{checks_of_query}
-use Rattle.sm_history.specs.Records.{moment_of}
-use Rattle.sm_core.specs.Judging.{Halts, AllPass}
+use Rattle.std.proofs.Common.{rules, ◌∙◌}
 use Rattle.sm_core.proofs.Looking.{found_leaves, look_stops, query_passed, stop_leaves}
 use Rattle.sm_core.proofs.query_tables.QueryTables.look_recorded.Goals as goal
 
@@ -12,16 +8,13 @@ returns-in-Ok-clause-records c =
     found_leaves b c.args.by c.args.query.now _ _ _ _ _
     (c.into_list.ensures
     ∙ query_passed b.history c.args.by c.args.query.now c.judge_query.new.notes
-    (subst (λ (old : List Record). AllPass (moment_of b.history) old c.judge_query.new.notes
-    (checks_of_query b.history c.args.by c.args.query.now)) c.none-notes.ensures c.in-Ok.ensures.judged.0))
-    c.looked.ensures
+    (rw c.none-notes.ensures at c.in-Ok.ensures.judged.0)) c.looked.ensures
 
 pub returns-else-is_memory-clause-looks : goal.returns-else-is_memory-clause-looks
 returns-else-is_memory-clause-looks c =
     let b = c.args.self.now in
     look_stops b c.args.by c.args.query.now c.judge_query.new.notes c.in-Err.stop c.answer-reply.result
-    (subst (λ (old : List Record). Halts (moment_of b.history) old c.judge_query.new.notes
-    (checks_of_query b.history c.args.by c.args.query.now) c.in-Err.stop) c.none-notes.ensures c.in-Err.ensures.judged)
+    (rw c.none-notes.ensures at c.in-Err.ensures.judged)
     c.answer-reply.ensures.answers c.answer-reply.ensures.unmet c.in-Err.ensures.asker
 
 pub returns-else-is_memory-clause-records : goal.returns-else-is_memory-clause-records
@@ -29,6 +22,4 @@ returns-else-is_memory-clause-records c =
     let b = c.args.self.now in
     c.into_list-in-Err.ensures
     ∙ stop_leaves b c.args.by c.args.query.now c.judge_query.new.notes c.in-Err.stop c.answer-reply.result
-    (subst (λ (old : List Record). Halts (moment_of b.history) old c.judge_query.new.notes
-    (checks_of_query b.history c.args.by c.args.query.now) c.in-Err.stop) c.none-notes.ensures c.in-Err.ensures.judged)
-    c.answer-reply.ensures.answers (search rules)
+    (rw c.none-notes.ensures at c.in-Err.ensures.judged) c.answer-reply.ensures.answers (search rules)

@@ -1,5 +1,4 @@
-use Rattle.std.proofs.Common.{ℕ, ◌-◌, ◌==◌, List, refl, ap}
-use Rattle.std.proofs.Common.{map}
+use Rattle.std.proofs.Common.{ℕ, ◌-◌, ◌==◌, List, refl, ap, map}
 use Rattle.std.specs.Prelude.{nat_lt, slice_index_or}
 use Rattle.sm_history.specs.declared.by.By.TheVariants.{Manager, Client, Admin}
 use Rattle.std.specs.List.{list_any}
@@ -11,9 +10,9 @@ pub returns-clause-turns : goal.returns-clause-turns
 returns-clause-turns c Manager = refl
 returns-clause-turns c (Client k) =
     sealed_client (nat_lt k.0 c.args.next) (list_any (λ n. n == k.0) (ids c.args.live.now)) _ _
-    (change_count c.args.self.now (Client k)) (c.in_ok-older.ensures k.0)
+    (change_count c.args.self.now (Client k)) (c.in_ok-of_live.ensures k.0)
     (ap (λ (ns : List ℕ). slice_index_or ns (k.0 - c.args.next) 0) c.new.ensures.items)
-returns-clause-turns c (Admin a) = c.in_ok-admins.ensures.gets a.0
+returns-clause-turns c (Admin a) = c.in_ok-same_admins.ensures.gets a.0
 
 pub returns-clause-admins : goal.returns-clause-admins
-returns-clause-admins c = ap (λ (ks : List ℕ). map admin_of ks) c.in_ok-admins.ensures.keys
+returns-clause-admins c = ap (λ (ks : List ℕ). map admin_of ks) c.in_ok-same_admins.ensures.keys
