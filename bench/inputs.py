@@ -167,6 +167,16 @@ def versions(requests: int) -> Lines:
         yield "1 version"
 
 
+# Lines outside the grammar: an unknown word, a missing field, no client's number, a name that can't be decoded.
+MALFORMED = ("1 frobnicate activity", "1 add activity o1 0", "first get activity", "1 get %zz")
+
+
+def malformed(requests: int) -> Lines:
+    yield f"hello 100 1000 {SERVER}"
+    for n in range(requests):
+        yield MALFORMED[n % len(MALFORMED)]
+
+
 def clients(count: int) -> Lines:
     for n in range(count):
         yield f"hello {100 + n} {1000 + n} {SERVER if n == 0 else APPLICATION}"
@@ -287,6 +297,8 @@ def all_inputs(seed: int) -> Iterator[Input]:
         yield Input("check: wide neverallow rules", n, lambda n=n: wide_policy(1, n, seed), wide_contexts)
     for n in (200_000, 400_000, 800_000):
         yield run_input("run: versions", n, n, lambda n=n: versions(n))
+    for n in (200_000, 400_000, 800_000):
+        yield run_input("run: malformed lines", n, n, lambda n=n: malformed(n))
     for n in (200_000, 400_000, 800_000):
         yield run_input("run: mixed requests", n, n, lambda n=n: mixed(n, seed))
     for n in (1000, 2000, 4000):
