@@ -162,7 +162,8 @@ impl Gathered {
         ensures added { IfOk result (λ done. (s t : ℕ) → s < count
             → in_gathered self.new s t ≡ (in_gathered self.old s t || joins s t rule.now)) }
     {
-        let many = count.get() / BATCH;
+        // With few types, a rule has few sources.
+        let many = (count.get() / BATCH).max(BATCH);
         if rule.sources.weight() >= many {
             return self.add_to_batch(alloc, rule, count);
         }
