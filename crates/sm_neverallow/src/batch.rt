@@ -1,6 +1,6 @@
 //! Up to eight rules whose targets go into the rows of their sources together.
 
-ghost use Rattle.std.specs.Prelude.{◌≡◌, ◌<◌, ◌≤◌, ◌+◌, ◌*◌, ◌/◌, ℕ, length, ◌&&◌, ◌||◌, if◌then◌else◌, IfOk, false};
+ghost use Rattle.std.specs.Prelude.{◌≡◌, ◌<◌, ◌≤◌, ◌+◌, ◌*◌, ◌/◌, ◌^◌, ℕ, length, ◌&&◌, ◌||◌, if◌then◌else◌, IfOk, false};
 ghost use Rattle.std.specs.Prelude.{nat_lt, slice_index};
 ghost use Rattle.sm_bits.specs.Bits.{has, row};
 ghost use Rattle.sm_rules.specs.Keeping.{FitsRule};
@@ -19,25 +19,22 @@ pub const BATCH: usize = 8;
 /// The most unions at which a batch still takes a rule, which doubles them: those of seven rules.
 const MOST_UNIONS: usize = 128;
 
-/// Returns the index of a union for a source when a rule doubles the unions.
-fn moved(place: usize, joined: bool, weight: usize) -> usize
-    requires place { place < weight }
-    requires weight { weight ≤ 128 }
-    ensures { result ≡ place + (if joined then weight else 0) }
-{
-    if joined { place + weight } else { place }
-}
-
 /// Moves the indexes of the sources of a rule to the unions that have its targets.
 fn move_places(places: &mut [usize], sources: &SharedSet, weight: usize)
     requires sources { length places.old ≤ 64 * length sources.now }
+    requires few { length sources.now < 2 ^ 32 }
     requires places { (s : ℕ) → s < length places.old → slice_index places.old s < weight }
     requires weight { weight ≤ 128 }
     ensures { (s : ℕ) → s < length places.old → slice_index places.new s
         ≡ slice_index places.old s + (if has sources.now s then weight else 0) }
 {
-    for s in 0..places.len() {
-        places[s] = moved(places[s], sources.has(s), weight);
+    let mut from = 0;
+    while let Some(s) = sources.next(from) {
+        if s >= places.len() {
+            return;
+        }
+        places[s] += weight;
+        from = s + 1;
     }
 }
 
