@@ -1,3 +1,4 @@
+pub mod Layers
 pub mod Doubling
 pub mod Rows
 pub mod Groups

@@ -1,5 +1,5 @@
 -- Rows of bits for pairs of types: for each source, its targets.
-use Rattle.std.specs.Prelude.{◌≡◌, ℕ, Bool, true, false, ◌&&◌, ◌||◌, ◌+◌, ◌/◌, ◌%◌, ◌<◌, nat_eq, List, [], length}
+use Rattle.std.specs.Prelude.{◌≡◌, ℕ, Bool, true, false, ◌&&◌, ◌||◌, ◌+◌, ◌/◌, ◌%◌, ◌<◌, nat_eq, List, [], length, Option, Some, None, replicate}
 use Rattle.std.specs.List.{list_any}
 use Rattle.std.proofs.Common.{get_or}
 use Rattle.sm_bits.specs.Bits.{has, row, has_bit}
@@ -18,6 +18,16 @@ matrix matrices b = get_or matrices b []
 pub record Square (rows : List (List ℕ)) (n : ℕ) : Type 0 where
   pub count : length rows ≡ n
   pub room : (s : ℕ) → s < n → length (row rows s) ≡ n / 64 + 1
+
+-- These are the rows of a matrix, or, if there is none, as many as this that are all this one.
+abbrev pub layered : ℕ → List ℕ → Option (List (List ℕ)) → List (List ℕ)
+layered count nothing (Some rows) = rows
+layered count nothing None = replicate count nothing
+
+-- The row has no bit, and room for each type.
+pub record IsNothing (count : ℕ) (row : List ℕ) : Type 0 where
+  pub room : length row ≡ count / 64 + 1
+  pub none : (t : ℕ) → has row t ≡ false
 
 -- The rows say what some rule covers for permission b.
 pub record Compiled (rules : List Kept) (count b : ℕ) (rows : List (List ℕ)) : Type 0 where

@@ -5,6 +5,7 @@
 mod batch;
 mod gathered;
 mod hits;
+mod layer;
 mod matrices;
 mod matrix;
 mod perm_sets;

@@ -1,6 +1,7 @@
 //! The pairs of types that rules of a policy source join, for each permission.
 
-use crate::matrix::{Matrix, matrices_of};
+use crate::layer::Layer;
+use crate::matrix::matrices_of;
 use sm_bits::BitRow;
 use sm_rules::Rules;
 use std::alloc::{AllocError, Global};
@@ -9,7 +10,7 @@ use std::marker::Model;
 /// A matrix of bits for each permission, in the order of bits.
 #[derive(Drop)]
 pub struct Matrices {
-    list: Vec<Matrix>,
+    list: Vec<Layer>,
 }
 
 impl Model for Matrices {
@@ -70,7 +71,7 @@ impl Matrices {
     }
 
     /// Returns the matrices, in the order of bits.
-    pub(crate) fn list(&self) -> &[Matrix]
+    pub(crate) fn list(&self) -> &[Layer]
         ensures { result.now ≡ self.now }
     {
         &self.list

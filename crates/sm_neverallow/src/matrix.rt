@@ -14,6 +14,7 @@ ghost use Rattle.sm_neverallow.specs.Hitting.{Unites, IsDiagonal, HaveTargets};
 ghost use Rattle.sm_neverallow.specs.Uniting.{AreWide, Doubled};
 
 use crate::gathered::{no_pairs, rows_of};
+use crate::layer::Layer;
 use crate::perm_sets::{SET_COUNT, sets_of};
 use crate::unions::Unions;
 use sm_bits::{BitRow, has_bit};
@@ -189,6 +190,28 @@ impl Matrix {
         Ok(Matrix { rows })
     }
 
+    /// Adds the pairs of another matrix.
+    pub fn add(&mut self, other: &Matrix, count: TypeCount)
+        requires square { Square self.old count }
+        requires other { Square other.now count }
+        ensures square { Square self.new count }
+        ensures added { (s t : ℕ) → s < count → has (row self.new s) t
+            ≡ (has (row self.old s) t || has (row other.now s) t) }
+    {
+        add_rows(&mut self.rows, &other.rows, count);
+    }
+
+    /// Returns a matrix of the same pairs.
+    pub fn copy(&self, alloc: Global, count: TypeCount) -> Result<Matrix, AllocError>
+        requires { Square self.now count }
+        ensures square { IfOk result (λ m. Square m count) }
+        ensures same { IfOk result (λ m. (s t : ℕ) → s < count → has (row m s) t ≡ has (row self.now s) t) }
+    {
+        let mut copy = Matrix::empty(alloc, count)?;
+        copy.add(self, count);
+        Ok(copy)
+    }
+
     /// Adds the pairs of another matrix, if permission `bit` is one of the set.
     pub fn add_for(&mut self, other: &Matrix, count: TypeCount, set: u8, bit: u32)
         requires bit { bit < 8 }
@@ -206,7 +229,7 @@ impl Matrix {
     /// Returns the matrix of the pairs that some permission of the set has.
     pub fn union_of(
         alloc: Global,
-        matrices: &[Matrix],
+        matrices: &[Layer],
         count: TypeCount,
         set: u8,
     ) -> Result<Matrix, AllocError>
@@ -216,7 +239,7 @@ impl Matrix {
     {
         let mut joined = Matrix::empty(alloc, count)?;
         for bit in 0..PERM_COUNT {
-            joined.add_for(&matrices[bit as usize], count, set, bit);
+            matrices[bit as usize].add_to(&mut joined, count, set, bit);
         }
         Ok(joined)
     }
@@ -276,35 +299,42 @@ impl Matrix {
 }
 
 /// A matrix of no pair for each permission.
-fn empty_matrices(alloc: Global, count: TypeCount) -> Result<Vec<Matrix>, AllocError>
+fn empty_matrices(alloc: Global, count: TypeCount) -> Result<Vec<Layer>, AllocError>
     ensures { IfOk result (λ m. AllCompiled [] count 7 m.items) }
 {
     let mut matrices = Vec::new(alloc);
     for _ in 0..PERM_COUNT {
-        let matrix = Matrix::empty(alloc, count)?;
+        let matrix = Layer::none(alloc, count)?;
         matrices.push(matrix)?;
     }
     Ok(matrices)
 }
 
 /// Adds the pairs of a matrix to the matrix of each permission of the set.
-fn join_group(matrices: &mut Vec<Matrix>, group: &Matrix, count: TypeCount, set: u8)
+fn join_group(
+    alloc: Global,
+    matrices: &mut Vec<Layer>,
+    group: &Matrix,
+    count: TypeCount,
+    set: u8,
+) -> Result<(), AllocError>
     requires number { length matrices.old.items ≡ 7 }
     requires square { AllSquare matrices.old.items count }
     requires group { Square group.now count }
-    ensures { Joined matrices.old.items matrices.new.items count set
-        (λ s t. has (row group.now s) t) }
+    ensures { IfOk result (λ done. Joined matrices.old.items matrices.new.items count set
+        (λ s t. has (row group.now s) t)) }
 {
     for bit in 0..PERM_COUNT {
         let matrix = &mut matrices[bit as usize];
-        matrix.add_for(group, count, set, bit);
+        matrix.add_for(alloc, group, count, set, bit)?;
     }
+    Ok(())
 }
 
 /// Adds what the rules with exactly the permissions `set` join, for each of these permissions.
 fn add_set(
     alloc: Global,
-    matrices: &mut Vec<Matrix>,
+    matrices: &mut Vec<Layer>,
     rules: &[Kept],
     sets: &BitRow,
     count: TypeCount,
@@ -322,8 +352,7 @@ fn add_set(
         return Ok(());
     }
     let group = Matrix::compile(alloc, rules, count, set)?;
-    join_group(matrices, &group, count, set);
-    Ok(())
+    join_group(alloc, matrices, &group, count, set)
 }
 
 /// A matrix for each permission.
@@ -331,7 +360,7 @@ pub fn matrices_of(
     alloc: Global,
     rules: &[Kept],
     count: TypeCount,
-) -> Result<Vec<Matrix>, AllocError>
+) -> Result<Vec<Layer>, AllocError>
     requires fits { All (FitsRule count) rules.now }
     ensures { IfOk result (λ m. AllCompiled rules.now count 7 m.items) }
 {

@@ -13,6 +13,7 @@ ghost use Rattle.sm_neverallow.specs.Violating.{IsFirstViolation};
 ghost use Rattle.sm_rules.specs.declared.kept.Kept.{Kept as TheKept};
 
 use crate::hits::first_hit;
+use crate::layer::Layer;
 use crate::matrices::Matrices;
 use crate::matrix::Matrix;
 use crate::perm_sets::{SET_COUNT, sets_of};
@@ -165,7 +166,7 @@ fn first_of(allows: &[Kept], never: &Kept, count: TypeCount) -> Option<Violation
 /// something that the matrices have, or `end` if none does.
 fn first_broken_of(
     alloc: Global,
-    matrices: &[Matrix],
+    matrices: &[Layer],
     neverallows: &[Kept],
     sets: &BitRow,
     count: TypeCount,
@@ -198,7 +199,7 @@ fn first_broken_of(
 /// permission of the set has.
 fn first_broken(
     alloc: Global,
-    matrices: &[Matrix],
+    matrices: &[Layer],
     neverallows: &[Kept],
     count: TypeCount,
 ) -> Result<Option<usize>, AllocError>
@@ -228,7 +229,7 @@ fn first_broken(
 /// Returns the first violation: that of the first broken neverallow rule, by the first allow rule that breaks it.
 fn first_among(
     alloc: Global,
-    matrices: &[Matrix],
+    matrices: &[Layer],
     allows: &[Kept],
     neverallows: &[Kept],
     count: TypeCount,

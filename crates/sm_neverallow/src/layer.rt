@@ -1,0 +1,115 @@
+//! For a permission, which sources have which targets; for most permissions no rule says so.
+
+ghost use Rattle.std.specs.Prelude.{◌≡◌, ◌<◌, ◌/◌, ◌+◌, ℕ, length, false, ◌&&◌, ◌||◌, IfOk};
+ghost use Rattle.sm_bits.specs.Bits.{has, row, has_bit};
+ghost use Rattle.sm_neverallow.specs.Matrices.{Square};
+
+use crate::matrix::Matrix;
+use sm_bits::{BitRow, has_bit};
+use sm_types::TypeCount;
+use std::alloc::{AllocError, Global};
+use std::marker::Model;
+
+/// The matrix of a permission, if some rule gives it. Contracts see the list of its rows.
+#[derive(Drop)]
+pub struct Layer {
+    matrix: Option<Matrix>,
+    count: usize,
+    /// The row of each source, if there is no matrix.
+    nothing: BitRow,
+}
+
+impl Model for Layer {
+    ghost use Rattle.std.specs.Prelude.{List, ℕ};
+    ghost use Rattle.sm_neverallow.specs.Matrices.{IsNothing, layered};
+
+    ghost Value = { List (List ℕ) };
+
+    ghost view = { λ l. layered l.count l.nothing l.matrix };
+
+    ghost invariant = { λ l. IsNothing l.count l.nothing };
+}
+
+impl Layer {
+    /// Returns the pairs of no rule.
+    #[tactic(auto, using(crate::proofs::Layers::no_square, crate::proofs::Layers::no_pair))]
+    pub fn none(alloc: Global, count: TypeCount) -> Result<Layer, AllocError>
+        ensures square { IfOk result (λ m. Square m count) }
+        ensures none { IfOk result (λ m. (s t : ℕ) → has (row m s) t ≡ false) }
+    {
+        let nothing = BitRow::empty(alloc, count.words())?;
+        Ok(Layer {
+            matrix: None,
+            count: count.get(),
+            nothing,
+        })
+    }
+
+    /// Adds the pairs of a matrix.
+    fn add(&mut self, alloc: Global, other: &Matrix, count: TypeCount) -> Result<(), AllocError>
+        requires square { Square self.old count }
+        requires other { Square other.now count }
+        ensures square { IfOk result (λ done. Square self.new count) }
+        ensures added { IfOk result (λ done. (s t : ℕ) → s < count → has (row self.new s) t
+            ≡ (has (row self.old s) t || has (row other.now s) t)) }
+    {
+        match &mut self.matrix {
+            Some(matrix) => {
+                matrix.add(other, count);
+                Ok(())
+            }
+            None => {
+                let copy = other.copy(alloc, count)?;
+                self.matrix = Some(copy);
+                Ok(())
+            }
+        }
+    }
+
+    /// Adds the pairs of a matrix, if permission `bit` is one of the set.
+    pub fn add_for(
+        &mut self,
+        alloc: Global,
+        other: &Matrix,
+        count: TypeCount,
+        set: u8,
+        bit: u32,
+    ) -> Result<(), AllocError>
+        requires bit { bit < 8 }
+        requires square { Square self.old count }
+        requires other { Square other.now count }
+        ensures square { IfOk result (λ done. Square self.new count) }
+        ensures added { IfOk result (λ done. (s t : ℕ) → s < count → has (row self.new s) t
+            ≡ (has (row self.old s) t || (has_bit set bit && has (row other.now s) t))) }
+    {
+        if !has_bit(set, bit) {
+            return Ok(());
+        }
+        self.add(alloc, other, count)
+    }
+
+    /// Adds the pairs to a matrix, if permission `bit` is one of the set.
+    pub fn add_to(&self, matrix: &mut Matrix, count: TypeCount, set: u8, bit: u32)
+        requires bit { bit < 8 }
+        requires square { Square self.now count }
+        requires matrix { Square matrix.old count }
+        ensures square { Square matrix.new count }
+        ensures added { (s t : ℕ) → s < count → has (row matrix.new s) t
+            ≡ (has (row matrix.old s) t || (has_bit set bit && has (row self.now s) t)) }
+    {
+        if let Some(own) = &self.matrix {
+            matrix.add_for(own, count, set, bit);
+        }
+    }
+
+    /// Returns the targets of a source.
+    pub fn targets(&self, source: usize) -> &BitRow
+        requires { source < length self.now }
+        ensures { result.now ≡ row self.now source }
+    {
+        match &self.matrix {
+            Some(matrix) => matrix.targets(source),
+            None => &self.nothing,
+        }
+    }
+}
