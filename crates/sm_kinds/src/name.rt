@@ -103,6 +103,13 @@ impl Names {
         Ok(())
     }
 
+    /// Removes all names.
+    pub fn clear(&mut self)
+        ensures { self.new ≡ [] }
+    {
+        self.list.clear();
+    }
+
     /// Returns the names in their order.
     pub fn list(&self) -> &[Name]
         ensures { result.now ≡ self.now }

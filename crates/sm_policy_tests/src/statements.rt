@@ -162,11 +162,11 @@ fn skipped_statements(rt: HostRuntime) {
 /// Whether a rule has the sets of the rule in the test below.
 fn is_of_sets(rule: &Rule) -> bool {
     rule.is_kept()
-        && rule.source.all
-        && rule.source.minus.contains(b"a")
-        && rule.target.complement
+        && rule.source.has_star()
+        && rule.source.minus().contains(b"a")
+        && rule.target.is_complement()
         && rule.class.selects(b"binder")
-        && rule.perm.all
+        && rule.perm.has_star()
 }
 
 #[test]

@@ -6,7 +6,7 @@ use Rattle.std.proofs.lemmas.Bool.{and_right}
 use Rattle.sm_kinds.specs.Permissions.{perm_of}
 use Rattle.sm_kinds.specs.declared.class.Class.{Class}
 use Rattle.sm_kinds.specs.declared.perms.Perms.{Perms}
-use Rattle.sm_ruletext.specs.Sets.{is_kept}
+use Rattle.sm_ruletext.specs.Kept.{is_kept}
 use Rattle.sm_ruletext.specs.declared.rule.Rule.{Rule}
 use Rattle.sm_ruletext.specs.declared.statement.RuleKind.{RuleKind}
 use Rattle.sm_ruletext.specs.declared.statement.RuleKind.TheVariants.{Dontaudit}

@@ -4,3 +4,4 @@ pub mod Lines
 pub mod Consistent
 pub mod Undeclared
 pub mod Permitting
+mod Memoed

@@ -9,7 +9,8 @@ use Rattle.sm_kinds.specs.Permissions.{class_word, perm_of}
 use Rattle.sm_kinds.specs.declared.class.Class.{Class}
 use Rattle.sm_kinds.specs.declared.class.Class.TheVariants.{ServiceManager, Binder}
 use Rattle.sm_kinds.specs.declared.perms.Perms.{Perms}
-use Rattle.sm_ruletext.specs.Sets.{selects, is_kept}
+use Rattle.sm_ruletext.specs.Sets.{selects}
+use Rattle.sm_ruletext.specs.Kept.{is_kept}
 use Rattle.sm_ruletext.specs.declared.rule.Rule.{Rule}
 use Rattle.sm_ruletext.specs.declared.statement.RuleKind.TheVariants.{Allow}
 use Rattle.sm_ruletext.specs.declared.statement.Statement.{Statement}

@@ -6,7 +6,7 @@ use Rattle.sm_kinds.specs.Permissions.{class_word, perm_of}
 use Rattle.sm_kinds.specs.declared.class.Class.{Class}
 use Rattle.sm_kinds.specs.declared.perms.Perms.{Perms}
 use Rattle.sm_ruletext.specs.Sets.{selects}
-use Rattle.sm_ruletext.specs.declared.set.Set.{Set}
+use Rattle.sm_ruletext.specs.Items.{Set}
 use Rattle.sm_ruletext.specs.declared.rule.Rule.{Rule}
 use Rattle.sm_ruletext.specs.declared.statement.RuleKind.{RuleKind}
 use Rattle.sm_ruletext.specs.declared.statement.RuleKind.TheVariants.{Allow, Neverallow, Dontaudit}

@@ -4,8 +4,9 @@ use Rattle.std.specs.List.{list_all}
 use Rattle.std.specs.Option.{option_or}
 use Rattle.sm_kinds.specs.Permissions.{class_word, class_read, is_permission}
 use Rattle.sm_kinds.specs.declared.class.Class.TheVariants.{ServiceManager, Binder}
-use Rattle.sm_ruletext.specs.Sets.{selects, is_kept}
-use Rattle.sm_ruletext.specs.declared.set.Set.{Set}
+use Rattle.sm_ruletext.specs.Sets.{selects}
+use Rattle.sm_ruletext.specs.Kept.{is_kept}
+use Rattle.sm_ruletext.specs.Items.{Set}
 use Rattle.sm_ruletext.specs.declared.rule.Rule.{Rule}
 use Rattle.sm_ruletext.specs.declared.statement.What.{What}
 use Rattle.sm_ruletext.specs.declared.statement.What.TheVariants as what

@@ -2,3 +2,4 @@ pub mod Access
 pub mod Faults
 pub mod Keeping
 pub mod Pooling
+pub mod Memoed

@@ -10,10 +10,12 @@ ghost use Rattle.sm_types.specs.Members.{IsOf};
 ghost use Rattle.sm_rules.specs.Faults.{UnlessMemory, first_fault, permissive_fault, fault_of};
 ghost use Rattle.sm_rules.specs.Keeping.{FitsRules, Extends, Permits, SaysPermissive, rule_in, rules_in, list_of};
 ghost use Rattle.sm_rules.specs.Keeping.{AllStandFor};
+ghost use Rattle.sm_rules.specs.Memoed.{IsRight};
 ghost use Rattle.sm_rules.specs.Pooling.{HasMembers};
 
 use crate::RulesFault;
 use crate::kept::{Kept, keep};
+use crate::memo::Memo;
 use crate::row_pool::RowPool;
 use sm_bits::BitRow;
 use sm_kinds::Name;
@@ -56,10 +58,12 @@ fn add_statement(
     alloc: Global,
     types: &Types,
     pool: &mut RowPool,
+    memo: &mut Memo,
     draft: &mut Draft,
     statement: &Statement,
 ) -> Result<(), RulesFault>
     requires members { HasMembers types.now pool.old }
+    requires memo { IsRight types.now memo.old }
     requires room { length draft.old.permissive ≡ length types.now.symbols.types / 64 + 1 }
     ensures refused { IfErr result (λ e. UnlessMemory e ((policy : List TheStatement)
         → IsOf policy types.now
@@ -74,6 +78,7 @@ fn add_statement(
         → Permits types.now.symbols.types statement.now.what draft.old.permissive draft.new.permissive) }
     ensures same { length draft.new.permissive ≡ length draft.old.permissive }
     ensures pool { pool.new ≡ pool.old }
+    ensures memo { IfOk result (λ done. IsRight types.now memo.new) }
     ensures few { IfOk result (λ done. length draft.new.allows.items + length draft.new.neverallows.items
         ≤ length draft.old.allows.items + length draft.old.neverallows.items + 1) }
     ensures fits { FitsRules (length types.now.symbols.types)
@@ -84,7 +89,7 @@ fn add_statement(
     let line = statement.line;
     match &statement.what {
         What::Rule(kind, rule) if rule.is_kept() => {
-            let kept = keep(alloc, types, pool, line, rule)?;
+            let kept = keep(alloc, types, pool, memo, line, rule)?;
             match kind {
                 RuleKind::Allow => Ok(draft.allows.push(kept)?),
                 RuleKind::Neverallow => Ok(draft.neverallows.push(kept)?),
@@ -120,8 +125,9 @@ pub fn all_rules(
         permissive: BitRow::empty(alloc, types.type_count().words())?,
     };
     let mut pool = RowPool::new(alloc, types)?;
+    let mut memo = Memo::new(alloc);
     for statement in statements {
-        add_statement(alloc, types, &mut pool, &mut draft, statement)?;
+        add_statement(alloc, types, &mut pool, &mut memo, &mut draft, statement)?;
     }
     Ok(draft)
 }

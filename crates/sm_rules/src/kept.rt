@@ -11,17 +11,19 @@ ghost use Rattle.sm_types.specs.Members.{IsOf};
 ghost use Rattle.sm_rules.specs.Faults as spec;
 ghost use Rattle.sm_rules.specs.Faults.{UnlessMemory, rule_fault};
 ghost use Rattle.sm_rules.specs.Keeping.{joins, covers, FitsRule, StandsFor};
+ghost use Rattle.sm_rules.specs.Memoed.{Denotes, Grants, IsRight};
 ghost use Rattle.sm_rules.specs.Pooling.{HasMembers};
 ghost use Rattle.sm_rules.specs.declared.fault.RulesFault.TheVariants.{Unknown};
 
 use crate::RulesFault;
+use crate::memo::Memo;
 use crate::perm_bits::perms_of;
 use crate::row_pool::RowPool;
 use sm_bits::{SharedSet, has_bit};
 use sm_kinds::{Class, Names, Perms};
 use sm_ruletext::{Rule, Set};
 use sm_types::{Types, TypesFault};
-use std::alloc::Global;
+use std::alloc::{AllocError, Global};
 
 /// A kept rule: its types as numbers, its permissions as bits.
 #[derive(Drop)]
@@ -70,7 +72,8 @@ fn all_classes(names: &Names) -> bool
 fn is_open(set: &Set) -> bool
     ensures { result ≡ spec.is_open set.now }
 {
-    (set.all || set.complement) || !(all_classes(&set.plus) && all_classes(&set.minus))
+    (set.has_star() || set.is_complement())
+        || !(all_classes(set.plus()) && all_classes(set.minus()))
 }
 
 #[tactic(auto, unfolding(crate::specs::Faults::applies))]
@@ -91,11 +94,12 @@ fn all_apply(rule: &Rule, names: &Names) -> bool
 fn perms_known(rule: &Rule) -> bool
     ensures { result ≡ spec.perms_known rule.now }
 {
-    is_open(&rule.class) || (all_apply(rule, &rule.perm.plus) && all_apply(rule, &rule.perm.minus))
+    is_open(&rule.class)
+        || (all_apply(rule, rule.perm.plus()) && all_apply(rule, rule.perm.minus()))
 }
 
-/// Expands a set of types of the rule at a line.
-fn expand(
+/// Expands a set of types of the rule at a line anew.
+fn expand_new(
     alloc: Global,
     types: &Types,
     pool: &mut RowPool,
@@ -130,17 +134,66 @@ fn expand(
     }
 }
 
+/// Expands a set of types of the rule at a line, or finds the types of an equal one.
+fn expand(
+    alloc: Global,
+    types: &Types,
+    pool: &mut RowPool,
+    memo: &mut Memo,
+    line: u32,
+    set: &Set,
+) -> Result<SharedSet, RulesFault>
+    requires pool { HasMembers types.now pool.old }
+    requires memo { IsRight types.now memo.old }
+    ensures pool { pool.new ≡ pool.old }
+    ensures memo { IfOk result (λ row. IsRight types.now memo.new) }
+    ensures denoted { IfOk result (λ row. Denotes types.now set.now row) }
+    ensures unknown { IfErr result (λ e. UnlessMemory e ((e ≡ Unknown line)
+        × ((policy : List TheStatement) → IsOf policy types.now
+        → all_known policy set.now ≡ false))) }
+{
+    if let Some(known) = memo.row(set)? {
+        return Ok(known);
+    }
+    let row = expand_new(alloc, types, pool, line, set)?;
+    memo.keep_row(set, &row)?;
+    Ok(row)
+}
+
+/// Returns whether the permissions of a rule are known, and those that it grants.
+fn grants(
+    alloc: Global,
+    types: &Types,
+    memo: &mut Memo,
+    rule: &Rule,
+) -> Result<(bool, Perms), AllocError>
+    requires { IsRight types.now memo.old }
+    ensures grants { IfOk result (λ g. Grants rule.now g.0 g.1) }
+    ensures memo { IfOk result (λ g. IsRight types.now memo.new) }
+{
+    if let Some(known) = memo.grants(rule) {
+        return Ok(known);
+    }
+    let known = perms_known(rule);
+    let perms = perms_of(rule);
+    memo.keep_grants(alloc, rule, known, perms)?;
+    Ok((known, perms))
+}
+
 /// Expands the rule at a line: first its source, then its target, then its permissions.
 #[tactic(auto, unfolding(crate::specs::Faults::rule_fault))]
 pub fn keep(
     alloc: Global,
     types: &Types,
     pool: &mut RowPool,
+    memo: &mut Memo,
     line: u32,
     rule: &Rule,
 ) -> Result<Kept, RulesFault>
-    requires { HasMembers types.now pool.old }
+    requires pool { HasMembers types.now pool.old }
+    requires memo { IsRight types.now memo.old }
     ensures pool { pool.new ≡ pool.old }
+    ensures memo { IfOk result (λ k. IsRight types.now memo.new) }
     ensures refused { IfErr result (λ e. UnlessMemory e ((policy : List TheStatement)
         → IsOf policy types.now → rule_fault policy line rule.now ≡ Some e)) }
     ensures accepted { IfOk result (λ k. (policy : List TheStatement) → IsOf policy types.now
@@ -149,9 +202,10 @@ pub fn keep(
         → StandsFor policy types.now.symbols.types (line, rule.now) k) }
     ensures fits { IfOk result (λ k. FitsRule (length types.now.symbols.types) k) }
 {
-    let sources = expand(alloc, types, pool, line, &rule.source)?;
-    let targets = expand(alloc, types, pool, line, &rule.target)?;
-    if !perms_known(rule) {
+    let sources = expand(alloc, types, pool, memo, line, &rule.source)?;
+    let targets = expand(alloc, types, pool, memo, line, &rule.target)?;
+    let (known, perms) = grants(alloc, types, memo, rule)?;
+    if !known {
         return Err(RulesFault::UnknownPermission(line));
     }
     Ok(Kept {
@@ -159,6 +213,6 @@ pub fn keep(
         sources,
         targets,
         to_self: rule.to_self,
-        perms: perms_of(rule),
+        perms,
     })
 }

@@ -4,6 +4,7 @@
 mod draft;
 mod fault;
 mod kept;
+mod memo;
 mod perm_bits;
 mod plain;
 mod row_pool;

@@ -62,9 +62,9 @@ fn any_names(statements: &[Statement], name: &[u8], words: &Names) -> bool
 fn in_set(statements: &[Statement], set: &Set, name: &[u8]) -> bool
     ensures { result ≡ denoting.in_set statements.now set.now name.now }
 {
-    let among = (set.all || any_names(statements, name, &set.plus))
-        && !any_names(statements, name, &set.minus);
-    declares(statements, name) && (if set.complement { !among } else { among })
+    let among = (set.has_star() || any_names(statements, name, set.plus()))
+        && !any_names(statements, name, set.minus());
+    declares(statements, name) && (if set.is_complement() { !among } else { among })
 }
 
 #[tactic(auto, unfolding(crate::specs::Access::joins))]

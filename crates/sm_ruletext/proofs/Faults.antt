@@ -11,7 +11,7 @@ use Rattle.sm_ruletext.specs.declared.token.TokenKind.TheVariants.{Dash, Other}
 use Rattle.sm_ruletext.specs.declared.fault.RuleTextFault.{RuleTextFault}
 use Rattle.sm_ruletext.specs.declared.fault.RuleTextFault.TheVariants.{Syntax, TooLarge, Unsupported, TooMany, Memory}
 use Rattle.sm_ruletext.specs.declared.items.Items.{Items}
-use Rattle.sm_ruletext.specs.declared.set.Set.{Set}
+use Rattle.sm_ruletext.specs.Items.{Set}
 use Rattle.sm_ruletext.specs.declared.statement.What.{What}
 use Rattle.sm_ruletext.specs.declared.statement.Statement.{Statement}
 use Rattle.sm_ruletext.specs.declared.keyword.Keyword.{Keyword}

@@ -8,7 +8,7 @@ use Rattle.sm_ruletext.specs.declared.token.TokenKind.TheVariants.{Word, Semicol
 use Rattle.sm_ruletext.specs.declared.token.TokenKind.TheVariants.{Tilde}
 use Rattle.sm_ruletext.specs.declared.token.TokenKind.TheVariants.{Dash, Other}
 use Rattle.sm_ruletext.specs.declared.fault.RuleTextFault.TheVariants.{Syntax, TooLarge}
-use Rattle.sm_ruletext.specs.declared.set.Set.{Set}
+use Rattle.sm_ruletext.specs.Items.{Set}
 use Rattle.sm_ruletext.specs.declared.rule.Rule.{Rule}
 use Rattle.sm_ruletext.specs.declared.statement.RuleKind.{RuleKind}
 use Rattle.sm_ruletext.specs.declared.statement.What.{What}
@@ -22,7 +22,7 @@ use Rattle.sm_kinds.specs.Reading.{◌>>=◌, Gives}
 use Rattle.sm_kinds.specs.declared.limits.TheConstants.{MOST_TEXT_BYTES}
 use Rattle.sm_kinds.proofs.Readers.{went_well}
 use Rattle.sm_ruletext.specs.Grammar.{Step, Read, is_memory, name_at, names_at, semicolon_at, colon_at, set_at, rule_at}
-use Rattle.sm_ruletext.specs.Sets.{is_kept}
+use Rattle.sm_ruletext.specs.Kept.{is_kept}
 use Rattle.sm_ruletext.specs.Statements.{skipped_at, what_at, with_statement, statement_from, statements_within}
 use Rattle.sm_ruletext.specs.Statements.{statements_of, read}
 use Rattle.sm_ruletext.specs.Spelling.{SpellsRule, SpellsNames, HasNoSemicolon, SpellsStatement, SpellsText}

@@ -8,7 +8,7 @@ use Rattle.sm_ruletext.specs.declared.token.TokenKind.TheVariants.{Dash}
 use Rattle.sm_ruletext.specs.declared.fault.RuleTextFault.{RuleTextFault}
 use Rattle.sm_ruletext.specs.declared.fault.RuleTextFault.TheVariants.{TooLarge, Syntax, Unsupported, TooMany, Memory}
 use Rattle.sm_ruletext.specs.declared.items.Items.{Items}
-use Rattle.sm_ruletext.specs.declared.set.Set.{Set}
+use Rattle.sm_ruletext.specs.Items.{Set}
 use Rattle.sm_ruletext.specs.declared.rule.Rule.{Rule}
 use Rattle.sm_ruletext.specs.Lexing.{Tokens}
 use Rattle.sm_ruletext.specs.Words.{is_self}

@@ -9,7 +9,7 @@ use Rattle.sm_ruletext.specs.declared.token.TokenKind.TheVariants.{Dash}
 use Rattle.sm_ruletext.specs.declared.fault.RuleTextFault.{RuleTextFault}
 use Rattle.sm_ruletext.specs.declared.fault.RuleTextFault.TheVariants.{Memory, TooLarge, Syntax, Unsupported, TooMany}
 use Rattle.sm_ruletext.specs.declared.items.Items.{Items}
-use Rattle.sm_ruletext.specs.declared.set.Set.{Set}
+use Rattle.sm_ruletext.specs.Items.{Set}
 use Rattle.sm_ruletext.specs.declared.rule.Rule.{Rule}
 use Rattle.sm_ruletext.specs.declared.statement.RuleKind.{RuleKind}
 use Rattle.sm_ruletext.specs.declared.statement.What.{What}
@@ -18,7 +18,7 @@ use Rattle.sm_ruletext.specs.declared.statement.Statement.{Statement}
 use Rattle.sm_ruletext.specs.declared.keyword.Keyword.{Keyword}
 use Rattle.sm_ruletext.specs.declared.keyword.Keyword.TheVariants as word
 use Rattle.sm_ruletext.specs.Lexing.{Tokens, tokens}
-use Rattle.sm_ruletext.specs.Sets.{is_kept}
+use Rattle.sm_ruletext.specs.Kept.{is_kept}
 use Rattle.sm_ruletext.specs.Statements.{with_statement}
 use Rattle.sm_ruletext.specs.Words.{is_self, keyword_of}
 use Rattle.sm_ruletext.specs.Grammar.{no_items, set_of}

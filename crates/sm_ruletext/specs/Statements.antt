@@ -12,7 +12,7 @@ use Rattle.sm_ruletext.specs.declared.statement.What.TheVariants as what
 use Rattle.sm_ruletext.specs.declared.statement.Statement.{Statement}
 use Rattle.sm_ruletext.specs.declared.keyword.Keyword.{Keyword}
 use Rattle.sm_ruletext.specs.declared.keyword.Keyword.TheVariants as word
-use Rattle.sm_ruletext.specs.Sets.{is_kept}
+use Rattle.sm_ruletext.specs.Kept.{is_kept}
 use Rattle.sm_ruletext.specs.Lexing.{Tokens, tokens}
 use Rattle.sm_ruletext.specs.Words.{keyword_of}
 use Rattle.sm_ruletext.specs.Grammar.{Step, Read, semicolon_at, name_at, names_at, rule_at}

@@ -181,15 +181,18 @@ fn items_from(
 {
     match first {
         TokenKind::Word(word) => {
-            let items = Items::none(alloc);
+            let items = tokens.no_items(alloc);
             add_word(alloc, tokens, items, line, may_self, word.bytes())
         }
-        TokenKind::Open => group(alloc, tokens, line, may_self, Items::none(alloc)),
+        TokenKind::Open => {
+            let items = tokens.no_items(alloc);
+            group(alloc, tokens, line, may_self, items)
+        }
         _ => Err(RuleTextFault::Syntax(line)),
     }
 }
 
-#[tactic(auto, unfolding(crate::specs::Grammar::set_at, crate::specs::Grammar::set_from))]
+#[tactic(auto, unfolding(crate::specs::Grammar::set_at, crate::specs::Grammar::set_from, crate::specs::Grammar::items_from, crate::specs::Grammar::with_word))]
 fn set(
     alloc: Global,
     tokens: &mut Tokens,
@@ -201,18 +204,21 @@ fn set(
 {
     match kind(tokens, line)? {
         TokenKind::Star => {
-            let mut items = Items::none(alloc);
+            let mut items = tokens.no_items(alloc);
             items.all = true;
-            Ok(items.into_set(line, false))
+            Ok(tokens.set(alloc, line, false, items)?)
         }
         TokenKind::Tilde => {
             let first = kind(tokens, line)?;
             let items = items_from(alloc, tokens, line, false, first)?;
-            Ok(items.into_set(line, true))
+            Ok(tokens.set(alloc, line, true, items)?)
+        }
+        TokenKind::Word(word) if !is_self(word.bytes()) => {
+            Ok((tokens.word_set(alloc, line, word.bytes())?, false))
         }
         first => {
             let items = items_from(alloc, tokens, line, may_self, first)?;
-            Ok(items.into_set(line, false))
+            Ok(tokens.set(alloc, line, false, items)?)
         }
     }
 }

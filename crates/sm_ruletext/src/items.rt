@@ -3,7 +3,6 @@
 ghost use Rattle.std.specs.Prelude.{◌≡◌};
 ghost use Rattle.sm_ruletext.specs.Grammar as spec;
 
-use crate::Set;
 use sm_kinds::Names;
 use std::alloc::Global;
 
@@ -29,23 +28,13 @@ impl Items {
         }
     }
 
-    /// Returns the set of these items, and whether `self` is among them.
-    pub fn into_set(self, line: u32, complement: bool) -> (Set, bool)
-        ensures { result ≡ spec.set_of line complement self }
+    /// Removes all items.
+    pub fn clear(&mut self)
+        ensures { self.new ≡ spec.no_items }
     {
-        let Items {
-            all,
-            to_self,
-            plus,
-            minus,
-        } = self;
-        let set = Set {
-            line,
-            all,
-            complement,
-            plus,
-            minus,
-        };
-        (set, to_self)
+        self.all = false;
+        self.to_self = false;
+        self.plus.clear();
+        self.minus.clear();
     }
 }

@@ -10,6 +10,7 @@ mod limits;
 mod reading;
 mod rule;
 mod set;
+mod set_pool;
 mod statement;
 mod statements;
 mod token;

@@ -1,7 +1,7 @@
 //! Rules.
 
 ghost use Rattle.std.specs.Prelude.{◌≡◌};
-ghost use Rattle.sm_ruletext.specs.Sets as spec;
+ghost use Rattle.sm_ruletext.specs.Kept as spec;
 
 use crate::Set;
 
@@ -18,10 +18,10 @@ pub struct Rule {
 
 impl Rule {
     /// Returns whether its classes have one of those that servicemanager checks. Other rules have no effect here.
-    #[tactic(auto, unfolding(crate::specs::Sets::is_kept))]
+    #[tactic(auto, unfolding(crate::specs::Kept::is_kept))]
     pub fn is_kept(&self) -> bool
         ensures { result ≡ spec.is_kept self.now }
     {
-        self.class.selects(b"service_manager") || self.class.selects(b"binder")
+        self.class.has_kept()
     }
 }

@@ -1,10 +1,15 @@
 //! Cuts a source into tokens, one by one.
 
-ghost use Rattle.std.specs.Prelude.{◌≡◌, ◌≢◌, ◌<◌, ◌≤◌, ◌+◌, ◌^◌, ◌++◌, [], length, drop, slice_index, option_to_list};
+ghost use Rattle.std.specs.Prelude.{◌≡◌, ◌≢◌, ◌<◌, ◌≤◌, ◌+◌, ◌^◌, ◌++◌, ◌∷◌, [], false, length, drop, slice_index, option_to_list};
 ghost use Rattle.std.specs.Prelude.{IfSome, IfNone, IfOk};
 ghost use Rattle.std.specs.List.{prefix_len};
 ghost use Rattle.sm_ruletext.specs.Lexing as spec;
+ghost use Rattle.sm_ruletext.specs.Grammar as grammar;
+ghost use Rattle.sm_ruletext.specs.Items.{parts_of, set_with};
 
+use crate::Set;
+use crate::items::Items;
+use crate::set_pool::SetPool;
 use crate::token::{Token, TokenKind};
 use crate::word::is_word_byte;
 use crate::words::Words;
@@ -125,12 +130,13 @@ fn skip_blanks(bytes: &[u8], start: u32) -> (u32, &[u8])
     (line, rest)
 }
 
-/// The remaining tokens of a source, and the names of its words so far, which contracts don't see.
+/// The remaining tokens of a source, and its words and sets so far, which contracts don't see.
 #[derive(Drop)]
 pub struct Tokens<'a> {
     rest: &'a [u8],
     line: u32,
     words: Words,
+    sets: SetPool,
 }
 
 impl<'a> Model for Tokens<'a> {
@@ -154,6 +160,7 @@ impl<'a> Tokens<'a> {
             rest: text,
             line: 1,
             words: Words::new(alloc),
+            sets: SetPool::new(alloc),
         }
     }
 
@@ -180,5 +187,36 @@ impl<'a> Tokens<'a> {
         ensures same { self.new ≡ self.old }
     {
         self.words.name(alloc, bytes)
+    }
+
+    /// Returns an empty list of items.
+    pub fn no_items(&mut self, alloc: Global) -> Items
+        ensures items { result ≡ grammar.no_items }
+        ensures same { self.new ≡ self.old }
+    {
+        self.sets.no_items(alloc)
+    }
+
+    /// Returns the set of one word.
+    pub fn word_set(&mut self, alloc: Global, line: u32, word: &[u8]) -> Result<Set, AllocError>
+        ensures set { IfOk result (λ s. s ≡ set_with line (parts_of false false (word.now ∷ []) [])) }
+        ensures same { self.new ≡ self.old }
+    {
+        self.sets.word(alloc, &mut self.words, line, word)
+    }
+
+    /// Returns the set of these items, and whether `self` is among them.
+    pub fn set(
+        &mut self,
+        alloc: Global,
+        line: u32,
+        complement: bool,
+        items: Items,
+    ) -> Result<(Set, bool), AllocError>
+        ensures set { IfOk result (λ s. s ≡ grammar.set_of line complement items) }
+        ensures same { self.new ≡ self.old }
+    {
+        let mark = self.words.take_mark();
+        self.sets.set(alloc, mark, line, complement, items)
     }
 }

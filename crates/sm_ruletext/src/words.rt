@@ -1,19 +1,80 @@
 //! The words of a source, each stored once.
 
-ghost use Rattle.std.specs.Prelude.{◌≡◌, IfOk};
+ghost use Rattle.std.specs.Prelude.{◌≡◌, ◌≤◌, ◌+◌, length, IfOk, IfSome};
 
 use indexmap::IndexMap;
-use sm_kinds::Name;
+use sm_kinds::{Name, spells};
 use std::alloc::{AllocError, Global};
 use std::marker::Model;
 
 /// The most words that are stored: more than there are in a source with the most types and attributes.
 const MOST_WORDS: usize = 16_384;
 
+/// The number of slots for the last words.
+const SLOTS: usize = 4096;
+
+/// An odd number whose bits are mixed, by which digests are made.
+const MIXER: u64 = 0x9e37_79b9_7f4a_7c15;
+
+/// Returns eight bytes as a number.
+#[inline(always)]
+fn word_at(bytes: &[u8], i: usize) -> u64
+    requires { i + 8 ≤ length bytes.now }
+{
+    u64::from_le_bytes([
+        bytes[i],
+        bytes[i + 1],
+        bytes[i + 2],
+        bytes[i + 3],
+        bytes[i + 4],
+        bytes[i + 5],
+        bytes[i + 6],
+        bytes[i + 7],
+    ])
+}
+
+/// Returns four bytes as a number.
+#[inline(always)]
+fn half_at(bytes: &[u8], i: usize) -> u32
+    requires { i + 4 ≤ length bytes.now }
+{
+    u32::from_le_bytes([bytes[i], bytes[i + 1], bytes[i + 2], bytes[i + 3]])
+}
+
+/// Returns a number that equal words have in common.
+pub fn digest(bytes: &[u8]) -> u64 {
+    let n = bytes.len();
+    let mut sum = n as u64;
+    if n < 4 {
+        for b in bytes {
+            sum = (sum ^ u64::from(*b)).wrapping_mul(MIXER).rotate_left(20);
+        }
+        return sum ^ (sum >> 32);
+    }
+    if n < 8 {
+        let ends = (u64::from(half_at(bytes, 0)) << 32) ^ u64::from(half_at(bytes, n - 4));
+        sum = (sum ^ ends).wrapping_mul(MIXER);
+        return sum ^ (sum >> 32);
+    }
+    let mut i = 0;
+    while n - i >= 8 {
+        sum = (sum ^ word_at(bytes, i)).wrapping_mul(MIXER);
+        sum ^= sum >> 32;
+        i += 8;
+    }
+    sum = (sum ^ word_at(bytes, n - 8)).wrapping_mul(MIXER);
+    sum ^ (sum >> 32)
+}
+
 /// Names by their bytes, which contracts don't see. A name that occurs a thousand times is stored once.
 #[derive(Drop)]
 pub struct Words {
     names: IndexMap<Vec<u8>, Name>,
+    /// The last words, found by the slots that their bytes select.
+    last: Vec<Name>,
+    slots: Vec<u32>,
+    /// A digest of the words since it was last taken.
+    mark: u64,
 }
 
 impl Model for Words {
@@ -33,6 +94,9 @@ impl Words {
     pub fn new(alloc: Global) -> Words {
         Words {
             names: IndexMap::new(alloc),
+            last: Vec::new(alloc),
+            slots: Vec::new(alloc),
+            mark: 0,
         }
     }
 
@@ -48,7 +112,7 @@ impl Words {
     }
 
     /// Returns the name of these bytes, shared with an earlier one, if there was one.
-    pub fn name(&mut self, alloc: Global, bytes: &[u8]) -> Result<Name, AllocError>
+    fn find(&mut self, alloc: Global, bytes: &[u8]) -> Result<Name, AllocError>
         ensures { IfOk result (λ n. n ≡ bytes.now) }
     {
         if let Some(known) = self.names.get(bytes) {
@@ -58,5 +122,83 @@ impl Words {
         let name = Name::new(alloc, bytes)?;
         self.keep(alloc, bytes, &name)?;
         Ok(name)
+    }
+
+    /// Returns the name of these bytes, if the slot has it.
+    fn recent(&self, slot: usize, bytes: &[u8]) -> Result<Option<Name>, AllocError>
+        ensures { IfOk result (λ o. IfSome o (λ n. n ≡ bytes.now)) }
+    {
+        let Some(number) = self.slots.get(slot) else {
+            return Ok(None);
+        };
+        let Some(known) = self.last.get(*number as usize) else {
+            return Ok(None);
+        };
+        if !spells(known.bytes(), bytes) {
+            return Ok(None);
+        }
+        let copy = known.clone()?;
+        Ok(Some(copy))
+    }
+
+    /// Makes the slots, if there are none yet.
+    fn make_slots(&mut self, alloc: Global) -> Result<(), AllocError> {
+        if self.slots.is_empty() {
+            self.slots = vec![in alloc; u32::MAX; SLOTS]?;
+        }
+        Ok(())
+    }
+
+    /// Puts a name into its slot.
+    fn remember(&mut self, alloc: Global, slot: usize, name: &Name) -> Result<(), AllocError> {
+        self.make_slots(alloc)?;
+        if slot >= self.slots.len() {
+            return Ok(());
+        }
+        let copy = name.clone()?;
+        let number = self.slots[slot] as usize;
+        let count = self.last.len();
+        if number < count {
+            self.last[number] = copy;
+        } else if count < SLOTS {
+            self.last.push(copy)?;
+            self.slots[slot] = count as u32;
+        }
+        Ok(())
+    }
+
+    /// Finds a name, and puts it into its slot.
+    #[inline(never)]
+    fn seek(&mut self, alloc: Global, slot: usize, bytes: &[u8]) -> Result<Name, AllocError>
+        ensures { IfOk result (λ n. n ≡ bytes.now) }
+    {
+        let name = self.find(alloc, bytes)?;
+        self.remember(alloc, slot, &name)?;
+        Ok(name)
+    }
+
+    /// Adds a word to the mark, and returns its slot.
+    fn slot_of(&mut self, bytes: &[u8]) -> usize {
+        let digest = digest(bytes);
+        self.mark = (self.mark ^ digest).wrapping_mul(MIXER).rotate_left(20);
+        digest as usize % SLOTS
+    }
+
+    /// Returns the name of these bytes, shared with an earlier one, if there was one.
+    pub fn name(&mut self, alloc: Global, bytes: &[u8]) -> Result<Name, AllocError>
+        ensures { IfOk result (λ n. n ≡ bytes.now) }
+    {
+        let slot = self.slot_of(bytes);
+        if let Some(known) = self.recent(slot, bytes)? {
+            return Ok(known);
+        }
+        self.seek(alloc, slot, bytes)
+    }
+
+    /// Returns the digest of the words since the last call.
+    pub fn take_mark(&mut self) -> u64 {
+        let mark = self.mark;
+        self.mark = 0;
+        mark
     }
 }

@@ -223,10 +223,10 @@ fn remove_all(table: &Table, set: &mut BitRow, words: &Names) -> bool
 fn only_word(set: &Set) -> Option<&[u8]>
     ensures { IfSome result (λ word. IsWord word.now set.now) }
 {
-    if set.all || set.complement {
+    if set.has_star() || set.is_complement() {
         return None;
     }
-    match (set.plus.list(), set.minus.list()) {
+    match (set.plus().list(), set.minus().list()) {
         ([name], []) => Some(name.bytes()),
         _ => None,
     }
@@ -275,14 +275,14 @@ pub fn chosen_types(alloc: Global, table: &Table, set: &Set) -> Result<BitRow, T
         × ((all_declared table.now.symbols set.now.plus
         && all_declared table.now.symbols set.now.minus) ≡ false))) }
 {
-    let mut chosen = all_or_none(alloc, table, set.all)?;
-    if !add_all(table, &mut chosen, &set.plus) {
-        return Err(TypesFault::Unknown(set.line));
+    let mut chosen = all_or_none(alloc, table, set.has_star())?;
+    if !add_all(table, &mut chosen, set.plus()) {
+        return Err(TypesFault::Unknown(set.line()));
     }
-    if !remove_all(table, &mut chosen, &set.minus) {
-        return Err(TypesFault::Unknown(set.line));
+    if !remove_all(table, &mut chosen, set.minus()) {
+        return Err(TypesFault::Unknown(set.line()));
     }
-    if !set.complement {
+    if !set.is_complement() {
         return Ok(chosen);
     }
     let mut others = all_or_none(alloc, table, true)?;

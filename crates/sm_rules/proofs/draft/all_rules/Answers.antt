@@ -1,4 +1,4 @@
-use Rattle.std.proofs.Common.{◌≡◌, ◌+◌, ℕ, drop, take, arith, sym, ◌∙◌, List, Some}
+use Rattle.std.proofs.Common.{rules, ◌≡◌, ◌+◌, ℕ, drop, take, arith, sym, ◌∙◌, List, Some}
 use Rattle.std.proofs.lemmas.Result.{err_from_is_err_and}
 use Rattle.std.proofs.lemmas.List.{drop_all, drop_more}
 use Rattle.sm_ruletext.specs.declared.statement.Statement.{Statement}
@@ -30,6 +30,7 @@ loop-statement-preserved c =
       permissive = permitted_more names sts i st old.permissive new.permissive (omega arith) c.statement-item.is
           c.loop-statement.invariant.permissive (c.in_ok-add_statement.ensures.permissive sts c.requires);
       pool = rw c.add_statement.ensures.pool c.loop-statement.invariant.pool;
+      memo = c.in_ok-add_statement.ensures.memo;
       room = c.add_statement.ensures.same ∙ c.loop-statement.invariant.room;
       few = omega (arith, c.loop-statement.invariant.few, c.in_ok-add_statement.ensures.few);
       fits = c.in_ok-add_statement.ensures.fits c.loop-statement.invariant.fits;
@@ -54,3 +55,8 @@ returns-clause-accepted c =
     sym c.loop-statement.invariant.on ∙ none_left c.args.statements.now
     (drop c.loop-statement.statement-index c.args.statements.now)
     (drop_all c.loop-statement.statement-index c.args.statements.now (omega arith))
+
+pub loop-statement-init : goal.loop-statement-init
+loop-statement-init c =
+    let memo = c.new-memo.ensures c.args.types.now in
+    search rules

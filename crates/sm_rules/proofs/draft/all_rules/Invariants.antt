@@ -2,6 +2,7 @@ use Rattle.std.proofs.Common.{◌≡◌, ◌≤◌, ◌+◌, ◌/◌, drop, take
 use Rattle.sm_ruletext.specs.declared.statement.RuleKind.{RuleKind}
 use Rattle.sm_rules.specs.Faults.{fault_among}
 use Rattle.sm_rules.specs.Keeping.{AllStandFor, FitsRules, SaysPermissive, rules_in, list_of}
+use Rattle.sm_rules.specs.Memoed.{IsRight}
 use Rattle.sm_rules.specs.Pooling.{HasMembers}
 use Rattle.sm_rules.proofs.draft.all_rules.Given as goal
 
@@ -13,6 +14,7 @@ invariant-loop-statement l = record {
       (list_of kind l.draft.allows.items l.draft.neverallows.items l.draft.silences.items);
   permissive : SaysPermissive (take l.statement-index l.statements) l.types.symbols.types l.draft.permissive;
   pool : HasMembers l.types l.pool;
+  memo : IsRight l.types l.memo;
   room : length l.draft.permissive ≡ length l.types.symbols.types / 64 + 1;
   few : length l.draft.allows.items + length l.draft.neverallows.items ≤ l.statement-index;
   fits : FitsRules (length l.types.symbols.types) l.draft.allows.items l.draft.neverallows.items l.draft.silences.items;

@@ -1,6 +1,6 @@
 use Rattle.std.proofs.Common.{◌∙◌, sym}
 use Rattle.sm_ruletext.proofs.Keyed.{found}
-use Rattle.sm_ruletext.proofs.words.Words.name.Goals as goal
+use Rattle.sm_ruletext.proofs.words.Words.find.Goals as goal
 
 pub returns-in-Some : goal.returns-in-Some
 returns-in-Some c =

@@ -1,0 +1,235 @@
+//! The sets of a source, each stored once.
+
+ghost use Rattle.std.specs.Prelude.{◌≡◌, ◌∷◌, [], false, IfOk, IfSome};
+ghost use Rattle.std.specs.Arc.{arc_value};
+ghost use Rattle.sm_ruletext.specs.Grammar as spec;
+ghost use Rattle.sm_ruletext.specs.Items.{parts_of, set_with};
+
+use crate::Set;
+use crate::items::Items;
+use crate::set::SetParts;
+use crate::words::{Words, digest};
+use sm_kinds::Names;
+use std::alloc::{AllocError, Global};
+use std::marker::Model;
+use std::mem;
+use std::sync::Arc;
+
+/// The number of slots for the last sets.
+const SLOTS: usize = 16_384;
+
+/// The most sets that are stored.
+const MOST_SETS: usize = 65_536;
+
+/// The sets so far, which contracts don't see. What is found is compared with what is sought.
+#[derive(Drop)]
+pub struct SetPool {
+    sets: Vec<Arc<SetParts, Global>>,
+    /// The last sets, each in the slot that its words select.
+    slots: Vec<u32>,
+    /// Room for the items of the next set.
+    spare: Items,
+}
+
+impl Model for SetPool {
+    ghost Value = { Unit {0} };
+
+    ghost view = { λ p. tt };
+}
+
+impl SetPool {
+    /// Makes an empty pool.
+    pub fn new(alloc: Global) -> SetPool {
+        SetPool {
+            sets: Vec::new(alloc),
+            slots: Vec::new(alloc),
+            spare: Items::none(alloc),
+        }
+    }
+
+    /// Returns an empty list of items.
+    pub fn no_items(&mut self, alloc: Global) -> Items
+        ensures { result ≡ spec.no_items }
+    {
+        let mut items = mem::replace(&mut self.spare, Items::none(alloc));
+        items.clear();
+        items
+    }
+
+    /// Returns the parts in a slot.
+    fn at(&self, slot: usize) -> Option<&Arc<SetParts, Global>> {
+        let number = self.slots.get(slot)?;
+        self.sets.get(*number as usize)
+    }
+
+    /// Returns the parts of a set with these items, if the slot has it.
+    fn known(
+        &self,
+        slot: usize,
+        complement: bool,
+        items: &Items,
+    ) -> Result<Option<Arc<SetParts, Global>>, AllocError>
+        ensures { IfOk result (λ o. IfSome o (λ parts.
+            arc_value parts ≡ parts_of items.now.all complement items.now.plus items.now.minus)) }
+    {
+        let Some(parts) = self.at(slot) else {
+            return Ok(None);
+        };
+        if !parts.has_items(complement, items) {
+            return Ok(None);
+        }
+        let again = Arc::try_clone(parts)?;
+        Ok(Some(again))
+    }
+
+    /// Returns the parts of a set of one word, if the slot has it.
+    fn known_word(
+        &self,
+        slot: usize,
+        word: &[u8],
+    ) -> Result<Option<Arc<SetParts, Global>>, AllocError>
+        ensures { IfOk result (λ o. IfSome o (λ parts.
+            arc_value parts ≡ parts_of false false (word.now ∷ []) [])) }
+    {
+        let Some(parts) = self.at(slot) else {
+            return Ok(None);
+        };
+        if !parts.is_word(word) {
+            return Ok(None);
+        }
+        let again = Arc::try_clone(parts)?;
+        Ok(Some(again))
+    }
+
+    /// Makes the slots, if there are none yet.
+    fn make_slots(&mut self, alloc: Global) -> Result<(), AllocError> {
+        if self.slots.is_empty() {
+            self.slots = vec![in alloc; u32::MAX; SLOTS]?;
+        }
+        Ok(())
+    }
+
+    /// Returns the number of the next set.
+    fn next_number(&self) -> u32 {
+        let count = self.sets.len();
+        if count < MOST_SETS {
+            count as u32
+        } else {
+            u32::MAX
+        }
+    }
+
+    /// Stores the parts of a set.
+    fn keep(
+        &mut self,
+        alloc: Global,
+        slot: usize,
+        parts: &Arc<SetParts, Global>,
+    ) -> Result<(), AllocError> {
+        self.make_slots(alloc)?;
+        let count = self.sets.len();
+        if count < MOST_SETS && slot < self.slots.len() {
+            let again = Arc::try_clone(parts)?;
+            self.sets.push(again)?;
+            self.slots[slot] = count as u32;
+        }
+        Ok(())
+    }
+
+    /// Stores a new set of these parts.
+    fn add(
+        &mut self,
+        alloc: Global,
+        slot: usize,
+        line: u32,
+        parts: SetParts,
+    ) -> Result<Set, AllocError>
+        ensures { IfOk result (λ s. s ≡ set_with line parts) }
+    {
+        let shared = Arc::new(alloc, parts)?;
+        self.keep(alloc, slot, &shared)?;
+        Ok(Set::of(line, shared))
+    }
+
+    /// Stores a new set of these items.
+    #[inline(never)]
+    fn add_items(
+        &mut self,
+        alloc: Global,
+        slot: usize,
+        line: u32,
+        complement: bool,
+        items: Items,
+    ) -> Result<(Set, bool), AllocError>
+        ensures { IfOk result (λ s. s ≡ spec.set_of line complement items) }
+    {
+        let number = self.next_number();
+        let Items {
+            all,
+            to_self,
+            plus,
+            minus,
+        } = items;
+        let parts = SetParts::new(number, all, complement, plus, minus);
+        let set = self.add(alloc, slot, line, parts)?;
+        Ok((set, to_self))
+    }
+
+    /// Stores a new set of one word.
+    #[inline(never)]
+    fn add_word(
+        &mut self,
+        alloc: Global,
+        words: &mut Words,
+        slot: usize,
+        line: u32,
+        word: &[u8],
+    ) -> Result<Set, AllocError>
+        ensures { IfOk result (λ s. s ≡ set_with line (parts_of false false (word.now ∷ []) [])) }
+    {
+        let name = words.name(alloc, word)?;
+        let _ = words.take_mark();
+        let mut plus = Names::new(alloc);
+        plus.push(name)?;
+        let number = self.next_number();
+        let parts = SetParts::new(number, false, false, plus, Names::new(alloc));
+        self.add(alloc, slot, line, parts)
+    }
+
+    /// Returns the set of these items, and whether `self` is among them. The mark of its words selects the slot.
+    pub fn set(
+        &mut self,
+        alloc: Global,
+        mark: u64,
+        line: u32,
+        complement: bool,
+        items: Items,
+    ) -> Result<(Set, bool), AllocError>
+        ensures { IfOk result (λ s. s ≡ spec.set_of line complement items) }
+    {
+        let slot = mark as usize % SLOTS;
+        if let Some(parts) = self.known(slot, complement, &items)? {
+            let to_self = items.to_self;
+            self.spare = items;
+            return Ok((Set::of(line, parts), to_self));
+        }
+        self.add_items(alloc, slot, line, complement, items)
+    }
+
+    /// Returns the set of one word.
+    pub fn word(
+        &mut self,
+        alloc: Global,
+        words: &mut Words,
+        line: u32,
+        word: &[u8],
+    ) -> Result<Set, AllocError>
+        ensures { IfOk result (λ s. s ≡ set_with line (parts_of false false (word.now ∷ []) [])) }
+    {
+        let slot = digest(word) as usize % SLOTS;
+        if let Some(parts) = self.known_word(slot, word)? {
+            return Ok(Set::of(line, parts));
+        }
+        self.add_word(alloc, words, slot, line, word)
+    }
+}
