@@ -1,22 +1,41 @@
 //! A cache of recently read names, so that a repeated name needs no allocation.
 
-ghost use Rattle.std.specs.Prelude.{◌≡◌, IfOk};
+ghost use Rattle.std.specs.Prelude.{◌≡◌, IfSome, IsTrue};
+ghost use Rattle.std.specs.List.{list_all};
+ghost use Rattle.sm_kinds.specs.Contexts.{is_graphic};
+ghost use Rattle.sm_wire.specs.Reading.{ReadsAs};
+ghost use Rattle.sm_wire.specs.Values.{plain_name_of};
 
-use sm_kinds::{MOST_NAME_BYTES, Name, spells};
+use crate::read_error::ReadError;
+use sm_kinds::{MOST_NAME_BYTES, Name, all_graphic, spells};
 use std::alloc::{AllocError, Global};
 use std::marker::Model;
 
-/// The number of the cache's slots.
+/// The number of the cache's places.
 const PLACES: usize = 1024;
 
-/// Recently read names, each in the slot that its bytes select. A later name replaces an earlier one in its slot. The
-/// cache changes no name that is returned, so contracts don't see it.
+/// A kept name. Its bytes were tested when it was kept, so they aren't tested again.
+#[derive(Drop)]
+struct Kept {
+    name: Name,
+    ghost graphic: { IsTrue (list_all is_graphic name) },
+}
+
+/// The last two names that selected a place.
+#[derive(Drop)]
+struct Place {
+    last: Option<Kept>,
+    before: Option<Kept>,
+}
+
+/// Recently read names, each in the place that its bytes select. The cache changes no name that is returned, so
+/// contracts don't see it.
 #[derive(Drop)]
 pub struct RecentNames {
     pub alloc: Global,
-    /// The number of slots once the first name has come.
+    /// The number of places once the first name has come.
     count: usize,
-    places: Vec<Option<Name>>,
+    places: Vec<Place>,
 }
 
 impl Model for RecentNames {
@@ -44,57 +63,89 @@ impl RecentNames {
         }
     }
 
-    /// Returns a name of these bytes: a reference to a cached one, or a new one, which is cached unless it is too long
-    /// for a service.
-    ///
-    /// # Errors
-    ///
-    /// An error if the name can't be allocated. If the slots can't, nothing is cached.
-    pub fn name(&mut self, bytes: &[u8]) -> Result<Name, AllocError>
-        ensures { IfOk result (λ n. n ≡ bytes.now) }
+    /// Parses a name in plain bytes: returns a reference to a kept name, or a new one, which is kept unless it is too
+    /// long for a service. If the places can't be allocated, nothing is kept.
+    #[tactic(auto, unfolding(crate::specs::Values::plain_name_of))]
+    pub fn plain_name(&mut self, bytes: &[u8]) -> Result<Name, ReadError>
+        ensures { ReadsAs result (plain_name_of bytes.now) }
     {
-        if bytes.len() > MOST_NAME_BYTES {
-            return Name::new(self.alloc, bytes);
+        if let Some(name) = self.find(bytes) {
+            return Ok(name.clone()?);
         }
-        self.make_places();
-        match self.places.get_mut(place_of(bytes)) {
-            Some(place) => kept_name(self.alloc, place, bytes),
-            None => Name::new(self.alloc, bytes),
+        if !all_graphic(bytes) {
+            return Err(ReadError::Malformed);
         }
+        let name = Name::new(self.alloc, bytes)?;
+        self.keep(&name)?;
+        Ok(name)
     }
 
-    // Allocates the slots when the first name comes.
+    // Returns the kept name of these bytes.
+    fn find(&self, bytes: &[u8]) -> Option<&Name>
+        ensures spelled { IfSome result (λ n. n.now ≡ bytes.now) }
+        ensures graphic { IfSome result (λ n. IsTrue (list_all is_graphic bytes.now)) }
+    {
+        let place = self.places.get(place_of(bytes))?;
+        if let Some(kept) = &place.last {
+            if spells(kept.name.bytes(), bytes) {
+                return Some(&kept.name);
+            }
+        }
+        if let Some(kept) = &place.before {
+            if spells(kept.name.bytes(), bytes) {
+                return Some(&kept.name);
+            }
+        }
+        None
+    }
+
+    // Keeps a name in its place, in which the last one stays.
+    fn keep(&mut self, name: &Name) -> Result<(), AllocError>
+        requires { IsTrue (list_all is_graphic name.now) }
+    {
+        if name.bytes().len() > MOST_NAME_BYTES {
+            return Ok(());
+        }
+        self.make_places();
+        if let Some(place) = self.places.get_mut(place_of(name.bytes())) {
+            let name = name.clone()?;
+            place.before = place.last.replace(Kept { name });
+        }
+        Ok(())
+    }
+
+    // Allocates the places when the first name comes.
     fn make_places(&mut self) {
         if !self.places.is_empty() || self.places.reserve_exact(self.count).is_err() {
             return;
         }
         for _ in 0..self.count {
-            if self.places.push(None).is_err() {
+            let place = Place {
+                last: None,
+                before: None,
+            };
+            if self.places.push(place).is_err() {
                 return;
             }
         }
     }
 }
 
-// Returns the slot of a name.
+// Returns the place of a name, by its length and its last eight bytes.
 fn place_of(bytes: &[u8]) -> usize {
-    let mut sum = 0u32;
-    for byte in bytes {
-        sum = sum.wrapping_mul(31).wrapping_add(u32::from(*byte));
-    }
-    sum as usize % PLACES
+    let last = match bytes.last_chunk::<8>() {
+        Some(last) => u64::from_be_bytes(*last),
+        None => short_number(bytes),
+    };
+    let sum = (last ^ bytes.len() as u64).wrapping_mul(0x9e37_79b9_7f4a_7c15);
+    (sum >> 48) as usize % PLACES
 }
 
-// Returns the name of these bytes from its slot, and caches it there.
-fn kept_name(alloc: Global, place: &mut Option<Name>, bytes: &[u8]) -> Result<Name, AllocError>
-    ensures { IfOk result (λ n. n ≡ bytes.now) }
-{
-    if let Some(kept) = place {
-        if spells(kept.bytes(), bytes) {
-            return kept.clone();
-        }
+// Returns a number for fewer than eight bytes.
+fn short_number(bytes: &[u8]) -> u64 {
+    let mut number = 0u64;
+    for byte in bytes {
+        number = number.wrapping_mul(256).wrapping_add(u64::from(*byte));
     }
-    let name = Name::new(alloc, bytes)?;
-    *place = Some(name.clone()?);
-    Ok(name)
+    number
 }

@@ -5,7 +5,7 @@ ghost use Rattle.std.specs.Result.{result_ok, result_map_both};
 ghost use Rattle.hex.specs.Hex.{decode_of};
 ghost use Rattle.sm_kinds.specs.Permissions.{class_read};
 ghost use Rattle.sm_wire.specs.Reading.{ReadsAs};
-ghost use Rattle.sm_wire.specs.Values.{plain_name_of, name_of, reference_of, own_object_of, call_references_of};
+ghost use Rattle.sm_wire.specs.Values.{name_of, reference_of, own_object_of, call_references_of};
 ghost use Rattle.sm_wire.specs.Values.{fitting_payload, fitting_references, hex_payload_of, payload_of, flag_of};
 ghost use Rattle.sm_wire.specs.Values.{context_of, word_of, perm_of};
 
@@ -13,9 +13,7 @@ use crate::numbers::u32_field;
 use crate::read_error::ReadError;
 use crate::recent_names::RecentNames;
 use hex::FromHexError;
-use sm_kinds::{
-    Class, Context, ContextError, Name, ObjRef, Payload, PayloadError, Perms, Refs, all_graphic,
-};
+use sm_kinds::{Class, Context, ContextError, Name, ObjRef, Payload, PayloadError, Perms, Refs};
 use sm_ruletext::is_word;
 use std::alloc::Global;
 
@@ -27,7 +25,7 @@ pub fn name_field(recent: &mut RecentNames, field: &[u8]) -> Result<Name, ReadEr
     match field {
         [] => Err(ReadError::Malformed),
         [b'%', digits @ ..] => hex_name(recent.alloc, digits),
-        [_, ..] => plain_name(recent, field),
+        [_, ..] => recent.plain_name(field),
     }
 }
 
@@ -47,16 +45,6 @@ fn hex_bytes(alloc: Global, digits: &[u8]) -> Result<Vec<u8>, ReadError>
         Err(FromHexError::OutOfMemory) => Err(ReadError::Memory),
         Err(_) => Err(ReadError::Malformed),
     }
-}
-
-#[tactic(auto, unfolding(crate::specs::Values::plain_name_of))]
-fn plain_name(recent: &mut RecentNames, field: &[u8]) -> Result<Name, ReadError>
-    ensures { ReadsAs result (plain_name_of field.now) }
-{
-    if !all_graphic(field) {
-        return Err(ReadError::Malformed);
-    }
-    Ok(recent.name(field)?)
 }
 
 // Parses a word of a policy source.
