@@ -3,12 +3,13 @@
 //! A function zeroes its locals on entry. So the lines with fields are parsed by functions that aren't inlined, and a
 //! short line doesn't pay for a long one.
 
-ghost use Rattle.std.specs.Prelude.{false, [], Some, None, map, if◌then◌else◌};
+ghost use Rattle.std.specs.Prelude.{◌∷◌};
 ghost use Rattle.sm_wire.specs.Reading.{ReadsAs};
 ghost use Rattle.sm_wire.specs.LineTable.{get_line, list_line, add_line, watch_line, unwatch_line, unregister_line};
 ghost use Rattle.sm_wire.specs.LineTable.{call_line, release_line, registering_lines, client_lines};
-ghost use Rattle.sm_wire.specs.Grammar.{line_of, lines_of, has_fields};
+ghost use Rattle.sm_wire.specs.Grammar.{line_of, lines_of};
 
+use crate::fields::Fields;
 use crate::numbers::u32_field;
 use crate::read_error::ReadError;
 use crate::recent_names::RecentNames;
@@ -24,37 +25,35 @@ use sm_kinds::{ClientId, spells};
 pub fn client_request(
     recent: &mut RecentNames,
     client: Option<ClientId>,
-    fields: &[&[u8]],
+    word: &[u8],
+    fields: &mut Fields<'_>,
 ) -> Result<Request, ReadError>
-    ensures { ReadsAs result (lines_of (client_lines client) (map (λ f. f.now) fields.now)) }
+    ensures { ReadsAs result (lines_of (client_lines client) (word.now ∷ fields.old)) }
 {
-    let [word, rest @ ..] = fields else {
-        return Err(ReadError::Malformed);
-    };
     if spells(word, b"get") {
-        return get(recent, client, rest);
+        return get(recent, client, fields);
     }
     if spells(word, b"check") {
-        return get(recent, client, rest);
+        return get(recent, client, fields);
     }
     if spells(word, b"list") {
-        return list(client, rest);
+        return list(client, fields);
     }
     if spells(word, b"version") {
-        no_fields(rest)?;
+        fields.end()?;
         return Ok(Request::Look(client, Query::Version));
     }
     if spells(word, b"call") {
-        return call(recent, client, rest);
+        return call(recent, client, fields);
     }
     if spells(word, b"release") {
-        return release(client, rest);
+        return release(client, fields);
     }
     if spells(word, b"take") {
-        no_fields(rest)?;
+        fields.end()?;
         return Ok(Request::Change(client, Event::Take));
     }
-    registering_request(recent, client, fields)
+    registering_request(recent, client, word, fields)
 }
 
 // Reads a change of what is registered, or a leave.
@@ -62,38 +61,26 @@ pub fn client_request(
 fn registering_request(
     recent: &mut RecentNames,
     client: Option<ClientId>,
-    fields: &[&[u8]],
+    word: &[u8],
+    fields: &mut Fields<'_>,
 ) -> Result<Request, ReadError>
-    ensures { ReadsAs result (lines_of (registering_lines client) (map (λ f. f.now) fields.now)) }
+    ensures { ReadsAs result (lines_of (registering_lines client) (word.now ∷ fields.old)) }
 {
-    let [word, rest @ ..] = fields else {
-        return Err(ReadError::Malformed);
-    };
     if spells(word, b"add") {
-        return add(recent, client, rest);
+        return add(recent, client, fields);
     }
     if spells(word, b"watch") {
-        return watch(recent, client, rest);
+        return watch(recent, client, fields);
     }
     if spells(word, b"unwatch") {
-        return unwatch(recent, client, rest);
+        return unwatch(recent, client, fields);
     }
     if spells(word, b"unregister") {
-        return unregister(recent, client, rest);
+        return unregister(recent, client, fields);
     }
     if spells(word, b"bye") {
-        no_fields(rest)?;
+        fields.end()?;
         return Ok(Request::Change(client, Event::Die));
-    }
-    Err(ReadError::Malformed)
-}
-
-/// Checks that a line has no fields behind its word.
-pub fn no_fields(fields: &[&[u8]]) -> Result<(), ReadError>
-    ensures { ReadsAs result (if has_fields [] false (map (λ f. f.now) fields.now) then Some tt else None) }
-{
-    if fields.is_empty() {
-        return Ok(());
     }
     Err(ReadError::Malformed)
 }
@@ -104,13 +91,12 @@ pub fn no_fields(fields: &[&[u8]]) -> Result<(), ReadError>
 fn get(
     recent: &mut RecentNames,
     client: Option<ClientId>,
-    fields: &[&[u8]],
+    fields: &mut Fields<'_>,
 ) -> Result<Request, ReadError>
-    ensures { ReadsAs result (line_of (get_line client) (map (λ f. f.now) fields.now)) }
+    ensures { ReadsAs result (line_of (get_line client) fields.old) }
 {
-    let [name] = fields else {
-        return Err(ReadError::Malformed);
-    };
+    let name = fields.field()?;
+    fields.end()?;
     let name = name_field(recent, name)?;
     Ok(Request::Change(client, Event::Get { name }))
 }
@@ -118,12 +104,11 @@ fn get(
 // Reads `list MASK`.
 #[inline(never)]
 #[tactic(auto, unfolding(crate::specs::Grammar::parsed_by))]
-fn list(client: Option<ClientId>, fields: &[&[u8]]) -> Result<Request, ReadError>
-    ensures { ReadsAs result (line_of (list_line client) (map (λ f. f.now) fields.now)) }
+fn list(client: Option<ClientId>, fields: &mut Fields<'_>) -> Result<Request, ReadError>
+    ensures { ReadsAs result (line_of (list_line client) fields.old) }
 {
-    let [mask] = fields else {
-        return Err(ReadError::Malformed);
-    };
+    let mask = fields.field()?;
+    fields.end()?;
     let mask = u32_field(mask)?;
     Ok(Request::Look(client, Query::List(mask)))
 }
@@ -134,13 +119,15 @@ fn list(client: Option<ClientId>, fields: &[&[u8]]) -> Result<Request, ReadError
 fn add(
     recent: &mut RecentNames,
     client: Option<ClientId>,
-    fields: &[&[u8]],
+    fields: &mut Fields<'_>,
 ) -> Result<Request, ReadError>
-    ensures { ReadsAs result (line_of (add_line client) (map (λ f. f.now) fields.now)) }
+    ensures { ReadsAs result (line_of (add_line client) fields.old) }
 {
-    let [name, obj, allow_isolated, dump] = fields else {
-        return Err(ReadError::Malformed);
-    };
+    let name = fields.field()?;
+    let obj = fields.field()?;
+    let allow_isolated = fields.field()?;
+    let dump = fields.field()?;
+    fields.end()?;
     let event = Event::Add {
         name: name_field(recent, name)?,
         obj: reference_field(obj)?,
@@ -156,13 +143,13 @@ fn add(
 fn watch(
     recent: &mut RecentNames,
     client: Option<ClientId>,
-    fields: &[&[u8]],
+    fields: &mut Fields<'_>,
 ) -> Result<Request, ReadError>
-    ensures { ReadsAs result (line_of (watch_line client) (map (λ f. f.now) fields.now)) }
+    ensures { ReadsAs result (line_of (watch_line client) fields.old) }
 {
-    let [name, object] = fields else {
-        return Err(ReadError::Malformed);
-    };
+    let name = fields.field()?;
+    let object = fields.field()?;
+    fields.end()?;
     let name = name_field(recent, name)?;
     let object = own_object_field(object)?;
     Ok(Request::Change(client, Event::Watch { name, object }))
@@ -174,13 +161,13 @@ fn watch(
 fn unwatch(
     recent: &mut RecentNames,
     client: Option<ClientId>,
-    fields: &[&[u8]],
+    fields: &mut Fields<'_>,
 ) -> Result<Request, ReadError>
-    ensures { ReadsAs result (line_of (unwatch_line client) (map (λ f. f.now) fields.now)) }
+    ensures { ReadsAs result (line_of (unwatch_line client) fields.old) }
 {
-    let [name, object] = fields else {
-        return Err(ReadError::Malformed);
-    };
+    let name = fields.field()?;
+    let object = fields.field()?;
+    fields.end()?;
     let name = name_field(recent, name)?;
     let object = own_object_field(object)?;
     Ok(Request::Change(client, Event::Unwatch { name, object }))
@@ -192,13 +179,13 @@ fn unwatch(
 fn unregister(
     recent: &mut RecentNames,
     client: Option<ClientId>,
-    fields: &[&[u8]],
+    fields: &mut Fields<'_>,
 ) -> Result<Request, ReadError>
-    ensures { ReadsAs result (line_of (unregister_line client) (map (λ f. f.now) fields.now)) }
+    ensures { ReadsAs result (line_of (unregister_line client) fields.old) }
 {
-    let [name, obj] = fields else {
-        return Err(ReadError::Malformed);
-    };
+    let name = fields.field()?;
+    let obj = fields.field()?;
+    fields.end()?;
     let name = name_field(recent, name)?;
     let obj = reference_field(obj)?;
     Ok(Request::Change(client, Event::Unregister { name, obj }))
@@ -210,17 +197,16 @@ fn unregister(
 fn call(
     recent: &mut RecentNames,
     client: Option<ClientId>,
-    fields: &[&[u8]],
+    fields: &mut Fields<'_>,
 ) -> Result<Request, ReadError>
-    ensures { ReadsAs result (line_of (call_line client) (map (λ f. f.now) fields.now)) }
+    ensures { ReadsAs result (line_of (call_line client) fields.old) }
 {
-    let [handle, payload, refs @ ..] = fields else {
-        return Err(ReadError::Malformed);
-    };
+    let handle = fields.field()?;
+    let payload = fields.field()?;
     let event = Event::Call {
         handle: u32_field(handle)?,
         payload: payload_field(recent.alloc, payload)?,
-        refs: reference_fields(recent.alloc, refs)?,
+        refs: reference_fields(recent.alloc, fields)?,
     };
     Ok(Request::Change(client, event))
 }
@@ -228,12 +214,11 @@ fn call(
 // Reads `release N`.
 #[inline(never)]
 #[tactic(auto, unfolding(crate::specs::Grammar::parsed_by))]
-fn release(client: Option<ClientId>, fields: &[&[u8]]) -> Result<Request, ReadError>
-    ensures { ReadsAs result (line_of (release_line client) (map (λ f. f.now) fields.now)) }
+fn release(client: Option<ClientId>, fields: &mut Fields<'_>) -> Result<Request, ReadError>
+    ensures { ReadsAs result (line_of (release_line client) fields.old) }
 {
-    let [handle] = fields else {
-        return Err(ReadError::Malformed);
-    };
+    let handle = fields.field()?;
+    fields.end()?;
     let handle = u32_field(handle)?;
     Ok(Request::Change(client, Event::Release { handle }))
 }

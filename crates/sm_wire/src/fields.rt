@@ -1,30 +1,78 @@
-//! The fields of a line.
+//! The fields of a line, one after another.
 
-ghost use Rattle.std.specs.Prelude.{◌≡◌, ◌++◌, ◌∷◌, [], OnOk, map};
+ghost use Rattle.std.specs.Prelude.{◌≡◌, ◌≢◌, ◌<◌, ◌∷◌, [], ℕ, false, length, slice_index, MatchOption, MatchResult};
+ghost use Rattle.sm_wire.specs.declared.read_error.ReadError.TheVariants.{Malformed};
+ghost use Rattle.sm_wire.specs.LineTable.{Field};
+ghost use Rattle.sm_wire.specs.Grammar.{has_fields};
 ghost use Rattle.sm_wire.specs.Fields.{fields_of};
 
-use std::alloc::AllocError;
+use crate::read_error::ReadError;
+use std::marker::Model;
 
-/// The parts between single spaces, in the place of what `fields` held. A reader of many lines gives the same vector
-/// for each, which then grows once.
-pub fn split_fields<'a>(line: &'a [u8], fields: &mut Vec<&'a [u8]>) -> Result<(), AllocError>
-    ensures { OnOk result (map (λ s. s.now) fields.new.items ≡ fields_of line.now) }
-{
-    fields.clear();
-    let mut start = 0;
-    for (i, b) in line.iter().enumerate() {
-        if *b == b' ' {
-            push_field(fields, &line[start..i])?;
-            start = i + 1;
-        }
-    }
-    push_field(fields, &line[start..])
+/// The fields of a line that aren't read yet: the parts between single spaces. Contracts see the list of their bytes.
+#[derive(Drop)]
+pub struct Fields<'a> {
+    rest: Option<&'a [u8]>,
 }
 
-/// Appends a field, even an empty one: between two spaces there is one.
-fn push_field<'a>(fields: &mut Vec<&'a [u8]>, field: &'a [u8]) -> Result<(), AllocError>
-    ensures { OnOk result (fields.new.items ≡ fields.old.items ++ field.entry ∷ []) }
+impl<'a> Model for Fields<'a> {
+    ghost use Rattle.std.specs.Prelude.{List, ℕ};
+    ghost use Rattle.sm_wire.specs.Fields.{fields_left};
+
+    ghost Value = { List (List ℕ) };
+
+    ghost view = { λ f. fields_left f.rest };
+}
+
+impl<'a> Fields<'a> {
+    /// Returns the fields of a line.
+    pub fn new(line: &'a [u8]) -> Fields<'a>
+        ensures { result ≡ fields_of line.now }
+    {
+        Fields { rest: Some(line) }
+    }
+
+    /// Returns the next field, if there is one. Between two spaces there is an empty one.
+    pub fn next(&mut self) -> Option<&'a [u8]>
+        ensures { MatchOption result (self.old ≡ []) (λ f. self.old ≡ f.now ∷ self.new) }
+    {
+        let rest = self.rest?;
+        match first_space(rest) {
+            Some(i) => {
+                self.rest = Some(&rest[i + 1..]);
+                Some(&rest[..i])
+            }
+            None => {
+                self.rest = None;
+                Some(rest)
+            }
+        }
+    }
+
+    /// Returns the next field, which has to be there.
+    pub fn field(&mut self) -> Result<&'a [u8], ReadError>
+        ensures { MatchResult result (λ f. self.old ≡ f.now ∷ self.new) (λ e. (e ≡ Malformed) × (self.old ≡ [])) }
+    {
+        self.next().ok_or(ReadError::Malformed)
+    }
+
+    /// Checks that no field follows.
+    pub fn end(&self) -> Result<(), ReadError>
+        ensures { MatchResult result (λ _. self.now ≡ [])
+            (λ e. (e ≡ Malformed) × (has_fields [] false self.now ≡ false)) }
+    {
+        match self.rest {
+            Some(_) => Err(ReadError::Malformed),
+            None => Ok(()),
+        }
+    }
+}
+
+// Returns where the first space is.
+fn first_space(bytes: &[u8]) -> Option<usize>
+    ensures { MatchOption result ((k : ℕ) → k < length bytes.now → slice_index bytes.now k ≢ 32)
+        (λ i. (i < length bytes.now) × (slice_index bytes.now i ≡ 32)
+        × ((k : ℕ) → k < i → slice_index bytes.now k ≢ 32)) }
 {
-    fields.push(field)?;
-    Ok(())
+    bytes.iter().position(|b| *b == b' ')
 }

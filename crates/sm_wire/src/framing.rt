@@ -5,7 +5,7 @@ ghost use Rattle.sm_wire.specs.Items.{Makes, policy_item, scan_start, text_start
 ghost use Rattle.sm_wire.specs.Ends.{IsWhole, whole_step, never_items};
 
 use crate::ends::{End, item_end};
-use crate::fields::split_fields;
+use crate::fields::Fields;
 use crate::frame_state::FrameState;
 use crate::grammar::fields_request;
 use crate::item::Item;
@@ -41,14 +41,13 @@ pub fn cut(
     ensures items { IfOk result (λ _. items.new.items
         ≡ items.old.items ++ items_after (record { kind = kind; mode = mode; held = [] }) bytes.now) }
 {
-    let mut fields = Vec::new(recent.alloc);
     let mut mode = mode;
     let mut start = 0;
     while start < bytes.len() {
         match item_end(mode, 0, &bytes[start..]) {
             End::At(n) => {
                 let item = &bytes[start..start + n];
-                mode = whole_item(kind, mode, item, &mut fields, recent, items)?;
+                mode = whole_item(kind, mode, item, recent, items)?;
                 start += n;
             }
             End::Later => return Ok(Remainder { mode, start }),
@@ -74,8 +73,7 @@ pub fn lone_item(
     requires { IsWhole mode bytes.now }
     ensures { IfOk result (λ m. Makes (whole_step kind mode bytes.now) kind m [] items.old.items items.new.items) }
 {
-    let mut fields = Vec::new(recent.alloc);
-    whole_item(kind, mode, bytes, &mut fields, recent, items)
+    whole_item(kind, mode, bytes, recent, items)
 }
 
 /// Reports a line that is too long, once.
@@ -91,13 +89,12 @@ pub fn end_stream(mode: FrameState, items: &mut Vec<Item>) -> Result<(), AllocEr
     }
 }
 
-// Returns the item that is these bytes. `fields` is a buffer for the fields of a line.
+// Returns the item that is these bytes.
 #[tactic(auto, unfolding(crate::specs::Ends::whole_step))]
-fn whole_item<'a>(
+fn whole_item(
     kind: Kind,
     mode: FrameState,
-    bytes: &'a [u8],
-    fields: &mut Vec<&'a [u8]>,
+    bytes: &[u8],
     recent: &mut RecentNames,
     items: &mut Vec<Item>,
 ) -> Result<FrameState, AllocError>
@@ -105,7 +102,7 @@ fn whole_item<'a>(
     ensures { IfOk result (λ m. Makes (whole_step kind mode bytes.now) kind m [] items.old.items items.new.items) }
 {
     match mode {
-        FrameState::Line => line(kind, &bytes[..bytes.len() - 1], fields, recent, items),
+        FrameState::Line => line(kind, &bytes[..bytes.len() - 1], recent, items),
         FrameState::Texts(header) => texts(recent.alloc, kind, header, bytes, items),
         FrameState::Dead => Ok(FrameState::Dead),
     }
@@ -131,18 +128,16 @@ fn texts(
 
 // Reads a line, without its newline.
 #[tactic(auto, unfolding(crate::specs::Items::line_end, crate::specs::Items::item_of, crate::specs::Grammar::header_of, crate::specs::Grammar::request_of))]
-fn line<'a>(
+fn line(
     kind: Kind,
-    line: &'a [u8],
-    fields: &mut Vec<&'a [u8]>,
+    line: &[u8],
     recent: &mut RecentNames,
     items: &mut Vec<Item>,
 ) -> Result<FrameState, AllocError>
     ensures { IfOk result (λ m. Makes (line_end kind line.now) kind m [] items.old.items items.new.items) }
 {
     items.reserve(1)?;
-    split_fields(line, fields)?;
-    match fields_request(recent, kind, fields) {
+    match fields_request(recent, kind, &mut Fields::new(line)) {
         Ok(
             Request::Reload {
                 expected,

@@ -1,13 +1,13 @@
 //! Requests, parsed from the fields of a line, by the kind of the stream.
 
-ghost use Rattle.std.specs.Prelude.{map};
+ghost use Rattle.std.specs.Prelude.{◌∷◌};
 ghost use Rattle.sm_wire.specs.Reading.{ReadsAs};
 ghost use Rattle.sm_wire.specs.LineTable.{hello_line, explain_line, connection_lines, policy_lines, admin_lines};
 ghost use Rattle.sm_wire.specs.LineTable.{unnumbered_lines};
 ghost use Rattle.sm_wire.specs.Grammar.{line_of, lines_of, script_fields_of, fields_request_of, request_of};
 
-use crate::client_requests::{client_request, no_fields};
-use crate::fields::split_fields;
+use crate::client_requests::client_request;
+use crate::fields::Fields;
 use crate::kind::Kind;
 use crate::numbers::{number, u32_field};
 use crate::read_error::ReadError;
@@ -24,9 +24,7 @@ use std::alloc::Global;
 pub fn request(alloc: Global, kind: Kind, line: &[u8]) -> Result<Request, ReadError>
     ensures { ReadsAs result (request_of kind line.now) }
 {
-    let mut fields = Vec::new(alloc);
-    split_fields(line, &mut fields)?;
-    fields_request(&mut RecentNames::none(alloc), kind, &fields)
+    fields_request(&mut RecentNames::none(alloc), kind, &mut Fields::new(line))
 }
 
 /// Parses a line of this kind from its fields.
@@ -34,9 +32,9 @@ pub fn request(alloc: Global, kind: Kind, line: &[u8]) -> Result<Request, ReadEr
 pub fn fields_request(
     recent: &mut RecentNames,
     kind: Kind,
-    fields: &[&[u8]],
+    fields: &mut Fields<'_>,
 ) -> Result<Request, ReadError>
-    ensures { ReadsAs result (fields_request_of kind (map (λ f. f.now) fields.now)) }
+    ensures { ReadsAs result (fields_request_of kind fields.old) }
 {
     match kind {
         Kind::Client => connection_fields(recent, fields),
@@ -47,75 +45,71 @@ pub fn fields_request(
 
 // Parses a line of a client's connection.
 #[tactic(auto, unfolding(crate::specs::Grammar::lines_of, crate::specs::Grammar::parsed_by))]
-fn connection_fields(recent: &mut RecentNames, fields: &[&[u8]]) -> Result<Request, ReadError>
-    ensures { ReadsAs result (lines_of connection_lines (map (λ f. f.now) fields.now)) }
+fn connection_fields(
+    recent: &mut RecentNames,
+    fields: &mut Fields<'_>,
+) -> Result<Request, ReadError>
+    ensures { ReadsAs result (lines_of connection_lines fields.old) }
 {
-    let [word, rest @ ..] = fields else {
-        return Err(ReadError::Malformed);
-    };
+    let word = fields.field()?;
     if spells(word, b"hello") {
-        return hello(recent.alloc, rest);
+        return hello(recent.alloc, fields);
     }
-    client_request(recent, None, fields)
+    client_request(recent, None, word, fields)
 }
 
 // Parses a line of an administrator's connection.
 #[tactic(auto, unfolding(crate::specs::Grammar::lines_of, crate::specs::Grammar::parsed_by))]
-fn admin_fields(alloc: Global, fields: &[&[u8]]) -> Result<Request, ReadError>
-    ensures { ReadsAs result (lines_of admin_lines (map (λ f. f.now) fields.now)) }
+fn admin_fields(alloc: Global, fields: &mut Fields<'_>) -> Result<Request, ReadError>
+    ensures { ReadsAs result (lines_of admin_lines fields.old) }
 {
-    match fields {
-        [word, rest @ ..] if spells(word, b"version") => {
-            no_fields(rest)?;
-            Ok(Request::Look(None, Query::Version))
-        }
-        _ => policy_request(alloc, fields),
+    let word = fields.field()?;
+    if spells(word, b"version") {
+        fields.end()?;
+        return Ok(Request::Look(None, Query::Version));
     }
+    policy_request(alloc, word, fields)
 }
 
 // Parses a line of a script: a client's behind its number, or one without.
-#[tactic(auto, unfolding(crate::specs::Grammar::script_fields_of))]
-fn script_fields(recent: &mut RecentNames, fields: &[&[u8]]) -> Result<Request, ReadError>
-    ensures { ReadsAs result (script_fields_of (map (λ f. f.now) fields.now)) }
+#[tactic(auto, unfolding(crate::specs::Grammar::script_fields_of, crate::specs::Grammar::lines_of))]
+fn script_fields(recent: &mut RecentNames, fields: &mut Fields<'_>) -> Result<Request, ReadError>
+    ensures { ReadsAs result (script_fields_of fields.old) }
 {
-    let [word, rest @ ..] = fields else {
-        return Err(ReadError::Malformed);
-    };
+    let word = fields.field()?;
     let Some(n) = number(word, 0xffff_ffff) else {
-        return unnumbered(recent.alloc, fields);
+        return unnumbered(recent.alloc, word, fields);
     };
-    client_request(recent, Some(ClientId(n as u32)), rest)
+    let word = fields.field()?;
+    client_request(recent, Some(ClientId(n as u32)), word, fields)
 }
 
 // Parses a line of a script that doesn't begin with a client's number.
 #[tactic(auto, unfolding(crate::specs::Grammar::lines_of, crate::specs::Grammar::parsed_by))]
-fn unnumbered(alloc: Global, fields: &[&[u8]]) -> Result<Request, ReadError>
-    ensures { ReadsAs result (lines_of unnumbered_lines (map (λ f. f.now) fields.now)) }
+fn unnumbered(alloc: Global, word: &[u8], fields: &mut Fields<'_>) -> Result<Request, ReadError>
+    ensures { ReadsAs result (lines_of unnumbered_lines (word.now ∷ fields.old)) }
 {
-    match fields {
-        [word, rest @ ..] if spells(word, b"hello") => hello(alloc, rest),
-        _ => policy_request(alloc, fields),
+    if spells(word, b"hello") {
+        return hello(alloc, fields);
     }
+    policy_request(alloc, word, fields)
 }
 
 // Parses an administrator's line that a script has, too.
 #[inline(never)]
 #[tactic(auto, unfolding(crate::specs::Grammar::lines_of, crate::specs::Grammar::parsed_by))]
-fn policy_request(alloc: Global, fields: &[&[u8]]) -> Result<Request, ReadError>
-    ensures { ReadsAs result (lines_of policy_lines (map (λ f. f.now) fields.now)) }
+fn policy_request(alloc: Global, word: &[u8], fields: &mut Fields<'_>) -> Result<Request, ReadError>
+    ensures { ReadsAs result (lines_of policy_lines (word.now ∷ fields.old)) }
 {
-    let [word, rest @ ..] = fields else {
-        return Err(ReadError::Malformed);
-    };
     if spells(word, b"reload") {
-        reload(rest)
+        reload(fields)
     } else if spells(word, b"explain") {
-        explain(alloc, rest)
+        explain(alloc, fields)
     } else if spells(word, b"denials") {
-        no_fields(rest)?;
+        fields.end()?;
         Ok(Request::Denials)
     } else if spells(word, b"seal") {
-        no_fields(rest)?;
+        fields.end()?;
         Ok(Request::Seal)
     } else {
         Err(ReadError::Malformed)
@@ -125,12 +119,13 @@ fn policy_request(alloc: Global, fields: &[&[u8]]) -> Result<Request, ReadError>
 // Parses `hello PID UID CONTEXT`.
 #[inline(never)]
 #[tactic(auto, unfolding(crate::specs::Grammar::parsed_by))]
-fn hello(alloc: Global, fields: &[&[u8]]) -> Result<Request, ReadError>
-    ensures { ReadsAs result (line_of hello_line (map (λ f. f.now) fields.now)) }
+fn hello(alloc: Global, fields: &mut Fields<'_>) -> Result<Request, ReadError>
+    ensures { ReadsAs result (line_of hello_line fields.old) }
 {
-    let [pid, uid, context] = fields else {
-        return Err(ReadError::Malformed);
-    };
+    let pid = fields.field()?;
+    let uid = fields.field()?;
+    let context = fields.field()?;
+    fields.end()?;
     let pid = u32_field(pid)?;
     let uid = u32_field(uid)?;
     let context = context_field(alloc, context)?;
@@ -140,12 +135,14 @@ fn hello(alloc: Global, fields: &[&[u8]]) -> Result<Request, ReadError>
 // Parses `explain SOURCE TARGET CLASS PERM`.
 #[inline(never)]
 #[tactic(auto, unfolding(crate::specs::Grammar::parsed_by))]
-fn explain(alloc: Global, fields: &[&[u8]]) -> Result<Request, ReadError>
-    ensures { ReadsAs result (line_of explain_line (map (λ f. f.now) fields.now)) }
+fn explain(alloc: Global, fields: &mut Fields<'_>) -> Result<Request, ReadError>
+    ensures { ReadsAs result (line_of explain_line fields.old) }
 {
-    let [source, target, class, perm] = fields else {
-        return Err(ReadError::Malformed);
-    };
+    let source = fields.field()?;
+    let target = fields.field()?;
+    let class = fields.field()?;
+    let perm = fields.field()?;
+    fields.end()?;
     let query = Query::Explain {
         source: word_field(alloc, source)?,
         target: word_field(alloc, target)?,

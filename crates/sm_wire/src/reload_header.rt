@@ -1,10 +1,11 @@
 //! Headers of `reload` lines.
 
-ghost use Rattle.std.specs.Prelude.{◌≡◌, ◌+◌, map};
+ghost use Rattle.std.specs.Prelude.{◌≡◌, ◌+◌};
 ghost use Rattle.sm_wire.specs.Reading.{ReadsAs};
 ghost use Rattle.sm_wire.specs.LineTable.{reload_line};
 ghost use Rattle.sm_wire.specs.Grammar.{line_of};
 
+use crate::fields::Fields;
 use crate::numbers::{u32_field, u64_field};
 use crate::read_error::ReadError;
 use crate::request::Request;
@@ -29,12 +30,13 @@ impl ReloadHeader {
 
 /// Reads the fields of `reload EXPECTED R C`.
 #[tactic(auto, unfolding(crate::specs::Grammar::parsed_by))]
-pub fn reload(fields: &[&[u8]]) -> Result<Request, ReadError>
-    ensures { ReadsAs result (line_of reload_line (map (λ f. f.now) fields.now)) }
+pub fn reload(fields: &mut Fields<'_>) -> Result<Request, ReadError>
+    ensures { ReadsAs result (line_of reload_line fields.old) }
 {
-    let [expected, rules, contexts] = fields else {
-        return Err(ReadError::Malformed);
-    };
+    let expected = fields.field()?;
+    let rules = fields.field()?;
+    let contexts = fields.field()?;
+    fields.end()?;
     let expected = u64_field(expected)?;
     let rules = u32_field(rules)?;
     let contexts = u32_field(contexts)?;

@@ -1,6 +1,5 @@
 //! Fields of request lines: a function for each kind of value.
 
-ghost use Rattle.std.specs.Prelude.{map};
 ghost use Rattle.std.specs.Result.{result_ok, result_map_both};
 ghost use Rattle.hex.specs.Hex.{decode_of};
 ghost use Rattle.sm_kinds.specs.Permissions.{class_read};
@@ -9,6 +8,7 @@ ghost use Rattle.sm_wire.specs.Values.{name_of, reference_of, own_object_of, cal
 ghost use Rattle.sm_wire.specs.Values.{fitting_payload, fitting_references, hex_payload_of, payload_of, flag_of};
 ghost use Rattle.sm_wire.specs.Values.{context_of, word_of, perm_of};
 
+use crate::fields::Fields;
 use crate::numbers::u32_field;
 use crate::read_error::ReadError;
 use crate::recent_names::RecentNames;
@@ -117,11 +117,11 @@ fn references(list: Vec<ObjRef>) -> Result<Refs, ReadError>
 
 // Parses at most 16 REF.
 #[tactic(auto, unfolding(crate::specs::Values::call_references_of))]
-pub fn reference_fields(alloc: Global, fields: &[&[u8]]) -> Result<Refs, ReadError>
-    ensures { ReadsAs result (call_references_of (map (λ f. f.now) fields.now)) }
+pub fn reference_fields(alloc: Global, fields: &mut Fields<'_>) -> Result<Refs, ReadError>
+    ensures { ReadsAs result (call_references_of fields.old) }
 {
     let mut list = Vec::new(alloc);
-    for field in fields {
+    while let Some(field) = fields.next() {
         let reference = reference_field(field)?;
         if list.push(reference).is_err() {
             return Err(ReadError::Memory);
