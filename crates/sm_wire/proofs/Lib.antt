@@ -1,5 +1,6 @@
 pub mod FramingLemmas
 pub mod FieldLemmas
+pub mod GivingLemmas
 pub mod ItemLemmas
 pub mod NumberLemmas
 pub mod SpellingLemmasContexts

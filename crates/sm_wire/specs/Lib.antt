@@ -4,6 +4,7 @@ pub mod Reading
 pub mod Values
 pub mod LineTable
 pub mod Grammar
+pub mod Giving
 pub mod FieldSpelling
 pub mod Spelling
 pub mod Items

@@ -3,13 +3,14 @@
 //! A function zeroes its locals on entry. So the lines with fields are parsed by functions that aren't inlined, and a
 //! short line doesn't pay for a long one.
 
-ghost use Rattle.std.specs.Prelude.{◌∷◌};
-ghost use Rattle.sm_wire.specs.Reading.{ReadsAs};
+ghost use Rattle.std.specs.Prelude.{◌<◌, ◌∷◌, vec_len, vec_capacity};
+ghost use Rattle.sm_wire.specs.Giving.{Gives};
 ghost use Rattle.sm_wire.specs.LineTable.{get_line, list_line, add_line, watch_line, unwatch_line, unregister_line};
 ghost use Rattle.sm_wire.specs.LineTable.{call_line, release_line, registering_lines, client_lines};
 ghost use Rattle.sm_wire.specs.Grammar.{line_of, lines_of};
 
 use crate::fields::Fields;
+use crate::item::{Item, give};
 use crate::numbers::u32_field;
 use crate::read_error::ReadError;
 use crate::recent_names::RecentNames;
@@ -27,33 +28,35 @@ pub fn client_request(
     client: Option<ClientId>,
     word: &[u8],
     fields: &mut Fields<'_>,
-) -> Result<Request, ReadError>
-    ensures { ReadsAs result (lines_of (client_lines client) (word.now ∷ fields.old)) }
+    items: &mut Vec<Item>,
+) -> Result<(), ReadError>
+    requires { vec_len items.old < vec_capacity items.old }
+    ensures { Gives result items.old.items items.new.items (lines_of (client_lines client) (word.now ∷ fields.old)) }
 {
     if spells(word, b"get") {
-        return get(recent, client, fields);
+        return get(recent, client, fields, items);
     }
     if spells(word, b"check") {
-        return get(recent, client, fields);
+        return get(recent, client, fields, items);
     }
     if spells(word, b"list") {
-        return list(client, fields);
+        return list(client, fields, items);
     }
     if spells(word, b"version") {
         fields.end()?;
-        return Ok(Request::Look(client, Query::Version));
+        return give(items, Request::Look(client, Query::Version));
     }
     if spells(word, b"call") {
-        return call(recent, client, fields);
+        return call(recent, client, fields, items);
     }
     if spells(word, b"release") {
-        return release(client, fields);
+        return release(client, fields, items);
     }
     if spells(word, b"take") {
         fields.end()?;
-        return Ok(Request::Change(client, Event::Take));
+        return give(items, Request::Change(client, Event::Take));
     }
-    registering_request(recent, client, word, fields)
+    registering_request(recent, client, word, fields, items)
 }
 
 // Reads a change of what is registered, or a leave.
@@ -63,24 +66,26 @@ fn registering_request(
     client: Option<ClientId>,
     word: &[u8],
     fields: &mut Fields<'_>,
-) -> Result<Request, ReadError>
-    ensures { ReadsAs result (lines_of (registering_lines client) (word.now ∷ fields.old)) }
+    items: &mut Vec<Item>,
+) -> Result<(), ReadError>
+    requires { vec_len items.old < vec_capacity items.old }
+    ensures { Gives result items.old.items items.new.items (lines_of (registering_lines client) (word.now ∷ fields.old)) }
 {
     if spells(word, b"add") {
-        return add(recent, client, fields);
+        return add(recent, client, fields, items);
     }
     if spells(word, b"watch") {
-        return watch(recent, client, fields);
+        return watch(recent, client, fields, items);
     }
     if spells(word, b"unwatch") {
-        return unwatch(recent, client, fields);
+        return unwatch(recent, client, fields, items);
     }
     if spells(word, b"unregister") {
-        return unregister(recent, client, fields);
+        return unregister(recent, client, fields, items);
     }
     if spells(word, b"bye") {
         fields.end()?;
-        return Ok(Request::Change(client, Event::Die));
+        return give(items, Request::Change(client, Event::Die));
     }
     Err(ReadError::Malformed)
 }
@@ -92,25 +97,32 @@ fn get(
     recent: &mut RecentNames,
     client: Option<ClientId>,
     fields: &mut Fields<'_>,
-) -> Result<Request, ReadError>
-    ensures { ReadsAs result (line_of (get_line client) fields.old) }
+    items: &mut Vec<Item>,
+) -> Result<(), ReadError>
+    requires { vec_len items.old < vec_capacity items.old }
+    ensures { Gives result items.old.items items.new.items (line_of (get_line client) fields.old) }
 {
     let name = fields.field()?;
     fields.end()?;
     let name = name_field(recent, name)?;
-    Ok(Request::Change(client, Event::Get { name }))
+    give(items, Request::Change(client, Event::Get { name }))
 }
 
 // Reads `list MASK`.
 #[inline(never)]
 #[tactic(auto, unfolding(crate::specs::Grammar::parsed_by))]
-fn list(client: Option<ClientId>, fields: &mut Fields<'_>) -> Result<Request, ReadError>
-    ensures { ReadsAs result (line_of (list_line client) fields.old) }
+fn list(
+    client: Option<ClientId>,
+    fields: &mut Fields<'_>,
+    items: &mut Vec<Item>,
+) -> Result<(), ReadError>
+    requires { vec_len items.old < vec_capacity items.old }
+    ensures { Gives result items.old.items items.new.items (line_of (list_line client) fields.old) }
 {
     let mask = fields.field()?;
     fields.end()?;
     let mask = u32_field(mask)?;
-    Ok(Request::Look(client, Query::List(mask)))
+    give(items, Request::Look(client, Query::List(mask)))
 }
 
 // Reads `add NAME REF ALLOW DUMP`.
@@ -120,8 +132,10 @@ fn add(
     recent: &mut RecentNames,
     client: Option<ClientId>,
     fields: &mut Fields<'_>,
-) -> Result<Request, ReadError>
-    ensures { ReadsAs result (line_of (add_line client) fields.old) }
+    items: &mut Vec<Item>,
+) -> Result<(), ReadError>
+    requires { vec_len items.old < vec_capacity items.old }
+    ensures { Gives result items.old.items items.new.items (line_of (add_line client) fields.old) }
 {
     let name = fields.field()?;
     let obj = fields.field()?;
@@ -134,7 +148,7 @@ fn add(
         allow_isolated: flag_field(allow_isolated)?,
         dump: u32_field(dump)?,
     };
-    Ok(Request::Change(client, event))
+    give(items, Request::Change(client, event))
 }
 
 // Reads `watch NAME oN`.
@@ -144,15 +158,20 @@ fn watch(
     recent: &mut RecentNames,
     client: Option<ClientId>,
     fields: &mut Fields<'_>,
-) -> Result<Request, ReadError>
-    ensures { ReadsAs result (line_of (watch_line client) fields.old) }
+    items: &mut Vec<Item>,
+) -> Result<(), ReadError>
+    requires { vec_len items.old < vec_capacity items.old }
+    ensures { Gives result items.old.items items.new.items (line_of (watch_line client) fields.old) }
 {
     let name = fields.field()?;
     let object = fields.field()?;
     fields.end()?;
     let name = name_field(recent, name)?;
     let object = own_object_field(object)?;
-    Ok(Request::Change(client, Event::Watch { name, object }))
+    give(
+        items,
+        Request::Change(client, Event::Watch { name, object }),
+    )
 }
 
 // Reads `unwatch NAME oN`.
@@ -162,15 +181,20 @@ fn unwatch(
     recent: &mut RecentNames,
     client: Option<ClientId>,
     fields: &mut Fields<'_>,
-) -> Result<Request, ReadError>
-    ensures { ReadsAs result (line_of (unwatch_line client) fields.old) }
+    items: &mut Vec<Item>,
+) -> Result<(), ReadError>
+    requires { vec_len items.old < vec_capacity items.old }
+    ensures { Gives result items.old.items items.new.items (line_of (unwatch_line client) fields.old) }
 {
     let name = fields.field()?;
     let object = fields.field()?;
     fields.end()?;
     let name = name_field(recent, name)?;
     let object = own_object_field(object)?;
-    Ok(Request::Change(client, Event::Unwatch { name, object }))
+    give(
+        items,
+        Request::Change(client, Event::Unwatch { name, object }),
+    )
 }
 
 // Reads `unregister NAME REF`.
@@ -180,15 +204,20 @@ fn unregister(
     recent: &mut RecentNames,
     client: Option<ClientId>,
     fields: &mut Fields<'_>,
-) -> Result<Request, ReadError>
-    ensures { ReadsAs result (line_of (unregister_line client) fields.old) }
+    items: &mut Vec<Item>,
+) -> Result<(), ReadError>
+    requires { vec_len items.old < vec_capacity items.old }
+    ensures { Gives result items.old.items items.new.items (line_of (unregister_line client) fields.old) }
 {
     let name = fields.field()?;
     let obj = fields.field()?;
     fields.end()?;
     let name = name_field(recent, name)?;
     let obj = reference_field(obj)?;
-    Ok(Request::Change(client, Event::Unregister { name, obj }))
+    give(
+        items,
+        Request::Change(client, Event::Unregister { name, obj }),
+    )
 }
 
 // Reads `call N PAYLOAD REF ..`.
@@ -198,8 +227,10 @@ fn call(
     recent: &mut RecentNames,
     client: Option<ClientId>,
     fields: &mut Fields<'_>,
-) -> Result<Request, ReadError>
-    ensures { ReadsAs result (line_of (call_line client) fields.old) }
+    items: &mut Vec<Item>,
+) -> Result<(), ReadError>
+    requires { vec_len items.old < vec_capacity items.old }
+    ensures { Gives result items.old.items items.new.items (line_of (call_line client) fields.old) }
 {
     let handle = fields.field()?;
     let payload = fields.field()?;
@@ -208,17 +239,22 @@ fn call(
         payload: payload_field(recent.alloc, payload)?,
         refs: reference_fields(recent.alloc, fields)?,
     };
-    Ok(Request::Change(client, event))
+    give(items, Request::Change(client, event))
 }
 
 // Reads `release N`.
 #[inline(never)]
 #[tactic(auto, unfolding(crate::specs::Grammar::parsed_by))]
-fn release(client: Option<ClientId>, fields: &mut Fields<'_>) -> Result<Request, ReadError>
-    ensures { ReadsAs result (line_of (release_line client) fields.old) }
+fn release(
+    client: Option<ClientId>,
+    fields: &mut Fields<'_>,
+    items: &mut Vec<Item>,
+) -> Result<(), ReadError>
+    requires { vec_len items.old < vec_capacity items.old }
+    ensures { Gives result items.old.items items.new.items (line_of (release_line client) fields.old) }
 {
     let handle = fields.field()?;
     fields.end()?;
     let handle = u32_field(handle)?;
-    Ok(Request::Change(client, Event::Release { handle }))
+    give(items, Request::Change(client, Event::Release { handle }))
 }

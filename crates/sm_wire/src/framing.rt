@@ -1,7 +1,8 @@
 //! Cuts bytes into items.
 
-ghost use Rattle.std.specs.Prelude.{◌≡◌, ◌≤◌, ◌+◌, ◌++◌, ◌∷◌, [], length, drop, IfOk, OnOk};
+ghost use Rattle.std.specs.Prelude.{◌≡◌, ◌≤◌, ◌+◌, ◌++◌, ◌∷◌, [], length, drop, slice_get, IfOk, OnOk};
 ghost use Rattle.sm_wire.specs.Items.{Makes, policy_item, scan_start, text_start, line_end, scan_after, items_after};
+ghost use Rattle.sm_wire.specs.Giving.{header_in};
 ghost use Rattle.sm_wire.specs.Ends.{IsWhole, whole_step, never_items};
 
 use crate::ends::{End, item_end};
@@ -137,30 +138,41 @@ fn line(
     ensures { IfOk result (λ m. Makes (line_end kind line.now) kind m [] items.old.items items.new.items) }
 {
     items.reserve(1)?;
-    match fields_request(recent, kind, &mut Fields::new(line)) {
-        Ok(
-            Request::Reload {
-                expected,
-                rules,
-                contexts,
-            },
-        ) => {
-            let header = ReloadHeader {
-                expected,
-                rules,
-                contexts,
-            };
-            texts_begin(recent.alloc, kind, header, items)
-        }
-        Ok(request) => {
-            items.push_reserved(Item::Asked(request));
-            Ok(FrameState::Line)
-        }
+    let count = items.len();
+    match fields_request(recent, kind, &mut Fields::new(line), items) {
+        Ok(()) => {}
         Err(ReadError::Malformed) => {
-            items.push_reserved(Item::Malformed);
-            Ok(FrameState::Line)
+            items.push(Item::Malformed)?;
+            return Ok(FrameState::Line);
         }
-        Err(ReadError::Memory) => Err(AllocError),
+        Err(ReadError::Memory) => return Err(AllocError),
+    }
+    let Some(header) = header_at(items, count) else {
+        return Ok(FrameState::Line);
+    };
+    items.truncate(count);
+    texts_begin(recent.alloc, kind, header, items)
+}
+
+// Returns the header of the `reload` line that is this item, if it is one.
+fn header_at(items: &[Item], i: usize) -> Option<ReloadHeader>
+    ensures { result ≡ header_in (slice_get items.now i) }
+{
+    match items.get(i) {
+        Some(
+            Item::Asked(
+                Request::Reload {
+                    expected,
+                    rules,
+                    contexts,
+                },
+            ),
+        ) => Some(ReloadHeader {
+            expected: *expected,
+            rules: *rules,
+            contexts: *contexts,
+        }),
+        _ => None,
     }
 }
 

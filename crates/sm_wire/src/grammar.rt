@@ -1,6 +1,7 @@
 //! Requests, parsed from the fields of a line, by the kind of the stream.
 
-ghost use Rattle.std.specs.Prelude.{◌∷◌};
+ghost use Rattle.std.specs.Prelude.{◌<◌, ◌∷◌, vec_len, vec_capacity};
+ghost use Rattle.sm_wire.specs.Giving.{Gives};
 ghost use Rattle.sm_wire.specs.Reading.{ReadsAs};
 ghost use Rattle.sm_wire.specs.LineTable.{hello_line, explain_line, connection_lines, policy_lines, admin_lines};
 ghost use Rattle.sm_wire.specs.LineTable.{unnumbered_lines};
@@ -8,6 +9,7 @@ ghost use Rattle.sm_wire.specs.Grammar.{line_of, lines_of, script_fields_of, fie
 
 use crate::client_requests::client_request;
 use crate::fields::Fields;
+use crate::item::{Item, give};
 use crate::kind::Kind;
 use crate::numbers::{number, u32_field};
 use crate::read_error::ReadError;
@@ -24,7 +26,17 @@ use std::alloc::Global;
 pub fn request(alloc: Global, kind: Kind, line: &[u8]) -> Result<Request, ReadError>
     ensures { ReadsAs result (request_of kind line.now) }
 {
-    fields_request(&mut RecentNames::none(alloc), kind, &mut Fields::new(line))
+    let mut items = Vec::with_capacity(alloc, 1)?;
+    fields_request(
+        &mut RecentNames::none(alloc),
+        kind,
+        &mut Fields::new(line),
+        &mut items,
+    )?;
+    match items.pop() {
+        Some(Item::Asked(request)) => Ok(request),
+        _ => unreachable!(),
+    }
 }
 
 /// Parses a line of this kind from its fields.
@@ -33,13 +45,15 @@ pub fn fields_request(
     recent: &mut RecentNames,
     kind: Kind,
     fields: &mut Fields<'_>,
-) -> Result<Request, ReadError>
-    ensures { ReadsAs result (fields_request_of kind fields.old) }
+    items: &mut Vec<Item>,
+) -> Result<(), ReadError>
+    requires { vec_len items.old < vec_capacity items.old }
+    ensures { Gives result items.old.items items.new.items (fields_request_of kind fields.old) }
 {
     match kind {
-        Kind::Client => connection_fields(recent, fields),
-        Kind::Admin => admin_fields(recent.alloc, fields),
-        Kind::Script => script_fields(recent, fields),
+        Kind::Client => connection_fields(recent, fields, items),
+        Kind::Admin => admin_fields(recent.alloc, fields, items),
+        Kind::Script => script_fields(recent, fields, items),
     }
 }
 
@@ -48,69 +62,93 @@ pub fn fields_request(
 fn connection_fields(
     recent: &mut RecentNames,
     fields: &mut Fields<'_>,
-) -> Result<Request, ReadError>
-    ensures { ReadsAs result (lines_of connection_lines fields.old) }
+    items: &mut Vec<Item>,
+) -> Result<(), ReadError>
+    requires { vec_len items.old < vec_capacity items.old }
+    ensures { Gives result items.old.items items.new.items (lines_of connection_lines fields.old) }
 {
     let word = fields.field()?;
     if spells(word, b"hello") {
-        return hello(recent.alloc, fields);
+        return hello(recent.alloc, fields, items);
     }
-    client_request(recent, None, word, fields)
+    client_request(recent, None, word, fields, items)
 }
 
 // Parses a line of an administrator's connection.
 #[tactic(auto, unfolding(crate::specs::Grammar::lines_of, crate::specs::Grammar::parsed_by))]
-fn admin_fields(alloc: Global, fields: &mut Fields<'_>) -> Result<Request, ReadError>
-    ensures { ReadsAs result (lines_of admin_lines fields.old) }
+fn admin_fields(
+    alloc: Global,
+    fields: &mut Fields<'_>,
+    items: &mut Vec<Item>,
+) -> Result<(), ReadError>
+    requires { vec_len items.old < vec_capacity items.old }
+    ensures { Gives result items.old.items items.new.items (lines_of admin_lines fields.old) }
 {
     let word = fields.field()?;
     if spells(word, b"version") {
         fields.end()?;
-        return Ok(Request::Look(None, Query::Version));
+        return give(items, Request::Look(None, Query::Version));
     }
-    policy_request(alloc, word, fields)
+    policy_request(alloc, word, fields, items)
 }
 
 // Parses a line of a script: a client's behind its number, or one without.
 #[tactic(auto, unfolding(crate::specs::Grammar::script_fields_of, crate::specs::Grammar::lines_of))]
-fn script_fields(recent: &mut RecentNames, fields: &mut Fields<'_>) -> Result<Request, ReadError>
-    ensures { ReadsAs result (script_fields_of fields.old) }
+fn script_fields(
+    recent: &mut RecentNames,
+    fields: &mut Fields<'_>,
+    items: &mut Vec<Item>,
+) -> Result<(), ReadError>
+    requires { vec_len items.old < vec_capacity items.old }
+    ensures { Gives result items.old.items items.new.items (script_fields_of fields.old) }
 {
     let word = fields.field()?;
     let Some(n) = number(word, 0xffff_ffff) else {
-        return unnumbered(recent.alloc, word, fields);
+        return unnumbered(recent.alloc, word, fields, items);
     };
     let word = fields.field()?;
-    client_request(recent, Some(ClientId(n as u32)), word, fields)
+    client_request(recent, Some(ClientId(n as u32)), word, fields, items)
 }
 
 // Parses a line of a script that doesn't begin with a client's number.
 #[tactic(auto, unfolding(crate::specs::Grammar::lines_of, crate::specs::Grammar::parsed_by))]
-fn unnumbered(alloc: Global, word: &[u8], fields: &mut Fields<'_>) -> Result<Request, ReadError>
-    ensures { ReadsAs result (lines_of unnumbered_lines (word.now ∷ fields.old)) }
+fn unnumbered(
+    alloc: Global,
+    word: &[u8],
+    fields: &mut Fields<'_>,
+    items: &mut Vec<Item>,
+) -> Result<(), ReadError>
+    requires { vec_len items.old < vec_capacity items.old }
+    ensures { Gives result items.old.items items.new.items (lines_of unnumbered_lines (word.now ∷ fields.old)) }
 {
     if spells(word, b"hello") {
-        return hello(alloc, fields);
+        return hello(alloc, fields, items);
     }
-    policy_request(alloc, word, fields)
+    policy_request(alloc, word, fields, items)
 }
 
 // Parses an administrator's line that a script has, too.
 #[inline(never)]
 #[tactic(auto, unfolding(crate::specs::Grammar::lines_of, crate::specs::Grammar::parsed_by))]
-fn policy_request(alloc: Global, word: &[u8], fields: &mut Fields<'_>) -> Result<Request, ReadError>
-    ensures { ReadsAs result (lines_of policy_lines (word.now ∷ fields.old)) }
+fn policy_request(
+    alloc: Global,
+    word: &[u8],
+    fields: &mut Fields<'_>,
+    items: &mut Vec<Item>,
+) -> Result<(), ReadError>
+    requires { vec_len items.old < vec_capacity items.old }
+    ensures { Gives result items.old.items items.new.items (lines_of policy_lines (word.now ∷ fields.old)) }
 {
     if spells(word, b"reload") {
-        reload(fields)
+        reload(fields, items)
     } else if spells(word, b"explain") {
-        explain(alloc, fields)
+        explain(alloc, fields, items)
     } else if spells(word, b"denials") {
         fields.end()?;
-        Ok(Request::Denials)
+        give(items, Request::Denials)
     } else if spells(word, b"seal") {
         fields.end()?;
-        Ok(Request::Seal)
+        give(items, Request::Seal)
     } else {
         Err(ReadError::Malformed)
     }
@@ -119,8 +157,9 @@ fn policy_request(alloc: Global, word: &[u8], fields: &mut Fields<'_>) -> Result
 // Parses `hello PID UID CONTEXT`.
 #[inline(never)]
 #[tactic(auto, unfolding(crate::specs::Grammar::parsed_by))]
-fn hello(alloc: Global, fields: &mut Fields<'_>) -> Result<Request, ReadError>
-    ensures { ReadsAs result (line_of hello_line fields.old) }
+fn hello(alloc: Global, fields: &mut Fields<'_>, items: &mut Vec<Item>) -> Result<(), ReadError>
+    requires { vec_len items.old < vec_capacity items.old }
+    ensures { Gives result items.old.items items.new.items (line_of hello_line fields.old) }
 {
     let pid = fields.field()?;
     let uid = fields.field()?;
@@ -129,14 +168,15 @@ fn hello(alloc: Global, fields: &mut Fields<'_>) -> Result<Request, ReadError>
     let pid = u32_field(pid)?;
     let uid = u32_field(uid)?;
     let context = context_field(alloc, context)?;
-    Ok(Request::Hello(Identity { pid, uid, context }))
+    give(items, Request::Hello(Identity { pid, uid, context }))
 }
 
 // Parses `explain SOURCE TARGET CLASS PERM`.
 #[inline(never)]
 #[tactic(auto, unfolding(crate::specs::Grammar::parsed_by))]
-fn explain(alloc: Global, fields: &mut Fields<'_>) -> Result<Request, ReadError>
-    ensures { ReadsAs result (line_of explain_line fields.old) }
+fn explain(alloc: Global, fields: &mut Fields<'_>, items: &mut Vec<Item>) -> Result<(), ReadError>
+    requires { vec_len items.old < vec_capacity items.old }
+    ensures { Gives result items.old.items items.new.items (line_of explain_line fields.old) }
 {
     let source = fields.field()?;
     let target = fields.field()?;
@@ -149,5 +189,5 @@ fn explain(alloc: Global, fields: &mut Fields<'_>) -> Result<Request, ReadError>
         class: class_field(class)?,
         perm: perm_field(perm)?,
     };
-    Ok(Request::Look(None, query))
+    give(items, Request::Look(None, query))
 }

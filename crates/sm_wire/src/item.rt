@@ -1,5 +1,9 @@
 //! Items of a stream of request lines.
 
+ghost use Rattle.std.specs.Prelude.{◌<◌, Some, vec_len, vec_capacity};
+ghost use Rattle.sm_wire.specs.Giving.{Gives};
+
+use crate::read_error::ReadError;
 use crate::request::Request;
 use crate::texts::PolicyTexts;
 
@@ -15,4 +19,13 @@ pub enum Item {
     /// A line of more than 4,096 bytes, or a `reload` line that announces a file of more than 4,194,304. It is the last
     /// item of a stream.
     LineTooLong,
+}
+
+/// Appends the item of a request, for which there is room.
+pub fn give(items: &mut Vec<Item>, request: Request) -> Result<(), ReadError>
+    requires { vec_len items.old < vec_capacity items.old }
+    ensures { Gives result items.old.items items.new.items (Some request) }
+{
+    items.push_reserved(Item::Asked(request));
+    Ok(())
 }

@@ -1,11 +1,12 @@
 //! Headers of `reload` lines.
 
-ghost use Rattle.std.specs.Prelude.{◌≡◌, ◌+◌};
-ghost use Rattle.sm_wire.specs.Reading.{ReadsAs};
+ghost use Rattle.std.specs.Prelude.{◌≡◌, ◌<◌, ◌+◌, vec_len, vec_capacity};
+ghost use Rattle.sm_wire.specs.Giving.{Gives};
 ghost use Rattle.sm_wire.specs.LineTable.{reload_line};
 ghost use Rattle.sm_wire.specs.Grammar.{line_of};
 
 use crate::fields::Fields;
+use crate::item::{Item, give};
 use crate::numbers::{u32_field, u64_field};
 use crate::read_error::ReadError;
 use crate::request::Request;
@@ -30,8 +31,9 @@ impl ReloadHeader {
 
 /// Reads the fields of `reload EXPECTED R C`.
 #[tactic(auto, unfolding(crate::specs::Grammar::parsed_by))]
-pub fn reload(fields: &mut Fields<'_>) -> Result<Request, ReadError>
-    ensures { ReadsAs result (line_of reload_line fields.old) }
+pub fn reload(fields: &mut Fields<'_>, items: &mut Vec<Item>) -> Result<(), ReadError>
+    requires { vec_len items.old < vec_capacity items.old }
+    ensures { Gives result items.old.items items.new.items (line_of reload_line fields.old) }
 {
     let expected = fields.field()?;
     let rules = fields.field()?;
@@ -40,9 +42,12 @@ pub fn reload(fields: &mut Fields<'_>) -> Result<Request, ReadError>
     let expected = u64_field(expected)?;
     let rules = u32_field(rules)?;
     let contexts = u32_field(contexts)?;
-    Ok(Request::Reload {
-        expected,
-        rules,
-        contexts,
-    })
+    give(
+        items,
+        Request::Reload {
+            expected,
+            rules,
+            contexts,
+        },
+    )
 }

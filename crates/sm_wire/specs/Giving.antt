@@ -1,0 +1,29 @@
+-- The item of a request, appended where it lies.
+use Rattle.std.specs.Prelude.{◌≡◌, List, [], ◌∷◌, ◌++◌, Option, Some, None, Result, Ok, Err}
+use Rattle.sm_wire.specs.declared.item.Item.{Item}
+use Rattle.sm_wire.specs.declared.item.Item.TheVariants.{Asked, Policy, Malformed as MalformedItem, LineTooLong}
+use Rattle.sm_wire.specs.declared.read_error.ReadError.{ReadError}
+use Rattle.sm_wire.specs.declared.read_error.ReadError.TheVariants.{Malformed, Memory}
+use Rattle.sm_wire.specs.declared.reload_header.ReloadHeader.{ReloadHeader}
+use Rattle.sm_wire.specs.declared.request.Request.{Request}
+use Rattle.sm_wire.specs.Grammar.{header_by}
+
+-- The item of this request was appended.
+abbrev pub Appended : Option Request → List Item → List Item → Type 0
+Appended (Some request) old new = new ≡ old ++ Asked request ∷ []
+Appended None old new = ⊥
+
+-- The request of the grammar was appended, and `Malformed` means that there is none, and nothing was appended; out of
+-- memory may come for any bytes.
+abbrev pub Gives : Result (Unit {0}) ReadError → List Item → List Item → Option Request → Type 0
+Gives (Ok x) old new o = Appended o old new
+Gives (Err Malformed) old new o = (o ≡ None) × (new ≡ old)
+Gives (Err Memory) old new o = Unit {0}
+
+-- This is the header of an item's `reload` request, if the item has one.
+abbrev pub header_in : Option Item → Option ReloadHeader
+header_in (Some (Asked request)) = header_by (Some request)
+header_in (Some (Policy texts)) = None
+header_in (Some MalformedItem) = None
+header_in (Some LineTooLong) = None
+header_in None = None
