@@ -3,7 +3,8 @@
 //! A function zeroes its locals on entry. So the lines with fields are parsed by functions that aren't inlined, and a
 //! short line doesn't pay for a long one.
 
-ghost use Rattle.std.specs.Prelude.{◌<◌, ◌∷◌, vec_len, vec_capacity};
+ghost use Rattle.std.specs.Prelude.{◌<◌, ◌∷◌};
+ghost use Rattle.std.specs.VecDeque.{deque_len, deque_capacity};
 ghost use Rattle.sm_wire.specs.Giving.{Gives};
 ghost use Rattle.sm_wire.specs.LineTable.{get_line, list_line, add_line, watch_line, unwatch_line, unregister_line};
 ghost use Rattle.sm_wire.specs.LineTable.{call_line, release_line, registering_lines, client_lines};
@@ -20,6 +21,7 @@ use crate::values::{
 };
 use sm_history::{Event, Query};
 use sm_kinds::{ClientId, spells};
+use std::collections::VecDeque;
 
 /// Reads a query or a change of a client.
 #[tactic(auto, unfolding(crate::specs::Grammar::lines_of, crate::specs::Grammar::parsed_by))]
@@ -28,9 +30,9 @@ pub fn client_request(
     client: Option<ClientId>,
     word: &[u8],
     fields: &mut Fields<'_>,
-    items: &mut Vec<Item>,
+    items: &mut VecDeque<Item>,
 ) -> Result<(), ReadError>
-    requires { vec_len items.old < vec_capacity items.old }
+    requires { deque_len items.old < deque_capacity items.old }
     ensures { Gives result items.old.items items.new.items (lines_of (client_lines client) (word.now ∷ fields.old)) }
 {
     if spells(word, b"get") {
@@ -66,9 +68,9 @@ fn registering_request(
     client: Option<ClientId>,
     word: &[u8],
     fields: &mut Fields<'_>,
-    items: &mut Vec<Item>,
+    items: &mut VecDeque<Item>,
 ) -> Result<(), ReadError>
-    requires { vec_len items.old < vec_capacity items.old }
+    requires { deque_len items.old < deque_capacity items.old }
     ensures { Gives result items.old.items items.new.items (lines_of (registering_lines client) (word.now ∷ fields.old)) }
 {
     if spells(word, b"add") {
@@ -97,9 +99,9 @@ fn get(
     recent: &mut RecentNames,
     client: Option<ClientId>,
     fields: &mut Fields<'_>,
-    items: &mut Vec<Item>,
+    items: &mut VecDeque<Item>,
 ) -> Result<(), ReadError>
-    requires { vec_len items.old < vec_capacity items.old }
+    requires { deque_len items.old < deque_capacity items.old }
     ensures { Gives result items.old.items items.new.items (line_of (get_line client) fields.old) }
 {
     let name = fields.field()?;
@@ -114,9 +116,9 @@ fn get(
 fn list(
     client: Option<ClientId>,
     fields: &mut Fields<'_>,
-    items: &mut Vec<Item>,
+    items: &mut VecDeque<Item>,
 ) -> Result<(), ReadError>
-    requires { vec_len items.old < vec_capacity items.old }
+    requires { deque_len items.old < deque_capacity items.old }
     ensures { Gives result items.old.items items.new.items (line_of (list_line client) fields.old) }
 {
     let mask = fields.field()?;
@@ -132,9 +134,9 @@ fn add(
     recent: &mut RecentNames,
     client: Option<ClientId>,
     fields: &mut Fields<'_>,
-    items: &mut Vec<Item>,
+    items: &mut VecDeque<Item>,
 ) -> Result<(), ReadError>
-    requires { vec_len items.old < vec_capacity items.old }
+    requires { deque_len items.old < deque_capacity items.old }
     ensures { Gives result items.old.items items.new.items (line_of (add_line client) fields.old) }
 {
     let name = fields.field()?;
@@ -158,9 +160,9 @@ fn watch(
     recent: &mut RecentNames,
     client: Option<ClientId>,
     fields: &mut Fields<'_>,
-    items: &mut Vec<Item>,
+    items: &mut VecDeque<Item>,
 ) -> Result<(), ReadError>
-    requires { vec_len items.old < vec_capacity items.old }
+    requires { deque_len items.old < deque_capacity items.old }
     ensures { Gives result items.old.items items.new.items (line_of (watch_line client) fields.old) }
 {
     let name = fields.field()?;
@@ -181,9 +183,9 @@ fn unwatch(
     recent: &mut RecentNames,
     client: Option<ClientId>,
     fields: &mut Fields<'_>,
-    items: &mut Vec<Item>,
+    items: &mut VecDeque<Item>,
 ) -> Result<(), ReadError>
-    requires { vec_len items.old < vec_capacity items.old }
+    requires { deque_len items.old < deque_capacity items.old }
     ensures { Gives result items.old.items items.new.items (line_of (unwatch_line client) fields.old) }
 {
     let name = fields.field()?;
@@ -204,9 +206,9 @@ fn unregister(
     recent: &mut RecentNames,
     client: Option<ClientId>,
     fields: &mut Fields<'_>,
-    items: &mut Vec<Item>,
+    items: &mut VecDeque<Item>,
 ) -> Result<(), ReadError>
-    requires { vec_len items.old < vec_capacity items.old }
+    requires { deque_len items.old < deque_capacity items.old }
     ensures { Gives result items.old.items items.new.items (line_of (unregister_line client) fields.old) }
 {
     let name = fields.field()?;
@@ -227,9 +229,9 @@ fn call(
     recent: &mut RecentNames,
     client: Option<ClientId>,
     fields: &mut Fields<'_>,
-    items: &mut Vec<Item>,
+    items: &mut VecDeque<Item>,
 ) -> Result<(), ReadError>
-    requires { vec_len items.old < vec_capacity items.old }
+    requires { deque_len items.old < deque_capacity items.old }
     ensures { Gives result items.old.items items.new.items (line_of (call_line client) fields.old) }
 {
     let handle = fields.field()?;
@@ -248,9 +250,9 @@ fn call(
 fn release(
     client: Option<ClientId>,
     fields: &mut Fields<'_>,
-    items: &mut Vec<Item>,
+    items: &mut VecDeque<Item>,
 ) -> Result<(), ReadError>
-    requires { vec_len items.old < vec_capacity items.old }
+    requires { deque_len items.old < deque_capacity items.old }
     ensures { Gives result items.old.items items.new.items (line_of (release_line client) fields.old) }
 {
     let handle = fields.field()?;

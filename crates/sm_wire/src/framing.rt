@@ -17,6 +17,7 @@ use crate::reload_header::ReloadHeader;
 use crate::request::Request;
 use crate::texts::PolicyTexts;
 use std::alloc::{AllocError, Global};
+use std::collections::VecDeque;
 
 /// The most bytes of each file after a `reload` line.
 const TEXT_LIMIT: u32 = 4_194_304;
@@ -34,7 +35,7 @@ pub fn cut(
     mode: FrameState,
     bytes: &[u8],
     recent: &mut RecentNames,
-    items: &mut Vec<Item>,
+    items: &mut VecDeque<Item>,
 ) -> Result<Remainder, AllocError>
     ensures start { IfOk result (λ c. c.start ≤ length bytes.now) }
     ensures rest { IfOk result (λ c. scan_after (record { kind = kind; mode = mode; held = [] }) bytes.now
@@ -69,7 +70,7 @@ pub fn lone_item(
     mode: FrameState,
     bytes: &[u8],
     recent: &mut RecentNames,
-    items: &mut Vec<Item>,
+    items: &mut VecDeque<Item>,
 ) -> Result<FrameState, AllocError>
     requires { IsWhole mode bytes.now }
     ensures { IfOk result (λ m. Makes (whole_step kind mode bytes.now) kind m [] items.old.items items.new.items) }
@@ -78,13 +79,13 @@ pub fn lone_item(
 }
 
 /// Reports a line that is too long, once.
-pub fn end_stream(mode: FrameState, items: &mut Vec<Item>) -> Result<(), AllocError>
+pub fn end_stream(mode: FrameState, items: &mut VecDeque<Item>) -> Result<(), AllocError>
     ensures { OnOk result (items.new.items ≡ items.old.items ++ never_items mode) }
 {
     match mode {
         FrameState::Dead => Ok(()),
         _ => {
-            items.push(Item::LineTooLong)?;
+            items.push_back(Item::LineTooLong)?;
             Ok(())
         }
     }
@@ -97,7 +98,7 @@ fn whole_item(
     mode: FrameState,
     bytes: &[u8],
     recent: &mut RecentNames,
-    items: &mut Vec<Item>,
+    items: &mut VecDeque<Item>,
 ) -> Result<FrameState, AllocError>
     requires { IsWhole mode bytes.now }
     ensures { IfOk result (λ m. Makes (whole_step kind mode bytes.now) kind m [] items.old.items items.new.items) }
@@ -116,14 +117,14 @@ fn texts(
     kind: Kind,
     header: ReloadHeader,
     bytes: &[u8],
-    items: &mut Vec<Item>,
+    items: &mut VecDeque<Item>,
 ) -> Result<FrameState, AllocError>
     requires { length bytes.now ≡ header.rules + header.contexts }
     ensures { IfOk result
         (λ m. Makes (scan_start kind, policy_item header bytes.now ∷ []) kind m [] items.old.items items.new.items) }
 {
     let item = policy(alloc, header, bytes)?;
-    items.push(item)?;
+    items.push_back(item)?;
     Ok(FrameState::Line)
 }
 
@@ -133,7 +134,7 @@ fn line(
     kind: Kind,
     line: &[u8],
     recent: &mut RecentNames,
-    items: &mut Vec<Item>,
+    items: &mut VecDeque<Item>,
 ) -> Result<FrameState, AllocError>
     ensures { IfOk result (λ m. Makes (line_end kind line.now) kind m [] items.old.items items.new.items) }
 {
@@ -142,7 +143,7 @@ fn line(
     match fields_request(recent, kind, &mut Fields::new(line), items) {
         Ok(()) => {}
         Err(ReadError::Malformed) => {
-            items.push(Item::Malformed)?;
+            items.push_back(Item::Malformed)?;
             return Ok(FrameState::Line);
         }
         Err(ReadError::Memory) => return Err(AllocError),
@@ -155,8 +156,8 @@ fn line(
 }
 
 // Returns the header of the `reload` line that is this item, if it is one.
-fn header_at(items: &[Item], i: usize) -> Option<ReloadHeader>
-    ensures { result ≡ header_in (slice_get items.now i) }
+fn header_at(items: &VecDeque<Item>, i: usize) -> Option<ReloadHeader>
+    ensures { result ≡ header_in (slice_get items.now.items i) }
 {
     match items.get(i) {
         Some(
@@ -182,19 +183,19 @@ fn texts_begin(
     alloc: Global,
     kind: Kind,
     header: ReloadHeader,
-    items: &mut Vec<Item>,
+    items: &mut VecDeque<Item>,
 ) -> Result<FrameState, AllocError>
     ensures { IfOk result (λ m. Makes (text_start kind header) kind m [] items.old.items items.new.items) }
 {
     if header.rules > TEXT_LIMIT || header.contexts > TEXT_LIMIT {
-        items.push(Item::LineTooLong)?;
+        items.push_back(Item::LineTooLong)?;
         return Ok(FrameState::Dead);
     }
     if header.length() > 0 {
         return Ok(FrameState::Texts(header));
     }
     let item = policy(alloc, header, b"")?;
-    items.push(item)?;
+    items.push_back(item)?;
     Ok(FrameState::Line)
 }
 

@@ -1,6 +1,7 @@
 //! Requests, parsed from the fields of a line, by the kind of the stream.
 
-ghost use Rattle.std.specs.Prelude.{◌<◌, ◌∷◌, vec_len, vec_capacity};
+ghost use Rattle.std.specs.Prelude.{◌<◌, ◌∷◌};
+ghost use Rattle.std.specs.VecDeque.{deque_len, deque_capacity};
 ghost use Rattle.sm_wire.specs.Giving.{Gives};
 ghost use Rattle.sm_wire.specs.Reading.{ReadsAs};
 ghost use Rattle.sm_wire.specs.LineTable.{hello_line, explain_line, connection_lines, policy_lines, admin_lines};
@@ -20,20 +21,21 @@ use crate::values::{class_field, context_field, perm_field, word_field};
 use sm_history::Query;
 use sm_kinds::{ClientId, Identity, spells};
 use std::alloc::Global;
+use std::collections::VecDeque;
 
 /// Parses a line of this kind. The line has no newline.
 #[tactic(auto, unfolding(crate::specs::Grammar::request_of))]
 pub fn request(alloc: Global, kind: Kind, line: &[u8]) -> Result<Request, ReadError>
     ensures { ReadsAs result (request_of kind line.now) }
 {
-    let mut items = Vec::with_capacity(alloc, 1)?;
+    let mut items = VecDeque::with_capacity(alloc, 1)?;
     fields_request(
         &mut RecentNames::none(alloc),
         kind,
         &mut Fields::new(line),
         &mut items,
     )?;
-    match items.pop() {
+    match items.pop_front() {
         Some(Item::Asked(request)) => Ok(request),
         _ => unreachable!(),
     }
@@ -45,9 +47,9 @@ pub fn fields_request(
     recent: &mut RecentNames,
     kind: Kind,
     fields: &mut Fields<'_>,
-    items: &mut Vec<Item>,
+    items: &mut VecDeque<Item>,
 ) -> Result<(), ReadError>
-    requires { vec_len items.old < vec_capacity items.old }
+    requires { deque_len items.old < deque_capacity items.old }
     ensures { Gives result items.old.items items.new.items (fields_request_of kind fields.old) }
 {
     match kind {
@@ -62,9 +64,9 @@ pub fn fields_request(
 fn connection_fields(
     recent: &mut RecentNames,
     fields: &mut Fields<'_>,
-    items: &mut Vec<Item>,
+    items: &mut VecDeque<Item>,
 ) -> Result<(), ReadError>
-    requires { vec_len items.old < vec_capacity items.old }
+    requires { deque_len items.old < deque_capacity items.old }
     ensures { Gives result items.old.items items.new.items (lines_of connection_lines fields.old) }
 {
     let word = fields.field()?;
@@ -79,9 +81,9 @@ fn connection_fields(
 fn admin_fields(
     alloc: Global,
     fields: &mut Fields<'_>,
-    items: &mut Vec<Item>,
+    items: &mut VecDeque<Item>,
 ) -> Result<(), ReadError>
-    requires { vec_len items.old < vec_capacity items.old }
+    requires { deque_len items.old < deque_capacity items.old }
     ensures { Gives result items.old.items items.new.items (lines_of admin_lines fields.old) }
 {
     let word = fields.field()?;
@@ -97,9 +99,9 @@ fn admin_fields(
 fn script_fields(
     recent: &mut RecentNames,
     fields: &mut Fields<'_>,
-    items: &mut Vec<Item>,
+    items: &mut VecDeque<Item>,
 ) -> Result<(), ReadError>
-    requires { vec_len items.old < vec_capacity items.old }
+    requires { deque_len items.old < deque_capacity items.old }
     ensures { Gives result items.old.items items.new.items (script_fields_of fields.old) }
 {
     let word = fields.field()?;
@@ -116,9 +118,9 @@ fn unnumbered(
     alloc: Global,
     word: &[u8],
     fields: &mut Fields<'_>,
-    items: &mut Vec<Item>,
+    items: &mut VecDeque<Item>,
 ) -> Result<(), ReadError>
-    requires { vec_len items.old < vec_capacity items.old }
+    requires { deque_len items.old < deque_capacity items.old }
     ensures { Gives result items.old.items items.new.items (lines_of unnumbered_lines (word.now ∷ fields.old)) }
 {
     if spells(word, b"hello") {
@@ -134,9 +136,9 @@ fn policy_request(
     alloc: Global,
     word: &[u8],
     fields: &mut Fields<'_>,
-    items: &mut Vec<Item>,
+    items: &mut VecDeque<Item>,
 ) -> Result<(), ReadError>
-    requires { vec_len items.old < vec_capacity items.old }
+    requires { deque_len items.old < deque_capacity items.old }
     ensures { Gives result items.old.items items.new.items (lines_of policy_lines (word.now ∷ fields.old)) }
 {
     if spells(word, b"reload") {
@@ -157,8 +159,12 @@ fn policy_request(
 // Parses `hello PID UID CONTEXT`.
 #[inline(never)]
 #[tactic(auto, unfolding(crate::specs::Grammar::parsed_by))]
-fn hello(alloc: Global, fields: &mut Fields<'_>, items: &mut Vec<Item>) -> Result<(), ReadError>
-    requires { vec_len items.old < vec_capacity items.old }
+fn hello(
+    alloc: Global,
+    fields: &mut Fields<'_>,
+    items: &mut VecDeque<Item>,
+) -> Result<(), ReadError>
+    requires { deque_len items.old < deque_capacity items.old }
     ensures { Gives result items.old.items items.new.items (line_of hello_line fields.old) }
 {
     let pid = fields.field()?;
@@ -174,8 +180,12 @@ fn hello(alloc: Global, fields: &mut Fields<'_>, items: &mut Vec<Item>) -> Resul
 // Parses `explain SOURCE TARGET CLASS PERM`.
 #[inline(never)]
 #[tactic(auto, unfolding(crate::specs::Grammar::parsed_by))]
-fn explain(alloc: Global, fields: &mut Fields<'_>, items: &mut Vec<Item>) -> Result<(), ReadError>
-    requires { vec_len items.old < vec_capacity items.old }
+fn explain(
+    alloc: Global,
+    fields: &mut Fields<'_>,
+    items: &mut VecDeque<Item>,
+) -> Result<(), ReadError>
+    requires { deque_len items.old < deque_capacity items.old }
     ensures { Gives result items.old.items items.new.items (line_of explain_line fields.old) }
 {
     let source = fields.field()?;

@@ -1,11 +1,13 @@
 //! Items of a stream of request lines.
 
-ghost use Rattle.std.specs.Prelude.{◌<◌, Some, vec_len, vec_capacity};
+ghost use Rattle.std.specs.Prelude.{◌<◌, Some};
+ghost use Rattle.std.specs.VecDeque.{deque_len, deque_capacity};
 ghost use Rattle.sm_wire.specs.Giving.{Gives};
 
 use crate::read_error::ReadError;
 use crate::request::Request;
 use crate::texts::PolicyTexts;
+use std::collections::VecDeque;
 
 /// An item of a stream of request lines.
 #[derive(Drop)]
@@ -22,10 +24,10 @@ pub enum Item {
 }
 
 /// Appends the item of a request, for which there is room.
-pub fn give(items: &mut Vec<Item>, request: Request) -> Result<(), ReadError>
-    requires { vec_len items.old < vec_capacity items.old }
+pub fn give(items: &mut VecDeque<Item>, request: Request) -> Result<(), ReadError>
+    requires { deque_len items.old < deque_capacity items.old }
     ensures { Gives result items.old.items items.new.items (Some request) }
 {
-    items.push_reserved(Item::Asked(request));
+    items.push_back_reserved(Item::Asked(request));
     Ok(())
 }

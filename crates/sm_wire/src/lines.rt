@@ -12,6 +12,7 @@ use crate::item::Item;
 use crate::kind::Kind;
 use crate::recent_names::RecentNames;
 use std::alloc::{AllocError, Global};
+use std::collections::VecDeque;
 use std::marker::Model;
 
 /// Why a piece gave no items.
@@ -72,13 +73,26 @@ impl Lines {
         ensures dead { (result ≡ Err FeedError.LineTooLong) ↔ IsDead self.old }
         ensures err { OnErr result (self.new ≡ self.old) }
     {
+        let mut items = VecDeque::new(self.recent.alloc);
+        match self.feed_into(piece, &mut items) {
+            Ok(()) => Ok(Vec::from(items)),
+            Err(e) => Err(e),
+        }
+    }
+
+    /// Appends the items that end in the next piece, as `feed` returns them. After an error some of them may be there.
+    pub fn feed_into(&mut self, piece: &[u8], items: &mut VecDeque<Item>) -> Result<(), FeedError>
+        ensures items { OnOk result (items.new.items ≡ items.old.items ++ items_after self.old piece.now) }
+        ensures scan { OnOk result (self.new ≡ scan_after self.old piece.now) }
+        ensures dead { (result ≡ Err FeedError.LineTooLong) ↔ IsDead self.old }
+        ensures err { OnErr result (self.new ≡ self.old) }
+    {
         if self.is_dead() {
             return Err(FeedError::LineTooLong);
         }
         let held = self.held.len();
-        let mut items = Vec::new(self.recent.alloc);
-        match self.take_piece(piece, &mut items) {
-            Ok(()) => Ok(items),
+        match self.take_piece(piece, items) {
+            Ok(()) => Ok(()),
             Err(e) => {
                 self.held.truncate(held);
                 Err(FeedError::from(e))
@@ -88,7 +102,7 @@ impl Lines {
 
     // Appends the items that end in the piece. After an error the held bytes are still there, perhaps with more after
     // them.
-    fn take_piece(&mut self, piece: &[u8], items: &mut Vec<Item>) -> Result<(), AllocError>
+    fn take_piece(&mut self, piece: &[u8], items: &mut VecDeque<Item>) -> Result<(), AllocError>
         requires { IsAlive self.old }
         ensures items { OnOk result (items.new.items ≡ items.old.items ++ items_after self.old piece.now) }
         ensures scan { OnOk result (self.new ≡ scan_after self.old piece.now) }
@@ -108,7 +122,12 @@ impl Lines {
 
     // The same, if the held item ends after the first `n` bytes of the piece. Items that are whole in the rest of the
     // piece are read in place.
-    fn take_end(&mut self, piece: &[u8], n: usize, items: &mut Vec<Item>) -> Result<(), AllocError>
+    fn take_end(
+        &mut self,
+        piece: &[u8],
+        n: usize,
+        items: &mut VecDeque<Item>,
+    ) -> Result<(), AllocError>
         requires { EndsAs self.old.mode (length self.old.held) piece.now (At n) }
         ensures items { OnOk result (items.new.items ≡ items.old.items ++ items_after self.old piece.now) }
         ensures scan { OnOk result (self.new ≡ scan_after self.old piece.now) }
