@@ -5,30 +5,30 @@ ghost use Rattle.std.specs.Io.KnownBytes.{Appends};
 ghost use Rattle.sm_engine.specs.Counts.{failures_of, inner_of, greatest_count};
 ghost use Rattle.sm_engine.specs.Running.{Wrote, Stopped, Spilled};
 
+use crate::buffers::Buffers;
 use crate::counted::Counted;
 use crate::fault::Fault;
 use crate::machine::Machine;
 use crate::writing::write_whole;
-use sm_wire::Item;
-use std::alloc::Global;
 use std::io::Write;
 
-/// Answers the items in order, and writes their answers.
+/// Answers the items of the buffers in order, and writes their answers.
 pub fn answer_items<M: Machine, W: Write, A: Write>(
-    alloc: Global,
     machine: &mut M,
-    items: Vec<Item>,
+    buffers: &mut Buffers,
     writer: &mut Counted<W>,
     audit: &mut Counted<A>,
 ) -> Result<(), Fault>
+    requires replies { buffers.old.replies.items ≡ [] }
+    requires lines { buffers.old.lines.items ≡ [] }
     requires writer { failures_of writer.old < greatest_count }
     requires audit { failures_of audit.old < greatest_count }
-    ensures ok { OnOk result (Wrote M.answers machine.old items.items
+    ensures ok { OnOk result (Wrote M.answers machine.old buffers.old.items.items
         (W.contents (inner_of writer.old)) (W.contents (inner_of writer.new))
         (A.contents (inner_of audit.old)) (A.contents (inner_of audit.new)) machine.new) }
     ensures writer_count { OnOk result (failures_of writer.new ≡ failures_of writer.old) }
     ensures audit_count { OnOk result (failures_of audit.new ≡ failures_of audit.old) }
-    ensures err { OnErr result (Stopped M.hold_limit M.answers machine.old items.items
+    ensures err { OnErr result (Stopped M.hold_limit M.answers machine.old buffers.old.items.items
         (W.contents (inner_of writer.old)) (W.contents (inner_of writer.new))
         (A.contents (inner_of audit.old)) (A.contents (inner_of audit.new)) machine.new) }
     ensures fault { OnErr result ((result ≡ Err Fault.WriteFault) ⊎ (result ≡ Err Fault.Memory)) }
@@ -37,18 +37,16 @@ pub fn answer_items<M: Machine, W: Write, A: Write>(
     ensures told { failures_of writer.old + failures_of audit.old < failures_of writer.new + failures_of audit.new
         → result ≡ Err Fault.WriteFault }
 {
-    let mut replies = Vec::new(alloc);
-    let mut lines = Vec::new(alloc);
-    for item in items {
-        machine.answer(item, &mut replies, &mut lines)?;
+    while let Some(item) = buffers.items.pop_front() {
+        machine.answer(item, &mut buffers.replies, &mut buffers.lines)?;
         let limit = machine.hold_limit();
-        spill(writer, limit, &mut replies)?;
-        spill(audit, limit, &mut lines)?;
-        tell_written(machine, &replies);
+        spill(writer, limit, &mut buffers.replies)?;
+        spill(audit, limit, &mut buffers.lines)?;
+        tell_written(machine, &buffers.replies);
     }
-    write_held(writer, &mut replies)?;
+    write_held(writer, &mut buffers.replies)?;
     machine.written();
-    write_held(audit, &mut lines)
+    write_held(audit, &mut buffers.lines)
 }
 
 /// Tells the machine that its replies are written, if none is held back.

@@ -3,6 +3,7 @@
 #![tactic(auto)]
 
 mod answering;
+mod buffers;
 mod counted;
 mod fault;
 mod machine;

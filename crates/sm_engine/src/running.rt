@@ -4,10 +4,12 @@ ghost use Rattle.std.specs.Prelude.{◌≡◌, false, MatchBool, ◌<◌, ◌≤
 ghost use Rattle.std.specs.Prelude.{codes, [], ◌⊎◌, if◌then◌else◌};
 ghost use Rattle.std.specs.Io.KnownBytes.{Appends, Consumes, Keeps, IsAtEnd};
 ghost use Rattle.sm_wire.specs.Items.{IsAlive, scan_after, items_after};
+ghost use Rattle.sm_engine.specs.Buffers.{IsIdle};
 ghost use Rattle.sm_engine.specs.Counts.{failures_of, calls_of, inner_of, greatest_count, one_more};
 ghost use Rattle.sm_engine.specs.Running.{Wrote, Stopped, Served, ending_of};
 
 use crate::answering::answer_items;
+use crate::buffers::Buffers;
 use crate::counted::Counted;
 use crate::fault::Fault;
 use crate::machine::Machine;
@@ -51,13 +53,22 @@ pub fn run<M: Machine, R: Read, W: Write, A: Write>(
         → result ≡ Err Fault.WriteFault }
 {
     let mut lines = Lines::new(alloc, kind);
+    let mut buffers = Buffers::new(alloc);
     let mut buffer = [0u8; PIECE];
     for reads in 0..bound {
         let n = read_piece(reader, &mut buffer)?;
         if n == 0 {
             return write_ending(&lines, writer);
         }
-        take_piece(alloc, machine, &mut lines, &buffer[..n], writer, audit)?;
+        take_piece(
+            machine,
+            &mut lines,
+            &buffer[..n],
+            &mut buffers,
+            writer,
+            audit,
+        )?;
+        buffers.clear();
         if machine.is_over() {
             return Ok(());
         }
@@ -88,14 +99,15 @@ fn read_piece<R: Read>(reader: &mut Counted<R>, buffer: &mut [u8]) -> Result<usi
 }
 
 fn take_piece<M: Machine, W: Write, A: Write>(
-    alloc: Global,
     machine: &mut M,
     lines: &mut Lines,
     piece: &[u8],
+    buffers: &mut Buffers,
     writer: &mut Counted<W>,
     audit: &mut Counted<A>,
 ) -> Result<(), Fault>
     requires alive { IsAlive lines.old }
+    requires idle { IsIdle buffers.old }
     requires writer { failures_of writer.old < greatest_count }
     requires audit { failures_of audit.old < greatest_count }
     ensures ok { OnOk result (Wrote M.answers machine.old (items_after lines.old piece.now)
@@ -113,8 +125,8 @@ fn take_piece<M: Machine, W: Write, A: Write>(
     ensures told { failures_of writer.old + failures_of audit.old < failures_of writer.new + failures_of audit.new
         → result ≡ Err Fault.WriteFault }
 {
-    match lines.feed(piece) {
-        Ok(items) => answer_items(alloc, machine, items, writer, audit),
+    match lines.feed_into(piece, &mut buffers.items) {
+        Ok(()) => answer_items(machine, buffers, writer, audit),
         Err(FeedError::Memory) => Err(Fault::Memory),
         Err(FeedError::LineTooLong) => unreachable!(),
     }

@@ -1,7 +1,6 @@
 use Rattle.std.proofs.Common.{◌≡◌, List, length, ◌++◌, ◌∷◌, [], sym, ◌∙◌, refl, arith, append_assoc}
 use Rattle.std.proofs.lemmas.List.{append-nil}
 use Rattle.std.proofs.lemmas.Result.{on_ok_weaker, on_err_weaker}
-use Rattle.std.specs.Vec.Iter.{into_iter_items}
 use Rattle.sm_engine.proofs.Results.{on_err}
 use Rattle.sm_engine.proofs.KnownLemmas.{Spilled-all, Spilled-front, Spilled-none}
 use Rattle.sm_engine.proofs.RunLemmas.{going_answer, going_lost, going_spill, going_fail, going_fail_end, going_end}
@@ -17,63 +16,53 @@ joined : {X : Type 0} (before after done all : List X) (x : X) → done ++ befor
     → all ≡ (done ++ x ∷ []) ++ after
 joined before after done all x e s = rw append_assoc (next before after done all x e s)
 
--- None is left.
-none : {X : Type 0} (before done all : List X) → done ++ before ≡ all → length before ≡ 0 → done ≡ all
-none [] done all e n = sym (append-nil done) ∙ e
-none (x ∷ xs) done all e n = absurd (omega arith)
-
 pub returns-in_err-answer-clause-err : goal.returns-in_err-answer-clause-err
 returns-in_err-answer-clause-err g c =
-    let i = c.loop-item.invariant in
+    let i = c.loop-item.invariant.1 in
     on_err c.from_residual.result (going_lost _ i.going i.short i.short_lines c.in-Some.item _
-    c.in_err-answer.ensures.err _ _ (next _ _ _ _ _ i.left c.in-Some.ensures.steps.0))
+    c.in_err-answer.ensures.err _ _ (next _ _ _ _ _ i.left c.in-Some.ensures.items))
 
 pub returns-in_err-spill-clause-err : goal.returns-in_err-spill-clause-err
 returns-in_err-spill-clause-err g c =
-    let i = c.loop-item.invariant in
+    let i = c.loop-item.invariant.1 in
     let f = c.in_err-spill.ensures.front in
     on_err c.from_residual-in_err-spill.result (going_fail _ i.going i.short i.short_lines c.in-Some.item
     c.in_ok-answer.ensures.ok (Spilled-front _ _ _ f.0 f.1) (Spilled-none _ _) _ _
-    (next _ _ _ _ _ i.left c.in-Some.ensures.steps.0))
+    (next _ _ _ _ _ i.left c.in-Some.ensures.items))
 
 pub loop-item-preserved : goal.loop-item-preserved
-loop-item-preserved g c = record {
-  can = tt;
-  finite = tt;
-  left = sym (joined _ _ _ _ _ c.loop-item.invariant.left c.in-Some.ensures.steps.0);
-  going = rw c.tell_written.ensures (going_spill (going_answer c.loop-item.invariant.going c.in_ok-answer.ensures.ok)
-      c.in_ok-spill.ensures.ok c.in_ok-spill-2.ensures.ok);
-  short = omega (arith, c.in_ok-spill.ensures.short, c.hold_limit-limit.ensures);
-  short_lines = omega (arith, c.in_ok-spill-2.ensures.short, c.hold_limit-limit.ensures);
-  writer_count = c.in_ok-spill.ensures.count ∙ c.loop-item.invariant.writer_count;
-  audit_count = c.in_ok-spill-2.ensures.count ∙ c.loop-item.invariant.audit_count;
-}
+loop-item-preserved g c =
+    let i = c.loop-item.invariant.1 in (
+      c.loop-item.invariant.0 ++ c.in-Some.item ∷ [],
+      record {
+        left = sym (joined _ _ _ _ _ i.left c.in-Some.ensures.items);
+        going = rw c.tell_written.ensures (going_spill (going_answer i.going c.in_ok-answer.ensures.ok)
+            c.in_ok-spill.ensures.ok c.in_ok-spill-2.ensures.ok);
+        short = omega (arith, c.in_ok-spill.ensures.short, c.hold_limit-limit.ensures);
+        short_lines = omega (arith, c.in_ok-spill-2.ensures.short, c.hold_limit-limit.ensures);
+        writer_count = c.in_ok-spill.ensures.count ∙ i.writer_count;
+        audit_count = c.in_ok-spill-2.ensures.count ∙ i.audit_count;
+      },
+    )
 
 pub returns-in_err-spill-2-clause-err : goal.returns-in_err-spill-2-clause-err
 returns-in_err-spill-2-clause-err g c =
-    let i = c.loop-item.invariant in
+    let i = c.loop-item.invariant.1 in
     let f = c.in_err-spill-2.ensures.front in
     on_err c.from_residual-in_err-spill-2.result (going_fail _ i.going i.short i.short_lines c.in-Some.item
     c.in_ok-answer.ensures.ok c.in_ok-spill.ensures.ok (Spilled-front _ _ _ f.0 f.1) _ _
-    (next _ _ _ _ _ i.left c.in-Some.ensures.steps.0))
+    (next _ _ _ _ _ i.left c.in-Some.ensures.items))
 
 pub returns-in_err-write_held-clause-err : goal.returns-in_err-write_held-clause-err
 returns-in_err-write_held-clause-err g c =
-    let i = c.loop-item.invariant in
+    let i = c.loop-item.invariant.1 in
     let f = c.in_err-write_held.ensures.front in
     on_err c.from_residual-in_err-write_held.result (going_fail_end _ i.going i.short i.short_lines
     (Spilled-front _ _ _ f.0 f.1) (Spilled-none _ _) _ _ (sym i.left))
 
-pub returns-clause-ok : goal.returns-clause-ok
-returns-clause-ok g c =
-    let it = c.loop-item.item-iterator in
-    let empty : length (into_iter_items it) ≡ 0 = omega (arith, it.rest.ok.0, c.in-None.ensures.steps.0) in
-    rw c.written.ensures (on_ok_weaker c.write_held-2.result (λ p. going_end c.loop-item.invariant.going _ _
-    c.in_ok-write_held.ensures.ok p _ (none _ _ _ c.loop-item.invariant.left empty)) c.write_held-2.ensures.ok)
-
 pub returns-clause-err : goal.returns-clause-err
 returns-clause-err g c =
-    let i = c.loop-item.invariant in
+    let i = c.loop-item.invariant.1 in
     rw c.written.ensures (on_err_weaker c.write_held-2.result (λ f. going_fail_end _ i.going i.short i.short_lines
     (Spilled-all _ _ _ _ c.in_ok-write_held.ensures.held c.in_ok-write_held.ensures.ok) (Spilled-front _ _ _ f.0 f.1)
     _ _ (sym i.left)) c.write_held-2.ensures.front)

@@ -26,6 +26,7 @@ some n buffer within ne = omega (arith, length-take-le n buffer within)
 pub loop-reads-init : goal.loop-reads-init
 loop-reads-init g c = record {
   sofar = sofar_start _ _ _ _ _ _ _ _ c.new-lines.ensures c.requires.begins;
+  idle = c.new-buffers.ensures;
   reads = omega arith;
   reader_count = refl;
   writer_count = refl;
@@ -86,6 +87,15 @@ returns-in_err-take_piece-clause-served g c =
     (few _ _ _ _ c.loop-reads.invariant.reads c.in_ok-n.ensures.calls) c.in_ok-n.ensures.bytes
     c.in_err-take_piece.ensures.err _ which)
 
+pub take_piece-requires-clause-idle : goal.take_piece-requires-clause-idle
+take_piece-requires-clause-idle g c = c.loop-reads.invariant.idle
+
+pub returns-in_err-take_piece-clause-read_fault : goal.returns-in_err-take_piece-clause-read_fault
+returns-in_err-take_piece-clause-read_fault g c = λ h.
+    let p = err_from_is_err_and c.from_residual-in_err-take_piece.result c.from_residual-in_err-take_piece.ensures.1 in
+    let e : c.in_err-take_piece.field-0.0 ≡ ReadFault = cc (p.1, p.2, h) in
+    elim c.in_err-take_piece.ensures.fault [ inl w ↦ absurd (cc (w, e)) | inr w ↦ absurd (cc (w, e)) ]
+
 pub returns-in_err-take_piece-clause-write_fault : goal.returns-in_err-take_piece-clause-write_fault
 returns-in_err-take_piece-clause-write_fault g c = λ h.
     let p = err_from_is_err_and c.from_residual-in_err-take_piece.result c.from_residual-in_err-take_piece.ensures.1 in
@@ -108,6 +118,7 @@ loop-reads-preserved g c = record {
   sofar = sofar_next _ _ c.loop-reads.invariant.sofar c.in_ok-n.ensures.bytes c.in_ok-take_piece.ensures.ok _
       c.in_ok-take_piece.ensures.lines (λ h. let no : false ≡ true = c.if-is_dead.ensures.1 h in cc)
       (sym c.is_over.ensures ∙ c.if-is_over.false) (some _ _ c.in_ok-n.ensures.within c.if-n-eq0.false);
+  idle = c.clear.ensures;
   reads = omega (arith, c.in_ok-n.ensures.calls, c.loop-reads.invariant.reads);
   reader_count = c.in_ok-n.ensures.count ∙ c.loop-reads.invariant.reader_count;
   writer_count = c.in_ok-take_piece.ensures.writer_count ∙ c.loop-reads.invariant.writer_count;

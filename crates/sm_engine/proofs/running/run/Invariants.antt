@@ -1,4 +1,5 @@
 use Rattle.std.proofs.Common.{◌≡◌, ◌+◌, min}
+use Rattle.sm_engine.specs.Buffers.{IsIdle}
 use Rattle.sm_engine.specs.Counts.{failures_of, calls_of, inner_of, greatest_count}
 use Rattle.sm_engine.specs.Running.{Sofar}
 use Rattle.sm_engine.proofs.running.run.Given as goal
@@ -10,6 +11,7 @@ invariant-loop-reads g l = record {
       (g.R.Read.remaining (inner_of l.reader)) (g.W.Write.contents (inner_of l.fn.writer))
       (g.W.Write.contents (inner_of l.writer)) (g.A.Write.contents (inner_of l.fn.audit))
       (g.A.Write.contents (inner_of l.audit)) l.machine;
+  idle : IsIdle l.buffers;
   reads : calls_of l.reader ≡ min (calls_of l.fn.reader + l.reads) greatest_count;
   reader_count : failures_of l.reader ≡ failures_of l.fn.reader;
   writer_count : failures_of l.writer ≡ failures_of l.fn.writer;

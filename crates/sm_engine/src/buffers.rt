@@ -1,0 +1,63 @@
+//! Buffers of an engine.
+
+ghost use Rattle.std.specs.Prelude.{◌≡◌, []};
+ghost use Rattle.sm_engine.specs.Buffers.{IsIdle};
+
+use sm_wire::Item;
+use std::alloc::Global;
+use std::collections::VecDeque;
+
+/// The most items for which memory is kept between two pieces.
+const KEPT_ITEMS: usize = 256;
+
+/// The most bytes of each text for which memory is kept.
+const KEPT_BYTES: usize = 16_384;
+
+/// The items of a piece, and the texts that are held back. They are empty between two pieces, and keep their memory
+/// unless it is large, so that a piece of a few lines needs no allocation.
+pub struct Buffers {
+    pub items: VecDeque<Item>,
+    pub replies: Vec<u8>,
+    pub lines: Vec<u8>,
+}
+
+// Drop: see docs/PROOFS.md.
+impl Drop for Buffers {
+    fn drop(self) {
+        let Buffers {
+            items: _,
+            replies: _,
+            lines: _,
+        } = self;
+    }
+}
+
+impl Buffers {
+    /// Makes empty buffers. Allocates nothing.
+    pub fn new(alloc: Global) -> Buffers
+        ensures { IsIdle result }
+    {
+        Buffers {
+            items: VecDeque::new(alloc),
+            replies: Vec::new(alloc),
+            lines: Vec::new(alloc),
+        }
+    }
+
+    /// Empties the buffers.
+    pub fn clear(&mut self)
+        ensures { IsIdle self.new }
+    {
+        self.items.clear();
+        self.items.shrink_to(KEPT_ITEMS);
+        clear_text(&mut self.replies);
+        clear_text(&mut self.lines);
+    }
+}
+
+fn clear_text(text: &mut Vec<u8>)
+    ensures { text.new.items ≡ [] }
+{
+    text.clear();
+    text.shrink_to(KEPT_BYTES);
+}
