@@ -143,7 +143,8 @@ fn line(
     match fields_request(recent, kind, &mut Fields::new(line), items) {
         Ok(()) => {}
         Err(ReadError::Malformed) => {
-            items.push_back(Item::Malformed)?;
+            items.reserve(1)?;
+            items.push_back_reserved(Item::Malformed);
             return Ok(FrameState::Line);
         }
         Err(ReadError::Memory) => return Err(AllocError),
