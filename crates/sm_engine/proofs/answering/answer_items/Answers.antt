@@ -1,9 +1,8 @@
-use Rattle.std.proofs.Common.{◌≡◌, List, length, ◌++◌, ◌∷◌, [], sym, ◌∙◌, refl, arith, append_assoc}
-use Rattle.std.proofs.lemmas.List.{append-nil}
-use Rattle.std.proofs.lemmas.Result.{on_ok_weaker, on_err_weaker}
+use Rattle.std.proofs.Common.{◌≡◌, List, ◌++◌, ◌∷◌, [], sym, ◌∙◌, refl, arith, append_assoc}
+use Rattle.std.proofs.lemmas.Result.{on_err_weaker}
 use Rattle.sm_engine.proofs.Results.{on_err}
 use Rattle.sm_engine.proofs.KnownLemmas.{Spilled-all, Spilled-front, Spilled-none}
-use Rattle.sm_engine.proofs.RunLemmas.{going_answer, going_lost, going_spill, going_fail, going_fail_end, going_end}
+use Rattle.sm_engine.proofs.RunLemmas.{going_answer, going_lost, going_spill, going_fail, going_fail_end}
 use Rattle.sm_engine.proofs.answering.answer_items.Goals as goal
 
 -- The items so far, the next one, and those that are left.
