@@ -1,3 +1,4 @@
+pub mod OnceRows
 pub mod RowLemmas
 pub mod Tracked
 pub mod Others

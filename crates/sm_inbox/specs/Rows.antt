@@ -1,6 +1,6 @@
 -- The rows of a table of inboxes.
-use Rattle.std.specs.Prelude.{ℕ, ◌-◌, ◌==◌, List, [], Option, Some, None, length}
-use Rattle.std.specs.List.{find}
+use Rattle.std.specs.Prelude.{ℕ, ◌-◌, ◌≡◌, ◌==◌, ◌&&◌, Bool, true, not, List, [], ◌∷◌, Option, Some, None, length, map}
+use Rattle.std.specs.List.{find, list_any}
 use Rattle.sm_history.specs.declared.delivery.Delivery.{Delivery}
 use Rattle.sm_history.specs.declared.limits.TheConstants.{MOST_DELIVERIES}
 use Rattle.sm_inbox.specs.declared.inbox.Inbox.{Inbox}
@@ -8,6 +8,15 @@ use Rattle.sm_inbox.specs.declared.inbox.Inbox.{Inbox}
 -- This is the first row of a client.
 abbrev pub inbox_of : List Inbox → ℕ → Option Inbox
 inbox_of rows c = find (λ r. r.client == c) rows
+
+-- Each number is in the list once.
+abbrev pub is_once : List ℕ → Bool
+is_once [] = true
+is_once (x ∷ xs) = not (list_any (λ y. y == x) xs) && is_once xs
+
+-- No two rows are one client's.
+abbrev pub AreOnce : List Inbox → Type 0
+AreOnce rows = is_once (map (λ r. r.client) rows) ≡ true
 
 -- These are the deliveries of an inbox, oldest first; there are none without an inbox.
 abbrev pub waiting_in : Option Inbox → List Delivery

@@ -7,7 +7,7 @@ ghost use Rattle.sm_history.specs.declared.effect.Effect.TheVariants.{Delivers, 
 ghost use Rattle.sm_history.specs.Effects.{Effects};
 ghost use Rattle.sm_history.specs.Clients.{is_live};
 ghost use Rattle.sm_history.specs.Inboxes.{inbox_at, has_inbox_room};
-ghost use Rattle.sm_inbox.specs.Tracking.{TracksInboxes, is_open, deliveries_of, room_of};
+ghost use Rattle.sm_inbox.specs.Rows.{AreOnce};
 
 use crate::inbox::Inbox;
 use crate::places::place_of;
@@ -15,11 +15,12 @@ use sm_history::{BoxedDelivery, MOST_DELIVERIES};
 use std::alloc::{AllocError, Global};
 use std::collections::VecDeque;
 
-/// The inboxes of live clients: one row for each, searched in order, since there are at most 64.
+/// The inboxes of live clients: one row for each, of at most 64.
 #[derive(Drop)]
 pub struct Inboxes {
     alloc: Global,
     rows: Vec<Inbox>,
+    ghost once: { AreOnce rows.items },
 }
 
 /// Copies deliveries, which are shared. Returns an error if an allocation fails.
@@ -37,6 +38,8 @@ fn copies_of(
 }
 
 impl Inboxes {
+    ghost use Rattle.sm_inbox.specs.Tracking.{TracksInboxes, is_open, deliveries_of, room_of};
+
     /// Makes a table without inboxes.
     pub fn new(alloc: Global) -> Inboxes
         ensures tracks { TracksInboxes [] result }

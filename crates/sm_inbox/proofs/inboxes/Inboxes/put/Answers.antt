@@ -3,6 +3,7 @@ use Rattle.sm_inbox.specs.Rows.{inbox_of, room_in, waiting_in}
 use Rattle.sm_history.proofs.ClientRows.{row_read, row_written}
 use Rattle.sm_inbox.proofs.RowLemmas.{room_read, room_others, one_more, open_written}
 use Rattle.sm_inbox.proofs.Tracked.{tracks_delivers}
+use Rattle.sm_inbox.proofs.OnceRows.{once_written}
 use Rattle.sm_inbox.proofs.inboxes.Inboxes.put.Goals as goal
 
 pub unreachable-requires : goal.unreachable-requires
@@ -49,3 +50,9 @@ returns-clause-still c =
     let at = rw c.deref.ensures.value at c.in-Some.ensures in
     open_written c.args.self.now.rows.items c.args.client c.in-Some.i c.index_mut-row.result.now _ at
     c.index_mut-row.ensures.value refl
+
+pub invariant_of-self : goal.invariant_of-self
+invariant_of-self c = record {
+  once = once_written _ c.args.self.now.rows.items c.in-Some.i c.index_mut-row.result.now _ c.index_mut-row.ensures.value
+      refl c.args.self.now.once;
+}

@@ -4,6 +4,7 @@ use Rattle.std.proofs.lemmas.Bool.{true≢false}
 use Rattle.sm_history.proofs.ClientRows.{sought, none_sought, row_pushed}
 use Rattle.sm_inbox.proofs.RowLemmas.{room_open, room_others, open_pushed}
 use Rattle.sm_inbox.proofs.Tracked.{tracks_pushed}
+use Rattle.sm_inbox.proofs.OnceRows.{once_pushed}
 use Rattle.sm_inbox.proofs.inboxes.Inboxes.reserve.Goals as goal
 
 pub returns-then-is_some-clause-room : goal.returns-then-is_some-clause-room
@@ -70,3 +71,13 @@ returns-clause-still c =
     (sym c.is_some.ensures ∙ c.if-is_some.false) in
     rw (c.push_reserved.ensures.items, c.reserve.ensures.items)
     (open_pushed c.args.self.now.rows.items _ c.args.client _ (row_pushed _ c.args.self.now.rows.items _ none))
+
+pub invariant_of-self-2 : goal.invariant_of-self-2
+invariant_of-self-2 c =
+    let at = rw c.deref.ensures.value at c.place_of.ensures in
+    let none = none_sought _ c.args.self.now.rows.items c.args.client c.place_of.result at
+    (sym c.is_some.ensures ∙ c.if-is_some.false) in
+    record {
+      once = rw (c.push_reserved.ensures.items, c.reserve.ensures.items)
+          (once_pushed _ c.args.self.now.rows.items _ none c.args.self.now.once);
+    }

@@ -2,6 +2,7 @@ use Rattle.std.proofs.Common.{◌≡◌, None, ap, sym, ◌∙◌, refl}
 use Rattle.sm_inbox.specs.Rows.{inbox_of, waiting_in}
 use Rattle.sm_inbox.proofs.RowLemmas.{room_kept, popped, open_written}
 use Rattle.sm_inbox.proofs.Tracked.{tracks_popped}
+use Rattle.sm_inbox.proofs.OnceRows.{once_written}
 use Rattle.sm_inbox.proofs.inboxes.Inboxes.take.Goals as goal
 
 pub returns-in_err-i-clause-taken : goal.returns-in_err-i-clause-taken
@@ -30,3 +31,9 @@ returns-clause-still c =
     let at = rw c.deref.ensures.value at c.in_ok-i.ensures in
     open_written c.args.self.now.rows.items c.args.client c.in_ok-i.i c.index_mut-row.result.now _ at
     c.index_mut-row.ensures.value refl
+
+pub invariant_of-self : goal.invariant_of-self
+invariant_of-self c = record {
+  once = once_written _ c.args.self.now.rows.items c.in_ok-i.i c.index_mut-row.result.now _ c.index_mut-row.ensures.value
+      refl c.args.self.now.once;
+}
