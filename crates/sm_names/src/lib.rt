@@ -3,6 +3,7 @@
 //! A table of names has what the effects of a history say of services and watches.
 #![tactic(auto)]
 
+mod hints;
 mod names;
 mod services;
 mod watch_list;

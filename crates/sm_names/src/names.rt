@@ -74,7 +74,7 @@ impl Names {
     pub fn has_room(&self, name: &[u8]) -> bool
         ensures { (d : Effects) → TracksNames d self.now → result ≡ has_name_room d name.now }
     {
-        self.services.get(name).is_some() || self.services.len() < MOST_NAMES
+        self.services.len() < MOST_NAMES || self.services.get(name).is_some()
     }
 
     /// Returns the names whose dump flags share a bit with a mask, in rising byte order.

@@ -12,6 +12,7 @@ ghost use Rattle.sm_history.specs.Rising.{IsRising};
 ghost use Rattle.sm_history.specs.Tables.{names_of, IsNamePlace, IsNameGap};
 ghost use Rattle.sm_names.specs.Rows.{TracksRows, matching_names};
 
+use crate::hints::Hints;
 use sm_history::{NameList, NamedRow, Service};
 use sm_kinds::Name;
 use std::alloc::{AllocError, Global};
@@ -20,15 +21,30 @@ use std::alloc::{AllocError, Global};
 #[derive(Drop)]
 pub struct Services {
     rows: Vec<NamedRow>,
+    /// Where rows may be found without a search.
+    hints: Hints,
 }
 
 /// Returns the index of a name's row, or the index at which it would be inserted.
-fn place_of(rows: &[NamedRow], name: &[u8]) -> Result<usize, usize>
+fn searched(rows: &[NamedRow], name: &[u8]) -> Result<usize, usize>
     ensures within { IsSearchInRange result (length rows.now) }
     ensures place { IsRising (names_of rows.now)
         → MatchResult result (IsNamePlace rows.now name.now) (IsNameGap rows.now name.now) }
 {
     rows.binary_search_by(|row| row.name.bytes().cmp(name))
+}
+
+/// As `searched`; a hint is tried first.
+#[inline(always)]
+fn place_of(rows: &[NamedRow], hints: &Hints, name: &[u8]) -> Result<usize, usize>
+    ensures within { IsSearchInRange result (length rows.now) }
+    ensures place { IsRising (names_of rows.now)
+        → MatchResult result (IsNamePlace rows.now name.now) (IsNameGap rows.now name.now) }
+{
+    match hints.place_of(rows, name) {
+        Some(place) => Ok(place),
+        None => searched(rows, name),
+    }
 }
 
 /// Copies rows; their names are shared. Returns an error if an allocation fails.
@@ -64,6 +80,7 @@ impl Services {
     {
         Services {
             rows: Vec::new(alloc),
+            hints: Hints::new(alloc),
         }
     }
 
@@ -78,7 +95,10 @@ impl Services {
     {
         let mut rows = copies_of(alloc, &self.rows)?;
         rows.reserve(n)?;
-        Ok(Services { rows })
+        Ok(Services {
+            rows,
+            hints: Hints::new(alloc),
+        })
     }
 
     /// Returns the services under their names, in rising byte order.
@@ -102,6 +122,7 @@ impl Services {
         ensures room { OnOk result (length self.new.rows.items + n ≤ vec_capacity self.new.rows) }
         ensures kept { vec_capacity self.old.rows ≤ vec_capacity self.new.rows }
     {
+        self.hints.reserve(&self.rows);
         self.rows.reserve(n)
     }
 
@@ -125,7 +146,7 @@ impl Services {
         ensures { (d : Effects) → TracksRows d self.now.rows.items
             → result ≡ service_at d name.now }
     {
-        match place_of(&self.rows, name) {
+        match place_of(&self.rows, &self.hints, name) {
             Ok(i) => Some(self.rows[i].service),
             Err(_) => None,
         }
@@ -152,11 +173,13 @@ impl Services {
         ensures kept { (vec_capacity self.new.rows ≡ vec_capacity self.old.rows)
             × (length self.new.rows.items ≤ length self.old.rows.items + 1) }
     {
-        match place_of(&self.rows, name.bytes()) {
+        match place_of(&self.rows, &self.hints, name.bytes()) {
             Ok(i) => {
+                self.hints.set(name.bytes(), i);
                 self.rows[i].service = service;
             }
             Err(i) => {
+                self.hints.inserted(name.bytes(), i);
                 let row = NamedRow { name, service };
                 match self.rows.insert(i, row) {
                     Ok(()) => {}
@@ -173,7 +196,8 @@ impl Services {
         ensures kept { (vec_capacity self.new.rows ≡ vec_capacity self.old.rows)
             × (length self.new.rows.items ≤ length self.old.rows.items) }
     {
-        if let Ok(i) = place_of(&self.rows, name) {
+        if let Ok(i) = place_of(&self.rows, &self.hints, name) {
+            self.hints.removed(i);
             let _ = self.rows.remove(i);
         }
     }
@@ -185,6 +209,8 @@ impl Services {
         ensures kept { (vec_capacity self.new.rows ≡ vec_capacity self.old.rows)
             × (length self.new.rows.items ≤ length self.old.rows.items) }
     {
+        let count = self.rows.len();
         self.rows.retain(|row| client != row.service.node.owner.0);
+        self.hints.kept(&self.rows, count);
     }
 }
