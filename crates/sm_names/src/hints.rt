@@ -2,7 +2,7 @@
 //! a row that was found by a hint has the name that is sought, and otherwise the rows are searched. So contracts say
 //! nothing of hints, and hints that can't be allocated are just not there.
 
-ghost use Rattle.std.specs.Prelude.{◌≡◌, ◌<◌, ℕ, List, IfSome, length, slice_index_or};
+ghost use Rattle.std.specs.Prelude.{◌≡◌, ◌<◌, ◌≤◌, ◌+◌, ℕ, IfSome, length, slice_index_or};
 ghost use Rattle.sm_history.specs.declared.named_row.NamedRow.{NamedRow as TheRow};
 
 use sm_history::NamedRow;
@@ -18,32 +18,46 @@ pub struct Hints {
     places: Vec<u16>,
 }
 
-/// Returns eight bytes of a name as a number, 0 if it has no such eight bytes.
+/// Returns eight bytes of a name as a number.
 #[inline(always)]
-fn word_at(name: &[u8], i: usize) -> u64 {
-    match name.get(i..) {
-        Some([a, b, c, d, e, f, g, h, ..]) => {
-            u64::from_le_bytes([*a, *b, *c, *d, *e, *f, *g, *h])
-        }
-        _ => 0,
-    }
+fn word_at(name: &[u8], i: usize) -> u64
+    requires { i + 8 ≤ length name.now }
+{
+    u64::from_le_bytes([
+        name[i],
+        name[i + 1],
+        name[i + 2],
+        name[i + 3],
+        name[i + 4],
+        name[i + 5],
+        name[i + 6],
+        name[i + 7],
+    ])
+}
+
+/// Mixes a number into a digest.
+#[inline(always)]
+fn mixed(sum: u64, word: u64) -> u64 {
+    let product = (sum ^ word).wrapping_mul(0x9e37_79b9_7f4a_7c15);
+    product ^ (product >> 32)
 }
 
 /// Returns a number that differs for most names.
 #[inline(always)]
 fn digest(name: &[u8]) -> u64 {
     let n = name.len();
+    let mut sum = n as u64;
     if n < 8 {
-        let mut sum = 0u64;
         for byte in name {
-            sum = sum.wrapping_mul(31).wrapping_add(u64::from(*byte));
+            sum = mixed(sum, u64::from(*byte));
         }
         return sum;
     }
-    let last = word_at(name, n - 8);
-    let middle = word_at(name, n / 2 - 4);
-    let mixed = last.wrapping_mul(0x9e37_79b9_7f4a_7c15) ^ middle;
-    mixed.wrapping_mul(0x9e37_79b9_7f4a_7c15) >> 32
+    for k in 0..n / 8 {
+        sum = mixed(sum, word_at(name, 8 * k));
+    }
+    sum = mixed(sum, word_at(name, n - 8));
+    sum
 }
 
 /// Returns an index as a slot has it.
@@ -126,9 +140,8 @@ impl Hints {
     pub fn inserted(&mut self, name: &[u8], i: usize) {
         let first = as_hint(i);
         for place in self.places.iter_mut() {
-            if *place >= first {
-                *place = place.wrapping_add(1);
-            }
+            let more = if *place >= first { 1 } else { 0 };
+            *place = place.wrapping_add(more);
         }
         self.set(name, i);
     }
@@ -137,9 +150,8 @@ impl Hints {
     pub fn removed(&mut self, i: usize) {
         let first = as_hint(i);
         for place in self.places.iter_mut() {
-            if *place > first {
-                *place = place.wrapping_sub(1);
-            }
+            let less = if *place > first { 1 } else { 0 };
+            *place = place.wrapping_sub(less);
         }
     }
 }
