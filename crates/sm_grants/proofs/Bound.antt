@@ -2,7 +2,7 @@
 use Rattle.std.proofs.Common.{inl, inr, ◌∙◌, ◌≡◌, ℕ, zero, suc, ◌+◌, ◌-◌, ◌≤◌, ◌<◌, true, false, ◌==◌, List, [], ◌∷◌}
 use Rattle.std.proofs.Common.{◌++◌, set, Option, Some, None, if◌then◌else◌, refl, ap, subst, arith}
 use Rattle.std.specs.Prelude.{max, min, nat_le}
-use Rattle.std.specs.List.{remove}
+use Rattle.std.specs.List.{insert, remove}
 use Rattle.std.proofs.lemmas.Bool.{cases_lt}
 use Rattle.sm_kinds.specs.declared.number.Node.{Node}
 use Rattle.sm_history.specs.Effects.{Effects}
@@ -95,12 +95,16 @@ set_bounded (x ∷ rows) zero m r all own = omega (arith, all, own)
 set_bounded (x ∷ rows) (suc i) m r all own =
     let rest = set_bounded rows i m r (omega (arith, all)) own in omega (arith, all, rest)
 
-pub pushed_bounded : (rows : List ClientHandles) (m : ℕ) (r : ClientHandles) → highest rows ≤ m
-    → r.handles.slots ≡ [] → highest (rows ++ r ∷ []) ≤ m
-pushed_bounded [] m r all none =
+pub inserted_bounded : (rows : List ClientHandles) (i m : ℕ) (r : ClientHandles) → highest rows ≤ m
+    → r.handles.slots ≡ [] → highest (insert rows i r) ≤ m
+inserted_bounded [] zero m r all none =
     let own : highest_in r.handles.slots ≡ 0 = ap highest_in none in omega (arith, own)
-pushed_bounded (x ∷ rows) m r all none =
-    let rest = pushed_bounded rows m r (omega (arith, all)) none in omega (arith, all, rest)
+inserted_bounded [] (suc i) m r all none =
+    let own : highest_in r.handles.slots ≡ 0 = ap highest_in none in omega (arith, own)
+inserted_bounded (x ∷ rows) zero m r all none =
+    let own : highest_in r.handles.slots ≡ 0 = ap highest_in none in omega (arith, own, all)
+inserted_bounded (x ∷ rows) (suc i) m r all none =
+    let rest = inserted_bounded rows i m r (omega (arith, all)) none in omega (arith, all, rest)
 
 pub removed_bounded : (rows : List ClientHandles) (i m : ℕ) → highest rows ≤ m → highest (remove rows i) ≤ m
 removed_bounded [] zero m all = omega (arith, all)

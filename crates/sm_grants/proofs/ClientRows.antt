@@ -3,7 +3,7 @@ use Rattle.std.proofs.Common.{◌≡◌, ℕ, zero, suc, ◌+◌, ◌-◌, ◌<�
 use Rattle.std.proofs.Common.{◌++◌, refl, ap, sym, ◌∙◌, subst, length, map, set, Option, Some, None, if◌then◌else◌}
 use Rattle.std.proofs.Common.{arith, get_or}
 use Rattle.std.specs.Prelude.{not, ◌≤◌}
-use Rattle.std.specs.List.{list_any, remove}
+use Rattle.std.specs.List.{insert, list_any, remove}
 use Rattle.std.proofs.lemmas.Bool.{true≢false, or_from, or_parts}
 use Rattle.std.proofs.lemmas.Bool.Decides.{nat_tests}
 use Rattle.sm_kinds.specs.declared.number.Node.{Node}
@@ -287,33 +287,29 @@ cannot rows c n can none =
 
 -- ---- a new row
 
-table_more : (rows : List ClientHandles) (r : ClientHandles) (k : ℕ) → table_of rows r.client ≡ None
-    → table_of (rows ++ r ∷ []) k ≡ (if r.client == k then Some r.handles else table_of rows k)
-table_more [] r k none = refl
-table_more (x ∷ rows) r k none =
+table_more : (rows : List ClientHandles) (i : ℕ) (r : ClientHandles) (k : ℕ) → table_of rows r.client ≡ None
+    → table_of (insert rows i r) k ≡ (if r.client == k then Some r.handles else table_of rows k)
+table_more [] zero r k none = refl
+table_more [] (suc i) r k none = refl
+table_more (x ∷ rows) zero r k none = refl
+table_more (x ∷ rows) (suc i) r k none =
     elim (x.client == r.client) as (λ b. (x.client == r.client) ≡ b →
     (let o : Option HandleTable = if b then Some x.handles else table_of rows r.client in o ≡ None)
-    → (let o : Option HandleTable = if x.client == k then Some x.handles else table_of (rows ++ r ∷ []) k in o)
+    → (let o : Option HandleTable = if x.client == k then Some x.handles else table_of (insert rows i r) k in o)
     ≡ (if r.client == k then Some r.handles else (if x.client == k then Some x.handles else table_of rows k))) [
       | true ↦ λ e f. cc
       | false ↦ λ e f.
-          let i = table_more rows r k f in
+          let more = table_more rows i r k f in
           elim (x.client == k) as (λ b. (x.client == k) ≡ b →
-          (let o : Option HandleTable = if b then Some x.handles else table_of (rows ++ r ∷ []) k in o)
+          (let o : Option HandleTable = if b then Some x.handles else table_of (insert rows i r) k in o)
           ≡ (if r.client == k then Some r.handles else (if b then Some x.handles else table_of rows k))) [
             | true ↦ λ g. let own = number_same x.client k g in let apart : (r.client == k) ≡ false =
                 grind (arith, nat_tests) in rw apart refl
-            | false ↦ λ g. i
+            | false ↦ λ g. more
           ] refl
     ] refl none
 
-clients_more : (rows : List ClientHandles) (r : ClientHandles)
-    → map (λ (x : ClientHandles). x.client) (rows ++ r ∷ [])
-    ≡ map (λ (x : ClientHandles). x.client) rows ++ r.client ∷ []
-clients_more [] r = refl
-clients_more (x ∷ rows) r = ap (λ (v : List ℕ). x.client ∷ v) (clients_more rows r)
-
-not_among : (rows : List ClientHandles) (c : ℕ) → table_of rows c ≡ None
+pub not_among : (rows : List ClientHandles) (c : ℕ) → table_of rows c ≡ None
     → list_any (λ (y : ℕ). y == c) (map (λ (x : ClientHandles). x.client) rows) ≡ false
 not_among [] c h = refl
 not_among (r ∷ rows) c h =
@@ -323,14 +319,38 @@ not_among (r ∷ rows) c h =
       | false ↦ λ f. not_among rows c f
     ] h
 
-pub tracks_pushed : (d : Effects) (rows : List ClientHandles) (r : ClientHandles) → table_of rows r.client ≡ None
-    → r.handles.slots ≡ [] → TracksRows d rows → TracksRows d (rows ++ r ∷ [])
-tracks_pushed d rows r none empty tr = record {
+among_inserted : (rows : List ClientHandles) (i k : ℕ) (r : ClientHandles)
+    → list_any (λ (y : ℕ). y == k) (map (λ (x : ClientHandles). x.client) rows) ≡ false → (r.client == k) ≡ false
+    → list_any (λ (y : ℕ). y == k) (map (λ (x : ClientHandles). x.client) (insert rows i r)) ≡ false
+among_inserted [] zero k r none f = rw f refl
+among_inserted [] (suc i) k r none f = rw f refl
+among_inserted (x ∷ xs) zero k r none f = rw f none
+among_inserted (x ∷ xs) (suc i) k r none f =
+    let p = or_parts (x.client == k) (list_any (λ (y : ℕ). y == k) (map (λ (x : ClientHandles). x.client) xs)) none in
+    or_from (x.client == k) (list_any (λ (y : ℕ). y == k) (map (λ (x : ClientHandles). x.client) (insert xs i r))) p.0
+    (among_inserted xs i k r p.1 f)
+
+pub once_inserted : (rows : List ClientHandles) (i : ℕ) (r : ClientHandles)
+    → list_any (λ (y : ℕ). y == r.client) (map (λ (x : ClientHandles). x.client) rows) ≡ false
+    → IsOnce (map (λ (x : ClientHandles). x.client) rows)
+    → IsOnce (map (λ (x : ClientHandles). x.client) (insert rows i r))
+once_inserted [] zero r none once = (refl, tt)
+once_inserted [] (suc i) r none once = (refl, tt)
+once_inserted (x ∷ xs) zero r none once = (none, once)
+once_inserted (x ∷ xs) (suc i) r none once =
+    let p = or_parts (x.client == r.client)
+    (list_any (λ (y : ℕ). y == r.client) (map (λ (x : ClientHandles). x.client) xs)) none in
+    let f = p.0 in
+    (among_inserted xs i x.client r once.0 (grind (arith, nat_tests)), once_inserted xs i r p.1 once.1)
+
+pub tracks_pushed : (d : Effects) (rows : List ClientHandles) (i : ℕ) (r : ClientHandles) → table_of rows r.client ≡ None
+    → r.handles.slots ≡ [] → TracksRows d rows → TracksRows d (insert rows i r)
+tracks_pushed d rows i r none empty tr = record {
   balanced = tr.balanced;
   live = tr.live;
   slots = λ k.
       let old = tr.slots k in
-      rw (table_more rows r k none) (elim (r.client == k) as (λ b. (r.client == k) ≡ b →
+      rw (table_more rows i r k none) (elim (r.client == k) as (λ b. (r.client == k) ≡ b →
       TracksSlots d k (slots_in (let o : Option HandleTable = if b then Some r.handles else table_of rows k in
       o))) [
         | true ↦ λ e.
@@ -338,21 +358,20 @@ tracks_pushed d rows r none empty tr = record {
             rw empty (rw none' at old)
         | false ↦ λ e. old
       ] refl);
-  once = rw (clients_more rows r) (once_more r.client (map (λ (x : ClientHandles). x.client) rows)
-      (not_among rows r.client none) tr.once);
+  once = once_inserted rows i r (not_among rows r.client none) tr.once;
 }
 
-pub spare_pushed : (rows : List ClientHandles) (r : ClientHandles) → table_of rows r.client ≡ None
-    → spare_of (rows ++ r ∷ []) r.client ≡ r.handles.spare
-spare_pushed rows r none =
-    let at : table_of (rows ++ r ∷ []) r.client ≡ Some r.handles = table_more rows r r.client none ∙
+pub spare_pushed : (rows : List ClientHandles) (i : ℕ) (r : ClientHandles) → table_of rows r.client ≡ None
+    → spare_of (insert rows i r) r.client ≡ r.handles.spare
+spare_pushed rows i r none =
+    let at : table_of (insert rows i r) r.client ≡ Some r.handles = table_more rows i r r.client none ∙
     rw (self_same r.client) refl in
     ap (λ (o : Option HandleTable). spare_in o) at
 
-pub spare_more : (rows : List ClientHandles) (r : ClientHandles) → table_of rows r.client ≡ None
-    → (k : ℕ) → spare_of rows k ≤ spare_of (rows ++ r ∷ []) k
-spare_more rows r none k =
-    rw (table_more rows r k none) (elim (r.client == k) as (λ b. (r.client == k) ≡ b →
+pub spare_more : (rows : List ClientHandles) (i : ℕ) (r : ClientHandles) → table_of rows r.client ≡ None
+    → (k : ℕ) → spare_of rows k ≤ spare_of (insert rows i r) k
+spare_more rows i r none k =
+    rw (table_more rows i r k none) (elim (r.client == k) as (λ b. (r.client == k) ≡ b →
     spare_of rows k ≤ spare_in (let o : Option HandleTable = if b then Some r.handles else table_of rows k in o)) [
       | true ↦ λ e.
           let none' : table_of rows k ≡ None = rw (← number_same r.client k e) none in
@@ -389,7 +408,7 @@ none_table (r ∷ rs) c h =
       | false ↦ λ f. none_table rs c f
     ] h
 
-fewer_among : (rows : List ClientHandles) (i x : ℕ)
+pub fewer_among : (rows : List ClientHandles) (i x : ℕ)
     → list_any (λ (y : ℕ). y == x) (map (λ (r : ClientHandles). r.client) rows) ≡ false
     → list_any (λ (y : ℕ). y == x) (map (λ (r : ClientHandles). r.client) (remove rows i)) ≡ false
 fewer_among [] zero x h = refl

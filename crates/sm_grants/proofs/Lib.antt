@@ -12,3 +12,4 @@ pub mod HolderCounts
 pub mod Granting
 pub mod Handing
 pub mod Listed
+pub mod OnceRows

@@ -6,3 +6,4 @@ pub mod Several
 pub mod Holders
 pub mod Handing
 pub mod Listed
+pub mod Once

@@ -13,12 +13,13 @@ ghost use Rattle.sm_history.specs.Holdings.{refs_at, resolve_at, node_at, number
 ghost use Rattle.sm_history.specs.Tables.{Slots, slot, slot_at};
 ghost use Rattle.sm_grants.specs.Slots.{node_of, held_in, is_in, IsAbsent, IsNumberFor};
 ghost use Rattle.sm_grants.specs.Highest.{highest};
+ghost use Rattle.sm_grants.specs.Once.{AreOnce};
 ghost use Rattle.sm_grants.specs.Several.{after_grants, numbers_for, new_among, with_grant, Along};
 ghost use Rattle.sm_grants.specs.Holders.{holders_at};
 
 use crate::handles::Handles;
 use crate::place::place_of;
-use crate::rows::{ClientHandles, handles_of, holders_in, row_of};
+use crate::rows::{ClientHandles, handles_of, holders_in, place_for, row_of};
 use sm_history::{Held, MOST_HANDLES};
 use sm_kinds::{ClientId, Node, ObjRef};
 use std::alloc::{AllocError, Global};
@@ -31,6 +32,7 @@ pub struct Grants {
     // The number of grants so far, at most `u64::MAX`.
     bound: u64,
     ghost bounded: { highest rows.items ≤ bound },
+    ghost once: { AreOnce rows.items },
 }
 
 impl Grants {
@@ -70,8 +72,11 @@ impl Grants {
                 self.rows.reserve(1)?;
                 let mut handles = Handles::new(self.alloc)?;
                 handles.reserve(n)?;
-                self.rows.push_reserved(ClientHandles { client, handles });
-                Ok(())
+                let place = place_for(&self.rows, client);
+                match self.rows.insert(place, ClientHandles { client, handles }) {
+                    Ok(()) => Ok(()),
+                    Err(_) => unreachable!(),
+                }
             }
         }
     }

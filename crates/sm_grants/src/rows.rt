@@ -1,8 +1,9 @@
 //! Rows of handles, one for each client that has any.
 
-ghost use Rattle.std.specs.Prelude.{◌≡◌, ◌<◌, ◌==◌, ◌&&◌, not, option_map, count_by, IfSome, length};
+ghost use Rattle.std.specs.Prelude.{◌≡◌, ◌<◌, ◌≤◌, ◌==◌, ◌&&◌, Some, not, option_map, count_by, IfSome, length};
 ghost use Rattle.sm_grants.specs.Slots.{is_in};
 ghost use Rattle.sm_grants.specs.Rows.{table_of, index_from};
+ghost use Rattle.sm_grants.specs.Once.{AreOnce};
 
 use crate::handles::Handles;
 use sm_kinds::Node;
@@ -14,8 +15,25 @@ pub struct ClientHandles {
     pub handles: Handles,
 }
 
-/// Returns the index of a client's row.
-pub fn row_of(rows: &[ClientHandles], client: u32) -> Option<usize>
+/// Returns the index of a client's row if it is the likely one: rows are in the order of their clients, whose numbers
+/// follow each other while none dies.
+fn likely_row(rows: &[ClientHandles], client: u32) -> Option<usize>
+    requires { AreOnce rows.now }
+    ensures at { IfSome result (λ i. index_from 0 rows.now client ≡ Some i) }
+    ensures inside { IfSome result (λ i. i < length rows.now) }
+{
+    if rows.is_empty() {
+        return None;
+    }
+    let place = (client.wrapping_sub(rows[0].client) as usize).min(rows.len() - 1);
+    if rows[place].client != client {
+        return None;
+    }
+    Some(place)
+}
+
+/// Returns the index of a client's first row.
+fn first_row(rows: &[ClientHandles], client: u32) -> Option<usize>
     ensures at { result ≡ index_from 0 rows.now client }
     ensures inside { IfSome result (λ i. i < length rows.now) }
 {
@@ -27,16 +45,34 @@ pub fn row_of(rows: &[ClientHandles], client: u32) -> Option<usize>
     None
 }
 
+/// Returns the index of a client's row.
+pub fn row_of(rows: &[ClientHandles], client: u32) -> Option<usize>
+    requires { AreOnce rows.now }
+    ensures at { result ≡ index_from 0 rows.now client }
+    ensures inside { IfSome result (λ i. i < length rows.now) }
+{
+    match likely_row(rows, client) {
+        Some(place) => Some(place),
+        None => first_row(rows, client),
+    }
+}
+
 /// Returns a client's handles, if it has a row.
 pub fn handles_of(rows: &[ClientHandles], client: u32) -> Option<&Handles>
+    requires { AreOnce rows.now }
     ensures { option_map (λ h. h.now) result ≡ table_of rows.now client }
 {
-    for row in rows {
-        if row.client == client {
-            return Some(&row.handles);
-        }
+    match row_of(rows, client) {
+        Some(place) => Some(&rows[place].handles),
+        None => None,
     }
-    None
+}
+
+/// Returns the index at which a client's row is to be inserted.
+pub fn place_for(rows: &[ClientHandles], client: u32) -> usize
+    ensures { result ≤ length rows.now }
+{
+    rows.partition_point(|row| row.client < client)
 }
 
 /// Returns the number of clients other than `except` that hold an object.

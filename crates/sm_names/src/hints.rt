@@ -35,10 +35,13 @@ fn word_at(name: &[u8], i: usize) -> u64
     ])
 }
 
-/// Mixes a number into a digest.
+/// An odd number whose bits are mixed.
+const FACTOR: u64 = 0x9e37_79b9_7f4a_7c15;
+
+/// Mixes a number into a digest. A product has the upper bits of its factors in its upper bits alone.
 #[inline(always)]
 fn mixed(sum: u64, word: u64) -> u64 {
-    let product = (sum ^ word).wrapping_mul(0x9e37_79b9_7f4a_7c15);
+    let product = (sum ^ word).wrapping_mul(FACTOR);
     product ^ (product >> 32)
 }
 
@@ -51,13 +54,13 @@ fn digest(name: &[u8]) -> u64 {
         for byte in name {
             sum = mixed(sum, u64::from(*byte));
         }
-        return sum;
+        return sum.wrapping_mul(FACTOR) >> 40;
     }
     for k in 0..n / 8 {
         sum = mixed(sum, word_at(name, 8 * k));
     }
     sum = mixed(sum, word_at(name, n - 8));
-    sum
+    sum.wrapping_mul(FACTOR) >> 40
 }
 
 /// Returns an index as a slot has it.

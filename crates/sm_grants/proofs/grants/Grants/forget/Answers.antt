@@ -3,6 +3,7 @@ use Rattle.sm_grants.specs.Rows.{index_from, spare_in}
 use Rattle.sm_grants.specs.Slots.{HandleTable}
 use Rattle.sm_grants.proofs.ClientRows.{tracks_dies, row_forgotten, none_forgotten, others_stay}
 use Rattle.sm_grants.proofs.Bound.{removed_bounded}
+use Rattle.sm_grants.proofs.OnceRows.{once_removed}
 use Rattle.sm_grants.proofs.grants.Grants.forget.Goals as goal
 
 pub returns-in-Some-clause-tracks : goal.returns-in-Some-clause-tracks
@@ -31,4 +32,5 @@ pub invariant_of-self : goal.invariant_of-self
 invariant_of-self c = record {
   bounded = rw c.remove.ensures.items
       (removed_bounded c.args.self.now.rows.items c.in-Some.i c.args.self.now.bound c.args.self.now.bounded);
+  once = rw c.remove.ensures.items (once_removed c.args.self.now.rows.items c.in-Some.i c.args.self.now.once);
 }

@@ -1,13 +1,16 @@
-use Rattle.std.proofs.Common.{◌≡◌, ◌≤◌, ◌<◌, ℕ, List, None, sym, ap, subst, ◌∙◌, arith}
-use Rattle.std.specs.Prelude.{Option}
+use Rattle.std.proofs.Common.{◌≡◌, ◌≤◌, ◌<◌, ℕ, Bool, true, false, if◌then◌else◌, List, None, refl, sym, ap, subst, ◌∙◌, arith}
+use Rattle.std.specs.Prelude.{Option, is_ok}
+use Rattle.std.specs.List.{insert}
 use Rattle.sm_grants.specs.declared.rows.ClientHandles.{ClientHandles}
 use Rattle.sm_grants.specs.Slots.{HandleTable}
 use Rattle.sm_grants.specs.Rows.{index_from, slots_in, spare_in, spare_of, slots_of}
+use Rattle.sm_grants.proofs.OnceRows.{once_written, once_inserted}
 use Rattle.sm_grants.proofs.ClientRows.{tracks_room, row_here, no_row, tracks_pushed, changed_own, spare_pushed}
 use Rattle.sm_grants.proofs.ClientRows.{spare_kept, spare_more}
 use Rattle.sm_history.specs.Tables.{Slots}
+use Rattle.sm_grants.specs.Once.{AreOnce}
 use Rattle.sm_grants.specs.Highest.{highest_in, highest}
-use Rattle.sm_grants.proofs.Bound.{client_bounded, set_bounded, pushed_bounded}
+use Rattle.sm_grants.proofs.Bound.{client_bounded, set_bounded, inserted_bounded}
 use Rattle.sm_grants.proofs.grants.Grants.reserve.Goals as goal
 
 pub returns-in-Some-clause-same : goal.returns-in-Some-clause-same
@@ -24,24 +27,24 @@ returns-in-Some-clause-room c =
     let own = changed_own rows _ c.args.client c.reserve.new.self (here.2 c.reserve.new.self) in
     rw own c.reserve.ensures.room
 
-pub returns-in_ok-reserve-in-None-2-clause-same : goal.returns-in_ok-reserve-in-None-2-clause-same
-returns-in_ok-reserve-in-None-2-clause-same c d tr =
+pub returns-in-Ok-clause-same : goal.returns-in-Ok-clause-same
+returns-in-Ok-clause-same c d tr =
     let rows = c.args.self.now.rows.items in
     let none : index_from 0 rows c.args.client ≡ None = rw (← c.deref.ensures.value) (sym c.in-None.ensures.at) in
     let r : ClientHandles = record { client = c.args.client; handles = c.reserve-in-None-2.new.self } in
-    rw (c.push_reserved.ensures.items, c.reserve-in-None.ensures.items)
-    (tracks_pushed d rows r (no_row 0 rows c.args.client none)
+    rw (c.insert.ensures.items, c.in-Ok.is, c.reserve-in-None.ensures.items)
+    (tracks_pushed d rows c.place_for-place.result r (no_row 0 rows c.args.client none)
     (c.reserve-in-None-2.ensures.slots ∙ c.in_ok-handles-in-None.ensures) tr)
 
-pub returns-in_ok-reserve-in-None-2-clause-room : goal.returns-in_ok-reserve-in-None-2-clause-room
-returns-in_ok-reserve-in-None-2-clause-room c =
+pub returns-in-Ok-clause-room : goal.returns-in-Ok-clause-room
+returns-in-Ok-clause-room c =
     let rows = c.args.self.now.rows.items in
     let none : index_from 0 rows c.args.client ≡ None = rw (← c.deref.ensures.value) (sym c.in-None.ensures.at) in
     let r : ClientHandles = record { client = c.args.client; handles = c.reserve-in-None-2.new.self } in
     rw (
-      c.push_reserved.ensures.items,
+      c.insert.ensures.items, c.in-Ok.is,
       c.reserve-in-None.ensures.items,
-      spare_pushed rows r (no_row 0 rows c.args.client none),
+      spare_pushed rows c.place_for-place.result r (no_row 0 rows c.args.client none),
     ) c.in_ok-reserve-in-None-2.ensures.room
 
 pub returns-in-Some-clause-spare : goal.returns-in-Some-clause-spare
@@ -80,13 +83,13 @@ returns-in_err-reserve-in-None-2-clause-succeeds c le =
     absurd (no_spare c.args.self.now.rows.items c.args.client c.args.n
     (rw (← c.deref.ensures.value) (sym c.in-None.ensures.at)) (omega (arith, c.if-n-eq0.false)) le)
 
-pub returns-in_ok-reserve-in-None-2-clause-spare : goal.returns-in_ok-reserve-in-None-2-clause-spare
-returns-in_ok-reserve-in-None-2-clause-spare c k =
+pub returns-in-Ok-clause-spare : goal.returns-in-Ok-clause-spare
+returns-in-Ok-clause-spare c k =
     let rows = c.args.self.now.rows.items in
     let none : index_from 0 rows c.args.client ≡ None = rw (← c.deref.ensures.value) (sym c.in-None.ensures.at) in
     let r : ClientHandles = record { client = c.args.client; handles = c.reserve-in-None-2.new.self } in
-    rw (c.push_reserved.ensures.items, c.reserve-in-None.ensures.items)
-    (spare_more rows r (no_row 0 rows c.args.client none) k)
+    rw (c.insert.ensures.items, c.in-Ok.is, c.reserve-in-None.ensures.items)
+    (spare_more rows c.place_for-place.result r (no_row 0 rows c.args.client none) k)
 
 pub invariant_of-self : goal.invariant_of-self
 invariant_of-self c =
@@ -100,14 +103,28 @@ invariant_of-self c =
     record {
       bounded = set_bounded rows c.in-Some.i c.args.self.now.bound _ all
           (subst (λ (s : Slots). highest_in s ≤ c.args.self.now.bound) same own);
+      once = once_written rows c.in-Some.i c.index_mut-row.result.now _ c.index_mut-row.ensures.value refl
+          c.args.self.now.once;
     }
+
+either : (P : List ClientHandles → Type 0) (b : Bool) (xs ys zs : List ClientHandles)
+    → zs ≡ (if b then xs else ys) → P xs → P ys → P zs
+either P true xs ys zs e p q = subst P (sym e) p
+either P false xs ys zs e p q = subst P (sym e) q
 
 pub invariant_of-self-in-None : goal.invariant_of-self-in-None
 invariant_of-self-in-None c =
     let rows = c.args.self.now.rows.items in
+    let none : index_from 0 rows c.args.client ≡ None = rw (← c.deref.ensures.value) (sym c.in-None.ensures.at) in
     let r : ClientHandles = record { client = c.args.client; handles = c.reserve-in-None-2.new.self } in
+    let items = rw c.reserve-in-None.ensures.items at c.insert.ensures.items in
     record {
-      bounded = rw (c.push_reserved.ensures.items, c.reserve-in-None.ensures.items)
-          (pushed_bounded rows c.args.self.now.bound r c.args.self.now.bounded
-          (c.reserve-in-None-2.ensures.slots ∙ c.in_ok-handles-in-None.ensures));
+      bounded = either (λ v. highest v ≤ c.args.self.now.bound) (is_ok c.insert.result) (insert rows c.place_for-place.result r) rows
+          c.insert.new.self.items items
+          (inserted_bounded rows c.place_for-place.result c.args.self.now.bound r c.args.self.now.bounded
+          (c.reserve-in-None-2.ensures.slots ∙ c.in_ok-handles-in-None.ensures)) c.args.self.now.bounded;
+      once = either AreOnce (is_ok c.insert.result) (insert rows c.place_for-place.result r) rows
+          c.insert.new.self.items items
+          (once_inserted rows c.place_for-place.result r (no_row 0 rows c.args.client none) c.args.self.now.once)
+          c.args.self.now.once;
     }

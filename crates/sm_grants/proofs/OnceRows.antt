@@ -1,0 +1,88 @@
+-- Rows of which no two are one client's.
+use Rattle.std.proofs.Common.{◌≡◌, ℕ, zero, suc, ◌+◌, ◌<◌, Bool, true, false, ◌&&◌, ◌||◌, ◌==◌, List, [], ◌∷◌, refl, ap, sym, ◌∙◌}
+use Rattle.std.proofs.Common.{length, get_or, set, map, Option, Some, None, if◌then◌else◌, arith}
+use Rattle.std.specs.Prelude.{not}
+use Rattle.std.specs.List.{insert, list_any, remove}
+use Rattle.std.proofs.lemmas.Bool.{or_from, or_parts}
+use Rattle.std.proofs.lemmas.Bool.Decides.{nat_tests}
+use Rattle.sm_history.specs.Sound.{IsOnce}
+use Rattle.sm_history.proofs.ClientRows.{self_same}
+use Rattle.sm_grants.specs.declared.rows.ClientHandles.{ClientHandles}
+use Rattle.sm_grants.specs.Once.{is_once, AreOnce}
+use Rattle.sm_grants.specs.Rows.{table_of, index_from}
+use Rattle.sm_grants.proofs.ClientRows.{fewer_among, not_among, once_inserted as inserted_once}
+
+-- ---- lists in which each number is once
+
+split_once : (b t : Bool) → (not b && t) ≡ true → (b ≡ false) × (t ≡ true)
+split_once true t e = cc
+split_once false t e = (refl, e)
+
+pub to_once : (xs : List ℕ) → is_once xs ≡ true → IsOnce xs
+to_once [] e = tt
+to_once (x ∷ xs) e = let p = split_once (list_any (λ y. y == x) xs) (is_once xs) e in (p.0, to_once xs p.1)
+
+pub from_once : (xs : List ℕ) → IsOnce xs → is_once xs ≡ true
+from_once [] h = refl
+from_once (x ∷ xs) h = rw (h.0, from_once xs h.1) refl
+
+-- This is the client of a row.
+abbrev pub client : ClientHandles → ℕ
+client r = r.client
+
+-- What isn't among the clients is no row's.
+other_row : (rows : List ClientHandles) (c k i : ℕ) (r : ClientHandles)
+    → list_any (λ y. y == k) (map client rows) ≡ false → i < length rows → (get_or rows i r).client ≡ c
+    → (k == c) ≡ false
+other_row [] c k i r none lt own = absurd (omega arith)
+other_row (x ∷ xs) c k zero r none lt own =
+    let p = or_parts (x.client == k) (list_any (λ y. y == k) (map client xs)) none in
+    let f = p.0 in
+    grind (arith, nat_tests)
+other_row (x ∷ xs) c k (suc i) r none lt own =
+    other_row xs c k i r (or_parts (x.client == k) (list_any (λ y. y == k) (map client xs)) none).1 (omega arith) own
+
+index_once : (a : ℕ) (rows : List ClientHandles) (c i : ℕ) (r : ClientHandles) → IsOnce (map client rows)
+    → i < length rows → (get_or rows i r).client ≡ c → index_from a rows c ≡ Some (a + i)
+index_once a [] c i r once lt own = absurd (omega arith)
+index_once a (x ∷ xs) c zero r once lt own =
+    let here : a ≡ a + 0 = omega arith in rw (own, self_same c) (ap (λ (v : ℕ). Some v) here)
+index_once a (x ∷ xs) c (suc i) r once lt own =
+    let there : (a + 1) + i ≡ a + suc i = omega arith in
+    rw (other_row xs c x.client i r once.0 (omega arith) own) (index_once (a + 1) xs c i r once.1 (omega arith) own
+    ∙ ap (λ (v : ℕ). Some v) there)
+
+-- A row that was found anywhere.
+pub place_once : (rows : List ClientHandles) (c i : ℕ) (r : ClientHandles) → is_once (map client rows) ≡ true
+    → i < length rows → (get_or rows i r).client ≡ c → index_from 0 rows c ≡ Some i
+place_once rows c i r once lt own =
+    let zero_more : 0 + i ≡ i = omega arith in
+    index_once 0 rows c i r (to_once (map client rows) once) lt own ∙ ap (λ (v : ℕ). Some v) zero_more
+
+-- ---- the rows of a table that changes
+
+pub once_inserted : (rows : List ClientHandles) (i : ℕ) (r : ClientHandles) → table_of rows r.client ≡ None
+    → AreOnce rows → AreOnce (insert rows i r)
+once_inserted rows i r none once =
+    from_once (map client (insert rows i r)) (inserted_once rows i r (not_among rows r.client none)
+    (to_once (map client rows) once))
+
+map_written : (rows : List ClientHandles) (i : ℕ) (r d : ClientHandles) → r.client ≡ (get_or rows i d).client
+    → map client (set rows i r) ≡ map client rows
+map_written [] i r d e = refl
+map_written (x ∷ xs) zero r d e = ap (λ v. v ∷ map client xs) e
+map_written (x ∷ xs) (suc i) r d e = ap (λ ys. x.client ∷ ys) (map_written xs i r d e)
+
+pub once_written : (rows : List ClientHandles) (i : ℕ) (r r' : ClientHandles) → r ≡ get_or rows i r
+    → r'.client ≡ r.client → AreOnce rows → AreOnce (set rows i r')
+once_written rows i r r' at same once = rw (map_written rows i r' r (same ∙ ap client at)) once
+
+removed_once : (rows : List ClientHandles) (i : ℕ) → IsOnce (map client rows) → IsOnce (map client (remove rows i))
+removed_once [] zero once = tt
+removed_once [] (suc i) once = tt
+removed_once (x ∷ xs) zero once = once.1
+removed_once (x ∷ xs) (suc i) once = (fewer_among xs i x.client once.0, removed_once xs i once.1)
+
+pub once_removed : (rows : List ClientHandles) (i : ℕ) → AreOnce rows → AreOnce (remove rows i)
+once_removed rows i once =
+    from_once (map client (remove rows i)) (removed_once rows i (to_once (map client rows) once))
