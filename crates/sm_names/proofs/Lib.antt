@@ -3,3 +3,4 @@ pub mod Tracked
 pub mod WatchLemmas
 pub mod TrackedWatches
 pub mod Others
+pub mod SameWords

@@ -1,3 +1,4 @@
 pub mod Rows
 pub mod Watching
 pub mod Tracking
+pub mod Words

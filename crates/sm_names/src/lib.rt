@@ -8,6 +8,7 @@ mod names;
 mod services;
 mod watch_list;
 mod watch_order;
+mod words;
 
 pub use names::Names;
 pub use services::Services;

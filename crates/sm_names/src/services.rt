@@ -34,14 +34,19 @@ fn searched(rows: &[NamedRow], name: &[u8]) -> Result<usize, usize>
     rows.binary_search_by(|row| row.name.bytes().cmp(name))
 }
 
-/// As `searched`; a hint is tried first.
+/// As `searched`; the hint in the name's slot is tried first.
 #[inline(always)]
-fn place_of(rows: &[NamedRow], hints: &Hints, name: &[u8]) -> Result<usize, usize>
+fn place_of(
+    rows: &[NamedRow],
+    hints: &Hints,
+    slot: usize,
+    name: &[u8],
+) -> Result<usize, usize>
     ensures within { IsSearchInRange result (length rows.now) }
     ensures place { IsRising (names_of rows.now)
         → MatchResult result (IsNamePlace rows.now name.now) (IsNameGap rows.now name.now) }
 {
-    match hints.place_of(rows, name) {
+    match hints.place_of(slot, rows, name) {
         Some(place) => Ok(place),
         None => searched(rows, name),
     }
@@ -146,7 +151,8 @@ impl Services {
         ensures { (d : Effects) → TracksRows d self.now.rows.items
             → result ≡ service_at d name.now }
     {
-        match place_of(&self.rows, &self.hints, name) {
+        let slot = self.hints.slot_of(name);
+        match place_of(&self.rows, &self.hints, slot, name) {
             Ok(i) => Some(self.rows[i].service),
             Err(_) => None,
         }
@@ -173,13 +179,14 @@ impl Services {
         ensures kept { (vec_capacity self.new.rows ≡ vec_capacity self.old.rows)
             × (length self.new.rows.items ≤ length self.old.rows.items + 1) }
     {
-        match place_of(&self.rows, &self.hints, name.bytes()) {
+        let slot = self.hints.slot_of(name.bytes());
+        match place_of(&self.rows, &self.hints, slot, name.bytes()) {
             Ok(i) => {
-                self.hints.set(name.bytes(), i);
+                self.hints.set(slot, i);
                 self.rows[i].service = service;
             }
             Err(i) => {
-                self.hints.inserted(name.bytes(), i);
+                self.hints.inserted(slot, i);
                 let row = NamedRow { name, service };
                 match self.rows.insert(i, row) {
                     Ok(()) => {}
@@ -196,7 +203,8 @@ impl Services {
         ensures kept { (vec_capacity self.new.rows ≡ vec_capacity self.old.rows)
             × (length self.new.rows.items ≤ length self.old.rows.items) }
     {
-        if let Ok(i) = place_of(&self.rows, &self.hints, name) {
+        let slot = self.hints.slot_of(name);
+        if let Ok(i) = place_of(&self.rows, &self.hints, slot, name) {
             self.hints.removed(i);
             let _ = self.rows.remove(i);
         }
