@@ -19,7 +19,6 @@ impl Model for BitRow {
     ghost view = { λ row. row.words.items };
 }
 
-// Drop: see docs/PROOFS.md.
 impl Drop for BitRow {
     fn drop(self) {
         let BitRow { words: _ } = self;

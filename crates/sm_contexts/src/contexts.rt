@@ -8,11 +8,17 @@ use std::alloc::Global;
 use std::marker::Model;
 
 /// The entries of a `service_contexts` file, with one for `*`. Contracts see the first line of each key, in order.
-#[derive(Debug, Drop)]
+#[derive(Debug)]
 pub struct Contexts {
     entries: Entries,
     /// The index of the entry for `*`.
     default: u32,
+}
+
+impl Drop for Contexts {
+    fn drop(self) {
+        let Contexts { entries: _, default: _ } = self;
+    }
 }
 
 impl Model for Contexts {

@@ -7,16 +7,28 @@ use std::alloc::Global;
 use std::marker::Model;
 
 /// The first line with a key, counted from 1, and its context.
-#[derive(Debug, Drop)]
+#[derive(Debug)]
 pub struct FirstLine {
     pub line: u32,
     pub context: Context,
 }
 
+impl Drop for FirstLine {
+    fn drop(self) {
+        let FirstLine { line: _, context: _ } = self;
+    }
+}
+
 /// Entries in the order of their lines. Contracts see them as a list.
-#[derive(Debug, Drop)]
+#[derive(Debug)]
 pub struct Entries {
     by_key: IndexMap<Vec<u8>, FirstLine>,
+}
+
+impl Drop for Entries {
+    fn drop(self) {
+        let Entries { by_key: _ } = self;
+    }
 }
 
 impl Model for Entries {

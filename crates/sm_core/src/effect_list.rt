@@ -31,7 +31,6 @@ impl Model for EffectList {
     ghost view = { λ e. stored_effects e.held };
 }
 
-// Drop: see docs/PROOFS.md.
 impl Drop for EffectList {
     fn drop(self) {
         let EffectList { held: _ } = self;

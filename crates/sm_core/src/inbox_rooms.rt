@@ -16,9 +16,14 @@ pub struct InboxRoom {
 
 /// The room left in the inboxes of the clients that were notified so far: a row for each, searched in order, since at
 /// most 64 clients are live.
-#[derive(Drop)]
 pub struct InboxRooms {
     rows: Vec<InboxRoom>,
+}
+
+impl Drop for InboxRooms {
+    fn drop(self) {
+        let InboxRooms { rows: _ } = self;
+    }
 }
 
 fn first_of(rows: &[InboxRoom], client: u32) -> Option<usize>

@@ -7,9 +7,14 @@ use std::alloc::{AllocError, Global};
 use std::marker::Model;
 
 /// The audit records of a judgement's checks, in their order. Contracts see the list.
-#[derive(Drop)]
 pub struct Notes {
     records: Vec<Record>,
+}
+
+impl Drop for Notes {
+    fn drop(self) {
+        let Notes { records: _ } = self;
+    }
 }
 
 impl Model for Notes {

@@ -24,13 +24,23 @@ use sm_policy::Prepared;
 use std::alloc::{AllocError, Global};
 
 /// The manager's process and those of the live clients, under the policy in force. A manager and its views keep these.
-#[derive(Drop)]
 pub struct Principals {
     pub manager: Process,
     pub policy: Prepared,
     /// The number of the policy, from 1.
     pub version: u64,
     pub clients: Vec<LiveClient>,
+}
+
+impl Drop for Principals {
+    fn drop(self) {
+        let Principals {
+            manager: _,
+            policy: _,
+            version: _,
+            clients: _,
+        } = self;
+    }
 }
 
 /// Returns whether an effect changes the processes or the policy.

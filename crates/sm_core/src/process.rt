@@ -9,10 +9,15 @@ use std::alloc::AllocError;
 
 /// A process under a policy: its identity, and the number of its type there (`Prepared::type_index`), by which rules
 /// are looked up. `None` if the policy doesn't declare its type.
-#[derive(Drop)]
 pub struct Process {
     pub who: Identity,
     pub index: Option<u16>,
+}
+
+impl Drop for Process {
+    fn drop(self) {
+        let Process { who: _, index: _ } = self;
+    }
 }
 
 impl Clone for Process {

@@ -65,7 +65,6 @@ impl Model for SmallFailedCheck {
     ghost view = { λ h. stored_check h.held };
 }
 
-// Drop: see docs/PROOFS.md.
 impl Drop for SmallFailedCheck {
     fn drop(self) {
         let SmallFailedCheck { held: _ } = self;

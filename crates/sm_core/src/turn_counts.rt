@@ -18,10 +18,15 @@ const MOST_SINCE: usize = 80;
 
 /// The number of changes of each actor: a table that views share, and a row for each actor that made a change since the
 /// table was copied. A row has the number of all changes of its actor.
-#[derive(Drop)]
 pub struct TurnCounts {
     pub base: Arc<Turns>,
     pub since: Vec<TurnRow>,
+}
+
+impl Drop for TurnCounts {
+    fn drop(self) {
+        let TurnCounts { base: _, since: _ } = self;
+    }
 }
 
 /// Whether they are one actor.

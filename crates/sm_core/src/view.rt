@@ -68,7 +68,6 @@ fn next_services(
 /// history.
 ///
 /// Its parts are shared with other views that have the same ones: a change that doesn't alter the names copies no name.
-#[derive(Drop)]
 pub struct View {
     alloc: Global,
     places: u32,
@@ -78,6 +77,21 @@ pub struct View {
     turn_counts: TurnCounts,
     journal: Snapshot<Journal>,
     next: Option<Snapshot<Entry>>,
+}
+
+impl Drop for View {
+    fn drop(self) {
+        let View {
+            alloc: _,
+            places: _,
+            length: _,
+            principals: _,
+            services: _,
+            turn_counts: _,
+            journal: _,
+            next: _,
+        } = self;
+    }
 }
 
 impl Model for View {

@@ -21,7 +21,6 @@ pub struct Buffers {
     pub lines: Vec<u8>,
 }
 
-// Drop: see docs/PROOFS.md.
 impl Drop for Buffers {
     fn drop(self) {
         let Buffers {

@@ -6,9 +6,14 @@ use crate::entry::Entry;
 use std::marker::Model;
 
 /// Journal entries in one block of memory, oldest first.
-#[derive(Drop)]
 pub struct Chunk {
     entries: Vec<Entry>,
+}
+
+impl Drop for Chunk {
+    fn drop(self) {
+        let Chunk { entries: _ } = self;
+    }
 }
 
 impl Model for Chunk {

@@ -15,12 +15,22 @@ pub struct Held {
 }
 
 /// A live client: its number, its process, what it holds under each number, and its deliveries, oldest first.
-#[derive(Drop)]
 pub struct ClientRow {
     pub client: u32,
     pub who: Identity,
     pub held: Vec<Option<Held>>,
     pub waiting: Vec<BoxedDelivery>,
+}
+
+impl Drop for ClientRow {
+    fn drop(self) {
+        let ClientRow {
+            client: _,
+            who: _,
+            held: _,
+            waiting: _,
+        } = self;
+    }
 }
 
 /// Returns what is held under a number.

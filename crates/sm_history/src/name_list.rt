@@ -35,7 +35,6 @@ impl Model for NameList {
     ghost invariant = { λ n. All (IsWithin n.bytes.items) n.spans.items };
 }
 
-// Drop: see docs/PROOFS.md.
 impl Drop for NameList {
     fn drop(self) {
         let NameList { bytes: _, spans: _ } = self;
@@ -105,7 +104,6 @@ impl Model for BoxedNames {
     ghost view = { λ b. b.names.value };
 }
 
-// Drop: see docs/PROOFS.md.
 impl Drop for BoxedNames {
     fn drop(self) {
         let BoxedNames { names: _ } = self;

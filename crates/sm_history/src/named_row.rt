@@ -14,10 +14,15 @@ use sm_kinds::Name;
 use std::alloc::AllocError;
 
 /// A name and its service.
-#[derive(Drop)]
 pub struct NamedRow {
     pub name: Name,
     pub service: Service,
+}
+
+impl Drop for NamedRow {
+    fn drop(self) {
+        let NamedRow { name: _, service: _ } = self;
+    }
 }
 
 /// Returns the index of a name's row, or the index at which it would be inserted.

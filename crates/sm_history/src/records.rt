@@ -8,7 +8,7 @@ use std::alloc::AllocError;
 
 /// A record of a check that no allow rule passed, or of a clause on the user number that refused a request, as
 /// SELinux's access vector cache makes one (`avc: denied`).
-#[derive(Drop, Debug)]
+#[derive(Debug)]
 pub struct Record {
     /// The length of the journal when the check was made, in changes.
     pub length: u64,
@@ -23,6 +23,20 @@ pub struct Record {
     pub target: Option<Context>,
     /// The name, if the target is its label or the clause is about it.
     pub name: Option<Name>,
+}
+
+impl Drop for Record {
+    fn drop(self) {
+        let Record {
+            length: _,
+            version: _,
+            denial: _,
+            permissive: _,
+            who: _,
+            target: _,
+            name: _,
+        } = self;
+    }
 }
 
 impl Clone for Record {

@@ -5,11 +5,16 @@ use std::marker::Model;
 /// Everything that a verdict reads of the changes so far: the manager and the policy in force, once it was opened, each
 /// live client with its handles and deliveries, names, watches, turns, and the number of changes. A segment begins with
 /// these; contracts see them as the rows that a history leaves.
-#[derive(Drop)]
 pub struct Rows {
     tables: Tables,
     turns: Vec<TurnRow>,
     length: u64,
+}
+
+impl Drop for Rows {
+    fn drop(self) {
+        let Rows { tables: _, turns: _, length: _ } = self;
+    }
 }
 
 impl Model for Rows {

@@ -4,12 +4,22 @@ use std::marker::Model;
 
 /// A segment of a journal: its number from 1, the rows that it begins with, and its changes, oldest first, in the
 /// journal's own chunks, so that closing a segment copies nothing. Contracts see the history, which a manager produced.
-#[derive(Drop)]
 pub struct Segment {
     number: u64,
     opening: Rows,
     full: Vec<Chunk>,
     last: Vec<Entry>,
+}
+
+impl Drop for Segment {
+    fn drop(self) {
+        let Segment {
+            number: _,
+            opening: _,
+            full: _,
+            last: _,
+        } = self;
+    }
 }
 
 impl Model for Segment {

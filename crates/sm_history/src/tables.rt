@@ -26,7 +26,6 @@ use sm_policy::Prepared;
 use std::alloc::{AllocError, Global};
 
 /// The tables that effects leave.
-#[derive(Drop)]
 pub struct Tables {
     pub alloc: Global,
     pub manager: Option<Identity>,
@@ -36,6 +35,21 @@ pub struct Tables {
     pub live: Vec<ClientRow>,
     pub names: Vec<NamedRow>,
     pub watches: Vec<Watch>,
+}
+
+impl Drop for Tables {
+    fn drop(self) {
+        let Tables {
+            alloc: _,
+            manager: _,
+            policy: _,
+            version: _,
+            clients: _,
+            live: _,
+            names: _,
+            watches: _,
+        } = self;
+    }
 }
 
 fn is_same(watch: &Watch, client: u32, name: &[u8], object: u32) -> bool

@@ -18,13 +18,24 @@ use std::alloc::{AllocError, Global};
 use std::collections::HashMap;
 
 /// The number of changes of each actor, and the administrators in the order of their first change.
-#[derive(Drop)]
 pub struct Turning {
     pub alloc: Global,
     pub manager: u64,
     pub clients: HashMap<u32, u64>,
     pub admins: HashMap<u32, u64>,
     pub order: Vec<u32>,
+}
+
+impl Drop for Turning {
+    fn drop(self) {
+        let Turning {
+            alloc: _,
+            manager: _,
+            clients: _,
+            admins: _,
+            order: _,
+        } = self;
+    }
 }
 
 /// Returns the client number of an actor, or 0 if it isn't a client.

@@ -41,7 +41,6 @@ impl Model for Context {
     ghost invariant = { λ n. IsTypeAt n.kind_start n.kind_len (arc_slice_items n.text) };
 }
 
-// Drop: see docs/PROOFS.md.
 impl Drop for Context {
     fn drop(self) {
         let Context {

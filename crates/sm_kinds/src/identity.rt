@@ -13,7 +13,6 @@ pub struct Identity {
     pub context: Context,
 }
 
-// Drop: see docs/PROOFS.md.
 impl Drop for Identity {
     fn drop(self) {
         let Identity {

@@ -25,7 +25,6 @@ impl Model for Name {
     ghost view = { λ n. arc_slice_items n.bytes };
 }
 
-// Drop: see docs/PROOFS.md.
 impl Drop for Name {
     fn drop(self) {
         let Name { bytes: _ } = self;

@@ -35,7 +35,6 @@ impl Model for Payload {
     ghost invariant = { λ p. length p.bytes ≤ MOST_PAYLOAD_BYTES };
 }
 
-// Drop: see docs/PROOFS.md.
 impl Drop for Payload {
     fn drop(self) {
         let Payload { bytes: _ } = self;

@@ -36,7 +36,6 @@ impl Model for Refs {
     ghost invariant = { λ r. length r.list.items ≤ MOST_REFS };
 }
 
-// Drop: see docs/PROOFS.md.
 impl Drop for Refs {
     fn drop(self) {
         let Refs { list: _ } = self;

@@ -8,9 +8,14 @@ use std::alloc::{AllocError, Global};
 use std::marker::Model;
 
 /// A matrix of bits for each permission, in the order of bits.
-#[derive(Drop)]
 pub struct Matrices {
     list: Vec<Layer>,
+}
+
+impl Drop for Matrices {
+    fn drop(self) {
+        let Matrices { list: _ } = self;
+    }
 }
 
 impl Model for Matrices {

@@ -153,9 +153,14 @@ fn all_targets(alloc: Global, rows: &[BitRow], count: TypeCount) -> Result<BitRo
 }
 
 /// A matrix of bits, a row for each source; contracts see it as the list of its rows.
-#[derive(Drop)]
 pub struct Matrix {
     rows: Vec<BitRow>,
+}
+
+impl Drop for Matrix {
+    fn drop(self) {
+        let Matrix { rows: _ } = self;
+    }
 }
 
 impl Model for Matrix {

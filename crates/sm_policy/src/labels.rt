@@ -33,7 +33,6 @@ pub struct Labels {
     pub indexes: Vec<u16>,
 }
 
-// Drop: see docs/PROOFS.md.
 impl Drop for Labels {
     fn drop(self) {
         let Labels {

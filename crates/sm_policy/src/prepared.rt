@@ -16,7 +16,6 @@ use std::snapshot::Snapshot;
 use std::sync::Arc;
 
 /// What all references to a policy share: its types and rules as tables, and its labels.
-#[derive(Drop)]
 struct Parts {
     /// The statements of the policy source, for contracts only. They need no memory.
     statements: Snapshot<Vec<Statement>>,
@@ -25,6 +24,19 @@ struct Parts {
     rules: Rules,
     vectors: Vectors,
     labels: Labels,
+}
+
+impl Drop for Parts {
+    fn drop(self) {
+        let Parts {
+            statements: _,
+            counts: _,
+            types: _,
+            rules: _,
+            vectors: _,
+            labels: _,
+        } = self;
+    }
 }
 
 /// A prepared policy. Its clones share one copy. Contracts see the statements of its policy source and the entries of
@@ -45,7 +57,6 @@ impl Model for Prepared {
     ghost invariant = { λ p. ArePartsOf (policy_of (arc_value p.parts)) (arc_value p.parts) };
 }
 
-// Drop: see docs/PROOFS.md.
 impl Drop for Prepared {
     fn drop(self) {
         let Prepared { parts: _ } = self;

@@ -52,7 +52,6 @@ impl Model for Memo {
     ghost view = { λ m. record { sets = m.sets.items; grants = m.grants.items } };
 }
 
-// Drop: see docs/PROOFS.md.
 impl Drop for Memo {
     fn drop(self) {
         let Memo {

@@ -49,7 +49,6 @@ impl Model for Rules {
     ghost invariant = { λ r. IsSound r.count r.allows.items r.neverallows.items r.silences.items r.permissive };
 }
 
-// Drop: see docs/PROOFS.md.
 impl Drop for Rules {
     fn drop(self) {
         let Rules {

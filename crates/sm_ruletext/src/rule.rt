@@ -6,7 +6,7 @@ ghost use Rattle.sm_ruletext.specs.Kept as spec;
 use crate::Set;
 
 /// What follows `allow`, `neverallow` or `dontaudit`: `SOURCE TARGET : CLASS PERM`.
-#[derive(Debug, Drop)]
+#[derive(Debug)]
 pub struct Rule {
     pub source: Set,
     pub target: Set,
@@ -14,6 +14,18 @@ pub struct Rule {
     pub perm: Set,
     /// Whether `self` is in the target.
     pub to_self: bool,
+}
+
+impl Drop for Rule {
+    fn drop(self) {
+        let Rule {
+            source: _,
+            target: _,
+            class: _,
+            perm: _,
+            to_self: _,
+        } = self;
+    }
 }
 
 impl Rule {

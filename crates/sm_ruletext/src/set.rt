@@ -62,7 +62,6 @@ impl Model for SetParts {
         ≡ selects_kept (set_with 0 (parts_of p.all p.complement p.plus p.minus)) };
 }
 
-// Drop: see docs/PROOFS.md.
 impl Drop for SetParts {
     fn drop(self) {
         let SetParts {
@@ -168,7 +167,6 @@ impl Model for Set {
     ghost view = { λ s. set_with s.line (arc_value s.parts) };
 }
 
-// Drop: see docs/PROOFS.md.
 impl Drop for Set {
     fn drop(self) {
         let Set { line: _, parts: _ } = self;

@@ -15,7 +15,7 @@ pub enum RuleKind {
 }
 
 /// The content of a statement.
-#[derive(Debug, Drop)]
+#[derive(Debug)]
 pub enum What {
     /// `attribute A;`
     Attribute(Name),
@@ -27,6 +27,18 @@ pub enum What {
     Rule(RuleKind, Rule),
     /// `permissive T;`
     Permissive(Name),
+}
+
+impl Drop for What {
+    fn drop(self) {
+        match self {
+            What::Attribute(_) => {}
+            What::Declared(_, _) => {}
+            What::Member(_, _) => {}
+            What::Rule(_, _) => {}
+            What::Permissive(_) => {}
+        }
+    }
 }
 
 impl What {
@@ -42,8 +54,14 @@ impl What {
 }
 
 /// A statement, with the line of its first byte; lines are numbered from 1.
-#[derive(Debug, Drop)]
+#[derive(Debug)]
 pub struct Statement {
     pub line: u32,
     pub what: What,
+}
+
+impl Drop for Statement {
+    fn drop(self) {
+        let Statement { line: _, what: _ } = self;
+    }
 }

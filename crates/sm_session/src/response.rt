@@ -13,7 +13,6 @@ pub enum Response {
     Denied(Vec<Record>),
 }
 
-// Drop: see docs/PROOFS.md.
 impl Drop for Response {
     fn drop(self) {
         match self {

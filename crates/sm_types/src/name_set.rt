@@ -5,9 +5,14 @@ use std::alloc::{AllocError, Global};
 use std::marker::Model;
 
 /// Distinct names. Contracts see the list of their bytes.
-#[derive(Drop)]
 pub struct NameSet {
     names: IndexSet<Vec<u8>>,
+}
+
+impl Drop for NameSet {
+    fn drop(self) {
+        let NameSet { names: _ } = self;
+    }
 }
 
 impl Model for NameSet {

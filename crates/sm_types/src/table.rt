@@ -23,12 +23,17 @@ use sm_ruletext::{Set, Statement};
 use std::alloc::{AllocError, Global};
 
 /// The types of a policy source, and for each attribute the row of its members.
-#[derive(Drop)]
 pub struct Table {
     pub symbols: Symbols,
     pub members: Vec<BitRow>,
     /// The row of all types.
     pub all: BitRow,
+}
+
+impl Drop for Table {
+    fn drop(self) {
+        let Table { symbols: _, members: _, all: _ } = self;
+    }
 }
 
 /// Reads the table of a policy source, or returns the first refusal.

@@ -24,9 +24,14 @@ use std::marker::Model;
 /// attributes.
 ///
 /// Contracts see it as a table of names and rows; `IsOf` says that the table is that of a source.
-#[derive(Drop)]
 pub struct Types {
     table: Table,
+}
+
+impl Drop for Types {
+    fn drop(self) {
+        let Types { table: _ } = self;
+    }
 }
 
 impl Model for Types {

@@ -64,7 +64,6 @@ impl Model for Vectors {
     ghost invariant = { λ v. length v.permissive ≡ v.count / 64 + 1 };
 }
 
-// Drop: see docs/PROOFS.md.
 impl Drop for Vectors {
     fn drop(self) {
         let Vectors {
