@@ -18,7 +18,6 @@ use std::marker::Model;
 use std::sync::Wait;
 
 /// An actor with its reader slot. Contracts see the actor, the history that it has seen, and the number of its reads.
-#[derive(Drop)]
 pub struct Actor<J: Naming> {
     alloc: Global,
     by: By,
@@ -26,6 +25,17 @@ pub struct Actor<J: Naming> {
     turn: u64,
     /// Its reader slot, which is absent only within a call.
     reader: Option<ViewReader<J>>,
+}
+
+impl<J: Naming> Drop for Actor<J> {
+    fn drop(self) {
+        let Actor {
+            alloc: _,
+            by: _,
+            turn: _,
+            reader: _,
+        } = self;
+    }
 }
 
 impl<J: Naming> Model for Actor<J> {

@@ -9,11 +9,16 @@ use sm_kinds::AdminId;
 use std::marker::Model;
 
 /// An administrator's token. It can't be copied, and serves the door that made it.
-#[derive(Drop)]
 pub struct Admin<J: Naming> {
     /// The administrator's number, which only the invariant reads.
     number: AdminId,
     pub(crate) actor: Actor<J>,
+}
+
+impl<J: Naming> Drop for Admin<J> {
+    fn drop(self) {
+        let Admin { number: _, actor: _ } = self;
+    }
 }
 
 impl<J: Naming> Model for Admin<J> {

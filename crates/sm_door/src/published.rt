@@ -13,9 +13,14 @@ use std::marker::PhantomData;
 use std::sync::Arc;
 
 /// The payload of the readers. Each operation of the writer is a whole shared view, which replaces the one before.
-#[derive(Drop)]
 pub struct Published<J: Naming> {
     pub shared_view: Arc<SharedView<J>>,
+}
+
+impl<J: Naming> Drop for Published<J> {
+    fn drop(self) {
+        let Published { shared_view: _ } = self;
+    }
 }
 
 impl<J: Naming> Absorb<Arc<SharedView<J>>> for Published<J> {

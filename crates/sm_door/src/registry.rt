@@ -62,12 +62,22 @@ impl UnnamedRegistry {
 }
 
 /// A registry. Contracts see the recorded books, as far as this thread has seen them.
-#[derive(Drop)]
 pub struct Registry<J: Naming> {
     head: Word<Registered, u64, Law>,
     count: u64,
     seen: Seen<Registered, u64, Law>,
     of: PhantomData<J>,
+}
+
+impl<J: Naming> Drop for Registry<J> {
+    fn drop(self) {
+        let Registry {
+            head: _,
+            count: _,
+            seen: _,
+            of: _,
+        } = self;
+    }
 }
 
 impl<J: Naming> Model for Registry<J> {
@@ -84,11 +94,16 @@ impl<J: Naming> Model for Registry<J> {
 }
 
 /// The number of a history. Contracts see that history's book.
-#[derive(Drop)]
 pub struct HistoryId<J: Naming> {
     number: u64,
     seen: Seen<Registered, u64, Law>,
     of: PhantomData<J>,
+}
+
+impl<J: Naming> Drop for HistoryId<J> {
+    fn drop(self) {
+        let HistoryId { number: _, seen: _, of: _ } = self;
+    }
 }
 
 impl<J: Naming> Model for HistoryId<J> {

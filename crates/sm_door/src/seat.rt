@@ -14,9 +14,14 @@ use std::marker::Model;
 
 /// A free seat for a client. It can't be copied, and serves the door that made it. Contracts see it as a token of the
 /// manager, because the manager connects clients.
-#[derive(Drop)]
 pub struct Seat<J: Naming> {
     pub(crate) actor: Actor<J>,
+}
+
+impl<J: Naming> Drop for Seat<J> {
+    fn drop(self) {
+        let Seat { actor: _ } = self;
+    }
 }
 
 impl<J: Naming> Model for Seat<J> {

@@ -11,10 +11,15 @@ use std::marker::Model;
 
 /// A client's slot at the door, with or without a client: what a server keeps for a connection that may have sent
 /// nothing yet. Contracts see it as the free seat or the session of which it was made.
-#[derive(Drop)]
 pub struct SeatOrSession<J: Naming> {
     client: Option<ClientId>,
     actor: Actor<J>,
+}
+
+impl<J: Naming> Drop for SeatOrSession<J> {
+    fn drop(self) {
+        let SeatOrSession { client: _, actor: _ } = self;
+    }
 }
 
 impl<J: Naming> Model for SeatOrSession<J> {

@@ -12,10 +12,15 @@ use std::marker::Model;
 
 /// A connected client's token. It can't be copied, and serves the door that made it. A session that is dropped without
 /// `Door::leave` stays a live client until the door ends.
-#[derive(Drop)]
 pub struct Session<J: Naming> {
     client: ClientId,
     pub(crate) actor: Actor<J>,
+}
+
+impl<J: Naming> Drop for Session<J> {
+    fn drop(self) {
+        let Session { client: _, actor: _ } = self;
+    }
 }
 
 impl<J: Naming> Model for Session<J> {

@@ -16,10 +16,15 @@ use std::marker::Model;
 use std::sync::{Arc, Wait};
 
 /// A view with the id of its history. Contracts see that history with its slots.
-#[derive(Drop)]
 pub struct SharedView<J: Naming> {
     view: View,
     history_id: HistoryId<J>,
+}
+
+impl<J: Naming> Drop for SharedView<J> {
+    fn drop(self) {
+        let SharedView { view: _, history_id: _ } = self;
+    }
 }
 
 impl<J: Naming> Model for SharedView<J> {

@@ -25,7 +25,6 @@ use sm_kinds::{ClientId, Node, ObjRef};
 use std::alloc::{AllocError, Global};
 
 /// The handles of all clients: who holds which object, under which number, and how often.
-#[derive(Drop)]
 pub struct Grants {
     alloc: Global,
     rows: Vec<ClientHandles>,
@@ -33,6 +32,12 @@ pub struct Grants {
     bound: u64,
     ghost bounded: { highest rows.items ≤ bound },
     ghost once: { AreOnce rows.items },
+}
+
+impl Drop for Grants {
+    fn drop(self) {
+        let Grants { alloc: _, rows: _, bound: _ } = self;
+    }
 }
 
 impl Grants {

@@ -6,11 +6,16 @@ use std::marker::Model;
 ///
 /// An object is found by its hash, a number by its slot, and the least free number by words of 64 numbers, from the
 /// first word that may have one.
-#[derive(Drop)]
 pub struct Handles {
     slots: Vec<Option<Held>>,
     numbers: HashMap<(u32, u32), u32>,
     taken: UsedNumbers,
+}
+
+impl Drop for Handles {
+    fn drop(self) {
+        let Handles { slots: _, numbers: _, taken: _ } = self;
+    }
 }
 
 impl Model for Handles {

@@ -16,11 +16,16 @@ use std::alloc::{AllocError, Global};
 use std::collections::VecDeque;
 
 /// The inboxes of live clients: one row for each, of at most 64.
-#[derive(Drop)]
 pub struct Inboxes {
     alloc: Global,
     rows: Vec<Inbox>,
     ghost once: { AreOnce rows.items },
+}
+
+impl Drop for Inboxes {
+    fn drop(self) {
+        let Inboxes { alloc: _, rows: _ } = self;
+    }
 }
 
 /// Copies deliveries, which are shared. Returns an error if an allocation fails.

@@ -59,9 +59,15 @@ impl Name {
 }
 
 /// Names in order. Contracts see the list of their bytes.
-#[derive(Debug, Drop)]
+#[derive(Debug)]
 pub struct Names {
     list: Vec<Name>,
+}
+
+impl Drop for Names {
+    fn drop(self) {
+        let Names { list: _ } = self;
+    }
 }
 
 impl Model for Names {

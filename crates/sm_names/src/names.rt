@@ -20,11 +20,16 @@ use sm_kinds::Name;
 use std::alloc::{AllocError, Global};
 
 /// The table of services under their names, and of watches.
-#[derive(Drop)]
 pub struct Names {
     services: Services,
     watches: WatchList,
     order: WatchOrder,
+}
+
+impl Drop for Names {
+    fn drop(self) {
+        let Names { services: _, watches: _, order: _ } = self;
+    }
 }
 
 impl Names {

@@ -18,11 +18,16 @@ use sm_kinds::Name;
 use std::alloc::{AllocError, Global};
 
 /// The names that have a service, in rising byte order.
-#[derive(Drop)]
 pub struct Services {
     rows: Vec<NamedRow>,
     /// Where rows may be found without a search.
     hints: Hints,
+}
+
+impl Drop for Services {
+    fn drop(self) {
+        let Services { rows: _, hints: _ } = self;
+    }
 }
 
 /// Returns the index of a name's row, or the index at which it would be inserted.

@@ -20,10 +20,15 @@ use std::alloc::{AllocError, Global};
 use std::cmp::Ordering;
 
 /// The watches of live clients, in rising byte order of their names, and of one name oldest first.
-#[derive(Drop)]
 pub struct WatchList {
     list: Vec<Watch>,
     ghost few: { vec_len list ≤ MOST_WATCHES },
+}
+
+impl Drop for WatchList {
+    fn drop(self) {
+        let WatchList { list: _ } = self;
+    }
 }
 
 fn is_before(watch: &Watch, name: &[u8]) -> bool

@@ -11,12 +11,17 @@ use std::alloc::{AllocError, Global};
 use std::marker::Model;
 
 /// The matrix of a permission, if some rule gives it. Contracts see the list of its rows.
-#[derive(Drop)]
 pub struct Layer {
     matrix: Option<Matrix>,
     count: usize,
     /// The row of each source, if there is no matrix.
     nothing: BitRow,
+}
+
+impl Drop for Layer {
+    fn drop(self) {
+        let Layer { matrix: _, count: _, nothing: _ } = self;
+    }
 }
 
 impl Model for Layer {

@@ -50,9 +50,14 @@ fn double(
 }
 
 /// The unions of all subsets of some rows; contracts see the list of these unions.
-#[derive(Drop)]
 pub struct Unions {
     rows: Vec<BitRow>,
+}
+
+impl Drop for Unions {
+    fn drop(self) {
+        let Unions { rows: _ } = self;
+    }
 }
 
 impl Model for Unions {

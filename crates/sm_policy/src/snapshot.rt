@@ -5,10 +5,15 @@ use sm_kinds::{Class, Context, Perms};
 use std::marker::Model;
 
 /// A policy with its version: the number of the `Open` and `Reload` entries up to the one that put it into force.
-#[derive(Drop)]
 pub struct Snapshot {
     prepared: Prepared,
     version: u64,
+}
+
+impl Drop for Snapshot {
+    fn drop(self) {
+        let Snapshot { prepared: _, version: _ } = self;
+    }
 }
 
 impl Model for Snapshot {

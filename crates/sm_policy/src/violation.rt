@@ -3,7 +3,7 @@
 use sm_kinds::{Class, Name, Perms};
 
 /// The first thing that a neverallow rule forbids and an allow rule allows, with the names of its types.
-#[derive(Debug, Drop)]
+#[derive(Debug)]
 pub struct Violation {
     /// The line of the neverallow rule.
     pub never_line: u32,
@@ -14,4 +14,17 @@ pub struct Violation {
     pub class: Class,
     /// A single permission of the class.
     pub perm: Perms,
+}
+
+impl Drop for Violation {
+    fn drop(self) {
+        let Violation {
+            never_line: _,
+            allow_line: _,
+            source: _,
+            target: _,
+            class: _,
+            perm: _,
+        } = self;
+    }
 }

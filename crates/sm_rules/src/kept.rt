@@ -26,7 +26,6 @@ use sm_types::{Types, TypesFault};
 use std::alloc::{AllocError, Global};
 
 /// A kept rule: its types as numbers, its permissions as bits.
-#[derive(Drop)]
 pub struct Kept {
     /// The line of its statement.
     pub line: u32,
@@ -36,6 +35,18 @@ pub struct Kept {
     pub to_self: bool,
     /// The permissions that it grants, each of a class that it selects.
     pub perms: Perms,
+}
+
+impl Drop for Kept {
+    fn drop(self) {
+        let Kept {
+            line: _,
+            sources: _,
+            targets: _,
+            to_self: _,
+            perms: _,
+        } = self;
+    }
 }
 
 impl Kept {

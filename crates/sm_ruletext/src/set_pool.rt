@@ -22,13 +22,18 @@ const SLOTS: usize = 16_384;
 const MOST_SETS: usize = 65_536;
 
 /// The sets so far, which contracts don't see. What is found is compared with what is sought.
-#[derive(Drop)]
 pub struct SetPool {
     sets: Vec<Arc<SetParts, Global>>,
     /// The last sets, each in the slot that its words select.
     slots: Vec<u32>,
     /// Room for the items of the next set.
     spare: Items,
+}
+
+impl Drop for SetPool {
+    fn drop(self) {
+        let SetPool { sets: _, slots: _, spare: _ } = self;
+    }
 }
 
 impl Model for SetPool {

@@ -10,10 +10,15 @@ use std::alloc::Global;
 use std::marker::Model;
 
 /// The statements so far, and the number of rules among them.
-#[derive(Drop)]
 pub struct Statements {
     list: Vec<Statement>,
     rules: u32,
+}
+
+impl Drop for Statements {
+    fn drop(self) {
+        let Statements { list: _, rules: _ } = self;
+    }
 }
 
 impl Model for Statements {

@@ -21,10 +21,15 @@ use std::marker::Model;
 const HELD_LIMIT: usize = 65536;
 
 /// A service manager that answers the items of a script.
-#[derive(Drop)]
 pub struct Script {
     alloc: Global,
     manager: Manager,
+}
+
+impl Drop for Script {
+    fn drop(self) {
+        let Script { alloc: _, manager: _ } = self;
+    }
 }
 
 impl Model for Script {

@@ -12,11 +12,16 @@ const WAITING: usize = 1024;
 
 /// Where the threads of a server put audit records. They never wait: lines that find no room or no memory are lost, and
 /// counted.
-#[derive(Drop)]
 pub struct AuditLog {
     alloc: Global,
     to: Sender<Option<Vec<u8>>>,
     lost: AtomicU64,
+}
+
+impl Drop for AuditLog {
+    fn drop(self) {
+        let AuditLog { alloc: _, to: _, lost: _ } = self;
+    }
 }
 
 /// Where the writer takes the lines. `None` is the end of the log.

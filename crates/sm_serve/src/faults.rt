@@ -5,9 +5,14 @@ use sm_engine::ServeFault;
 use std::sync::{Mutex, Wait};
 
 /// The first fault of a server, which all its threads share.
-#[derive(Drop)]
 pub struct Faults {
     first: Mutex<Option<ServeFault>>,
+}
+
+impl Drop for Faults {
+    fn drop(self) {
+        let Faults { first: _ } = self;
+    }
 }
 
 impl Faults {

@@ -4,9 +4,14 @@ use sm_door::{Naming, Seat};
 use std::sync::{Mutex, Wait};
 
 /// The free seats, shared by all connections.
-#[derive(Drop)]
 pub struct FreeSeats<J: Naming> {
     seats: Mutex<Vec<Seat<J>>>,
+}
+
+impl<J: Naming> Drop for FreeSeats<J> {
+    fn drop(self) {
+        let FreeSeats { seats: _ } = self;
+    }
 }
 
 impl<J: Naming> FreeSeats<J> {

@@ -12,9 +12,14 @@ use std::sync::{Mutex, Wait};
 const SESSIONS: usize = 64;
 
 /// Sessions whose connections have ended and that couldn't leave, because an allocation failed. Each is tried again.
-#[derive(Drop)]
 pub struct Leavers<J: Naming> {
     sessions: Mutex<Vec<Session<J>>>,
+}
+
+impl<J: Naming> Drop for Leavers<J> {
+    fn drop(self) {
+        let Leavers { sessions: _ } = self;
+    }
 }
 
 impl<J: Naming> Leavers<J> {

@@ -37,11 +37,16 @@ impl ByteRow {
 }
 
 /// Rows of bytes, found by a digest, which equal rows have in common. Contracts see them as a list of rows.
-#[derive(Drop)]
 pub struct ByteRows {
     rows: Vec<ByteRow>,
     /// For each digest the index of the last row that came with it.
     places: IndexMap<u64, usize>,
+}
+
+impl Drop for ByteRows {
+    fn drop(self) {
+        let ByteRows { rows: _, places: _ } = self;
+    }
 }
 
 impl Model for ByteRows {

@@ -108,10 +108,15 @@ fn place_for(
 }
 
 /// For each pair of types a byte, with a bit for each permission. Equal rows are stored once.
-#[derive(Drop)]
 pub struct ByteTable {
     places: Vec<usize>,
     rows: ByteRows,
+}
+
+impl Drop for ByteTable {
+    fn drop(self) {
+        let ByteTable { places: _, rows: _ } = self;
+    }
 }
 
 impl Model for ByteTable {

@@ -36,12 +36,22 @@ impl From<AllocError> for FeedError {
 }
 
 /// Cuts a stream into items, in whatever pieces it comes.
-#[derive(Drop)]
 pub struct Lines {
     kind: Kind,
     mode: FrameState,
     held: Vec<u8>,
     recent: RecentNames,
+}
+
+impl Drop for Lines {
+    fn drop(self) {
+        let Lines {
+            kind: _,
+            mode: _,
+            held: _,
+            recent: _,
+        } = self;
+    }
 }
 
 impl Model for Lines {

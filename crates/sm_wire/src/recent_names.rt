@@ -30,12 +30,17 @@ struct Place {
 
 /// Recently read names, each in the place that its bytes select. The cache changes no name that is returned, so
 /// contracts don't see it.
-#[derive(Drop)]
 pub struct RecentNames {
     pub alloc: Global,
     /// The number of places once the first name has come.
     count: usize,
     places: Vec<Place>,
+}
+
+impl Drop for RecentNames {
+    fn drop(self) {
+        let RecentNames { alloc: _, count: _, places: _ } = self;
+    }
 }
 
 impl Model for RecentNames {

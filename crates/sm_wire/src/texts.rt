@@ -3,11 +3,16 @@
 use std::marker::Model;
 
 /// A `reload` line with the files that follow it.
-#[derive(Drop)]
 pub struct PolicyTexts {
     expected: u64,
     rules: Vec<u8>,
     contexts: Vec<u8>,
+}
+
+impl Drop for PolicyTexts {
+    fn drop(self) {
+        let PolicyTexts { expected: _, rules: _, contexts: _ } = self;
+    }
 }
 
 impl Model for PolicyTexts {
