@@ -7,23 +7,12 @@ use sm_kinds::Names;
 use std::alloc::Global;
 
 /// The items of a set that is being read.
-#[derive(Debug)]
+#[derive(Debug, Drop)]
 pub struct Items {
     pub all: bool,
     pub to_self: bool,
     pub plus: Names,
     pub minus: Names,
-}
-
-impl Drop for Items {
-    fn drop(self) {
-        let Items {
-            all: _,
-            to_self: _,
-            plus: _,
-            minus: _,
-        } = self;
-    }
 }
 
 impl Items {
