@@ -1,6 +1,8 @@
 //! A client's slot at the door, with or without a client.
 
 ghost use Rattle.std.specs.Prelude.{◌≡◌, MatchResult};
+ghost use Rattle.sm_kinds.specs.declared.number.ClientId.{ClientId};
+ghost use Rattle.sm_history.specs.declared.by.By.TheVariants.{Manager, Client};
 
 use crate::actor::Actor;
 use crate::registry::Naming;
@@ -38,7 +40,8 @@ impl<J: Naming> Model for SeatOrSession<J> {
 impl<J: Naming> SeatOrSession<J> {
     /// Makes a slot without a client.
     pub fn of_seat(seat: Seat<J>) -> SeatOrSession<J>
-        ensures { result ≡ seat }
+        ensures same { result ≡ seat }
+        ensures by { seat.by ≡ Manager }
     {
         SeatOrSession {
             client: None,
@@ -59,7 +62,8 @@ impl<J: Naming> SeatOrSession<J> {
 
     /// Returns the session of its client, or the free seat if it has no client.
     pub fn taken(self) -> Result<Session<J>, Seat<J>>
-        ensures { MatchResult result (λ session. session ≡ self) (λ seat. seat ≡ self) }
+        ensures { MatchResult result (λ session. (session ≡ self) × ((client : ClientId) × (self.by ≡ Client client)))
+            (λ seat. (seat ≡ self) × (self.by ≡ Manager)) }
     {
         let SeatOrSession { client, actor } = self;
         match client {
