@@ -1,23 +1,26 @@
 //! An administrator's connection at the door.
 
+ghost use Rattle.std.specs.Prelude.{◌≡◌};
+ghost use Rattle.sm_serve.specs.Connections.{AdminGives, AdminGivesLine, AdminInstalls, AdminReads, AdminSeals};
+ghost use Rattle.sm_history.specs.declared.event.Event.TheVariants.{Reload};
+ghost use Rattle.sm_wire.specs.declared.request.Request.TheVariants.{Denials};
+
 use crate::answered::Answered;
 use crate::command::Command;
 use crate::monitor::Monitor;
 use crate::refusals::not_yours;
-use crate::shared_admin::SharedAdmin;
 use crate::supervisor::Supervisor;
-use sm_door::{Door, Naming};
+use sm_door::{Admin, Door, Naming};
 use sm_history::{Gate, Outcome, Query, Refusal, Reply};
 use sm_policy::Prepared;
 use sm_session::Response;
 use sm_wire::Request;
 use std::sync::Wait;
 
-/// An administrator's connection at the door, under the token that all connections of administrators share.
+/// An administrator's connection at the door, under the token that all connections of administrators use in turn.
 pub struct Administrator<'a, J: Naming, G: Gate, H, R> {
     rt: &'a R,
     door: &'a Door<J, G>,
-    admin: &'a SharedAdmin<J>,
     monitor: &'a Monitor<'a, H>,
 }
 
@@ -26,7 +29,6 @@ impl<'a, J: Naming, G: Gate, H, R> Drop for Administrator<'a, J, G, H, R> {
         let Administrator {
             rt: _,
             door: _,
-            admin: _,
             monitor: _,
         } = self;
     }
@@ -37,37 +39,45 @@ impl<'a, J: Naming, G: Gate + Drop, H: Supervisor, R: Wait> Administrator<'a, J,
     pub fn new(
         rt: &'a R,
         door: &'a Door<J, G>,
-        admin: &'a SharedAdmin<J>,
         monitor: &'a Monitor<'a, H>,
     ) -> Administrator<'a, J, G, H, R> {
-        Administrator {
-            rt,
-            door,
-            admin,
-            monitor,
+        Administrator { rt, door, monitor }
+    }
+
+    /// Answers a command. No request of an administrator's has audit records.
+    pub fn answer(&self, admin: &mut Admin<J>, command: Command) -> Answered
+        ensures { AdminGives admin.old command result.response admin.new }
+    {
+        Answered::plain(self.response(admin, command))
+    }
+
+    fn response(&self, admin: &mut Admin<J>, command: Command) -> Response
+        ensures { AdminGives admin.old command result admin.new }
+    {
+        match command {
+            Command::Hello(_) => Response::Replied(not_yours()),
+            Command::Line(request) => self.line(admin, request),
+            Command::Install { expected, prepared } => {
+                Response::Replied(self.install(admin, expected, prepared))
+            }
+            Command::End => Response::Replied(not_yours()),
         }
     }
 
-    /// Answers a request. No request of an administrator's has audit records.
-    pub fn answer(&self, command: Command) -> Answered {
-        Answered::plain(self.response(command))
-    }
-
-    fn response(&self, command: Command) -> Response {
-        match command {
-            Command::Line(Request::Look(_, query)) => Response::Replied(self.look(query)),
-            Command::Line(Request::Denials) => self.denials(),
-            Command::Line(Request::Seal) => Response::Replied(self.seal()),
-            Command::Install { expected, prepared } => {
-                Response::Replied(self.install(expected, prepared))
-            }
+    fn line(&self, admin: &mut Admin<J>, request: Request) -> Response
+        ensures { AdminGivesLine admin.old request result admin.new }
+    {
+        match request {
+            Request::Look(_, query) => Response::Replied(self.look(admin, query)),
+            Request::Denials => self.denials(admin),
+            Request::Seal => Response::Replied(self.seal(admin)),
             _ => Response::Replied(not_yours()),
         }
     }
 
-    fn look(&self, query: Query) -> Reply {
-        let mut guard = self.admin.lock(self.rt);
-        let admin = &mut *guard;
+    fn look(&self, admin: &mut Admin<J>, query: Query) -> Reply
+        ensures { AdminReads admin.old query result admin.new }
+    {
         match query {
             Query::Version => self.door.version(admin),
             Query::Explain {
@@ -80,9 +90,9 @@ impl<'a, J: Naming, G: Gate + Drop, H: Supervisor, R: Wait> Administrator<'a, J,
         }
     }
 
-    fn denials(&self) -> Response {
-        let mut guard = self.admin.lock(self.rt);
-        let admin = &mut *guard;
+    fn denials(&self, admin: &mut Admin<J>) -> Response
+        ensures { AdminGivesLine admin.old Denials result admin.new }
+    {
         match self.door.denials(self.rt, admin) {
             Ok(records) => Response::Denied(records),
             Err(_) => Response::Replied(Reply::Refused(Refusal::Memory)),
@@ -90,25 +100,23 @@ impl<'a, J: Naming, G: Gate + Drop, H: Supervisor, R: Wait> Administrator<'a, J,
     }
 
     // Closes the open segment, and drops it.
-    fn seal(&self) -> Reply {
-        let mut guard = self.admin.lock(self.rt);
-        let admin = &mut *guard;
+    fn seal(&self, admin: &mut Admin<J>) -> Reply
+        ensures { AdminSeals admin.old result admin.new }
+    {
         match self.door.seal(self.rt, admin) {
             Ok(segment) => {
                 let length = segment.length();
+                let number = segment.number();
                 self.monitor.sealed(length);
-                Reply::Sealed {
-                    number: segment.number(),
-                    length,
-                }
+                Reply::Sealed { number, length }
             }
             Err(refusal) => Reply::Refused(refusal),
         }
     }
 
-    fn install(&self, expected: u64, prepared: Prepared) -> Reply {
-        let mut guard = self.admin.lock(self.rt);
-        let admin = &mut *guard;
+    fn install(&self, admin: &mut Admin<J>, expected: u64, prepared: Prepared) -> Reply
+        ensures { AdminInstalls admin.old (Reload expected prepared) (Response.Replied result) admin.new }
+    {
         match self.door.install(self.rt, admin, expected, prepared) {
             Ok(version) => Reply::Done(Outcome::Reloaded(version)),
             Err((refusal, _)) => Reply::Refused(refusal),

@@ -1,5 +1,8 @@
 //! Answers to a connection.
 
+ghost use Rattle.std.specs.Prelude.{◌≡◌};
+ghost use Rattle.sm_session.specs.declared.response.Response.TheVariants.{Replied};
+
 use sm_history::{Record, Reply};
 use sm_session::Response;
 
@@ -13,7 +16,9 @@ pub struct Answered {
 
 impl Answered {
     /// An answer without records.
-    pub fn plain(response: Response) -> Answered {
+    pub fn plain(response: Response) -> Answered
+        ensures { result.response ≡ response }
+    {
         Answered {
             response,
             records: None,
@@ -21,7 +26,9 @@ impl Answered {
     }
 
     /// A reply with its records.
-    pub fn recorded(reply: Reply, records: Vec<Record>) -> Answered {
+    pub fn recorded(reply: Reply, records: Vec<Record>) -> Answered
+        ensures { result.response ≡ Replied reply }
+    {
         Answered {
             response: Response::Replied(reply),
             records: Some(records),
@@ -29,7 +36,9 @@ impl Answered {
     }
 
     /// A reply without records.
-    pub fn replied(reply: Reply) -> Answered {
+    pub fn replied(reply: Reply) -> Answered
+        ensures { result.response ≡ Replied reply }
+    {
         Answered::plain(Response::Replied(reply))
     }
 }

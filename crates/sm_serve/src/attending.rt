@@ -1,34 +1,43 @@
 //! One connection's session, from its first line to its end.
 
+ghost use Rattle.std.specs.Prelude.{◌≡◌, ◌<◌, ◌≤◌, ◌+◌, ◌-◌, min, None};
+ghost use Rattle.sm_engine.specs.Counts.{failures_of, calls_of, inner_of, greatest_count};
+ghost use Rattle.sm_wire.specs.declared.kind.Kind.TheVariants.{Client as AsClient, Admin as AsAdmin};
+ghost use Rattle.sm_session.specs.Sessions.{Attends};
+ghost use Rattle.sm_serve.specs.declared.answered.Answered.{Answered};
+ghost use Rattle.sm_serve.specs.declared.command.Command.{Command};
+ghost use Rattle.sm_serve.specs.Connections.{ClientGives, AdminGives, GoesOn};
+ghost use Rattle.sm_serve.specs.Desks.{DeskAnswers, DeskLeaves};
+
 use crate::administrator::Administrator;
 use crate::answered::Answered;
 use crate::client::Client;
 use crate::command::Command;
-use crate::connection_slot::ConnectionSlot;
-use crate::door_desk::DoorDesk;
+use crate::connection::Connection;
+use crate::door_desk::{DoorDesk, Occasion};
 use crate::free_seats::FreeSeats;
 use crate::leavers::Leavers;
 use crate::monitor::Monitor;
-use crate::patience::{Patience, limit_administrator};
+use crate::patience::{Patience, lift_read_limit, limit_administrator};
 use crate::sealing::seal_if_due;
-use crate::seat_keeper::{SeatKeeper, SeatNeed};
 use crate::shared_admin::SharedAdmin;
 use crate::supervisor::Supervisor;
-use sm_door::{Door, Naming};
-use sm_engine::Counted;
+use sm_door::{Admin, Door, Naming, SeatOrSession};
+use sm_engine::{Counted, Fault};
 use sm_history::Gate;
 use sm_session::session;
 use sm_wire::Kind;
 use std::alloc::Global;
+use std::io::{Read, Write};
 use std::os::unix::net::UnixStream;
 use std::sync::Wait;
 
 /// The most reads of a session. Each gives at least one byte, or is the last.
 const READS: u32 = 16_777_216;
 
-/// Serves a client's connection, which has a seat from its `hello` to its end. A client that can't leave at its end is
-/// left to the leavers, who are tried again whenever a connection begins or ends. After a change the journal is sealed
-/// if it is due.
+/// Serves a client's connection, which has a seat from its first `hello` to its end. A client that can't leave at its
+/// end is left to the leavers, who are tried again whenever a connection begins or ends. After each answer the journal
+/// is sealed if it is due.
 pub fn attend_client<J: Naming, G: Gate + Drop, H: Supervisor, R: Wait>(
     rt: &R,
     alloc: Global,
@@ -44,70 +53,102 @@ pub fn attend_client<J: Naming, G: Gate + Drop, H: Supervisor, R: Wait>(
         return;
     }
     leavers.retry(rt, door, seats, monitor);
-    let slot = ConnectionSlot::new();
-    attend_with_seats(
-        rt,
-        alloc,
-        door,
-        seats,
-        &slot,
-        |_| seal_if_due(rt, door, sealer, monitor),
-        monitor,
-        &stream,
-    );
-    leavers.take_over(rt, seats, slot.take(rt));
+    let held = attend_stream(rt, alloc, door, seats, sealer, monitor, &stream);
+    leavers.take_over(rt, seats, held);
     leavers.retry(rt, door, seats, monitor);
 }
 
-fn attend_with_seats<J: Naming, G: Gate + Drop, L: Fn(SeatNeed) + Drop, H: Supervisor, R: Wait>(
+// Serves a client's connection at this stream, and returns what it still holds.
+fn attend_stream<J: Naming, G: Gate + Drop, H: Supervisor, R: Wait>(
     rt: &R,
     alloc: Global,
     door: &Door<J, G>,
     seats: &FreeSeats<J>,
-    slot: &ConnectionSlot<J>,
-    tend: L,
+    sealer: &SharedAdmin<J>,
     monitor: &Monitor<H>,
     stream: &UnixStream,
-)
-    requires { L.IsAlwaysCallable tend }
-{
-    let seat_keeper = SeatKeeper::new(rt, seats, slot);
-    attend_seated(
+) -> Option<SeatOrSession<J>> {
+    let mut reader = Counted::new(stream);
+    let mut writer = Counted::new(stream);
+    let (held, _) = serve_client(
         rt,
         alloc,
         door,
-        slot,
-        |need| {
-            tend(need);
-            seat_keeper.meet(need);
-        },
+        seats,
+        |occasion| tend(rt, door, sealer, monitor, stream, occasion),
         monitor,
-        stream,
+        &mut reader,
+        &mut writer,
+        READS,
     );
+    held
 }
 
-// The closures are made in different functions: one call that showed what all hold would be too much for the check.
-fn attend_seated<J: Naming, G: Gate + Drop, B: FnMut(SeatNeed) + Drop, H: Supervisor, R: Wait>(
+// After an answer to a client, seals the journal if it is due. A new client may idle from then on.
+fn tend<J: Naming, G: Gate + Drop, H: Supervisor, R: Wait>(
+    rt: &R,
+    door: &Door<J, G>,
+    sealer: &SharedAdmin<J>,
+    monitor: &Monitor<H>,
+    stream: &UnixStream,
+    occasion: Occasion,
+) {
+    if occasion == Occasion::Connected {
+        lift_read_limit(stream);
+    }
+    seal_if_due(rt, door, sealer, monitor);
+}
+
+/// Serves a client's connection over any reader and writer: each allowed line is answered once, in order, from the
+/// history behind the door, until the lines end, a `bye` is answered by `bye`, a fault occurs, or `bound` reads were
+/// made. Returns what the connection still holds: nothing, a seat, or the session of a client that couldn't leave.
+pub fn serve_client<
+    J: Naming,
+    G: Gate + Drop,
+    B: FnMut(Occasion) + Drop,
+    H: Supervisor,
+    R: Wait,
+    I: Read,
+    O: Write,
+>(
     rt: &R,
     alloc: Global,
     door: &Door<J, G>,
-    slot: &ConnectionSlot<J>,
-    seating: B,
+    seats: &FreeSeats<J>,
+    tend: B,
     monitor: &Monitor<H>,
-    stream: &UnixStream,
-)
-    requires { B.IsAlwaysCallable seating }
+    reader: &mut Counted<I>,
+    writer: &mut Counted<O>,
+    bound: u32,
+) -> (Option<SeatOrSession<J>>, Result<(), Fault>)
+    requires tend { B.IsAlwaysCallable tend }
+    requires reader { failures_of reader.old < greatest_count }
+    requires writer { failures_of writer.old < greatest_count }
+    ensures attends { Attends AsClient (DeskAnswers ClientGives) (DeskLeaves ClientGives) result.1 bound
+        (calls_of reader.new - calls_of reader.old) None
+        (I.remaining (inner_of reader.old)) (I.remaining (inner_of reader.new))
+        (O.contents (inner_of writer.old)) (O.contents (inner_of writer.new)) result.0 }
+    ensures reads { calls_of reader.new ≤ calls_of reader.old + bound }
+    ensures too_many { result.1 ≡ Err Fault.TooManyReads
+        → calls_of reader.new ≡ min (calls_of reader.old + bound) greatest_count }
+    ensures read_fault { result.1 ≡ Err Fault.ReadFault → failures_of reader.old < failures_of reader.new }
+    ensures write_fault { result.1 ≡ Err Fault.WriteFault → failures_of writer.old < failures_of writer.new }
+    ensures read_told { failures_of reader.old < failures_of reader.new → result.1 ≡ Err Fault.ReadFault }
+    ensures write_told { failures_of writer.old < failures_of writer.new → result.1 ≡ Err Fault.WriteFault }
 {
-    let client = Client::new(rt, door, slot, stream);
+    let client = Client::new(rt, door, seats);
     attend(
         alloc,
         Kind::Client,
-        |command| client.answer(command),
-        seating,
+        None,
+        |held: &mut Option<SeatOrSession<J>>, command: Command| client.answer(held, command),
+        tend,
         monitor,
         door.gate(),
-        stream,
-    );
+        reader,
+        writer,
+        bound,
+    )
 }
 
 /// Serves an administrator's connection, which may take `seconds` for each line and each reply.
@@ -115,40 +156,110 @@ pub fn attend_administrator<J: Naming, G: Gate + Drop, H: Supervisor, R: Wait>(
     rt: &R,
     alloc: Global,
     door: &Door<J, G>,
-    admin: &SharedAdmin<J>,
+    admin: Admin<J>,
     monitor: &Monitor<H>,
     seconds: u64,
     stream: UnixStream,
-) {
+) -> Admin<J> {
     if limit_administrator(seconds, &stream).is_err() {
-        return;
+        return admin;
     }
-    let administrator = Administrator::new(rt, door, admin, monitor);
+    let mut reader = Counted::new(&stream);
+    let mut writer = Counted::new(&stream);
+    let (admin, _) = serve_administrator(
+        rt,
+        alloc,
+        door,
+        admin,
+        monitor,
+        &mut reader,
+        &mut writer,
+        READS,
+    );
+    admin
+}
+
+/// Serves an administrator's connection over any reader and writer, as `serve_client` does a client's, from what the
+/// token has seen. Returns the token.
+pub fn serve_administrator<J: Naming, G: Gate + Drop, H: Supervisor, R: Wait, I: Read, O: Write>(
+    rt: &R,
+    alloc: Global,
+    door: &Door<J, G>,
+    admin: Admin<J>,
+    monitor: &Monitor<H>,
+    reader: &mut Counted<I>,
+    writer: &mut Counted<O>,
+    bound: u32,
+) -> (Admin<J>, Result<(), Fault>)
+    requires reader { failures_of reader.old < greatest_count }
+    requires writer { failures_of writer.old < greatest_count }
+    ensures attends { Attends AsAdmin (DeskAnswers AdminGives) (DeskLeaves AdminGives) result.1 bound
+        (calls_of reader.new - calls_of reader.old) admin
+        (I.remaining (inner_of reader.old)) (I.remaining (inner_of reader.new))
+        (O.contents (inner_of writer.old)) (O.contents (inner_of writer.new)) result.0 }
+    ensures goes_on { GoesOn admin result.0 }
+    ensures reads { calls_of reader.new ≤ calls_of reader.old + bound }
+    ensures too_many { result.1 ≡ Err Fault.TooManyReads
+        → calls_of reader.new ≡ min (calls_of reader.old + bound) greatest_count }
+    ensures read_fault { result.1 ≡ Err Fault.ReadFault → failures_of reader.old < failures_of reader.new }
+    ensures write_fault { result.1 ≡ Err Fault.WriteFault → failures_of writer.old < failures_of writer.new }
+    ensures read_told { failures_of reader.old < failures_of reader.new → result.1 ≡ Err Fault.ReadFault }
+    ensures write_told { failures_of writer.old < failures_of writer.new → result.1 ≡ Err Fault.WriteFault }
+{
+    let administrator = Administrator::new(rt, door, monitor);
     attend(
         alloc,
         Kind::Admin,
-        |command| administrator.answer(command),
+        admin,
+        |admin: &mut Admin<J>, command: Command| administrator.answer(admin, command),
         |_| {},
         monitor,
         door.gate(),
-        &stream,
-    );
+        reader,
+        writer,
+        bound,
+    )
 }
 
-fn attend<F: FnMut(Command) -> Answered + Drop, B: FnMut(SeatNeed) + Drop, H: Supervisor, G: Gate>(
+fn attend<
+    S: Connection + Drop,
+    F: Fn(&mut S, Command) -> Answered + Drop,
+    B: FnMut(Occasion) + Drop,
+    H: Supervisor,
+    G: Gate,
+    I: Read,
+    O: Write,
+>(
     alloc: Global,
     kind: Kind,
+    held: S,
     answer: F,
-    seating: B,
+    tend: B,
     monitor: &Monitor<H>,
     gate: &G,
-    stream: &UnixStream,
-)
+    reader: &mut Counted<I>,
+    writer: &mut Counted<O>,
+    bound: u32,
+) -> (S, Result<(), Fault>)
     requires answer { F.IsAlwaysCallable answer }
-    requires seating { B.IsAlwaysCallable seating }
+    requires tend { B.IsAlwaysCallable tend }
+    requires promised { (s t : _) (command : Command) (answered : Answered)
+        → F.post answer s command answered t → S.gives s.now command answered.response t.now }
+    requires reader { failures_of reader.old < greatest_count }
+    requires writer { failures_of writer.old < greatest_count }
+    ensures attends { Attends kind (DeskAnswers S.gives) (DeskLeaves S.gives) result.1 bound
+        (calls_of reader.new - calls_of reader.old) held
+        (I.remaining (inner_of reader.old)) (I.remaining (inner_of reader.new))
+        (O.contents (inner_of writer.old)) (O.contents (inner_of writer.new)) result.0 }
+    ensures reads { calls_of reader.new ≤ calls_of reader.old + bound }
+    ensures too_many { result.1 ≡ Err Fault.TooManyReads
+        → calls_of reader.new ≡ min (calls_of reader.old + bound) greatest_count }
+    ensures read_fault { result.1 ≡ Err Fault.ReadFault → failures_of reader.old < failures_of reader.new }
+    ensures write_fault { result.1 ≡ Err Fault.WriteFault → failures_of writer.old < failures_of writer.new }
+    ensures read_told { failures_of reader.old < failures_of reader.new → result.1 ≡ Err Fault.ReadFault }
+    ensures write_told { failures_of writer.old < failures_of writer.new → result.1 ≡ Err Fault.WriteFault }
 {
-    let mut reader = Counted::new(stream);
-    let mut writer = Counted::new(stream);
-    let desk = DoorDesk::new(alloc, answer, seating, monitor);
-    let _ = session(alloc, kind, &mut reader, &mut writer, desk, gate, READS);
+    let desk = DoorDesk::new(alloc, held, answer, tend, monitor);
+    let (desk, ended) = session(alloc, kind, reader, writer, desk, gate, bound);
+    (desk.into_held(), ended)
 }

@@ -1,26 +1,33 @@
 //! A client's connection at the door.
 
+ghost use Rattle.std.specs.Prelude.{◌≡◌, false, MatchBool};
+ghost use Rattle.sm_history.specs.declared.query.Query.TheVariants.{List as ListNames, Version as AskVersion};
+ghost use Rattle.sm_history.specs.Promises.{Submitted};
+ghost use Rattle.sm_history.specs.Tokens.{Knows};
+ghost use Rattle.sm_history.specs.Verdict.{is_die};
+ghost use Rattle.sm_session.specs.declared.response.Response.TheVariants.{Replied};
+ghost use Rattle.sm_serve.specs.Connections.{ClientGives, GivesHello, GivesLine, GivesLook, GivesChange, GivesLeave};
+ghost use Rattle.sm_serve.specs.Connections.{GivesEnd, Greets, Parts, Reads, TakesSession};
+
 use crate::answered::Answered;
 use crate::command::Command;
-use crate::connection_slot::ConnectionSlot;
-use crate::patience::lift_read_limit;
+use crate::free_seats::FreeSeats;
 use crate::refusals::{not_connected, not_yours};
 use sm_door::{Door, Naming, Seat, SeatOrSession, Session};
 use sm_history::{Event, Gate, Outcome, Query, Refusal, Reply, is_death};
 use sm_kinds::Identity;
 use sm_wire::Request;
-use std::os::unix::net::UnixStream;
 use std::sync::Wait;
 
-/// The number of times that a client that is gone tries to leave. Only a failed allocation refuses it, which may pass.
-const TRIES: u32 = 16;
+/// The number of times that a client that is gone tries to leave, before the last. Only a failed allocation refuses it,
+/// which may pass.
+const TRIES: u32 = 15;
 
-/// A client's connection at the door. Its seat or session is in its slot.
+/// A client's connection at the door. It takes a seat for its first `hello`, and gives it back when its client leaves.
 pub struct Client<'a, J: Naming, G: Gate, R> {
     rt: &'a R,
     door: &'a Door<J, G>,
-    slot: &'a ConnectionSlot<J>,
-    stream: &'a UnixStream,
+    seats: &'a FreeSeats<J>,
 }
 
 impl<'a, J: Naming, G: Gate, R> Drop for Client<'a, J, G, R> {
@@ -28,141 +35,202 @@ impl<'a, J: Naming, G: Gate, R> Drop for Client<'a, J, G, R> {
         let Client {
             rt: _,
             door: _,
-            slot: _,
-            stream: _,
+            seats: _,
         } = self;
     }
 }
 
 impl<'a, J: Naming, G: Gate + Drop, R: Wait> Client<'a, J, G, R> {
-    /// Makes the connection with this slot and this stream.
-    pub fn new(
-        rt: &'a R,
-        door: &'a Door<J, G>,
-        slot: &'a ConnectionSlot<J>,
-        stream: &'a UnixStream,
-    ) -> Client<'a, J, G, R> {
-        Client {
-            rt,
-            door,
-            slot,
-            stream,
-        }
+    /// Makes a connection with these seats.
+    pub fn new(rt: &'a R, door: &'a Door<J, G>, seats: &'a FreeSeats<J>) -> Client<'a, J, G, R> {
+        Client { rt, door, seats }
     }
 
-    /// Answers a request. The answer to the end of a session is ignored.
-    pub fn answer(&self, command: Command) -> Answered {
+    /// Answers a command. The answer to the end of a session is ignored.
+    pub fn answer(&self, held: &mut Option<SeatOrSession<J>>, command: Command) -> Answered
+        ensures { ClientGives held.old command result.response held.new }
+    {
         match command {
-            Command::Hello(who) => Answered::replied(self.hello(who)),
-            Command::Line(request) => self.line(request),
+            Command::Hello(who) => Answered::replied(self.hello(held, who)),
+            Command::Line(request) => self.line(held, request),
             Command::Install { .. } => Answered::replied(not_yours()),
-            Command::End => Answered::replied(self.end()),
+            Command::End => Answered::replied(self.end(held)),
         }
     }
 
-    fn hello(&self, who: Identity) -> Reply {
-        let Some(slot) = self.slot.take(self.rt) else {
-            return Reply::Refused(Refusal::TooManyClients);
+    fn hello(&self, held: &mut Option<SeatOrSession<J>>, who: Identity) -> Reply
+        ensures { GivesHello held.old who result held.new }
+    {
+        let Some(token) = held.take() else {
+            return self.hello_outside(held, who);
         };
-        match slot.taken() {
+        match token.taken() {
             Ok(session) => {
-                self.keep(session);
+                *held = Some(SeatOrSession::of_session(session));
                 not_yours()
             }
-            Err(seat) => self.connect(seat, who),
+            Err(seat) => self.connect(held, seat, who),
         }
     }
 
-    fn connect(&self, seat: Seat<J>, who: Identity) -> Reply {
+    fn hello_outside(&self, held: &mut Option<SeatOrSession<J>>, who: Identity) -> Reply
+        requires { held.old ≡ None }
+        ensures { GivesHello held.old who result held.new }
+    {
+        match self.seats.take(self.rt) {
+            Some(seat) => self.connect(held, seat, who),
+            None => Reply::Refused(Refusal::TooManyClients),
+        }
+    }
+
+    fn connect(&self, held: &mut Option<SeatOrSession<J>>, seat: Seat<J>, who: Identity) -> Reply
+        ensures { (token : Knows) × Greets seat who result token × (held.new ≡ Some token) }
+    {
         match self.door.connect(self.rt, seat, who) {
             Ok(session) => {
                 let client = session.client();
-                self.keep(session);
-                lift_read_limit(self.stream);
+                *held = Some(SeatOrSession::of_session(session));
                 Reply::Done(Outcome::Connected(client))
             }
             Err((refusal, seat)) => {
-                self.slot.put(self.rt, SeatOrSession::of_seat(seat));
+                *held = Some(SeatOrSession::of_seat(seat));
                 Reply::Refused(refusal)
             }
         }
     }
 
-    fn keep(&self, session: Session<J>) {
-        self.slot.put(self.rt, SeatOrSession::of_session(session));
-    }
-
-    // Takes the session from its slot; the caller puts it back.
-    fn session(&self) -> Option<Session<J>> {
-        match self.slot.take(self.rt)?.taken() {
-            Ok(session) => Some(session),
-            Err(seat) => {
-                self.slot.put(self.rt, SeatOrSession::of_seat(seat));
-                None
-            }
-        }
-    }
-
-    fn line(&self, request: Request) -> Answered {
+    fn line(&self, held: &mut Option<SeatOrSession<J>>, request: Request) -> Answered
+        ensures { (reply : _) × (result.response ≡ Replied reply) × GivesLine held.old request reply held.new }
+    {
         match request {
-            Request::Change(_, event) => self.change(event),
-            Request::Look(_, query) => self.look(query),
+            Request::Change(_, event) => self.change(held, event),
+            Request::Look(_, query) => self.look(held, query),
             _ => Answered::replied(not_yours()),
         }
     }
 
-    fn change(&self, event: Event) -> Answered {
+    fn change(&self, held: &mut Option<SeatOrSession<J>>, event: Event) -> Answered
+        ensures { (reply : _) × (result.response ≡ Replied reply)
+            × MatchBool (is_die event) (GivesLeave held.old reply held.new) (GivesChange held.old event reply held.new) }
+    {
         if is_death(&event) {
-            return Answered::replied(self.leave());
+            return Answered::replied(self.leave(held));
         }
-        let Some(mut session) = self.session() else {
-            return Answered::replied(not_connected());
-        };
+        match session_of(held) {
+            Some(session) => self.submit(held, session, event),
+            None => Answered::replied(not_connected()),
+        }
+    }
+
+    fn submit(
+        &self,
+        held: &mut Option<SeatOrSession<J>>,
+        session: Session<J>,
+        event: Event,
+    ) -> Answered
+        requires { is_die event ≡ false }
+        ensures { (reply : _) × (result.response ≡ Replied reply)
+            × ((token : Knows) × Submitted session token event reply × (held.new ≡ Some token)) }
+    {
+        let mut session = session;
         let (reply, records) = self.door.submit_recorded(self.rt, &mut session, event);
-        self.keep(session);
+        *held = Some(SeatOrSession::of_session(session));
         Answered::recorded(reply, records)
     }
 
-    fn look(&self, query: Query) -> Answered {
-        let Some(mut session) = self.session() else {
-            return Answered::replied(not_connected());
-        };
-        let answered = match query {
-            Query::List(mask) => {
-                let (reply, records) = self.door.list_recorded(&mut session, mask);
-                Answered::recorded(reply, records)
-            }
-            Query::Version => Answered::replied(self.door.version(&mut session)),
-            Query::Explain { .. } => Answered::replied(not_yours()),
-        };
-        self.keep(session);
-        answered
+    fn look(&self, held: &mut Option<SeatOrSession<J>>, query: Query) -> Answered
+        ensures { (reply : _) × (result.response ≡ Replied reply) × GivesLook held.old query reply held.new }
+    {
+        match session_of(held) {
+            Some(session) => self.read(held, session, query),
+            None => Answered::replied(not_connected()),
+        }
     }
 
-    fn leave(&self) -> Reply {
-        let Some(session) = self.session() else {
-            return not_connected();
-        };
+    fn read(
+        &self,
+        held: &mut Option<SeatOrSession<J>>,
+        session: Session<J>,
+        query: Query,
+    ) -> Answered
+        ensures { (reply : _) × (result.response ≡ Replied reply) × Reads session query reply held.new }
+    {
+        match query {
+            Query::List(mask) => return self.list(held, session, mask),
+            Query::Version => return self.version(held, session),
+            Query::Explain { .. } => {}
+        }
+        *held = Some(SeatOrSession::of_session(session));
+        Answered::replied(not_yours())
+    }
+
+    fn list(&self, held: &mut Option<SeatOrSession<J>>, session: Session<J>, mask: u32) -> Answered
+        ensures { (reply : _) × (result.response ≡ Replied reply) × Reads session (ListNames mask) reply held.new }
+    {
+        let mut session = session;
+        let (reply, records) = self.door.list_recorded(&mut session, mask);
+        *held = Some(SeatOrSession::of_session(session));
+        Answered::recorded(reply, records)
+    }
+
+    fn version(&self, held: &mut Option<SeatOrSession<J>>, session: Session<J>) -> Answered
+        ensures { (reply : _) × (result.response ≡ Replied reply) × Reads session AskVersion reply held.new }
+    {
+        let mut session = session;
+        let reply = self.door.version(&mut session);
+        *held = Some(SeatOrSession::of_session(session));
+        Answered::replied(reply)
+    }
+
+    fn leave(&self, held: &mut Option<SeatOrSession<J>>) -> Reply
+        ensures { GivesLeave held.old result held.new }
+    {
+        match session_of(held) {
+            Some(session) => self.part(held, session),
+            None => not_connected(),
+        }
+    }
+
+    fn part(&self, held: &mut Option<SeatOrSession<J>>, session: Session<J>) -> Reply
+        requires { held.old ≡ None }
+        ensures { Parts session result held.new }
+    {
         match self.door.leave(self.rt, session) {
             Ok(seat) => {
-                self.slot.put(self.rt, SeatOrSession::of_seat(seat));
+                self.seats.give_back(self.rt, seat);
                 Reply::Done(Outcome::Died)
             }
             Err((refusal, session)) => {
-                self.keep(session);
+                *held = Some(SeatOrSession::of_session(session));
                 Reply::Refused(refusal)
             }
         }
     }
 
     // Leaves, unless the client has left.
-    fn end(&self) -> Reply {
+    #[tactic(auto, using(crate::proofs::Growing::still_itself, crate::proofs::Growing::still_tried))]
+    fn end(&self, held: &mut Option<SeatOrSession<J>>) -> Reply
+        ensures { GivesEnd held.old result held.new }
+    {
         for _ in 0..TRIES {
-            let reply = self.leave();
+            let reply = self.leave(held);
             if !matches!(reply, Reply::Refused(Refusal::Memory)) {
                 return reply;
             }
         }
-        Reply::Refused(Refusal::Memory)
+        self.leave(held)
+    }
+}
+
+/// Takes the session from what is held. A free seat stays.
+fn session_of<J: Naming>(held: &mut Option<SeatOrSession<J>>) -> Option<Session<J>>
+    ensures { TakesSession held.old result held.new }
+{
+    match held.take()?.taken() {
+        Ok(session) => Some(session),
+        Err(seat) => {
+            *held = Some(SeatOrSession::of_seat(seat));
+            None
+        }
     }
 }

@@ -1,11 +1,14 @@
 //! A session's desk at a door.
 
 ghost use Rattle.std.specs.Prelude.{◌≡◌};
+ghost use Rattle.sm_serve.specs.declared.answered.Answered.{Answered};
+ghost use Rattle.sm_serve.specs.declared.command.Command.{Command};
+ghost use Rattle.sm_serve.specs.Desks.{DeskAnswers, DeskLeaves};
 
 use crate::answered::Answered;
 use crate::command::Command;
+use crate::connection::Connection;
 use crate::monitor::Monitor;
-use crate::seat_keeper::SeatNeed;
 use crate::supervisor::Supervisor;
 use sm_history::{Outcome, Reply};
 use sm_kinds::Identity;
@@ -14,76 +17,119 @@ use sm_session::{Desk, Response};
 use sm_wire::Request;
 use std::alloc::Global;
 
+/// When a connection's desk calls the function beside it.
+#[derive(Clone, Copy, Debug, PartialEq, Eq)]
+pub enum Occasion {
+    /// A client was connected.
+    Connected,
+    /// Anything else was answered.
+    Answered,
+}
+
 /// A session's desk at a door: it prepares policies itself, lets one function answer all else, shows the monitor each
-/// answer, and then tells another function whether a seat is needed or spare.
+/// answer, and then calls another function.
 #[derive(Drop)]
-pub struct DoorDesk<'a, F, B, H> {
+pub struct DoorDesk<'a, S, F, B, H> {
     alloc: Global,
+    held: S,
     answer: F,
-    seating: B,
+    tend: B,
     monitor: &'a Monitor<'a, H>,
 }
 
-impl<'a, F, B, H> DoorDesk<'a, F, B, H> {
-    /// Makes the desk of a new session.
+impl<
+    'a,
+    S: Connection,
+    F: Fn(&mut S, Command) -> Answered,
+    B: FnMut(Occasion),
+    H: Supervisor,
+> DoorDesk<'a, S, F, B, H> {
+    /// Makes the desk of a new session of a connection that holds this.
     pub fn new(
         alloc: Global,
+        held: S,
         answer: F,
-        seating: B,
+        tend: B,
         monitor: &'a Monitor<'a, H>,
-    ) -> DoorDesk<'a, F, B, H>
+    ) -> DoorDesk<'a, S, F, B, H>
+        ensures held { result.held ≡ held }
         ensures answer { result.answer ≡ answer }
-        ensures seating { result.seating ≡ seating }
+        ensures tend { result.tend ≡ tend }
     {
         DoorDesk {
             alloc,
+            held,
             answer,
-            seating,
+            tend,
             monitor,
         }
     }
+
+    /// Returns what the connection holds.
+    pub fn into_held(self) -> S
+        ensures { result ≡ self.entry.held }
+    {
+        let DoorDesk {
+            alloc: _,
+            held,
+            answer: _,
+            tend: _,
+            monitor: _,
+        } = self;
+        held
+    }
+
+    fn put(&mut self, command: Command) -> Response
+        requires answer { F.IsAlwaysCallable self.old.answer }
+        requires tend { B.IsAlwaysCallable self.old.tend }
+        requires promised { (s t : _) (command : Command) (answered : Answered)
+            → F.post self.old.answer s command answered t → S.gives s.now command answered.response t.now }
+        ensures gives { S.gives self.old.held command result self.new.held }
+        ensures answer { self.new.answer ≡ self.old.answer }
+        ensures tend { B.IsAlwaysCallable self.new.tend }
+    {
+        let answered = (self.answer)(&mut self.held, command);
+        let response = self.monitor.see(answered);
+        (self.tend)(occasion_of(&response));
+        response
+    }
 }
 
-impl<'a, F: FnMut(Command) -> Answered, B: FnMut(SeatNeed), H: Supervisor> Desk
-    for DoorDesk<'a, F, B, H> {
-    ghost can_answer = { λ s. F.IsAlwaysCallable s.answer × B.IsAlwaysCallable s.seating };
+impl<'a, S: Connection, F: Fn(&mut S, Command) -> Answered, B: FnMut(Occasion), H: Supervisor> Desk
+    for DoorDesk<'a, S, F, B, H> {
+    // The two functions may be called, and each answer keeps the promise of the connection.
+    ghost can_answer = { λ d. F.IsAlwaysCallable d.answer × B.IsAlwaysCallable d.tend
+        × ((s t : _) (command : Command) (answered : Answered)
+        → F.post d.answer s command answered t → S.gives s.now command answered.response t.now) };
 
-    ghost answers = { λ _ _ _ _. Unit {0} };
+    ghost answers = { λ old item response new. DeskAnswers S.gives old.held item response new.held };
 
-    ghost leaves = { λ _ _. Unit {0} };
+    ghost leaves = { λ old new. DeskLeaves S.gives old.held new.held };
 
     fn hello(&mut self, who: Identity) -> Response {
-        (self.seating)(SeatNeed::Wanted);
-        let response = self.monitor.see((self.answer)(Command::Hello(who)));
-        (self.seating)(SeatNeed::Spare);
-        response
+        self.put(Command::Hello(who))
     }
 
     fn ask(&mut self, request: Request) -> Response {
-        let response = self.monitor.see((self.answer)(Command::Line(request)));
-        (self.seating)(need_after(&response));
-        response
+        self.put(Command::Line(request))
     }
 
     fn reload(&mut self, expected: u64, rules: &[u8], contexts: &[u8]) -> Response {
-        let prepared = match Prepared::from_texts(self.alloc, rules, contexts) {
-            Ok(prepared) => prepared,
-            Err(fault) => return Response::PolicyRefused(fault),
-        };
-        self.monitor
-            .see((self.answer)(Command::Install { expected, prepared }))
+        match Prepared::from_texts(self.alloc, rules, contexts) {
+            Ok(prepared) => self.put(Command::Install { expected, prepared }),
+            Err(fault) => Response::PolicyRefused(fault),
+        }
     }
 
     fn bye(&mut self) {
-        let _ = self.monitor.see((self.answer)(Command::End));
-        (self.seating)(SeatNeed::Spare);
+        self.put(Command::End);
     }
 }
 
-/// Returns the need of a connection after this answer.
-fn need_after(response: &Response) -> SeatNeed {
+/// Returns the occasion of this answer.
+fn occasion_of(response: &Response) -> Occasion {
     match response {
-        Response::Replied(Reply::Done(Outcome::Died)) => SeatNeed::Spare,
-        _ => SeatNeed::Kept,
+        Response::Replied(Reply::Done(Outcome::Connected(_))) => Occasion::Connected,
+        _ => Occasion::Answered,
     }
 }

@@ -1,5 +1,7 @@
 //! Tells the supervisor how full the journal is, and what was denied.
 
+ghost use Rattle.std.specs.Prelude.{◌≡◌};
+
 use crate::answered::Answered;
 use crate::gauge::Gauge;
 use crate::supervisor::{ServerEvent, Supervisor};
@@ -25,7 +27,9 @@ impl<'a, H: Supervisor> Monitor<'a, H> {
     }
 
     /// Sees what was answered, and passes the response on.
-    pub fn see(&self, answered: Answered) -> Response {
+    pub fn see(&self, answered: Answered) -> Response
+        ensures { result ≡ answered.response }
+    {
         let Answered { response, records } = answered;
         match &response {
             Response::Replied(Reply::Done(_)) => self.count(),

@@ -77,12 +77,10 @@ pub fn serve<
     };
     let queue = Mutex::new(from);
     let faults = Faults::new();
-    let token = SharedAdmin::new(admin);
     let sealing = SharedAdmin::new(sealer);
     let gauge = Gauge::new(numbers.slots, numbers.seal_at);
     let waiting = &queue;
     let faulty = &faults;
-    let shared = &token;
     let leaving = &leavers;
     let sealer = &sealing;
     let gauging = &gauge;
@@ -138,7 +136,7 @@ pub fn serve<
                     rt,
                     alloc,
                     door,
-                    shared,
+                    admin,
                     &monitor,
                     &mut admins,
                     host,
@@ -185,7 +183,7 @@ fn administer<J: Naming, G: Gate + Drop, A: Entrance, H: Supervisor, R: Wait + C
     rt: &R,
     alloc: Global,
     door: &Door<J, G>,
-    admin: &SharedAdmin<J>,
+    admin: Admin<J>,
     monitor: &Monitor<H>,
     entrance: &mut A,
     host: &H,
@@ -193,10 +191,11 @@ fn administer<J: Naming, G: Gate + Drop, A: Entrance, H: Supervisor, R: Wait + C
     number: u64,
     seconds: u64,
 ) {
+    let mut token = admin;
     for _ in 0..number {
         match arrival(rt, entrance, host, faults) {
             Some(stream) => {
-                attend_administrator(rt, alloc, door, admin, monitor, seconds, stream);
+                token = attend_administrator(rt, alloc, door, token, monitor, seconds, stream);
             }
             None => return,
         }

@@ -13,12 +13,12 @@ use Rattle.sm_door.specs.contracts.registry.Registry as Registry
 use Rattle.sm_kinds.specs.contracts.number.AdminId as AdminId
 use Rattle.sm_kinds.specs.contracts.number.ClientId as ClientId
 use Rattle.sm_door.specs.contracts.actor.Actor as Actor
+use Rattle.sm_door.specs.contracts.admin.Admin as Admin
 use Rattle.sm_door.specs.contracts.admin.Admin.TheInside as AdminInside
 use Rattle.sm_door.specs.contracts.door.Door as Door
 use Rattle.sm_door.specs.contracts.session.Session.TheInside as SessionInside
 use Rattle.sm_door.specs.contracts.published.PublishedAbsorbArcSharedView.TheImpl as Absorb
 use Rattle.sm_serve.specs.contracts.faults.Faults as Faults
-use Rattle.sm_serve.specs.contracts.shared_admin.SharedAdmin as SharedAdmin
 use Rattle.sm_serve.specs.contracts.gauge.Gauge as Gauge
 use Rattle.sm_core.proofs.Crossing.{view_send, view_sync}
 use Rattle.sm_core.proofs.CrossingManager.{manager_send}
@@ -78,8 +78,8 @@ spawn-requires-2-send-F g c κs within =
     let memory : IsSend Global.the_row = search (sendable, crosses) depth 60 fits 20000 in
     let door : IsSync (Door.the_row J (param 1 g.row.G) g.J.Naming absorbs) =
     search (sendable, crosses, c.shares.ensures) depth 60 fits 20000 in
-    let admin : IsSync (SharedAdmin.the_row J g.J.Naming) =
-    search (sendable, crosses, c.shares-5.ensures) depth 60 fits 20000 in
+    let admin : IsSend (Admin.the_row J g.J.Naming) =
+    search (sendable, crosses, c.sends-4.ensures) depth 60 fits 20000 in
     let faults : IsSync Faults.the_row = search (sendable, crosses, c.shares-6.ensures) depth 60 fits 20000 in
     let gauge : IsSync Gauge.the_row = search (sendable, crosses, c.shares-7.ensures) depth 60 fits 20000 in
     let number : IsSend Field.u64-field.row = search sendable depth 20 in
@@ -91,9 +91,8 @@ spawn-requires-2-send-F g c κs within =
     ∷ Global.the_row
     ∷ (Field.shr_ref_field (record { mir = named 8; lft = κs.1.1.1.1.1.1.1.1.0 })
     (Door.the_row J (param 1 g.row.G) g.J.Naming absorbs) tt).row
-    ∷ (Field.shr_ref_field (record { mir = named 9; lft = κs.1.1.1.1.1.1.1.1.1.0 })
-    (SharedAdmin.the_row J g.J.Naming) tt).row
-    ∷ (Field.shr_ref_field (record { mir = named 10; lft = κs.1.1.1.1.1.1.1.1.1.1.0 }) Faults.the_row tt).row
+    ∷ Admin.the_row J g.J.Naming
+    ∷ (Field.shr_ref_field (record { mir = named 9; lft = κs.1.1.1.1.1.1.1.1.1.0 }) Faults.the_row tt).row
     ∷ Field.u64-field.row ∷ Field.u64-field.row ∷ []) in
     param_send 1 _ (arg_send _ no _ (recorded_send _ _ _ held.to_one (struct_send (struct.shape held) (
       entrance,
@@ -107,10 +106,7 @@ spawn-requires-2-send-F g c κs within =
               memory,
               (
                 shr_send _ _ _ door,
-                (
-                  shr_send _ _ _ admin,
-                  (shr_send _ _ _ faults, (number, (number, tt))),
-                ),
+                (admin, (shr_send _ _ _ faults, (number, (number, tt)))),
               ),
             ),
           ),

@@ -1,0 +1,6 @@
+use Rattle.sm_serve.proofs.Growing.{admin_session}
+use Rattle.sm_serve.proofs.attending.serve_administrator.Goals as goal
+
+pub returns-clause-goes_on : goal.returns-clause-goes_on
+returns-clause-goes_on g c =
+    admin_session c.attend.result.1 c.args.bound _ c.args.admin _ _ _ _ c.attend.result.0 c.attend.ensures.attends
