@@ -7,6 +7,7 @@ ghost use Rattle.sm_wire.specs.declared.request.Request.TheVariants.{Denials};
 
 use crate::answered::Answered;
 use crate::command::Command;
+use crate::connection::Connection;
 use crate::monitor::Monitor;
 use crate::refusals::not_yours;
 use crate::supervisor::Supervisor;
@@ -42,13 +43,6 @@ impl<'a, J: Naming, G: Gate + Drop, H: Supervisor, R: Wait> Administrator<'a, J,
         monitor: &'a Monitor<'a, H>,
     ) -> Administrator<'a, J, G, H, R> {
         Administrator { rt, door, monitor }
-    }
-
-    /// Answers a command. No request of an administrator's has audit records.
-    pub fn answer(&self, admin: &mut Admin<J>, command: Command) -> Answered
-        ensures { AdminGives admin.old command result.response admin.new }
-    {
-        Answered::plain(self.response(admin, command))
     }
 
     fn response(&self, admin: &mut Admin<J>, command: Command) -> Response
@@ -121,5 +115,15 @@ impl<'a, J: Naming, G: Gate + Drop, H: Supervisor, R: Wait> Administrator<'a, J,
             Ok(version) => Reply::Done(Outcome::Reloaded(version)),
             Err((refusal, _)) => Reply::Refused(refusal),
         }
+    }
+}
+
+// No request of an administrator's has audit records.
+impl<'a, J: Naming, G: Gate + Drop, H: Supervisor, R: Wait> Connection<Admin<J>>
+    for Administrator<'a, J, G, H, R> {
+    ghost gives = { AdminGives };
+
+    fn answer(&self, admin: &mut Admin<J>, command: Command) -> Answered {
+        Answered::plain(self.response(admin, command))
     }
 }

@@ -4,15 +4,11 @@ ghost use Rattle.std.specs.Prelude.{◌≡◌, ◌<◌, ◌≤◌, ◌+◌, ◌-
 ghost use Rattle.sm_engine.specs.Counts.{failures_of, calls_of, inner_of, greatest_count};
 ghost use Rattle.sm_wire.specs.declared.kind.Kind.TheVariants.{Client as AsClient, Admin as AsAdmin};
 ghost use Rattle.sm_session.specs.Sessions.{Attends};
-ghost use Rattle.sm_serve.specs.declared.answered.Answered.{Answered};
-ghost use Rattle.sm_serve.specs.declared.command.Command.{Command};
 ghost use Rattle.sm_serve.specs.Connections.{ClientGives, AdminGives, GoesOn};
 ghost use Rattle.sm_serve.specs.Desks.{DeskAnswers, DeskLeaves};
 
 use crate::administrator::Administrator;
-use crate::answered::Answered;
 use crate::client::Client;
-use crate::command::Command;
 use crate::connection::Connection;
 use crate::door_desk::{DoorDesk, Occasion};
 use crate::free_seats::FreeSeats;
@@ -140,8 +136,8 @@ pub fn serve_client<
     attend(
         alloc,
         Kind::Client,
+        &client,
         None,
-        |held: &mut Option<SeatOrSession<J>>, command: Command| client.answer(held, command),
         tend,
         monitor,
         door.gate(),
@@ -210,8 +206,8 @@ pub fn serve_administrator<J: Naming, G: Gate + Drop, H: Supervisor, R: Wait, I:
     attend(
         alloc,
         Kind::Admin,
+        &administrator,
         admin,
-        |admin: &mut Admin<J>, command: Command| administrator.answer(admin, command),
         |_| {},
         monitor,
         door.gate(),
@@ -221,9 +217,10 @@ pub fn serve_administrator<J: Naming, G: Gate + Drop, H: Supervisor, R: Wait, I:
     )
 }
 
+// Serves a connection that holds this, and returns what it holds then.
 fn attend<
-    S: Connection + Drop,
-    F: Fn(&mut S, Command) -> Answered + Drop,
+    C: Connection<S>,
+    S,
     B: FnMut(Occasion) + Drop,
     H: Supervisor,
     G: Gate,
@@ -232,8 +229,8 @@ fn attend<
 >(
     alloc: Global,
     kind: Kind,
+    connection: &C,
     held: S,
-    answer: F,
     tend: B,
     monitor: &Monitor<H>,
     gate: &G,
@@ -241,13 +238,10 @@ fn attend<
     writer: &mut Counted<O>,
     bound: u32,
 ) -> (S, Result<(), Fault>)
-    requires answer { F.IsAlwaysCallable answer }
     requires tend { B.IsAlwaysCallable tend }
-    requires promised { (s t : _) (command : Command) (answered : Answered)
-        → F.post answer s command answered t → S.gives s.now command answered.response t.now }
     requires reader { failures_of reader.old < greatest_count }
     requires writer { failures_of writer.old < greatest_count }
-    ensures attends { Attends kind (DeskAnswers S.gives) (DeskLeaves S.gives) result.1 bound
+    ensures attends { Attends kind (DeskAnswers C.gives) (DeskLeaves C.gives) result.1 bound
         (calls_of reader.new - calls_of reader.old) held
         (I.remaining (inner_of reader.old)) (I.remaining (inner_of reader.new))
         (O.contents (inner_of writer.old)) (O.contents (inner_of writer.new)) result.0 }
@@ -259,7 +253,7 @@ fn attend<
     ensures read_told { failures_of reader.old < failures_of reader.new → result.1 ≡ Err Fault.ReadFault }
     ensures write_told { failures_of writer.old < failures_of writer.new → result.1 ≡ Err Fault.WriteFault }
 {
-    let desk = DoorDesk::new(alloc, held, answer, tend, monitor);
+    let desk = DoorDesk::new(alloc, connection, held, tend, monitor);
     let (desk, ended) = session(alloc, kind, reader, writer, desk, gate, bound);
     (desk.into_held(), ended)
 }

@@ -11,6 +11,7 @@ ghost use Rattle.sm_serve.specs.Connections.{GivesEnd, Greets, Parts, Reads, Tak
 
 use crate::answered::Answered;
 use crate::command::Command;
+use crate::connection::Connection;
 use crate::free_seats::FreeSeats;
 use crate::refusals::{not_connected, not_yours};
 use sm_door::{Door, Naming, Seat, SeatOrSession, Session};
@@ -44,18 +45,6 @@ impl<'a, J: Naming, G: Gate + Drop, R: Wait> Client<'a, J, G, R> {
     /// Makes a connection with these seats.
     pub fn new(rt: &'a R, door: &'a Door<J, G>, seats: &'a FreeSeats<J>) -> Client<'a, J, G, R> {
         Client { rt, door, seats }
-    }
-
-    /// Answers a command. The answer to the end of a session is ignored.
-    pub fn answer(&self, held: &mut Option<SeatOrSession<J>>, command: Command) -> Answered
-        ensures { ClientGives held.old command result.response held.new }
-    {
-        match command {
-            Command::Hello(who) => Answered::replied(self.hello(held, who)),
-            Command::Line(request) => self.line(held, request),
-            Command::Install { .. } => Answered::replied(not_yours()),
-            Command::End => Answered::replied(self.end(held)),
-        }
     }
 
     fn hello(&self, held: &mut Option<SeatOrSession<J>>, who: Identity) -> Reply
@@ -219,6 +208,20 @@ impl<'a, J: Naming, G: Gate + Drop, R: Wait> Client<'a, J, G, R> {
             }
         }
         self.leave(held)
+    }
+}
+
+impl<'a, J: Naming, G: Gate + Drop, R: Wait> Connection<Option<SeatOrSession<J>>>
+    for Client<'a, J, G, R> {
+    ghost gives = { ClientGives };
+
+    fn answer(&self, held: &mut Option<SeatOrSession<J>>, command: Command) -> Answered {
+        match command {
+            Command::Hello(who) => Answered::replied(self.hello(held, who)),
+            Command::Line(request) => self.line(held, request),
+            Command::Install { .. } => Answered::replied(not_yours()),
+            Command::End => Answered::replied(self.end(held)),
+        }
     }
 }
 

@@ -1,26 +1,18 @@
 //! What a connection's answers promise.
 
+use crate::answered::Answered;
 use crate::command::Command;
-use sm_door::{Admin, Naming, SeatOrSession};
 use sm_session::Response;
 
-/// What a connection holds at the door, with what its answers promise of the histories that it sees.
-pub trait Connection {
+/// A connection at the door, which holds an `S` there, with what its answers promise of the histories that are seen.
+pub trait Connection<S> {
     ghost use Rattle.sm_session.specs.declared.response.Response.{Response};
     ghost use Rattle.sm_serve.specs.declared.command.Command.{Command};
 
     // A connection that holds this may answer the command so, and then holds that.
-    ghost gives: { Self → Command → Response → Self → Type 0 };
-}
+    ghost gives: { S → Command → Response → S → Type 0 };
 
-impl<J: Naming> Connection for Option<SeatOrSession<J>> {
-    ghost use Rattle.sm_serve.specs.Connections.{ClientGives};
-
-    ghost gives = { ClientGives };
-}
-
-impl<J: Naming> Connection for Admin<J> {
-    ghost use Rattle.sm_serve.specs.Connections.{AdminGives};
-
-    ghost gives = { AdminGives };
+    /// Answers a command. The answer to the end of a session is ignored.
+    fn answer(&self, held: &mut S, command: Command) -> Answered
+        ensures { gives held.old command result.response held.new };
 }

@@ -1,11 +1,8 @@
 //! A session's desk at a door.
 
 ghost use Rattle.std.specs.Prelude.{◌≡◌};
-ghost use Rattle.sm_serve.specs.declared.answered.Answered.{Answered};
-ghost use Rattle.sm_serve.specs.declared.command.Command.{Command};
 ghost use Rattle.sm_serve.specs.Desks.{DeskAnswers, DeskLeaves};
 
-use crate::answered::Answered;
 use crate::command::Command;
 use crate::connection::Connection;
 use crate::monitor::Monitor;
@@ -26,40 +23,33 @@ pub enum Occasion {
     Answered,
 }
 
-/// A session's desk at a door: it prepares policies itself, lets one function answer all else, shows the monitor each
-/// answer, and then calls another function.
+/// A session's desk at a door: it prepares policies itself, lets the connection answer all else, shows the monitor each
+/// answer, and then calls a function.
 #[derive(Drop)]
-pub struct DoorDesk<'a, S, F, B, H> {
+pub struct DoorDesk<'a, C, S, B, H> {
     alloc: Global,
+    connection: &'a C,
     held: S,
-    answer: F,
     tend: B,
     monitor: &'a Monitor<'a, H>,
 }
 
-impl<
-    'a,
-    S: Connection,
-    F: Fn(&mut S, Command) -> Answered,
-    B: FnMut(Occasion),
-    H: Supervisor,
-> DoorDesk<'a, S, F, B, H> {
+impl<'a, C: Connection<S>, S, B: FnMut(Occasion), H: Supervisor> DoorDesk<'a, C, S, B, H> {
     /// Makes the desk of a new session of a connection that holds this.
     pub fn new(
         alloc: Global,
+        connection: &'a C,
         held: S,
-        answer: F,
         tend: B,
         monitor: &'a Monitor<'a, H>,
-    ) -> DoorDesk<'a, S, F, B, H>
+    ) -> DoorDesk<'a, C, S, B, H>
         ensures held { result.held ≡ held }
-        ensures answer { result.answer ≡ answer }
         ensures tend { result.tend ≡ tend }
     {
         DoorDesk {
             alloc,
+            connection,
             held,
-            answer,
             tend,
             monitor,
         }
@@ -71,8 +61,8 @@ impl<
     {
         let DoorDesk {
             alloc: _,
+            connection: _,
             held,
-            answer: _,
             tend: _,
             monitor: _,
         } = self;
@@ -80,31 +70,23 @@ impl<
     }
 
     fn put(&mut self, command: Command) -> Response
-        requires answer { F.IsAlwaysCallable self.old.answer }
         requires tend { B.IsAlwaysCallable self.old.tend }
-        requires promised { (s t : _) (command : Command) (answered : Answered)
-            → F.post self.old.answer s command answered t → S.gives s.now command answered.response t.now }
-        ensures gives { S.gives self.old.held command result self.new.held }
-        ensures answer { self.new.answer ≡ self.old.answer }
+        ensures gives { C.gives self.old.held command result self.new.held }
         ensures tend { B.IsAlwaysCallable self.new.tend }
     {
-        let answered = (self.answer)(&mut self.held, command);
+        let answered = self.connection.answer(&mut self.held, command);
         let response = self.monitor.see(answered);
         (self.tend)(occasion_of(&response));
         response
     }
 }
 
-impl<'a, S: Connection, F: Fn(&mut S, Command) -> Answered, B: FnMut(Occasion), H: Supervisor> Desk
-    for DoorDesk<'a, S, F, B, H> {
-    // The two functions may be called, and each answer keeps the promise of the connection.
-    ghost can_answer = { λ d. F.IsAlwaysCallable d.answer × B.IsAlwaysCallable d.tend
-        × ((s t : _) (command : Command) (answered : Answered)
-        → F.post d.answer s command answered t → S.gives s.now command answered.response t.now) };
+impl<'a, C: Connection<S>, S, B: FnMut(Occasion), H: Supervisor> Desk for DoorDesk<'a, C, S, B, H> {
+    ghost can_answer = { λ desk. B.IsAlwaysCallable desk.tend };
 
-    ghost answers = { λ old item response new. DeskAnswers S.gives old.held item response new.held };
+    ghost answers = { λ old item response new. DeskAnswers C.gives old.held item response new.held };
 
-    ghost leaves = { λ old new. DeskLeaves S.gives old.held new.held };
+    ghost leaves = { λ old new. DeskLeaves C.gives old.held new.held };
 
     fn hello(&mut self, who: Identity) -> Response {
         self.put(Command::Hello(who))
