@@ -16,7 +16,7 @@ const VERSION: &str = "0.1.0";
 const MOST_PERMISSIONS: u32 = 0o777;
 
 /// A command of the program.
-#[derive(Clone, Copy, Debug, PartialEq, Eq)]
+#[derive(Clone, Copy, PartialEq, Eq)]
 pub enum Mode<'a> {
     /// `svcmgr run [--journal N] RULES CONTEXTS`
     Run,
@@ -28,7 +28,7 @@ pub enum Mode<'a> {
 }
 
 /// The sockets of a server, its number of threads for clients, and when it seals its journal by itself.
-#[derive(Clone, Copy, Debug, PartialEq, Eq)]
+#[derive(Clone, Copy, PartialEq, Eq)]
 pub struct Sockets<'a> {
     /// The path of the clients' socket.
     pub clients: &'a str,

@@ -8,7 +8,6 @@ use std::alloc::Global;
 use std::marker::Model;
 
 /// The entries of a `service_contexts` file, with one for `*`. Contracts see the first line of each key, in order.
-#[derive(Debug)]
 pub struct Contexts {
     entries: Entries,
     /// The index of the entry for `*`.

@@ -7,7 +7,6 @@ use std::alloc::Global;
 use std::marker::Model;
 
 /// The first line with a key, counted from 1, and its context.
-#[derive(Debug)]
 pub struct FirstLine {
     pub line: u32,
     pub context: Context,
@@ -20,7 +19,6 @@ impl Drop for FirstLine {
 }
 
 /// Entries in the order of their lines. Contracts see them as a list.
-#[derive(Debug)]
 pub struct Entries {
     by_key: IndexMap<Vec<u8>, FirstLine>,
 }

@@ -10,7 +10,7 @@ use std::alloc::{AllocError, AllocFailed, Global};
 use std::marker::Model;
 
 /// The answer to a condition that failed, where it has no texts: `EarlyAnswer` without its denials.
-#[derive(Clone, Copy, Debug, PartialEq, Eq)]
+#[derive(Clone, Copy, PartialEq, Eq)]
 pub enum Plain {
     /// A Get found nothing.
     GotNull,

@@ -3,7 +3,7 @@
 use std::alloc::AllocError;
 
 /// Why an engine stopped before the end of its input.
-#[derive(Clone, Copy, Debug, PartialEq, Eq)]
+#[derive(Clone, Copy, PartialEq, Eq)]
 pub enum Fault {
     /// A read failed.
     ReadFault,

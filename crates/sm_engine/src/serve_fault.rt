@@ -2,7 +2,7 @@
 
 /// Why a server ended early. It is defined here so that the command line, which has the words for it, doesn't depend on
 /// the server.
-#[derive(Clone, Copy, Debug, PartialEq, Eq)]
+#[derive(Clone, Copy, PartialEq, Eq)]
 pub enum ServeFault {
     /// A listener failed to accept a connection.
     AcceptFault,

@@ -9,7 +9,7 @@ use std::marker::Model;
 const MEAN_NAME_BYTES: usize = 16;
 
 /// Where a name's bytes are in those of its list.
-#[derive(Clone, Copy, Debug)]
+#[derive(Clone, Copy)]
 pub struct Span {
     pub start: usize,
     pub len: usize,
@@ -17,7 +17,6 @@ pub struct Span {
 
 /// Names in rising byte order. Their bytes are stored one after another, so a list shares nothing with the table that
 /// it was read from, and takes two allocations for any number of names.
-#[derive(Debug)]
 pub struct NameList {
     bytes: Vec<u8>,
     spans: Vec<Span>,
@@ -91,7 +90,6 @@ impl NameList {
 }
 
 /// A boxed list of names, so that a reply stays small. Contracts see the list.
-#[derive(Debug)]
 pub struct BoxedNames {
     names: Box<NameList>,
 }

@@ -8,7 +8,6 @@ use std::alloc::AllocError;
 
 /// A record of a check that no allow rule passed, or of a clause on the user number that refused a request, as
 /// SELinux's access vector cache makes one (`avc: denied`).
-#[derive(Debug)]
 pub struct Record {
     /// The length of the journal when the check was made, in changes.
     pub length: u64,

@@ -11,7 +11,6 @@ use thiserror::Error;
 
 /// A security context, `user:role:type` or `user:role:type:range`, which contracts see as its text.
 /// The range is kept as text and never compared.
-#[derive(Debug)]
 pub struct Context {
     text: ArcSlice<u8>,
     /// Where the type begins in the text, and its length in bytes.

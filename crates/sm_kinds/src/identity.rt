@@ -6,7 +6,6 @@ use crate::context::Context;
 use std::alloc::AllocError;
 
 /// The identity of a process: its process number, its user number and its security context, as the kernel reports them.
-#[derive(Debug)]
 pub struct Identity {
     pub pid: u32,
     pub uid: u32,

@@ -11,7 +11,6 @@ use std::marker::Model;
 use std::sync::ArcSlice;
 
 /// A name, which contracts see as its bytes. All bytes are allowed; `valid_name` says which may name a service.
-#[derive(Debug)]
 pub struct Name {
     bytes: ArcSlice<u8>,
 }
@@ -59,7 +58,6 @@ impl Name {
 }
 
 /// Names in order. Contracts see the list of their bytes.
-#[derive(Debug)]
 pub struct Names {
     list: Vec<Name>,
 }

@@ -9,7 +9,6 @@ use std::marker::Model;
 use thiserror::Error;
 
 /// The payload of a call, at most `MOST_PAYLOAD_BYTES`.
-#[derive(Debug)]
 pub struct Payload {
     bytes: Bytes,
 }

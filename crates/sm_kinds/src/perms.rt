@@ -7,7 +7,7 @@ use crate::word::spells;
 use bitflags::{Flag, Flags, bitflag_items};
 
 /// A set of permissions. Those of `service_manager` are bits 0 to 2, those of `binder` bits 3 to 6.
-#[derive(Clone, Copy, PartialEq, Eq, Debug)]
+#[derive(Clone, Copy, PartialEq, Eq)]
 pub struct Perms(pub u8);
 
 bitflag_items! {

@@ -6,7 +6,7 @@ use crate::limits::{LEAST_PLACES, MOST_PLACES};
 use std::marker::Model;
 
 /// The number of slots of a journal: `LEAST_PLACES` to `MOST_PLACES`.
-#[derive(Clone, Copy, Debug, PartialEq, Eq)]
+#[derive(Clone, Copy, PartialEq, Eq)]
 pub struct Places {
     entries: u32,
 }

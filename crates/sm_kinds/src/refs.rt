@@ -9,7 +9,6 @@ use std::marker::Model;
 use thiserror::Error;
 
 /// The references of a call, in order, at most `MOST_REFS`.
-#[derive(Debug)]
 pub struct Refs {
     list: Vec<ObjRef>,
 }

@@ -43,7 +43,7 @@ pub enum Act {
 }
 
 /// What these tests ask of a reply. One small value in place of each reply keeps their proofs short.
-#[derive(Clone, Copy, Debug, PartialEq, Eq)]
+#[derive(Clone, Copy, PartialEq, Eq)]
 pub enum Seen {
     Connected(u32),
     /// An add or a watch of which no watcher heard.
@@ -64,7 +64,7 @@ pub enum Seen {
     Another,
 }
 
-#[derive(Clone, Copy, Debug, PartialEq, Eq)]
+#[derive(Clone, Copy, PartialEq, Eq)]
 pub enum Became {
     Told,
     Denied,
@@ -243,7 +243,7 @@ pub fn steps(rt: &impl Abort, alloc: Global, manager: &mut Manager, rows: &[(By,
     for (by, act, wanted) in rows {
         let turn = manager.turn(*by);
         let seen = step(rt, alloc, manager, *by, turn, *act);
-        assert_eq!(rt; (*by, turn, seen), (*by, turn, *wanted));
+        assert!(rt; seen == *wanted);
     }
 }
 
@@ -254,5 +254,5 @@ pub const AN_ADD: &[(By, Act, Seen)] = &[(SERVER, Act::Add, Seen::Unheard)];
 
 /// An actor's next turn.
 pub fn has_turn(rt: &impl Abort, manager: &Manager, by: By, wanted: u64) {
-    assert_eq!(rt; (by, manager.turn(by)), (by, wanted));
+    assert!(rt; manager.turn(by) == wanted);
 }

@@ -84,7 +84,7 @@ fn is_lost(rt: &impl Abort, left: &Left, wanted: Fault, failures: (u64, u64)) ->
     let Some(fault) = left.fault else {
         return false;
     };
-    assert_eq!(rt; (fault, left.failures), (wanted, failures));
+    assert!(rt; (fault, left.failures) == (wanted, failures));
     true
 }
 

@@ -16,7 +16,7 @@ use std::process::Abort;
 fn steps_at(rt: &impl Abort, alloc: Global, manager: &mut Manager, rows: &[(By, u64, Act, Seen)]) {
     for (by, turn, act, wanted) in rows {
         let seen = step(rt, alloc, manager, *by, *turn, *act);
-        assert_eq!(rt; (*by, *turn, seen), (*by, *turn, *wanted));
+        assert!(rt; seen == *wanted);
     }
 }
 
@@ -74,7 +74,7 @@ fn openings_connects_and_queries_of_others(rt: HostRuntime) {
         (SERVER, explain(&rt, alloc)),
     ];
     for (by, query) in queries {
-        assert_eq!(rt; (by, look(&manager, by, query)), (by, Seen::NotYours));
+        assert!(rt; look(&manager, by, query) == Seen::NotYours);
     }
 }
 
@@ -87,7 +87,7 @@ fn a_journal_of_a_hundred_thousand(rt: HostRuntime) {
         steps(&rt, alloc, &mut manager, AN_ADD);
     }
     let seen = look(&manager, SERVER, Query::Version);
-    assert_eq!(rt; seen, Seen::Version(1, 100_002));
+    assert!(rt; seen == Seen::Version(1, 100_002));
 }
 
 #[test]

@@ -24,7 +24,7 @@ use sm_types::TypeCount;
 use std::alloc::{AllocError, Global};
 
 /// The first tuple that a neverallow rule forbids and an allow rule allows.
-#[derive(Clone, Copy, Debug, PartialEq, Eq)]
+#[derive(Clone, Copy, PartialEq, Eq)]
 pub struct Violation {
     /// The line of the neverallow rule.
     pub never_line: u32,

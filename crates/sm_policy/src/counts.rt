@@ -11,7 +11,7 @@ use sm_ruletext::{RuleKind, Statement, What};
 use sm_types::Types;
 
 /// The counts that `svcmgr check` prints of a policy.
-#[derive(Clone, Copy, Debug, PartialEq, Eq)]
+#[derive(Clone, Copy, PartialEq, Eq)]
 pub struct Counts {
     /// Declared types.
     pub types: u32,

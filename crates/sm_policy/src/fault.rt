@@ -12,7 +12,7 @@ use sm_types::TypesFault;
 use std::alloc::{AllocError, AllocFailed};
 
 /// The first refusal of a policy. A failed allocation is `Memory`, wherever it happened.
-#[derive(Debug, Drop)]
+#[derive(Drop)]
 pub enum PolicyFault {
     /// The policy source isn't in the grammar, or is too large.
     Rules(RuleTextFault),

@@ -3,7 +3,6 @@
 use sm_kinds::{Class, Name, Perms};
 
 /// The first thing that a neverallow rule forbids and an allow rule allows, with the names of its types.
-#[derive(Debug)]
 pub struct Violation {
     /// The line of the neverallow rule.
     pub never_line: u32,

@@ -47,7 +47,7 @@ fn numbers_in_sets(rt: HostRuntime) {
                 // The classes' names are no types.
                 (&rule.class, Err(TypesFault::Unknown(4))),
             ] {
-                assert_eq!(rt; has(rt.alloc(), &types, set), wanted);
+                assert!(rt; has(rt.alloc(), &types, set) == wanted);
             }
         }
     }
@@ -79,7 +79,7 @@ fn faults(rt: HostRuntime) {
             None,
         ),
     ] {
-        assert_eq!(rt; fault_of(&rt, rt.alloc(), text), want);
+        assert!(rt; fault_of(&rt, rt.alloc(), text) == want);
     }
 }
 
@@ -117,6 +117,6 @@ fn most_names(rt: HostRuntime) {
         (b"attribute t", 1024, Ok(1024)),
         (b"attribute t", 1025, Err(TypesFault::TooMany)),
     ] {
-        assert_eq!(rt; declared(&rt, rt.alloc(), keyword, count), wanted);
+        assert!(rt; declared(&rt, rt.alloc(), keyword, count) == wanted);
     }
 }

@@ -221,10 +221,7 @@ fn answers(rt: HostRuntime) {
     for (source, target, class, perm, line) in ACCESSES {
         let why = snapshot.why(source, target, class, perm);
         let allowed = snapshot.allows(source, target, class, perm);
-        assert_eq!(rt;
-            (source, target, perm, why, allowed),
-            (source, target, perm, line, line.is_some())
-        );
+        assert!(rt; (why, allowed) == (line, line.is_some()));
     }
 }
 
@@ -244,10 +241,7 @@ fn types_by_number(rt: HostRuntime) {
         (1, 6, Class::Binder, false),
     ] {
         let found = snapshot.allows_at(source, target, class, Perms::CALL);
-        assert_eq!(rt;
-            (source, target, class, found),
-            (source, target, class, allowed)
-        );
+        assert!(rt; found == allowed);
     }
 }
 

@@ -115,7 +115,7 @@ impl Desk for Deaf {
     }
 
     fn ask(&mut self, request: Request) -> Response {
-        match request {
+        match &request {
             Request::Change(_, Event::Die) => Response::Replied(Reply::Done(Outcome::Died)),
             _ => Response::Replied(Reply::GotNull),
         }

@@ -6,7 +6,7 @@ ghost use Rattle.sm_rules.specs.declared.fault.RulesFault.TheVariants.{Memory};
 use std::alloc::{AllocError, AllocFailed};
 
 /// The first fault of the rules.
-#[derive(Clone, Copy, Debug, PartialEq, Eq)]
+#[derive(Clone, Copy, PartialEq, Eq)]
 pub enum RulesFault {
     /// The source or the target of the rule at this line has a name that isn't declared.
     Unknown(u32),

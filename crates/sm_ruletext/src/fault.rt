@@ -6,7 +6,7 @@ ghost use Rattle.sm_ruletext.specs.declared.fault.RuleTextFault.TheVariants.{Mem
 use std::alloc::{AllocError, AllocFailed};
 
 /// The first fault of a policy source.
-#[derive(Clone, Copy, Debug, PartialEq, Eq)]
+#[derive(Clone, Copy, PartialEq, Eq)]
 pub enum RuleTextFault {
     /// The source has more than `MOST_TEXT_BYTES` bytes.
     TooLarge,

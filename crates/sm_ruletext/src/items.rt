@@ -7,7 +7,7 @@ use sm_kinds::Names;
 use std::alloc::Global;
 
 /// The items of a set that is being read.
-#[derive(Debug, Drop)]
+#[derive(Drop)]
 pub struct Items {
     pub all: bool,
     pub to_self: bool,

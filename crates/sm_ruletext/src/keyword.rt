@@ -7,7 +7,7 @@ use crate::RuleKind;
 use sm_kinds::spells;
 
 /// The kind of a statement, by its first word.
-#[derive(Clone, Copy, Debug)]
+#[derive(Clone, Copy)]
 pub enum Keyword {
     Attribute,
     Types,

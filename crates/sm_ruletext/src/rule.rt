@@ -6,7 +6,6 @@ ghost use Rattle.sm_ruletext.specs.Kept as spec;
 use crate::Set;
 
 /// What follows `allow`, `neverallow` or `dontaudit`: `SOURCE TARGET : CLASS PERM`.
-#[derive(Debug)]
 pub struct Rule {
     pub source: Set,
     pub target: Set,

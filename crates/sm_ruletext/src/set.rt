@@ -38,7 +38,6 @@ fn chooses(all: bool, complement: bool, plus: &Names, minus: &Names, name: &[u8]
 }
 
 /// What sets with the same items have in common.
-#[derive(Debug)]
 pub struct SetParts {
     number: u32,
     all: bool,
@@ -152,7 +151,6 @@ impl SetParts {
 }
 
 /// A set of types, of classes or of permissions, as written. Its items may be shared with other sets.
-#[derive(Debug)]
 pub struct Set {
     line: u32,
     parts: Arc<SetParts, Global>,

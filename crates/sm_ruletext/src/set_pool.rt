@@ -32,11 +32,7 @@ pub struct SetPool {
 
 impl Drop for SetPool {
     fn drop(self) {
-        let SetPool {
-            sets: _,
-            slots: _,
-            spare: _,
-        } = self;
+        let SetPool { sets: _, slots: _, spare: _ } = self;
     }
 }
 

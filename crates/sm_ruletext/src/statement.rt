@@ -4,7 +4,7 @@ use crate::Rule;
 use sm_kinds::{Name, Names};
 
 /// The kind of a rule.
-#[derive(Clone, Copy, Debug, PartialEq, Eq)]
+#[derive(Clone, Copy, PartialEq, Eq)]
 pub enum RuleKind {
     /// `allow SOURCE TARGET : CLASS PERM;`
     Allow,
@@ -15,7 +15,6 @@ pub enum RuleKind {
 }
 
 /// The content of a statement.
-#[derive(Debug)]
 pub enum What {
     /// `attribute A;`
     Attribute(Name),
@@ -54,7 +53,6 @@ impl What {
 }
 
 /// A statement, with the line of its first byte; lines are numbered from 1.
-#[derive(Debug)]
 pub struct Statement {
     pub line: u32,
     pub what: What,

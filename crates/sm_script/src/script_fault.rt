@@ -5,7 +5,7 @@ use sm_history::Refusal;
 use sm_policy::PolicyFault;
 
 /// Why a script was not run to the end of its input.
-#[derive(Drop, Debug)]
+#[derive(Drop)]
 pub enum ScriptFault {
     /// The policy was refused; nothing was read or written.
     Policy(PolicyFault),

@@ -22,7 +22,7 @@ const EMFILE: i32 = 24;
 const ENOBUFS: i32 = 105;
 
 /// What a failed `accept` means for the calls after it.
-#[derive(Clone, Copy, Debug, PartialEq, Eq)]
+#[derive(Clone, Copy, PartialEq, Eq)]
 enum AcceptFailure {
     /// It concerns only one connection or one call.
     Passing,

@@ -15,7 +15,7 @@ use sm_wire::Request;
 use std::alloc::Global;
 
 /// When a connection's desk calls the function beside it.
-#[derive(Clone, Copy, Debug, PartialEq, Eq)]
+#[derive(Clone, Copy, PartialEq, Eq)]
 pub enum Occasion {
     /// A client was connected.
     Connected,

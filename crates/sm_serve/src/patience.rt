@@ -5,7 +5,7 @@ use std::os::unix::net::UnixStream;
 use std::time::Duration;
 
 /// Time limits of connections, in seconds, each at least 1. A connection that exceeds one has ended.
-#[derive(Clone, Copy, Debug, PartialEq, Eq)]
+#[derive(Clone, Copy, PartialEq, Eq)]
 pub struct Patience {
     /// For a read of a client's connection until its `hello` is answered by a number. Later reads have no limit.
     pub hello: u64,

@@ -30,7 +30,7 @@ use std::thread;
 use std::thread::Threads;
 
 /// The number of worker threads, the connections of each kind that are accepted, and their time limits.
-#[derive(Clone, Copy, Debug, PartialEq, Eq)]
+#[derive(Clone, Copy, PartialEq, Eq)]
 pub struct Numbers {
     /// The number of clients' connections that are served at once.
     pub workers: u32,

@@ -18,7 +18,7 @@ use std::process::Abort;
 use std::sync::Wait;
 
 /// Who sends a line.
-#[derive(Clone, Copy, Debug, PartialEq, Eq)]
+#[derive(Clone, Copy, PartialEq, Eq)]
 enum Sender {
     Service,
     Application,

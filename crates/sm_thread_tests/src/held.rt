@@ -90,7 +90,7 @@ const A_CALL_IS_HELD: &[Step] = &[
 fn a_call_is_held_until_another_is_answered(rt: HostRuntime) -> Result<(), Fail> {
     let (visits, exchange) = connected(&rt, rt.alloc(), numbers(4, 4, 0), A_CALL_IS_HELD)?;
     let left = at_a_door(&rt, rt.alloc(), 1000, Second::new(), visits, exchange);
-    assert_eq!(rt; left, ALL_IS_WELL);
+    assert!(rt; left == ALL_IS_WELL);
     Ok(())
 }
 
@@ -175,9 +175,6 @@ fn a_change_is_held_until_a_list_is_answered(rt: HostRuntime) -> Result<(), Fail
     };
     let (visits, exchange) = connected(&rt, rt.alloc(), numbers(4, 4, 0), &[])?;
     let talk = Listing { exchange, hold };
-    assert_eq!(rt;
-        at_a_door(&rt, rt.alloc(), 1000, gate, visits, talk),
-        ALL_IS_WELL
-    );
+    assert!(rt; at_a_door(&rt, rt.alloc(), 1000, gate, visits, talk) == ALL_IS_WELL);
     Ok(())
 }

@@ -31,7 +31,7 @@ fn failures_that_pass_are_passed_over(rt: HostRuntime) -> Result<(), Fail> {
         },
         ..ALL_IS_WELL
     };
-    assert_eq!(rt; left, wanted);
+    assert!(rt; left == wanted);
     Ok(())
 }
 
@@ -40,7 +40,7 @@ fn a_connection_that_has_begun_is_served_to_its_end(rt: HostRuntime) -> Result<(
     let (mut visits, exchange) = connected(&rt, rt.alloc(), numbers(1, 1, 0), ONE_CLIENT)?;
     visits.numbers.clients = 2;
     let left = at_a_door(&rt, rt.alloc(), 1000, NoGate, visits, exchange);
-    assert_eq!(rt; left, ENDED_BY_ITS_LISTENER);
+    assert!(rt; left == ENDED_BY_ITS_LISTENER);
     Ok(())
 }
 

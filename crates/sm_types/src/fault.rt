@@ -6,7 +6,7 @@ ghost use Rattle.sm_types.specs.declared.fault.TypesFault.TheVariants.{Memory};
 use std::alloc::{AllocError, AllocFailed};
 
 /// The first fault of the declarations, or of a set.
-#[derive(Clone, Copy, Debug, PartialEq, Eq)]
+#[derive(Clone, Copy, PartialEq, Eq)]
 pub enum TypesFault {
     /// The name that the statement at this line declares is declared already.
     Twice(u32),

@@ -5,7 +5,7 @@ use std::marker::Model;
 /// The number of types of a policy source, at most [`MOST_TYPES`](crate::MOST_TYPES).
 ///
 /// Contracts see it as the number.
-#[derive(Clone, Copy, Debug, PartialEq, Eq)]
+#[derive(Clone, Copy, PartialEq, Eq)]
 pub struct TypeCount {
     count: usize,
 }

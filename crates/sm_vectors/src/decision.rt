@@ -1,7 +1,7 @@
 //! Decisions.
 
 /// The decision on a check that needs an allow rule.
-#[derive(Clone, Copy, Debug, PartialEq, Eq)]
+#[derive(Clone, Copy, PartialEq, Eq)]
 pub struct Decision {
     /// The check passes.
     pub allowed: bool,

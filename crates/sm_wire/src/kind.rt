@@ -1,7 +1,7 @@
 //! Kinds of streams.
 
 /// The peer of a stream of request lines, which decides which lines are valid.
-#[derive(Clone, Copy, Debug, PartialEq, Eq)]
+#[derive(Clone, Copy, PartialEq, Eq)]
 pub enum Kind {
     /// A process that connects as a client. Its lines have no client numbers.
     Client,

@@ -15,7 +15,7 @@ use std::collections::VecDeque;
 
 /// The header of a `reload` line: the expected version of the policy in force, and the sizes of the policy source and
 /// of the contexts file that follow the line, in bytes.
-#[derive(Clone, Copy, Debug, PartialEq, Eq)]
+#[derive(Clone, Copy, PartialEq, Eq)]
 pub struct ReloadHeader {
     pub expected: u64,
     pub rules: u32,

@@ -1,7 +1,7 @@
 //! Visibility of replies.
 
 /// How much of a reply is visible to whoever asked.
-#[derive(Clone, Copy, Debug, PartialEq, Eq)]
+#[derive(Clone, Copy, PartialEq, Eq)]
 pub enum Telling {
     /// All of it.
     Whole,
