@@ -1,6 +1,5 @@
 -- What is kept holds of equal sets and rules.
-use Rattle.std.proofs.Common.{◌≡◌, ℕ, Bool, List, [], ◌∷◌, ◌++◌, All, Some, slice_get, refl, sym, ◌∙◌, ◌&&◌, ◌<◌}
-use Rattle.std.specs.List.{list_all}
+use Rattle.std.proofs.Common.{◌≡◌, ℕ, Bool, List, [], ◌∷◌, ◌++◌, refl, ◌∙◌}
 use Rattle.std.proofs.lemmas.List.Elements.{All-push}
 use Rattle.sm_kinds.specs.declared.class.Class.{Class}
 use Rattle.sm_kinds.specs.declared.perms.Perms.{Perms}
@@ -8,7 +7,7 @@ use Rattle.sm_ruletext.specs.Items.{Set, SameItems}
 use Rattle.sm_ruletext.specs.Sets.{selects}
 use Rattle.sm_ruletext.specs.declared.rule.Rule.{Rule}
 use Rattle.sm_types.specs.Names.{Name, at}
-use Rattle.sm_types.specs.Denoting.{Policy, chosen, in_set, all_known}
+use Rattle.sm_types.specs.Denoting.{Policy, chosen}
 use Rattle.sm_types.specs.declared.table.Table.{Table}
 use Rattle.sm_rules.specs.Access.{gives}
 use Rattle.sm_rules.specs.Faults.{is_open, applies, perms_known}

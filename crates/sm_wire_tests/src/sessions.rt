@@ -47,7 +47,7 @@ impl Desk for Clerk {
     /// A `bye` is refused once.
     fn ask(&mut self, request: Request) -> Response {
         self.asked = self.asked.saturating_add(1);
-        match request {
+        match &request {
             Request::Change(_, Event::Die) => Response::Replied(self.bye_reply()),
             Request::Change(_, _) => Response::Replied(Reply::GotNull),
             Request::Denials => Response::Denied(Vec::new(self.alloc)),

@@ -1,4 +1,4 @@
-use Rattle.std.proofs.Common.{◌≡◌, ◌∙◌, sym, length, [], arith}
+use Rattle.std.proofs.Common.{◌∙◌, sym, [], arith}
 use Rattle.std.proofs.lemmas.List.{ext_get_or}
 use Rattle.sm_ruletext.proofs.set.same_names.Goals as goal
 

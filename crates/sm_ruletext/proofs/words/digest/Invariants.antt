@@ -1,4 +1,4 @@
-use Rattle.std.proofs.Common.{◌-◌, ◌≤◌, length}
+use Rattle.std.proofs.Common.{◌-◌, ◌≤◌}
 use Rattle.sm_ruletext.proofs.words.digest.Given as goal
 
 abbrev pub invariant-loop-i : goal.invariant-loop-i

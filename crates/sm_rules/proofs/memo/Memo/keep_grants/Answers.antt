@@ -1,4 +1,4 @@
-use Rattle.std.proofs.Common.{◌≡◌, ◌∙◌, ◌++◌, ◌∷◌, [], ap}
+use Rattle.std.proofs.Common.{◌∙◌, ◌++◌, ◌∷◌, [], ap}
 use Rattle.sm_rules.specs.Memoed.{Memoed}
 use Rattle.sm_rules.specs.declared.memo.Granted.{Granted}
 use Rattle.sm_rules.proofs.Memoed.{granted_more}

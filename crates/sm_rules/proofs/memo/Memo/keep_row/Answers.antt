@@ -1,4 +1,4 @@
-use Rattle.std.proofs.Common.{◌≡◌, ◌∙◌, ◌++◌, ◌∷◌, [], ap}
+use Rattle.std.proofs.Common.{◌∙◌, ◌++◌, ◌∷◌, [], ap}
 use Rattle.sm_rules.specs.Memoed.{Denotes, Memoed}
 use Rattle.sm_rules.specs.declared.memo.Expanded.{Expanded}
 use Rattle.sm_rules.proofs.Memoed.{expanded_more}

@@ -1,6 +1,6 @@
 use Rattle.std.proofs.Common.{rules, ◌≡◌, ◌<◌, get_or, length, subst, sym}
 use Rattle.sm_ruletext.specs.Items.{SameItems}
-use Rattle.sm_rules.specs.Memoed.{IsExpanded, Denotes}
+use Rattle.sm_rules.specs.Memoed.{IsExpanded}
 use Rattle.sm_rules.proofs.memo.Memo.row.Goals as goal
 
 pub returns : goal.returns
