@@ -16,7 +16,10 @@ pub struct Contexts {
 
 impl Drop for Contexts {
     fn drop(self) {
-        let Contexts { entries: _, default: _ } = self;
+        let Contexts {
+            entries: _,
+            default: _,
+        } = self;
     }
 }
 

@@ -14,7 +14,10 @@ pub struct FirstLine {
 
 impl Drop for FirstLine {
     fn drop(self) {
-        let FirstLine { line: _, context: _ } = self;
+        let FirstLine {
+            line: _,
+            context: _,
+        } = self;
     }
 }
 

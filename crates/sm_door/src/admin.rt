@@ -17,7 +17,10 @@ pub struct Admin<J: Naming> {
 
 impl<J: Naming> Drop for Admin<J> {
     fn drop(self) {
-        let Admin { number: _, actor: _ } = self;
+        let Admin {
+            number: _,
+            actor: _,
+        } = self;
     }
 }
 

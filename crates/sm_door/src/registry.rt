@@ -102,7 +102,11 @@ pub struct HistoryId<J: Naming> {
 
 impl<J: Naming> Drop for HistoryId<J> {
     fn drop(self) {
-        let HistoryId { number: _, seen: _, of: _ } = self;
+        let HistoryId {
+            number: _,
+            seen: _,
+            of: _,
+        } = self;
     }
 }
 

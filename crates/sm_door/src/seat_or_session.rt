@@ -20,7 +20,10 @@ pub struct SeatOrSession<J: Naming> {
 
 impl<J: Naming> Drop for SeatOrSession<J> {
     fn drop(self) {
-        let SeatOrSession { client: _, actor: _ } = self;
+        let SeatOrSession {
+            client: _,
+            actor: _,
+        } = self;
     }
 }
 

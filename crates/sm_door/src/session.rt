@@ -19,7 +19,10 @@ pub struct Session<J: Naming> {
 
 impl<J: Naming> Drop for Session<J> {
     fn drop(self) {
-        let Session { client: _, actor: _ } = self;
+        let Session {
+            client: _,
+            actor: _,
+        } = self;
     }
 }
 

@@ -23,7 +23,10 @@ pub struct SharedView<J: Naming> {
 
 impl<J: Naming> Drop for SharedView<J> {
     fn drop(self) {
-        let SharedView { view: _, history_id: _ } = self;
+        let SharedView {
+            view: _,
+            history_id: _,
+        } = self;
     }
 }
 

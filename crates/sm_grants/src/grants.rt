@@ -36,7 +36,11 @@ pub struct Grants {
 
 impl Drop for Grants {
     fn drop(self) {
-        let Grants { alloc: _, rows: _, bound: _ } = self;
+        let Grants {
+            alloc: _,
+            rows: _,
+            bound: _,
+        } = self;
     }
 }
 

@@ -14,7 +14,11 @@ pub struct Handles {
 
 impl Drop for Handles {
     fn drop(self) {
-        let Handles { slots: _, numbers: _, taken: _ } = self;
+        let Handles {
+            slots: _,
+            numbers: _,
+            taken: _,
+        } = self;
     }
 }
 

@@ -21,7 +21,10 @@ pub struct NamedRow {
 
 impl Drop for NamedRow {
     fn drop(self) {
-        let NamedRow { name: _, service: _ } = self;
+        let NamedRow {
+            name: _,
+            service: _,
+        } = self;
     }
 }
 

@@ -13,7 +13,11 @@ pub struct Rows {
 
 impl Drop for Rows {
     fn drop(self) {
-        let Rows { tables: _, turns: _, length: _ } = self;
+        let Rows {
+            tables: _,
+            turns: _,
+            length: _,
+        } = self;
     }
 }
 

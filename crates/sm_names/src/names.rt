@@ -28,7 +28,11 @@ pub struct Names {
 
 impl Drop for Names {
     fn drop(self) {
-        let Names { services: _, watches: _, order: _ } = self;
+        let Names {
+            services: _,
+            watches: _,
+            order: _,
+        } = self;
     }
 }
 

@@ -41,12 +41,7 @@ fn searched(rows: &[NamedRow], name: &[u8]) -> Result<usize, usize>
 
 /// As `searched`; the hint in the name's slot is tried first.
 #[inline(always)]
-fn place_of(
-    rows: &[NamedRow],
-    hints: &Hints,
-    slot: usize,
-    name: &[u8],
-) -> Result<usize, usize>
+fn place_of(rows: &[NamedRow], hints: &Hints, slot: usize, name: &[u8]) -> Result<usize, usize>
     ensures within { IsSearchInRange result (length rows.now) }
     ensures place { IsRising (names_of rows.now)
         → MatchResult result (IsNamePlace rows.now name.now) (IsNameGap rows.now name.now) }

@@ -20,7 +20,11 @@ pub struct Layer {
 
 impl Drop for Layer {
     fn drop(self) {
-        let Layer { matrix: _, count: _, nothing: _ } = self;
+        let Layer {
+            matrix: _,
+            count: _,
+            nothing: _,
+        } = self;
     }
 }
 

@@ -12,7 +12,10 @@ pub struct Snapshot {
 
 impl Drop for Snapshot {
     fn drop(self) {
-        let Snapshot { prepared: _, version: _ } = self;
+        let Snapshot {
+            prepared: _,
+            version: _,
+        } = self;
     }
 }
 

@@ -32,7 +32,11 @@ pub struct SetPool {
 
 impl Drop for SetPool {
     fn drop(self) {
-        let SetPool { sets: _, slots: _, spare: _ } = self;
+        let SetPool {
+            sets: _,
+            slots: _,
+            spare: _,
+        } = self;
     }
 }
 

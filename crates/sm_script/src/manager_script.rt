@@ -28,7 +28,10 @@ pub struct Script {
 
 impl Drop for Script {
     fn drop(self) {
-        let Script { alloc: _, manager: _ } = self;
+        let Script {
+            alloc: _,
+            manager: _,
+        } = self;
     }
 }
 

@@ -20,7 +20,11 @@ pub struct AuditLog {
 
 impl Drop for AuditLog {
     fn drop(self) {
-        let AuditLog { alloc: _, to: _, lost: _ } = self;
+        let AuditLog {
+            alloc: _,
+            to: _,
+            lost: _,
+        } = self;
     }
 }
 

@@ -32,7 +32,11 @@ pub struct Table {
 
 impl Drop for Table {
     fn drop(self) {
-        let Table { symbols: _, members: _, all: _ } = self;
+        let Table {
+            symbols: _,
+            members: _,
+            all: _,
+        } = self;
     }
 }
 

@@ -39,7 +39,11 @@ pub struct RecentNames {
 
 impl Drop for RecentNames {
     fn drop(self) {
-        let RecentNames { alloc: _, count: _, places: _ } = self;
+        let RecentNames {
+            alloc: _,
+            count: _,
+            places: _,
+        } = self;
     }
 }
 

@@ -11,7 +11,11 @@ pub struct PolicyTexts {
 
 impl Drop for PolicyTexts {
     fn drop(self) {
-        let PolicyTexts { expected: _, rules: _, contexts: _ } = self;
+        let PolicyTexts {
+            expected: _,
+            rules: _,
+            contexts: _,
+        } = self;
     }
 }
 

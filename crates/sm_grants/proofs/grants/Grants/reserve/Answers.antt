@@ -42,7 +42,8 @@ returns-in-Ok-clause-room c =
     let none : index_from 0 rows c.args.client ≡ None = rw (← c.deref.ensures.value) (sym c.in-None.ensures.at) in
     let r : ClientHandles = record { client = c.args.client; handles = c.reserve-in-None-2.new.self } in
     rw (
-      c.insert.ensures.items, c.in-Ok.is,
+      c.insert.ensures.items,
+      c.in-Ok.is,
       c.reserve-in-None.ensures.items,
       spare_pushed rows c.place_for-place.result r (no_row 0 rows c.args.client none),
     ) c.in_ok-reserve-in-None-2.ensures.room
