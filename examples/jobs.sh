@@ -1,0 +1,12 @@
+# Sourced by examples/run, examples/check, examples/serve and .ci/run: sets `jobs` to 4 where four processors and 12 GB
+# of memory are free, and otherwise leaves it empty, so that rt decides.
+jobs=""
+available="$(sed -n 's/^MemAvailable: *\([0-9]*\) kB$/\1/p' /proc/meminfo)"
+if [ "$(nproc)" -ge 4 ] && [ "${available:-0}" -ge 12000000 ]; then
+    jobs=4
+fi
+
+# Prints to standard error how many jobs were chosen, and how long a first run takes ($1).
+say_jobs() {
+    echo "$(basename "$0"): jobs at a time: ${jobs:-as rt decides}; a first run takes $1" >&2
+}
