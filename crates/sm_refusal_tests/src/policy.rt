@@ -28,7 +28,9 @@ fn labels_are_read(rt: HostRuntime) {
     assert!(rt; labels(&rt, rt.alloc()).is_some() || labels(&rt, rt.alloc()).is_some());
 }
 
-const OWN_PAIRS: &[u8] = b"type a;\ntype b;\nallow { a b } self:binder call;\n";
+// The second rule's source and class are those of the first.
+const OWN_PAIRS: &[u8] =
+    b"type a;\ntype b;\nallow { a b } self:binder call;\nallow { a b } b:binder transfer;\n";
 
 /// Whether the sources of a rule are both types.
 fn both_types(rt: &impl Abort, alloc: Global, types: &Types, statement: &Statement) -> Option<()> {
@@ -37,18 +39,21 @@ fn both_types(rt: &impl Abort, alloc: Global, types: &Types, statement: &Stateme
     };
     let sources = value(rt, types.expand(alloc, &rule.source), TypesFault::Memory)?;
     assert!(rt; sources.has(0) && sources.has(1) && !sources.has(2));
+    let copy = rule.source.clone().ok()?;
+    assert!(rt; copy.is_same(&rule.source));
     Some(())
 }
 
 fn rules(rt: &impl Abort, alloc: Global) -> Option<()> {
     let statements = value(rt, read(alloc, OWN_PAIRS), RuleTextFault::Memory)?;
-    assert!(rt; statements.len() == 3);
+    assert!(rt; statements.len() == 4);
     let types = value(rt, Types::build(alloc, &statements), TypesFault::Memory)?;
     both_types(rt, alloc, &types, &statements[2])?;
     let built = Rules::build(alloc, &statements, &types);
     let rules = value(rt, built, RulesFault::Memory)?;
     assert!(rt; rules.written(0, 0, Class::Binder, Perms::CALL) == Some(3));
     assert!(rt; rules.written(0, 1, Class::Binder, Perms::CALL).is_none());
+    assert!(rt; rules.written(0, 1, Class::Binder, Perms::TRANSFER) == Some(4));
     vectors(rt, alloc, &rules)
 }
 

@@ -137,6 +137,40 @@ fn services_and_watches_are_kept(rt: HostRuntime) {
     assert!(rt; services(&rt, rt.alloc()).is_some() || services(&rt, rt.alloc()).is_some());
 }
 
+/// More names than a table has without hints.
+const SEVEN: [&[u8]; 7] = [
+    b"alarm", b"audio", b"media", b"mount", b"phone", b"power", b"wifi",
+];
+
+/// Adds a name. A refusal leaves the table as it was.
+fn adds(rt: &impl Abort, alloc: Global, names: &mut Names, name: &[u8]) -> Option<()> {
+    let key = Name::new(alloc, name).ok()?;
+    if names.reserve(1).is_err() {
+        assert!(rt; names.get(name).is_none());
+        return None;
+    }
+    if names.is_ready() {
+        names.put(key, service());
+    }
+    Some(())
+}
+
+fn seven(rt: &impl Abort, alloc: Global) -> Option<()> {
+    let mut names = Names::new(alloc);
+    for name in SEVEN {
+        adds(rt, alloc, &mut names, name)?;
+    }
+    for name in SEVEN {
+        assert!(rt; names.get(name).is_some());
+    }
+    Some(())
+}
+
+#[test]
+fn names_are_found_with_hints_and_without(rt: HostRuntime) {
+    assert!(rt; seven(&rt, rt.alloc()).is_some() || seven(&rt, rt.alloc()).is_some());
+}
+
 fn delivery(alloc: Global) -> Option<BoxedDelivery> {
     let name = Name::new(alloc, b"power").ok()?;
     let delivery = Delivery {

@@ -5,6 +5,7 @@ use sm_history::{Event, Outcome, Reply};
 use sm_kinds::{Context, ContextError, Name, ObjRef, Payload, PayloadError, Refs, RefsError};
 use sm_wire::{FeedError, Item, Kind, Lines, ReadError, Request, Telling, reply_line};
 use std::alloc::Global;
+use std::collections::VecDeque;
 use std::process::Abort;
 use std::test::*;
 
@@ -132,7 +133,23 @@ fn feeds(rt: &impl Abort, lines: &mut Lines) -> Option<()> {
 
 fn cut(rt: &impl Abort, alloc: Global) -> Option<()> {
     let mut lines = Lines::new(alloc, Kind::Client);
-    feeds(rt, &mut lines)
+    feeds(rt, &mut lines)?;
+    queues(rt, &mut lines, &mut VecDeque::new(alloc))
+}
+
+/// Ends the half line and appends a whole one. A refusal leaves the queue empty.
+fn queues(rt: &impl Abort, lines: &mut Lines, items: &mut VecDeque<Item>) -> Option<()> {
+    match lines.feed_into(b"sion\nversion\n", items) {
+        Ok(()) => {
+            assert!(rt; items.len() == 2);
+            Some(())
+        }
+        Err(error) => {
+            assert!(rt; error == FeedError::Memory);
+            assert!(rt; items.is_empty());
+            None
+        }
+    }
 }
 
 #[test]

@@ -1,5 +1,7 @@
 -- What is read after a `reload` line, once the item of its request is appended.
 use Rattle.std.proofs.Common.{◌≡◌, ℕ, List, [], ◌∷◌, ◌++◌, length, take, slice_get, Option, Some, None, refl}
+use Rattle.std.proofs.Common.{append_assoc, ap, sym, ◌∙◌}
+use Rattle.std.proofs.lemmas.List.{append-nil}
 use Rattle.std.proofs.Common.{Result, Ok, Err, IfOk}
 use Rattle.std.proofs.Math.Seq.{take-append_seam}
 use Rattle.sm_wire.specs.declared.item.Item.{Item}
@@ -9,8 +11,21 @@ use Rattle.sm_wire.specs.declared.frame_state.FrameState.{FrameState}
 use Rattle.sm_wire.specs.declared.reload_header.ReloadHeader.{ReloadHeader}
 use Rattle.sm_wire.specs.declared.request.Request.{Request}
 use Rattle.sm_wire.specs.Grammar.{request_of, header_of}
-use Rattle.sm_wire.specs.Giving.{Appended, header_in}
+use Rattle.sm_wire.specs.Giving.{Appended, Keeps, header_in}
 use Rattle.sm_wire.specs.Items.{Makes, line_end, text_start}
+
+pub keeps_same : (old new : List Item) → new ≡ old → Keeps old new
+keeps_same old new is = ([], is ∙ sym (append-nil old))
+
+pub keeps_more : (old mid new more : List Item) → Keeps old mid → new ≡ mid ++ more → Keeps old new
+keeps_more old mid new more (front, is) more_is =
+    (front ++ more, more_is ∙ ap (λ l. l ++ more) is ∙ append_assoc old front more)
+
+pub keeps_then : (old mid new : List Item) → Keeps old mid → Keeps mid new → Keeps old new
+keeps_then old mid new kept (more, is) = keeps_more old mid new more kept is
+
+pub kept_front : (old new : List Item) → Keeps old new → take (length old) new ≡ old
+kept_front old new (more, is) = rw is (take-append_seam old more)
 
 at_end : (old : List Item) (x : Item) → slice_get (old ++ x ∷ []) (length old) ≡ Some x
 at_end [] x = refl

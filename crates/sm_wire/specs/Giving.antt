@@ -13,12 +13,16 @@ abbrev pub Appended : Option Request → List Item → List Item → Type 0
 Appended (Some request) old new = new ≡ old ++ Asked request ∷ []
 Appended None old new = ⊥
 
--- The request of the grammar was appended, and `Malformed` means that there is none, and nothing was appended; out of
--- memory may come for any bytes.
+-- The request of the grammar was appended. `Malformed` means that there is none. Out of memory may come for any bytes.
+-- After an error nothing was appended.
 abbrev pub Gives : Result (Unit {0}) ReadError → List Item → List Item → Option Request → Type 0
 Gives (Ok x) old new o = Appended o old new
 Gives (Err Malformed) old new o = (o ≡ None) × (new ≡ old)
-Gives (Err Memory) old new o = Unit {0}
+Gives (Err Memory) old new o = new ≡ old
+
+-- Some items may have been appended.
+abbrev pub Keeps : List Item → List Item → Type 0
+Keeps old new = (more : List Item) × (new ≡ old ++ more)
 
 -- This is the header of an item's `reload` request, if the item has one.
 abbrev pub header_in : Option Item → Option ReloadHeader

@@ -1,8 +1,8 @@
 //! Cuts bytes into items.
 
-ghost use Rattle.std.specs.Prelude.{◌≡◌, ◌≤◌, ◌+◌, ◌++◌, ◌∷◌, [], length, drop, slice_get, IfOk, OnOk};
+ghost use Rattle.std.specs.Prelude.{◌≡◌, ◌≤◌, ◌+◌, ◌++◌, ◌∷◌, [], length, drop, slice_get, IfOk, OnOk, OnErr};
 ghost use Rattle.sm_wire.specs.Items.{Makes, policy_item, scan_start, text_start, line_end, scan_after, items_after};
-ghost use Rattle.sm_wire.specs.Giving.{header_in};
+ghost use Rattle.sm_wire.specs.Giving.{header_in, Keeps};
 ghost use Rattle.sm_wire.specs.Ends.{IsWhole, whole_step, never_items};
 
 use crate::ends::{End, item_end};
@@ -30,6 +30,7 @@ pub struct Remainder {
 }
 
 /// Cuts bytes that begin with an item, and appends their items.
+#[tactic(auto, using(crate::proofs::GivingLemmas::keeps_same))]
 pub fn cut(
     kind: Kind,
     mode: FrameState,
@@ -42,6 +43,7 @@ pub fn cut(
         ≡ record { kind = kind; mode = c.mode; held = drop c.start bytes.now }) }
     ensures items { IfOk result (λ _. items.new.items
         ≡ items.old.items ++ items_after (record { kind = kind; mode = mode; held = [] }) bytes.now) }
+    ensures err { OnErr result (Keeps items.old.items items.new.items) }
 {
     let mut mode = mode;
     let mut start = 0;
@@ -73,14 +75,16 @@ pub fn lone_item(
     items: &mut VecDeque<Item>,
 ) -> Result<FrameState, AllocError>
     requires { IsWhole mode bytes.now }
-    ensures { IfOk result (λ m. Makes (whole_step kind mode bytes.now) kind m [] items.old.items items.new.items) }
+    ensures item { IfOk result (λ m. Makes (whole_step kind mode bytes.now) kind m [] items.old.items items.new.items) }
+    ensures err { OnErr result (items.new.items ≡ items.old.items) }
 {
     whole_item(kind, mode, bytes, recent, items)
 }
 
 /// Reports a line that is too long, once.
 pub fn end_stream(mode: FrameState, items: &mut VecDeque<Item>) -> Result<(), AllocError>
-    ensures { OnOk result (items.new.items ≡ items.old.items ++ never_items mode) }
+    ensures item { OnOk result (items.new.items ≡ items.old.items ++ never_items mode) }
+    ensures err { OnErr result (items.new.items ≡ items.old.items) }
 {
     match mode {
         FrameState::Dead => Ok(()),
@@ -101,7 +105,8 @@ fn whole_item(
     items: &mut VecDeque<Item>,
 ) -> Result<FrameState, AllocError>
     requires { IsWhole mode bytes.now }
-    ensures { IfOk result (λ m. Makes (whole_step kind mode bytes.now) kind m [] items.old.items items.new.items) }
+    ensures item { IfOk result (λ m. Makes (whole_step kind mode bytes.now) kind m [] items.old.items items.new.items) }
+    ensures err { OnErr result (items.new.items ≡ items.old.items) }
 {
     match mode {
         FrameState::Line => line(kind, &bytes[..bytes.len() - 1], recent, items),
@@ -120,8 +125,9 @@ fn texts(
     items: &mut VecDeque<Item>,
 ) -> Result<FrameState, AllocError>
     requires { length bytes.now ≡ header.rules + header.contexts }
-    ensures { IfOk result
+    ensures item { IfOk result
         (λ m. Makes (scan_start kind, policy_item header bytes.now ∷ []) kind m [] items.old.items items.new.items) }
+    ensures err { OnErr result (items.new.items ≡ items.old.items) }
 {
     let item = policy(alloc, header, bytes)?;
     items.push_back(item)?;
@@ -136,7 +142,8 @@ fn line(
     recent: &mut RecentNames,
     items: &mut VecDeque<Item>,
 ) -> Result<FrameState, AllocError>
-    ensures { IfOk result (λ m. Makes (line_end kind line.now) kind m [] items.old.items items.new.items) }
+    ensures item { IfOk result (λ m. Makes (line_end kind line.now) kind m [] items.old.items items.new.items) }
+    ensures err { OnErr result (items.new.items ≡ items.old.items) }
 {
     items.reserve(1)?;
     let count = items.len();
@@ -186,7 +193,8 @@ fn texts_begin(
     header: ReloadHeader,
     items: &mut VecDeque<Item>,
 ) -> Result<FrameState, AllocError>
-    ensures { IfOk result (λ m. Makes (text_start kind header) kind m [] items.old.items items.new.items) }
+    ensures item { IfOk result (λ m. Makes (text_start kind header) kind m [] items.old.items items.new.items) }
+    ensures err { OnErr result (items.new.items ≡ items.old.items) }
 {
     if header.rules > TEXT_LIMIT || header.contexts > TEXT_LIMIT {
         items.push_back(Item::LineTooLong)?;

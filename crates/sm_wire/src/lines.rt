@@ -3,6 +3,7 @@
 ghost use Rattle.std.specs.Prelude.{◌≡◌, ◌≤◌, ◌↔◌, ◌++◌, IfOk, OnOk, OnErr, IsTrue, vec_len, length, drop};
 ghost use Rattle.sm_wire.specs.Items.{has_rest, IsAlive, IsDead, scan_start, scan_after, items_after};
 ghost use Rattle.sm_wire.specs.Ends.{EndsAs, Overfull};
+ghost use Rattle.sm_wire.specs.Giving.{Keeps};
 ghost use Rattle.sm_wire.specs.declared.ends.End.TheVariants.{At};
 
 use crate::ends::{End, item_end};
@@ -90,33 +91,38 @@ impl Lines {
         }
     }
 
-    /// Appends the items that end in the next piece, as `feed` returns them. After an error some of them may be there.
+    /// Appends the items that end in the next piece, as `feed` returns them. After an error nothing has changed.
+    #[tactic(auto, using(crate::proofs::GivingLemmas::kept_front))]
     pub fn feed_into(&mut self, piece: &[u8], items: &mut VecDeque<Item>) -> Result<(), FeedError>
         ensures items { OnOk result (items.new.items ≡ items.old.items ++ items_after self.old piece.now) }
         ensures scan { OnOk result (self.new ≡ scan_after self.old piece.now) }
         ensures dead { (result ≡ Err FeedError.LineTooLong) ↔ IsDead self.old }
-        ensures err { OnErr result (self.new ≡ self.old) }
+        ensures err { OnErr result ((self.new ≡ self.old) × (items.new.items ≡ items.old.items)) }
     {
         if self.is_dead() {
             return Err(FeedError::LineTooLong);
         }
         let held = self.held.len();
+        let count = items.len();
         match self.take_piece(piece, items) {
             Ok(()) => Ok(()),
             Err(e) => {
                 self.held.truncate(held);
+                items.truncate(count);
                 Err(FeedError::from(e))
             }
         }
     }
 
-    // Appends the items that end in the piece. After an error the held bytes are still there, perhaps with more after
-    // them.
+    // Appends the items that end in the piece. After an error the held bytes and the items are still there, perhaps with
+    // more after them.
+    #[tactic(auto, using(crate::proofs::GivingLemmas::keeps_same))]
     fn take_piece(&mut self, piece: &[u8], items: &mut VecDeque<Item>) -> Result<(), AllocError>
         requires { IsAlive self.old }
         ensures items { OnOk result (items.new.items ≡ items.old.items ++ items_after self.old piece.now) }
         ensures scan { OnOk result (self.new ≡ scan_after self.old piece.now) }
         ensures err { OnErr result (Overfull self.old self.new) }
+        ensures kept { OnErr result (Keeps items.old.items items.new.items) }
     {
         match item_end(self.mode, self.held.len(), piece) {
             End::At(n) => self.take_end(piece, n, items),
@@ -132,6 +138,7 @@ impl Lines {
 
     // The same, if the held item ends after the first `n` bytes of the piece. Items that are whole in the rest of the
     // piece are read in place.
+    #[tactic(auto, using(crate::proofs::GivingLemmas::keeps_same, crate::proofs::GivingLemmas::keeps_more, crate::proofs::GivingLemmas::keeps_then))]
     fn take_end(
         &mut self,
         piece: &[u8],
@@ -142,6 +149,7 @@ impl Lines {
         ensures items { OnOk result (items.new.items ≡ items.old.items ++ items_after self.old piece.now) }
         ensures scan { OnOk result (self.new ≡ scan_after self.old piece.now) }
         ensures err { OnErr result (Overfull self.old self.new) }
+        ensures kept { OnErr result (Keeps items.old.items items.new.items) }
     {
         let held = self.held.len();
         self.held.extend_from_slice(&piece[..n])?;

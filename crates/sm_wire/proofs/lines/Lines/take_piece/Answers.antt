@@ -28,11 +28,11 @@ returns-in_ok-end_stream-in-Never-clause-items c = rw (← c.self.view_is)
     (piece_never c.self.inside.kind c.self.inside.mode
     c.self.inside.held.items c.args.piece.now c.clear.new.self.items _ _ (rw (← c.self.view_is) at c.requires)
     (rw (c.len.ensures ∙ c.self.inside.held.ok.0) at c.in-Never.ensures) c.clear.ensures.items
-    c.in_ok-end_stream-in-Never.ensures).1
+    c.in_ok-end_stream-in-Never.ensures.item).1
 
 pub returns-in_ok-end_stream-in-Never-clause-scan : goal.returns-in_ok-end_stream-in-Never-clause-scan
 returns-in_ok-end_stream-in-Never-clause-scan c = rw (← c.self.view_is)
     (piece_never c.self.inside.kind c.self.inside.mode
     c.self.inside.held.items c.args.piece.now c.clear.new.self.items _ _ (rw (← c.self.view_is) at c.requires)
     (rw (c.len.ensures ∙ c.self.inside.held.ok.0) at c.in-Never.ensures) c.clear.ensures.items
-    c.in_ok-end_stream-in-Never.ensures).0
+    c.in_ok-end_stream-in-Never.ensures.item).0
