@@ -1,4 +1,4 @@
-use Rattle.std.proofs.Common.{◌-◌, ◌×◌, length}
+use Rattle.std.proofs.Common.{◌-◌, length}
 use Rattle.sm_wire.proofs.FramingLemmas.{Far}
 use Rattle.sm_wire.specs.Giving.{Keeps}
 use Rattle.sm_wire.proofs.framing.cut.Given as goal
