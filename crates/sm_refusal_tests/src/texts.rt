@@ -137,9 +137,9 @@ fn cut(rt: &impl Abort, alloc: Global) -> Option<()> {
     queues(rt, &mut lines, &mut VecDeque::new(alloc))
 }
 
-/// Ends the half line and appends a whole one. A refusal leaves the queue empty.
+/// Ends the half line and reads a whole one, whose name needs memory. A refusal leaves the queue empty.
 fn queues(rt: &impl Abort, lines: &mut Lines, items: &mut VecDeque<Item>) -> Option<()> {
-    match lines.feed_into(b"sion\nversion\n", items) {
+    match lines.feed_into(b"sion\nget activity\n", items) {
         Ok(()) => {
             assert!(rt; items.len() == 2);
             Some(())
