@@ -7,7 +7,7 @@ use Rattle.sm_history.specs.declared.by.By.{By}
 use Rattle.sm_history.specs.declared.entry.Entry.{Entry}
 use Rattle.sm_history.specs.declared.records.Record.{Record}
 use Rattle.sm_history.specs.Histories.{History, turn_of}
-use Rattle.sm_history.specs.Records.{IsTrueSince}
+use Rattle.sm_history.specs.Records.{IsTrueOnce}
 use Rattle.sm_history.specs.Segments.{admins_of, sealed}
 use Rattle.sm_history.proofs.Beginnings.{begins_sealed}
 use Rattle.sm_history.proofs.LaterRecords.{stays_true}
@@ -57,6 +57,6 @@ kept_sealed places h h' turns turns' s ring k some is turns_are admins_are = rw 
   turns_are = turns_are;
   admins_are = admins_are;
   stands = stands_sealed h s k.stands;
-  true_records = All-weaker (IsTrueSince h) (IsTrueSince (sealed h))
-      (λ r t. stays_true (sealed h) h r (begins_sealed h) t) ring k.true_records;
+  true_records = All-weaker (IsTrueOnce places h) (IsTrueOnce places (sealed h))
+      (λ r t. stays_true places (sealed h) h r (begins_sealed places h) t) ring k.true_records;
 })

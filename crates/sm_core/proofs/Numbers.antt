@@ -68,7 +68,7 @@ pub numbers_after : (places : ℕ) (h : History) (s : State) (e : Entry) (xs : L
     → (s.principals.version + sets_in xs < GREATEST) × (s.next + connects_in xs < GREATEST)
 numbers_after places h s e xs lawful stands done sound is may =
     let d = effects_of h in
-    let lawful' : IsLawful places (entered e h) = inr (lawful, done, sound) in
+    let lawful' : IsLawful places (entered e h) = inr (lawful, (done, sound)) in
     let fits = (numbers_fit places (entered e h) lawful').lengths in
     let version = version_small places (entered e h) lawful' in
     let next = next_small places (entered e h) lawful' in

@@ -152,7 +152,7 @@ viewed_more places h turns r len principals principals' services services' base 
     let e = r.entry in
     let d = effects_of h in
     let sound = sound_lawful places h v.lawful in record {
-      lawful = inr (v.lawful, coming.done, coming.sound);
+      lawful = inr (v.lawful, (coming.done, coming.sound));
       fits = fits_any places h e.by e.turn e.event e.outcome sound v.fits coming.done;
       few = v.few;
       length_is = let was = v.length_is in omega (arith, was);

@@ -26,9 +26,9 @@ module _ (b after : Book) (old new : Knows) (event : Event) (sees : Sees old aft
   logged_done o v goes left = record {
     before = b;
     begins = before_change b old.seen (entry_made old.by (turn old) event o)
-        (subst (λ (x : Book). Begins x old.seen) (sees.1 ∙ goes) sees.0.begins)
+        (subst (λ (x : Book). Begins x old.seen) (sees.is ∙ goes) sees.grows.begins)
         (done_in_turn b.places b.history old.by (turn old) event o (sym v));
-    ends = sees.1 ∙ goes;
+    ends = sees.is ∙ goes;
     records = left;
   }
 
@@ -39,8 +39,8 @@ module _ (b after : Book) (old new : Knows) (event : Event) (sees : Sees old aft
   settled r m same s left =
       let is : after ≡ b = ⊎_elim (λ t. t.1) (λ t. t.1) s in record {
         before = b;
-        begins = subst (λ (x : Book). Begins x old.seen) (sees.1 ∙ is) sees.0.begins;
-        ends = sees.1 ∙ is ∙ same;
+        begins = subst (λ (x : Book). Begins x old.seen) (sees.is ∙ is) sees.grows.begins;
+        ends = sees.is ∙ is ∙ same;
         records = left;
       }
 

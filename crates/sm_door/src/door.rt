@@ -17,7 +17,7 @@ ghost use Rattle.sm_core.specs.Opening.{opened, opening_denial};
 ghost use Rattle.sm_history.specs.Promises.{Submitted, Accepted, Queried, Joined, TellsRecords, Turned, Closed};
 ghost use Rattle.sm_history.specs.Promises.{NotClosed};
 ghost use Rattle.sm_history.specs.PossibleReplies.{OfConnect, OfLeave, OfInstall};
-ghost use Rattle.sm_history.specs.Tokens.{Grows, token};
+ghost use Rattle.sm_history.specs.Tokens.{Sees, token};
 ghost use Rattle.sm_history.specs.declared.limits.TheConstants.{MOST_CLIENTS};
 ghost use Rattle.sm_door.specs.declared.opening.TheConstants.{ADMINS};
 ghost use Rattle.sm_door.specs.Logged.{Logged, ReadLogged};
@@ -38,8 +38,7 @@ use crossbeam_utils::Backoff;
 use left_right::Absorb;
 use sm_core::{Manager, View};
 use sm_history::{
-    By, Event, Failure, Gate, Query, Record, Refusal, Reply, Segment, connected, installed,
-    is_death, left, moves,
+    Event, Failure, Gate, Query, Record, Refusal, Reply, Segment, installed, is_death, left,
 };
 use sm_kinds::{Class, Identity, Name, Perms, Places};
 use sm_policy::Prepared;
@@ -140,29 +139,12 @@ impl<J: Naming, G: Gate + Drop> Door<J, G> {
     ) -> Result<Session<J>, (Refusal, Seat<J>)>
         ensures { MatchResult result (λ s. Joined seat s who) (λ r. OfConnect r.0 × Turned seat r.1 who r.0) }
     {
-        let mut seat = seat;
         let mut guard = self.lock(rt);
         self.gate.inside();
         let locked = &mut *guard;
-        let due = locked.turn(By::Manager);
-        let (reply, _records) = locked.step(rt, By::Manager, due, Event::Connect(who));
-        match connected(reply) {
-            Ok(client) => {
-                seat.actor.see(rt, locked);
-                let turn = locked.turn(By::Client(client));
-                MutexGuard::unlock(guard);
-                Ok(seat.into_session(client, turn))
-            }
-            Err(Refusal::Memory) => {
-                MutexGuard::unlock(guard);
-                Err((Refusal::Memory, seat))
-            }
-            Err(refusal) => {
-                seat.actor.see(rt, locked);
-                MutexGuard::unlock(guard);
-                Err((refusal, seat))
-            }
-        }
+        let answer = locked.connect(rt, seat, who);
+        MutexGuard::unlock(guard);
+        answer
     }
 
     /// Judges an event of this actor, and makes it if it is accepted. Returns the event's audit records with the
@@ -175,14 +157,9 @@ impl<J: Naming, G: Gate + Drop> Door<J, G> {
         let mut guard = self.lock(rt);
         self.gate.inside();
         let locked = &mut *guard;
-        let (reply, records) = locked.step(rt, me.by(), me.due(), event);
-        if !moves(&reply) {
-            MutexGuard::unlock(guard);
-            return (reply, records);
-        }
-        me.see(rt, locked);
+        let answer = locked.act(rt, me, event);
         MutexGuard::unlock(guard);
-        (reply, records)
+        answer
     }
 
     /// Judges an event of a client, and makes it if it is accepted. A death can't be submitted (`NotYours`): it is a
@@ -258,24 +235,16 @@ impl<J: Naming, G: Gate + Drop> Door<J, G> {
         }
     }
 
-    /// Returns the newest records of denials, at most 1,024, oldest first. Each that was made in the segment that the
-    /// token sees now is true of it. Returns an error if an allocation failed; the token then stays as it is.
+    /// Returns the newest records of denials, at most 1,024, oldest first. Each is true of a lawful history with which
+    /// the one begins that the token sees now. Returns an error if an allocation failed; the token then stays as it is.
     pub fn denials<R: Wait>(&self, rt: &R, me: &mut Admin<J>) -> Result<Vec<Record>, AllocError>
         ensures { MatchResult result (λ v. TellsRecords me.old me.new v.items) (λ _. me.new ≡ me.old) }
     {
         let guard = self.lock(rt);
         let locked = &*guard;
-        match locked.records() {
-            Ok(records) => {
-                me.actor.see(rt, locked);
-                MutexGuard::unlock(guard);
-                Ok(records)
-            }
-            Err(error) => {
-                MutexGuard::unlock(guard);
-                Err(error)
-            }
-        }
+        let records = locked.denials(rt, &mut me.actor);
+        MutexGuard::unlock(guard);
+        records
     }
 
     /// Closes the open segment, and returns it. The token then sees the next segment, without changes. `Empty` if there
@@ -283,56 +252,37 @@ impl<J: Naming, G: Gate + Drop> Door<J, G> {
     pub fn seal<R: Wait>(&self, rt: &R, me: &mut Admin<J>) -> Result<Segment, Refusal>
         ensures { MatchResult result (λ s. Closed me.old me.new s) (λ r. NotClosed me.old me.new r) }
     {
-        self.seal_for(rt, &mut me.actor)
-    }
-
-    fn seal_for<R: Wait>(&self, rt: &R, me: &mut Actor<J>) -> Result<Segment, Refusal>
-        ensures { MatchResult result (λ s. Closed me.old me.new s) (λ r. NotClosed me.old me.new r) }
-    {
         let mut guard = self.lock(rt);
         self.gate.inside();
         let locked = &mut *guard;
-        me.see(rt, locked);
-        match locked.seal(rt) {
-            Ok(segment) => {
-                me.see(rt, locked);
-                MutexGuard::unlock(guard);
-                Ok(segment)
-            }
-            Err(refusal) => {
-                MutexGuard::unlock(guard);
-                Err(refusal)
-            }
-        }
+        let segment = locked.seal(rt, &mut me.actor);
+        MutexGuard::unlock(guard);
+        segment
     }
 
     /// Shows both sessions the whole history, so the answers of one come before the next answer of the other.
     pub fn meet<R: Wait>(&self, rt: &R, one: &mut Session<J>, other: &mut Session<J>)
-        ensures one { Grows one.old one.new }
-        ensures other { Grows other.old other.new }
-        ensures same { one.new.seen ≡ other.new.seen }
+        ensures one { Sees one.old one.new.seen one.new }
+        ensures other { Sees other.old one.new.seen other.new }
     {
         self.bring(rt, &mut one.actor, &mut other.actor);
     }
 
     /// Shows an administrator and a session the whole history, as in `meet`.
     pub fn meet_admin<R: Wait>(&self, rt: &R, one: &mut Admin<J>, other: &mut Session<J>)
-        ensures one { Grows one.old one.new }
-        ensures other { Grows other.old other.new }
-        ensures same { one.new.seen ≡ other.new.seen }
+        ensures one { Sees one.old one.new.seen one.new }
+        ensures other { Sees other.old one.new.seen other.new }
     {
         self.bring(rt, &mut one.actor, &mut other.actor);
     }
 
     fn bring<R: Wait>(&self, rt: &R, one: &mut Actor<J>, other: &mut Actor<J>)
-        ensures one { Grows one.old one.new }
-        ensures other { Grows other.old other.new }
-        ensures same { one.new.seen ≡ other.new.seen }
+        ensures one { Sees one.old one.new.seen one.new }
+        ensures other { Sees other.old one.new.seen other.new }
     {
         let guard = self.lock(rt);
         let locked = &*guard;
-        one.see(rt, locked);
-        other.see(rt, locked);
+        locked.meet(rt, one, other);
         MutexGuard::unlock(guard);
     }
 

@@ -1,24 +1,35 @@
 //! What is under the lock: the manager, and the publisher of its views.
 
-ghost use Rattle.std.specs.Prelude.{◌≡◌, ◌≤◌, length, IfOk, MatchResult};
+ghost use Rattle.std.specs.Prelude.{◌≡◌, ◌≤◌, ◌<◌, length, IfOk, MatchResult};
 ghost use Rattle.std.specs.List.{All};
 ghost use Rattle.left_right.specs.Sides.{view as place_view};
 ghost use Rattle.sm_audit.specs.declared.ring.TheConstants.{MOST_RECORDS};
 ghost use Rattle.sm_core.specs.Managed.{ring_after, step_leaves};
 ghost use Rattle.sm_core.specs.Readying.{IsReady};
 ghost use Rattle.sm_core.specs.SealReady.{IsReadySeal};
-ghost use Rattle.sm_history.specs.Histories.{turn_of};
-ghost use Rattle.sm_history.specs.Records.{IsTrueSince};
+ghost use Rattle.sm_history.specs.declared.outcome.Outcome.TheVariants.{Connected};
+ghost use Rattle.sm_history.specs.declared.reply.Reply.TheVariants.{Done, Refused};
+ghost use Rattle.sm_history.specs.Histories.{client_of, turn_of};
+ghost use Rattle.sm_history.specs.Records.{IsTrueOnce};
 ghost use Rattle.sm_history.specs.BookOrder.{Begins, IsLawfulBook, extended, sealed_book};
+ghost use Rattle.sm_history.specs.PossibleReplies.{OfConnect};
+ghost use Rattle.sm_history.specs.Promises.{Submitted, Joined, Turned, TellsRecords, Closed, NotClosed};
 ghost use Rattle.sm_history.specs.Steps.{Steps, ClosesSegment, StaysOpen};
+ghost use Rattle.sm_history.specs.Tokens.{Sees, turn};
+ghost use Rattle.sm_door.specs.Locked.{Connects};
+ghost use Rattle.sm_door.specs.Logged.{Logged};
 
+use crate::actor::Actor;
 use crate::published::{Published, ViewReader};
 use crate::publisher::Publisher;
 use crate::registry::Naming;
+use crate::seat::Seat;
+use crate::session::Session;
 use crate::shared_view::SharedView;
 use left_right::Absorb;
 use sm_core::{Manager, Ready, ReadySeal, View};
-use sm_history::{By, Event, Record, Refusal, Reply, Segment};
+use sm_history::{By, Event, Record, Refusal, Reply, Segment, connected, moves};
+use sm_kinds::Identity;
 use std::alloc::{AllocError, Global};
 use std::marker::Model;
 use std::sync::{Arc, Wait};
@@ -94,9 +105,125 @@ impl<J: Naming> LockedManager<J> {
         }
     }
 
+    /// Judges an event of an actor at its turn, and makes it if it is accepted: this is the one step of the manager. The
+    /// token then sees the history that answered, unless an allocation failed or the event isn't its actor's. Returns
+    /// the event's audit records with the answer.
+    pub fn act<R: Wait>(
+        &mut self,
+        rt: &R,
+        me: &mut Actor<J>,
+        event: Event,
+    ) -> (Reply, Vec<Record>)
+        ensures steps { Steps self.old.book me.old.by (turn me.old) event result.0 self.new.book }
+        ensures ring { self.new.ring
+            ≡ ring_after self.old.ring self.old.book me.old.by (turn me.old) event result.0 }
+        ensures submitted { Submitted me.old me.new event result.0 }
+        ensures logged { Logged me.old me.new event result.0 result.1.items }
+        ensures by { me.new.by ≡ me.old.by }
+    {
+        let (reply, records) = self.step_of(rt, me, event);
+        if !moves(&reply) {
+            return (reply, records);
+        }
+        me.see(rt, self);
+        (reply, records)
+    }
+
+    /// Connects a process, by a change of the manager's, which is the one step. The seat sees the history before it. On
+    /// error (`TooManyClients`, `JournalFull` or `Memory`) the seat comes back, and no change was made.
+    pub fn connect<R: Wait>(
+        &mut self,
+        rt: &R,
+        seat: Seat<J>,
+        who: Identity,
+    ) -> Result<Session<J>, (Refusal, Seat<J>)>
+        ensures steps { MatchResult result
+            (λ s. Connects self.old who (Done (Connected (record { 0 = client_of s.by }))) self.new)
+            (λ r. Connects self.old who (Refused r.0) self.new) }
+        ensures joined { MatchResult result (λ s. Joined seat s who) (λ r. OfConnect r.0 × Turned seat r.1 who r.0) }
+    {
+        let mut seat = seat;
+        seat.actor.see(rt, self);
+        let due = self.turn(By::Manager);
+        let (reply, _records) = self.step(rt, By::Manager, due, Event::Connect(who));
+        match connected(reply) {
+            Ok(client) => {
+                seat.actor.see(rt, self);
+                let turn = self.turn(By::Client(client));
+                Ok(seat.into_session(client, turn))
+            }
+            Err(refusal) => Err((refusal, seat)),
+        }
+    }
+
+    /// Closes the open segment, and returns it. The token sees the history before the seal, and then the next segment.
+    ///
+    /// # Errors
+    ///
+    /// `Empty` if the segment has no changes, `Memory` if an allocation failed. Nothing is closed then.
+    pub fn seal<R: Wait>(&mut self, rt: &R, me: &mut Actor<J>) -> Result<Segment, Refusal>
+        ensures seals { MatchResult result (λ s. ClosesSegment self.old.book s self.new.book)
+            (λ r. StaysOpen self.old.book r self.new.book) }
+        ensures ring { self.new.ring ≡ self.old.ring }
+        ensures closed { MatchResult result (λ s. Closed me.old me.new s) (λ r. NotClosed me.old me.new r) }
+    {
+        me.see(rt, self);
+        match self.close_segment(rt) {
+            Ok(segment) => {
+                me.see(rt, self);
+                Ok(segment)
+            }
+            Err(refusal) => Err(refusal),
+        }
+    }
+
+    /// Returns the records of the ring, at most 1,024, oldest first. The token then sees the whole history; each record
+    /// is true of a lawful history with which this one begins. On error nothing has changed.
+    pub fn denials<R: Wait>(
+        &self,
+        rt: &R,
+        me: &mut Actor<J>,
+    ) -> Result<Vec<Record>, AllocError>
+        ensures { MatchResult result (λ v. (v.items ≡ self.now.ring) × TellsRecords me.old me.new v.items)
+            (λ _. me.new ≡ me.old) }
+    {
+        match self.records() {
+            Ok(records) => {
+                me.see(rt, self);
+                Ok(records)
+            }
+            Err(error) => Err(error),
+        }
+    }
+
+    /// Shows two tokens the whole history.
+    pub fn meet<R: Wait>(&self, rt: &R, one: &mut Actor<J>, other: &mut Actor<J>)
+        ensures one { Sees one.old self.now.book one.new }
+        ensures other { Sees other.old self.now.book other.new }
+    {
+        one.see(rt, self);
+        other.see(rt, self);
+    }
+
+    /// One step of the manager at an actor's turn, as `step`.
+    fn step_of<R: Wait>(&mut self, rt: &R, me: &Actor<J>, event: Event) -> (Reply, Vec<Record>)
+        ensures steps { Steps self.old.book me.now.by (turn me.now) event result.0 self.new.book }
+        ensures ring { self.new.ring
+            ≡ ring_after self.old.ring self.old.book me.now.by (turn me.now) event result.0 }
+        ensures records { result.1.items ≡ step_leaves self.old.book me.now.by (turn me.now) event result.0 }
+    {
+        self.step(rt, me.by(), me.due(), event)
+    }
+
     /// One step of the manager, with the audit records that it adds to the ring. A change is published before it is
     /// committed: if it can't be published, nothing is committed and the answer is `Memory`.
-    pub fn step<R: Wait>(&mut self, rt: &R, by: By, turn: u64, event: Event) -> (Reply, Vec<Record>)
+    fn step<R: Wait>(
+        &mut self,
+        rt: &R,
+        by: By,
+        turn: u64,
+        event: Event,
+    ) -> (Reply, Vec<Record>)
         ensures answers { Steps self.old.book by turn event result.0 self.new.book }
         ensures ring { self.new.ring ≡ ring_after self.old.ring self.old.book by turn event result.0 }
         ensures records { result.1.items ≡ step_leaves self.old.book by turn event result.0 }
@@ -112,11 +239,7 @@ impl<J: Naming> LockedManager<J> {
     }
 
     /// Closes the open segment, and returns it. What follows it is published first: if that fails, nothing is closed.
-    ///
-    /// # Errors
-    ///
-    /// `Empty` if the segment has no changes, `Memory` if an allocation failed.
-    pub fn seal<R: Wait>(&mut self, rt: &R) -> Result<Segment, Refusal>
+    fn close_segment<R: Wait>(&mut self, rt: &R) -> Result<Segment, Refusal>
         ensures seals { MatchResult result (λ s. ClosesSegment self.old.book s self.new.book)
             (λ r. StaysOpen self.old.book r self.new.book) }
         ensures ring { self.new.ring ≡ self.old.ring }
@@ -140,15 +263,12 @@ impl<J: Naming> LockedManager<J> {
         self.manager.turn(by)
     }
 
-    /// The newest records, at most 1,024, oldest first. Each that was made in the open segment is true of the history.
-    ///
-    /// # Errors
-    ///
-    /// `AllocError` if an allocation failed.
-    pub fn records(&self) -> Result<Vec<Record>, AllocError>
+    /// The newest records, at most 1,024, oldest first. Each is true of a lawful history with which this one begins.
+    fn records(&self) -> Result<Vec<Record>, AllocError>
         ensures all { IfOk result (λ v. v.items ≡ self.now.ring) }
         ensures few { IfOk result (λ v. length v.items ≤ MOST_RECORDS) }
-        ensures true_records { IfOk result (λ v. All (IsTrueSince self.now.book.history) v.items) }
+        ensures true_records { IfOk result
+            (λ v. All (IsTrueOnce self.now.book.places self.now.book.history) v.items) }
     {
         self.manager.lawful();
         self.manager.records()
@@ -158,6 +278,7 @@ impl<J: Naming> LockedManager<J> {
     pub fn inform<R: Wait>(&self, rt: &R, reader: ViewReader<J>) -> ViewReader<J>
         ensures seen { (place_view result.place).seen ≡ self.now.book }
         ensures begins { Begins self.now.book (place_view reader.place).seen }
+        ensures entered { (place_view reader.place).reads < (place_view result.place).reads }
     {
         self.publisher.inform(rt, reader)
     }

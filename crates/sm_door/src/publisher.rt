@@ -1,6 +1,6 @@
 //! Publication: the shared view that readers find, and the writer that replaces it.
 
-ghost use Rattle.std.specs.Prelude.{◌≡◌, None, Some, MatchResult};
+ghost use Rattle.std.specs.Prelude.{◌≡◌, ◌<◌, None, Some, MatchResult};
 ghost use Rattle.std.specs.Arc.{arc_value};
 ghost use Rattle.left_right.specs.Sides.{view as place_view};
 ghost use Rattle.sm_history.specs.BookOrder.{Begins};
@@ -125,6 +125,7 @@ impl<J: Naming> Publisher<J> {
     pub(crate) fn inform<R: Wait>(&self, rt: &R, mut reader: ViewReader<J>) -> ViewReader<J>
         ensures seen { (place_view result.place).seen ≡ self.now }
         ensures begins { Begins self.now (place_view reader.place).seen }
+        ensures entered { (place_view reader.place).reads < (place_view result.place).reads }
     {
         for _ in rt.forever() {
             match reader.enter_as::<Sees>() {

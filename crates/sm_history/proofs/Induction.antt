@@ -38,7 +38,7 @@ holds_after P holds places number o [] ((a, l, is), fits) =
     rw is (holds.resumes number a l (holds_apart P holds a l))
 holds_after P holds places number o (e ∷ es) (inl (first, is, none, opens)) =
     rw (first, is, none) (holds.opens e opens)
-holds_after P holds places number o (e ∷ es) (inr (before, done, ok)) =
+holds_after P holds places number o (e ∷ es) (inr (before, (done, ok))) =
     let h : History = record { number = number; opening = o; entries = es } in
     holds.goes_on e h (met (effects_of h) (turn_of h e.by) e.by e.turn e.event
     (Wants (has_place places h (client_of e.by) e.event) (Refused JournalFull) ∷ []) e.outcome done)

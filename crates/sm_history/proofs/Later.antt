@@ -14,7 +14,7 @@ use Rattle.sm_history.specs.Histories.{History, entered, effects_of, length_of, 
 use Rattle.sm_history.specs.Verdict.{is_there}
 use Rattle.sm_history.specs.Segments.{is_admin, admins_after, admins_of, client, actors_of, sealed}
 use Rattle.sm_history.specs.Lawful.{IsLawful}
-use Rattle.sm_history.specs.Beginning.{Move, Made, Seals, gone_on, BeginsWith, IsLater}
+use Rattle.sm_history.specs.Beginning.{Move, Made, Seals, gone_on, AreJudged, BeginsWith, IsLater}
 use Rattle.sm_history.proofs.Living.{any_live}
 use Rattle.sm_history.proofs.RowsBack.{live_back}
 use Rattle.sm_history.proofs.SoundHistory.{live_or_new}
@@ -24,6 +24,7 @@ use Rattle.sm_history.proofs.HistoryLaws.{no_turns}
 use Rattle.sm_history.proofs.TurnRows.{turn_rows}
 use Rattle.sm_history.proofs.SegmentReads.{any_client, with_more, with_own, rows_case}
 use Rattle.sm_history.proofs.Beginnings.{numbers_rise}
+use Rattle.sm_history.proofs.NumbersFit.{sealed_lawful}
 
 lengths_rise : (h : History) (ms : List Move) → length_of h ≤ length_of (gone_on h ms)
 lengths_rise h [] = omega arith
@@ -150,5 +151,16 @@ later_on places old ms l = record {
 }
 
 -- No number, length, version or turn of who is there goes back.
-pub later : (places : ℕ) (new old : History) → IsLawful places old → BeginsWith new old → IsLater new old
+pub later : (places : ℕ) (new old : History) → IsLawful places old → BeginsWith places new old → IsLater new old
 later places new old l b = subst (λ (h : History). IsLater h old) (sym b.is) (later_on places old b.moves l)
+
+lawful_on : (places : ℕ) (old : History) (ms : List Move) → IsLawful places old → AreJudged places old ms
+    → IsLawful places (gone_on old ms)
+lawful_on places old [] l judged = l
+lawful_on places old (Made e ∷ ms) l judged = inr (lawful_on places old ms l judged.1, judged.0)
+lawful_on places old (Seals ∷ ms) l judged = sealed_lawful places (gone_on old ms) (lawful_on places old ms l judged)
+
+-- What begins with a lawful history is lawful.
+pub later_lawful : (places : ℕ) (new old : History) → IsLawful places old → BeginsWith places new old
+    → IsLawful places new
+later_lawful places new old l b = subst (IsLawful places) (sym b.is) (lawful_on places old b.moves l b.judged)

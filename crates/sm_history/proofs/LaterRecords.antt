@@ -1,8 +1,6 @@
--- Every lawful manager was opened, and what is true of a history stays true of the histories that begin with it.
-use Rattle.std.proofs.Common.{inl, inr, ◌≡◌, ℕ, ◌+◌, ◌-◌, ◌≤◌, true, List, [], ◌∷◌, length, drop, refl, ap, sym, ◌∙◌}
-use Rattle.std.proofs.Common.{subst, arith}
+-- Every lawful manager was opened, and records that were true once stay so.
+use Rattle.std.proofs.Common.{◌≡◌, ℕ, true, List, [], ◌∷◌, refl, sym, subst}
 use Rattle.std.specs.List.{All, list_any}
-use Rattle.std.proofs.Math.Seq.{drop-append-add}
 use Rattle.std.proofs.lemmas.Bool.{or_right}
 use Rattle.sm_history.specs.declared.by.By.{By}
 use Rattle.sm_history.specs.declared.entry.Entry.{Entry}
@@ -10,25 +8,21 @@ use Rattle.sm_history.specs.declared.event.Event.{Event}
 use Rattle.sm_history.specs.declared.records.Record.{Record}
 use Rattle.sm_history.specs.Effects.{Effect, Effects, Watch, Opens, Sets, Connects, Dies, Adds, Gives, Releases}
 use Rattle.sm_history.specs.Effects.{Watches, Delivers}
-use Rattle.sm_kinds.specs.declared.identity.Identity.{Identity}
-use Rattle.sm_history.specs.declared.denial.Denial.{Denial}
-use Rattle.sm_history.specs.declared.denial.Denial.TheVariants.{Rule, App, Isolated}
-use Rattle.sm_history.specs.Clients.{version_at, next_client, policy_at, is_opening, is_opened}
+use Rattle.sm_history.specs.Clients.{next_client, is_opening, is_opened}
 use Rattle.sm_history.specs.Holdings.{resolve_at, node_at}
-use Rattle.sm_history.specs.Histories.{History, whole, entered, length_of, client_of, effects_of, after_event, found}
+use Rattle.sm_history.specs.Histories.{History, whole, client_of, effects_of, after_event, found}
 use Rattle.sm_history.specs.Histories.{service}
-use Rattle.sm_history.specs.Segments.{sealed}
 use Rattle.sm_history.specs.declared.event.Event.TheVariants.{Connect, Add, Release, Die}
 use Rattle.sm_history.specs.Rows.{LiveRow, HeldRow, NamedRow, WaitingRow, Rows, rows_at, put_all, put_live, put_named}
 use Rattle.sm_history.specs.Rows.{put_held, put_watch, put_waiting, live_put, names_put, held_put, watches_put, resumed}
 use Rattle.sm_history.specs.Lawful.{IsLawful, IsOpening}
-use Rattle.sm_history.specs.Beginning.{Move, Made, Seals, gone_on, BeginsWith}
-use Rattle.sm_history.specs.Records.{records, prefix_at, Stands, IsDeniedBy, IsTrueOf, IsTrueSince}
+use Rattle.sm_history.specs.Beginning.{BeginsWith}
+use Rattle.sm_history.specs.Records.{records, IsTrueOf, IsTrueOnce}
 use Rattle.sm_history.proofs.Induction.{holds_lawful}
 use Rattle.sm_history.proofs.Keeps.{LeftToKeep, event_keeps}
 use Rattle.sm_history.proofs.PutRows.{kept_times}
-use Rattle.sm_history.proofs.RowsBack.{live_back, who_back, policy_back, manager_back}
-use Rattle.sm_history.proofs.TrueRecords.{prefix_now, true_now, event_records_true}
+use Rattle.sm_history.proofs.Beginnings.{begins_through}
+use Rattle.sm_history.proofs.TrueRecords.{event_records_true}
 
 -- ---- the manager of a lawful history was opened
 
@@ -82,57 +76,12 @@ pub records_true : (places : ℕ) (h : History) (by : By) (turn : ℕ) (event : 
     → All (IsTrueOf h) (records places h by turn event)
 records_true places h by turn event l = event_records_true places h by turn event (opened_lawful places h l)
 
--- ---- longer histories
-
--- The history at a length that it has stays when it goes on.
-prefix_more : (e : Entry) (h : History) (n : ℕ) → n ≤ length_of h → prefix_at (entered e h) n ≡ prefix_at h n
-prefix_more e h n le =
-    let more : (h.opening.length + length (e ∷ h.entries)) - n ≡ length (e ∷ []) + (length_of h - n) =
-    omega (arith, le) in
-    ap (λ (es : List Entry). let g : History = record { number = h.number; opening = h.opening; entries = es } in g)
-    (ap (λ (k : ℕ). drop k (e ∷ h.entries)) more ∙ drop-append-add (e ∷ []) h.entries (length_of h - n))
-
-true_more : (e : Entry) (h : History) (r : Record) → IsTrueOf h r → IsTrueOf (entered e h) r
-true_more e h r t =
-    let same = sym (prefix_more e h r.length t.within) in record {
-      behind = t.behind;
-      within = let le = t.within in omega (arith, le);
-      version = t.version ∙ ap (λ (g : History). version_at (effects_of g)) same;
-      stands = subst (λ (g : History). Stands (effects_of g) r.who) same t.stands;
-      denied = subst (λ (g : History). IsDeniedBy (effects_of g) r r.denial) same t.denied;
-    }
-
--- ---- seals
-
-stands_back : (d : Effects) (who : Identity) → Stands d who → Stands (resumed (rows_at d)) who
-stands_back d who (inl (opened, is)) = inl (opened_rows (rows_at d), is ∙ manager_back d)
-stands_back d who (inr (c, live, is)) = inr (c, live_back d c ∙ live, is ∙ who_back d c live)
-
-denied_alike : (d e : Effects) (r : Record) (x : Denial) → policy_at d ≡ policy_at e → IsDeniedBy d r x
-    → IsDeniedBy e r x
-denied_alike d e r (Rule s t class perm) same (target, is, source, of, unwritten, passed) =
-    (target, is, source, of, rw (← same) unwritten, rw (← same) passed)
-denied_alike d e r (App uid) same denied = denied
-denied_alike d e r (Isolated uid) same denied = denied
-
-true_sealed : (h : History) (r : Record) → length_of h ≤ r.length → IsTrueOf h r → IsTrueOf (sealed h) r
-true_sealed h r le t =
-    let within = t.within in
-    let at : r.length ≡ length_of h = omega (arith, le, within) in
-    let now : prefix_at h r.length ≡ h = ap (prefix_at h) at ∙ prefix_now h in
-    let d = effects_of h in
-    true_now (sealed h) r (omega (arith, at)) (t.version ∙ ap (λ (g : History). version_at (effects_of g)) now)
-    (stands_back d r.who (subst (λ (g : History). Stands (effects_of g) r.who) now t.stands))
-    (denied_alike d (resumed (rows_at d)) r r.denial (policy_back d)
-    (subst (λ (g : History). IsDeniedBy (effects_of g) r r.denial) now t.denied))
-
-stays_on : (old : History) (moves : List Move) (r : Record) → IsTrueSince old r → IsTrueSince (gone_on old moves) r
-stays_on old [] r t le = t le
-stays_on old (Made e ∷ moves) r t le = true_more e (gone_on old moves) r (stays_on old moves r t le)
-stays_on old (Seals ∷ moves) r t le =
-    let h = gone_on old moves in
-    true_sealed h r le (stays_on old moves r t (omega (arith, le)))
-
--- What is kept of a record is true of every history that begins with the one of which it was true.
-pub stays_true : (new old : History) (r : Record) → BeginsWith new old → IsTrueSince old r → IsTrueSince new r
-stays_true new old r b t = subst (λ (h : History). IsTrueSince h r) (sym b.is) (stays_on old b.moves r t)
+-- A record that was true once of a history was true once of those that begin with it.
+pub stays_true : (places : ℕ) (new old : History) (r : Record) → BeginsWith places new old → IsTrueOnce places old r
+    → IsTrueOnce places new r
+stays_true places new old r b t = record {
+  at = t.at;
+  lawful = t.lawful;
+  begins = begins_through places new old t.at b t.begins;
+  is = t.is;
+}

@@ -24,7 +24,10 @@ module _ (Of : Reply → Type 0) (old new : Knows) (event : Event) (memory : Of 
   not_made r s =
       ⊎_elim
       (λ t. subst Of (sym t.0) memory)
+      (λ t. ⊎_elim
+      (λ n. subst Of (sym n.verdict_is) (verdicts old.seen))
       (λ k. subst Of (sym k.verdict_is) (verdicts new.seen))
+      t)
       s
 
   of_submitted : (r : Reply) → Submitted old new event r → Of r

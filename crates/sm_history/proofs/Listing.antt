@@ -194,7 +194,7 @@ lists_after : (places number : ℕ) (o : Opening) (es : List Entry) → AreLawfu
 lists_after places number o [] l = record { deliveries = refl; numbers = refl; clients = refl }
 lists_after places number o (e ∷ es) (inl (first, is, none, (who, policy, opens, may, ok))) =
     rw (first, is, none, opens) (record { deliveries = refl; numbers = refl; clients = refl })
-lists_after places number o (e ∷ es) (inr (before, done, ok)) =
+lists_after places number o (e ∷ es) (inr (before, (done, ok))) =
     let h : History = record { number = number; opening = o; entries = es } in
     let d = effects_of h in
     let c = client_of e.by in

@@ -142,7 +142,7 @@ fits_after : (places number : ℕ) (o : Opening) (es : List Entry) → AreLawful
     → FitsNumbers (record { number = number; opening = o; entries = es })
 fits_after places number o [] (left, fits) = fits
 fits_after places number o (e ∷ es) (inl (first, is, none, opens)) = rw (first, is, none) (opening_fits e opens)
-fits_after places number o (e ∷ es) (inr (before, done, ok)) =
+fits_after places number o (e ∷ es) (inr (before, (done, ok))) =
     let h : History = record { number = number; opening = o; entries = es } in
     numbers_case places h e (sound_lawful places h before) (fits_after places number o es before) done
     (death_or e.event)

@@ -49,7 +49,7 @@ is_next places h e l done ok =
     let c = client_of e.by in
     let last = Wants (has_place places h c e.event) (Refused JournalFull) ∷ [] in
     let m = met d (turn_of h e.by) e.by e.turn e.event last e.outcome done in
-    let after = numbers_fit places (entered e h) (inr (l, done, ok)) in
+    let after = numbers_fit places (entered e h) (inr (l, (done, ok))) in
     let small = first_part (length_of h) _ GREATEST (numbers_fit places h l).lengths in
     record {
       done = record {
@@ -96,7 +96,7 @@ pub has_begun : (places number : ℕ) (o : Opening) (es : List Entry) (r : Repla
     → StartsFrom o r → HasCome places number o [] r
 has_begun places number o [] r (left, fits) s = (inr (left, fits), starts_left number o r left s)
 has_begun places number o (e ∷ es) r (inl (first, is, none, opens)) s = (inl (is, refl), starts_nothing number o r is s)
-has_begun places number o (e ∷ es) r (inr (before, done, ok)) s = has_begun places number o es r before s
+has_begun places number o (e ∷ es) r (inr (before, (done, ok))) s = has_begun places number o es r before s
 
 -- ---- one entry more
 
@@ -123,9 +123,9 @@ pub comes_on : (places number : ℕ) (o : Opening) (e : Entry) (es : List Entry)
     → HasCome places number o (e ∷ es) r'
 comes_on places number o e es r r' (inl (first, is, none, opens)) one (come, tr) =
     (inr (inl (first, is, none, opens)), opened number o e es r r' is none opens one tr)
-comes_on places number o e es r r' (inr (before, done, ok)) one (come, tr) =
+comes_on places number o e es r r' (inr (before, (done, ok))) one (come, tr) =
     let h : History = record { number = number; opening = o; entries = es } in (
-      inr (inr (before, done, ok)),
+      inr (inr (before, (done, ok))),
       one h (sound_lawful places h before) tr (is_next places h e before done ok),
     )
 
@@ -139,7 +139,7 @@ pub lawful_older : (places number : ℕ) (o : Opening) (zs : List Entry) (e : En
     → AreLawful places number o (zs ++ e ∷ es) → AreLawful places number o (e ∷ es)
 lawful_older places number o [] e es l = l
 lawful_older places number o (z ∷ zs) e es (inl (first, is, none, opens)) = absurd (not_behind zs e es none)
-lawful_older places number o (z ∷ zs) e es (inr (before, done, ok)) = lawful_older places number o zs e es before
+lawful_older places number o (z ∷ zs) e es (inr (before, (done, ok))) = lawful_older places number o zs e es before
 
 -- ---- the rows
 

@@ -163,7 +163,7 @@ pub grown_from : (places number : ℕ) (o : Opening) (es : List Entry) → AreLa
     → ((o ≡ blank_opening) × AreLawfulApart es) ⊎ Grown o es
 grown_from places number o [] ((a, l, is), fits) = inr (record { before = a; lawful = l; opens = is; grown = l })
 grown_from places number o (e ∷ es) (inl (first, is, none, opens)) = inl (is, rw none opens)
-grown_from places number o (e ∷ es) (inr (before, done, ok)) =
+grown_from places number o (e ∷ es) (inr (before, (done, ok))) =
     let h : History = record { number = number; opening = o; entries = es } in
     let apart : verdict_apart h e.by e.turn e.event ≡ Done e.outcome =
     less_checked (effects_of h) (turn_of h e.by) e.by e.turn e.event

@@ -1,11 +1,12 @@
 -- What it means that a history begins with another.
-use Rattle.std.specs.Prelude.{◌≡◌, ◌≤◌, true, List, [], ◌∷◌, ◌++◌}
+use Rattle.std.specs.Prelude.{ℕ, ◌≡◌, ◌≤◌, true, List, [], ◌∷◌, ◌++◌}
 use Rattle.sm_history.specs.declared.by.By.{By}
 use Rattle.sm_history.specs.declared.entry.Entry.{Entry}
 use Rattle.sm_history.specs.Clients.{next_client, version_at}
 use Rattle.sm_history.specs.Histories.{History, entered, effects_of, length_of, turn_of}
 use Rattle.sm_history.specs.Verdict.{is_there}
 use Rattle.sm_history.specs.Segments.{sealed}
+use Rattle.sm_history.specs.Lawful.{IsJudged}
 
 -- A history goes on by a change or by a seal.
 pub data Move : Type 0 where
@@ -18,10 +19,18 @@ gone_on h [] = h
 gone_on h (Made e ∷ moves) = entered e (gone_on h moves)
 gone_on h (Seals ∷ moves) = sealed (gone_on h moves)
 
--- The history `new` begins with the history `old` if moves lead from `old` to `new`.
-pub record BeginsWith (new old : History) : Type 0 where
+-- Each change among these moves is judged by the history before it.
+abbrev pub AreJudged : ℕ → History → List Move → Type 0
+AreJudged places h [] = Unit {0}
+AreJudged places h (Made e ∷ moves) = IsJudged places e (gone_on h moves) × AreJudged places h moves
+AreJudged places h (Seals ∷ moves) = AreJudged places h moves
+
+-- The history `new` begins with the history `old` if moves lead from `old` to `new`, and each change among them is
+-- judged by the history before it, with this number of journal slots.
+pub record BeginsWith (places : ℕ) (new old : History) : Type 0 where
   pub moves : List Move
   pub is : new ≡ gone_on old moves
+  pub judged : AreJudged places old moves
 
 -- Both are one segment, and `new` has the entries of `old` and newer ones, which come first in its list.
 pub record IsLonger (new old : History) : Type 0 where

@@ -19,7 +19,7 @@ sealed_book b = record { places = b.places; history = sealed b.history }
 -- other.
 pub record Begins (new old : Book) : Type 0 where
   pub places : new.places ≡ old.places
-  pub history : BeginsWith new.history old.history
+  pub history : BeginsWith new.places new.history old.history
 
 -- A book's history is lawful with its slots.
 abbrev pub IsLawfulBook : Book → Type 0

@@ -10,14 +10,14 @@ use Rattle.sm_history.specs.Holdings.{node_at, free_number}
 use Rattle.sm_history.specs.Histories.{History, entered, effects_of, length_of, turn_of}
 use Rattle.sm_history.specs.Verdict.{verdict}
 use Rattle.sm_history.specs.Segments.{client, sealed}
-use Rattle.sm_history.specs.Lawful.{IsLawful, FitsPlaces, FitsNumbers, HasSoundPolicy}
+use Rattle.sm_history.specs.Lawful.{IsLawful, IsJudged, FitsPlaces, FitsNumbers}
 use Rattle.sm_history.specs.Sound.{Sound}
 use Rattle.sm_history.specs.Beginning.{BeginsWith, IsLonger, IsLater}
 use Rattle.std.specs.List.{All}
 use Rattle.sm_history.specs.declared.event.Event.{Event}
 use Rattle.sm_history.specs.declared.query.Query.{Query}
 use Rattle.sm_history.specs.declared.records.Record.{Record}
-use Rattle.sm_history.specs.Records.{records, query_records, IsTrueOf, IsTrueSince}
+use Rattle.sm_history.specs.Records.{records, query_records, IsTrueOf, IsTrueOnce}
 
 -- The effects of a lawful history are sound.
 abbrev pub LawfulAreSound : Type 0
@@ -40,8 +40,8 @@ FreeNumbersAreFree = (d : Effects) (c : ℕ) → is_none (node_at d c (free_numb
 
 -- A lawful history stays lawful by a change that is done.
 abbrev pub DoneIsLawful : Type 0
-DoneIsLawful = (places : ℕ) (h : History) (e : Entry) → IsLawful places h
-    → verdict places h e.by e.turn e.event ≡ Done e.outcome → HasSoundPolicy e.event → IsLawful places (entered e h)
+DoneIsLawful = (places : ℕ) (h : History) (e : Entry) → IsLawful places h → IsJudged places e h
+    → IsLawful places (entered e h)
 
 -- Such a change keeps the slots for the deaths to come.
 abbrev pub DoneFits : Type 0
@@ -63,27 +63,34 @@ SealedFits = (places : ℕ) (h : History) → IsLawful places h → FitsPlaces p
 
 -- A history begins with itself.
 abbrev pub BeginsWithItself : Type 0
-BeginsWithItself = (h : History) → BeginsWith h h
+BeginsWithItself = (places : ℕ) (h : History) → BeginsWith places h h
 
--- A history begins with the one before its last change.
+-- A history begins with the one before its last change, which was judged by it.
 abbrev pub BeginsWithTheOneBefore : Type 0
-BeginsWithTheOneBefore = (e : Entry) (h : History) → BeginsWith (entered e h) h
+BeginsWithTheOneBefore = (places : ℕ) (e : Entry) (h : History) → IsJudged places e h
+    → BeginsWith places (entered e h) h
 
 -- A segment begins with the history that was sealed.
 abbrev pub BeginsWithTheOneSealed : Type 0
-BeginsWithTheOneSealed = (h : History) → BeginsWith (sealed h) h
+BeginsWithTheOneSealed = (places : ℕ) (h : History) → BeginsWith places (sealed h) h
 
 -- A history begins with each history that a beginning of it begins with.
 abbrev pub BeginsWithItsBeginnings : Type 0
-BeginsWithItsBeginnings = (g h k : History) → BeginsWith g h → BeginsWith h k → BeginsWith g k
+BeginsWithItsBeginnings = (places : ℕ) (g h k : History) → BeginsWith places g h → BeginsWith places h k
+    → BeginsWith places g k
 
 -- If both are one segment, only changes came between them.
 abbrev pub SegmentsGrow : Type 0
-SegmentsGrow = (new old : History) → BeginsWith new old → new.number ≡ old.number → IsLonger new old
+SegmentsGrow = (places : ℕ) (new old : History) → BeginsWith places new old → new.number ≡ old.number
+    → IsLonger new old
+
+-- A history that begins with a lawful one is lawful.
+abbrev pub LaterIsLawful : Type 0
+LaterIsLawful = (places : ℕ) (new old : History) → IsLawful places old → BeginsWith places new old → IsLawful places new
 
 -- Numbers, lengths, versions, and the turns of actors that are there, don't get less in a later history.
 abbrev pub LaterIsMore : Type 0
-LaterIsMore = (places : ℕ) (new old : History) → IsLawful places old → BeginsWith new old → IsLater new old
+LaterIsMore = (places : ℕ) (new old : History) → IsLawful places old → BeginsWith places new old → IsLater new old
 
 -- The records of an event are true of the history in which it is judged.
 abbrev pub RecordsAreTrue : Type 0
@@ -94,6 +101,7 @@ RecordsAreTrue = (places : ℕ) (h : History) (by : By) (turn : ℕ) (event : Ev
 abbrev pub QueryRecordsAreTrue : Type 0
 QueryRecordsAreTrue = (h : History) (by : By) (q : Query) → All (IsTrueOf h) (query_records h by q)
 
--- A kept record stays true in every history that begins with the one of which it was true.
+-- A record that was true once of a history was true once of every history that begins with it.
 abbrev pub RecordsStayTrue : Type 0
-RecordsStayTrue = (new old : History) (r : Record) → BeginsWith new old → IsTrueSince old r → IsTrueSince new r
+RecordsStayTrue = (places : ℕ) (new old : History) (r : Record) → BeginsWith places new old → IsTrueOnce places old r
+    → IsTrueOnce places new r

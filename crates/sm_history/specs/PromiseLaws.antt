@@ -20,6 +20,7 @@ use Rattle.sm_history.specs.Beginning.{IsLonger, IsLater}
 use Rattle.sm_history.specs.Books.{Book}
 use Rattle.sm_history.specs.Clients.{version_at, identity_at, is_live, next_client}
 use Rattle.sm_history.specs.Histories.{History, effects_of, length_of, turn_of}
+use Rattle.sm_history.specs.Lawful.{IsJudged}
 use Rattle.sm_history.specs.Segments.{sealed}
 use Rattle.sm_history.specs.Verdict.{verdict, is_there}
 use Rattle.sm_history.specs.BookOrder.{Begins, IsLawfulBook, extended, sealed_book}
@@ -34,9 +35,9 @@ use Rattle.sm_history.specs.Tokens.{Knows, Grows, Sees, token, turn}
 abbrev pub BookBeginsWithItself : Type 0
 BookBeginsWithItself = (b : Book) → Begins b b
 
--- A book begins with the one before its last change.
+-- A book begins with the one before its last change, which was judged by it.
 abbrev pub BookBeginsWithTheOneBefore : Type 0
-BookBeginsWithTheOneBefore = (b : Book) (e : Entry) → Begins (extended b e) b
+BookBeginsWithTheOneBefore = (b : Book) (e : Entry) → IsJudged b.places e b.history → Begins (extended b e) b
 
 -- A book begins with the one that was sealed.
 abbrev pub BookBeginsWithTheOneSealed : Type 0
@@ -60,6 +61,10 @@ BeginningIsBefore = (b o : Book) (e : Entry) → Begins (extended b e) o
 -- nor the number of changes of an actor that is there.
 abbrev pub NothingGoesBack : Type 0
 NothingGoesBack = (new old : Book) → IsLawfulBook old → Begins new old → IsLater new.history old.history
+
+-- A book that begins with a lawful one is lawful.
+abbrev pub LaterBookIsLawful : Type 0
+LaterBookIsLawful = (new old : Book) → IsLawfulBook old → Begins new old → IsLawfulBook new
 
 -- If both books have the same segment, it has the same opening, and its newer changes come after the older ones.
 abbrev pub SegmentGoesOn : Type 0
@@ -125,8 +130,8 @@ StepIsSubmitted = (b after : Book) (old new : Knows) (event : Event) (reply : Re
 
 -- If the answer moves no token, the promise holds for the token as it is.
 abbrev pub UnseenIsSubmitted : Type 0
-UnseenIsSubmitted = (b after : Book) (old : Knows) (event : Event) (reply : Reply) → IsLawfulBook old.seen
-    → moves reply ≡ false → Steps b old.by (turn old) event reply after → Submitted old old event reply
+UnseenIsSubmitted = (b after : Book) (old : Knows) (event : Event) (reply : Reply) → moves reply ≡ false
+    → Steps b old.by (turn old) event reply after → Submitted old old event reply
 
 -- A client's Die has one of its possible answers.
 abbrev pub LeaveIsAnswered : Type 0
@@ -148,18 +153,18 @@ abbrev pub PlaceSeesAlike : Type 0
 PlaceSeesAlike = (old new : Knows) (b : Book) (by : By) → Sees old b new
     → Sees (token by old.seen old.reads) b (token by new.seen new.reads)
 
--- A slot of the new client that sees the book after the step is a session that has joined.
+-- A seat that sees the book before the step and the one after it, and then is the new client's, is a session that has
+-- joined.
 abbrev pub ConnectJoins : Type 0
-ConnectJoins = (b after : Book) (old seat : Knows) (who : Identity) (due : ℕ) (c : ClientId)
+ConnectJoins = (b after : Book) (old between seat : Knows) (who : Identity) (due : ℕ) (c : ClientId)
     → due ≡ turn_of b.history Manager → Steps b Manager due (Connect who) (Done (Connected c)) after
-    → Sees old after seat → Joined old (token (Client c) seat.seen seat.reads) who
+    → Sees old b between → Sees between after seat → Joined old (token (Client c) seat.seen seat.reads) who
 
--- A seat that sees the book that refused is turned away; if an allocation failed, it stays as it is.
+-- A seat that sees the book before a step that was refused is turned away.
 abbrev pub ConnectTurns : Type 0
 ConnectTurns = (b after : Book) (old new : Knows) (who : Identity) (due : ℕ) (refusal : Refusal)
     → due ≡ turn_of b.history Manager → Steps b Manager due (Connect who) (Refused refusal) after
-    → ((refusal ≡ Memory) × (new ≡ old)) ⊎ ((refusal ≢ Memory) × Sees old after new)
-    → Turned old new who refusal
+    → Sees old b new → Turned old new who refusal
 
 -- ---- seals
 

@@ -1,5 +1,5 @@
 -- What each call promises of the token with which it is made.
-use Rattle.std.specs.Prelude.{true, ◌≡◌, ◌≢◌, ℕ, ◌+◌, ◌≤◌, ◌⊎◌, List, [], All, length}
+use Rattle.std.specs.Prelude.{true, ◌≡◌, ◌≢◌, ℕ, ◌+◌, ◌≤◌, ◌<◌, ◌⊎◌, List, [], All, length}
 use Rattle.sm_kinds.specs.declared.identity.Identity.{Identity}
 use Rattle.sm_history.specs.declared.by.By.{By}
 use Rattle.sm_history.specs.declared.by.By.TheVariants.{Manager, Client}
@@ -11,13 +11,13 @@ use Rattle.sm_history.specs.declared.query.Query.{Query}
 use Rattle.sm_history.specs.declared.records.Record.{Record}
 use Rattle.sm_history.specs.declared.refusal.Refusal.{Refusal}
 use Rattle.sm_history.specs.declared.refusal.Refusal.TheVariants.{Failed, Memory, NoSeat, Empty}
-use Rattle.sm_history.specs.declared.refusal.Failure.TheVariants.{OutOfTurn}
+use Rattle.sm_history.specs.declared.refusal.Failure.TheVariants.{NotYours, OutOfTurn}
 use Rattle.sm_history.specs.declared.reply.Reply.{Reply}
 use Rattle.sm_history.specs.declared.reply.Reply.TheVariants.{Done, GotNull, GotOwn, Looked, Sealed, Refused}
 use Rattle.sm_history.specs.Books.{Book}
 use Rattle.sm_history.specs.Histories.{History, turn_of}
 use Rattle.sm_history.specs.Queries.{query_verdict}
-use Rattle.sm_history.specs.Records.{IsTrueSince}
+use Rattle.sm_history.specs.Records.{IsTrueOnce}
 use Rattle.sm_history.specs.Verdict.{verdict}
 use Rattle.sm_history.specs.BookOrder.{Begins, IsLawfulBook, extended, sealed_book}
 use Rattle.sm_history.specs.PossibleReplies.{tells_turn, takes_memory}
@@ -30,6 +30,7 @@ use Rattle.sm_history.specs.Tokens.{Knows, Grows, turn}
 -- outcome is the verdict of the history before the change, which begins with all that the token had seen.
 pub record Accepted (old new : Knows) (event : Event) (outcome : Outcome) : Type 0 where
   pub grows : Grows old new
+  pub entered : old.reads < new.reads
   pub before : Book
   pub begins : Begins before old.seen
   pub ends : new.seen ≡ extended before (entry_made old.by (turn old) event outcome)
@@ -40,13 +41,22 @@ pub record Accepted (old new : Knows) (event : Event) (outcome : Outcome) : Type
 -- this actor as before; or another number, which is in the answer; or the actor isn't connected any more.
 pub record NotDone (old new : Knows) (event : Event) (reply : Reply) : Type 0 where
   pub grows : Grows old new
+  pub entered : old.reads < new.reads
   pub verdict_is : reply ≡ verdict new.seen.places new.seen.history old.by (turn old) event
   pub same_turn : tells_turn reply ≡ true → turn new ≡ turn old
   pub out_of_turn : (have : ℕ) → reply ≡ Refused (Failed (OutOfTurn have)) → (have ≡ turn new) × (have ≢ turn old)
 
--- No change was made: an allocation failed, and the token stays as it is; or the event wasn't done.
+-- The event isn't its actor's. Each history refuses it so, and the token stays as it is.
+pub record IsNotIts (old new : Knows) (event : Event) (reply : Reply) : Type 0 where
+  pub reply_is : reply ≡ Refused (Failed NotYours)
+  pub verdict_is : reply ≡ verdict old.seen.places old.seen.history old.by (turn old) event
+  pub same : new ≡ old
+
+-- No change was made: an allocation failed, and the token stays as it is; or the event isn't its actor's; or it wasn't
+-- done.
 abbrev pub NotMade : Knows → Knows → Event → Reply → Type 0
-NotMade old new event reply = ((reply ≡ Refused Memory) × (new ≡ old)) ⊎ NotDone old new event reply
+NotMade old new event reply =
+    ((reply ≡ Refused Memory) × (new ≡ old)) ⊎ (IsNotIts old new event reply ⊎ NotDone old new event reply)
 
 -- This is what a token knows after its actor's event was answered.
 abbrev pub Submitted : Knows → Knows → Event → Reply → Type 0
@@ -70,9 +80,12 @@ Queried old new q reply =
     ((reply ≡ Refused NoSeat) × (new ≡ old))
     ⊎ (Grows old new × (new.reads ≡ old.reads + 1) × Looks new.seen old.by q reply)
 
--- There are at most 1,024 records, and each that was made in the segment that the token sees now is true of it.
-abbrev pub TellsRecords : Knows → Knows → List Record → Type 0
-TellsRecords old new records = Grows old new × (length records ≤ 1024) × All (IsTrueSince new.seen.history) records
+-- There are at most 1,024 records. Each is true of a lawful history with which the one begins that the token sees now.
+pub record TellsRecords (old new : Knows) (records : List Record) : Type 0 where
+  pub grows : Grows old new
+  pub entered : old.reads < new.reads
+  pub few : length records ≤ 1024
+  pub true_records : All (IsTrueOnce new.seen.places new.seen.history) records
 
 -- ---- seals
 
@@ -80,6 +93,7 @@ TellsRecords old new records = Grows old new × (length records ≤ 1024) × All
 -- The token now sees the next segment, which has no change yet.
 pub record Closed (old new : Knows) (segment : History) : Type 0 where
   pub grows : Grows old new
+  pub entered : old.reads < new.reads
   pub before : Book
   pub lawful : IsLawfulBook before
   pub begins : Begins before old.seen
@@ -88,18 +102,21 @@ pub record Closed (old new : Knows) (segment : History) : Type 0 where
   pub opens : new.seen ≡ sealed_book before
 
 -- No segment was closed: an allocation failed, or the segment that the token sees now has no changes.
-abbrev pub NotClosed : Knows → Knows → Refusal → Type 0
-NotClosed old new refusal =
-    Grows old new × ((refusal ≡ Memory) ⊎ ((refusal ≡ Empty) × (new.seen.history.entries ≡ [])))
+pub record NotClosed (old new : Knows) (refusal : Refusal) : Type 0 where
+  pub grows : Grows old new
+  pub entered : old.reads < new.reads
+  pub why : (refusal ≡ Memory) ⊎ ((refusal ≡ Empty) × (new.seen.history.entries ≡ []))
 
 -- ---- connecting
 
 -- The history that the session sees ends with the manager's change that connected its client, and the outcome is the
--- verdict of the history before it. All of it begins with what the seat had seen.
+-- verdict of the history before it, which begins with all that the seat had seen. So the change is a new one.
 pub record Joined (old new : Knows) (who : Identity) : Type 0 where
   pub lawful : IsLawfulBook new.seen
   pub begins : Begins new.seen old.seen
+  pub entered : old.reads < new.reads
   pub before : Book
+  pub begins_before : Begins before old.seen
   pub number : ℕ
   pub by : new.by ≡ Client (record { 0 = number })
   pub ends : new.seen ≡ extended before
@@ -107,10 +124,9 @@ pub record Joined (old new : Knows) (who : Identity) : Type 0 where
   pub verdict_is : verdict before.places before.history Manager (turn_of before.history Manager) (Connect who)
       ≡ Done (Connected (record { 0 = number }))
 
--- The client wasn't connected: an allocation failed, and the seat stays as it is; or this is the verdict of the history
--- that the seat sees now.
-abbrev pub Turned : Knows → Knows → Identity → Refusal → Type 0
-Turned old new who refusal =
-    ((refusal ≡ Memory) × (new ≡ old))
-    ⊎ (Grows old new × (Refused refusal
-    ≡ verdict new.seen.places new.seen.history Manager (turn_of new.seen.history Manager) (Connect who)))
+-- The client wasn't connected: an allocation failed, or this is the verdict of the history that the seat sees now.
+pub record Turned (old new : Knows) (who : Identity) (refusal : Refusal) : Type 0 where
+  pub grows : Grows old new
+  pub entered : old.reads < new.reads
+  pub why : (refusal ≡ Memory) ⊎ (Refused refusal
+      ≡ verdict new.seen.places new.seen.history Manager (turn_of new.seen.history Manager) (Connect who))

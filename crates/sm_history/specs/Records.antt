@@ -24,6 +24,8 @@ use Rattle.sm_history.specs.Notices.{notice_checks, after_notice}
 use Rattle.sm_history.specs.Histories.{History, length_of, client_of, found, service, watch, effects_of}
 use Rattle.sm_history.specs.Verdict.{checks}
 use Rattle.sm_history.specs.Queries.{checks_of_query}
+use Rattle.sm_history.specs.Lawful.{IsLawful}
+use Rattle.sm_history.specs.Beginning.{BeginsWith}
 
 -- ---- the records of checks
 
@@ -134,7 +136,10 @@ pub record IsTrueOf (h : History) (r : Record) : Type 0 where
   pub stands : Stands (effects_of (prefix_at h r.length)) r.who
   pub denied : IsDeniedBy (effects_of (prefix_at h r.length)) r r.denial
 
--- A record is true of a history if it was made in its open segment. Nothing is said of older ones, so kept records stay
--- true over seals.
-abbrev pub IsTrueSince : History → Record → Type 0
-IsTrueSince h r = h.opening.length ≤ r.length → IsTrueOf h r
+-- A record was true once: it is true of some lawful history with which this one begins, in the open segment or in one
+-- that was closed.
+pub record IsTrueOnce (places : ℕ) (h : History) (r : Record) : Type 0 where
+  pub at : History
+  pub lawful : IsLawful places at
+  pub begins : BeginsWith places h at
+  pub is : IsTrueOf at r

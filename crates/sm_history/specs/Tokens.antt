@@ -1,5 +1,5 @@
 -- What a token knows: the history that it has seen.
-use Rattle.std.specs.Prelude.{◌≡◌, ℕ, Option, Some, None}
+use Rattle.std.specs.Prelude.{◌≡◌, ◌≤◌, ◌<◌, ℕ, Option, Some, None}
 use Rattle.sm_history.specs.declared.by.By.{By}
 use Rattle.sm_history.specs.Books.{Book}
 use Rattle.sm_history.specs.Histories.{turn_of}
@@ -24,12 +24,16 @@ abbrev pub at_or : {R K : Type 0} → K → (R → K) → Option R → K
 at_or other value None = other
 at_or other value (Some r) = value r
 
--- What the token sees now is lawful, and begins with all that it had seen.
+-- What the token sees now is lawful, and begins with all that it had seen. It hasn't read less often.
 pub record Grows (old new : Knows) : Type 0 where
   pub by : new.by ≡ old.by
   pub lawful : IsLawfulBook new.seen
   pub begins : Begins new.seen old.seen
+  pub reads : old.reads ≤ new.reads
 
--- The token sees this book now, which is lawful and begins with all that it had seen.
-abbrev pub Sees : Knows → Book → Knows → Type 0
-Sees old b new = Grows old new × (new.seen ≡ b)
+-- The token has read the published history once more at least, and sees this book now. It is lawful, and begins with
+-- all that the token had seen.
+pub record Sees (old : Knows) (b : Book) (new : Knows) : Type 0 where
+  pub grows : Grows old new
+  pub entered : old.reads < new.reads
+  pub is : new.seen ≡ b

@@ -6,7 +6,8 @@ ghost use Rattle.sm_history.specs.LawStatements.{LawfulAreSound, NumbersAreSmall
 ghost use Rattle.sm_history.specs.LawStatements.{FreeNumbersAreFree, DoneIsLawful, DoneFits, NumbersFit};
 ghost use Rattle.sm_history.specs.LawStatements.{SealedIsLawful, SealedFits, BeginsWithItself, BeginsWithTheOneBefore};
 ghost use Rattle.sm_history.specs.LawStatements.{BeginsWithTheOneSealed, BeginsWithItsBeginnings, SegmentsGrow};
-ghost use Rattle.sm_history.specs.LawStatements.{LaterIsMore, RecordsAreTrue, QueryRecordsAreTrue, RecordsStayTrue};
+ghost use Rattle.sm_history.specs.LawStatements.{LaterIsMore, LaterIsLawful, RecordsAreTrue, QueryRecordsAreTrue};
+ghost use Rattle.sm_history.specs.LawStatements.{RecordsStayTrue};
 
 /// A lawful history gives the same verdicts as a segment that begins with the rows of its older part and goes on with
 /// its newer part, except where a journal is full.
@@ -36,7 +37,7 @@ pub fn free_numbers()
     ensures { FreeNumbersAreFree }
 {}
 
-/// A lawful history stays lawful by a change that is done, and keeps journal slots for the deaths to come.
+/// A lawful history stays lawful by a change that it judged, and keeps journal slots for the deaths to come.
 pub fn going_on()
     ensures lawful { DoneIsLawful }
     ensures fits { DoneFits }
@@ -54,8 +55,8 @@ pub fn sealing()
     ensures fits { SealedFits }
 {}
 
-/// "Begins with" is an order. A history comes after the one without its last change, and a segment after the one that
-/// was sealed.
+/// "Begins with" is an order. A history comes after the one that judged its last change, and a segment after the one
+/// that was sealed.
 pub fn beginnings()
     ensures itself { BeginsWithItself }
     ensures before { BeginsWithTheOneBefore }
@@ -63,9 +64,10 @@ pub fn beginnings()
     ensures through { BeginsWithItsBeginnings }
 {}
 
-/// If a history begins with another, none of its numbers, lengths, versions or turns of actors that are still there is
-/// less. If both are one segment, the older one's entries are the oldest of the newer one.
+/// If a history begins with a lawful one, it is lawful, and none of its numbers, lengths, versions or turns of actors
+/// that are still there is less. If both are one segment, the older one's entries are the oldest of the newer one.
 pub fn later()
+    ensures lawful { LaterIsLawful }
     ensures more { LaterIsMore }
     ensures longer { SegmentsGrow }
 {}
@@ -76,8 +78,8 @@ pub fn outcomes()
 {}
 
 /// Each record of an event or a query is true of the lawful history in which it is judged: it has that history's length
-/// and version and a process of it, and no rule grants the access that it records. What a kept record says is true of
-/// every history that begins with that one.
+/// and version and a process of it, and no rule grants the access that it records. A record that was true once stays so
+/// in every history that begins with that one.
 pub fn true_records()
     ensures events { RecordsAreTrue }
     ensures queries { QueryRecordsAreTrue }

@@ -2,17 +2,18 @@
 
 ghost use Rattle.sm_history.specs.PromiseLaws.{BookBeginsWithItself, BookBeginsWithTheOneBefore};
 ghost use Rattle.sm_history.specs.PromiseLaws.{BookBeginsWithTheOneSealed, BookBeginsWithItsBeginnings, ChangeCounts};
-ghost use Rattle.sm_history.specs.PromiseLaws.{BeginningIsBefore, NothingGoesBack, SegmentGoesOn, ClientStays};
+ghost use Rattle.sm_history.specs.PromiseLaws.{BeginningIsBefore, NothingGoesBack, LaterBookIsLawful, SegmentGoesOn};
+ghost use Rattle.sm_history.specs.PromiseLaws.{ClientStays};
 ghost use Rattle.sm_history.specs.PromiseLaws.{SealIsNoChange, DoneIsInTurn, OutOfTurnTellsTurn, OthersAreInTurn};
 ghost use Rattle.sm_history.specs.PromiseLaws.{NotYoursIsAlike, TokenGoesOn, StepIsSubmitted, UnseenIsSubmitted};
 ghost use Rattle.sm_history.specs.PromiseLaws.{LeaveIsAnswered, InstallIsAnswered, ConnectIsAnswered, PlaceSeesAlike};
 ghost use Rattle.sm_history.specs.PromiseLaws.{ConnectJoins, ConnectTurns, SealCloses, OpenIsNotClosed};
 
-/// "Begins with" is an order of books. A book comes after the one without its last change, and after the one that was
-/// sealed. A beginning of a book with as many changes of the last change's actor as there are before that change is a
-/// beginning of the book before it. Compared with its beginnings, a book has no smaller number, length, version or
-/// number of changes of an actor that is there, and within a segment the changes stay as they are. A live client is the
-/// process that it was, in whatever segment.
+/// "Begins with" is an order of books. A book comes after the one that judged its last change, and after the one that
+/// was sealed. A beginning of a book with as many changes of the last change's actor as there are before that change is
+/// a beginning of the book before it. A book that begins with a lawful one is lawful. Compared with its beginnings, a
+/// book has no smaller number, length, version or number of changes of an actor that is there, and within a segment the
+/// changes stay as they are. A live client is the process that it was, in whatever segment.
 pub fn books()
     ensures itself { BookBeginsWithItself }
     ensures before { BookBeginsWithTheOneBefore }
@@ -20,6 +21,7 @@ pub fn books()
     ensures through { BookBeginsWithItsBeginnings }
     ensures counts { ChangeCounts }
     ensures cut { BeginningIsBefore }
+    ensures lawful { LaterBookIsLawful }
     ensures grows { NothingGoesBack }
     ensures segment { SegmentGoesOn }
     ensures client { ClientStays }

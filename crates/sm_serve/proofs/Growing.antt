@@ -51,7 +51,8 @@ grown old new p = record { begins = p.begins; lawful = λ q. p.lawful }
 
 not_made : (old new : Knows) (event : Event) (reply : Reply) → NotMade old new event reply → GoesOn old new
 not_made old new event reply (inl p) = same old new p.1
-not_made old new event reply (inr p) = grown old new p.grows
+not_made old new event reply (inr (inl p)) = same old new p.same
+not_made old new event reply (inr (inr p)) = grown old new p.grows
 
 submitted : (old new : Knows) (event : Event) (reply : Reply) → Submitted old new event reply → GoesOn old new
 submitted old new event (Done outcome) p = grown old new p.grows
@@ -62,8 +63,7 @@ queried old new q reply (inl p) = same old new p.1
 queried old new q reply (inr p) = grown old new p.0
 
 turned : (old new : Knows) (who : Identity) (refusal : Refusal) → Turned old new who refusal → GoesOn old new
-turned old new who refusal (inl p) = same old new p.1
-turned old new who refusal (inr p) = grown old new p.0
+turned old new who refusal p = grown old new p.grows
 
 greets : (old new : Knows) (who : Identity) (reply : Reply) → Greets old who reply new → GoesOn old new
 greets old new who (Done outcome) p = record { begins = p.1.begins; lawful = λ q. p.1.lawful }
@@ -164,7 +164,8 @@ by_same old new e = ap (λ (k : Knows). k.by) e
 
 not_made_by : (old new : Knows) (event : Event) (reply : Reply) → NotMade old new event reply → new.by ≡ old.by
 not_made_by old new event reply (inl p) = by_same old new p.1
-not_made_by old new event reply (inr p) = p.grows.by
+not_made_by old new event reply (inr (inl p)) = by_same old new p.same
+not_made_by old new event reply (inr (inr p)) = p.grows.by
 
 submitted_by : (old new : Knows) (event : Event) (reply : Reply) → Submitted old new event reply → new.by ≡ old.by
 submitted_by old new event (Done outcome) p = p.grows.by
@@ -220,7 +221,7 @@ admin_reads old new (Explain s t class perm) reply p = queried old new (Explain 
 
 admin_seals : (old new : Knows) (reply : Reply) → AdminSeals old reply new → GoesOn old new
 admin_seals old new (Sealed n l) p = grown old new p.3.grows
-admin_seals old new (Refused refusal) p = grown old new p.0
+admin_seals old new (Refused refusal) p = grown old new p.grows
 admin_seals old new _ p = absurd p
 
 admin_replies : (old new : Knows) (request : Request) (reply : Reply) → AdminReplies old request reply new
@@ -236,7 +237,7 @@ admin_line : (old new : Knows) (request : Request) (response : Response) → Adm
     → GoesOn old new
 admin_line old new request (Replied reply) p = admin_replies old new request reply p
 admin_line old new request (PolicyRefused fault) p = absurd p
-admin_line old new request (Denied records) p = grown old new p.1.0
+admin_line old new request (Denied records) p = grown old new p.1.grows
 
 admin_installs : (old new : Knows) (event : Event) (response : Response) → AdminInstalls old event response new
     → GoesOn old new

@@ -28,7 +28,7 @@ text_limit = 4194304
 abbrev pub scan_start : Kind → Scan
 scan_start kind = record { kind = kind; mode = Line; held = [] }
 
--- This is the scan after a line or an header file that was too long.
+-- This is the scan after a line or a header file that was too long.
 abbrev pub scan_dead : Kind → Scan
 scan_dead kind = record { kind = kind; mode = Dead; held = [] }
 
@@ -36,7 +36,7 @@ scan_dead kind = record { kind = kind; mode = Dead; held = [] }
 abbrev pub IsAlive : Scan → Type 0
 IsAlive s = s.mode ≢ Dead
 
--- A line or an header file was too long.
+-- A line or a header file was too long.
 abbrev pub IsDead : Scan → Type 0
 IsDead s = s.mode ≡ Dead
 

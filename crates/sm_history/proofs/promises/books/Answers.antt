@@ -1,5 +1,5 @@
 use Rattle.sm_history.proofs.BookOrder.{book_itself, book_before, book_behind, book_through, one_more, before_change}
-use Rattle.sm_history.proofs.TokensGrow.{no_less, goes_on, no_change}
+use Rattle.sm_history.proofs.TokensGrow.{no_less, stays_lawful, goes_on, no_change}
 use Rattle.sm_history.proofs.Staying.{client_stays}
 use Rattle.sm_history.proofs.promises.books.Goals as goal
 
@@ -20,6 +20,9 @@ returns-clause-counts c = one_more
 
 pub returns-clause-cut : goal.returns-clause-cut
 returns-clause-cut c = before_change
+
+pub returns-clause-lawful : goal.returns-clause-lawful
+returns-clause-lawful c = stays_lawful
 
 pub returns-clause-grows : goal.returns-clause-grows
 returns-clause-grows c = no_less

@@ -1,4 +1,4 @@
-use Rattle.std.proofs.Common.{rules, ◌≡◌, ◌∙◌, ◌+◌, Some, ap, subst, sym}
+use Rattle.std.proofs.Common.{rules, ◌≡◌, ◌∙◌, ◌+◌, Some, ap, subst, sym, arith}
 use Rattle.std.specs.Arc.{arc_value}
 use Rattle.left_right.specs.Sides.{view as place_view}
 use Rattle.sm_history.specs.declared.by.By.{By}
@@ -35,13 +35,16 @@ returns-in-Ok g c =
     let had : c.self.inside.reader ≡ Some c.unwrap.result = search (rules, c.take.ensures, c.unwrap.ensures) in
     let view = rw had at c.self.view_is in
     let was : (place_view c.unwrap.result.place).seen ≡ c.args.self.now.seen = ap (λ (k : Knows). k.seen) view in
-    let by : c.self.inside.by ≡ c.args.self.now.by = ap (λ (k : Knows). k.by) c.self.view_is in (
+    let by : c.self.inside.by ≡ c.args.self.now.by = ap (λ (k : Knows). k.by) c.self.view_is in
+    let one : (place_view c.leave.result.place).reads ≡ c.args.self.now.reads + 1 =
+    ap (λ (k : ReaderKnowledge). k.reads) now ∙ ap (λ (k : Knows). k.reads + 1) view in (
       record {
         by = by;
         lawful = subst IsLawfulBook (found ∙ seen) c.turn-self-inside.ensures.lawful;
         begins = subst (λ (z : Book × Book). Begins z.0 z.1) (λ i. (seen i, was i)) c.in-Ok.ensures.1.0;
+        reads = omega (arith, one);
       },
-      ap (λ (k : ReaderKnowledge). k.reads) now ∙ ap (λ (k : Knows). k.reads + 1) view,
+      one,
       subst (λ (z : Book × By). Looks z.0 z.1 c.args.query c.look_recorded-answered.result.0)
           (λ i. ((looked ∙ seen) i, by i)) c.look_recorded-answered.ensures.looks,
       subst (λ (z : Book × By). c.look_recorded-answered.result.1.items

@@ -1,4 +1,4 @@
-use Rattle.std.proofs.Common.{rules, ◌≡◌, Some, ap, subst, sym}
+use Rattle.std.proofs.Common.{rules, ◌≡◌, Some, ap, subst, sym, arith}
 use Rattle.left_right.specs.Sides.{view as place_view}
 use Rattle.sm_history.specs.Books.{Book}
 use Rattle.sm_history.specs.Histories.{turn_of}
@@ -19,12 +19,18 @@ returns g c =
     in
     let view = rw had at c.self.view_is in
     let was : (place_view c.unwrap-reader.result.place).seen ≡ c.args.self.now.seen =
-    ap (λ (k : Knows). k.seen) view in (
-      record {
+    ap (λ (k : Knows). k.seen) view in
+    let before : (place_view c.unwrap-reader.result.place).reads ≡ c.args.self.now.reads =
+    ap (λ (k : Knows). k.reads) view in
+    let entered = c.inform-reader.ensures.entered in
+    record {
+      grows = record {
         by = ap (λ (k : Knows). k.by) c.self.view_is;
         lawful = subst IsLawfulBook (sym seen) c.turn-self-inside.ensures.lawful;
         begins =
             subst (λ (z : Book × Book). Begins z.0 z.1) (λ i. (sym seen i, was i)) c.inform-reader.ensures.begins;
-      },
-      seen,
-    )
+        reads = omega (arith, entered, before);
+      };
+      entered = omega (arith, entered, before);
+      is = seen;
+    }

@@ -1,13 +1,14 @@
-use Rattle.std.proofs.Common.{rules}
+use Rattle.std.proofs.Common.{rules, ap, ◌∙◌, arith}
 use Rattle.std.specs.Arc.{arc_value}
 use Rattle.left_right.specs.Sides.{view as place_view}
 use Rattle.sm_history.specs.BookOrder.{Begins}
 use Rattle.sm_history.proofs.BookOrder.{book_itself, book_through}
+use Rattle.sm_door.specs.declared.published.ReaderKnowledge.{ReaderKnowledge}
 use Rattle.sm_door.proofs.Places.{enters}
 use Rattle.sm_door.proofs.publisher.Publisher.inform.Goals as goal
 
 pub loop-init : goal.loop-init
-loop-init g c = book_itself _
+loop-init g c = (book_itself _, omega arith)
 
 pub enter_as-requires : goal.enter_as-requires
 enter_as-requires g c x = enters g.J.Naming.opening (λ s. arc_value s.shared_view) _ _ x
@@ -28,10 +29,18 @@ returns-then-found-clause-begins g c =
       c.self.invariant,
       c.self.view_is,
     ) in
-    book_through _ _ _ p c.loop.invariant
+    book_through _ _ _ p c.loop.invariant.0
+
+pub returns-then-found-clause-entered : goal.returns-then-found-clause-entered
+returns-then-found-clause-entered g c =
+    let one = ap (λ (k : ReaderKnowledge). k.reads) (c.leave-reader.ensures.1 ∙ c.in-Ok.ensures.1.1) in
+    let more = c.loop.invariant.1 in
+    omega (arith, one, more)
 
 pub loop-preserved-else-found : goal.loop-preserved-else-found
 loop-preserved-else-found g c =
     let p : Begins (place_view c.leave-reader.result.place).seen (place_view c.loop.reader.place).seen =
     search (rules, c.leave-reader.ensures, c.in-Ok.ensures, c.get.ensures) in
-    book_through _ _ _ p c.loop.invariant
+    let one = ap (λ (k : ReaderKnowledge). k.reads) (c.leave-reader.ensures.1 ∙ c.in-Ok.ensures.1.1) in
+    let more = c.loop.invariant.1 in
+    (book_through _ _ _ p c.loop.invariant.0, omega (arith, one, more))
