@@ -6,12 +6,15 @@ use lib.ListN.{get_elem?}
 use Rattle.crossbeam_utils.specs.Register.{Admits, TurnsAt}
 use Rattle.atomic_table.proofs.Lists.{at_set, at_snoc}
 use Rattle.sm_history.specs.Books.{Book}
-use Rattle.sm_history.specs.Histories.{History, entered}
+use Rattle.sm_kinds.specs.declared.identity.Identity.{Identity}
+use Rattle.sm_history.specs.Histories.{History, entered, turn_of}
 use Rattle.sm_history.specs.Records.{records}
 use Rattle.sm_history.specs.Segments.{sealed}
 use Rattle.sm_history.specs.Verdict.{verdict}
 use Rattle.sm_history.specs.declared.by.By.{By}
+use Rattle.sm_history.specs.declared.by.By.TheVariants.{Manager}
 use Rattle.sm_history.specs.declared.event.Event.{Event}
+use Rattle.sm_history.specs.declared.event.Event.TheVariants.{Connect}
 use Rattle.sm_history.specs.declared.entry.Entry.{Entry}
 use Rattle.sm_history.specs.declared.outcome.Outcome.{Outcome}
 use Rattle.sm_history.specs.declared.records.Record.{Record}
@@ -24,6 +27,7 @@ use Rattle.sm_history.specs.BookOrder.{Begins}
 use Rattle.sm_history.specs.Steps.{Steps, ClosesSegment}
 use Rattle.sm_history.proofs.BookOrder.{book_itself, book_through}
 use Rattle.sm_door.specs.declared.published.ReaderKnowledge.{ReaderKnowledge}
+use Rattle.sm_door.specs.Locked.{Locked, Connects}
 use Rattle.sm_door.specs.Rule.{Keeps, Enters, known}
 
 module _ (o : Book) where
@@ -136,6 +140,16 @@ pub leaves_done : (b : Book) (by : By) (turn : ℕ) (event : Event) (noted : Lis
     → r ≡ Done outcome → noted ≡ records b.places b.history by turn event → noted ≡ step_leaves b by turn event r
 leaves_done b by turn event noted outcome r is left =
     subst (λ (r : Reply). noted ≡ step_leaves b by turn event r) (sym is) left
+
+-- The one step of the manager that connects a process.
+pub connects : (old new : Locked) (who : Identity) (due : ℕ) (r made : Reply) → due ≡ turn_of old.book.history Manager
+    → made ≡ r → Steps old.book Manager due (Connect who) made new.book
+    → new.ring ≡ ring_after old.ring old.book Manager due (Connect who) made → Connects old who r new
+connects old new who due r made d e s g = record {
+  steps = subst (λ (z : ℕ × Reply). Steps old.book Manager z.0 (Connect who) z.1 new.book) (λ i. (d i, e i)) s;
+  ring = subst (λ (z : ℕ × Reply). new.ring ≡ ring_after old.ring old.book Manager z.0 (Connect who) z.1)
+      (λ i. (d i, e i)) g;
+}
 
 -- A segment that was closed.
 pub seals_done : (b b' : Book) (segment : History) → b.history.entries ≢ [] → segment ≡ b.history

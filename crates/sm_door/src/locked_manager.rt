@@ -108,12 +108,7 @@ impl<J: Naming> LockedManager<J> {
     /// Judges an event of an actor at its turn, and makes it if it is accepted: this is the one step of the manager. The
     /// token then sees the history that answered, unless an allocation failed or the event isn't its actor's. Returns
     /// the event's audit records with the answer.
-    pub fn act<R: Wait>(
-        &mut self,
-        rt: &R,
-        me: &mut Actor<J>,
-        event: Event,
-    ) -> (Reply, Vec<Record>)
+    pub fn act<R: Wait>(&mut self, rt: &R, me: &mut Actor<J>, event: Event) -> (Reply, Vec<Record>)
         ensures steps { Steps self.old.book me.old.by (turn me.old) event result.0 self.new.book }
         ensures ring { self.new.ring
             ≡ ring_after self.old.ring self.old.book me.old.by (turn me.old) event result.0 }
@@ -179,11 +174,7 @@ impl<J: Naming> LockedManager<J> {
 
     /// Returns the records of the ring, at most 1,024, oldest first. The token then sees the whole history; each record
     /// is true of a lawful history with which this one begins. On error nothing has changed.
-    pub fn denials<R: Wait>(
-        &self,
-        rt: &R,
-        me: &mut Actor<J>,
-    ) -> Result<Vec<Record>, AllocError>
+    pub fn denials<R: Wait>(&self, rt: &R, me: &mut Actor<J>) -> Result<Vec<Record>, AllocError>
         ensures { MatchResult result (λ v. (v.items ≡ self.now.ring) × TellsRecords me.old me.new v.items)
             (λ _. me.new ≡ me.old) }
     {
@@ -217,13 +208,7 @@ impl<J: Naming> LockedManager<J> {
 
     /// One step of the manager, with the audit records that it adds to the ring. A change is published before it is
     /// committed: if it can't be published, nothing is committed and the answer is `Memory`.
-    fn step<R: Wait>(
-        &mut self,
-        rt: &R,
-        by: By,
-        turn: u64,
-        event: Event,
-    ) -> (Reply, Vec<Record>)
+    fn step<R: Wait>(&mut self, rt: &R, by: By, turn: u64, event: Event) -> (Reply, Vec<Record>)
         ensures answers { Steps self.old.book by turn event result.0 self.new.book }
         ensures ring { self.new.ring ≡ ring_after self.old.ring self.old.book by turn event result.0 }
         ensures records { result.1.items ≡ step_leaves self.old.book by turn event result.0 }

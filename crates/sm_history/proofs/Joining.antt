@@ -62,8 +62,8 @@ turns_away b after old new who due refusal is s sees = record {
   entered = sees.entered;
   why = ⊎_elim (λ t. inl (unwrapped t.0)) (λ t. inr (
       t.0 ∙ (ap (λ n. verdict b.places b.history Manager n (Connect who)) is
-          ∙ ap (λ (x : Book). verdict x.places x.history Manager (turn_of x.history Manager) (Connect who))
-          (sym sees.is)))) s;
+      ∙ ap (λ (x : Book). verdict x.places x.history Manager (turn_of x.history Manager) (Connect who))
+      (sym sees.is)))) s;
 }
   where
     unwrapped : Refused refusal ≡ Refused Memory → refusal ≡ Memory

@@ -8,14 +8,14 @@ pub returns-clause-submitted : goal.returns-clause-submitted
 returns-clause-submitted g c =
     let step = c.step_of-reply in
     let m : moves step.result.0 ≡ true = search rules in
-    submitted c.args.self.now.book step.new.self.book c.args.me.now c.see.new.me c.args.event c.see.ensures
+    submitted c.args.self.now.book step.new.self.book c.args.me.now c.see.new.self c.args.event c.see.ensures
     step.result.0 m step.ensures.steps
 
 pub returns-clause-logged : goal.returns-clause-logged
 returns-clause-logged g c =
     let step = c.step_of-reply in
     let m : moves step.result.0 ≡ true = search rules in
-    logged c.args.self.now.book step.new.self.book c.args.me.now c.see.new.me c.args.event c.see.ensures
+    logged c.args.self.now.book step.new.self.book c.args.me.now c.see.new.self c.args.event c.see.ensures
     step.result.1.items step.result.0 m step.ensures.steps step.ensures.records
 
 pub returns-then-not-moves-clause-submitted : goal.returns-then-not-moves-clause-submitted
