@@ -19,8 +19,31 @@ pub const BATCH: usize = 8;
 /// The most unions at which a batch still takes a rule, which doubles them: those of seven rules.
 const MOST_UNIONS: usize = 128;
 
-/// Moves the indexes of the sources of a rule to the unions that have its targets.
-fn move_places(places: &mut [usize], sources: &SharedSet, weight: usize)
+/// Returns the index of a union for a source when a rule doubles the unions.
+fn moved(place: usize, joined: bool, weight: usize) -> usize
+    requires place { place < weight }
+    requires weight { weight ≤ 128 }
+    ensures { result ≡ place + (if joined then weight else 0) }
+{
+    if joined { place + weight } else { place }
+}
+
+/// Moves the indexes of the sources of a rule to the unions that have its targets. It looks at each type: few aren't
+/// sources.
+fn move_most(places: &mut [usize], sources: &SharedSet, weight: usize)
+    requires sources { length places.old ≤ 64 * length sources.now }
+    requires places { (s : ℕ) → s < length places.old → slice_index places.old s < weight }
+    requires weight { weight ≤ 128 }
+    ensures { (s : ℕ) → s < length places.old → slice_index places.new s
+        ≡ slice_index places.old s + (if has sources.now s then weight else 0) }
+{
+    for s in 0..places.len() {
+        places[s] = moved(places[s], sources.has(s), weight);
+    }
+}
+
+/// As `move_most`, from source to source: few types are.
+fn move_few(places: &mut [usize], sources: &SharedSet, weight: usize)
     requires sources { length places.old ≤ 64 * length sources.now }
     requires few { length sources.now < 2 ^ 32 }
     requires places { (s : ℕ) → s < length places.old → slice_index places.old s < weight }
@@ -35,6 +58,22 @@ fn move_places(places: &mut [usize], sources: &SharedSet, weight: usize)
         }
         places[s] += weight;
         from = s + 1;
+    }
+}
+
+/// Moves the indexes of the sources of a rule to the unions that have its targets, in the faster way.
+fn move_places(places: &mut [usize], sources: &SharedSet, weight: usize)
+    requires sources { length places.old ≤ 64 * length sources.now }
+    requires few { length sources.now < 2 ^ 32 }
+    requires places { (s : ℕ) → s < length places.old → slice_index places.old s < weight }
+    requires weight { weight ≤ 128 }
+    ensures { (s : ℕ) → s < length places.old → slice_index places.new s
+        ≡ slice_index places.old s + (if has sources.now s then weight else 0) }
+{
+    if sources.weight() > places.len() / 8 {
+        move_most(places, sources, weight);
+    } else {
+        move_few(places, sources, weight);
     }
 }
 

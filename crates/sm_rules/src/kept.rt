@@ -167,7 +167,7 @@ fn expand(
         return Ok(known);
     }
     let row = expand_new(alloc, types, pool, line, set)?;
-    memo.keep_row(set, &row)?;
+    memo.keep_row(set, &row);
     Ok(row)
 }
 
@@ -187,7 +187,7 @@ fn grants(
     }
     let known = perms_known(rule);
     let perms = perms_of(rule);
-    memo.keep_grants(alloc, rule, known, perms)?;
+    memo.keep_grants(alloc, rule, known, perms);
     Ok((known, perms))
 }
 

@@ -100,37 +100,40 @@ impl Memo {
         Ok(Some(row))
     }
 
-    /// Makes room for the place of a set.
-    fn make_places(&mut self, number: usize) -> Result<(), AllocError>
+    /// Makes room for the place of a set, if memory is left.
+    fn make_places(&mut self, number: usize)
         ensures { self.new ≡ self.old }
     {
         if number >= MOST_PLACES {
-            return Ok(());
+            return;
         }
         while self.places.len() <= number {
-            self.places.push(u32::MAX)?;
+            if self.places.push(u32::MAX).is_err() {
+                return;
+            }
         }
-        Ok(())
     }
 
-    /// Keeps the types that a set denotes.
-    pub fn keep_row(&mut self, set: &Set, row: &SharedSet) -> Result<(), AllocError>
+    /// Keeps the types that a set denotes, if memory is left.
+    pub fn keep_row(&mut self, set: &Set, row: &SharedSet)
         ensures { (table : TheTable) → IsRight table self.old → Denotes table set.now row.now
-            → IfOk result (λ done. IsRight table self.new) }
+            → IsRight table self.new }
     {
         let number = set.number() as usize;
         let place = self.sets.len();
-        self.make_places(number)?;
+        self.make_places(number);
         if number >= self.places.len() || place >= MOST_PLACES {
-            return Ok(());
+            return;
         }
-        let kept = Expanded {
-            set: set.clone()?,
-            row: row.clone()?,
+        let Ok(set) = set.clone() else {
+            return;
         };
-        self.places[number] = place as u32;
-        self.sets.push(kept)?;
-        Ok(())
+        let Ok(row) = row.clone() else {
+            return;
+        };
+        if let Ok(()) = self.sets.push(Expanded { set, row }) {
+            self.places[number] = place as u32;
+        }
     }
 
     /// Returns whether the permissions of a rule are known, and those that it grants, if an equal one is kept.
@@ -147,41 +150,42 @@ impl Memo {
         }
     }
 
-    /// Makes the slots, if there are none yet.
-    fn make_slots(&mut self, alloc: Global) -> Result<(), AllocError>
+    /// Makes the slots, if there are none yet and memory is left.
+    fn make_slots(&mut self, alloc: Global)
         ensures { self.new ≡ self.old }
     {
-        if self.slots.is_empty() {
-            self.slots = vec![in alloc; u32::MAX; SLOTS]?;
+        if self.slots.is_empty()
+            && let Ok(slots) = vec![in alloc; u32::MAX; SLOTS]
+        {
+            self.slots = slots;
         }
-        Ok(())
     }
 
-    /// Keeps whether the permissions of a rule are known, and those that it grants.
-    pub fn keep_grants(
-        &mut self,
-        alloc: Global,
-        rule: &Rule,
-        known: bool,
-        perms: Perms,
-    ) -> Result<(), AllocError>
+    /// Keeps whether the permissions of a rule are known, and those that it grants, if memory is left.
+    pub fn keep_grants(&mut self, alloc: Global, rule: &Rule, known: bool, perms: Perms)
         ensures { (table : TheTable) → IsRight table self.old → Grants rule.now known perms
-            → IfOk result (λ done. IsRight table self.new) }
+            → IsRight table self.new }
     {
         let slot = slot_of(rule);
         let place = self.grants.len();
-        self.make_slots(alloc)?;
+        self.make_slots(alloc);
         if slot >= self.slots.len() || place >= MOST_PLACES {
-            return Ok(());
+            return;
         }
+        let Ok(class) = rule.class.clone() else {
+            return;
+        };
+        let Ok(perm) = rule.perm.clone() else {
+            return;
+        };
         let kept = Granted {
-            class: rule.class.clone()?,
-            perm: rule.perm.clone()?,
+            class,
+            perm,
             known,
             perms,
         };
-        self.slots[slot] = place as u32;
-        self.grants.push(kept)?;
-        Ok(())
+        if let Ok(()) = self.grants.push(kept) {
+            self.slots[slot] = place as u32;
+        }
     }
 }

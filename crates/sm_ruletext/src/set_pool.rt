@@ -110,12 +110,13 @@ impl SetPool {
         Ok(Some(again))
     }
 
-    /// Makes the slots, if there are none yet.
-    fn make_slots(&mut self, alloc: Global) -> Result<(), AllocError> {
-        if self.slots.is_empty() {
-            self.slots = vec![in alloc; u32::MAX; SLOTS]?;
+    /// Makes the slots, if there are none yet and memory is left.
+    fn make_slots(&mut self, alloc: Global) {
+        if self.slots.is_empty()
+            && let Ok(slots) = vec![in alloc; u32::MAX; SLOTS]
+        {
+            self.slots = slots;
         }
-        Ok(())
     }
 
     /// Returns the number of the next set.
@@ -128,21 +129,19 @@ impl SetPool {
         }
     }
 
-    /// Stores the parts of a set.
-    fn keep(
-        &mut self,
-        alloc: Global,
-        slot: usize,
-        parts: &Arc<SetParts, Global>,
-    ) -> Result<(), AllocError> {
-        self.make_slots(alloc)?;
+    /// Stores the parts of a set, if memory is left.
+    fn keep(&mut self, alloc: Global, slot: usize, parts: &Arc<SetParts, Global>) {
+        self.make_slots(alloc);
         let count = self.sets.len();
-        if count < MOST_SETS && slot < self.slots.len() {
-            let again = Arc::try_clone(parts)?;
-            self.sets.push(again)?;
+        if count >= MOST_SETS || slot >= self.slots.len() {
+            return;
+        }
+        let Ok(again) = Arc::try_clone(parts) else {
+            return;
+        };
+        if self.sets.push(again).is_ok() {
             self.slots[slot] = count as u32;
         }
-        Ok(())
     }
 
     /// Stores a new set of these parts.
@@ -156,7 +155,7 @@ impl SetPool {
         ensures { IfOk result (λ s. s ≡ set_with line parts) }
     {
         let shared = Arc::new(alloc, parts)?;
-        self.keep(alloc, slot, &shared)?;
+        self.keep(alloc, slot, &shared);
         Ok(Set::of(line, shared))
     }
 

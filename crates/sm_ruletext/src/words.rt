@@ -141,30 +141,31 @@ impl Words {
         Ok(Some(copy))
     }
 
-    /// Makes the slots, if there are none yet.
-    fn make_slots(&mut self, alloc: Global) -> Result<(), AllocError> {
-        if self.slots.is_empty() {
-            self.slots = vec![in alloc; u32::MAX; SLOTS]?;
+    /// Makes the slots, if there are none yet and memory is left.
+    fn make_slots(&mut self, alloc: Global) {
+        if self.slots.is_empty()
+            && let Ok(slots) = vec![in alloc; u32::MAX; SLOTS]
+        {
+            self.slots = slots;
         }
-        Ok(())
     }
 
-    /// Puts a name into its slot.
-    fn remember(&mut self, alloc: Global, slot: usize, name: &Name) -> Result<(), AllocError> {
-        self.make_slots(alloc)?;
+    /// Puts a name into its slot, if memory is left.
+    fn remember(&mut self, alloc: Global, slot: usize, name: &Name) {
+        self.make_slots(alloc);
         if slot >= self.slots.len() {
-            return Ok(());
+            return;
         }
-        let copy = name.clone()?;
+        let Ok(copy) = name.clone() else {
+            return;
+        };
         let number = self.slots[slot] as usize;
         let count = self.last.len();
         if number < count {
             self.last[number] = copy;
-        } else if count < SLOTS {
-            self.last.push(copy)?;
+        } else if count < SLOTS && self.last.push(copy).is_ok() {
             self.slots[slot] = count as u32;
         }
-        Ok(())
     }
 
     /// Finds a name, and puts it into its slot.
@@ -173,7 +174,7 @@ impl Words {
         ensures { IfOk result (λ n. n ≡ bytes.now) }
     {
         let name = self.find(alloc, bytes)?;
-        self.remember(alloc, slot, &name)?;
+        self.remember(alloc, slot, &name);
         Ok(name)
     }
 

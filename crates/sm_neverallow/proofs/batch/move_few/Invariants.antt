@@ -1,6 +1,6 @@
 use Rattle.std.proofs.Common.{◌≡◌, ◌<◌, ◌≤◌, ◌+◌, ◌-◌, ◌*◌, ℕ, get_or, length, if◌then◌else◌}
 use Rattle.sm_bits.specs.Bits.{has}
-use Rattle.sm_neverallow.proofs.batch.move_places.Given as goal
+use Rattle.sm_neverallow.proofs.batch.move_few.Given as goal
 
 abbrev pub invariant-loop-s : goal.invariant-loop-s
 invariant-loop-s l = record {
