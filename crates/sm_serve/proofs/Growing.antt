@@ -1,5 +1,5 @@
 -- Each answer of a connection goes on from what the connection had seen.
-use Rattle.std.proofs.Common.{◌≡◌, ◌⊎◌, Bool, true, false, Option, Some, None, refl, sym, ap, subst}
+use Rattle.std.proofs.Common.{◌≡◌, Bool, true, false, Option, Some, None, refl, sym, ap, subst}
 use Rattle.std.proofs.Common.{◌∙◌, inl, inr, ℕ, List, Result}
 use Rattle.std.specs.Prelude.{MatchBool}
 use Rattle.sm_kinds.specs.declared.identity.Identity.{Identity}
@@ -13,10 +13,8 @@ use Rattle.sm_history.specs.declared.refusal.Refusal.{Refusal}
 use Rattle.sm_history.specs.declared.refusal.Refusal.TheVariants.{Failed, Memory}
 use Rattle.sm_history.specs.declared.refusal.Failure.TheVariants.{NotConnected}
 use Rattle.sm_history.specs.declared.reply.Reply.{Reply}
-use Rattle.sm_history.specs.declared.reply.Reply.TheVariants.{Done, GotNull, GotOwn, Looked, Sealed, Refused}
-use Rattle.sm_history.specs.BookOrder.{Begins, IsLawfulBook}
-use Rattle.sm_history.specs.Promises.{Accepted, Closed, Joined, NotClosed, NotMade, Queried, Submitted, TellsRecords}
-use Rattle.sm_history.specs.Promises.{Turned}
+use Rattle.sm_history.specs.declared.reply.Reply.TheVariants.{Done, Sealed, Refused}
+use Rattle.sm_history.specs.Promises.{NotMade, Queried, Submitted, Turned}
 use Rattle.sm_history.specs.Tokens.{Grows, Knows}
 use Rattle.sm_history.specs.Verdict.{is_die}
 use Rattle.sm_history.proofs.BookOrder.{book_itself, book_through}
@@ -33,7 +31,7 @@ use Rattle.sm_session.specs.declared.response.Response.TheVariants.{Replied, Pol
 use Rattle.sm_serve.specs.declared.command.Command.{Command}
 use Rattle.sm_serve.specs.declared.command.Command.TheVariants.{Hello, Line, Install, End}
 use Rattle.sm_serve.specs.Connections.{AdminGives, AdminGivesLine, AdminInstalls, AdminReads, AdminReplies, AdminSeals}
-use Rattle.sm_serve.specs.Connections.{ClientGives, ClientReplies, GivesChange, GivesEnd, GivesHello, GivesLeave}
+use Rattle.sm_serve.specs.Connections.{ClientReplies, GivesChange, GivesHello, GivesLeave}
 use Rattle.sm_serve.specs.Connections.{GivesLine, GivesLook, Greets, OfSession, Parts, Reads, SaysOnly, SeatOr}
 use Rattle.sm_serve.specs.Connections.{GoesOn, StillHolds}
 use Rattle.sm_serve.specs.Desks.{DeskAnswers, DeskLeaves, command_of}

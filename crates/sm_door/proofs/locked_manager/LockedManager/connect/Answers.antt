@@ -53,6 +53,8 @@ returns-clause-joined g c =
     let s = subst (λ r. Steps b Manager c.turn-due.result (Connect c.args.who) r c.step-reply.new.self.book)
     c.in-Err.ensures.0 c.step-reply.ensures.answers in
     let first = subst (λ (k : Knows). Sees k b (token Manager new.seen new.reads)) c.seat.view_is
-    (sees_alike c.seat.inside.actor new b Manager c.see.ensures) in
-    (c.in-Err.ensures.1, turns_away b c.step-reply.new.self.book c.args.seat (token Manager new.seen new.reads)
-    c.args.who c.turn-due.result c.in-Err.refusal c.turn-due.ensures.turn s first)
+    (sees_alike c.seat.inside.actor new b Manager c.see.ensures) in (
+      c.in-Err.ensures.1,
+      turns_away b c.step-reply.new.self.book c.args.seat (token Manager new.seen new.reads)
+          c.args.who c.turn-due.result c.in-Err.refusal c.turn-due.ensures.turn s first,
+    )
