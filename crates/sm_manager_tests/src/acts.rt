@@ -32,6 +32,8 @@ pub enum Act {
     Unwatch(u32),
     /// A call of handle 1.
     Call,
+    /// The same, with two references to one object of the caller's.
+    CallWithObject,
     /// One grant of handle 1.
     Release,
     Take,
@@ -179,11 +181,11 @@ fn add(rt: &impl Abort, alloc: Global) -> Event {
     }
 }
 
-fn call(rt: &impl Abort, alloc: Global) -> Event {
+fn call(rt: &impl Abort, alloc: Global, refs: &[ObjRef]) -> Event {
     Event::Call {
         handle: 1,
         payload: Payload::new(alloc, b"").ok().expect(rt, "a payload"),
-        refs: Refs::new(alloc, &[]).ok().expect(rt, "references"),
+        refs: Refs::new(alloc, refs).ok().expect(rt, "references"),
     }
 }
 
@@ -209,7 +211,8 @@ fn client_event(rt: &impl Abort, alloc: Global, act: Act) -> Event {
             name: activity(rt, alloc),
             object,
         },
-        Act::Call => call(rt, alloc),
+        Act::Call => call(rt, alloc, &[]),
+        Act::CallWithObject => call(rt, alloc, &[ObjRef::Own(5), ObjRef::Own(5)]),
         Act::Release => Event::Release { handle: 1 },
         Act::Take => Event::Take,
         _ => Event::Die,

@@ -4,7 +4,10 @@ use crate::acts::{
     A_SERVER, AN_ADD, APPLICATION, Act, Became, SERVER, Seen, has_turn, opened, steps,
 };
 use sm_core::Manager;
-use sm_history::{By, ClientRow, Held, NamedRow, Refusal, Rows, Segment, TurnRow, Watch};
+use sm_history::{
+    BoxedDelivery, By, ClientRow, Given, Held, Message, NamedRow, Refusal, Rows, Segment, TurnRow, Watch,
+};
+use sm_kinds::Identity;
 use std::alloc::Global;
 use std::process::Abort;
 
@@ -22,12 +25,62 @@ fn same_held(one: &[Option<Held>], other: &[Option<Held>]) -> bool {
     one.len() == other.len() && one.iter().zip(other).all(|(a, b)| same_slot(a, b))
 }
 
+fn same_process(one: &Identity, other: &Identity) -> bool {
+    one.pid == other.pid && one.uid == other.uid && one.context.text() == other.context.text()
+}
+
+fn same_message(one: &Message, other: &Message) -> bool {
+    match one {
+        Message::Called {
+            pid,
+            uid,
+            payload,
+            refs,
+        } => is_call(other, (*pid, *uid), payload.bytes(), refs.list()),
+        Message::Registered { name, given } => is_notice(other, name.bytes(), *given),
+    }
+}
+
+fn is_call(message: &Message, caller: (u32, u32), bytes: &[u8], given: &[Given]) -> bool {
+    match message {
+        Message::Called {
+            pid,
+            uid,
+            payload,
+            refs,
+        } => (*pid, *uid) == caller && payload.bytes() == bytes && refs.list() == given,
+        Message::Registered { name: _, given: _ } => false,
+    }
+}
+
+fn is_notice(message: &Message, bytes: &[u8], wanted: Given) -> bool {
+    match message {
+        Message::Registered { name, given } => name.bytes() == bytes && *given == wanted,
+        _ => false,
+    }
+}
+
+fn same_delivery(one: &BoxedDelivery, other: &BoxedDelivery) -> bool {
+    let (a, b) = (one.delivery(), other.delivery());
+    a.object == b.object && same_message(&a.what, &b.what)
+}
+
+fn same_waiting(one: &[BoxedDelivery], other: &[BoxedDelivery]) -> bool {
+    one.len() == other.len() && one.iter().zip(other).all(|(a, b)| same_delivery(a, b))
+}
+
 fn same_client(one: &ClientRow, other: &ClientRow) -> bool {
     one.client == other.client
-        && one.who.pid == other.who.pid
-        && one.who.context.text() == other.who.context.text()
+        && same_process(&one.who, &other.who)
         && same_held(&one.held, &other.held)
-        && one.waiting.len() == other.waiting.len()
+        && same_waiting(&one.waiting, &other.waiting)
+}
+
+fn same_manager(one: &Option<Identity>, other: &Option<Identity>) -> bool {
+    match (one, other) {
+        (Some(a), Some(b)) => same_process(a, b),
+        _ => false,
+    }
 }
 
 fn same_clients(one: &[ClientRow], other: &[ClientRow]) -> bool {
@@ -63,6 +116,7 @@ fn same_turns(one: &[TurnRow], other: &[TurnRow]) -> bool {
 /// Whether two openings are the same. There is one policy alone.
 fn same_rows(one: &Rows, other: &Rows) -> bool {
     one.version() == other.version()
+        && same_manager(one.manager(), other.manager())
         && one.clients() == other.clients()
         && one.length() == other.length()
         && same_clients(one.live(), other.live())
@@ -166,6 +220,44 @@ fn each_segment_begins_with_what_the_last_one_left(rt: HostRuntime) {
     let rows = seals(&rt, alloc, &mut manager, FULL);
     let rows = rows.expect(&rt, "rows");
     assert!(rt; rows.live().len() == 1);
+}
+
+/// A notice and a call with references, which wait while the segment is sealed.
+const WAITING: &[Round] = &[
+    Round {
+        changes: &[
+            (By::Manager, Act::ConnectServer, Seen::Connected(1)),
+            (SERVER, Act::Watch(3), Seen::Unheard),
+            (SERVER, Act::Add, Seen::Heard(1, 3, Became::Told)),
+            (By::Manager, Act::ConnectApplication, Seen::Connected(2)),
+            (APPLICATION, Act::Get, Seen::Done),
+            (APPLICATION, Act::CallWithObject, Seen::Done),
+        ],
+        segment: (1, 7, 7),
+        turns: &[],
+    },
+    Round {
+        changes: &[(SERVER, Act::Take, Seen::Done)],
+        segment: (2, 8, 1),
+        turns: &[],
+    },
+];
+
+/// The number of deliveries that wait for the first client.
+fn waiting(rows: &Rows) -> usize {
+    match rows.live().first() {
+        Some(row) => row.waiting.len(),
+        None => 0,
+    }
+}
+
+#[test]
+fn deliveries_wait_over_a_seal(rt: HostRuntime) {
+    let alloc = rt.alloc();
+    let mut manager = opened(&rt, alloc, 1000);
+    let rows = seals(&rt, alloc, &mut manager, WAITING);
+    let rows = rows.expect(&rt, "rows");
+    assert!(rt; waiting(&rows) == 1);
 }
 
 /// Four watches, the second of which is ended.

@@ -1,9 +1,8 @@
 //! Numbers, names, contexts and permissions: values from their formats and limits.
 
 use sm_kinds::{
-    Class, ClientId, Context, ContextError, Name, Names, ObjRef, Payload, PayloadError, Perms,
-    Places, Refs, RefsError, Word, all_graphic, app_number, is_barred_app, is_isolated,
-    push_access, push_numbered, valid_name,
+    Class, Context, ContextError, Name, Names, ObjRef, Payload, PayloadError, Perms, Places, Refs,
+    RefsError, app_number, is_barred_app, is_isolated, push_access, push_numbered, valid_name,
 };
 use std::alloc::Global;
 use std::process::Abort;
@@ -36,17 +35,6 @@ fn what_is_no_context(rt: HostRuntime) {
 }
 
 #[test]
-fn what_is_graphic(rt: HostRuntime) {
-    for (text, graphic) in [
-        (b"!a~".as_slice(), true),
-        (b"a b", false),
-        (b"a\x7f", false),
-    ] {
-        assert_eq!(rt; (text, all_graphic(text)), (text, graphic));
-    }
-}
-
-#[test]
 fn names_have_1_to_127_bytes(rt: HostRuntime) {
     let long = [b'a'; 128];
     for (name, valid) in [
@@ -74,11 +62,6 @@ fn a_list_has_the_names_that_were_put_in(rt: HostRuntime) {
         ),
         (true, false, 1)
     );
-}
-
-#[test]
-fn a_word_has_its_bytes(rt: HostRuntime) {
-    assert_eq!(rt; Word::new(b"allow").bytes(), b"allow".as_slice());
 }
 
 #[test]
@@ -187,11 +170,6 @@ fn a_call_has_16_references_at_most(rt: HostRuntime) {
     }
     let fault = Refs::new(rt.alloc(), &refs).err();
     assert_eq!(rt; fault, Some(RefsError::TooLong));
-}
-
-#[test]
-fn clients_are_in_the_order_of_their_numbers(rt: HostRuntime) {
-    assert!(rt; ClientId(1) < ClientId(2));
 }
 
 #[test]

@@ -287,12 +287,17 @@ const SELF_RULES: &[u8] = b"type a;\ntype b;\nallow { a b } self:binder call;\n\
 fn self_joins_a_type_to_itself(rt: HostRuntime) {
     let prepared = prepared(&rt, rt.alloc(), SELF_RULES, b"* u:r:a\n");
     for (source, target, wanted) in [
-        (b"a".as_slice(), b"a".as_slice(), (true, true, false)),
-        (b"a", b"b", (false, false, false)),
-        (b"b", b"a", (false, false, true)),
-        (b"b", b"b", (true, false, true)),
+        (
+            b"a".as_slice(),
+            b"a".as_slice(),
+            (Some(3), true, true, false),
+        ),
+        (b"a", b"b", (None, false, false, false)),
+        (b"b", b"a", (None, false, false, true)),
+        (b"b", b"b", (Some(3), true, false, true)),
     ] {
         let found = (
+            prepared.why(source, target, Class::Binder, Perms::CALL),
             prepared.allows(source, target, Class::Binder, Perms::CALL),
             prepared.allows(source, target, Class::ServiceManager, Perms::FIND),
             prepared.allows(source, target, Class::Binder, Perms::TRANSFER),

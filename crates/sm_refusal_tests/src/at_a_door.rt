@@ -93,6 +93,28 @@ fn installs<J: Naming, R: Wait + Abort>(
     Some(())
 }
 
+/// Installs a policy over a version that isn't in force any more. The policy comes back. `None` if an allocation failed.
+fn loses<J: Naming, R: Wait + Abort>(
+    rt: &R,
+    alloc: Global,
+    door: &Door<J, NoGate>,
+    me: &mut Admin<J>,
+) -> Option<()> {
+    let rules = policy(rt, alloc)?;
+    let counts = rules.counts();
+    match door.install(rt, me, 1, rules) {
+        Err((Refusal::VersionMoved(2), back)) => {
+            assert!(rt; back.counts().rules == counts.rules);
+            Some(())
+        }
+        Err((refusal, _)) => {
+            assert!(rt; matches!(refusal, Refusal::Memory));
+            None
+        }
+        Ok(_) => None.expect(rt, "a refusal"),
+    }
+}
+
 /// Whether a seal returns the first segment, with four changes.
 fn closes<J: Naming, R: Wait + Abort>(rt: &R, door: &Door<J, NoGate>, me: &mut Admin<J>) -> bool {
     match door.seal(rt, me) {
@@ -195,6 +217,7 @@ fn administrator<J: Naming, R: Wait + Abort>(
     me: &mut Admin<J>,
 ) -> Option<()> {
     installs(rt, alloc, door, me)?;
+    loses(rt, alloc, door, me)?;
     let none = has_no_denials(rt, door, me)?;
     assert!(rt; none);
     seals(rt, door, me);

@@ -7,6 +7,8 @@
 #[cfg(test)]
 mod at_a_door;
 #[cfg(test)]
+mod events;
+#[cfg(test)]
 mod manager;
 #[cfg(test)]
 mod outcome;

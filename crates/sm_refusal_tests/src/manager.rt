@@ -76,7 +76,8 @@ pub fn lists_activity(rt: &impl Abort, reply: Reply, wanted: u64) -> Option<()> 
     }
 }
 
-fn opened(rt: &impl Abort, alloc: Global) -> Option<Manager> {
+/// A manager of 1,000 slots. `None` if an allocation failed.
+pub fn opened(rt: &impl Abort, alloc: Global) -> Option<Manager> {
     let who = process(alloc, b"u:r:servicemanager:s0")?;
     let policy = policy(rt, alloc)?;
     let places = Places::new(1000).expect(rt, "places");
@@ -90,7 +91,7 @@ fn opened(rt: &impl Abort, alloc: Global) -> Option<Manager> {
 }
 
 /// Makes an actor's next change. `None` if an allocation failed, and then nothing has changed.
-fn does(rt: &impl Abort, manager: &mut Manager, by: By, event: Event) -> Option<()> {
+pub fn does(rt: &impl Abort, manager: &mut Manager, by: By, event: Event) -> Option<()> {
     let turn = manager.turn(by);
     if is_done(rt, manager.step(by, turn, event)) {
         same(rt, manager.turn(by), turn.saturating_add(1));

@@ -4,6 +4,7 @@ ghost use Rattle.std.specs.Prelude.{◌≡◌};
 ghost use Rattle.sm_core.specs.Opening.{opened};
 ghost use denote.Param.Send.{IsSend, IsSync};
 
+use crossbeam_utils::Backoff;
 use sm_core::View;
 use sm_door::{
     Actor, Admin, Door, Gate, HistoryId, LockedManager, Naming, Published, Registry, Seat, Session,
@@ -23,6 +24,9 @@ use std::thread::Threads;
 
 /// The number of policies that are installed while others read.
 const INSTALLS: u64 = 100;
+
+/// The number of reads, and of looks at other threads, after which a thread gives up.
+const MOST_TURNS: u64 = 100_000_000;
 
 pub fn policy(rt: &impl Abort, alloc: Global, rules: &[u8]) -> Prepared {
     Prepared::from_texts(alloc, rules, DEVICE_LABELS)
@@ -104,15 +108,26 @@ fn are(list: &NameList, names: &[&[u8]]) -> bool {
 #[derive(Clone, Copy)]
 enum Scene {
     Meeting,
+    FullJournal,
     Installs,
     Race,
+}
+
+impl Scene {
+    /// The slots of the journal.
+    fn places(self) -> u32 {
+        match self {
+            Scene::FullJournal => 4,
+            _ => 1000,
+        }
+    }
 }
 
 /// Plays a scene at a door of its own.
 fn plays<R: Threads + Wait + Abort + Sync>(rt: &R, alloc: Global, scene: Scene) {
     let who = manager(rt, alloc);
     let rules = policy(rt, alloc, DEVICE_RULES);
-    let places = Places::new(1000).expect(rt, "places");
+    let places = Places::new(scene.places()).expect(rt, "places");
     opens::<Brand, R>(rt, alloc, UnnamedRegistry::new(), who, rules, places, scene);
 }
 
@@ -134,6 +149,7 @@ fn opens<J: Naming + Send + Sync, R: Threads + Wait + Abort + Sync>(
         .expect(rt, "a door");
     match scene {
         Scene::Meeting => meets(rt, alloc, &door, &mut seats, admins),
+        Scene::FullJournal => fills(rt, alloc, &door, &mut seats),
         Scene::Installs => grows(rt, alloc, &door, admins),
         Scene::Race => rivals(rt, alloc, &door, admins),
     }
@@ -170,6 +186,43 @@ fn meets<J: Naming, R: Wait + Abort>(
     has_version(rt, &door.version(&mut a), 2, 6);
 }
 
+#[test]
+fn a_full_journal_refuses_changes_but_a_last_one(rt: HostRuntime) {
+    plays(&rt, rt.alloc(), Scene::FullJournal);
+}
+
+/// The opening, a connect and an add leave one of four slots, which is kept for the client's death.
+fn fills<J: Naming, R: Wait + Abort>(
+    rt: &R,
+    alloc: Global,
+    door: &Door<J, NoGate>,
+    seats: &mut Vec<Seat<J>>,
+) {
+    let mut me = joined(rt, door, seats.pop(), server(rt, alloc, 100));
+    adds_activity(rt, alloc, door, &mut me);
+    let reply = door.submit(rt, &mut me, activity(rt, alloc));
+    assert!(rt; matches!(reply, Reply::Refused(Refusal::JournalFull)));
+    is_turned_away(rt, alloc, door, seats);
+    assert!(rt; door.leave(rt, me).is_ok());
+    is_turned_away(rt, alloc, door, seats);
+}
+
+/// No slot is left to connect a process, and the seat comes back.
+fn is_turned_away<J: Naming, R: Wait + Abort>(
+    rt: &R,
+    alloc: Global,
+    door: &Door<J, NoGate>,
+    seats: &mut Vec<Seat<J>>,
+) {
+    let seat = seats.pop().expect(rt, "a seat");
+    match door.connect(rt, seat, server(rt, alloc, 101)) {
+        Err((Refusal::JournalFull, seat)) => {
+            let _ = seats.push(seat);
+        }
+        _ => None.expect(rt, "a refusal"),
+    }
+}
+
 fn adds_activity<J: Naming, R: Wait + Abort>(
     rt: &R,
     alloc: Global,
@@ -201,7 +254,9 @@ fn grows<J: Naming + Send + Sync, R: Threads + Wait + Abort + Sync>(
 ) {
     let first = admins.pop().expect(rt, "an administrator");
     let readers = Mutex::new(admins);
-    assert!(rt; all_at_once(rt, alloc, door, first, &readers));
+    let overlap = Overlap::new();
+    assert!(rt; all_at_once(rt, alloc, door, first, &readers, &overlap));
+    assert!(rt; overlap.has_begun());
     see_the_last(rt, alloc, door, readers.into_inner());
 }
 
@@ -265,15 +320,53 @@ fn rightly_found(reply: &Reply) -> Option<u64> {
     }
 }
 
-/// One installs and seals while three read.
+/// How often readers found a version between the first and the last.
+#[derive(Drop)]
+struct Overlap {
+    between: AtomicU64,
+}
+
+impl Overlap {
+    fn new() -> Overlap {
+        Overlap {
+            between: AtomicU64::new(0),
+        }
+    }
+
+    /// Whether a reader has found one.
+    fn has_begun(&self) -> bool {
+        self.between.load(Ordering::SeqCst) > 0
+    }
+
+    fn note(&self, version: u64) {
+        if 1 < version && version <= INSTALLS {
+            self.between.fetch_add(1, Ordering::SeqCst);
+        }
+    }
+
+    /// Waits until a reader has found one, but not for ever.
+    fn wait(&self) {
+        let backoff = Backoff::new();
+        for _ in 0..MOST_TURNS {
+            if self.has_begun() {
+                return;
+            }
+            backoff.snooze();
+        }
+    }
+}
+
+/// One installs and seals while three read. Whether all three began, and all policies were installed.
 fn all_at_once<J: Naming + Send + Sync, R: Threads + Wait + Abort + Sync>(
     rt: &R,
     alloc: Global,
     door: &Door<J, NoGate>,
     first: Admin<J>,
     readers: &Mutex<Vec<Admin<J>>>,
+    overlap: &Overlap,
 ) -> bool {
     let mut first = first;
+    let mut started = true;
     let mut done = false;
     thread::scope(thread::scope_env(), rt, |scope| {
         crosses::<View>();
@@ -291,31 +384,37 @@ fn all_at_once<J: Naming + Send + Sync, R: Threads + Wait + Abort + Sync>(
         sends::<LockedManager<J>>();
         shares::<Door<J, NoGate>>();
         shares::<Mutex<Vec<Admin<J>>>>();
+        shares::<Overlap>();
         for _ in 0..3 {
             if scope
-                .spawn(move || reads(rt, alloc, door, readers))
+                .spawn(move || reads(rt, alloc, door, readers, overlap))
                 .is_err()
             {
-                reads(rt, alloc, door, readers);
+                started = false;
             }
         }
-        done = installs(rt, alloc, door, &mut first);
+        done = installs(rt, alloc, door, &mut first, overlap);
     });
-    done
+    done && started
 }
 
-/// Race the two policies in turn, the stricter one first, and seals after each.
+/// Installs two policies in turn, the stricter one first, and seals after each. Before the last one a reader has found a
+/// version between.
 fn installs<J: Naming, R: Wait + Abort>(
     rt: &R,
     alloc: Global,
     door: &Door<J, NoGate>,
     me: &mut Admin<J>,
+    overlap: &Overlap,
 ) -> bool {
     let stricter = policy(rt, alloc, STRICTER_RULES);
     let device = policy(rt, alloc, DEVICE_RULES);
     for version in 1..INSTALLS + 1 {
         let next = if version % 2 == 1 { &stricter } else { &device };
         let next = next.share().ok().expect(rt, "memory");
+        if version == INSTALLS {
+            overlap.wait();
+        }
         match door.install(rt, me, version, next) {
             Ok(now) => {
                 if now != version + 1 {
@@ -346,29 +445,36 @@ fn is_sealed(closed: Result<Segment, Refusal>, number: u64) -> bool {
     }
 }
 
-/// A reader whose versions never go back, and whose answers are those of their versions, comes back among the readers.
+/// Reads until the last version. A reader whose versions never go back, and whose answers are those of their versions,
+/// comes back among the readers.
 fn reads<J: Naming, R: Wait + Abort>(
     rt: &R,
     alloc: Global,
     door: &Door<J, NoGate>,
     readers: &Mutex<Vec<Admin<J>>>,
+    overlap: &Overlap,
 ) {
     let free = readers.lock(rt).pop();
     let mut me = free.expect(rt, "an administrator");
     let mut last = 1;
-    for _ in 0..INSTALLS {
-        let reply = finds(rt, alloc, door, &mut me);
-        match rightly_found(&reply) {
+    for _ in 0..MOST_TURNS {
+        match rightly_found(&finds(rt, alloc, door, &mut me)) {
             Some(version) => {
                 if version < last {
                     return;
                 }
                 last = version;
+                overlap.note(version);
             }
             None => return,
         }
+        if last > INSTALLS {
+            break;
+        }
     }
-    let _ = readers.lock(rt).push(me);
+    if last > INSTALLS {
+        let _ = readers.lock(rt).push(me);
+    }
 }
 
 /// How the installs of two administrators ended.

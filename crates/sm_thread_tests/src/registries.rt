@@ -1,9 +1,8 @@
 //! A registry gives out numbers that tell ids apart, and each id shows the book of its value.
 
 ghost use Rattle.std.specs.Prelude.{◌≡◌};
-ghost use denote.Param.Send.{IsSend, IsSync};
 
-use sm_door::{HistoryId, Naming, Registry, Shows, UnnamedRegistry};
+use sm_door::{Naming, Shows, UnnamedRegistry};
 use std::marker::Brand;
 use std::process::Abort;
 use std::sync::Wait;
@@ -36,17 +35,3 @@ fn three_history_ids<J: Naming, R: Wait + Abort>(rt: &R, unnamed: UnnamedRegistr
     assert!(rt; !one.is(&again));
     assert!(rt; two.again().is(&two));
 }
-
-#[test]
-fn history_ids_cross_threads(_rt: HostRuntime) {
-    both_cross::<Brand>();
-}
-
-fn both_cross<J: Naming + Send + Sync>() {
-    crosses::<HistoryId<J>>();
-    crosses::<Registry<J>>();
-}
-
-fn crosses<X: Send + Sync>()
-    ensures { IsSend X.row × IsSync X.row }
-{}

@@ -99,13 +99,3 @@ fn texts_of_a_reload(rt: HostRuntime) -> Result<(), Fail> {
     assert_eq!(rt; texts.contexts(), b"* u:object_r:a:s0\n".as_slice());
     Ok(())
 }
-
-#[test]
-fn both_texts_of_a_reload_are_behind_its_line(rt: HostRuntime) {
-    let header = ReloadHeader {
-        expected: 1,
-        rules: 705,
-        contexts: 89,
-    };
-    assert_eq!(rt; header.length(), 794);
-}

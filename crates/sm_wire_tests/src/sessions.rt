@@ -4,10 +4,10 @@ use sm_engine::Counted;
 use sm_history::{Event, Gate, Outcome, Refusal, Reply};
 use sm_kinds::{ClientId, Identity};
 use sm_policy::PolicyFault;
+use sm_samples::OneByte;
 use sm_session::*;
 use sm_wire::{Kind, Request};
 use std::alloc::Global;
-use std::io::{self, Write};
 use std::process::Abort;
 use std::sync::atomic::{AtomicU64, Ordering};
 use std::test::*;
@@ -111,29 +111,6 @@ impl Gate for Turnstile {
     }
 }
 
-/// A writer that takes one byte a call.
-#[derive(Drop)]
-struct OneByte {
-    text: Vec<u8>,
-}
-
-impl Write for OneByte {
-    ghost use Rattle.std.specs.Prelude.{Some};
-
-    ghost contents = { λ s. Some s.text.items };
-
-    fn write(&mut self, buf: &[u8]) -> io::Result<usize> {
-        if buf.is_empty() {
-            return Ok(0);
-        }
-        self.text.write(&buf[..1])
-    }
-
-    fn flush(&mut self) -> io::Result<()> {
-        self.text.flush()
-    }
-}
-
 /// Runs a session that must write this, ask its desk this often, for lines whose numbers have this sum, and end this
 /// often.
 fn attend(
@@ -147,9 +124,7 @@ fn attend(
     ends: u32,
 ) {
     let mut reader = Counted::new(input);
-    let mut writer = Counted::new(OneByte {
-        text: Vec::new(alloc),
-    });
+    let mut writer = Counted::new(OneByte(Vec::new(alloc)));
     let gate = Turnstile::new();
     let (clerk, ending) = session(
         alloc,
@@ -161,7 +136,7 @@ fn attend(
         1000,
     );
     assert!(rt; ending.is_ok());
-    assert_eq!(rt; writer.into_inner().text.as_slice(), wanted);
+    assert_eq!(rt; writer.into_inner().0.as_slice(), wanted);
     assert_eq!(rt; clerk.asked, asked);
     assert_eq!(rt; clerk.ends, ends);
     assert_eq!(rt; gate.entered.load(Ordering::Relaxed), u64::from(asked));
