@@ -10,3 +10,13 @@ fi
 say_jobs() {
     echo "$(basename "$0"): jobs at a time: ${jobs:-as rt decides}; a first run takes $1" >&2
 }
+
+# Runs svcmgr with these words: the program that the environment's SVCMGR names, or one that is proved and built first.
+svcmgr() {
+    if [ -n "${SVCMGR:-}" ]; then
+        "$SVCMGR" "$@"
+        return
+    fi
+    say_jobs "some 100 minutes of processor time"
+    (cd "$(dirname "$0")/../crates/svcmgr" && rt run ${jobs:+--jobs "$jobs"} -- "$@")
+}
