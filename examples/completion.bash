@@ -1,0 +1,19 @@
+# Completion of svcmgr's command line for bash: source this file.
+_svcmgr() {
+    local word="${COMP_WORDS[COMP_CWORD]}" command="${COMP_WORDS[1]:-}" options=""
+    if [ "$COMP_CWORD" -eq 1 ]; then
+        mapfile -t COMPREPLY < <(compgen -W "run check serve --help --version" -- "$word")
+        return
+    fi
+    case "$command" in
+        run) options="--journal --help" ;;
+        check) options="--help" ;;
+        serve) options="--journal --seal-at --workers --mode --audit --socket --admin --help" ;;
+    esac
+    if [[ "$word" == -* ]]; then
+        mapfile -t COMPREPLY < <(compgen -W "$options" -- "$word")
+    else
+        mapfile -t COMPREPLY < <(compgen -f -- "$word")
+    fi
+}
+complete -o filenames -F _svcmgr svcmgr
