@@ -5,7 +5,8 @@ use crate::acts::{
 };
 use sm_core::Manager;
 use sm_history::{
-    BoxedDelivery, By, ClientRow, Given, Held, Message, NamedRow, Refusal, Rows, Segment, TurnRow, Watch,
+    BoxedDelivery, By, ClientRow, Given, Held, Message, NamedRow, Refusal, Rows, Segment, TurnRow,
+    Watch,
 };
 use sm_kinds::Identity;
 use std::alloc::Global;

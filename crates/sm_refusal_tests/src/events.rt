@@ -8,7 +8,9 @@ use std::alloc::Global;
 use std::process::Abort;
 
 const SERVER: By = By::Client(ClientId(1));
+
 const APPLICATION: By = By::Client(ClientId(2));
+
 const ADMIN: By = By::Admin(AdminId(0));
 
 /// An event.
