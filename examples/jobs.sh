@@ -17,6 +17,6 @@ svcmgr() {
         "$SVCMGR" "$@"
         return
     fi
-    say_jobs "some 100 minutes of processor time"
+    say_jobs "65 to 100 minutes of processor time"
     (cd "$(dirname "$0")/../crates/svcmgr" && rt run ${jobs:+--jobs "$jobs"} -- "$@")
 }
