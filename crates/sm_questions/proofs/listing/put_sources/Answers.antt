@@ -1,0 +1,34 @@
+use Rattle.std.proofs.Common.{◌<◌, ◌≤◌, [], length, ◌∙◌, arith}
+use Rattle.sm_engine.proofs.Results.{on_err}
+use Rattle.sm_types.specs.Denoting.{types}
+use Rattle.sm_questions.specs.Accesses.{access_lines, source_lines}
+use Rattle.sm_questions.proofs.Buffering.{passes_list, passes_step, stops_step}
+use Rattle.sm_questions.proofs.listing.put_sources.Goals as goal
+
+pub returns-in_err-put_source-clause-stopped : goal.returns-in_err-put_source-clause-stopped
+unfolding access_lines
+returns-in_err-put_source-clause-stopped g c =
+    let names = types c.args.policy.now.statements in
+    let f = source_lines c.args.policy.now c.args.filter.now in
+    let lt : c.loop-source.source < length names = omega (arith, c.type_count-source-end.ensures) in
+    on_err c.from_residual.result (stops_step f names c.loop-source.source [] lt c.loop-source.invariant.so_far
+    c.in_err-put_source.ensures.stopped)
+
+pub loop-source-preserved : goal.loop-source-preserved
+loop-source-preserved g c =
+    let names = types c.args.policy.now.statements in
+    let f = source_lines c.args.policy.now c.args.filter.now in
+    let lt : c.loop-source.source < length names = omega (arith, c.type_count-source-end.ensures) in
+    record {
+      so_far = passes_step f names c.loop-source.source [] lt c.loop-source.invariant.so_far
+          c.in_ok-put_source.ensures.ok;
+      count = c.in_ok-put_source.ensures.count ∙ c.loop-source.invariant.count;
+    }
+
+pub returns-clause-ok : goal.returns-clause-ok
+unfolding access_lines
+returns-clause-ok g c =
+    let names = types c.args.policy.now.statements in
+    let f = source_lines c.args.policy.now c.args.filter.now in
+    let le : length names ≤ c.loop-source.source = omega (arith, c.type_count-source-end.ensures) in
+    passes_list f names c.loop-source.source le c.loop-source.invariant.so_far

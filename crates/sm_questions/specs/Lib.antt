@@ -1,0 +1,11 @@
+pub mod Accesses
+pub mod Buffered
+pub mod Differences
+pub mod Explanations
+pub mod Filters
+pub mod Keys
+pub mod Labels
+pub mod Parts
+pub mod Relabelled
+pub mod Sourced
+pub mod Words

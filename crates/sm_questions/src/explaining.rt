@@ -1,0 +1,95 @@
+//! The answer to `svcmgr explain`.
+
+ghost use Rattle.std.specs.Prelude.{◌≡◌, ◌⊎◌, ◌<◌, ℕ, IfOk, OnOk, OnErr, take, ◌++◌};
+ghost use Rattle.std.specs.Io.KnownBytes.{Appends};
+ghost use Rattle.sm_engine.specs.Counts.{failures_of, inner_of, greatest_count};
+ghost use Rattle.sm_questions.specs.Explanations as spec;
+
+use crate::PolicyTables;
+use sm_engine::{Counted, Fault, write_whole};
+use sm_kinds::{Class, Perms, push_numbered};
+use std::alloc::{AllocError, Global};
+use std::io::Write;
+
+/// Writes which rule grants an access, whose types are given by their names.
+///
+/// The first line is `allowed LINE` with the line of the first allow rule that grants it, or `unwritten`. A line
+/// `permissive` follows if the source is permissive. Returns whether a rule grants the access or the source is
+/// permissive.
+///
+/// # Errors
+///
+/// `WriteFault` if a write fails; a prefix of the lines is then written. `Memory` if an allocation fails; nothing is
+/// then written.
+pub fn explain<W: Write>(
+    alloc: Global,
+    policy: &PolicyTables,
+    source: &[u8],
+    target: &[u8],
+    class: Class,
+    perm: Perms,
+    writer: &mut Counted<W>,
+) -> Result<bool, Fault>
+    requires { failures_of writer.old < greatest_count }
+    ensures passes { IfOk result (λ passes. passes ≡ spec.passes policy.now source.now target.now class perm) }
+    ensures written { OnOk result (Appends (W.contents (inner_of writer.old)) (W.contents (inner_of writer.new))
+        (spec.explanation policy.now source.now target.now class perm)) }
+    ensures front { result ≡ Err Fault.WriteFault → (n : ℕ)
+        × Appends (W.contents (inner_of writer.old)) (W.contents (inner_of writer.new))
+        (take n (spec.explanation policy.now source.now target.now class perm)) }
+    ensures unwritten { result ≡ Err Fault.Memory → writer.new ≡ writer.old }
+    ensures fault { OnErr result ((result ≡ Err Fault.WriteFault) ⊎ (result ≡ Err Fault.Memory)) }
+    ensures write_fault { result ≡ Err Fault.WriteFault → failures_of writer.old < failures_of writer.new }
+    ensures write_told { failures_of writer.old < failures_of writer.new → result ≡ Err Fault.WriteFault }
+{
+    let answer = answer_to(alloc, policy, source, target, class, perm)?;
+    write_whole(writer, &answer.lines)?;
+    Ok(answer.passes)
+}
+
+/// The lines of an explanation, and whether the access passes.
+#[derive(Drop)]
+struct Answer {
+    lines: Vec<u8>,
+    passes: bool,
+}
+
+/// Returns the explanation of an access.
+#[tactic(auto, using(crate::proofs::Written::written_if))]
+fn answer_to(
+    alloc: Global,
+    policy: &PolicyTables,
+    source: &[u8],
+    target: &[u8],
+    class: Class,
+    perm: Perms,
+) -> Result<Answer, AllocError>
+    ensures lines { IfOk result
+        (λ a. a.lines.items ≡ spec.explanation policy.now source.now target.now class perm) }
+    ensures passes { IfOk result (λ a. a.passes ≡ spec.passes policy.now source.now target.now class perm) }
+{
+    let line = policy.why(source, target, class, perm);
+    let permissive = policy.is_permissive(source);
+    let mut lines = Vec::new(alloc);
+    push_reason(&mut lines, line)?;
+    if permissive {
+        lines.extend_from_slice(b"permissive\n")?;
+    }
+    Ok(Answer {
+        lines,
+        passes: line.is_some() || permissive,
+    })
+}
+
+/// Appends `allowed LINE` or `unwritten`.
+fn push_reason(lines: &mut Vec<u8>, line: Option<u32>) -> Result<(), AllocError>
+    ensures { OnOk result (lines.new.items ≡ lines.old.items ++ spec.reason line) }
+{
+    match line {
+        Some(n) => {
+            push_numbered(lines, b"allowed ", u64::from(n))?;
+            lines.extend_from_slice(b"\n")
+        }
+        None => lines.extend_from_slice(b"unwritten\n"),
+    }
+}

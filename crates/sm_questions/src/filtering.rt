@@ -1,0 +1,161 @@
+//! What `svcmgr access` is asked for.
+
+ghost use Rattle.std.specs.Prelude.{◌≡◌};
+ghost use Rattle.sm_questions.specs.Filters as spec;
+
+use crate::{PolicyTables, Unknown};
+use sm_kinds::{Class, Perms, Word};
+
+/// The target that accesses must have.
+#[derive(Drop)]
+pub enum Target<'a> {
+    /// Any type.
+    Any,
+    /// The type of this name.
+    Type(Word<'a>),
+    /// The type in the context that labels this service.
+    Name(Word<'a>),
+}
+
+/// The options of a list of accesses, as words.
+#[derive(Drop)]
+pub struct Options<'a> {
+    pub source: Option<Word<'a>>,
+    pub target: Target<'a>,
+    pub class: Option<Word<'a>>,
+    pub perm: Option<Word<'a>>,
+}
+
+/// Which accesses are listed.
+#[derive(Drop)]
+pub struct Filter<'a> {
+    /// Only those with this source.
+    pub source: Option<Word<'a>>,
+    /// Only those with this target.
+    pub target: Option<Word<'a>>,
+    /// Only those with one of these permissions.
+    pub perms: Perms,
+}
+
+fn declared<'a>(policy: &PolicyTables, word: &'a [u8]) -> Result<Option<Word<'a>>, Unknown<'a>>
+    ensures { result ≡ spec.declared policy.now word.now }
+{
+    if policy.declares(word) {
+        Ok(Some(Word::new(word)))
+    } else {
+        Err(Unknown::Type(Word::new(word)))
+    }
+}
+
+fn source_of<'a>(
+    policy: &PolicyTables,
+    source: &Option<Word<'a>>,
+) -> Result<Option<Word<'a>>, Unknown<'a>>
+    ensures { result ≡ spec.source_of policy.now source.now }
+{
+    match source {
+        Some(word) => declared(policy, word.bytes()),
+        None => Ok(None),
+    }
+}
+
+fn target_of<'a>(
+    policy: &'a PolicyTables,
+    target: &Target<'a>,
+) -> Result<Option<Word<'a>>, Unknown<'a>>
+    ensures { result ≡ spec.target_of policy.now target.now }
+{
+    match target {
+        Target::Any => Ok(None),
+        Target::Type(word) => declared(policy, word.bytes()),
+        Target::Name(name) => Ok(Some(Word::new(policy.label_type(name.bytes())))),
+    }
+}
+
+fn class_of<'a>(class: &Option<Word<'a>>) -> Result<Option<Class>, Unknown<'a>>
+    ensures { result ≡ spec.class_of class.now }
+{
+    match class {
+        Some(word) => match Class::read(word.bytes()) {
+            Some(class) => Ok(Some(class)),
+            None => Err(Unknown::Class(Word::new(word.bytes()))),
+        },
+        None => Ok(None),
+    }
+}
+
+/// Returns the permissions of a class, or of all classes.
+fn all_perms(class: Option<Class>) -> Perms
+    ensures { result ≡ spec.all_perms class }
+{
+    match class {
+        Some(Class::ServiceManager) => Perms(7),
+        Some(Class::Binder) => Perms(120),
+        None => Perms(127),
+    }
+}
+
+/// Returns the permission of a class, or of any class, that a word names.
+fn single_perm(class: Option<Class>, word: &[u8]) -> Option<Perms>
+    ensures { result ≡ spec.single_perm class word.now }
+{
+    match class {
+        Some(class) => Perms::read(class, word),
+        None => match Perms::read(Class::ServiceManager, word) {
+            Some(perm) => Some(perm),
+            None => Perms::read(Class::Binder, word),
+        },
+    }
+}
+
+fn perms_of<'a>(class: Option<Class>, perm: &Option<Word<'a>>) -> Result<Perms, Unknown<'a>>
+    ensures { result ≡ spec.perms_of class perm.now }
+{
+    let Some(word) = perm else {
+        return Ok(all_perms(class));
+    };
+    match single_perm(class, word.bytes()) {
+        Some(perm) => Ok(perm),
+        None => Err(Unknown::Permission(Word::new(word.bytes()))),
+    }
+}
+
+/// Returns the permissions that a class and a permission leave, each if it is given.
+fn perms_in<'a>(class: &Option<Word<'a>>, perm: &Option<Word<'a>>) -> Result<Perms, Unknown<'a>>
+    ensures { result ≡ spec.perms_in class.now perm.now }
+{
+    match class_of(class) {
+        Ok(class) => perms_of(class, perm),
+        Err(unknown) => Err(unknown),
+    }
+}
+
+/// Reads the options of a list of accesses.
+///
+/// # Errors
+///
+/// The first word that names nothing: the source, then the target, the class and the permission. A permission must be
+/// one of the class, if that is given. A service's name is never unknown.
+pub fn read_filter<'a>(
+    policy: &'a PolicyTables,
+    options: &Options<'a>,
+) -> Result<Filter<'a>, Unknown<'a>>
+    ensures { result ≡ spec.filter_of policy.now options.now }
+{
+    let source = match source_of(policy, &options.source) {
+        Ok(source) => source,
+        Err(unknown) => return Err(unknown),
+    };
+    let target = match target_of(policy, &options.target) {
+        Ok(target) => target,
+        Err(unknown) => return Err(unknown),
+    };
+    match perms_in(&options.class, &options.perm) {
+        Ok(perms) => Ok(Filter {
+            source,
+            target,
+            perms,
+        }),
+        Err(unknown) => Err(unknown),
+    }
+}

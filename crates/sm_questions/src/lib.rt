@@ -1,0 +1,24 @@
+//! Answers to questions about a policy: the label of a name, the rule that grants an access, and the accesses of a
+//! policy.
+#![tactic(auto)]
+
+mod buffer;
+mod comparing;
+mod explaining;
+mod filtering;
+mod keys;
+mod labelling;
+mod listing;
+mod relabelling;
+mod tables;
+#[cfg(test)]
+mod tests;
+mod unknown;
+
+pub use comparing::diff;
+pub use explaining::explain;
+pub use filtering::{Filter, Options, Target, read_filter};
+pub use labelling::label;
+pub use listing::access;
+pub use tables::PolicyTables;
+pub use unknown::{Unknown, read_access, unknown_text};

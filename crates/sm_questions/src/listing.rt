@@ -1,0 +1,245 @@
+//! The answer to `svcmgr access`.
+
+ghost use Rattle.std.specs.Prelude.{◌≡◌, ◌⊎◌, ◌<◌, ◌++◌, ℕ, IfErr, OnOk, OnErr, length, take};
+ghost use Rattle.std.specs.Io.KnownBytes.{Appends};
+ghost use Rattle.sm_engine.specs.Counts.{failures_of, inner_of, greatest_count};
+ghost use Rattle.sm_types.specs.Names.{at};
+ghost use Rattle.sm_types.specs.Denoting.{types};
+ghost use Rattle.sm_questions.specs.Accesses as spec;
+ghost use Rattle.sm_questions.specs.Buffered.{Fails, Passes, Stops};
+ghost use Rattle.sm_questions.specs.Sourced.{HasRulesOf};
+
+use crate::buffer::write_full;
+use crate::{Filter, PolicyTables};
+use sm_bits::has_bit;
+use sm_engine::{Counted, Fault, write_whole};
+use sm_kinds::{Perms, Word, push_access, push_numbered, spells};
+use sm_rules::{Kept, PERM_COUNT, class_at, perm_at};
+use std::alloc::{AllocError, Global};
+use std::io::Write;
+
+fn is_left(wanted: &Option<Word<'_>>, name: &[u8]) -> bool
+    ensures { result ≡ spec.is_left wanted.now name.now }
+{
+    match wanted {
+        Some(word) => spells(word.bytes(), name),
+        None => true,
+    }
+}
+
+/// Appends the number of a line, or `permissive`.
+fn push_grant(held: &mut Vec<u8>, line: Option<u32>) -> Result<(), AllocError>
+    ensures { OnOk result (held.new.items ≡ held.old.items ++ spec.granted_by line) }
+{
+    match line {
+        Some(n) => push_numbered(held, b" ", u64::from(n)),
+        None => held.extend_from_slice(b" permissive"),
+    }
+}
+
+/// Appends `SOURCE TARGET CLASS PERM LINE`.
+#[tactic(auto, unfolding(crate::specs::Accesses::access_line))]
+fn push_line(
+    policy: &PolicyTables,
+    rules: &[&Kept],
+    source: u16,
+    target: u16,
+    bit: u32,
+    held: &mut Vec<u8>,
+) -> Result<(), AllocError>
+    requires bit { bit < 7 }
+    requires source { source < length (types policy.now.statements) }
+    requires target { target < length (types policy.now.statements) }
+    requires rules { HasRulesOf policy.now source rules.now }
+    ensures { OnOk result (held.new.items ≡ held.old.items ++ spec.access_line policy.now
+        (at (types policy.now.statements) source) (at (types policy.now.statements) target) bit) }
+{
+    let line = policy.line_among(rules, source, target, bit);
+    let from = policy.type_name(source);
+    let to = policy.type_name(target);
+    push_access(held, from, to, class_at(bit), perm_at(bit))?;
+    push_grant(held, line)?;
+    held.extend_from_slice(b"\n")
+}
+
+/// Appends the line for a permission, if it is asked for and allowed.
+#[tactic(auto, unfolding(crate::specs::Accesses::perm_lines))]
+fn push_perm(
+    policy: &PolicyTables,
+    rules: &[&Kept],
+    wanted: Perms,
+    source: u16,
+    target: u16,
+    bit: u32,
+    held: &mut Vec<u8>,
+) -> Result<(), AllocError>
+    requires bit { bit < 7 }
+    requires source { source < length (types policy.now.statements) }
+    requires target { target < length (types policy.now.statements) }
+    requires rules { HasRulesOf policy.now source rules.now }
+    ensures { OnOk result (held.new.items ≡ held.old.items ++ spec.perm_lines policy.now wanted.0
+        (at (types policy.now.statements) source) (at (types policy.now.statements) target) bit) }
+{
+    if has_bit(wanted.0, bit) && policy.allows_at(source, target, bit) {
+        push_line(policy, rules, source, target, bit, held)
+    } else {
+        Ok(())
+    }
+}
+
+/// Appends the lines for two types.
+#[tactic(auto, unfolding(crate::specs::Accesses::pair_lines))]
+fn push_pair(
+    policy: &PolicyTables,
+    rules: &[&Kept],
+    wanted: Perms,
+    source: u16,
+    target: u16,
+    held: &mut Vec<u8>,
+) -> Result<(), AllocError>
+    requires source { source < length (types policy.now.statements) }
+    requires target { target < length (types policy.now.statements) }
+    requires rules { HasRulesOf policy.now source rules.now }
+    ensures { OnOk result (held.new.items ≡ held.old.items ++ spec.pair_lines policy.now wanted.0
+        (at (types policy.now.statements) source) (at (types policy.now.statements) target)) }
+{
+    for bit in 0..PERM_COUNT {
+        push_perm(policy, rules, wanted, source, target, bit, held)?;
+    }
+    Ok(())
+}
+
+/// Lists the accesses of two types, if the target is asked for.
+#[tactic(auto, unfolding(crate::specs::Accesses::target_lines))]
+fn put_target<W: Write>(
+    policy: &PolicyTables,
+    filter: &Filter<'_>,
+    rules: &[&Kept],
+    source: u16,
+    target: u16,
+    writer: &mut Counted<W>,
+    held: &mut Vec<u8>,
+) -> Result<(), Fault>
+    requires count { failures_of writer.old < greatest_count }
+    requires source { source < length (types policy.now.statements) }
+    requires target { target < length (types policy.now.statements) }
+    requires rules { HasRulesOf policy.now source rules.now }
+    ensures ok { OnOk result (Passes (W.contents (inner_of writer.old)) (W.contents (inner_of writer.new))
+        held.old.items held.new.items (spec.target_lines policy.now filter.now
+        (at (types policy.now.statements) source) (at (types policy.now.statements) target))) }
+    ensures count { OnOk result (failures_of writer.new ≡ failures_of writer.old) }
+    ensures stopped { OnErr result (Stops (W.contents (inner_of writer.old)) (W.contents (inner_of writer.new))
+        held.old.items (spec.target_lines policy.now filter.now
+        (at (types policy.now.statements) source) (at (types policy.now.statements) target))) }
+    ensures fault { IfErr result (λ e. Fails e (failures_of writer.old) (failures_of writer.new)) }
+{
+    if !is_left(&filter.target, policy.type_name(target)) {
+        return Ok(());
+    }
+    push_pair(policy, rules, filter.perms, source, target, held)?;
+    write_full(writer, held)
+}
+
+/// Lists the accesses of a source whose rules these are.
+fn put_targets<W: Write>(
+    policy: &PolicyTables,
+    filter: &Filter<'_>,
+    rules: &[&Kept],
+    source: u16,
+    writer: &mut Counted<W>,
+    held: &mut Vec<u8>,
+) -> Result<(), Fault>
+    requires count { failures_of writer.old < greatest_count }
+    requires source { source < length (types policy.now.statements) }
+    requires rules { HasRulesOf policy.now source rules.now }
+    ensures ok { OnOk result (Passes (W.contents (inner_of writer.old)) (W.contents (inner_of writer.new))
+        held.old.items held.new.items (spec.targets_lines policy.now filter.now
+        (at (types policy.now.statements) source))) }
+    ensures count { OnOk result (failures_of writer.new ≡ failures_of writer.old) }
+    ensures stopped { OnErr result (Stops (W.contents (inner_of writer.old)) (W.contents (inner_of writer.new))
+        held.old.items (spec.targets_lines policy.now filter.now (at (types policy.now.statements) source))) }
+    ensures fault { IfErr result (λ e. Fails e (failures_of writer.old) (failures_of writer.new)) }
+{
+    for target in 0..policy.type_count() {
+        put_target(policy, filter, rules, source, target, writer, held)?;
+    }
+    Ok(())
+}
+
+/// Lists the accesses of a source, if it is asked for.
+#[tactic(auto, unfolding(crate::specs::Accesses::source_lines))]
+fn put_source<W: Write>(
+    alloc: Global,
+    policy: &PolicyTables,
+    filter: &Filter<'_>,
+    source: u16,
+    writer: &mut Counted<W>,
+    held: &mut Vec<u8>,
+) -> Result<(), Fault>
+    requires count { failures_of writer.old < greatest_count }
+    requires source { source < length (types policy.now.statements) }
+    ensures ok { OnOk result (Passes (W.contents (inner_of writer.old)) (W.contents (inner_of writer.new))
+        held.old.items held.new.items (spec.source_lines policy.now filter.now
+        (at (types policy.now.statements) source))) }
+    ensures count { OnOk result (failures_of writer.new ≡ failures_of writer.old) }
+    ensures stopped { OnErr result (Stops (W.contents (inner_of writer.old)) (W.contents (inner_of writer.new))
+        held.old.items (spec.source_lines policy.now filter.now (at (types policy.now.statements) source))) }
+    ensures fault { IfErr result (λ e. Fails e (failures_of writer.old) (failures_of writer.new)) }
+{
+    if !is_left(&filter.source, policy.type_name(source)) {
+        return Ok(());
+    }
+    let rules = policy.rules_of(alloc, source)?;
+    put_targets(policy, filter, &rules, source, writer, held)
+}
+
+/// Lists the accesses of all sources.
+fn put_sources<W: Write>(
+    alloc: Global,
+    policy: &PolicyTables,
+    filter: &Filter<'_>,
+    writer: &mut Counted<W>,
+    held: &mut Vec<u8>,
+) -> Result<(), Fault>
+    requires { failures_of writer.old < greatest_count }
+    ensures ok { OnOk result (Passes (W.contents (inner_of writer.old)) (W.contents (inner_of writer.new))
+        held.old.items held.new.items (spec.access_lines policy.now filter.now)) }
+    ensures count { OnOk result (failures_of writer.new ≡ failures_of writer.old) }
+    ensures stopped { OnErr result (Stops (W.contents (inner_of writer.old)) (W.contents (inner_of writer.new))
+        held.old.items (spec.access_lines policy.now filter.now)) }
+    ensures fault { IfErr result (λ e. Fails e (failures_of writer.old) (failures_of writer.new)) }
+{
+    for source in 0..policy.type_count() {
+        put_source(alloc, policy, filter, source, writer, held)?;
+    }
+    Ok(())
+}
+
+/// Writes a line `SOURCE TARGET CLASS PERM LINE` for each access that the policy allows and the filter leaves.
+///
+/// LINE is that of the first allow rule that grants it, or `permissive` if none does. Sources and targets are in the
+/// order of their declaration. The lines are written as they are found, through a buffer of bounded size.
+///
+/// # Errors
+///
+/// `WriteFault` if a write fails, `Memory` if an allocation fails; a prefix of the lines is then written.
+pub fn access<W: Write>(
+    alloc: Global,
+    policy: &PolicyTables,
+    filter: &Filter<'_>,
+    writer: &mut Counted<W>,
+) -> Result<(), Fault>
+    requires { failures_of writer.old < greatest_count }
+    ensures written { OnOk result (Appends (W.contents (inner_of writer.old)) (W.contents (inner_of writer.new))
+        (spec.access_lines policy.now filter.now)) }
+    ensures front { OnErr result ((n : ℕ)
+        × Appends (W.contents (inner_of writer.old)) (W.contents (inner_of writer.new))
+        (take n (spec.access_lines policy.now filter.now))) }
+    ensures fault { OnErr result ((result ≡ Err Fault.WriteFault) ⊎ (result ≡ Err Fault.Memory)) }
+    ensures write_fault { result ≡ Err Fault.WriteFault → failures_of writer.old < failures_of writer.new }
+    ensures write_told { failures_of writer.old < failures_of writer.new → result ≡ Err Fault.WriteFault }
+{
+    let mut held = Vec::new(alloc);
+    put_sources(alloc, policy, filter, writer, &mut held)?;
+    write_whole(writer, &held)
+}

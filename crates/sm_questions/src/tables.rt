@@ -1,0 +1,300 @@
+//! The tables of a policy that questions read.
+
+ghost use Rattle.std.specs.Prelude.{◌≡◌, ◌<◌, ◌*◌, List, Ok, IfOk, All, filter, length};
+ghost use Rattle.sm_ruletext.specs.declared.statement.Statement.{Statement as TheStatement};
+ghost use Rattle.sm_ruletext.specs.Statements.{read as statements_of};
+ghost use Rattle.sm_types.specs.Members.{IsOf};
+ghost use Rattle.sm_bits.specs.Bits.{has};
+ghost use Rattle.sm_rules.specs.Keeping.{RulesOf};
+ghost use Rattle.sm_questions.specs.Sourced.{AllFit, first_line, pointed};
+
+use crate::keys::keys_in;
+use sm_contexts::Contexts;
+use sm_kinds::{Class, Context, Names, Perms};
+use sm_policy::{PolicyFault, Prepared};
+use sm_rules::{Kept, Rules, class_at, perm_at};
+use sm_types::{TypeCount, Types};
+use std::alloc::{AllocError, Global};
+use std::marker::Model;
+
+/// The types and the rules of a policy source.
+#[derive(Drop)]
+struct Source {
+    types: Types,
+    rules: Rules,
+}
+
+/// Reads the types and the rules of a policy source that a policy was prepared from. Only an allocation can fail then.
+fn source_of(alloc: Global, text: &[u8]) -> Result<Source, AllocError>
+    ensures { IfOk result (λ s. (policy : List TheStatement) → statements_of text.now ≡ Ok policy
+        → IsOf policy s.types × RulesOf policy s.types.symbols.types s.rules) }
+{
+    let Ok(statements) = sm_ruletext::read(alloc, text) else {
+        return Err(AllocError);
+    };
+    let Ok(types) = Types::build(alloc, &statements) else {
+        return Err(AllocError);
+    };
+    match Rules::build(alloc, &statements, &types) {
+        Ok(rules) => Ok(Source { types, rules }),
+        Err(_) => Err(AllocError),
+    }
+}
+
+/// Returns the rules that have a source.
+fn rules_of(alloc: Global, rules: &[Kept], source: usize) -> Result<Vec<&Kept>, AllocError>
+    requires { All (λ r. source < 64 * length r.sources) rules.now }
+    ensures { IfOk result (λ found. pointed found.items ≡ filter (λ r. has r.sources source) rules.now) }
+{
+    let mut found = Vec::new(alloc);
+    for rule in rules {
+        if rule.sources.has(source) {
+            found.push(rule)?;
+        }
+    }
+    Ok(found)
+}
+
+/// Returns the line of the first rule that covers an access.
+fn first_of(rules: &[&Kept], count: TypeCount, bit: u32, s: usize, t: usize) -> Option<u32>
+    requires fits { AllFit count rules.now }
+    requires bit { bit < 8 }
+    requires source { s < count }
+    requires target { t < count }
+    ensures { result ≡ first_line rules.now bit s t }
+{
+    rules
+        .iter()
+        .find(|rule| rule.covers(bit, s, t))
+        .map(|rule| rule.line)
+}
+
+/// An accepted policy with the tables of its parts, which name its types and give the lines of its rules and labels.
+/// Contracts see the policy.
+pub struct PolicyTables {
+    prepared: Prepared,
+    types: Types,
+    rules: Rules,
+    contexts: Contexts,
+    /// The keys of the contexts, in order.
+    keys: Names,
+}
+
+impl Model for PolicyTables {
+    ghost use Rattle.sm_policy.specs.Policy.{Policy};
+    ghost use Rattle.sm_questions.specs.Parts.{AreTablesOf};
+
+    ghost Value = { Policy };
+
+    ghost view = { λ t. t.prepared };
+
+    ghost invariant = { λ t. AreTablesOf t.prepared t.types t.rules t.contexts t.keys };
+}
+
+impl Drop for PolicyTables {
+    fn drop(self) {
+        let PolicyTables {
+            prepared: _,
+            types: _,
+            rules: _,
+            contexts: _,
+            keys: _,
+        } = self;
+    }
+}
+
+impl PolicyTables {
+    ghost use Rattle.std.specs.Prelude.{◌≡◌, ◌<◌, ℕ, List, Some, IfOk, length, option_map};
+    ghost use Rattle.sm_kinds.specs.Reading.{Gives};
+    ghost use Rattle.sm_contexts.specs.Reading.{line_and_context, seen};
+    ghost use Rattle.sm_policy.specs.Preparing.{is_memory, prepared};
+    ghost use Rattle.sm_types.specs.Denoting.{declares, types};
+    ghost use Rattle.sm_types.specs.Names.{at};
+    ghost use Rattle.sm_rules.specs.Keeping.{class_at, perm_at};
+    ghost use Rattle.sm_questions.specs.Sourced.{HasRulesOf};
+    ghost use Rattle.sm_kinds.specs.Contexts.{type_of};
+    ghost use Rattle.sm_policy.specs.Policy.{allowed, is_permissive, label_of, type_index, written_at};
+    ghost use Rattle.sm_kinds.specs.Names.{contains};
+    ghost use Rattle.sm_questions.specs.Keys.{keys_of};
+    ghost use Rattle.sm_questions.specs.Labels.{label_entry};
+
+    /// Reads the policy of a policy source and a contexts file.
+    ///
+    /// # Errors
+    ///
+    /// As `Prepared::from_texts`.
+    pub fn from_texts(
+        alloc: Global,
+        rules: &[u8],
+        contexts: &[u8],
+    ) -> Result<PolicyTables, PolicyFault>
+        ensures { Gives is_memory (λ p. p) result (prepared rules.now contexts.now) }
+    {
+        let prepared = Prepared::from_texts(alloc, rules, contexts)?;
+        let Ok(source) = source_of(alloc, rules) else {
+            return Err(PolicyFault::Memory);
+        };
+        let Ok(keys) = keys_in(alloc, contexts) else {
+            return Err(PolicyFault::Memory);
+        };
+        let Ok(contexts) = Contexts::read(alloc, contexts) else {
+            return Err(PolicyFault::Memory);
+        };
+        let Source { types, rules } = source;
+        Ok(PolicyTables {
+            prepared,
+            types,
+            rules,
+            contexts,
+            keys,
+        })
+    }
+
+    /// Returns the line of the key that labels a name, and the context on it.
+    #[tactic(auto, using(crate::proofs::Entries::entry_at, std::proofs::lemmas::Grind::common_steps))]
+    pub fn label_entry(&self, name: &[u8]) -> (u32, &Context)
+        ensures { Some (seen result) ≡ option_map line_and_context (label_entry self.now name.now) }
+    {
+        let place = self.contexts.place(name);
+        match self.contexts.entry(place) {
+            Some(entry) => entry,
+            None => unreachable!(),
+        }
+    }
+
+    /// Returns the type in the context that labels a name.
+    pub fn label_type(&self, name: &[u8]) -> &[u8]
+        ensures { result.now ≡ type_of (label_of self.now name.now) }
+    {
+        self.prepared.label(name).type_name()
+    }
+
+    /// Returns whether the policy source declares the type.
+    pub fn declares(&self, name: &[u8]) -> bool
+        ensures { result ≡ declares self.now.statements name.now }
+    {
+        self.types.index(name).is_some()
+    }
+
+    /// Returns whether the policy source makes the type permissive.
+    pub fn is_permissive(&self, source: &[u8]) -> bool
+        ensures { result ≡ is_permissive self.now source.now }
+    {
+        match self.types.index(source) {
+            Some(index) => self.rules.permissive(index),
+            None => false,
+        }
+    }
+
+    /// Returns the line of the first allow rule that grants the permission, or `None` if no rule does.
+    pub fn why(&self, source: &[u8], target: &[u8], class: Class, perm: Perms) -> Option<u32>
+        ensures { result ≡ written_at self.now source.now target.now class perm }
+    {
+        self.prepared.why(source, target, class, perm)
+    }
+
+    /// Returns the number of declared types.
+    pub(crate) fn type_count(&self) -> u16
+        ensures { result ≡ length (types self.now.statements) }
+    {
+        self.types.count() as u16
+    }
+
+    /// Returns the name of a type by its number, which is its place in the order of declaration, from 0. Nothing if
+    /// there is no such type.
+    #[tactic(auto, using(std::proofs::lemmas::Option::gets, std::proofs::lemmas::Grind::common_steps))]
+    pub(crate) fn type_name(&self, index: u16) -> &[u8]
+        ensures { result.now ≡ at (types self.now.statements) index }
+    {
+        self.types.name(index).unwrap_or(b"")
+    }
+
+    /// Returns whether permission `bit` on the two types is allowed, by their numbers.
+    pub(crate) fn allows_at(&self, source: u16, target: u16, bit: u32) -> bool
+        requires source { source < length (types self.now.statements) }
+        requires target { target < length (types self.now.statements) }
+        ensures { result ≡ allowed self.now (at (types self.now.statements) source)
+            (at (types self.now.statements) target) (class_at bit) (perm_at bit) }
+    {
+        self.prepared
+            .allows_at(source, target, class_at(bit), perm_at(bit))
+    }
+
+    /// Returns the allow rules that have a source.
+    pub(crate) fn rules_of(&self, alloc: Global, source: u16) -> Result<Vec<&Kept>, AllocError>
+        requires { source < length (types self.now.statements) }
+        ensures { IfOk result (λ rules. HasRulesOf self.now source rules.items) }
+    {
+        rules_of(alloc, self.rules.allows(), usize::from(source))
+    }
+
+    /// Returns the line of the first allow rule that grants permission `bit` on the two types, by their numbers, of
+    /// which the first is that of the rules. `None` if no rule does.
+    pub(crate) fn line_among(
+        &self,
+        rules: &[&Kept],
+        source: u16,
+        target: u16,
+        bit: u32,
+    ) -> Option<u32>
+        requires bit { bit < 7 }
+        requires source { source < length (types self.now.statements) }
+        requires target { target < length (types self.now.statements) }
+        requires rules { HasRulesOf self.now source rules.now }
+        ensures { result ≡ written_at self.now (at (types self.now.statements) source)
+            (at (types self.now.statements) target) (class_at bit) (perm_at bit) }
+    {
+        let count = self.types.type_count();
+        first_of(rules, count, bit, usize::from(source), usize::from(target))
+    }
+
+    /// Returns the number of a type by its name, or `None` if it isn't declared.
+    pub(crate) fn type_index(&self, name: &[u8]) -> Option<u16>
+        ensures { result ≡ type_index self.now name.now }
+    {
+        self.prepared.type_index(name)
+    }
+
+    /// Returns whether permission `bit` is allowed on two types whose `type_index` these are. If one is `None`,
+    /// nothing is.
+    pub(crate) fn allows_by(&self, source: Option<u16>, target: Option<u16>, bit: u32) -> bool
+        ensures { (s t : List ℕ) → source ≡ type_index self.now s → target ≡ type_index self.now t
+            → result ≡ allowed self.now s t (class_at bit) (perm_at bit) }
+    {
+        self.prepared
+            .decide_at(source, target, class_at(bit), perm_at(bit))
+            .allowed
+    }
+
+    /// Returns the number of distinct keys of the contexts file.
+    pub(crate) fn key_count(&self) -> usize
+        ensures { result ≡ length (keys_of self.now) }
+    {
+        self.keys.list().len()
+    }
+
+    /// Returns a key by its place in the order of the keys' first lines, from 0. Nothing if there is no such key.
+    #[tactic(auto, using(std::proofs::lemmas::Option::gets, std::proofs::lemmas::Grind::common_steps))]
+    pub(crate) fn key(&self, index: usize) -> &[u8]
+        ensures { result.now ≡ at (keys_of self.now) index }
+    {
+        match self.keys.list().get(index) {
+            Some(key) => key.bytes(),
+            None => b"",
+        }
+    }
+
+    /// Returns whether the contexts file has the key.
+    pub(crate) fn has_key(&self, key: &[u8]) -> bool
+        ensures { result ≡ contains (keys_of self.now) key.now }
+    {
+        self.keys.contains(key)
+    }
+
+    /// Returns the context that labels a name.
+    pub(crate) fn label_text(&self, name: &[u8]) -> &[u8]
+        ensures { result.now ≡ label_of self.now name.now }
+    {
+        self.prepared.label(name).text()
+    }
+}

@@ -1,0 +1,221 @@
+//! Answers to questions about small policies. Each is worked out by hand.
+
+use crate::{
+    Options, PolicyTables, Target, access, diff, explain, label, read_access, read_filter,
+};
+use sm_engine::Counted;
+use sm_kinds::Word;
+use std::alloc::Global;
+use std::process::Abort;
+
+const RULES: &[u8] = b"attribute domain;
+type init;
+type app, domain;
+type svc;
+allow domain svc:service_manager { find list };
+allow app svc:service_manager find;
+allow init self:binder call;
+permissive init;
+";
+
+const CONTEXTS: &[u8] = b"# services
+media u:object_r:svc:s0
+* u:object_r:app:s0
+";
+
+fn tables(rt: &impl Abort, alloc: Global, rules: &[u8], contexts: &[u8]) -> PolicyTables {
+    PolicyTables::from_texts(alloc, rules, contexts)
+        .ok()
+        .expect(rt, "a policy")
+}
+
+fn labels(rt: &impl Abort, alloc: Global, policy: &PolicyTables, name: &[u8], line: &[u8]) -> bool {
+    let mut writer = Counted::new(Vec::new(alloc));
+    label(alloc, policy, name, &mut writer)
+        .ok()
+        .expect(rt, "a label");
+    writer.into_inner().as_slice() == line
+}
+
+#[test]
+fn a_label_has_the_line_of_its_key(rt: HostRuntime) {
+    let policy = tables(&rt, rt.alloc(), RULES, CONTEXTS);
+    assert!(rt; labels(&rt, rt.alloc(), &policy, b"media", b"u:object_r:svc:s0 2\n"));
+    assert!(rt; labels(&rt, rt.alloc(), &policy, b"other", b"u:object_r:app:s0 3\n"));
+}
+
+/// The words of an access, the lines of its explanation, and whether it passes.
+struct Explained {
+    words: [&'static [u8]; 4],
+    lines: &'static [u8],
+    passes: bool,
+}
+
+fn explains(rt: &impl Abort, alloc: Global, policy: &PolicyTables, expected: &Explained) -> bool {
+    let [source, target, class, perm] = expected.words;
+    let (class, perm) = read_access(policy, source, target, class, perm)
+        .ok()
+        .expect(rt, "words of the policy");
+    let mut writer = Counted::new(Vec::new(alloc));
+    let passes = explain(alloc, policy, source, target, class, perm, &mut writer)
+        .ok()
+        .expect(rt, "an explanation");
+    writer.into_inner().as_slice() == expected.lines && passes == expected.passes
+}
+
+const EXPLAINED: &[Explained] = &[
+    Explained {
+        words: [b"app", b"svc", b"service_manager", b"find"],
+        lines: b"allowed 5\n",
+        passes: true,
+    },
+    Explained {
+        words: [b"svc", b"svc", b"service_manager", b"find"],
+        lines: b"unwritten\n",
+        passes: false,
+    },
+    Explained {
+        words: [b"init", b"init", b"binder", b"call"],
+        lines: b"allowed 7\npermissive\n",
+        passes: true,
+    },
+    Explained {
+        words: [b"init", b"svc", b"service_manager", b"add"],
+        lines: b"unwritten\npermissive\n",
+        passes: true,
+    },
+];
+
+#[test]
+fn explanations(rt: HostRuntime) {
+    let policy = tables(&rt, rt.alloc(), RULES, CONTEXTS);
+    for expected in EXPLAINED {
+        assert!(rt; explains(&rt, rt.alloc(), &policy, expected));
+    }
+}
+
+fn lists(
+    rt: &impl Abort,
+    alloc: Global,
+    policy: &PolicyTables,
+    options: &Options<'_>,
+    lines: &[u8],
+) -> bool {
+    let filter = read_filter(policy, options).ok().expect(rt, "known words");
+    let mut writer = Counted::new(Vec::new(alloc));
+    access(alloc, policy, &filter, &mut writer)
+        .ok()
+        .expect(rt, "a list");
+    writer.into_inner().as_slice() == lines
+}
+
+#[test]
+fn accesses_of_a_source(rt: HostRuntime) {
+    let policy = tables(&rt, rt.alloc(), RULES, CONTEXTS);
+    let options = Options {
+        source: Some(Word::new(b"app")),
+        target: Target::Any,
+        class: None,
+        perm: None,
+    };
+    let lines = b"app svc service_manager find 5\napp svc service_manager list 5\n";
+    assert!(rt; lists(&rt, rt.alloc(), &policy, &options, lines));
+}
+
+#[test]
+fn accesses_with_a_permission(rt: HostRuntime) {
+    let policy = tables(&rt, rt.alloc(), RULES, CONTEXTS);
+    let options = Options {
+        source: Some(Word::new(b"init")),
+        target: Target::Any,
+        class: Some(Word::new(b"binder")),
+        perm: Some(Word::new(b"call")),
+    };
+    let lines =
+        b"init init binder call 7\ninit app binder call permissive\ninit svc binder call permissive\n";
+    assert!(rt; lists(&rt, rt.alloc(), &policy, &options, lines));
+}
+
+#[test]
+fn accesses_of_a_name(rt: HostRuntime) {
+    let policy = tables(&rt, rt.alloc(), RULES, CONTEXTS);
+    let options = Options {
+        source: None,
+        target: Target::Name(Word::new(b"media")),
+        class: None,
+        perm: Some(Word::new(b"find")),
+    };
+    let lines = b"init svc service_manager find permissive\napp svc service_manager find 5\n";
+    assert!(rt; lists(&rt, rt.alloc(), &policy, &options, lines));
+}
+
+const TWO_TYPES: &[u8] = b"type app;\ntype svc;\n";
+
+const OTHER_CONTEXTS: &[u8] = b"vold u:object_r:svc:s0
+* u:object_r:app:s0
+media u:object_r:app:s0
+zygote u:object_r:app:s0
+";
+
+/// A policy source and a contexts file, those of another policy, and the lines for what differs.
+const COMPARED: &[([&[u8]; 2], [&[u8]; 2], &[u8])] = &[
+    ([RULES, CONTEXTS], [RULES, CONTEXTS], b""),
+    (
+        [
+            b"attribute domain;\ntype app, domain;\ntype svc;\nallow domain svc:service_manager { find list };\n",
+            CONTEXTS,
+        ],
+        [
+            b"type svc;\ntype app;\ntype log;\nallow app svc:service_manager find;\nallow app log:binder transfer;\n",
+            CONTEXTS,
+        ],
+        b"- app svc service_manager list\n+ app log binder transfer\n",
+    ),
+    (
+        [
+            b"type svc;\ntype app;\npermissive app;\nallow app *:{ binder service_manager } *;",
+            CONTEXTS,
+        ],
+        [
+            b"type svc;\ntype app;\nallow app *:{ binder service_manager } *;",
+            CONTEXTS,
+        ],
+        b"- permissive app\n",
+    ),
+    (
+        [
+            b"type svc;\ntype app;\nallow app *:binder *;\nallow app *:service_manager { add find };",
+            CONTEXTS,
+        ],
+        [b"type app;\ntype svc;\npermissive app;", CONTEXTS],
+        b"+ app app service_manager list\n+ app svc service_manager list\n+ permissive app\n",
+    ),
+    (
+        [TWO_TYPES, CONTEXTS],
+        [TWO_TYPES, OTHER_CONTEXTS],
+        b"~ media u:object_r:svc:s0 u:object_r:app:s0\n~ vold u:object_r:app:s0 u:object_r:svc:s0\n",
+    ),
+];
+
+fn differs(
+    rt: &impl Abort,
+    alloc: Global,
+    old: &[&[u8]; 2],
+    new: &[&[u8]; 2],
+    lines: &[u8],
+) -> bool {
+    let old = tables(rt, alloc, old[0], old[1]);
+    let new = tables(rt, alloc, new[0], new[1]);
+    let mut writer = Counted::new(Vec::new(alloc));
+    let same = diff(alloc, &old, &new, &mut writer)
+        .ok()
+        .expect(rt, "a comparison");
+    writer.into_inner().as_slice() == lines && same == lines.is_empty()
+}
+
+#[test]
+fn differences(rt: HostRuntime) {
+    for (old, new, lines) in COMPARED {
+        assert!(rt; differs(&rt, rt.alloc(), old, new, lines));
+    }
+}
