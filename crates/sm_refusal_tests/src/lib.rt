@@ -17,6 +17,8 @@ mod policy;
 #[cfg(test)]
 mod programs;
 #[cfg(test)]
+mod questions;
+#[cfg(test)]
 mod tables;
 #[cfg(test)]
 mod texts;
