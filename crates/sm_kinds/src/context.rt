@@ -7,7 +7,6 @@ ghost use Rattle.sm_kinds.specs.Contexts as spec;
 use std::alloc::{AllocError, Global};
 use std::marker::Model;
 use std::sync::ArcSlice;
-use thiserror::Error;
 
 /// A security context, `user:role:type` or `user:role:type:range`, which contracts see as its text.
 /// The range is kept as text and never compared.
@@ -19,12 +18,11 @@ pub struct Context {
 }
 
 /// Why bytes are no context.
-#[derive(Clone, Copy, Debug, PartialEq, Eq, Error)]
+#[derive(Clone, Copy, Debug, PartialEq, Eq)]
 pub enum ContextError {
     /// They aren't `user:role:type` or `user:role:type:range`.
-    #[error("not a context")]
     BadContext,
-    #[error("out of memory")]
+    /// An allocation failed.
     Memory,
 }
 

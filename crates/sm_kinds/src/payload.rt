@@ -6,7 +6,6 @@ use crate::limits::MOST_PAYLOAD_BYTES;
 use bytes::Bytes;
 use std::alloc::{AllocError, Global};
 use std::marker::Model;
-use thiserror::Error;
 
 /// The payload of a call, at most `MOST_PAYLOAD_BYTES`.
 pub struct Payload {
@@ -14,12 +13,11 @@ pub struct Payload {
 }
 
 /// Why bytes are no payload.
-#[derive(Clone, Copy, Debug, PartialEq, Eq, Error)]
+#[derive(Clone, Copy, Debug, PartialEq, Eq)]
 pub enum PayloadError {
     /// There are more bytes than `MOST_PAYLOAD_BYTES`.
-    #[error("more than 1,024 bytes")]
     TooLong,
-    #[error("out of memory")]
+    /// An allocation failed.
     Memory,
 }
 

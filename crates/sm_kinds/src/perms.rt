@@ -63,14 +63,14 @@ impl Perms {
     pub fn word(self) -> Option<&'static [u8]>
         ensures { option_map (λ w. w.now) result ≡ perm_word self }
     {
-        match self.0 {
-            1 => Some(b"add"),
-            2 => Some(b"find"),
-            4 => Some(b"list"),
-            8 => Some(b"impersonate"),
-            16 => Some(b"call"),
-            32 => Some(b"set_context_mgr"),
-            64 => Some(b"transfer"),
+        match self {
+            Perms::ADD => Some(b"add"),
+            Perms::FIND => Some(b"find"),
+            Perms::LIST => Some(b"list"),
+            Perms::IMPERSONATE => Some(b"impersonate"),
+            Perms::CALL => Some(b"call"),
+            Perms::SET_CONTEXT_MGR => Some(b"set_context_mgr"),
+            Perms::TRANSFER => Some(b"transfer"),
             _ => None,
         }
     }
@@ -83,11 +83,11 @@ fn service_manager_perm(word: &[u8]) -> Option<Perms>
     ensures { result ≡ perm_read ServiceManager word.now }
 {
     if spells(word, b"add") {
-        Some(Perms(1))
+        Some(Perms::ADD)
     } else if spells(word, b"find") {
-        Some(Perms(2))
+        Some(Perms::FIND)
     } else if spells(word, b"list") {
-        Some(Perms(4))
+        Some(Perms::LIST)
     } else {
         None
     }
@@ -97,13 +97,13 @@ fn binder_perm(word: &[u8]) -> Option<Perms>
     ensures { result ≡ perm_read Binder word.now }
 {
     if spells(word, b"impersonate") {
-        Some(Perms(8))
+        Some(Perms::IMPERSONATE)
     } else if spells(word, b"call") {
-        Some(Perms(16))
+        Some(Perms::CALL)
     } else if spells(word, b"set_context_mgr") {
-        Some(Perms(32))
+        Some(Perms::SET_CONTEXT_MGR)
     } else if spells(word, b"transfer") {
-        Some(Perms(64))
+        Some(Perms::TRANSFER)
     } else {
         None
     }

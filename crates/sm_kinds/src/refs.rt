@@ -6,7 +6,6 @@ use crate::limits::MOST_REFS;
 use crate::number::ObjRef;
 use std::alloc::{AllocError, Global};
 use std::marker::Model;
-use thiserror::Error;
 
 /// The references of a call, in order, at most `MOST_REFS`.
 pub struct Refs {
@@ -14,12 +13,11 @@ pub struct Refs {
 }
 
 /// Why references can't be passed in one call.
-#[derive(Clone, Copy, Debug, PartialEq, Eq, Error)]
+#[derive(Clone, Copy, Debug, PartialEq, Eq)]
 pub enum RefsError {
     /// There are more references than `MOST_REFS`.
-    #[error("more than 16 references")]
     TooLong,
-    #[error("out of memory")]
+    /// An allocation failed.
     Memory,
 }
 

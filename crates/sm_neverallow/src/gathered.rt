@@ -9,6 +9,7 @@ ghost use Rattle.sm_neverallow.specs.Uniting.{FitsGathered, in_gathered};
 use crate::batch::{BATCH, Batch};
 use crate::perm_sets::perm_set;
 use sm_bits::{BitRow, empty_rows};
+use sm_kinds::Perms;
 use sm_rules::Kept;
 use sm_types::TypeCount;
 use std::alloc::{AllocError, Global};
@@ -177,13 +178,13 @@ impl Gathered {
         alloc: Global,
         rule: &Kept,
         count: TypeCount,
-        set: u8,
+        set: Perms,
     ) -> Result<(), AllocError>
         requires fits { FitsGathered count self.old }
         requires rule { FitsRule count rule.now }
         ensures fits { IfOk result (λ done. FitsGathered count self.new) }
         ensures added { IfOk result (λ done. (s t : ℕ) → s < count → in_gathered self.new s t
-            ≡ (in_gathered self.old s t || (joins s t rule.now && is_of_set set rule.now))) }
+            ≡ (in_gathered self.old s t || (joins s t rule.now && is_of_set set.0 rule.now))) }
     {
         if perm_set(rule) != set {
             return Ok(());
@@ -213,10 +214,10 @@ pub fn rows_of(
     alloc: Global,
     rules: &[Kept],
     count: TypeCount,
-    set: u8,
+    set: Perms,
 ) -> Result<Vec<BitRow>, AllocError>
     requires fits { All (FitsRule count) rules.now }
-    ensures { IfOk result (λ m. Grouped rules.now count set m.items) }
+    ensures { IfOk result (λ m. Grouped rules.now count set.0 m.items) }
 {
     let mut gathered = Gathered::empty(alloc, count)?;
     for rule in rules {

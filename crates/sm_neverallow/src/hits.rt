@@ -19,6 +19,7 @@ use crate::matrix::{GROUP, Matrix};
 use crate::perm_sets::perm_set;
 use crate::unions::Unions;
 use sm_bits::{BitRow, with_bit};
+use sm_kinds::Perms;
 use sm_rules::Kept;
 use sm_types::TypeCount;
 use std::alloc::{AllocError, Global};
@@ -237,11 +238,11 @@ fn may_hit(targets: &BitRow, rule: &Kept) -> bool
 }
 
 /// Returns whether a rule has exactly the permissions `set`, and may join a source to one of these targets.
-fn is_candidate(targets: &BitRow, rule: &Kept, count: TypeCount, set: u8) -> bool
+fn is_candidate(targets: &BitRow, rule: &Kept, count: TypeCount, set: Perms) -> bool
     requires row { length targets.now ≡ count / 64 + 1 }
     requires rule { FitsRule count rule.now }
-    ensures some { result ≡ true → perm_set rule.now ≡ set }
-    ensures none { result ≡ false → perm_set rule.now ≡ set → Escapes targets.now rule.now }
+    ensures some { result ≡ true → perm_set rule.now ≡ set.0 }
+    ensures none { result ≡ false → perm_set rule.now ≡ set.0 → Escapes targets.now rule.now }
 {
     perm_set(rule) == set && may_hit(targets, rule)
 }
@@ -254,13 +255,13 @@ fn places_of(
     rules: &[Kept],
     targets: &BitRow,
     count: TypeCount,
-    set: u8,
+    set: Perms,
     end: usize,
 ) -> Result<Vec<usize>, AllocError>
     requires row { length targets.now ≡ count / 64 + 1 }
     requires fits { All (FitsRule count) rules.now }
     requires end { end ≤ length rules.now }
-    ensures { IfOk result (λ places. Chosen rules.now set end (Escapes targets.now) places.items) }
+    ensures { IfOk result (λ places. Chosen rules.now set.0 end (Escapes targets.now) places.items) }
 {
     let mut places = Vec::new(alloc);
     for place in 0..end {
@@ -315,7 +316,7 @@ pub fn first_hit(
     matrix: &Matrix,
     rules: &[Kept],
     count: TypeCount,
-    set: u8,
+    set: Perms,
     end: usize,
 ) -> Result<usize, AllocError>
     requires square { Square matrix.now count }
@@ -324,9 +325,9 @@ pub fn first_hit(
     ensures end { IfOk result (λ place. place ≤ end) }
     ensures hit { IfOk result (λ place. (rule : TheKept) → place < end
         → slice_get rules.now place ≡ Some rule
-        → (perm_set rule ≡ set) × Hits matrix.now count rule) }
+        → (perm_set rule ≡ set.0) × Hits matrix.now count rule) }
     ensures first { IfOk result (λ place. (n : ℕ) (rule : TheKept) → n < place
-        → slice_get rules.now n ≡ Some rule → perm_set rule ≡ set
+        → slice_get rules.now n ≡ Some rule → perm_set rule ≡ set.0
         → Misses matrix.now count rule) }
 {
     let targets = matrix.all_targets(alloc, count)?;

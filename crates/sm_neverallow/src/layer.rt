@@ -5,7 +5,9 @@ ghost use Rattle.sm_bits.specs.Bits.{has, row, has_bit};
 ghost use Rattle.sm_neverallow.specs.Matrices.{Square};
 
 use crate::matrix::Matrix;
-use sm_bits::{BitRow, has_bit};
+use sm_bits::BitRow;
+use sm_kinds::Perms;
+use sm_rules::has_perm;
 use sm_types::TypeCount;
 use std::alloc::{AllocError, Global};
 use std::marker::Model;
@@ -81,7 +83,7 @@ impl Layer {
         alloc: Global,
         other: &Matrix,
         count: TypeCount,
-        set: u8,
+        set: Perms,
         bit: u32,
     ) -> Result<(), AllocError>
         requires bit { bit < 8 }
@@ -89,22 +91,22 @@ impl Layer {
         requires other { Square other.now count }
         ensures square { IfOk result (λ done. Square self.new count) }
         ensures added { IfOk result (λ done. (s t : ℕ) → s < count → has (row self.new s) t
-            ≡ (has (row self.old s) t || (has_bit set bit && has (row other.now s) t))) }
+            ≡ (has (row self.old s) t || (has_bit set.0 bit && has (row other.now s) t))) }
     {
-        if !has_bit(set, bit) {
+        if !has_perm(set, bit) {
             return Ok(());
         }
         self.add(alloc, other, count)
     }
 
     /// Adds the pairs to a matrix, if permission `bit` is one of the set.
-    pub fn add_to(&self, matrix: &mut Matrix, count: TypeCount, set: u8, bit: u32)
+    pub fn add_to(&self, matrix: &mut Matrix, count: TypeCount, set: Perms, bit: u32)
         requires bit { bit < 8 }
         requires square { Square self.now count }
         requires matrix { Square matrix.old count }
         ensures square { Square matrix.new count }
         ensures added { (s t : ℕ) → s < count → has (row matrix.new s) t
-            ≡ (has (row matrix.old s) t || (has_bit set bit && has (row self.now s) t)) }
+            ≡ (has (row matrix.old s) t || (has_bit set.0 bit && has (row self.now s) t)) }
     {
         if let Some(own) = &self.matrix {
             matrix.add_for(own, count, set, bit);

@@ -1,5 +1,7 @@
 //! Which pairs of types the allow rules of a policy source join, and which of these a neverallow rule of it
 //! forbids.
+//!
+//! An `AllocError` says that an allocation failed, and nothing else.
 #![tactic(auto)]
 
 mod batch;

@@ -35,10 +35,6 @@ impl Matrices {
     ghost use Rattle.sm_neverallow.specs.Matrices.{matrix, AllCompiled, SayCovered};
 
     /// Returns the matrices of the allow rules.
-    ///
-    /// # Errors
-    ///
-    /// An error if an allocation fails.
     #[tactic(auto, using(crate::proofs::Consistent::say_covered))]
     pub fn compile(alloc: Global, rules: &Rules) -> Result<Matrices, AllocError>
         ensures compiled { IfOk result (λ m. AllCompiled rules.now.allows rules.now.count 7 m) }
@@ -51,10 +47,6 @@ impl Matrices {
     }
 
     /// Returns the matrices of the dontaudit rules.
-    ///
-    /// # Errors
-    ///
-    /// An error if an allocation fails.
     #[tactic(auto, using(crate::proofs::Consistent::say_covered))]
     pub fn compile_silences(alloc: Global, rules: &Rules) -> Result<Matrices, AllocError>
         ensures compiled { IfOk result (λ m. AllCompiled rules.now.silences rules.now.count 7 m) }

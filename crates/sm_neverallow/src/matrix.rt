@@ -17,8 +17,9 @@ use crate::gathered::{no_pairs, rows_of};
 use crate::layer::Layer;
 use crate::perm_sets::{SET_COUNT, sets_of};
 use crate::unions::Unions;
-use sm_bits::{BitRow, has_bit};
-use sm_rules::{Kept, PERM_COUNT};
+use sm_bits::BitRow;
+use sm_kinds::Perms;
+use sm_rules::{Kept, PERM_COUNT, has_perm};
 use sm_types::TypeCount;
 use std::alloc::{AllocError, Global};
 use std::marker::Model;
@@ -186,10 +187,10 @@ impl Matrix {
         alloc: Global,
         rules: &[Kept],
         count: TypeCount,
-        set: u8,
+        set: Perms,
     ) -> Result<Matrix, AllocError>
         requires fits { All (FitsRule count) rules.now }
-        ensures { IfOk result (λ m. Grouped rules.now count set m) }
+        ensures { IfOk result (λ m. Grouped rules.now count set.0 m) }
     {
         let rows = rows_of(alloc, rules, count, set)?;
         Ok(Matrix { rows })
@@ -218,15 +219,15 @@ impl Matrix {
     }
 
     /// Adds the pairs of another matrix, if permission `bit` is one of the set.
-    pub fn add_for(&mut self, other: &Matrix, count: TypeCount, set: u8, bit: u32)
+    pub fn add_for(&mut self, other: &Matrix, count: TypeCount, set: Perms, bit: u32)
         requires bit { bit < 8 }
         requires square { Square self.old count }
         requires other { Square other.now count }
         ensures square { Square self.new count }
         ensures added { (s t : ℕ) → s < count → has (row self.new s) t
-            ≡ (has (row self.old s) t || (has_bit set bit && has (row other.now s) t)) }
+            ≡ (has (row self.old s) t || (has_bit set.0 bit && has (row other.now s) t)) }
     {
-        if has_bit(set, bit) {
+        if has_perm(set, bit) {
             add_rows(&mut self.rows, &other.rows, count);
         }
     }
@@ -236,11 +237,11 @@ impl Matrix {
         alloc: Global,
         matrices: &[Layer],
         count: TypeCount,
-        set: u8,
+        set: Perms,
     ) -> Result<Matrix, AllocError>
         requires number { length matrices.now ≡ 7 }
         requires square { AllSquare matrices.now count }
-        ensures { IfOk result (λ m. IsUnion matrices.now count set 7 m) }
+        ensures { IfOk result (λ m. IsUnion matrices.now count set.0 7 m) }
     {
         let mut joined = Matrix::empty(alloc, count)?;
         for bit in 0..PERM_COUNT {
@@ -321,12 +322,12 @@ fn join_group(
     matrices: &mut Vec<Layer>,
     group: &Matrix,
     count: TypeCount,
-    set: u8,
+    set: Perms,
 ) -> Result<(), AllocError>
     requires number { length matrices.old.items ≡ 7 }
     requires square { AllSquare matrices.old.items count }
     requires group { Square group.now count }
-    ensures { IfOk result (λ done. Joined matrices.old.items matrices.new.items count set
+    ensures { IfOk result (λ done. Joined matrices.old.items matrices.new.items count set.0
         (λ s t. has (row group.now s) t)) }
 {
     for bit in 0..PERM_COUNT {
@@ -343,17 +344,17 @@ fn add_set(
     rules: &[Kept],
     sets: &BitRow,
     count: TypeCount,
-    set: u8,
+    set: Perms,
 ) -> Result<(), AllocError>
-    requires set { set < 128 }
+    requires set { set.0 < 128 }
     requires sets { AreSetsOf rules.now sets.now }
     requires number { length matrices.old.items ≡ 7 }
     requires square { AllSquare matrices.old.items count }
     requires fits { All (FitsRule count) rules.now }
-    ensures { IfOk result (λ done. Joined matrices.old.items matrices.new.items count set
-        (joined_by rules.now set)) }
+    ensures { IfOk result (λ done. Joined matrices.old.items matrices.new.items count set.0
+        (joined_by rules.now set.0)) }
 {
-    if !sets.has(usize::from(set)) {
+    if !sets.has(usize::from(set.0)) {
         return Ok(());
     }
     let group = Matrix::compile(alloc, rules, count, set)?;
@@ -372,7 +373,7 @@ pub fn matrices_of(
     let mut matrices = empty_matrices(alloc, count)?;
     let sets = sets_of(alloc, rules)?;
     for set in 1..SET_COUNT {
-        add_set(alloc, &mut matrices, rules, &sets, count, set)?;
+        add_set(alloc, &mut matrices, rules, &sets, count, Perms(set))?;
     }
     Ok(matrices)
 }

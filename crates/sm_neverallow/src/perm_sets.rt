@@ -5,18 +5,23 @@
 ghost use Rattle.std.specs.Prelude.{◌≡◌, IfOk};
 ghost use Rattle.sm_neverallow.specs.Matrices.{perm_set, AreSetsOf};
 
+use bitflags::Flags;
 use sm_bits::BitRow;
+use sm_kinds::Perms;
 use sm_rules::Kept;
 use std::alloc::{AllocError, Global};
 
-/// The number of sets of permissions, each a number below this one.
+/// The number of sets of permissions. The bits of each are a number below this one.
 pub const SET_COUNT: u8 = 128;
 
-/// Returns the permissions of a rule as a number below 128, a bit for each.
-pub fn perm_set(rule: &Kept) -> u8
-    ensures { result ≡ perm_set rule.now }
+/// The set of all permissions.
+const ALL: Perms = Perms(SET_COUNT - 1);
+
+/// Returns the permissions of a rule. A bit that is no permission is left out.
+pub fn perm_set(rule: &Kept) -> Perms
+    ensures { result.0 ≡ perm_set rule.now }
 {
-    rule.perms.0 % SET_COUNT
+    rule.perms.intersection(ALL)
 }
 
 /// Returns the sets of permissions that some rules have, by their numbers, so that one pass over the rules finds the
@@ -26,7 +31,7 @@ pub fn sets_of(alloc: Global, rules: &[Kept]) -> Result<BitRow, AllocError>
 {
     let mut sets = BitRow::empty(alloc, 2)?;
     for rule in rules {
-        sets.insert(usize::from(perm_set(rule)));
+        sets.insert(usize::from(perm_set(rule).0));
     }
     Ok(sets)
 }

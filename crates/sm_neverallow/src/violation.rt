@@ -17,9 +17,10 @@ use crate::layer::Layer;
 use crate::matrices::Matrices;
 use crate::matrix::Matrix;
 use crate::perm_sets::{SET_COUNT, sets_of};
-use sm_bits::{BitRow, has_bit};
+use bitflags::Flags;
+use sm_bits::BitRow;
 use sm_kinds::{Class, Perms};
-use sm_rules::{Kept, PERM_COUNT, Rules, class_at, perm_at};
+use sm_rules::{Kept, PERM_COUNT, Rules, class_at, has_perm, perm_at};
 use sm_types::TypeCount;
 use std::alloc::{AllocError, Global};
 
@@ -38,15 +39,24 @@ pub struct Violation {
     pub perm: Perms,
 }
 
-/// Returns the lowest permission in both sets.
-fn common_bit(first: u8, second: u8) -> Option<u32>
-    ensures none { IfNone result ((b : ℕ) → b < 7 → (has_bit first b && has_bit second b) ≡ false) }
-    ensures some { IfSome result (λ b. (b < 7) × ((has_bit first b && has_bit second b) ≡ true)) }
-    ensures lowest { IfSome result (λ b. (c : ℕ) → c < b
-        → (has_bit first c && has_bit second c) ≡ false) }
+/// Returns the permissions that both sets have.
+#[tactic(auto, using(sm_rules::proofs::PermBits::both_bits))]
+fn common(first: Perms, second: Perms) -> Perms
+    ensures { (b : ℕ) → has_bit result.0 b ≡ (has_bit first.0 b && has_bit second.0 b) }
 {
+    first.intersection(second)
+}
+
+/// Returns the lowest permission in both sets.
+fn common_bit(first: Perms, second: Perms) -> Option<u32>
+    ensures none { IfNone result ((b : ℕ) → b < 7 → (has_bit first.0 b && has_bit second.0 b) ≡ false) }
+    ensures some { IfSome result (λ b. (b < 7) × ((has_bit first.0 b && has_bit second.0 b) ≡ true)) }
+    ensures lowest { IfSome result (λ b. (c : ℕ) → c < b
+        → (has_bit first.0 c && has_bit second.0 c) ≡ false) }
+{
+    let both = common(first, second);
     for bit in 0..PERM_COUNT {
-        if has_bit(first, bit) && has_bit(second, bit) {
+        if has_perm(both, bit) {
             return Some(bit);
         }
     }
@@ -131,7 +141,7 @@ fn violation_between(allow: &Kept, never: &Kept, count: TypeCount) -> Option<Vio
     ensures none { IfNone result (AreApart allow.now never.now count) }
     ensures some { IfSome result (λ v. IsBetween allow.now never.now count v) }
 {
-    let bit = common_bit(allow.perms.0, never.perms.0)?;
+    let bit = common_bit(allow.perms, never.perms)?;
     if !meet(allow, never, count) {
         return None;
     }
@@ -170,10 +180,10 @@ fn first_broken_of(
     neverallows: &[Kept],
     sets: &BitRow,
     count: TypeCount,
-    set: u8,
+    set: Perms,
     end: usize,
 ) -> Result<usize, AllocError>
-    requires set { set < 128 }
+    requires set { set.0 < 128 }
     requires sets { AreSetsOf neverallows.now sets.now }
     requires number { length matrices.now ≡ 7 }
     requires square { AllSquare matrices.now count }
@@ -183,10 +193,10 @@ fn first_broken_of(
     ensures broken { IfOk result (λ place. (never : TheKept) → place < end
         → slice_get neverallows.now place ≡ Some never → IsBroken matrices.now count never) }
     ensures first { IfOk result (λ place. (n : ℕ) (never : TheKept) → n < place
-        → slice_get neverallows.now n ≡ Some never → perm_set never ≡ set
+        → slice_get neverallows.now n ≡ Some never → perm_set never ≡ set.0
         → IsClear matrices.now count never) }
 {
-    if !sets.has(usize::from(set)) {
+    if !sets.has(usize::from(set.0)) {
         return Ok(end);
     }
     let joined = Matrix::union_of(alloc, matrices, count, set)?;
@@ -217,7 +227,15 @@ fn first_broken(
     let sets = sets_of(alloc, neverallows)?;
     let mut place = neverallows.len();
     for set in 1..SET_COUNT {
-        place = first_broken_of(alloc, matrices, neverallows, &sets, count, set, place)?;
+        place = first_broken_of(
+            alloc,
+            matrices,
+            neverallows,
+            &sets,
+            count,
+            Perms(set),
+            place,
+        )?;
     }
     if place < neverallows.len() {
         Ok(Some(place))
@@ -251,10 +269,6 @@ fn first_among(
 /// by the first allow rule that breaks it; then of the least source and the least target by the order of declaration,
 /// and the lowest permission by the order of bits. `None` if no allow rule allows what a neverallow rule forbids. The
 /// matrices are those of the rules.
-///
-/// # Errors
-///
-/// An error if an allocation fails.
 pub fn first_violation(
     alloc: Global,
     rules: &Rules,

@@ -10,6 +10,8 @@ mod kinds;
 #[cfg(test)]
 mod labels;
 #[cfg(test)]
+mod plain;
+#[cfg(test)]
 mod policies;
 #[cfg(test)]
 mod rule_texts;

@@ -1,10 +1,11 @@
 //! Policies from their two texts: what is refused, what is counted, who may do what.
 
+use crate::plain::written_plainly;
 use crate::statements::{accepted, repeated};
 use sm_contexts::ContextsFault;
 use sm_kinds::{Class, Perms};
 use sm_policy::*;
-use sm_rules::{PERM_COUNT, class_at, perm_at, written_plainly};
+use sm_rules::{PERM_COUNT, class_at, perm_at};
 use sm_ruletext::{RuleTextFault, Statement};
 use sm_samples::{DEVICE_LABELS, DEVICE_RULES, device_rules_with};
 use sm_types::TypesFault;

@@ -2,10 +2,11 @@
 
 ghost use Rattle.sm_types.specs.Members.{IsOf};
 
+use crate::plain::written_plainly;
 use crate::statements::accepted;
 use sm_kinds::{Class, Perms, push_numbered};
 use sm_neverallow::{Matrices, Violation, first_violation};
-use sm_rules::{Rules, RulesFault, written_plainly};
+use sm_rules::{Rules, RulesFault};
 use sm_ruletext::Statement;
 use sm_samples::DEVICE_RULES;
 use sm_types::Types;

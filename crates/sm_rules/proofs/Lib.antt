@@ -4,4 +4,5 @@ pub mod Lines
 pub mod Consistent
 pub mod Undeclared
 pub mod Permitting
+pub mod PermBits
 mod Memoed

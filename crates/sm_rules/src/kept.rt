@@ -3,7 +3,7 @@
 ghost use Rattle.std.specs.Prelude.{◌≡◌, ◌<◌, ◌≤◌, ◌+◌, ◌/◌, ◌*◌, ℕ, List, length, nat_eq, IfOk, IfErr, Some, None};
 ghost use Rattle.std.specs.Prelude.{true, false};
 ghost use Rattle.std.specs.List.{list_all};
-ghost use Rattle.sm_bits.specs.Bits.{has, has_bit};
+ghost use Rattle.sm_bits.specs.Bits.{has};
 ghost use Rattle.sm_ruletext.specs.declared.statement.Statement.{Statement as TheStatement};
 ghost use Rattle.sm_types.specs.Names.{at};
 ghost use Rattle.sm_types.specs.Denoting.{in_set, all_known};
@@ -17,9 +17,9 @@ ghost use Rattle.sm_rules.specs.declared.fault.RulesFault.TheVariants.{Unknown};
 
 use crate::RulesFault;
 use crate::memo::Memo;
-use crate::perm_bits::perms_of;
+use crate::perm_bits::{has_perm, perms_of};
 use crate::row_pool::RowPool;
-use sm_bits::{SharedSet, has_bit};
+use sm_bits::SharedSet;
 use sm_kinds::{Class, Names, Perms};
 use sm_ruletext::{Rule, Set};
 use sm_types::{Types, TypesFault};
@@ -66,7 +66,7 @@ impl Kept {
         requires target { t < 64 * length self.now.targets }
         ensures { result ≡ covers bit s t self.now }
     {
-        self.joins(s, t) && has_bit(self.perms.0, bit)
+        self.joins(s, t) && has_perm(self.perms, bit)
     }
 }
 

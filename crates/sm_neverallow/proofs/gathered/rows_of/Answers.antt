@@ -6,7 +6,7 @@ use Rattle.sm_neverallow.proofs.gathered.rows_of.Goals as goal
 pub loop-rule-preserved : goal.loop-rule-preserved
 loop-rule-preserved c = record {
   fits = c.in_ok-add_of_set.ensures.fits;
-  joined = λ s t h. joined_more c.args.rules.now c.args.set c.loop-rule.rule-index s t c.rule-item.result
+  joined = λ s t h. joined_more c.args.rules.now c.args.set.0 c.loop-rule.rule-index s t c.rule-item.result
       (in_gathered c.loop-rule.gathered s t) (in_gathered c.add_of_set.new.self s t) (omega arith) c.rule-item.is
       (c.loop-rule.invariant.joined s t h) (c.in_ok-add_of_set.ensures.added s t h);
 }
@@ -17,6 +17,6 @@ returns c =
     record {
       square = c.into_rows.ensures.square;
       says = λ s t h. c.into_rows.ensures.same s t h
-          ∙ (c.loop-rule.invariant.joined s t h ∙ joined_whole c.args.rules.now c.args.set c.loop-rule.rule-index s t
+          ∙ (c.loop-rule.invariant.joined s t h ∙ joined_whole c.args.rules.now c.args.set.0 c.loop-rule.rule-index s t
           end);
     }

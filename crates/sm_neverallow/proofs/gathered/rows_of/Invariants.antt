@@ -6,5 +6,5 @@ use Rattle.sm_neverallow.proofs.gathered.rows_of.Given as goal
 abbrev pub invariant-loop-rule : goal.invariant-loop-rule
 invariant-loop-rule l = record {
   fits : FitsGathered l.count l.gathered;
-  joined : (s t : ℕ) → s < l.count → in_gathered l.gathered s t ≡ joined_by (take l.rule-index l.rules) l.set s t;
+  joined : (s t : ℕ) → s < l.count → in_gathered l.gathered s t ≡ joined_by (take l.rule-index l.rules) l.set.0 s t;
 }

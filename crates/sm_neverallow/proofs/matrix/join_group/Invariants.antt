@@ -2,4 +2,4 @@ use Rattle.sm_neverallow.proofs.Groups.{JoinedBelow}
 use Rattle.sm_neverallow.proofs.matrix.join_group.Given as goal
 
 abbrev pub invariant-loop-bit : goal.invariant-loop-bit
-invariant-loop-bit l = JoinedBelow l.initial.matrices.items l.matrices.items l.group l.count l.set l.bit
+invariant-loop-bit l = JoinedBelow l.initial.matrices.items l.matrices.items l.group l.count l.set.0 l.bit

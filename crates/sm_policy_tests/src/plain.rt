@@ -1,4 +1,5 @@
-//! What a policy source allows, by a plain loop over its statements: the meaning of rules as a program.
+//! What a policy source allows, by a plain loop over its statements: the definition of allowed accesses as a program,
+//! with which the tables are compared.
 
 ghost use Rattle.std.specs.Prelude.{◌≡◌, option_map};
 ghost use Rattle.std.specs.List.{list_any};
@@ -67,7 +68,7 @@ fn in_set(statements: &[Statement], set: &Set, name: &[u8]) -> bool
     declares(statements, name) && (if set.is_complement() { !among } else { among })
 }
 
-#[tactic(auto, unfolding(crate::specs::Access::joins))]
+#[tactic(auto, unfolding(sm_rules::specs::Access::joins))]
 fn joins(statements: &[Statement], rule: &Rule, source: &[u8], target: &[u8]) -> bool
     ensures { result ≡ spec.joins statements.now source.now target.now rule.now }
 {
@@ -80,24 +81,24 @@ fn word_of(class: Class, perm: Perms) -> Option<&'static [u8]>
     ensures { option_map (λ w. w.now) result ≡ perm_of class perm }
 {
     match class {
-        Class::ServiceManager => match perm.0 {
-            1 => Some(b"add"),
-            2 => Some(b"find"),
-            4 => Some(b"list"),
+        Class::ServiceManager => match perm {
+            Perms::ADD => Some(b"add"),
+            Perms::FIND => Some(b"find"),
+            Perms::LIST => Some(b"list"),
             _ => None,
         },
-        Class::Binder => match perm.0 {
-            8 => Some(b"impersonate"),
-            16 => Some(b"call"),
-            32 => Some(b"set_context_mgr"),
-            64 => Some(b"transfer"),
+        Class::Binder => match perm {
+            Perms::IMPERSONATE => Some(b"impersonate"),
+            Perms::CALL => Some(b"call"),
+            Perms::SET_CONTEXT_MGR => Some(b"set_context_mgr"),
+            Perms::TRANSFER => Some(b"transfer"),
             _ => None,
         },
     }
 }
 
 /// Returns whether a set of permissions has this single permission of the class.
-pub fn picks(set: &Set, class: Class, perm: Perms) -> bool
+fn picks(set: &Set, class: Class, perm: Perms) -> bool
     ensures { result ≡ spec.picks set.now (perm_of class perm) }
 {
     match word_of(class, perm) {
@@ -107,7 +108,7 @@ pub fn picks(set: &Set, class: Class, perm: Perms) -> bool
 }
 
 /// Returns whether a rule is of this class and has this permission.
-#[tactic(auto, unfolding(crate::specs::Access::gives))]
+#[tactic(auto, unfolding(sm_rules::specs::Access::gives))]
 fn gives(rule: &Rule, class: Class, perm: Perms) -> bool
     ensures { result ≡ spec.gives class perm rule.now }
 {
@@ -145,7 +146,7 @@ fn allows(
 
 /// Returns the line of the first allow rule that grants the permission, by names.
 ///
-/// Slow: it loops over all statements for each name of each rule. The tables give the same answers.
+/// Slow: it loops over all statements for each name of each rule.
 pub fn written_plainly(
     statements: &[Statement],
     source: &[u8],
