@@ -1,11 +1,11 @@
 //! Actors with their reader slots.
 
-ghost use Rattle.std.specs.Prelude.{◌≡◌, [], MatchOption};
+ghost use Rattle.std.specs.Prelude.{◌≡◌, [], nat_eq, MatchOption};
 ghost use Rattle.left_right.specs.Sides.{view as place_view};
 ghost use Rattle.sm_history.specs.Histories.{turn_of};
 ghost use Rattle.sm_history.specs.BookOrder.{IsLawfulBook};
 ghost use Rattle.sm_history.specs.Promises.{Queried};
-ghost use Rattle.sm_history.specs.Tokens.{Sees as SeesNow, token, turn};
+ghost use Rattle.sm_history.specs.Tokens.{Sees as SeesNow, keeps_turn, token, turn};
 ghost use Rattle.sm_door.specs.Logged.{ReadFrom, ReadLogged};
 ghost use Rattle.sm_door.specs.Rule.{known};
 
@@ -98,7 +98,7 @@ impl<J: Naming> Actor<J> {
     }
 
     /// Answers a query from the published shared view. Never blocks. `NoSeat` if no entry was free; the token is then
-    /// unchanged.
+    /// unchanged. `OutOfTurn` if the actor made another number of changes than the token knew.
     pub fn read(&mut self, query: Query) -> Reply
         ensures { Queried self.old self.new query result }
     {
@@ -125,7 +125,7 @@ impl<J: Naming> Actor<J> {
         match self.reader.take().unwrap().enter_as::<Sees>() {
             Ok(reading) => {
                 let shared_view = &reading.get().shared_view;
-                let answered = shared_view.look_recorded(self.by, query);
+                let answered = shared_view.look_in_turn(self.alloc, self.by, self.turn, query);
                 self.turn = shared_view.turn(self.by);
                 self.reader = Some(reading.leave());
                 Some(answered)
@@ -135,6 +135,23 @@ impl<J: Naming> Actor<J> {
                 None
             }
         }
+    }
+
+    /// Returns whether the actor made as many changes as the token knows, under the lock.
+    fn is_in_turn(&self, locked: &LockedManager<J>) -> bool
+        ensures { result ≡ nat_eq (turn_of locked.now.book.history self.now.by) (turn self.now) }
+    {
+        locked.turn(self.by()) == self.due()
+    }
+
+    /// Sees the whole history, under the lock. Returns whether it has as many changes of the actor as the token knew.
+    pub(crate) fn meet<R: Wait>(&mut self, rt: &R, locked: &LockedManager<J>) -> bool
+        ensures sees { SeesNow self.old locked.now.book self.new }
+        ensures turn { result ≡ keeps_turn self.old self.new }
+    {
+        let is_known = self.is_in_turn(locked);
+        self.see(rt, locked);
+        is_known
     }
 
     /// Sees the whole history, under the lock.

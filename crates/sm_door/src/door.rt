@@ -1,6 +1,6 @@
 //! The door: a manager behind a lock.
 
-ghost use Rattle.std.specs.Prelude.{◌≡◌, ◌⊎◌, true, false, [], IfOk, IfErr, MatchResult};
+ghost use Rattle.std.specs.Prelude.{◌≡◌, ◌⊎◌, ◌&&◌, true, false, [], IfOk, IfErr, MatchResult};
 ghost use Rattle.sm_kinds.specs.Contexts.{type_of};
 ghost use Rattle.sm_kinds.specs.declared.class.Class.TheVariants.{Binder};
 ghost use Rattle.sm_policy.specs.Policy.{allowed};
@@ -15,9 +15,9 @@ ghost use Rattle.sm_history.specs.Lawful.{MayOpen};
 ghost use Rattle.sm_history.specs.Verdict.{is_die};
 ghost use Rattle.sm_core.specs.Opening.{opened, opening_denial};
 ghost use Rattle.sm_history.specs.Promises.{Submitted, Accepted, Queried, Joined, TellsRecords, Turned, Closed};
-ghost use Rattle.sm_history.specs.Promises.{NotClosed};
+ghost use Rattle.sm_history.specs.Promises.{NotClosed, NotTold};
 ghost use Rattle.sm_history.specs.PossibleReplies.{OfConnect, OfLeave, OfInstall};
-ghost use Rattle.sm_history.specs.Tokens.{Sees, token};
+ghost use Rattle.sm_history.specs.Tokens.{Sees, keeps_turn, token};
 ghost use Rattle.sm_history.specs.declared.limits.TheConstants.{MOST_CLIENTS};
 ghost use Rattle.sm_door.specs.declared.opening.TheConstants.{ADMINS};
 ghost use Rattle.sm_door.specs.Logged.{Logged, ReadLogged};
@@ -42,7 +42,7 @@ use sm_history::{
 };
 use sm_kinds::{Class, Identity, Name, Perms, Places};
 use sm_policy::Prepared;
-use std::alloc::{AllocError, Global};
+use std::alloc::Global;
 use std::sync::{Arc, Mutex, MutexGuard, Wait};
 
 /// How often a thread tries to take the lock before it sleeps. Between two tries it spins, longer each time, up to 64
@@ -236,9 +236,9 @@ impl<J: Naming, G: Gate + Drop> Door<J, G> {
     }
 
     /// Returns the newest records of denials, at most 1,024, oldest first. Each is true of a lawful history with which
-    /// the one begins that the token sees now. Returns an error if an allocation failed; the token then stays as it is.
-    pub fn denials<R: Wait>(&self, rt: &R, me: &mut Admin<J>) -> Result<Vec<Record>, AllocError>
-        ensures { MatchResult result (λ v. TellsRecords me.old me.new v.items) (λ _. me.new ≡ me.old) }
+    /// the one begins that the token sees now. Returns `Memory` if an allocation failed; the token then stays as it is.
+    pub fn denials<R: Wait>(&self, rt: &R, me: &mut Admin<J>) -> Result<Vec<Record>, Refusal>
+        ensures { MatchResult result (λ v. TellsRecords me.old me.new v.items) (λ r. NotTold me.old me.new r) }
     {
         let guard = self.lock(rt);
         let locked = &*guard;
@@ -260,30 +260,35 @@ impl<J: Naming, G: Gate + Drop> Door<J, G> {
         segment
     }
 
-    /// Shows both sessions the whole history, so the answers of one come before the next answer of the other.
-    pub fn meet<R: Wait>(&self, rt: &R, one: &mut Session<J>, other: &mut Session<J>)
+    /// Shows both sessions the whole history, so the answers of one come before the next answer of the other. Returns
+    /// whether it has as many changes of each one's client as the session knew.
+    pub fn meet<R: Wait>(&self, rt: &R, one: &mut Session<J>, other: &mut Session<J>) -> bool
         ensures one { Sees one.old one.new.seen one.new }
         ensures other { Sees other.old one.new.seen other.new }
+        ensures turns { result ≡ (keeps_turn one.old one.new && keeps_turn other.old other.new) }
     {
-        self.bring(rt, &mut one.actor, &mut other.actor);
+        self.bring(rt, &mut one.actor, &mut other.actor)
     }
 
     /// Shows an administrator and a session the whole history, as in `meet`.
-    pub fn meet_admin<R: Wait>(&self, rt: &R, one: &mut Admin<J>, other: &mut Session<J>)
+    pub fn meet_admin<R: Wait>(&self, rt: &R, one: &mut Admin<J>, other: &mut Session<J>) -> bool
         ensures one { Sees one.old one.new.seen one.new }
         ensures other { Sees other.old one.new.seen other.new }
+        ensures turns { result ≡ (keeps_turn one.old one.new && keeps_turn other.old other.new) }
     {
-        self.bring(rt, &mut one.actor, &mut other.actor);
+        self.bring(rt, &mut one.actor, &mut other.actor)
     }
 
-    fn bring<R: Wait>(&self, rt: &R, one: &mut Actor<J>, other: &mut Actor<J>)
+    fn bring<R: Wait>(&self, rt: &R, one: &mut Actor<J>, other: &mut Actor<J>) -> bool
         ensures one { Sees one.old one.new.seen one.new }
         ensures other { Sees other.old one.new.seen other.new }
+        ensures turns { result ≡ (keeps_turn one.old one.new && keeps_turn other.old other.new) }
     {
         let guard = self.lock(rt);
         let locked = &*guard;
-        locked.meet(rt, one, other);
+        let are_known = locked.meet(rt, one, other);
         MutexGuard::unlock(guard);
+        are_known
     }
 
     /// Lists the names whose dump flags share a bit with the mask (`listServices`). Never blocks. A denial is in the

@@ -1,6 +1,6 @@
 //! What is under the lock: the manager, and the publisher of its views.
 
-ghost use Rattle.std.specs.Prelude.{◌≡◌, ◌≤◌, ◌<◌, length, IfOk, MatchResult};
+ghost use Rattle.std.specs.Prelude.{◌≡◌, ◌≤◌, ◌<◌, ◌&&◌, length, IfOk, MatchResult};
 ghost use Rattle.std.specs.List.{All};
 ghost use Rattle.left_right.specs.Sides.{view as place_view};
 ghost use Rattle.sm_audit.specs.declared.ring.TheConstants.{MOST_RECORDS};
@@ -13,9 +13,9 @@ ghost use Rattle.sm_history.specs.Histories.{client_of, turn_of};
 ghost use Rattle.sm_history.specs.Records.{IsTrueOnce};
 ghost use Rattle.sm_history.specs.BookOrder.{Begins, IsLawfulBook, extended, sealed_book};
 ghost use Rattle.sm_history.specs.PossibleReplies.{OfConnect};
-ghost use Rattle.sm_history.specs.Promises.{Submitted, Joined, Turned, TellsRecords, Closed, NotClosed};
+ghost use Rattle.sm_history.specs.Promises.{Submitted, Joined, Turned, TellsRecords, NotTold, Closed, NotClosed};
 ghost use Rattle.sm_history.specs.Steps.{Steps, ClosesSegment, StaysOpen};
-ghost use Rattle.sm_history.specs.Tokens.{Sees, turn};
+ghost use Rattle.sm_history.specs.Tokens.{Sees, keeps_turn, turn};
 ghost use Rattle.sm_door.specs.Locked.{Connects};
 ghost use Rattle.sm_door.specs.Logged.{Logged};
 
@@ -28,7 +28,7 @@ use crate::session::Session;
 use crate::shared_view::SharedView;
 use left_right::Absorb;
 use sm_core::{Manager, Ready, ReadySeal, View};
-use sm_history::{By, Event, Record, Refusal, Reply, Segment, connected, moves};
+use sm_history::{By, Event, Failure, Record, Refusal, Reply, Segment, connected, moves};
 use sm_kinds::Identity;
 use std::alloc::{AllocError, Global};
 use std::marker::Model;
@@ -173,27 +173,35 @@ impl<J: Naming> LockedManager<J> {
     }
 
     /// Returns the records of the ring, at most 1,024, oldest first. The token then sees the whole history; each record
-    /// is true of a lawful history with which this one begins. On error nothing has changed.
-    pub fn denials<R: Wait>(&self, rt: &R, me: &mut Actor<J>) -> Result<Vec<Record>, AllocError>
+    /// is true of a lawful history with which this one begins.
+    ///
+    /// # Errors
+    ///
+    /// `Memory` if an allocation failed; the token then stays as it is. `OutOfTurn` if the history has another number of
+    /// changes of the actor than the token knew.
+    pub fn denials<R: Wait>(&self, rt: &R, me: &mut Actor<J>) -> Result<Vec<Record>, Refusal>
         ensures { MatchResult result (λ v. (v.items ≡ self.now.ring) × TellsRecords me.old me.new v.items)
-            (λ _. me.new ≡ me.old) }
+            (λ r. NotTold me.old me.new r) }
     {
-        match self.records() {
-            Ok(records) => {
-                me.see(rt, self);
-                Ok(records)
-            }
-            Err(error) => Err(error),
+        let Ok(records) = self.records() else {
+            return Err(Refusal::Memory);
+        };
+        if me.meet(rt, self) {
+            Ok(records)
+        } else {
+            Err(Refusal::Failed(Failure::OutOfTurn(me.due())))
         }
     }
 
-    /// Shows two tokens the whole history.
-    pub fn meet<R: Wait>(&self, rt: &R, one: &mut Actor<J>, other: &mut Actor<J>)
+    /// Shows two tokens the whole history. Returns whether it has as many changes of each one's actor as the token knew.
+    pub fn meet<R: Wait>(&self, rt: &R, one: &mut Actor<J>, other: &mut Actor<J>) -> bool
         ensures one { Sees one.old self.now.book one.new }
         ensures other { Sees other.old self.now.book other.new }
+        ensures turns { result ≡ (keeps_turn one.old one.new && keeps_turn other.old other.new) }
     {
-        one.see(rt, self);
-        other.see(rt, self);
+        let first = one.meet(rt, self);
+        let second = other.meet(rt, self);
+        first && second
     }
 
     /// One step of the manager at an actor's turn, as `step`.

@@ -90,7 +90,6 @@ impl<J: Naming> Publisher<J> {
         }
     }
 
-    /// The published view.
     pub(crate) fn view(&self) -> &View
         ensures { result.now ≡ self.now }
     {

@@ -34,7 +34,6 @@ impl<J: Naming> Model for Seat<J> {
 }
 
 impl<J: Naming> Seat<J> {
-    /// Returns its actor.
     pub(crate) fn into_actor(self) -> Actor<J>
         ensures { token Manager result.seen result.reads ≡ self }
     {

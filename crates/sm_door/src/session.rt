@@ -39,7 +39,6 @@ impl<J: Naming> Model for Session<J> {
 }
 
 impl<J: Naming> Session<J> {
-    /// Makes a session.
     pub(crate) fn new(client: ClientId, actor: Actor<J>) -> Session<J>
         requires { actor.by ≡ Client client }
         ensures { result ≡ actor }
@@ -54,7 +53,6 @@ impl<J: Naming> Session<J> {
         self.client
     }
 
-    /// Returns its actor.
     pub(crate) fn into_actor(self) -> Actor<J>
         ensures { result ≡ self }
     {

@@ -2,15 +2,14 @@
 
 ghost use Rattle.std.specs.Prelude.{◌≡◌, IfOk, IsTrue};
 ghost use Rattle.std.specs.Arc.{arc_value};
-ghost use Rattle.sm_core.specs.Managed.{look_leaves};
 ghost use Rattle.sm_history.specs.Histories.{turn_of};
 ghost use Rattle.sm_history.specs.BookOrder.{IsLawfulBook};
-ghost use Rattle.sm_history.specs.Promises.{Looks};
+ghost use Rattle.sm_door.specs.Logged.{LooksLogged};
 
 use crate::published::ShowsView;
 use crate::registry::{HistoryId, Naming, Registry};
 use sm_core::View;
-use sm_history::{By, Query, Record, Reply};
+use sm_history::{By, Failure, Query, Record, Refusal, Reply};
 use std::alloc::{AllocError, Global};
 use std::marker::Model;
 use std::sync::{Arc, Wait};
@@ -57,7 +56,6 @@ impl<J: Naming> SharedView<J> {
         Ok(Arc::new(alloc, SharedView { view, history_id })?)
     }
 
-    /// Returns its view.
     pub(crate) fn view(&self) -> &View
         ensures { result.now ≡ self.now }
     {
@@ -80,11 +78,22 @@ impl<J: Naming> SharedView<J> {
         self.view.turn(by)
     }
 
-    /// Answers a query on the shared view's history, with the query's audit records.
-    pub fn look_recorded(&self, by: By, query: Query) -> (Reply, Vec<Record>)
-        ensures looks { Looks self.now by query result.0 }
-        ensures records { result.1.items ≡ look_leaves self.now by query result.0 }
+    /// Answers a query of an actor at its turn on the shared view's history, with the query's audit records. `OutOfTurn`
+    /// if the actor made another number of changes.
+    pub fn look_in_turn(
+        &self,
+        alloc: Global,
+        by: By,
+        turn: u64,
+        query: Query,
+    ) -> (Reply, Vec<Record>)
+        ensures { LooksLogged self.now by turn query result.0 result.1.items }
     {
+        let made = self.view.turn(by);
+        if made != turn {
+            let refusal = Refusal::Failed(Failure::OutOfTurn(made));
+            return (Reply::Refused(refusal), Vec::new(alloc));
+        }
         self.view.look_recorded(by, query)
     }
 }

@@ -1,5 +1,5 @@
 -- What each call promises of the token with which it is made.
-use Rattle.std.specs.Prelude.{true, ◌≡◌, ◌≢◌, ℕ, ◌+◌, ◌≤◌, ◌<◌, ◌⊎◌, List, [], All, length}
+use Rattle.std.specs.Prelude.{true, false, ◌≡◌, ◌≢◌, ℕ, ◌+◌, ◌≤◌, ◌<◌, ◌⊎◌, List, [], All, length}
 use Rattle.sm_kinds.specs.declared.identity.Identity.{Identity}
 use Rattle.sm_history.specs.declared.by.By.{By}
 use Rattle.sm_history.specs.declared.by.By.TheVariants.{Manager, Client}
@@ -22,7 +22,7 @@ use Rattle.sm_history.specs.Verdict.{verdict}
 use Rattle.sm_history.specs.BookOrder.{Begins, IsLawfulBook, extended, sealed_book}
 use Rattle.sm_history.specs.PossibleReplies.{tells_turn, takes_memory}
 use Rattle.sm_history.specs.Steps.{entry_made}
-use Rattle.sm_history.specs.Tokens.{Knows, Grows, turn}
+use Rattle.sm_history.specs.Tokens.{Knows, Grows, keeps_turn, turn}
 
 -- ---- changes
 
@@ -73,19 +73,38 @@ Submitted old new event (Refused refusal) = NotMade old new event (Refused refus
 abbrev pub Looks : Book → By → Query → Reply → Type 0
 Looks b by q reply = ((reply ≡ Refused Memory) × (takes_memory q ≡ true)) ⊎ (reply ≡ query_verdict b.history by q)
 
+-- The actor made another number of changes, which is in the answer.
+abbrev pub IsOutOfTurn : Book → By → ℕ → Reply → Type 0
+IsOutOfTurn b by t reply =
+    (turn_of b.history by ≢ t) × (reply ≡ Refused (Failed (OutOfTurn (turn_of b.history by))))
+
+-- The actor made as many changes, and the answer is that of the query; or it made another number.
+abbrev pub LooksInTurn : Book → By → ℕ → Query → Reply → Type 0
+LooksInTurn b by t q reply = ((turn_of b.history by ≡ t) × Looks b by q reply) ⊎ IsOutOfTurn b by t reply
+
 -- No reader slot was free, and the token stays as it is; or the published history was entered, which begins with all
--- that the token had seen, and the answer is given from it.
+-- that the token had seen, and the answer is given from it. It has as many changes of the actor as the token knew, or
+-- the answer says how many it has.
 abbrev pub Queried : Knows → Knows → Query → Reply → Type 0
 Queried old new q reply =
     ((reply ≡ Refused NoSeat) × (new ≡ old))
-    ⊎ (Grows old new × (new.reads ≡ old.reads + 1) × Looks new.seen old.by q reply)
+    ⊎ (Grows old new × (new.reads ≡ old.reads + 1) × LooksInTurn new.seen old.by (turn old) q reply)
 
 -- There are at most 1,024 records. Each is true of a lawful history with which the one begins that the token sees now.
 pub record TellsRecords (old new : Knows) (records : List Record) : Type 0 where
   pub grows : Grows old new
   pub entered : old.reads < new.reads
+  pub same_turn : keeps_turn old new ≡ true
   pub few : length records ≤ 1024
   pub true_records : All (IsTrueOnce new.seen.places new.seen.history) records
+
+-- There are no records: an allocation failed, and the token stays as it is; or the history that it sees now has another
+-- number of changes of the actor than it knew, and the refusal says how many.
+abbrev pub NotTold : Knows → Knows → Refusal → Type 0
+NotTold old new refusal =
+    ((refusal ≡ Memory) × (new ≡ old))
+    ⊎ (Grows old new × (old.reads < new.reads) × (keeps_turn old new ≡ false)
+    × (refusal ≡ Failed (OutOfTurn (turn new))))
 
 -- ---- seals
 

@@ -1,5 +1,5 @@
 -- What a token knows: the history that it has seen.
-use Rattle.std.specs.Prelude.{◌≡◌, ◌≤◌, ◌<◌, ℕ, Option, Some, None}
+use Rattle.std.specs.Prelude.{◌≡◌, ◌≤◌, ◌<◌, ℕ, Bool, nat_eq, Option, Some, None}
 use Rattle.sm_history.specs.declared.by.By.{By}
 use Rattle.sm_history.specs.Books.{Book}
 use Rattle.sm_history.specs.Histories.{turn_of}
@@ -18,6 +18,10 @@ token by seen reads = record { by = by; seen = seen; reads = reads }
 -- This is the number of changes of the token's actor in what it has seen.
 abbrev pub turn : Knows → ℕ
 turn t = turn_of t.seen.history t.by
+
+-- The token sees as many changes of its actor as it did before.
+abbrev pub keeps_turn : Knows → Knows → Bool
+keeps_turn old new = nat_eq (turn new) (turn old)
 
 -- This is the value of an option, seen by a function, or a default.
 abbrev pub at_or : {R K : Type 0} → K → (R → K) → Option R → K

@@ -86,7 +86,6 @@ impl Tables {
         }
     }
 
-    /// Returns the service of a name.
     fn service(&self, name: &[u8]) -> Option<Service>
         ensures { (d : Effects) → TracksTables d self.now → result ≡ service_at d name.now }
     {

@@ -9,6 +9,8 @@
 //! connect or a leave promises of it is in `specs/Promises.antt`: the answer is the verdict of the history that the
 //! token sees from then on, and this one begins with all that it had seen before. `promises` derives this from one step
 //! of the manager and the book that is seen after it.
+//!
+//! An `AllocError` says that an allocation failed, and nothing else.
 #![tactic(auto)]
 
 mod by;

@@ -42,10 +42,6 @@ impl Drop for NameList {
 
 impl NameList {
     /// Makes an empty list with room for `n` names of 16 bytes on average.
-    ///
-    /// # Errors
-    ///
-    /// An error if an allocation fails.
     pub fn with_capacity(alloc: Global, n: usize) -> Result<NameList, AllocError>
         ensures { IfOk result (λ list. list ≡ []) }
     {
@@ -110,10 +106,6 @@ impl Drop for BoxedNames {
 
 impl BoxedNames {
     /// Boxes a list.
-    ///
-    /// # Errors
-    ///
-    /// An error if an allocation fails.
     pub fn new(alloc: Global, names: NameList) -> Result<BoxedNames, AllocError>
         ensures { IfOk result (λ b. b ≡ names) }
     {

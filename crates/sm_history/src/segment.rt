@@ -74,7 +74,6 @@ fn enter_chunks(replay: &mut Replay, chunks: &[Chunk]) -> Result<(), AllocError>
     Ok(())
 }
 
-/// Counts the entries in chunks.
 fn count_chunks(chunks: &[Chunk]) -> u64
     requires { length (joined chunks.now) < 2 ^ 64 }
     ensures { result ≡ length (joined chunks.now) }
@@ -129,10 +128,6 @@ impl Segment {
     }
 
     /// Computes the rows after its last change, by applying each change to its opening.
-    ///
-    /// # Errors
-    ///
-    /// An error if an allocation fails.
     pub fn replay(&self) -> Result<Rows, AllocError>
         ensures { IfOk result (λ r. r ≡ rows_of self.now) }
     {

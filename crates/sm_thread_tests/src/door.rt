@@ -172,18 +172,40 @@ fn meets<J: Naming, R: Wait + Abort>(
     let mut a = joined(rt, door, seats.pop(), server(rt, alloc, 100));
     let mut b = joined(rt, door, seats.pop(), server(rt, alloc, 101));
     assert_eq!(rt; (a.client().0, b.client().0), (1, 2));
-    adds_activity(rt, alloc, door, &mut a);
-    lists_activity(rt, door, &mut a, 4);
-    door.meet(rt, &mut a, &mut b);
-    lists_activity(rt, door, &mut b, 4);
-    adds_activity(rt, alloc, door, &mut a);
-    lists_activity(rt, door, &mut b, 5);
-    door.meet_admin(rt, &mut admin, &mut a);
-    has_version(rt, &door.version(&mut admin), 1, 5);
+    clients_meet(rt, alloc, door, &mut a, &mut b);
+    an_administrator_meets(rt, alloc, door, &mut admin, &mut a);
+}
+
+/// A list by the second client holds what the first one changed: after a meeting, and without one.
+fn clients_meet<J: Naming, R: Wait + Abort>(
+    rt: &R,
+    alloc: Global,
+    door: &Door<J, NoGate>,
+    a: &mut Session<J>,
+    b: &mut Session<J>,
+) {
+    adds_activity(rt, alloc, door, a);
+    lists_activity(rt, door, a, 4);
+    assert!(rt; door.meet(rt, a, b));
+    lists_activity(rt, door, b, 4);
+    adds_activity(rt, alloc, door, a);
+    lists_activity(rt, door, b, 5);
+}
+
+/// An administrator sees what the client changed, and the client sees the administrator's policy.
+fn an_administrator_meets<J: Naming, R: Wait + Abort>(
+    rt: &R,
+    alloc: Global,
+    door: &Door<J, NoGate>,
+    admin: &mut Admin<J>,
+    a: &mut Session<J>,
+) {
+    assert!(rt; door.meet_admin(rt, admin, a));
+    has_version(rt, &door.version(admin), 1, 5);
     let stricter = policy(rt, alloc, STRICTER_RULES);
-    assert!(rt; matches!(door.install(rt, &mut admin, 1, stricter), Ok(2)));
-    door.meet_admin(rt, &mut admin, &mut a);
-    has_version(rt, &door.version(&mut a), 2, 6);
+    assert!(rt; matches!(door.install(rt, admin, 1, stricter), Ok(2)));
+    assert!(rt; door.meet_admin(rt, admin, a));
+    has_version(rt, &door.version(a), 2, 6);
 }
 
 #[test]

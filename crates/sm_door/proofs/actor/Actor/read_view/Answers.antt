@@ -1,13 +1,12 @@
-use Rattle.std.proofs.Common.{rules, ◌≡◌, ◌∙◌, ◌+◌, Some, ap, subst, sym, arith}
+use Rattle.std.proofs.Common.{rules, ◌≡◌, ◌∙◌, ◌+◌, ℕ, Some, ap, subst, sym, arith}
 use Rattle.std.specs.Arc.{arc_value}
 use Rattle.left_right.specs.Sides.{view as place_view}
 use Rattle.sm_history.specs.declared.by.By.{By}
 use Rattle.sm_history.specs.Books.{Book}
 use Rattle.sm_history.specs.Histories.{turn_of}
-use Rattle.sm_core.specs.Managed.{look_leaves}
+use Rattle.sm_door.specs.Logged.{LooksLogged}
 use Rattle.sm_history.specs.BookOrder.{Begins, IsLawfulBook}
-use Rattle.sm_history.specs.Promises.{Looks}
-use Rattle.sm_history.specs.Tokens.{Knows}
+use Rattle.sm_history.specs.Tokens.{Knows, turn}
 use Rattle.sm_door.specs.declared.published.ReaderKnowledge.{ReaderKnowledge}
 use Rattle.sm_door.proofs.Places.{enters}
 use Rattle.sm_door.proofs.actor.Actor.read_view.Goals as goal
@@ -36,6 +35,8 @@ returns-in-Ok g c =
     let view = rw had at c.self.view_is in
     let was : (place_view c.unwrap.result.place).seen ≡ c.args.self.now.seen = ap (λ (k : Knows). k.seen) view in
     let by : c.self.inside.by ≡ c.args.self.now.by = ap (λ (k : Knows). k.by) c.self.view_is in
+    let kept = rw had at c.self.invariant in
+    let due : c.self.inside.turn ≡ turn c.args.self.now = kept.0 ∙ ap turn view in
     let one : (place_view c.leave.result.place).reads ≡ c.args.self.now.reads + 1 =
     ap (λ (k : ReaderKnowledge). k.reads) now ∙ ap (λ (k : Knows). k.reads + 1) view in (
       record {
@@ -45,11 +46,9 @@ returns-in-Ok g c =
         reads = omega (arith, one);
       },
       one,
-      subst (λ (z : Book × By). Looks z.0 z.1 c.args.query c.look_recorded-answered.result.0)
-          (λ i. ((looked ∙ seen) i, by i)) c.look_recorded-answered.ensures.looks,
-      subst (λ (z : Book × By). c.look_recorded-answered.result.1.items
-          ≡ look_leaves z.0 z.1 c.args.query c.look_recorded-answered.result.0)
-          (λ i. ((looked ∙ seen) i, by i)) c.look_recorded-answered.ensures.records,
+      subst (λ (z : Book × By × ℕ). LooksLogged z.0 z.1 z.2 c.args.query c.look_in_turn-answered.result.0
+          c.look_in_turn-answered.result.1.items)
+          (λ i. ((looked ∙ seen) i, by i, due i)) c.look_in_turn-answered.ensures,
     )
 
 pub invariant_of-self-in-Err : goal.invariant_of-self-in-Err
