@@ -14,7 +14,7 @@ use Rattle.sm_history.specs.declared.refusal.Refusal.TheVariants.{Failed, Memory
 use Rattle.sm_history.specs.declared.refusal.Failure.TheVariants.{NotConnected}
 use Rattle.sm_history.specs.declared.reply.Reply.{Reply}
 use Rattle.sm_history.specs.declared.reply.Reply.TheVariants.{Done, Sealed, Refused}
-use Rattle.sm_history.specs.Promises.{NotMade, Queried, Submitted, Turned}
+use Rattle.sm_history.specs.Promises.{NotMade, NotTold, Queried, Submitted, Turned}
 use Rattle.sm_history.specs.Tokens.{Grows, Knows}
 use Rattle.sm_history.specs.Verdict.{is_die}
 use Rattle.sm_history.proofs.BookOrder.{book_itself, book_through}
@@ -31,6 +31,7 @@ use Rattle.sm_session.specs.declared.response.Response.TheVariants.{Replied, Pol
 use Rattle.sm_serve.specs.declared.command.Command.{Command}
 use Rattle.sm_serve.specs.declared.command.Command.TheVariants.{Hello, Line, Install, End}
 use Rattle.sm_serve.specs.Connections.{AdminGives, AdminGivesLine, AdminInstalls, AdminReads, AdminReplies, AdminSeals}
+use Rattle.sm_serve.specs.Connections.{AdminTold}
 use Rattle.sm_serve.specs.Connections.{ClientReplies, GivesChange, GivesHello, GivesLeave}
 use Rattle.sm_serve.specs.Connections.{GivesLine, GivesLook, Greets, OfSession, Parts, Reads, SaysOnly, SeatOr}
 use Rattle.sm_serve.specs.Connections.{GoesOn, StillHolds}
@@ -222,10 +223,18 @@ admin_seals old new (Sealed n l) p = grown old new p.3.grows
 admin_seals old new (Refused refusal) p = grown old new p.grows
 admin_seals old new _ p = absurd p
 
+not_told : (old new : Knows) (refusal : Refusal) → NotTold old new refusal → GoesOn old new
+not_told old new refusal (inl p) = same old new p.1
+not_told old new refusal (inr p) = grown old new p.0
+
+admin_told : (old new : Knows) (reply : Reply) → AdminTold old reply new → GoesOn old new
+admin_told old new (Refused refusal) p = not_told old new refusal p
+admin_told old new _ p = absurd p
+
 admin_replies : (old new : Knows) (request : Request) (reply : Reply) → AdminReplies old request reply new
     → GoesOn old new
 admin_replies old new (Look c q) reply p = admin_reads old new q reply p
-admin_replies old new Denials reply p = same old new p.1
+admin_replies old new Denials reply p = admin_told old new reply p
 admin_replies old new Seal reply p = admin_seals old new reply p
 admin_replies old new (Change c event) reply p = same old new p.1
 admin_replies old new (requests.Hello who) reply p = same old new p.1

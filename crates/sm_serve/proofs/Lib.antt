@@ -1,4 +1,5 @@
 mod Growing
 mod Lasting
+mod LineLemmas
 mod Reading
 mod Seen

@@ -10,4 +10,5 @@ use Rattle.sm_door.specs.Logged.{ReadLogged}
 pub queried : (old new : Knows) (q : Query) (reply : Reply) (log : List Record) → ReadLogged old new q reply log
     → Queried old new q reply
 queried old new q reply log (inl p) = inl (p.0, p.1)
-queried old new q reply log (inr p) = inr (p.0, p.1, p.2)
+queried old new q reply log (inr (grows, one, inl p)) = inr (grows, one, inl (p.0, p.1))
+queried old new q reply log (inr (grows, one, inr p)) = inr (grows, one, inr p.0)

@@ -18,7 +18,8 @@ use Rattle.sm_history.specs.declared.reply.Reply.TheVariants.{Done, GotNull, Got
 use Rattle.sm_history.specs.Histories.{History, client_of, length_of}
 use Rattle.sm_history.specs.BookOrder.{Begins, IsLawfulBook}
 use Rattle.sm_history.specs.PossibleReplies.{OfConnect, OfLeave}
-use Rattle.sm_history.specs.Promises.{Accepted, Closed, Joined, NotClosed, Queried, Submitted, TellsRecords, Turned}
+use Rattle.sm_history.specs.Promises.{Accepted, Closed, Joined, NotClosed, NotTold, Queried, Submitted, TellsRecords}
+use Rattle.sm_history.specs.Promises.{Turned}
 use Rattle.sm_history.specs.Tokens.{Knows}
 use Rattle.sm_history.specs.Verdict.{is_die}
 use Rattle.sm_wire.specs.declared.request.Request.{Request}
@@ -163,10 +164,19 @@ AdminSeals old GotNull new = ⊥
 AdminSeals old (GotOwn o) new = ⊥
 AdminSeals old (Looked v l a) new = ⊥
 
+-- An administrator isn't told the records.
+abbrev pub AdminTold : Knows → Reply → Knows → Type 0
+AdminTold old (Refused refusal) new = NotTold old new refusal
+AdminTold old (Done outcome) new = ⊥
+AdminTold old GotNull new = ⊥
+AdminTold old (GotOwn o) new = ⊥
+AdminTold old (Looked v l a) new = ⊥
+AdminTold old (Sealed n l) new = ⊥
+
 -- An administrator's connection gives this reply to a line.
 abbrev pub AdminReplies : Knows → Request → Reply → Knows → Type 0
 AdminReplies old (Look c q) reply new = AdminReads old q reply new
-AdminReplies old Denials reply new = SaysOnly Memory old reply new
+AdminReplies old Denials reply new = AdminTold old reply new
 AdminReplies old Seal reply new = AdminSeals old reply new
 AdminReplies old (Change c event) reply new = SaysOnly (Failed NotYours) old reply new
 AdminReplies old (requests.Hello who) reply new = SaysOnly (Failed NotYours) old reply new

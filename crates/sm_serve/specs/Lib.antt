@@ -1,3 +1,4 @@
 pub mod Connections
 pub mod Desks
 pub mod Growing
+pub mod Lines

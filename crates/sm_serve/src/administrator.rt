@@ -12,7 +12,7 @@ use crate::monitor::Monitor;
 use crate::refusals::not_yours;
 use crate::supervisor::Supervisor;
 use sm_door::{Admin, Door, Naming};
-use sm_history::{Gate, Outcome, Query, Refusal, Reply};
+use sm_history::{Gate, Outcome, Query, Reply};
 use sm_policy::Prepared;
 use sm_session::Response;
 use sm_wire::Request;
@@ -89,7 +89,7 @@ impl<'a, J: Naming, G: Gate + Drop, H: Supervisor, R: Wait> Administrator<'a, J,
     {
         match self.door.denials(self.rt, admin) {
             Ok(records) => Response::Denied(records),
-            Err(_) => Response::Replied(Reply::Refused(Refusal::Memory)),
+            Err(refusal) => Response::Replied(Reply::Refused(refusal)),
         }
     }
 

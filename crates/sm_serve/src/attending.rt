@@ -18,6 +18,7 @@ use crate::patience::{Patience, lift_read_limit, limit_administrator};
 use crate::sealing::seal_if_due;
 use crate::shared_admin::SharedAdmin;
 use crate::supervisor::Supervisor;
+use crate::uninterrupted::Uninterrupted;
 use sm_door::{Admin, Door, Naming, SeatOrSession};
 use sm_engine::{Counted, Fault};
 use sm_history::Gate;
@@ -64,8 +65,8 @@ fn attend_stream<J: Naming, G: Gate + Drop, H: Supervisor, R: Wait>(
     monitor: &Monitor<H>,
     stream: &UnixStream,
 ) -> Option<SeatOrSession<J>> {
-    let mut reader = Counted::new(stream);
-    let mut writer = Counted::new(stream);
+    let mut reader = Counted::new(Uninterrupted::new(stream));
+    let mut writer = Counted::new(Uninterrupted::new(stream));
     let (held, _) = serve_client(
         rt,
         alloc,
@@ -147,12 +148,14 @@ pub fn serve_client<
     )
 }
 
-/// Serves an administrator's connection, which may take `seconds` for each line and each reply.
+/// Serves an administrator's connection, which may take `seconds` for each line and each reply. After each answer the
+/// journal is sealed if it is due.
 pub fn attend_administrator<J: Naming, G: Gate + Drop, H: Supervisor, R: Wait>(
     rt: &R,
     alloc: Global,
     door: &Door<J, G>,
     admin: Admin<J>,
+    sealer: &SharedAdmin<J>,
     monitor: &Monitor<H>,
     seconds: u64,
     stream: UnixStream,
@@ -160,13 +163,14 @@ pub fn attend_administrator<J: Naming, G: Gate + Drop, H: Supervisor, R: Wait>(
     if limit_administrator(seconds, &stream).is_err() {
         return admin;
     }
-    let mut reader = Counted::new(&stream);
-    let mut writer = Counted::new(&stream);
+    let mut reader = Counted::new(Uninterrupted::new(&stream));
+    let mut writer = Counted::new(Uninterrupted::new(&stream));
     let (admin, _) = serve_administrator(
         rt,
         alloc,
         door,
         admin,
+        |_| seal_if_due(rt, door, sealer, monitor),
         monitor,
         &mut reader,
         &mut writer,
@@ -177,16 +181,26 @@ pub fn attend_administrator<J: Naming, G: Gate + Drop, H: Supervisor, R: Wait>(
 
 /// Serves an administrator's connection over any reader and writer, as `serve_client` does a client's, from what the
 /// token has seen. Returns the token.
-pub fn serve_administrator<J: Naming, G: Gate + Drop, H: Supervisor, R: Wait, I: Read, O: Write>(
+pub fn serve_administrator<
+    J: Naming,
+    G: Gate + Drop,
+    B: FnMut(Occasion) + Drop,
+    H: Supervisor,
+    R: Wait,
+    I: Read,
+    O: Write,
+>(
     rt: &R,
     alloc: Global,
     door: &Door<J, G>,
     admin: Admin<J>,
+    tend: B,
     monitor: &Monitor<H>,
     reader: &mut Counted<I>,
     writer: &mut Counted<O>,
     bound: u32,
 ) -> (Admin<J>, Result<(), Fault>)
+    requires tend { B.IsAlwaysCallable tend }
     requires reader { failures_of reader.old < greatest_count }
     requires writer { failures_of writer.old < greatest_count }
     ensures attends { Attends AsAdmin (DeskAnswers AdminGives) (DeskLeaves AdminGives) result.1 bound
@@ -208,7 +222,7 @@ pub fn serve_administrator<J: Naming, G: Gate + Drop, H: Supervisor, R: Wait, I:
         Kind::Admin,
         &administrator,
         admin,
-        |_| {},
+        tend,
         monitor,
         door.gate(),
         reader,

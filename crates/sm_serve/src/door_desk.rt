@@ -108,7 +108,6 @@ impl<'a, C: Connection<S>, S, B: FnMut(Occasion), H: Supervisor> Desk for DoorDe
     }
 }
 
-/// Returns the occasion of this answer.
 fn occasion_of(response: &Response) -> Occasion {
     match response {
         Response::Replied(Reply::Done(Outcome::Connected(_))) => Occasion::Connected,

@@ -11,10 +11,9 @@ use crate::gauge::Gauge;
 use crate::leavers::Leavers;
 use crate::monitor::Monitor;
 use crate::patience::Patience;
-use crate::queue::{Arrivals, Queue, next};
+use crate::queue::{Arrivals, Queue, next, queue_of};
 use crate::shared_admin::SharedAdmin;
 use crate::supervisor::{ServerEvent, Supervisor};
-use crossbeam_channel::bounded;
 use sm_core::View;
 use sm_door::{
     Actor, Admin, Door, HistoryId, LockedManager, Naming, Published, Registry, Seat, Session,
@@ -23,9 +22,8 @@ use sm_door::{
 use sm_engine::ServeFault;
 use sm_history::Gate;
 use std::alloc::Global;
-use std::os::unix::net::UnixStream;
 use std::rt::Clock;
-use std::sync::{Arc, Mutex, Wait};
+use std::sync::{Arc, Wait};
 use std::thread;
 use std::thread::Threads;
 
@@ -69,21 +67,50 @@ pub fn serve<
     sealer: Admin<J>,
     numbers: Numbers,
 ) -> Result<(), ServeFault> {
-    let Ok((to, from)) = bounded::<UnixStream, Global>(alloc, numbers.workers as usize) else {
+    let Ok((to, queue)) = queue_of(alloc, numbers.workers) else {
         return Err(ServeFault::Memory);
     };
     let Ok(leavers) = Leavers::new(alloc) else {
         return Err(ServeFault::Memory);
     };
-    let queue = Mutex::new(from);
     let faults = Faults::new();
-    let sealing = SharedAdmin::new(sealer);
+    let sealer = SharedAdmin::new(sealer);
     let gauge = Gauge::new(numbers.slots, numbers.seal_at);
-    let waiting = &queue;
-    let faulty = &faults;
-    let leaving = &leavers;
-    let sealer = &sealing;
-    let gauging = &gauge;
+    run_threads(
+        rt, alloc, host, clients, admins, door, seats, admin, numbers, to, &queue, &leavers,
+        &sealer, &gauge, &faults,
+    );
+    leavers.retry(rt, door, seats, &Monitor::new(host, &gauge));
+    faults.into_result()
+}
+
+/// Runs the threads to their ends. Clients' connections are accepted by this one.
+fn run_threads<
+    J: Naming + Send + Sync,
+    G: Gate + Drop + Send + Sync,
+    C: Entrance,
+    A: Entrance + Drop + Send,
+    H: Supervisor + Sync,
+    R: Threads + Wait + Clock + Sync,
+>(
+    rt: &R,
+    alloc: Global,
+    host: &H,
+    clients: &mut C,
+    admins: A,
+    door: &Door<J, G>,
+    seats: &FreeSeats<J>,
+    admin: Admin<J>,
+    numbers: Numbers,
+    to: Arrivals,
+    queue: &Queue,
+    leavers: &Leavers<J>,
+    sealer: &SharedAdmin<J>,
+    gauge: &Gauge,
+    faults: &Faults,
+) {
+    let patience = numbers.patience;
+    let number = numbers.admins;
     thread::scope(thread::scope_env(), rt, |scope| {
         crosses::<View>();
         crosses::<HistoryId<J>>();
@@ -108,70 +135,55 @@ pub fn serve<
         shares::<Faults>();
         shares::<Gauge>();
         for _ in 0..numbers.workers {
-            if scope
-                .spawn(move || {
-                    let monitor = Monitor::new(host, gauging);
-                    work(
-                        rt,
-                        alloc,
-                        door,
-                        seats,
-                        leaving,
-                        sealer,
-                        &monitor,
-                        numbers.patience,
-                        waiting,
-                    );
-                })
-                .is_err()
-            {
-                faulty.note(rt, host, ServeFault::NoThread);
+            let started = scope.spawn(move || {
+                work(
+                    rt, alloc, host, gauge, door, seats, leavers, sealer, patience, queue,
+                );
+            });
+            if started.is_err() {
+                faults.note(rt, host, ServeFault::NoThread);
             }
         }
-        if scope
-            .spawn(move || {
-                let mut admins = admins;
-                let monitor = Monitor::new(host, gauging);
-                administer(
-                    rt,
-                    alloc,
-                    door,
-                    admin,
-                    &monitor,
-                    &mut admins,
-                    host,
-                    faulty,
-                    numbers.admins,
-                    numbers.patience.admin,
-                );
-            })
-            .is_err()
-        {
-            faulty.note(rt, host, ServeFault::NoThread);
+        let started = scope.spawn(move || {
+            administer(
+                rt,
+                alloc,
+                host,
+                gauge,
+                door,
+                admin,
+                sealer,
+                admins,
+                faults,
+                number,
+                patience.admin,
+            );
+        });
+        if started.is_err() {
+            faults.note(rt, host, ServeFault::NoThread);
         }
-        admit(rt, clients, &to, host, faulty, numbers.clients);
-        drop(to);
+        admit(rt, clients, to, host, faults, numbers.clients);
     });
-    leavers.retry(rt, door, seats, &Monitor::new(host, &gauge));
-    faults.into_result()
 }
 
 /// Serves connections from the queue, until no more come.
 fn work<J: Naming, G: Gate + Drop, H: Supervisor, R: Wait>(
     rt: &R,
     alloc: Global,
+    host: &H,
+    gauge: &Gauge,
     door: &Door<J, G>,
     seats: &FreeSeats<J>,
     leavers: &Leavers<J>,
     sealer: &SharedAdmin<J>,
-    monitor: &Monitor<H>,
     patience: Patience,
     queue: &Queue,
 ) {
+    let monitor = Monitor::new(host, gauge);
     for _ in rt.forever() {
         match next(rt, queue) {
             Some(stream) => attend_client(
-                rt, alloc, door, seats, leavers, sealer, monitor, patience, stream,
+                rt, alloc, door, seats, leavers, sealer, &monitor, patience, stream,
             ),
             None => return,
         }
@@ -179,23 +191,27 @@ fn work<J: Naming, G: Gate + Drop, H: Supervisor, R: Wait>(
 }
 
 /// Serves administrators' connections, one after another.
-fn administer<J: Naming, G: Gate + Drop, A: Entrance, H: Supervisor, R: Wait + Clock>(
+fn administer<J: Naming, G: Gate + Drop, A: Entrance + Drop, H: Supervisor, R: Wait + Clock>(
     rt: &R,
     alloc: Global,
+    host: &H,
+    gauge: &Gauge,
     door: &Door<J, G>,
     admin: Admin<J>,
-    monitor: &Monitor<H>,
-    entrance: &mut A,
-    host: &H,
+    sealer: &SharedAdmin<J>,
+    mut entrance: A,
     faults: &Faults,
     number: u64,
     seconds: u64,
 ) {
+    let monitor = Monitor::new(host, gauge);
     let mut token = admin;
     for _ in 0..number {
-        match arrival(rt, entrance, host, faults) {
+        match arrival(rt, &mut entrance, host, faults) {
             Some(stream) => {
-                token = attend_administrator(rt, alloc, door, token, monitor, seconds, stream);
+                token = attend_administrator(
+                    rt, alloc, door, token, sealer, &monitor, seconds, stream,
+                );
             }
             None => return,
         }
@@ -206,7 +222,7 @@ fn administer<J: Naming, G: Gate + Drop, A: Entrance, H: Supervisor, R: Wait + C
 fn admit<C: Entrance, H: Supervisor, R: Wait + Clock>(
     rt: &R,
     entrance: &mut C,
-    to: &Arrivals,
+    to: Arrivals,
     host: &H,
     faults: &Faults,
     number: u64,

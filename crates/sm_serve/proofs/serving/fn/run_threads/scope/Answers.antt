@@ -20,10 +20,11 @@ use Rattle.sm_door.specs.contracts.session.Session.TheInside as SessionInside
 use Rattle.sm_door.specs.contracts.published.PublishedAbsorbArcSharedView.TheImpl as Absorb
 use Rattle.sm_serve.specs.contracts.faults.Faults as Faults
 use Rattle.sm_serve.specs.contracts.gauge.Gauge as Gauge
+use Rattle.sm_serve.specs.contracts.shared_admin.SharedAdmin as SharedAdmin
 use Rattle.sm_core.proofs.Crossing.{view_send, view_sync}
 use Rattle.sm_core.proofs.CrossingManager.{manager_send}
 use Rattle.sm_door.proofs.Crossing.{actor_send, locked_send, shared_view_row, reader_row, writer_row}
-use Rattle.sm_serve.proofs.serving.fn.serve.scope.Goals as goal
+use Rattle.sm_serve.proofs.serving.fn.run_threads.scope.Goals as goal
 
 pub crosses-requires-send-X : goal.crosses-requires-send-X
 crosses-requires-send-X g c κs = param_send 0 _ (arg_send _ no _ view_send)
@@ -67,8 +68,8 @@ sends-requires-9-send-X g c κs within =
     search (sendable, crosses, c.sends-8.ensures) depth 60 fits 20000 in
     param_send 0 _ (arg_send _ no _ (locked_send J g.J.Naming manager_send registry shared_view w))
 
-pub spawn-requires-2-send-F : goal.spawn-requires-2-send-F
-spawn-requires-2-send-F g c κs within =
+pub spawn-started-requires-2-send-F : goal.spawn-started-requires-2-send-F
+spawn-started-requires-2-send-F g c κs within =
     let J = param 0 g.row.J in
     let bounds = c.requires.1.1.1.1.1.1 in
     let absorbs = Absorb.ghosts J g.J.Naming Absorb.no_dict in
@@ -82,31 +83,38 @@ spawn-requires-2-send-F g c κs within =
     search (sendable, crosses, c.sends-4.ensures) depth 60 fits 20000 in
     let faults : IsSync Faults.the_row = search (sendable, crosses, c.shares-6.ensures) depth 60 fits 20000 in
     let gauge : IsSync Gauge.the_row = search (sendable, crosses, c.shares-7.ensures) depth 60 fits 20000 in
+    let sealer : IsSync (SharedAdmin.the_row J g.J.Naming) =
+    search (sendable, crosses, c.shares-5.ensures) depth 60 fits 20000 in
     let number : IsSend Field.u64-field.row = search sendable depth 20 in
-    let held = Tuple.type_at (codes "sm_serve::serving::fn::serve::fn::scope::spawn+2+Self")
-    (param 3 g.row.A
-    ∷ (Field.shr_ref_field (record { mir = named 5; lft = κs.1.1.1.1.1.0 }) (param 4 g.row.H) tt).row
-    ∷ (Field.shr_ref_field (record { mir = named 6; lft = κs.1.1.1.1.1.1.0 }) Gauge.the_row tt).row
-    ∷ (Field.shr_ref_field (record { mir = named 7; lft = κs.1.1.1.1.1.1.1.0 }) (param 5 g.row.R) tt).row
+    let held = Tuple.type_at (codes "sm_serve::serving::fn::run_threads::fn::scope::spawn+2+Self")
+    ((Field.shr_ref_field (record { mir = named 5; lft = κs.1.1.1.1.1.0 }) (param 5 g.row.R) tt).row
     ∷ Global.the_row
+    ∷ (Field.shr_ref_field (record { mir = named 6; lft = κs.1.1.1.1.1.1.0 }) (param 4 g.row.H) tt).row
+    ∷ (Field.shr_ref_field (record { mir = named 7; lft = κs.1.1.1.1.1.1.1.0 }) Gauge.the_row tt).row
     ∷ (Field.shr_ref_field (record { mir = named 8; lft = κs.1.1.1.1.1.1.1.1.0 })
     (Door.the_row J (param 1 g.row.G) g.J.Naming absorbs) tt).row
     ∷ Admin.the_row J g.J.Naming
-    ∷ (Field.shr_ref_field (record { mir = named 9; lft = κs.1.1.1.1.1.1.1.1.1.0 }) Faults.the_row tt).row
+    ∷ (Field.shr_ref_field (record { mir = named 9; lft = κs.1.1.1.1.1.1.1.1.1.0 })
+    (SharedAdmin.the_row J g.J.Naming) tt).row
+    ∷ param 3 g.row.A
+    ∷ (Field.shr_ref_field (record { mir = named 10; lft = κs.1.1.1.1.1.1.1.1.1.1.0 }) Faults.the_row tt).row
     ∷ Field.u64-field.row ∷ Field.u64-field.row ∷ []) in
     param_send 1 _ (arg_send _ no _ (recorded_send _ _ _ held.to_one (struct_send (struct.shape held) (
-      entrance,
+      shr_send _ _ _ handle,
       (
-        shr_send _ _ _ host,
+        memory,
         (
-          shr_send _ _ _ gauge,
+          shr_send _ _ _ host,
           (
-            shr_send _ _ _ handle,
+            shr_send _ _ _ gauge,
             (
-              memory,
+              shr_send _ _ _ door,
               (
-                shr_send _ _ _ door,
-                (admin, (shr_send _ _ _ faults, (number, (number, tt)))),
+                admin,
+                (
+                  shr_send _ _ _ sealer,
+                  (entrance, (shr_send _ _ _ faults, (number, (number, tt)))),
+                ),
               ),
             ),
           ),

@@ -1,0 +1,21 @@
+-- What a writer of whole lines does with a text, though a write may fail in the middle of a line.
+use Rattle.std.specs.Prelude.{◌≡◌, ◌++◌, ◌-◌, ◌==◌, ◌⊎◌, ℕ, List, Option, count_by, drop, length, slice_index, take}
+use Rattle.std.specs.Io.KnownBytes.{Appends}
+
+-- This is the number of lines that end in the text.
+abbrev pub lines_in : List ℕ → ℕ
+lines_in text = count_by (λ byte. byte == 10) text
+
+-- No line goes on after so many bytes: the text begins there, a line has ended, or the text ends.
+abbrev pub BreaksAt : List ℕ → ℕ → Type 0
+BreaksAt text n = (n ≡ 0) ⊎ ((slice_index text (n - 1) ≡ 10) ⊎ (n ≡ length text))
+
+-- A line had been cut, and `rest` was left of it; then a text was to be written. The bytes that were written, and what
+-- is left now, are that rest and the lines of the text that were begun. The other lines are lost.
+pub record WritesLines (rest text : List ℕ) (w w_new : Option (List ℕ)) (left : List ℕ) (lost : ℕ) : Type 0 where
+  pub written : List ℕ
+  pub begun : ℕ
+  pub appended : Appends w w_new written
+  pub whole : written ++ left ≡ rest ++ take begun text
+  pub breaks : BreaksAt text begun
+  pub others : lost ≡ lines_in (drop begun text)
