@@ -13,12 +13,18 @@ use Rattle.sm_script.specs.declared.script_fault.ScriptFault.TheVariants.{Policy
 use Rattle.sm_engine.specs.declared.serve_fault.ServeFault.{ServeFault}
 use Rattle.sm_engine.specs.declared.serve_fault.ServeFault.TheVariants as serving
 use Rattle.sm_check.specs.Checking.{refused_line}
+use Rattle.sm_questions.specs.Words.{unknown_words}
+use Rattle.sm_questions.specs.declared.unknown.Unknown.{Unknown}
 use Rattle.sm_command.specs.declared.ending.Ending.{Ending}
-use Rattle.sm_command.specs.declared.ending.Ending.TheVariants.{Memory, File, Script, Serve}
+use Rattle.sm_command.specs.declared.ending.Ending.TheVariants.{Memory, File, Lock, Script, Serve}
 
 -- The line for a file has its path, and the words of the operating system.
 abbrev pub TellsOfFile : List ℕ → List ℕ → Type 0
 TellsOfFile path line = (words : List ℕ) × (line ≡ codes "fault: " ++ path ++ codes ": " ++ words ++ codes "\n")
+
+-- The lock beside a socket has this path.
+abbrev pub lock_of : List ℕ → List ℕ
+lock_of path = path ++ codes ".lock"
 
 -- This is the line for a failed allocation.
 abbrev pub no_memory : List ℕ
@@ -67,9 +73,14 @@ serve_line serving.AcceptFault = codes "fault: a connection was not accepted\n"
 serve_line serving.NoThread = codes "fault: a thread was not started\n"
 serve_line serving.Memory = no_memory
 
+-- This is the line for a word of a question that names nothing.
+abbrev pub unknown_line : Unknown → List ℕ
+unknown_line unknown = codes "fault: " ++ unknown_words unknown ++ codes "\n"
+
 -- The line says why the program ended.
 abbrev pub Tells : Ending → List ℕ → Type 0
 Tells Memory line = line ≡ no_memory
 Tells (File path error) line = TellsOfFile path.now line
+Tells (Lock path error) line = TellsOfFile (lock_of path.now) line
 Tells (Script fault) line = line ≡ script_line fault
 Tells (Serve fault) line = line ≡ serve_line fault

@@ -1,6 +1,6 @@
 //! Why the program ended without an answer, and its line on standard error.
 
-ghost use Rattle.std.specs.Prelude.{◌≡◌, ◌≢◌, IfOk};
+ghost use Rattle.std.specs.Prelude.{◌≡◌, ◌≢◌, IfOk, string_bytes};
 ghost use Rattle.std.specs.IoError.{error_kind};
 ghost use Rattle.sm_command.specs.Endings as spec;
 ghost use Rattle.sm_command.specs.Endings.{Tells};
@@ -23,6 +23,8 @@ pub enum Ending<'a> {
     Memory,
     /// The file of this path couldn't be read.
     File { path: &'a str, error: io::Error },
+    /// The lock beside the socket of this path couldn't be made.
+    Lock { path: &'a str, error: io::Error },
     /// The script was not run, or not to its end; or the verdict of a check couldn't be written.
     Script(ScriptFault),
     /// A server ended early.
@@ -62,6 +64,17 @@ impl<'a> Ending<'a> {
         }
     }
 
+    /// Makes the ending for a socket's lock that couldn't be made.
+    pub fn of_lock(path: &'a str, error: io::Error) -> Ending<'a>
+        ensures memory { error_kind error ≡ ErrorKind.OutOfMemory → result ≡ Ending.Memory }
+        ensures lock { error_kind error ≢ ErrorKind.OutOfMemory → result ≡ Ending.Lock path.entry error }
+    {
+        match error.kind() {
+            ErrorKind::OutOfMemory => Ending::Memory,
+            _ => Ending::Lock { path, error },
+        }
+    }
+
     /// Returns the line that says why.
     pub fn line(&self, alloc: Global) -> Result<Vec<u8>, AllocError>
         ensures { IfOk result (λ line. Tells self.now line.items) }
@@ -69,6 +82,7 @@ impl<'a> Ending<'a> {
         match self {
             Ending::Memory => Vec::from_slice(alloc, NO_MEMORY),
             Ending::File { path, error } => file_line(alloc, path, error),
+            Ending::Lock { path, error } => lock_line(alloc, path, error),
             Ending::Script(ScriptFault::Policy(fault)) => refused_line(alloc, fault),
             Ending::Script(ScriptFault::Opening(refusal)) => opening_line(alloc, refusal),
             Ending::Script(ScriptFault::Engine(fault)) => {
@@ -90,6 +104,23 @@ fn file_line(alloc: Global, path: &str, error: &io::Error) -> Result<Vec<u8>, Al
     line.extend_from_slice(words.as_bytes())?;
     line.extend_from_slice(b"\n")?;
     Ok(line)
+}
+
+// Returns `fault: PATH.lock: ` and the operating system's words.
+fn lock_line(alloc: Global, path: &str, error: &io::Error) -> Result<Vec<u8>, AllocError>
+    ensures { IfOk result (λ line. spec.TellsOfFile (spec.lock_of path.now) line.items) }
+{
+    let name = lock_of(alloc, path)?;
+    file_line(alloc, name.as_str(), error)
+}
+
+/// Returns the path of the lock beside the socket of this path.
+pub fn lock_of(alloc: Global, path: &str) -> Result<String, AllocError>
+    ensures { IfOk result (λ name. string_bytes name ≡ spec.lock_of path.now) }
+{
+    let mut name = String::from_str(alloc, path)?;
+    name.push_str(".lock")?;
+    Ok(name)
 }
 
 // Returns the line for a refused opening. Only a missing rule or a failed allocation refuses one.

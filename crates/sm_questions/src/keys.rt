@@ -44,7 +44,6 @@ fn solid_len(bytes: &[u8]) -> usize
     bytes.iter().take_while(|b| !is_blank(**b)).count()
 }
 
-/// Returns the first word of a line.
 fn first_word(line: &[u8]) -> &[u8]
     ensures { result.now ≡ lines.first_word line.now }
 {

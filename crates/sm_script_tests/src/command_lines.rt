@@ -1,7 +1,10 @@
 //! Command lines, and the line for a file that can't be read.
 
 use clap::error::ErrorKind;
-use sm_command::{Ending, Mode, Sockets, options_of, words_of};
+use sm_command::{
+    AccessWords, Ending, FilterWords, Mode, NewFiles, Question, Sockets, TargetWord, options_of,
+    words_of,
+};
 use std::alloc::{AllocError, Global};
 use std::env::{Env, FillError};
 use std::io;
@@ -45,6 +48,69 @@ const ACCEPTED: &[(&str, Mode, u32)] = &[
             audit: true,
         }),
         2,
+    ),
+    (
+        "svcmgr label r c activity",
+        Mode::Ask(Question::Label("activity")),
+        1_048_576,
+    ),
+    (
+        "svcmgr explain r c app svc binder call",
+        Mode::Ask(Question::Explain(AccessWords {
+            source: "app",
+            target: TargetWord::Type("svc"),
+            class: "binder",
+            perm: "call",
+        })),
+        1_048_576,
+    ),
+    (
+        "svcmgr explain r c app activity service_manager find --name",
+        Mode::Ask(Question::Explain(AccessWords {
+            source: "app",
+            target: TargetWord::Name("activity"),
+            class: "service_manager",
+            perm: "find",
+        })),
+        1_048_576,
+    ),
+    (
+        "svcmgr access r c",
+        Mode::Ask(Question::Access(FilterWords {
+            source: None,
+            target: None,
+            class: None,
+            perm: None,
+        })),
+        1_048_576,
+    ),
+    (
+        "svcmgr access --source app --target svc --class binder --perm call r c",
+        Mode::Ask(Question::Access(FilterWords {
+            source: Some("app"),
+            target: Some(TargetWord::Type("svc")),
+            class: Some("binder"),
+            perm: Some("call"),
+        })),
+        1_048_576,
+    ),
+    (
+        "svcmgr access r c --name activity",
+        Mode::Ask(Question::Access(FilterWords {
+            source: None,
+            target: Some(TargetWord::Name("activity")),
+            class: None,
+            perm: None,
+        })),
+        1_048_576,
+    ),
+    (
+        "svcmgr diff r c s d",
+        Mode::Ask(Question::Diff(NewFiles {
+            rules: "s",
+            contexts: "d",
+        })),
+        1_048_576,
     ),
 ];
 
@@ -130,6 +196,30 @@ const REFUSED: &[(&str, ErrorKind)] = &[
         ErrorKind::ValueValidation,
     ),
     ("svcmgr run --workers 2 r c", ErrorKind::UnknownArgument),
+    ("svcmgr run --journal +4 r c", ErrorKind::ValueValidation),
+    ("svcmgr run --journal 02 r c", ErrorKind::ValueValidation),
+    (
+        "svcmgr serve --journal 0100 --socket s --admin a r c",
+        ErrorKind::ValueValidation,
+    ),
+    (
+        "svcmgr serve --seal-at +50 --socket s --admin a r c",
+        ErrorKind::ValueValidation,
+    ),
+    (
+        "svcmgr serve --workers 016 --socket s --admin a r c",
+        ErrorKind::ValueValidation,
+    ),
+    ("svcmgr label r c", ErrorKind::MissingRequiredArgument),
+    (
+        "svcmgr explain r c app svc binder",
+        ErrorKind::MissingRequiredArgument,
+    ),
+    (
+        "svcmgr access --target svc --name activity r c",
+        ErrorKind::ArgumentConflict,
+    ),
+    ("svcmgr diff r c s", ErrorKind::MissingRequiredArgument),
     ("svcmgr --version", ErrorKind::DisplayVersion),
     ("svcmgr --help", ErrorKind::DisplayHelp),
 ];

@@ -27,23 +27,12 @@ fn device() -> Fixture {
     Fixture::device().with_reads(MANY)
 }
 
-#[test]
-fn one_byte_a_call(rt: HostRuntime) {
-    let said = said_of(&rt, rt.alloc(), CUT_SCRIPT);
-    let mut reader = OneByte(said.script.as_slice());
-    let mut writer = OneByte(Vec::new(rt.alloc()));
-    let mut audit = Vec::new(rt.alloc());
-    let ran = device().run(&rt, rt.alloc(), &mut reader, &mut writer, &mut audit);
-    assert!(rt; ran.ending == Ok(()));
-    assert_eq!(rt; writer.0.as_slice(), said.wanted.as_slice());
-}
-
 const A_SERVICE: Parts = &[Lines(&[
     ("hello 100 1000 u:r:system_server:s0", "client 1"),
     ("1 add activity o1 0 8", "ok"),
 ])];
 
-// Runs a script that is read in pieces of `most` bytes.
+// Runs a script that is read in pieces of `most` bytes. Writers that take one byte a call are in `each_write_fails`.
 fn hears_pieces(rt: &impl Abort, alloc: Global, said: &Said, most: usize) {
     let mut reader = Pieces {
         inner: said.script.as_slice(),
@@ -58,7 +47,12 @@ fn hears_pieces(rt: &impl Abort, alloc: Global, said: &Said, most: usize) {
 
 #[test]
 fn pieces_of_each_length(rt: HostRuntime) {
-    for parts in [A_SERVICE, REFERENCES_OF_A_CALL, A_SERVER_THAT_DIES] {
+    for parts in [
+        A_SERVICE,
+        REFERENCES_OF_A_CALL,
+        A_SERVER_THAT_DIES,
+        CUT_SCRIPT,
+    ] {
         let said = said_of(&rt, rt.alloc(), parts);
         for most in 1..=64 {
             hears_pieces(&rt, rt.alloc(), &said, most);

@@ -2,12 +2,13 @@
 
 use sm_command::Sockets;
 use sm_history::Record;
-use sm_serve::{AuditLines, AuditLog, ServerEvent, Supervisor};
+use sm_serve::{AuditLines, AuditLog, ServerEvent, Supervisor, write_log};
 use std::alloc::AllocError;
 use std::io;
 use std::net::Shutdown;
 use std::os::fd::OwnedFd;
 use std::os::unix::net::{UnixListener, UnixStream};
+use std::rt::Clock;
 use std::sync::Wait;
 
 /// What operators see of a server, on standard error, and the means to close its sockets.
@@ -40,7 +41,7 @@ impl<'a, R: Wait> Console<'a, R> {
     pub fn new(
         host: &'a HostRuntime,
         rt: &'a R,
-        sockets: Sockets<'a>,
+        sockets: Sockets,
         clients: &UnixListener,
         admins: &UnixListener,
         log: Option<AuditLog>,
@@ -57,27 +58,6 @@ impl<'a, R: Wait> Console<'a, R> {
             admins: handle_of(admins)?,
             log,
         })
-    }
-
-    /// Writes audit lines to standard error as they come, until the log ends. A line that can't be written is lost.
-    pub fn write_log(&self, lines: AuditLines) {
-        for next in lines.iter(self.rt) {
-            let Some(text) = next else {
-                return;
-            };
-            let _ = self.host.stderr().write_all(&text);
-            self.tell_lost();
-        }
-    }
-
-    fn tell_lost(&self) {
-        let Some(log) = &self.log else {
-            return;
-        };
-        let lost = log.take_lost();
-        if lost > 0 {
-            let _ = eprint!(self.host; "warning: {lost} audit lines were lost\n");
-        }
     }
 
     /// Ends the log, once the lines that wait are written.
@@ -107,6 +87,16 @@ impl<'a, R: Wait> Console<'a, R> {
                     "warning: the journal is full: changes are refused until it is sealed\n"
                 )
             }
+        }
+    }
+}
+
+impl<'a, R: Wait + Clock> Console<'a, R> {
+    /// Writes audit lines to standard error as they come, until the log ends.
+    pub fn write_log(&self, lines: AuditLines) {
+        if let Some(log) = &self.log {
+            let host = self.host;
+            write_log(self.rt, host.alloc(), log, lines, host.stderr());
         }
     }
 }

@@ -89,8 +89,8 @@ const PATIENCE: Patience = Patience {
     admin: 60,
 };
 
-/// Opens the clients' socket, then the administrators', and serves. Where it returns, the sockets that it made are
-/// gone.
+/// Opens the clients' socket, then the administrators', and serves. Where it returns, the sockets and the locks that it
+/// made are gone.
 fn listen<'a, J: Naming + Send + Sync, R: Files + Net + Threads + Wait + Clock + Sync>(
     host: &HostRuntime,
     rt: &R,
@@ -101,13 +101,13 @@ fn listen<'a, J: Naming + Send + Sync, R: Files + Net + Threads + Wait + Clock +
     sockets: Sockets<'a>,
 ) -> Result<(), Ending<'a>> {
     let path = sockets.clients;
-    let claim = match Claim::new(host, path) {
-        Ok(claim) => claim,
-        Err(error) => return Err(Ending::of_file(path, error)),
-    };
+    let claim = Claim::new(host, path)?;
     let clients = match claim.listen(rt, sockets.mode) {
         Ok(clients) => clients,
-        Err(error) => return Err(Ending::of_file(path, error)),
+        Err(error) => {
+            claim.give_up(rt);
+            return Err(Ending::of_file(path, error));
+        }
     };
     let ended = listen_to_both(host, rt, door, seats, tokens, slots, sockets, clients);
     claim.remove(rt);
@@ -126,13 +126,13 @@ fn listen_to_both<'a, J: Naming + Send + Sync, R: Files + Net + Threads + Wait +
     clients: UnixListener,
 ) -> Result<(), Ending<'a>> {
     let path = sockets.admins;
-    let claim = match Claim::new(host, path) {
-        Ok(claim) => claim,
-        Err(error) => return Err(Ending::of_file(path, error)),
-    };
+    let claim = Claim::new(host, path)?;
     let admins = match claim.listen(rt, Some(OWNER_ALONE)) {
         Ok(admins) => admins,
-        Err(error) => return Err(Ending::of_file(path, error)),
+        Err(error) => {
+            claim.give_up(rt);
+            return Err(Ending::of_file(path, error));
+        }
     };
     let ended = serve_at(
         host, rt, door, seats, tokens, slots, sockets, clients, admins,

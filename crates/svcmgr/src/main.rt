@@ -3,15 +3,20 @@
 
 mod console;
 mod daemon;
+mod pipe;
+mod questions;
 mod sockets;
+mod standard_streams;
 
 use clap::error::ErrorKind;
 use daemon::serve_policy;
+use questions::ask;
 use sm_check::check;
 use sm_command::{Ending, Mode, NO_MEMORY, Options, Sockets, options_of, read_limited, words_of};
 use sm_engine::Counted;
 use sm_policy::Prepared;
 use sm_script::{ScriptFault, run_script};
+use standard_streams::StandardStreams;
 use std::process::ExitCode;
 use std::rt::{Clock, Files, Net};
 use std::sync::Wait;
@@ -21,6 +26,7 @@ use std::thread::Threads;
 const BOUND: u32 = 16_777_216;
 
 fn main(rt: HostRuntime) -> ExitCode {
+    let _streams = StandardStreams::hold(&rt);
     match words_of(&rt) {
         Ok(words) => answer(&rt, &rt, words.as_slice()),
         Err(error) => misuse(&rt, &error),
@@ -81,11 +87,12 @@ fn perform<'a, R: Files + Net + Threads + Wait + Clock + Sync>(
         Mode::Run => serve_script(host, options),
         Mode::Check => check_policy(host, options),
         Mode::Serve(sockets) => serve_sockets(host, rt, options, sockets),
+        Mode::Ask(question) => ask(host, options, question),
     }
 }
 
 /// Reads a file of the policy.
-fn text_of<'a>(rt: &HostRuntime, path: &'a str) -> Result<Vec<u8>, Ending<'a>> {
+pub(crate) fn text_of<'a>(rt: &HostRuntime, path: &'a str) -> Result<Vec<u8>, Ending<'a>> {
     read_limited(rt, path).map_err(|error| Ending::of_file(path, error))
 }
 

@@ -1,0 +1,190 @@
+//! The parser of the command line.
+
+use crate::building::Building;
+use clap::{Arg, ArgAction, Command, value_parser};
+use std::alloc::{AllocError, Global};
+
+/// The version of the program.
+const VERSION: &str = "0.1.0";
+
+/// Returns the parser of the command line.
+pub fn command<'a>(alloc: Global) -> Result<Command<'a>, AllocError> {
+    Building::of(program(alloc))
+        .subcommand(run(alloc))
+        .subcommand(check(alloc))
+        .subcommand(serve(alloc))
+        .subcommand(label(alloc))
+        .subcommand(explain(alloc))
+        .subcommand(access(alloc))
+        .subcommand(diff(alloc))
+        .end()
+}
+
+fn program<'a>(alloc: Global) -> Command<'a> {
+    Command::new(alloc, "svcmgr")
+        .about("A service manager with SELinux access control")
+        .version(VERSION)
+        .subcommand_required(true)
+}
+
+fn run<'a>(alloc: Global) -> Building<'a> {
+    let run = Building::new(alloc, "run", "Runs a script from standard input");
+    with_files(alloc, run.arg(journal(alloc)))
+}
+
+fn check<'a>(alloc: Global) -> Building<'a> {
+    let about = "Tells whether a policy is accepted";
+    with_files(alloc, Building::new(alloc, "check", about))
+}
+
+fn serve<'a>(alloc: Global) -> Building<'a> {
+    let about = "Serves clients and administrators over Unix sockets";
+    let serve = Building::new(alloc, "serve", about)
+        .arg(journal(alloc))
+        .arg(seal_at(alloc))
+        .arg(workers(alloc))
+        .arg(permissions(alloc))
+        .arg(audit(alloc))
+        .arg(socket(alloc, "socket", "The clients' socket"))
+        .arg(socket(alloc, "admin", "The administrators' socket"));
+    with_files(alloc, serve)
+}
+
+fn label<'a>(alloc: Global) -> Building<'a> {
+    let about = "Tells the context of a service, and the line that gives it";
+    with_files(alloc, Building::new(alloc, "label", about)).arg(operand(
+        alloc,
+        "name",
+        "NAME",
+        "The name of a service",
+    ))
+}
+
+fn explain<'a>(alloc: Global) -> Building<'a> {
+    let about = "Tells which rule grants an access";
+    let explain = Building::new(alloc, "explain", about).arg(by_name(alloc));
+    with_files(alloc, explain)
+        .arg(operand(alloc, "source", "SOURCE", "A type"))
+        .arg(operand(
+            alloc,
+            "target",
+            "TARGET",
+            "A type, or the name of a service with --name",
+        ))
+        .arg(operand(alloc, "class", "CLASS", "service_manager or binder"))
+        .arg(operand(alloc, "perm", "PERM", "A permission of the class"))
+}
+
+fn access<'a>(alloc: Global) -> Building<'a> {
+    let about = "Lists the accesses that a policy allows, with the lines of their rules";
+    let access = Building::new(alloc, "access", about)
+        .arg(word(alloc, "source", "TYPE", "Only those of this type"))
+        .try_arg(target(alloc))
+        .arg(word(alloc, "name", "NAME", "Only those to this service"))
+        .arg(word(alloc, "class", "CLASS", "Only those of this class"))
+        .arg(word(alloc, "perm", "PERM", "Only those with this permission"));
+    with_files(alloc, access)
+}
+
+fn diff<'a>(alloc: Global) -> Building<'a> {
+    let about = "Lists what differs between two policies";
+    with_files(alloc, Building::new(alloc, "diff", about))
+        .arg(operand(
+            alloc,
+            "new-rules",
+            "NEWRULES",
+            "A second file of SELinux rules",
+        ))
+        .arg(operand(
+            alloc,
+            "new-contexts",
+            "NEWCONTEXTS",
+            "A second file of service contexts",
+        ))
+}
+
+/// Adds the files of a policy to a command.
+fn with_files<'a>(alloc: Global, command: Building<'a>) -> Building<'a> {
+    command
+        .arg(operand(alloc, "rules", "RULES", "A file of SELinux rules"))
+        .arg(operand(alloc, "contexts", "CONTEXTS", "A file of service contexts"))
+}
+
+/// Returns an argument without an option, which has to be there.
+fn operand<'a>(alloc: Global, id: &'a str, value: &'a str, help: &'a str) -> Arg<'a> {
+    Arg::new(alloc, id)
+        .value_name(value)
+        .help(help)
+        .required(true)
+}
+
+/// Returns an option with a word.
+fn word<'a>(alloc: Global, name: &'a str, value: &'a str, help: &'a str) -> Arg<'a> {
+    Arg::new(alloc, name)
+        .long(name)
+        .value_name(value)
+        .help(help)
+}
+
+fn target<'a>(alloc: Global) -> Result<Arg<'a>, AllocError> {
+    word(alloc, "target", "TYPE", "Only those to this type").conflicts_with("name")
+}
+
+fn by_name<'a>(alloc: Global) -> Arg<'a> {
+    Arg::new(alloc, "name")
+        .long("name")
+        .help("Takes TARGET as the name of a service")
+        .action(ArgAction::SetTrue)
+}
+
+fn journal<'a>(alloc: Global) -> Arg<'a> {
+    word(
+        alloc,
+        "journal",
+        "N",
+        "The number of slots in the journal, 2 to 1048576",
+    )
+    .value_parser(value_parser!(u32).range(2..=1_048_576))
+    .default_value("1048576")
+}
+
+fn workers<'a>(alloc: Global) -> Arg<'a> {
+    word(
+        alloc,
+        "workers",
+        "W",
+        "How many clients are served at once, 1 to 64",
+    )
+    .value_parser(value_parser!(u32).range(1..=64))
+    .default_value("16")
+}
+
+fn seal_at<'a>(alloc: Global) -> Arg<'a> {
+    word(
+        alloc,
+        "seal-at",
+        "N",
+        "Seals the journal whenever N of its slots are used, 2 to the number of slots",
+    )
+    .value_parser(value_parser!(u32).range(2..=1_048_576))
+}
+
+fn permissions<'a>(alloc: Global) -> Arg<'a> {
+    word(
+        alloc,
+        "mode",
+        "MODE",
+        "The permissions of the clients' socket in octal, 0 to 777",
+    )
+}
+
+fn audit<'a>(alloc: Global) -> Arg<'a> {
+    Arg::new(alloc, "audit")
+        .long("audit")
+        .help("Writes the audit lines of clients' requests to standard error")
+        .action(ArgAction::SetTrue)
+}
+
+fn socket<'a>(alloc: Global, name: &'a str, help: &'a str) -> Arg<'a> {
+    word(alloc, name, "PATH", help).required(true)
+}

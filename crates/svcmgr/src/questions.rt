@@ -1,0 +1,190 @@
+//! Answers to questions about policies, on standard output.
+
+use crate::pipe::Pipe;
+use crate::text_of;
+use sm_check::refused_line;
+use sm_command::{
+    AccessWords, Ending, FilterWords, NO_MEMORY, NewFiles, Options, Question, TargetWord,
+    unknown_line,
+};
+use sm_engine::{Counted, Fault, write_whole};
+use sm_kinds::Word;
+use sm_policy::PolicyFault;
+use sm_questions::{
+    Options as FilterOptions, PolicyTables, Target, Unknown, access, diff, explain, label,
+    read_access, read_filter,
+};
+use std::process::ExitCode;
+
+/// Reads the policy, and answers the question.
+pub fn ask<'a>(
+    rt: &HostRuntime,
+    options: &Options<'a>,
+    question: Question<'a>,
+) -> Result<ExitCode, Ending<'a>> {
+    let rules = text_of(rt, options.rules)?;
+    let contexts = text_of(rt, options.contexts)?;
+    match PolicyTables::from_texts(rt.alloc(), &rules, &contexts) {
+        Ok(policy) => answer(rt, &policy, question),
+        Err(fault) => refuse(rt, &fault),
+    }
+}
+
+fn answer<'a>(
+    rt: &HostRuntime,
+    policy: &PolicyTables,
+    question: Question<'a>,
+) -> Result<ExitCode, Ending<'a>> {
+    match question {
+        Question::Label(name) => tell_label(rt, policy, name),
+        Question::Explain(words) => tell_rule(rt, policy, words),
+        Question::Access(words) => tell_accesses(rt, policy, words),
+        Question::Diff(files) => tell_differences(rt, policy, files),
+    }
+}
+
+/// Prints the refusal of a policy, as `check` does.
+fn refuse<'a>(rt: &HostRuntime, fault: &PolicyFault) -> Result<ExitCode, Ending<'a>> {
+    if matches!(fault, PolicyFault::Memory) {
+        return Err(Ending::Memory);
+    }
+    let Ok(line) = refused_line(rt.alloc(), fault) else {
+        return Err(Ending::Memory);
+    };
+    let mut writer = Counted::new(Pipe::new(rt.stdout()));
+    let told = match write_whole(&mut writer, &line) {
+        Ok(()) => Ok(false),
+        Err(fault) => Err(fault),
+    };
+    decided(told, writer.into_inner().is_closed())
+}
+
+/// Prints that a word of a question names nothing.
+fn refuse_word(rt: &HostRuntime, unknown: &Unknown<'_>) -> ExitCode {
+    match unknown_line(rt.alloc(), unknown) {
+        Ok(line) => {
+            // A failure can't be reported anywhere else.
+            let _ = rt.stderr().write_all(&line);
+            ExitCode::from(2)
+        }
+        Err(_) => {
+            let _ = rt.stderr().write_all(NO_MEMORY);
+            ExitCode::FAILURE
+        }
+    }
+}
+
+/// Returns the status of a list. One that is cut off since nobody reads on is no failure.
+fn listed<'a>(told: Result<(), Fault>, is_closed: bool) -> Result<ExitCode, Ending<'a>> {
+    match told {
+        Ok(()) => Ok(ExitCode::SUCCESS),
+        Err(Fault::WriteFault) if is_closed => Ok(ExitCode::SUCCESS),
+        Err(fault) => Err(Ending::from(fault)),
+    }
+}
+
+/// Returns the status of a yes or a no. An answer that nobody reads is no yes.
+fn decided<'a>(told: Result<bool, Fault>, is_closed: bool) -> Result<ExitCode, Ending<'a>> {
+    match told {
+        Ok(true) => Ok(ExitCode::SUCCESS),
+        Ok(false) => Ok(ExitCode::FAILURE),
+        Err(Fault::WriteFault) if is_closed => Ok(ExitCode::FAILURE),
+        Err(fault) => Err(Ending::from(fault)),
+    }
+}
+
+fn tell_label<'a>(
+    rt: &HostRuntime,
+    policy: &PolicyTables,
+    name: &str,
+) -> Result<ExitCode, Ending<'a>> {
+    let mut writer = Counted::new(Pipe::new(rt.stdout()));
+    let told = label(rt.alloc(), policy, name.as_bytes(), &mut writer);
+    listed(told, writer.into_inner().is_closed())
+}
+
+fn tell_rule<'a>(
+    rt: &HostRuntime,
+    policy: &PolicyTables,
+    words: AccessWords<'_>,
+) -> Result<ExitCode, Ending<'a>> {
+    let source = words.source.as_bytes();
+    let target = target_type(policy, words.target);
+    let (class, perm) = match read_access(
+        policy,
+        source,
+        target,
+        words.class.as_bytes(),
+        words.perm.as_bytes(),
+    ) {
+        Ok(access) => access,
+        Err(unknown) => return Ok(refuse_word(rt, &unknown)),
+    };
+    let mut writer = Counted::new(Pipe::new(rt.stdout()));
+    let told = explain(rt.alloc(), policy, source, target, class, perm, &mut writer);
+    decided(told, writer.into_inner().is_closed())
+}
+
+/// Returns the name of the target's type.
+fn target_type<'a>(policy: &'a PolicyTables, target: TargetWord<'a>) -> &'a [u8] {
+    match target {
+        TargetWord::Type(name) => name.as_bytes(),
+        TargetWord::Name(name) => policy.label_type(name.as_bytes()),
+    }
+}
+
+fn tell_accesses<'a>(
+    rt: &HostRuntime,
+    policy: &PolicyTables,
+    words: FilterWords<'_>,
+) -> Result<ExitCode, Ending<'a>> {
+    let options = filter_options(words);
+    let filter = match read_filter(policy, &options) {
+        Ok(filter) => filter,
+        Err(unknown) => return Ok(refuse_word(rt, &unknown)),
+    };
+    let mut writer = Counted::new(Pipe::new(rt.stdout()));
+    let told = access(rt.alloc(), policy, &filter, &mut writer);
+    listed(told, writer.into_inner().is_closed())
+}
+
+fn filter_options<'a>(words: FilterWords<'a>) -> FilterOptions<'a> {
+    FilterOptions {
+        source: words.source.map(word),
+        target: match words.target {
+            Some(TargetWord::Type(name)) => Target::Type(word(name)),
+            Some(TargetWord::Name(name)) => Target::Name(word(name)),
+            None => Target::Any,
+        },
+        class: words.class.map(word),
+        perm: words.perm.map(word),
+    }
+}
+
+fn word<'a>(text: &'a str) -> Word<'a> {
+    Word::new(text.as_bytes())
+}
+
+/// Reads the new policy, and lists what differs from the old one.
+fn tell_differences<'a>(
+    rt: &HostRuntime,
+    old: &PolicyTables,
+    files: NewFiles<'a>,
+) -> Result<ExitCode, Ending<'a>> {
+    let rules = text_of(rt, files.rules)?;
+    let contexts = text_of(rt, files.contexts)?;
+    match PolicyTables::from_texts(rt.alloc(), &rules, &contexts) {
+        Ok(new) => compare(rt, old, &new),
+        Err(fault) => refuse(rt, &fault),
+    }
+}
+
+fn compare<'a>(
+    rt: &HostRuntime,
+    old: &PolicyTables,
+    new: &PolicyTables,
+) -> Result<ExitCode, Ending<'a>> {
+    let mut writer = Counted::new(Pipe::new(rt.stdout()));
+    let told = diff(rt.alloc(), old, new, &mut writer);
+    decided(told, writer.into_inner().is_closed())
+}
