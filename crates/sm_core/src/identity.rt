@@ -8,10 +8,6 @@ use std::alloc::{AllocError, Global};
 
 /// Returns the identity under which a script and a server open their manager: process 1 with the uid of the system,
 /// 1000, in the domain `servicemanager` (AOSP: `system/sepolicy/private/servicemanager.te`).
-///
-/// # Errors
-///
-/// An error if an allocation fails.
 #[tactic(auto, unfolding(sm_kinds::specs::Contexts::is_context))]
 pub fn manager_identity(alloc: Global) -> Result<Identity, AllocError>
     ensures { IfOk result (λ who. who ≡ the_manager) }

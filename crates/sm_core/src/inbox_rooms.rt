@@ -59,10 +59,6 @@ impl InboxRooms {
     }
 
     /// Sets the number of deliveries for which a client's inbox still has room.
-    ///
-    /// # Errors
-    ///
-    /// An error if an allocation fails.
     pub fn set(&mut self, client: u32, left: usize) -> Result<(), AllocError>
         ensures { OnOk result ((c : ℕ) → left_of self.new.rows.items c
             ≡ cond (nat_eq client c) (Some left) (left_of self.old.rows.items c)) }

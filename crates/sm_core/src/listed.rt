@@ -33,10 +33,6 @@ pub fn moves_any_services(effects: &[Effect]) -> bool
 }
 
 /// Copies these services, and applies effects.
-///
-/// # Errors
-///
-/// An error if an allocation fails.
 pub fn services_after(
     alloc: Global,
     last: &Services,

@@ -51,10 +51,6 @@ fn listed_clients(
 }
 
 /// Returns the tables as rows.
-///
-/// # Errors
-///
-/// An error if an allocation fails.
 pub fn tables_of(alloc: Global, state: &State) -> Result<Tables, AllocError>
     ensures { IfOk result (λ t. (d : Effects) → Stands d state.now → TracksTables d t) }
 {

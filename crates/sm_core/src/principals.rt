@@ -66,10 +66,6 @@ pub fn moves_any_principals(effects: &[Effect]) -> bool
 
 impl Principals {
     /// Copies the processes, which share their texts, and the policy, which is shared.
-    ///
-    /// # Errors
-    ///
-    /// An error if an allocation fails.
     pub fn copy(&self, alloc: Global) -> Result<Principals, AllocError>
         ensures stand { IfOk result (λ p. (d : Effects) → StandPrincipals d self.now → StandPrincipals d p) }
         ensures version { IfOk result (λ p. p.version ≡ self.now.version) }
@@ -83,10 +79,6 @@ impl Principals {
     }
 
     /// Copies the processes and the policy, and applies effects.
-    ///
-    /// # Errors
-    ///
-    /// An error if an allocation fails.
     pub fn after(&self, alloc: Global, effects: &[Effect]) -> Result<Principals, AllocError>
         requires { self.now.version + sets_in effects.now < GREATEST }
         ensures { IfOk result (λ p. (d : Effects) → Sound d → StandPrincipals d self.now → MayAllApart d effects.now

@@ -67,10 +67,6 @@ fn with_row(alloc: Global, since: &[TurnRow], row: TurnRow) -> Result<Vec<TurnRo
 
 impl TurnCounts {
     /// Makes the counts of a table.
-    ///
-    /// # Errors
-    ///
-    /// An error if an allocation fails.
     pub fn of(alloc: Global, turns: &Turns) -> Result<TurnCounts, AllocError>
         ensures { IfOk result (λ t. (b : By)
             → counted_in (arc_value t.base) t.since.items b ≡ change_count turns.now b) }

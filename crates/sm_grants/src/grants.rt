@@ -59,10 +59,6 @@ impl Grants {
     }
 
     /// Makes room for grants of `n` new objects to a client.
-    ///
-    /// # Errors
-    ///
-    /// An error if an allocation fails.
     pub fn reserve(&mut self, client: u32, n: usize) -> Result<(), AllocError>
         ensures same { (d : Effects) → Tracks d self.old → Tracks d self.new }
         ensures room { OnOk result (n ≤ spare_for self.new client) }
@@ -185,10 +181,6 @@ impl Grants {
     }
 
     /// Returns what a client holds under each number, from 0 on.
-    ///
-    /// # Errors
-    ///
-    /// An error if an allocation fails.
     pub fn listed(&self, alloc: Global, client: u32) -> Result<Vec<Option<Held>>, AllocError>
         ensures { IfOk result
             (λ v. (d : Effects) → Tracks d self.now → (k : ℕ) → slot v.items k ≡ slot_at d client k) }

@@ -70,10 +70,6 @@ fn has_number(slots: &[Option<Held>], number: u32, node: Node) -> bool
 
 impl Handles {
     /// Makes an empty table.
-    ///
-    /// # Errors
-    ///
-    /// An error if an allocation fails.
     pub fn new(alloc: Global) -> Result<Handles, AllocError>
         ensures { IfOk result (λ h. h.slots ≡ []) }
     {
@@ -86,10 +82,6 @@ impl Handles {
     }
 
     /// Makes room for grants of `n` new objects.
-    ///
-    /// # Errors
-    ///
-    /// An error if an allocation fails.
     pub fn reserve(&mut self, n: usize) -> Result<(), AllocError>
         ensures slots { self.new.slots ≡ self.old.slots }
         ensures room { OnOk result (n ≤ self.new.spare) }
@@ -150,10 +142,6 @@ impl Handles {
     }
 
     /// Returns what is held under each number, from 0 on.
-    ///
-    /// # Errors
-    ///
-    /// An error if an allocation fails.
     pub fn listed(&self, alloc: Global) -> Result<Vec<Option<Held>>, AllocError>
         ensures { IfOk result (λ v. v.items ≡ listed_slots self.now.slots) }
     {

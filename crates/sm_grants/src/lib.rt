@@ -1,6 +1,8 @@
 //! The handles of clients: who holds which object, under which number, and how often.
 //!
 //! A table of handles has what the effects of a history say of grants and releases.
+//!
+//! An `AllocError` says that an allocation failed, and nothing else.
 #![tactic(auto)]
 
 mod grants;

@@ -29,10 +29,6 @@ impl Model for UsedNumbers {
 
 impl UsedNumbers {
     /// Returns the empty set, with room for numbers below 64 times `words`.
-    ///
-    /// # Errors
-    ///
-    /// An error if an allocation fails.
     pub fn empty(alloc: Global, words: usize) -> Result<UsedNumbers, AllocError>
         ensures room { IfOk result (λ u. length u ≡ words) }
         ensures none { IfOk result (λ u. (j : ℕ) → has u j ≡ false) }

@@ -81,10 +81,6 @@ impl Inboxes {
     }
 
     /// Returns a client's deliveries, oldest first.
-    ///
-    /// # Errors
-    ///
-    /// An error if an allocation fails.
     pub fn listed(&self, alloc: Global, client: u32) -> Result<Vec<BoxedDelivery>, AllocError>
         ensures { IfOk result (λ v. (d : Effects) → TracksInboxes d self.now → v.items ≡ inbox_at d client) }
     {

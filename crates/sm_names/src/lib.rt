@@ -1,6 +1,8 @@
 //! Services under their names, and watches of names.
 //!
 //! A table of names has what the effects of a history say of services and watches.
+//!
+//! An `AllocError` says that an allocation failed, and nothing else.
 #![tactic(auto)]
 
 mod hints;

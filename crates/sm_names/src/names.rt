@@ -50,10 +50,6 @@ impl Names {
 
     /// Makes room for `n` more names and `n` more watches, so that as many calls of `put` and of `watch` allocate
     /// nothing.
-    ///
-    /// # Errors
-    ///
-    /// An error if an allocation fails.
     pub fn reserve(&mut self, n: usize) -> Result<(), AllocError>
         ensures tracks { (d : Effects) → TracksNames d self.old → TracksNames d self.new }
         ensures room { OnOk result (HasRoom n self.new) }
@@ -87,10 +83,6 @@ impl Names {
     }
 
     /// Returns the names whose dump flags share a bit with a mask, in rising byte order.
-    ///
-    /// # Errors
-    ///
-    /// An error if an allocation fails.
     pub fn by_mask(&self, alloc: Global, mask: u32) -> Result<NameList, AllocError>
         ensures { IfOk result (λ names. (d : Effects) → TracksNames d self.now
             → names ≡ names_by_mask d mask) }
@@ -124,10 +116,6 @@ impl Names {
     }
 
     /// Returns all watches, oldest first. They share their names with the table.
-    ///
-    /// # Errors
-    ///
-    /// An error if an allocation fails.
     pub fn listed_watches(&self, alloc: Global) -> Result<Vec<Watch>, AllocError>
         ensures { IfOk result (λ v. (d : Effects) → TracksNames d self.now → v.items ≡ watches_at d) }
     {

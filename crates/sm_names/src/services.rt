@@ -90,10 +90,6 @@ impl Services {
     }
 
     /// Copies the services, with room for `n` more names. The names are shared.
-    ///
-    /// # Errors
-    ///
-    /// An error if an allocation fails.
     pub fn copy(&self, alloc: Global, n: usize) -> Result<Services, AllocError>
         ensures { IfOk result (λ s. (s.rows.items ≡ self.now.rows.items)
             × (length self.now.rows.items + n ≤ vec_capacity s.rows)) }
@@ -107,10 +103,6 @@ impl Services {
     }
 
     /// Returns the services under their names, in rising byte order.
-    ///
-    /// # Errors
-    ///
-    /// An error if an allocation fails.
     pub fn listed(&self, alloc: Global) -> Result<Vec<NamedRow>, AllocError>
         ensures { IfOk result (λ v. (d : Effects) → TracksRows d self.now.rows.items → TracksRows d v.items) }
     {
@@ -118,10 +110,6 @@ impl Services {
     }
 
     /// Makes room for `n` more names.
-    ///
-    /// # Errors
-    ///
-    /// An error if an allocation fails.
     pub fn reserve(&mut self, n: usize) -> Result<(), AllocError>
         ensures same { self.new.rows.items ≡ self.old.rows.items }
         ensures room { OnOk result (length self.new.rows.items + n ≤ vec_capacity self.new.rows) }
@@ -159,10 +147,6 @@ impl Services {
     }
 
     /// Returns the names whose dump flags share a bit with a mask, in rising byte order.
-    ///
-    /// # Errors
-    ///
-    /// An error if an allocation fails.
     pub fn by_mask(&self, alloc: Global, mask: u32) -> Result<NameList, AllocError>
         ensures { IfOk result (λ names. (d : Effects) → TracksRows d self.now.rows.items
             → names ≡ names_by_mask d mask) }

@@ -72,7 +72,6 @@ fn front_of<'a>(list: &'a [Watch], name: &[u8]) -> &'a [Watch]
     &list[..end]
 }
 
-/// Returns the watches of a name.
 fn watchers_of<'a>(list: &'a [Watch], name: &[u8]) -> &'a [Watch]
     ensures same { AreInOrder list.now → result.now ≡ watchers_in list.now name.now }
     ensures fewer { length result.now ≤ length list.now }
@@ -110,10 +109,6 @@ impl WatchList {
     }
 
     /// Makes room for `n` more watches.
-    ///
-    /// # Errors
-    ///
-    /// An error if an allocation fails.
     pub fn reserve(&mut self, n: usize) -> Result<(), AllocError>
         ensures same { self.new.list.items ≡ self.old.list.items }
         ensures room { OnOk result (length self.new.list.items + n ≤ vec_capacity self.new.list) }

@@ -30,10 +30,6 @@ impl WatchOrder {
     }
 
     /// Makes room for `n` more watches.
-    ///
-    /// # Errors
-    ///
-    /// An error if an allocation fails.
     pub fn reserve(&mut self, n: usize) -> Result<(), AllocError>
         ensures same { self.new.list.items ≡ self.old.list.items }
         ensures room { OnOk result (length self.new.list.items + n ≤ vec_capacity self.new.list) }
@@ -81,10 +77,6 @@ impl WatchOrder {
     }
 
     /// Returns the watches, oldest first, with their names shared.
-    ///
-    /// # Errors
-    ///
-    /// An error if an allocation fails.
     pub fn listed(&self, alloc: Global) -> Result<Vec<Watch>, AllocError>
         ensures { IfOk result (λ v. v.items ≡ self.now.list.items) }
     {

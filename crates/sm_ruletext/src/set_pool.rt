@@ -119,7 +119,6 @@ impl SetPool {
         }
     }
 
-    /// Returns the number of the next set.
     fn next_number(&self) -> u32 {
         let count = self.sets.len();
         if count < MOST_SETS {

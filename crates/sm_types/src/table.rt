@@ -96,7 +96,6 @@ fn add_members(table: &Table, set: &mut BitRow, word: &[u8]) -> bool
     }
 }
 
-/// Returns the type that a word names.
 fn named_type(table: &Table, word: &[u8]) -> Option<usize>
     ensures inside { IfSome result (λ t. t < length table.now.symbols.types) }
     ensures named { IfSome result (λ t. (policy : List TheStatement) → IsOf policy table.now → (i : ℕ)
@@ -108,7 +107,6 @@ fn named_type(table: &Table, word: &[u8]) -> Option<usize>
     Some(t)
 }
 
-/// Returns the attribute that a word names.
 fn named_attribute(table: &Table, word: &[u8]) -> Option<usize>
     ensures inside { IfSome result (λ a. a < length table.now.symbols.attributes) }
     ensures named { IfSome result (λ a. (policy : List TheStatement) → IsOf policy table.now → (i : ℕ)
@@ -155,7 +153,6 @@ fn add_all(table: &Table, set: &mut BitRow, words: &Names) -> bool
     true
 }
 
-/// Makes the row of all types.
 fn all_types(alloc: Global, symbols: &Symbols) -> Result<BitRow, AllocError>
     ensures { IfOk result (λ row. HasAll symbols.now row) }
 {

@@ -27,7 +27,6 @@ ghost use Rattle.std.specs.Prelude.{◌≡◌, ◌≤◌, ◌+◌, ◌/◌};
 ghost use Rattle.sm_types.specs.declared.TheConstants.{MOST_TYPES};
 
 impl TypeCount {
-    /// Makes a count.
     pub(crate) fn new(count: usize) -> TypeCount
         requires { count ≤ MOST_TYPES }
         ensures { result ≡ count }

@@ -6,7 +6,6 @@ use indexmap::IndexMap;
 use std::alloc::{AllocError, Global};
 use std::marker::Model;
 
-/// A row of bytes.
 #[derive(Drop)]
 struct ByteRow {
     bytes: Vec<u8>,

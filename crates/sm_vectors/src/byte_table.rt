@@ -29,7 +29,6 @@ fn mark_source(bytes: &mut [u8], matrices: &Matrices, count: TypeCount, source: 
     }
 }
 
-/// Returns the bytes of a source.
 fn bytes_of(
     alloc: Global,
     matrices: &Matrices,
@@ -143,10 +142,6 @@ impl ByteTable {
     }
 
     /// Compiles the bytes of the pairs in the matrices.
-    ///
-    /// # Errors
-    ///
-    /// An error if an allocation fails.
     pub fn compile(
         alloc: Global,
         matrices: &Matrices,

@@ -1,4 +1,6 @@
 //! Compiled decisions of a policy: one byte for each pair of types, so that a decision reads one or two of them.
+//!
+//! An `AllocError` says that an allocation failed, and nothing else.
 #![tactic(auto)]
 
 mod byte_rows;

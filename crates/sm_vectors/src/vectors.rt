@@ -85,10 +85,6 @@ impl Vectors {
     ghost use Rattle.sm_vectors.specs.Tables.{TablesOf, decision, refusal};
 
     /// Compiles the decisions of rules, `matrices` being those of the allow rules.
-    ///
-    /// # Errors
-    ///
-    /// An error if an allocation fails.
     pub fn compile(alloc: Global, rules: &Rules, matrices: &Matrices) -> Result<Vectors, AllocError>
         requires { AllCompiled rules.now.allows rules.now.count 7 matrices.now }
         ensures { IfOk result (λ vectors. (policy : List TheStatement) (names : List (List ℕ))

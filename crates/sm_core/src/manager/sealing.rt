@@ -90,10 +90,6 @@ impl Manager {
 
     /// Returns the view after the segment is closed. What a seal doesn't change is shared with the last view, which is
     /// of the present state.
-    ///
-    /// # Errors
-    ///
-    /// An error if an allocation fails.
     pub fn view_sealed(&self, ready: &ReadySeal, last: &View) -> Result<View, AllocError>
         requires ready { IsReadySeal self.now ready.now }
         requires last { last.now ≡ self.now.book }

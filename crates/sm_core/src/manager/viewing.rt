@@ -11,10 +11,6 @@ use std::alloc::AllocError;
 
 impl Manager {
     /// Returns a view of the present state.
-    ///
-    /// # Errors
-    ///
-    /// An error if an allocation fails.
     pub fn view(&self) -> Result<View, AllocError>
         ensures { IfOk result (λ v. v ≡ self.now.book) }
     {
@@ -24,10 +20,6 @@ impl Manager {
 
     /// Returns the view after this event is committed. What the event doesn't change is shared with the last view,
     /// which is of the present state.
-    ///
-    /// # Errors
-    ///
-    /// An error if an allocation fails.
     pub fn view_after(&self, ready: &Ready, last: &View) -> Result<View, AllocError>
         requires ready { IsReady self.now ready.now }
         requires last { last.now ≡ self.now.book }
