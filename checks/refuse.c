@@ -3,7 +3,8 @@
  * REFUSE_COUNTS names, of 16 bytes, gets two counts in the machine's byte order: of allocations and of refusals. They
  * are kept while the program runs, so a program that is killed leaves them, too. A file of 24 bytes has a third number
  * behind them: while it isn't 0, all allocations are refused. ACCEPT_FAILS_AT is the number of the call of accept4 that
- * fails with the error whose number is in ACCEPT_ERROR. For Linux with glibc. */
+ * fails with the error whose number is in ACCEPT_ERROR; LISTEN_FAILS_AT and LISTEN_ERROR are the same of listen. For
+ * Linux with glibc. */
 
 #define _GNU_SOURCE
 
@@ -36,6 +37,9 @@ static uint64_t refused_from;
 static uint64_t accept_fails_at;
 static int accept_error;
 static _Atomic uint64_t accepts;
+static uint64_t listen_fails_at;
+static int listen_error;
+static _Atomic uint64_t listens;
 
 static uint64_t number_of(const char *variable)
 {
@@ -47,6 +51,8 @@ __attribute__((constructor)) static void begin(void)
 {
     accept_fails_at = number_of("ACCEPT_FAILS_AT");
     accept_error = (int)number_of("ACCEPT_ERROR");
+    listen_fails_at = number_of("LISTEN_FAILS_AT");
+    listen_error = (int)number_of("LISTEN_ERROR");
     const char *path = getenv("REFUSE_COUNTS");
     int file = path ? open(path, O_RDWR) : -1;
     if (file < 0)
@@ -114,4 +120,16 @@ int accept4(int listener, struct sockaddr *restrict address, socklen_t *restrict
         return -1;
     }
     return really(listener, address, length, flags);
+}
+
+int listen(int socket, int backlog)
+{
+    static int (*really)(int, int);
+    if (!really)
+        *(void **)&really = dlsym(RTLD_NEXT, "listen");
+    if (atomic_fetch_add(&listens, 1) + 1 == listen_fails_at) {
+        errno = listen_error;
+        return -1;
+    }
+    return really(socket, backlog);
 }
