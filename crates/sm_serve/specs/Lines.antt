@@ -6,7 +6,7 @@ use Rattle.std.specs.Io.KnownBytes.{Appends}
 abbrev pub lines_in : List ℕ → ℕ
 lines_in text = count_by (λ byte. byte == 10) text
 
--- No line goes on after so many bytes: the text begins there, a line has ended, or the text ends.
+-- No line goes on after this number of bytes: the text begins there, a line has ended, or the text ends.
 abbrev pub BreaksAt : List ℕ → ℕ → Type 0
 BreaksAt text n = (n ≡ 0) ⊎ ((slice_index text (n - 1) ≡ 10) ⊎ (n ≡ length text))
 
