@@ -1,6 +1,7 @@
 """The inputs of the benchmark: policies and scripts of growing size, each from a seed."""
 
 import random
+import re
 from dataclasses import dataclass
 from typing import Callable, Iterator
 
@@ -16,7 +17,8 @@ SERVER_TYPES = 50
 
 @dataclass(frozen=True)
 class Input:
-    """One input: `size` is what grows, and `requests` the number of a script's lines (0: a policy to be checked)."""
+    """One input: `size` is what grows, and `requests` the number of a script's lines. Without a script, a policy is to
+    be checked, or a question about it is to be answered: `access`, or `diff` with itself."""
 
     name: str
     size: int
@@ -24,6 +26,7 @@ class Input:
     contexts: Callable[[], Lines]
     script: Callable[[], Lines] | None = None
     requests: int = 0
+    question: str | None = None
 
 
 # ---- policies
@@ -281,6 +284,24 @@ def reloads(count: int, types: int, seed: int) -> Lines:
         yield f"reload {n + 1} {len(rules)} {len(contexts)}\n{rules}{contexts}".removesuffix("\n")
 
 
+# ---- for checkpolicy
+
+
+def checkpolicy_source(rules: str) -> str:
+    """The rules with the least that checkpolicy needs around them."""
+    types = re.findall(r"^type (\w+)", rules, re.MULTILINE)
+    before = [
+        "class service_manager",
+        "class binder",
+        "sid kernel",
+        "class service_manager { add find list }",
+        "class binder { impersonate call set_context_mgr transfer }",
+    ]
+    roles = ["role r;", "role r types {", *types, "};"]
+    behind = [*roles, "user u roles { r };", f"sid kernel u:r:{types[0]}"]
+    return text(iter(before)) + rules + text(iter(behind))
+
+
 # ---- all of them
 
 
@@ -295,6 +316,10 @@ def all_inputs(seed: int) -> Iterator[Input]:
         yield Input("check: wide allow rules", n, lambda n=n: wide_policy(n, 1, seed), wide_contexts)
     for n in (13_000, 26_000, 52_000):
         yield Input("check: wide neverallow rules", n, lambda n=n: wide_policy(1, n, seed), wide_contexts)
+    for question in ("access", "diff"):
+        for n in (1000, 2000, 4000):
+            rules, contexts = lambda n=n: policy(n, seed), lambda n=n: policy_contexts(n)
+            yield Input(f"{question}: types", n, rules, contexts, question=question)
     for n in (200_000, 400_000, 800_000):
         yield run_input("run: versions", n, n, lambda n=n: versions(n))
     for n in (200_000, 400_000, 800_000):

@@ -11,12 +11,16 @@ say_jobs() {
     echo "$(basename "$0"): jobs at a time: ${jobs:-as rt decides}; a first run takes $1" >&2
 }
 
-# Runs svcmgr with these words: the program that the environment's SVCMGR names, or one that is proved and built first.
-svcmgr() {
+# Runs svcmgr with these words: the program that the environment's SVCMGR names; one that is compiled as it is, if
+# `unproved` isn't empty; or one that is proved and built first. The second and third word are a policy's files.
+svcmgr() (
     if [ -n "${SVCMGR:-}" ]; then
-        "$SVCMGR" "$@"
-        return
+        exec "$SVCMGR" "$@"
+    fi
+    cd "$(dirname "$0")/../crates/svcmgr"
+    if [ -n "${unproved:-}" ]; then
+        exec rt try --data policy.rules="$2" --data policy.contexts="$3" -- "$1" policy.rules policy.contexts
     fi
     say_jobs "65 to 100 minutes of processor time"
-    (cd "$(dirname "$0")/../crates/svcmgr" && rt run ${jobs:+--jobs "$jobs"} -- "$@")
-}
+    rt run ${jobs:+--jobs "$jobs"} -- "$@"
+)

@@ -1,5 +1,5 @@
 -- The verdict of `svcmgr check`.
-use Rattle.std.specs.Prelude.{ℕ, List, ◌++◌, Bool, true, false, Result, Ok, Err, codes}
+use Rattle.std.specs.Prelude.{ℕ, List, ◌++◌, Option, Some, None, Result, Ok, Err, codes}
 use Rattle.sm_kinds.specs.Messages.{numbered}
 use Rattle.sm_policy.specs.declared.counts.Counts.{Counts}
 use Rattle.sm_policy.specs.declared.fault.PolicyFault.{PolicyFault}
@@ -25,7 +25,7 @@ abbrev pub checked_line : Result Policy PolicyFault → List ℕ
 checked_line (Ok policy) = accepted_line (counts_of policy)
 checked_line (Err fault) = refused_line fault
 
--- Two files are those of a policy.
-abbrev pub is_accepted : Result Policy PolicyFault → Bool
-is_accepted (Ok policy) = true
-is_accepted (Err fault) = false
+-- This is why two files aren't those of a policy.
+abbrev pub refusal_in : Result Policy PolicyFault → Option PolicyFault
+refusal_in (Ok policy) = None
+refusal_in (Err fault) = Some fault

@@ -13,7 +13,7 @@ use std::alloc::{AllocError, Global};
 use std::io::Write;
 
 /// Writes a line that says whether these two files are those of a policy, and the counts of the policy or the first
-/// refusal. Returns whether they are.
+/// refusal. Returns the refusal, if they aren't.
 ///
 /// # Errors
 ///
@@ -24,9 +24,9 @@ pub fn check<W: Write>(
     rules: &[u8],
     contexts: &[u8],
     writer: &mut Counted<W>,
-) -> Result<bool, Fault>
+) -> Result<Option<PolicyFault>, Fault>
     requires { failures_of writer.old < greatest_count }
-    ensures accepted { IfOk result (λ accepted. accepted ≡ spec.is_accepted (prepared rules.now contexts.now)) }
+    ensures refusal { IfOk result (λ refusal. refusal ≡ spec.refusal_in (prepared rules.now contexts.now)) }
     ensures written { OnOk result (Appends (W.contents (inner_of writer.old)) (W.contents (inner_of writer.new))
         (spec.checked_line (prepared rules.now contexts.now))) }
     ensures front { result ≡ Err Fault.WriteFault → (n : ℕ)
@@ -39,30 +39,30 @@ pub fn check<W: Write>(
 {
     let verdict = judge(alloc, rules, contexts)?;
     write_whole(writer, &verdict.line)?;
-    Ok(verdict.is_accepted)
+    Ok(verdict.refusal)
 }
 
-/// The line of a check, and whether the policy is accepted.
+/// The line of a check, and the refusal of the policy, if it is refused.
 #[derive(Drop)]
 struct Verdict {
     line: Vec<u8>,
-    is_accepted: bool,
+    refusal: Option<PolicyFault>,
 }
 
 // Returns the verdict on two files.
 fn judge(alloc: Global, rules: &[u8], contexts: &[u8]) -> Result<Verdict, AllocError>
     ensures line { IfOk result (λ v. v.line.items ≡ spec.checked_line (prepared rules.now contexts.now)) }
-    ensures accepted { IfOk result (λ v. v.is_accepted ≡ spec.is_accepted (prepared rules.now contexts.now)) }
+    ensures refusal { IfOk result (λ v. v.refusal ≡ spec.refusal_in (prepared rules.now contexts.now)) }
 {
     match Prepared::from_texts(alloc, rules, contexts) {
         Ok(policy) => Ok(Verdict {
             line: accepted_line(alloc, policy.counts())?,
-            is_accepted: true,
+            refusal: None,
         }),
         Err(PolicyFault::Memory) => Err(AllocError),
         Err(fault) => Ok(Verdict {
             line: refused_line(alloc, &fault)?,
-            is_accepted: false,
+            refusal: Some(fault),
         }),
     }
 }

@@ -1,1 +1,2 @@
+pub mod Administering
 pub mod Endings

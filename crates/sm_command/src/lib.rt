@@ -2,6 +2,7 @@
 //! no answer.
 #![tactic(auto)]
 
+mod administration;
 mod building;
 mod ending;
 mod files;
@@ -9,12 +10,15 @@ mod numbers;
 mod options;
 mod parser;
 mod question;
+mod request_lines;
 mod sockets;
 mod unknown;
 
+pub use administration::{AdminRequest, Administration, RuleWords};
 pub use ending::{Ending, NO_MEMORY, lock_of};
 pub use files::read_limited;
-pub use options::{Mode, Options, options_of, words_of};
+pub use options::{Invocation, Mode, Options, invocation_of, words_of};
 pub use question::{AccessWords, FilterWords, NewFiles, Question, TargetWord};
+pub use request_lines::{explain_line, is_granted, is_whole, reload_request, version_in};
 pub use sockets::Sockets;
 pub use unknown::unknown_line;

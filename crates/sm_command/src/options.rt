@@ -2,6 +2,7 @@
 
 ghost use Rattle.std.specs.Prelude.{◌≡◌, IfSome};
 
+use crate::administration::{Administration, administration_of, misused_request};
 use crate::numbers::odd_number;
 use crate::parser::command;
 use crate::question::{Question, question_of};
@@ -18,8 +19,8 @@ use std::{env, io};
 pub enum Mode<'a> {
     /// `svcmgr run [--journal N] RULES CONTEXTS`
     Run,
-    /// `svcmgr check RULES CONTEXTS`
-    Check,
+    /// `svcmgr check [--show] RULES CONTEXTS`, and whether the lines that a refusal names are shown.
+    Check { show: bool },
     /// `svcmgr serve [--journal N] [--seal-at N] [--workers W] [--mode MODE] [--audit] --socket PATH --admin PATH RULES
     /// CONTEXTS`
     Serve(Sockets<'a>),
@@ -27,7 +28,16 @@ pub enum Mode<'a> {
     Ask(Question<'a>),
 }
 
-/// The command line.
+/// What a command line asks for.
+#[derive(Drop)]
+pub enum Invocation<'a> {
+    /// A command that reads a policy.
+    Policy(Options<'a>),
+    /// `svcmgr admin`
+    Administer(Administration<'a>),
+}
+
+/// The options of a command that reads a policy.
 #[derive(Drop)]
 pub struct Options<'a> {
     pub mode: Mode<'a>,
@@ -63,24 +73,43 @@ fn try_misuse(alloc: Global, kind: ErrorKind, words: &str) -> Result<Error, Allo
 }
 
 /// Parses the words of the command line, or returns the parser's text.
-pub fn options_of<'a>(alloc: Global, words: &'a [String]) -> Result<Options<'a>, Error> {
+pub fn invocation_of<'a>(alloc: Global, words: &'a [String]) -> Result<Invocation<'a>, Error> {
     let matches = matches_of(alloc, words)?;
-    options_in(alloc, &matches)
+    invocation_in(alloc, &matches)
 }
 
 fn matches_of<'a>(alloc: Global, words: &'a [String]) -> Result<ArgMatches<'a>, Error> {
     command(alloc)?.try_get_matches_from(words)
 }
 
-fn options_in<'a>(alloc: Global, matches: &ArgMatches<'a>) -> Result<Options<'a>, Error> {
-    let Some((name, matches)) = matches.subcommand() else {
+fn invocation_in<'a>(alloc: Global, matches: &ArgMatches<'a>) -> Result<Invocation<'a>, Error> {
+    match matches.subcommand() {
+        Some(("admin", matches)) => administration_in(alloc, matches),
+        Some((name, matches)) => options_in(alloc, name, matches),
+        None => Err(no_command(alloc)),
+    }
+}
+
+fn administration_in<'a>(alloc: Global, matches: &ArgMatches<'a>) -> Result<Invocation<'a>, Error> {
+    let Some(administration) = administration_of(matches) else {
         return Err(no_command(alloc));
     };
+    match misused_request(&administration) {
+        Some(fault) => Err(misuse(alloc, ErrorKind::ValueValidation, fault)),
+        None => Ok(Invocation::Administer(administration)),
+    }
+}
+
+fn options_in<'a>(
+    alloc: Global,
+    name: &str,
+    matches: &ArgMatches<'a>,
+) -> Result<Invocation<'a>, Error> {
     if let Some(error) = misuse_in(alloc, name, matches) {
         return Err(error);
     }
     match options_under(name, matches) {
-        Some(options) => Ok(options),
+        Some(options) => Ok(Invocation::Policy(options)),
         None => Err(no_command(alloc)),
     }
 }
@@ -116,7 +145,12 @@ fn number_words(alloc: Global, option: &str, text: &str) -> Result<String, Alloc
 fn options_under<'a>(name: &str, matches: &ArgMatches<'a>) -> Option<Options<'a>> {
     match name {
         "run" => in_mode(Mode::Run, matches),
-        "check" => in_mode(Mode::Check, matches),
+        "check" => in_mode(
+            Mode::Check {
+                show: matches.get_flag("show"),
+            },
+            matches,
+        ),
         "serve" => in_mode(Mode::Serve(sockets_of(matches)?), matches),
         _ => in_mode(Mode::Ask(question_of(name, matches)?), matches),
     }
@@ -127,7 +161,7 @@ fn in_mode<'a>(mode: Mode<'a>, matches: &ArgMatches<'a>) -> Option<Options<'a>>
 {
     let entries = match mode {
         Mode::Run | Mode::Serve(_) => matches.get_one::<u32>("journal")?,
-        Mode::Check | Mode::Ask(_) => 1_048_576,
+        Mode::Check { .. } | Mode::Ask(_) => 1_048_576,
     };
     Some(Options {
         mode,

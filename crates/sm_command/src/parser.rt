@@ -17,6 +17,7 @@ pub fn command<'a>(alloc: Global) -> Result<Command<'a>, AllocError> {
         .subcommand(explain(alloc))
         .subcommand(access(alloc))
         .subcommand(diff(alloc))
+        .subcommand(admin(alloc))
         .end()
 }
 
@@ -34,7 +35,7 @@ fn run<'a>(alloc: Global) -> Building<'a> {
 
 fn check<'a>(alloc: Global) -> Building<'a> {
     let about = "Tells whether a policy is accepted";
-    with_files(alloc, Building::new(alloc, "check", about))
+    with_files(alloc, Building::new(alloc, "check", about).arg(show(alloc)))
 }
 
 fn serve<'a>(alloc: Global) -> Building<'a> {
@@ -63,16 +64,8 @@ fn label<'a>(alloc: Global) -> Building<'a> {
 fn explain<'a>(alloc: Global) -> Building<'a> {
     let about = "Tells which rule grants an access";
     let explain = Building::new(alloc, "explain", about).arg(by_name(alloc));
-    with_files(alloc, explain)
-        .arg(operand(alloc, "source", "SOURCE", "A type"))
-        .arg(operand(
-            alloc,
-            "target",
-            "TARGET",
-            "A type, or the name of a service with --name",
-        ))
-        .arg(operand(alloc, "class", "CLASS", "service_manager or binder"))
-        .arg(operand(alloc, "perm", "PERM", "A permission of the class"))
+    let target = "A type, or the name of a service with --name";
+    with_access(alloc, with_files(alloc, explain), target)
 }
 
 fn access<'a>(alloc: Global) -> Building<'a> {
@@ -101,6 +94,33 @@ fn diff<'a>(alloc: Global) -> Building<'a> {
             "NEWCONTEXTS",
             "A second file of service contexts",
         ))
+}
+
+fn admin<'a>(alloc: Global) -> Building<'a> {
+    let program = Command::new(alloc, "admin")
+        .about("Asks a running server as its administrator")
+        .subcommand_required(true);
+    let path = "The administrators' socket; without it that of SVCMGR_ADMIN";
+    let version = "Tells the version of the policy and the length of the journal";
+    let denials = "Lists the newest denied requests";
+    let seal = "Closes the open segment of the journal, and drops it";
+    let explain = "Tells which rule of the policy in force grants an access";
+    Building::of(program)
+        .arg(word(alloc, "admin", "PATH", path))
+        .subcommand(Building::new(alloc, "version", version))
+        .subcommand(Building::new(alloc, "denials", denials))
+        .subcommand(Building::new(alloc, "seal", seal))
+        .subcommand(with_files(alloc, Building::new(alloc, "reload", "Replaces the policy")))
+        .subcommand(with_access(alloc, Building::new(alloc, "explain", explain), "A type"))
+}
+
+/// Adds the words of an access to a command.
+fn with_access<'a>(alloc: Global, command: Building<'a>, target: &'a str) -> Building<'a> {
+    command
+        .arg(operand(alloc, "source", "SOURCE", "A type"))
+        .arg(operand(alloc, "target", "TARGET", target))
+        .arg(operand(alloc, "class", "CLASS", "service_manager or binder"))
+        .arg(operand(alloc, "perm", "PERM", "A permission of the class"))
 }
 
 /// Adds the files of a policy to a command.
@@ -134,6 +154,13 @@ fn by_name<'a>(alloc: Global) -> Arg<'a> {
     Arg::new(alloc, "name")
         .long("name")
         .help("Takes TARGET as the name of a service")
+        .action(ArgAction::SetTrue)
+}
+
+fn show<'a>(alloc: Global) -> Arg<'a> {
+    Arg::new(alloc, "show")
+        .long("show")
+        .help("Shows the lines that a refusal names, on standard error")
         .action(ArgAction::SetTrue)
 }
 

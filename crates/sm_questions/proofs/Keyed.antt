@@ -2,21 +2,17 @@
 use Rattle.std.proofs.Common.{◌≡◌, ℕ, ◌+◌, List, [], ◌∷◌, length, map, Ok}
 use Rattle.std.proofs.Common.{is_some, refl, arith}
 use Rattle.std.specs.Prelude.{find}
-use Rattle.std.specs.Str.{bytes_eq}
 use Rattle.std.proofs.lemmas.List.{map-append}
-use Rattle.std.proofs.lemmas.Slice.Eq.{bytes_eq-Decides}
 use Rattle.sm_kinds.specs.Names.{contains}
 use Rattle.sm_kinds.proofs.Readers.{went_well}
 use Rattle.sm_contexts.specs.Lines.{lines, first_word}
 use Rattle.sm_contexts.specs.Reading.{Entry, has_key, with_entry, with_line, entries_from, read}
 use Rattle.sm_contexts.proofs.Cuts.{no_line}
+use Rattle.sm_questions.proofs.KeySets.{either_way}
 use Rattle.sm_questions.specs.Keys.{keys_from, no_keys, with_key}
 
 abbrev keys : List Entry → List (List ℕ)
 keys entries = map (λ e. e.key) entries
-
-either_way : (a b : List ℕ) → bytes_eq a b ≡ bytes_eq b a
-either_way a b = grind (arith, bytes_eq-Decides a b, bytes_eq-Decides b a)
 
 -- A key is there if its entry is.
 is_some-key : (entries : List Entry) (key : List ℕ) → contains (keys entries) key ≡ is_some (find (has_key key) entries)

@@ -1,5 +1,5 @@
 -- The keys of a contexts file.
-use Rattle.std.specs.Prelude.{ℕ, not, ◌&&◌, if◌then◌else◌, List, [], ◌∷◌, ◌++◌, map}
+use Rattle.std.specs.Prelude.{ℕ, if◌then◌else◌, List, [], ◌∷◌, ◌++◌, map}
 use Rattle.sm_kinds.specs.Names.{contains}
 use Rattle.sm_contexts.specs.Lines.{first_word}
 use Rattle.sm_contexts.specs.Reading.{is_entry}
@@ -13,10 +13,13 @@ keys_of policy = map (λ e. e.key) policy.entries
 abbrev pub no_keys : List (List ℕ)
 no_keys = []
 
--- The key of a line is added to those of the lines before it, unless it is among them.
+-- A key is added, unless it is there.
+abbrev pub and_key : List (List ℕ) → List ℕ → List (List ℕ)
+and_key keys key = if contains keys key then keys else keys ++ key ∷ []
+
+-- The key of a line is added to those of the lines before it, if the line has one.
 unfoldable pub with_key : List (List ℕ) → List ℕ → List (List ℕ)
-with_key keys line =
-    if is_entry line && not (contains keys (first_word line)) then keys ++ first_word line ∷ [] else keys
+with_key keys line = if is_entry line then and_key keys (first_word line) else keys
 
 -- The keys of lines are added to those of the lines before them.
 unfoldable pub keys_from : List (List ℕ) → List (List ℕ) → List (List ℕ)

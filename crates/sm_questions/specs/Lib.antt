@@ -7,5 +7,6 @@ pub mod Keys
 pub mod Labels
 pub mod Parts
 pub mod Relabelled
+pub mod Shown
 pub mod Sourced
 pub mod Words

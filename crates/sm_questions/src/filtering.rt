@@ -6,6 +6,14 @@ ghost use Rattle.sm_questions.specs.Filters as spec;
 use crate::{PolicyTables, Unknown};
 use sm_kinds::{Class, Perms, Word};
 
+/// The permissions of `service_manager`.
+const OF_SERVICE_MANAGER: Perms = Perms(Perms::ADD.0 | Perms::FIND.0 | Perms::LIST.0);
+
+/// The permissions of `binder`.
+const OF_BINDER: Perms = Perms(
+    Perms::IMPERSONATE.0 | Perms::CALL.0 | Perms::SET_CONTEXT_MGR.0 | Perms::TRANSFER.0,
+);
+
 /// The target that accesses must have.
 #[derive(Drop)]
 pub enum Target<'a> {
@@ -89,9 +97,9 @@ fn all_perms(class: Option<Class>) -> Perms
     ensures { result ≡ spec.all_perms class }
 {
     match class {
-        Some(Class::ServiceManager) => Perms(7),
-        Some(Class::Binder) => Perms(120),
-        None => Perms(127),
+        Some(Class::ServiceManager) => OF_SERVICE_MANAGER,
+        Some(Class::Binder) => OF_BINDER,
+        None => Perms(OF_SERVICE_MANAGER.0 | OF_BINDER.0),
     }
 }
 

@@ -6,7 +6,7 @@ ghost use Rattle.sm_contexts.specs.Lines as lines;
 ghost use Rattle.sm_contexts.specs.Reading.{is_entry};
 ghost use Rattle.sm_questions.specs.Keys.{keys_from, no_keys, with_key};
 
-use sm_kinds::{Name, Names};
+use crate::key_set::KeySet;
 use std::alloc::{AllocError, Global};
 
 /// Returns the bytes after the first `count` ones.
@@ -64,7 +64,7 @@ fn behind_newline(bytes: &[u8], len: usize) -> &[u8]
 }
 
 /// Returns the first line of a file, and what follows it.
-fn cut_line(rest: &[u8]) -> (&[u8], &[u8])
+pub(crate) fn cut_line(rest: &[u8]) -> (&[u8], &[u8])
     requires { 0 < length rest.now }
     ensures cut { lines.lines rest.now ≡ result.0.now ∷ lines.lines result.1.now }
     ensures shorter { length result.1.now < length rest.now }
@@ -81,26 +81,22 @@ fn is_entry(line: &[u8]) -> bool
     !(word.is_empty() || word[0] == b'#')
 }
 
-/// Appends the key of a line, unless the line has none or it is there.
+/// Adds the key of a line, if the line has one.
 #[tactic(auto, unfolding(crate::specs::Keys::with_key))]
-fn add_key(alloc: Global, keys: &mut Names, line: &[u8]) -> Result<(), AllocError>
+fn add_key(alloc: Global, keys: &mut KeySet, line: &[u8]) -> Result<(), AllocError>
     ensures { OnOk result (keys.new ≡ with_key keys.old line.now) }
 {
     if !is_entry(line) {
         return Ok(());
     }
-    let word = first_word(line);
-    if keys.contains(word) {
-        return Ok(());
-    }
-    keys.push(Name::new(alloc, word)?)
+    keys.add(alloc, first_word(line))
 }
 
 /// Returns the keys of a contexts file, in the order of their first lines.
-pub fn keys_in(alloc: Global, text: &[u8]) -> Result<Names, AllocError>
+pub fn keys_in(alloc: Global, text: &[u8]) -> Result<KeySet, AllocError>
     ensures { IfOk result (λ keys. keys ≡ keys_from no_keys (lines.lines text.now)) }
 {
-    let mut keys = Names::new(alloc);
+    let mut keys = KeySet::new(alloc);
     let mut rest = text;
     'cuts: while !rest.is_empty() {
         let (line, more) = cut_line(rest);

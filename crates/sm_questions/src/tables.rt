@@ -8,9 +8,10 @@ ghost use Rattle.sm_bits.specs.Bits.{has};
 ghost use Rattle.sm_rules.specs.Keeping.{RulesOf};
 ghost use Rattle.sm_questions.specs.Sourced.{AllFit, first_line, pointed};
 
+use crate::key_set::KeySet;
 use crate::keys::keys_in;
 use sm_contexts::Contexts;
-use sm_kinds::{Class, Context, Names, Perms};
+use sm_kinds::{Class, Context, Perms};
 use sm_policy::{PolicyFault, Prepared};
 use sm_rules::{Kept, Rules, class_at, perm_at};
 use sm_types::{TypeCount, Types};
@@ -77,7 +78,7 @@ pub struct PolicyTables {
     rules: Rules,
     contexts: Contexts,
     /// The keys of the contexts, in order.
-    keys: Names,
+    keys: KeySet,
 }
 
 impl Model for PolicyTables {
@@ -270,18 +271,14 @@ impl PolicyTables {
     pub(crate) fn key_count(&self) -> usize
         ensures { result ≡ length (keys_of self.now) }
     {
-        self.keys.list().len()
+        self.keys.len()
     }
 
     /// Returns a key by its place in the order of the keys' first lines, from 0. Nothing if there is no such key.
-    #[tactic(auto, using(std::proofs::lemmas::Option::gets, std::proofs::lemmas::Grind::common_steps))]
     pub(crate) fn key(&self, index: usize) -> &[u8]
         ensures { result.now ≡ at (keys_of self.now) index }
     {
-        match self.keys.list().get(index) {
-            Some(key) => key.bytes(),
-            None => b"",
-        }
+        self.keys.key(index)
     }
 
     /// Returns whether the contexts file has the key.

@@ -2,6 +2,7 @@
 
 use crate::{
     Options, PolicyTables, Target, access, diff, explain, label, read_access, read_filter,
+    shown_lines,
 };
 use sm_engine::Counted;
 use sm_kinds::Word;
@@ -217,5 +218,66 @@ fn differs(
 fn differences(rt: HostRuntime) {
     for (old, new, lines) in COMPARED {
         assert!(rt; differs(&rt, rt.alloc(), old, new, lines));
+    }
+}
+
+/// A policy source and a contexts file that are no policy's, and the lines that are shown of them.
+struct Refused {
+    rules: &'static [u8],
+    contexts: &'static [u8],
+    shown: &'static [u8],
+}
+
+const REFUSED: &[Refused] = &[
+    Refused {
+        rules: b"type a;\ntype b;\nneverallow a b:binder call;\nallow a b:binder\n  call;\n",
+        contexts: b"* u:r:a\n",
+        shown: b"t.te:3: neverallow a b:binder call;\nt.te:4: allow a b:binder\n",
+    },
+    Refused {
+        rules: b"type a;\ntype b;",
+        contexts: b"x u:r:a\n* u:r:a\nx u:r:b",
+        shown: b"labels:3: x u:r:b\nlabels:1: x u:r:a\n",
+    },
+    Refused {
+        rules: b"type a;\n\ntype a;\n",
+        contexts: b"* u:r:a\n",
+        shown: b"t.te:3: type a;\n",
+    },
+    Refused {
+        rules: b"type a;\nallow a b:binder call;",
+        contexts: b"* u:r:a\n",
+        shown: b"t.te:2: allow a b:binder call;\n",
+    },
+    Refused {
+        rules: b"type a;\nbool x true;\n",
+        contexts: b"* u:r:a\n",
+        shown: b"t.te:2: bool x true;\n",
+    },
+    Refused {
+        rules: b"type a;\n",
+        contexts: b"# none\n* u:r:b\n",
+        shown: b"labels:2: * u:r:b\n",
+    },
+    Refused {
+        rules: b"type a;\n",
+        contexts: b"x u:r:a\n",
+        shown: b"",
+    },
+];
+
+fn shows(rt: &impl Abort, alloc: Global, refused: &Refused) -> bool {
+    let (rules, contexts) = (refused.rules, refused.contexts);
+    let fault = PolicyTables::from_texts(alloc, rules, contexts)
+        .err()
+        .expect(rt, "a refusal");
+    let shown = shown_lines(alloc, b"t.te", rules, b"labels", contexts, &fault);
+    shown.ok().expect(rt, "memory").as_slice() == refused.shown
+}
+
+#[test]
+fn lines_that_a_refusal_names(rt: HostRuntime) {
+    for refused in REFUSED {
+        assert!(rt; shows(&rt, rt.alloc(), refused));
     }
 }

@@ -16,8 +16,8 @@ use std::process::Abort;
 fn checked(rt: &impl Abort, alloc: Global) -> Option<()> {
     let mut writer = Counted::new(Vec::new(alloc));
     match check(alloc, DEVICE_RULES, DEVICE_LABELS, &mut writer) {
-        Ok(accepted) => {
-            assert!(rt; accepted);
+        Ok(refusal) => {
+            assert!(rt; refusal.is_none());
             let told = b"policy ok: 6 types, 2 attributes, 8 rules, 2 labels\n";
             same_text(rt, &writer.into_inner(), told);
             Some(())
@@ -78,7 +78,7 @@ fn scripted(rt: &impl Abort, alloc: Global) -> Option<()> {
     let mut reader = Counted::new(SCRIPT);
     let mut writer = Counted::new(Vec::new(alloc));
     let mut audit = Counted::new(Vec::new(alloc));
-    let ended = run_script(
+    let (ended, _) = run_script(
         alloc,
         PLAIN_RULES,
         ONE_LABEL,

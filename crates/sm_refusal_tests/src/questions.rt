@@ -5,7 +5,8 @@ use sm_engine::{Counted, Fault};
 use sm_kinds::{Class, Perms, Word};
 use sm_policy::PolicyFault;
 use sm_questions::{
-    Options, PolicyTables, Target, Unknown, access, diff, explain, label, read_filter, unknown_text,
+    Options, PolicyTables, Target, Unknown, access, diff, explain, label, read_filter, shown_lines,
+    unknown_text,
 };
 use sm_samples::{DEVICE_LABELS, DEVICE_RULES, STRICTER_RULES};
 use std::alloc::Global;
@@ -90,12 +91,20 @@ fn names_a_word(rt: &impl Abort, alloc: Global) -> Option<()> {
     Some(())
 }
 
+fn shows_a_line(rt: &impl Abort, alloc: Global) -> Option<()> {
+    let fault = PolicyFault::UndeclaredLabel(1);
+    let shown = shown_lines(alloc, b"t.te", b"", b"labels", b"* u:r:b\n", &fault).ok()?;
+    same_text(rt, &shown, b"labels:1: * u:r:b\n");
+    Some(())
+}
+
 fn answers(rt: &impl Abort, alloc: Global, old: &PolicyTables, new: &PolicyTables) -> Option<()> {
     labels(rt, alloc, old)?;
     explains(rt, alloc, old)?;
     lists(rt, alloc, old)?;
     compares(rt, alloc, old, new)?;
-    names_a_word(rt, alloc)
+    names_a_word(rt, alloc)?;
+    shows_a_line(rt, alloc)
 }
 
 fn asks(rt: &impl Abort, alloc: Global) -> Option<()> {

@@ -1,5 +1,5 @@
 -- The result of a script's run.
-use Rattle.std.specs.Prelude.{◌≡◌, ◌⊎◌, ℕ, List, [], false, Option, Result, Ok, Err}
+use Rattle.std.specs.Prelude.{◌≡◌, ◌⊎◌, ℕ, List, [], false, Option, None, IsSomeAnd, Result, Ok, Err}
 use Rattle.sm_kinds.specs.declared.class.Class.TheVariants.{Binder}
 use Rattle.sm_kinds.specs.Contexts.{type_of}
 use Rattle.sm_policy.specs.Policy.{Policy, allowed}
@@ -48,25 +48,24 @@ NotRun rules contexts (PolicyRefused fault) = Fails is_memory fault (prepared ru
 NotRun rules contexts (Opening refusal) = OpeningFails rules contexts refusal
 NotRun rules contexts (Engine fault) = ⊥
 
--- The engine read and wrote this, from a manager that was just opened to the last state.
+-- The engine read and wrote this, from a manager that was just opened to the last one.
 pub record Ran (rules contexts : List ℕ) (places bound reads : ℕ) (result : Result (Unit {0}) Fault)
-    (r r_new w w_new a a_new : Option (List ℕ)) : Type 0 where
+    (r r_new w w_new a a_new : Option (List ℕ)) (last : Recorded) : Type 0 where
   pub first : Recorded
   pub opened_first : Opens rules contexts places first
-  pub last : Recorded
   pub served : Served Script ScriptAnswers never script_held_limit result bound reads first r r_new w w_new a a_new last
 
--- A script has this result.
+-- A script has this result, and this manager is left, if one was opened.
 abbrev pub RunsScript : Result (Unit {0}) ScriptFault → List ℕ → List ℕ → ℕ → ℕ → ℕ → Option (List ℕ) → Option (List ℕ)
-    → Option (List ℕ) → Option (List ℕ) → Option (List ℕ) → Option (List ℕ) → Type 0
-RunsScript (Ok x) rules contexts places bound reads r r_new w w_new a a_new =
-    Ran rules contexts places bound reads (Ok x) r r_new w w_new a a_new
-RunsScript (Err (Engine fault)) rules contexts places bound reads r r_new w w_new a a_new =
-    Ran rules contexts places bound reads (Err fault) r r_new w w_new a a_new
-RunsScript (Err (PolicyRefused fault)) rules contexts places bound reads r r_new w w_new a a_new =
-    NotRun rules contexts (PolicyRefused fault)
-RunsScript (Err (Opening refusal)) rules contexts places bound reads r r_new w w_new a a_new =
-    NotRun rules contexts (Opening refusal)
+    → Option (List ℕ) → Option (List ℕ) → Option (List ℕ) → Option (List ℕ) → Option Recorded → Type 0
+RunsScript (Ok x) rules contexts places bound reads r r_new w w_new a a_new left =
+    IsSomeAnd left (Ran rules contexts places bound reads (Ok x) r r_new w w_new a a_new)
+RunsScript (Err (Engine fault)) rules contexts places bound reads r r_new w w_new a a_new left =
+    IsSomeAnd left (Ran rules contexts places bound reads (Err fault) r r_new w w_new a a_new)
+RunsScript (Err (PolicyRefused fault)) rules contexts places bound reads r r_new w w_new a a_new left =
+    NotRun rules contexts (PolicyRefused fault) × (left ≡ None)
+RunsScript (Err (Opening refusal)) rules contexts places bound reads r r_new w w_new a a_new left =
+    NotRun rules contexts (Opening refusal) × (left ≡ None)
 
 -- This holds if nothing was run.
 abbrev pub IfNotRun : Result (Unit {0}) ScriptFault → Type 0 → Type 0

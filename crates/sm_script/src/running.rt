@@ -20,7 +20,8 @@ use std::io::{Read, Write};
 
 /// Runs a script under the policy of these files: answers the requests from the reader until its end, a fault, or
 /// `bound` reads. The journal has `places` slots. The audit lines of each request are written when it is answered,
-/// including those of `list`.
+/// including those of `list`. Returns what is left of the manager too, if one was opened: a program that ends next need
+/// not free its tables one by one.
 pub fn run_script<R: Read, W: Write, A: Write>(
     alloc: Global,
     rules: &[u8],
@@ -30,32 +31,35 @@ pub fn run_script<R: Read, W: Write, A: Write>(
     reader: &mut Counted<R>,
     writer: &mut Counted<W>,
     audit: &mut Counted<A>,
-) -> Result<(), ScriptFault>
+) -> (Result<(), ScriptFault>, Option<Script>)
     requires reader { failures_of reader.old < greatest_count }
     requires writer { failures_of writer.old < greatest_count }
     requires audit { failures_of audit.old < greatest_count }
     // The answers to the items of the input are written, each judged on the state after those before it.
-    ensures ran { RunsScript result rules.now contexts.now places bound (calls_of reader.new - calls_of reader.old)
+    ensures ran { RunsScript result.0 rules.now contexts.now places bound (calls_of reader.new - calls_of reader.old)
         (R.remaining (inner_of reader.old)) (R.remaining (inner_of reader.new))
         (W.contents (inner_of writer.old)) (W.contents (inner_of writer.new))
-        (A.contents (inner_of audit.old)) (A.contents (inner_of audit.new)) }
-    ensures unread { IfNotRun result (reader.new ≡ reader.old) }
-    ensures unwritten { IfNotRun result (writer.new ≡ writer.old) }
-    ensures unaudited { IfNotRun result (audit.new ≡ audit.old) }
-    ensures end { OnOk result (IsAtEnd (R.remaining (inner_of reader.new))) }
+        (A.contents (inner_of audit.old)) (A.contents (inner_of audit.new)) result.1 }
+    ensures unread { IfNotRun result.0 (reader.new ≡ reader.old) }
+    ensures unwritten { IfNotRun result.0 (writer.new ≡ writer.old) }
+    ensures unaudited { IfNotRun result.0 (audit.new ≡ audit.old) }
+    ensures end { OnOk result.0 (IsAtEnd (R.remaining (inner_of reader.new))) }
     ensures reads { calls_of reader.new ≤ calls_of reader.old + bound }
-    ensures too_many { result ≡ Err (ScriptFault.Engine Fault.TooManyReads)
+    ensures too_many { result.0 ≡ Err (ScriptFault.Engine Fault.TooManyReads)
         → calls_of reader.new ≡ min (calls_of reader.old + bound) greatest_count }
-    ensures read_fault { result ≡ Err (ScriptFault.Engine Fault.ReadFault)
+    ensures read_fault { result.0 ≡ Err (ScriptFault.Engine Fault.ReadFault)
         → failures_of reader.old < failures_of reader.new }
-    ensures write_fault { result ≡ Err (ScriptFault.Engine Fault.WriteFault)
+    ensures write_fault { result.0 ≡ Err (ScriptFault.Engine Fault.WriteFault)
         → failures_of writer.old + failures_of audit.old < failures_of writer.new + failures_of audit.new }
     ensures read_told { failures_of reader.old < failures_of reader.new
-        → result ≡ Err (ScriptFault.Engine Fault.ReadFault) }
+        → result.0 ≡ Err (ScriptFault.Engine Fault.ReadFault) }
     ensures write_told { failures_of writer.old + failures_of audit.old < failures_of writer.new + failures_of audit.new
-        → result ≡ Err (ScriptFault.Engine Fault.WriteFault) }
+        → result.0 ≡ Err (ScriptFault.Engine Fault.WriteFault) }
 {
-    let mut script = opened_script(alloc, rules, contexts, places)?;
+    let mut script = match opened_script(alloc, rules, contexts, places) {
+        Ok(script) => script,
+        Err(fault) => return (Err(fault), None),
+    };
     match run(
         alloc,
         Kind::Script,
@@ -65,8 +69,8 @@ pub fn run_script<R: Read, W: Write, A: Write>(
         writer,
         audit,
     ) {
-        Ok(()) => Ok(()),
-        Err(fault) => Err(ScriptFault::Engine(fault)),
+        Ok(()) => (Ok(()), Some(script)),
+        Err(fault) => (Err(ScriptFault::Engine(fault)), Some(script)),
     }
 }
 

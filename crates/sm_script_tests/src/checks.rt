@@ -16,7 +16,7 @@ fn tells(rt: &impl Abort, alloc: Global, rules: &[u8], contexts: &[u8], line: &[
     let mut writer = Counted::new(Vec::new(alloc));
     let result = check(alloc, rules, contexts, &mut writer);
     assert_eq!(rt; writer.into_inner().as_slice(), line);
-    result.ok().expect(rt, "a line")
+    result.ok().expect(rt, "a line").is_none()
 }
 
 // What is skipped isn't counted, nor is a dontaudit rule. An allow rule with a kept class is, also if it allows
@@ -144,11 +144,14 @@ fn a_policy_of_a_phones_size(rt: HostRuntime) {
     assert!(rt; !tells(&rt, rt.alloc(), &rules, b"* u:r:t0", line));
 }
 
-// Checks a device's policy, and returns how many writes failed too.
+// Checks a device's policy: whether it is accepted, and how many writes failed.
 fn device_check<W: Write>(alloc: Global, writer: &mut W) -> (Result<bool, Fault>, u64) {
     let mut writer = Counted::new(writer);
-    let result = check(alloc, DEVICE_RULES, DEVICE_LABELS, &mut writer);
-    (result, writer.failures())
+    let accepted = match check(alloc, DEVICE_RULES, DEVICE_LABELS, &mut writer) {
+        Ok(refusal) => Ok(refusal.is_none()),
+        Err(fault) => Err(fault),
+    };
+    (accepted, writer.failures())
 }
 
 // The Nth write fails, one byte a write. Whether there was an Nth write.

@@ -2,8 +2,8 @@
 
 use clap::error::ErrorKind;
 use sm_command::{
-    AccessWords, Ending, FilterWords, Mode, NewFiles, Question, Sockets, TargetWord, options_of,
-    words_of,
+    AccessWords, AdminRequest, Administration, Ending, FilterWords, Invocation, Mode, NewFiles,
+    Options, Question, RuleWords, Sockets, TargetWord, invocation_of, words_of,
 };
 use std::alloc::{AllocError, Global};
 use std::env::{Env, FillError};
@@ -24,7 +24,12 @@ const ACCEPTED: &[(&str, Mode, u32)] = &[
     ("svcmgr run r c", Mode::Run, 1_048_576),
     ("svcmgr run --journal 2 r c", Mode::Run, 2),
     ("svcmgr run r c --journal 1048576", Mode::Run, 1_048_576),
-    ("svcmgr check r c", Mode::Check, 1_048_576),
+    ("svcmgr check r c", Mode::Check { show: false }, 1_048_576),
+    (
+        "svcmgr check --show r c",
+        Mode::Check { show: true },
+        1_048_576,
+    ),
     (
         "svcmgr serve --socket s --admin a r c",
         Mode::Serve(Sockets {
@@ -114,6 +119,13 @@ const ACCEPTED: &[(&str, Mode, u32)] = &[
     ),
 ];
 
+fn policy_options<'a, 'b>(invocation: &'b Invocation<'a>) -> Option<&'b Options<'a>> {
+    match invocation {
+        Invocation::Policy(options) => Some(options),
+        Invocation::Administer(_) => None,
+    }
+}
+
 fn accepts(
     rt: &impl Abort,
     alloc: Global,
@@ -122,7 +134,8 @@ fn accepts(
     places: u32,
 ) -> Result<(), Fail> {
     let words = words(alloc, line)?;
-    let options = options_of(alloc, &words)?;
+    let invocation = invocation_of(alloc, &words)?;
+    let options = policy_options(&invocation).expect(rt, line);
     assert!(rt; options.mode == mode);
     assert_eq!(rt;
         (options.places.entries(), options.rules, options.contexts),
@@ -135,6 +148,58 @@ fn accepts(
 fn accepted_command_lines(rt: HostRuntime) -> Result<(), Fail> {
     for (line, mode, places) in ACCEPTED {
         accepts(&rt, rt.alloc(), line, *mode, *places)?;
+    }
+    Ok(())
+}
+
+// Requests to a server, with the socket that they name.
+const REQUESTS: &[(&str, Option<&str>, AdminRequest)] = &[
+    (
+        "svcmgr admin --admin a version",
+        Some("a"),
+        AdminRequest::Version,
+    ),
+    ("svcmgr admin version", None, AdminRequest::Version),
+    ("svcmgr admin denials", None, AdminRequest::Denials),
+    ("svcmgr admin --admin a seal", Some("a"), AdminRequest::Seal),
+    (
+        "svcmgr admin reload r c",
+        None,
+        AdminRequest::Reload(NewFiles {
+            rules: "r",
+            contexts: "c",
+        }),
+    ),
+    (
+        "svcmgr admin explain app svc binder call",
+        None,
+        AdminRequest::Explain(RuleWords {
+            source: "app",
+            target: "svc",
+            class: "binder",
+            perm: "call",
+        }),
+    ),
+];
+
+fn asks(rt: &impl Abort, alloc: Global, line: &str, wanted: &Administration) -> Result<(), Fail> {
+    let words = words(alloc, line)?;
+    let asked = match invocation_of(alloc, &words)? {
+        Invocation::Administer(administration) => Some(administration),
+        Invocation::Policy(_) => None,
+    };
+    assert!(rt; asked.expect(rt, line) == *wanted);
+    Ok(())
+}
+
+#[test]
+fn requests_to_a_server(rt: HostRuntime) -> Result<(), Fail> {
+    for (line, socket, request) in REQUESTS {
+        let wanted = Administration {
+            socket: *socket,
+            request: *request,
+        };
+        asks(&rt, rt.alloc(), line, &wanted)?;
     }
     Ok(())
 }
@@ -220,13 +285,26 @@ const REFUSED: &[(&str, ErrorKind)] = &[
         ErrorKind::ArgumentConflict,
     ),
     ("svcmgr diff r c s", ErrorKind::MissingRequiredArgument),
+    ("svcmgr check --show", ErrorKind::MissingRequiredArgument),
+    ("svcmgr admin", ErrorKind::MissingSubcommand),
+    ("svcmgr admin --admin a stop", ErrorKind::InvalidSubcommand),
+    ("svcmgr admin --admin  version", ErrorKind::ValueValidation),
+    ("svcmgr admin reload r", ErrorKind::MissingRequiredArgument),
+    (
+        "svcmgr admin explain app svc binder",
+        ErrorKind::MissingRequiredArgument,
+    ),
+    (
+        "svcmgr admin explain app svc binder call\nseal",
+        ErrorKind::ValueValidation,
+    ),
     ("svcmgr --version", ErrorKind::DisplayVersion),
     ("svcmgr --help", ErrorKind::DisplayHelp),
 ];
 
 fn refusal(rt: &impl Abort, alloc: Global, line: &str) -> ErrorKind {
     let words = words(alloc, line).ok().expect(rt, "memory");
-    options_of(alloc, &words).err().expect(rt, line).kind()
+    invocation_of(alloc, &words).err().expect(rt, line).kind()
 }
 
 #[test]

@@ -112,7 +112,7 @@ impl Fixture {
         let mut reader = Counted::new(reader);
         let mut writer = Counted::new(writer);
         let mut audit = Counted::new(audit);
-        let ending = run_script(
+        let (ending, _) = run_script(
             alloc,
             &self.files.source(rt, alloc),
             self.files.contexts,

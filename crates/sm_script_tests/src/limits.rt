@@ -168,7 +168,7 @@ fn not_begun(rt: &impl Abort, alloc: Global, files: Files) -> &'static str {
     let script = b"hello 100 1000 u:r:system_server:s0\n".as_slice();
     let mut reader = Counted::new(script);
     let mut writer = Counted::new(Vec::new(alloc));
-    let ending = run_script(
+    let (ending, _) = run_script(
         alloc,
         &files.source(rt, alloc),
         files.contexts,

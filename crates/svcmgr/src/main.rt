@@ -1,6 +1,8 @@
 //! The program `svcmgr`: a service manager on the command line.
 #![tactic(auto)]
 
+mod admin;
+mod checking;
 mod console;
 mod daemon;
 mod pipe;
@@ -8,15 +10,19 @@ mod questions;
 mod sockets;
 mod standard_streams;
 
+use admin::administer;
+use checking::check_policy;
 use clap::error::ErrorKind;
 use daemon::serve_policy;
 use questions::ask;
-use sm_check::check;
-use sm_command::{Ending, Mode, NO_MEMORY, Options, Sockets, options_of, read_limited, words_of};
+use sm_command::{
+    Ending, Invocation, Mode, NO_MEMORY, Options, Sockets, invocation_of, read_limited, words_of,
+};
 use sm_engine::Counted;
 use sm_policy::Prepared;
 use sm_script::{ScriptFault, run_script};
 use standard_streams::StandardStreams;
+use std::mem;
 use std::process::ExitCode;
 use std::rt::{Clock, Files, Net};
 use std::sync::Wait;
@@ -39,11 +45,12 @@ fn answer<R: Files + Net + Threads + Wait + Clock + Sync>(
     rt: &R,
     words: &[String],
 ) -> ExitCode {
-    match options_of(host.alloc(), words) {
-        Ok(options) => match perform(host, rt, &options) {
+    match invocation_of(host.alloc(), words) {
+        Ok(Invocation::Policy(options)) => match perform(host, rt, &options) {
             Ok(code) => code,
             Err(ending) => fail(host, &ending),
         },
+        Ok(Invocation::Administer(administration)) => administer(host, rt, administration),
         Err(error) => misuse(host, &error),
     }
 }
@@ -70,7 +77,7 @@ fn version(rt: &HostRuntime, words: &clap::Error) -> ExitCode {
 }
 
 /// Prints why there is no answer.
-fn fail(rt: &HostRuntime, ending: &Ending) -> ExitCode {
+pub(crate) fn fail(rt: &HostRuntime, ending: &Ending) -> ExitCode {
     let _ = match ending.line(rt.alloc()) {
         Ok(line) => rt.stderr().write_all(&line),
         Err(_) => rt.stderr().write_all(NO_MEMORY),
@@ -85,7 +92,7 @@ fn perform<'a, R: Files + Net + Threads + Wait + Clock + Sync>(
 ) -> Result<ExitCode, Ending<'a>> {
     match options.mode {
         Mode::Run => serve_script(host, options),
-        Mode::Check => check_policy(host, options),
+        Mode::Check { show } => check_policy(host, options, show),
         Mode::Serve(sockets) => serve_sockets(host, rt, options, sockets),
         Mode::Ask(question) => ask(host, options, question),
     }
@@ -103,7 +110,7 @@ fn serve_script<'a>(rt: &HostRuntime, options: &Options<'a>) -> Result<ExitCode,
     let mut reader = Counted::new(rt.stdin());
     let mut writer = Counted::new(rt.stdout());
     let mut audit = Counted::new(rt.stderr());
-    run_script(
+    let (ended, manager) = run_script(
         rt.alloc(),
         &rules,
         &contexts,
@@ -112,7 +119,10 @@ fn serve_script<'a>(rt: &HostRuntime, options: &Options<'a>) -> Result<ExitCode,
         &mut reader,
         &mut writer,
         &mut audit,
-    )?;
+    );
+    // The program ends, and all of its memory goes with it.
+    mem::forget(manager);
+    ended?;
     Ok(ExitCode::SUCCESS)
 }
 
@@ -131,16 +141,4 @@ fn serve_sockets<'a, R: Files + Net + Threads + Wait + Clock + Sync>(
     };
     serve_policy(host, rt, policy, options.places, sockets)?;
     Ok(ExitCode::SUCCESS)
-}
-
-/// Prints on standard output whether a policy is accepted.
-fn check_policy<'a>(rt: &HostRuntime, options: &Options<'a>) -> Result<ExitCode, Ending<'a>> {
-    let rules = text_of(rt, options.rules)?;
-    let contexts = text_of(rt, options.contexts)?;
-    let mut writer = Counted::new(rt.stdout());
-    if check(rt.alloc(), &rules, &contexts, &mut writer)? {
-        Ok(ExitCode::SUCCESS)
-    } else {
-        Ok(ExitCode::FAILURE)
-    }
 }

@@ -1,0 +1,37 @@
+-- The lines of an administrator's requests to a server, and of its answers.
+use Rattle.std.specs.Prelude.{ℕ, List, [], ◌∷◌, ◌++◌, Bool, ◌&&◌, ◌||◌, not, ◌==◌, ◌-◌, codes, length}
+use Rattle.std.specs.List.{count_by, ends_with, list_any, starts_with}
+use Rattle.sm_kinds.specs.Messages.{numbered}
+
+-- This is `explain SOURCE TARGET CLASS PERM`.
+abbrev pub explain_line : List ℕ → List ℕ → List ℕ → List ℕ → List ℕ
+explain_line source target class perm = codes "explain "
+    ++ source ++ codes " " ++ target ++ codes " " ++ class ++ codes " " ++ perm ++ codes "\n"
+
+-- This is `reload VERSION R C`, and then the two texts, of R and C bytes.
+abbrev pub reload_request : List ℕ → List ℕ → List ℕ → List ℕ
+reload_request version rules contexts =
+    codes "reload " ++ version ++ numbered (codes " ") (length rules) ++ numbered (codes " ") (length contexts)
+    ++ codes "\n" ++ rules ++ contexts
+
+-- An answer begins with these bytes.
+abbrev pub begins : List ℕ → List ℕ → Bool
+begins answer front = starts_with ◌==◌ answer front
+
+-- The answers that grant a request begin with one of these.
+abbrev pub granted : List (List ℕ)
+granted = codes "version " ∷ codes "reloaded " ∷ codes "allowed " ∷ codes "unwritten " ∷ codes "denials "
+    ∷ codes "sealed " ∷ codes "empty\n" ∷ []
+
+-- An answer grants the request.
+abbrev pub is_granted : List ℕ → Bool
+is_granted answer = list_any (begins answer) granted
+
+-- This is `denials N` of an answer with N further lines.
+abbrev pub counted_denials : List ℕ → List ℕ
+counted_denials answer = numbered (codes "denials ") (count_by (λ byte. byte == 10) answer - 1) ++ codes "\n"
+
+-- An answer came to its end: its last line is whole, and after `denials N` there are N lines.
+abbrev pub is_whole : List ℕ → Bool
+is_whole answer = ends_with ◌==◌ answer (codes "\n")
+    && (not (begins answer (codes "denials ")) || begins answer (counted_denials answer))
