@@ -11,9 +11,10 @@ pub struct Number<'a> {
 }
 
 /// The options with numbers, all greater than 0, by their ids and as the parser's messages name them.
-const OPTIONS: [(&str, &str); 3] = [
+const OPTIONS: [(&str, &str); 4] = [
     ("journal", "--journal <N>"),
     ("seal-at", "--seal-at <N>"),
+    ("seal-bytes", "--seal-bytes <N>"),
     ("workers", "--workers <W>"),
 ];
 

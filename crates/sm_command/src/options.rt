@@ -6,7 +6,7 @@ use crate::administration::{Administration, administration_of, misused_request};
 use crate::numbers::odd_number;
 use crate::parser::command;
 use crate::question::{Question, question_of};
-use crate::sockets::{Sockets, misused, sockets_of};
+use crate::sockets::{DEFAULT_SLOTS, Sockets, misused, slots_of, sockets_of};
 use clap::error::ErrorKind;
 use clap::{ArgMatches, Error};
 use sm_kinds::Places;
@@ -21,8 +21,8 @@ pub enum Mode<'a> {
     Run,
     /// `svcmgr check [--show] RULES CONTEXTS`, and whether the lines that a refusal names are shown.
     Check { show: bool },
-    /// `svcmgr serve [--journal N] [--seal-at N] [--workers W] [--mode MODE] [--audit] --socket PATH --admin PATH RULES
-    /// CONTEXTS`
+    /// `svcmgr serve [--journal N] [--seal-at N] [--seal-bytes N] [--workers W] [--mode MODE] [--audit] --socket PATH
+    /// --admin PATH RULES CONTEXTS`
     Serve(Sockets<'a>),
     /// `svcmgr label`, `explain`, `access` or `diff`
     Ask(Question<'a>),
@@ -160,8 +160,8 @@ fn in_mode<'a>(mode: Mode<'a>, matches: &ArgMatches<'a>) -> Option<Options<'a>>
     ensures { IfSome result (λ options. options.mode ≡ mode.exit) }
 {
     let entries = match mode {
-        Mode::Run | Mode::Serve(_) => matches.get_one::<u32>("journal")?,
-        Mode::Check { .. } | Mode::Ask(_) => 1_048_576,
+        Mode::Run | Mode::Serve(_) => slots_of(matches),
+        Mode::Check { .. } | Mode::Ask(_) => DEFAULT_SLOTS,
     };
     Some(Options {
         mode,

@@ -43,6 +43,7 @@ fn serve<'a>(alloc: Global) -> Building<'a> {
     let serve = Building::new(alloc, "serve", about)
         .arg(journal(alloc))
         .arg(seal_at(alloc))
+        .arg(seal_bytes(alloc))
         .arg(workers(alloc))
         .arg(permissions(alloc))
         .arg(audit(alloc))
@@ -169,10 +170,9 @@ fn journal<'a>(alloc: Global) -> Arg<'a> {
         alloc,
         "journal",
         "N",
-        "The number of slots in the journal, 2 to 1048576",
+        "The number of slots in the journal, 2 to 1048576 [default: 1048576]",
     )
     .value_parser(value_parser!(u32).range(2..=1_048_576))
-    .default_value("1048576")
 }
 
 fn workers<'a>(alloc: Global) -> Arg<'a> {
@@ -191,9 +191,19 @@ fn seal_at<'a>(alloc: Global) -> Arg<'a> {
         alloc,
         "seal-at",
         "N",
-        "Seals the journal whenever N of its slots are used, 2 to the number of slots",
+        "Seals the journal whenever N of its slots are used, 2 to half of them [default: half of them, without --journal]",
     )
     .value_parser(value_parser!(u32).range(2..=1_048_576))
+}
+
+fn seal_bytes<'a>(alloc: Global) -> Arg<'a> {
+    word(
+        alloc,
+        "seal-bytes",
+        "N",
+        "Seals the journal whenever its entries have N bytes, at least 4096 [default: 67108864, unless --journal is given alone]",
+    )
+    .value_parser(value_parser!(u64).range(4_096..))
 }
 
 fn permissions<'a>(alloc: Global) -> Arg<'a> {

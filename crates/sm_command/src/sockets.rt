@@ -2,6 +2,12 @@
 
 use clap::ArgMatches;
 
+/// The slots of a journal, if none are given.
+pub const DEFAULT_SLOTS: u32 = 1_048_576;
+
+/// The bytes of entries at which a server seals by itself, if none are given.
+const DEFAULT_BYTES: u64 = 67_108_864;
+
 /// The greatest permissions of a socket.
 const MOST_PERMISSIONS: u32 = 0o777;
 
@@ -16,8 +22,10 @@ pub struct Sockets<'a> {
     pub workers: u32,
     /// The permissions of the clients' socket, at most 0o777. `None`: the umask decides.
     pub mode: Option<u32>,
-    /// The number of entries at which the server seals the open segment, at least 2. `None`: only administrators seal.
+    /// The number of entries at which the server seals the open segment, from 2 to half of its slots.
     pub seal_at: Option<u32>,
+    /// The bytes of entries at which the server seals the open segment. If neither is given, only administrators seal.
+    pub seal_bytes: Option<u64>,
     /// Whether the audit lines of clients' requests go to standard error.
     pub audit: bool,
 }
@@ -29,9 +37,34 @@ pub fn sockets_of<'a>(matches: &ArgMatches<'a>) -> Option<Sockets<'a>> {
         admins: matches.get_str("admin")?,
         workers: matches.get_one::<u32>("workers")?,
         mode: matches.get_str("mode").and_then(permissions_of),
-        seal_at: matches.get_one::<u32>("seal-at"),
+        seal_at: entries_to_seal_at(matches),
+        seal_bytes: bytes_to_seal_at(matches),
         audit: matches.get_flag("audit"),
     })
+}
+
+/// Returns the number of entries at which a server seals by itself. If neither the slots nor this number is given, it is
+/// half of the slots.
+fn entries_to_seal_at(matches: &ArgMatches) -> Option<u32> {
+    match matches.get_one::<u32>("seal-at") {
+        Some(entries) => Some(entries),
+        None if matches.contains_id("journal") => None,
+        None => Some(DEFAULT_SLOTS / 2),
+    }
+}
+
+/// Returns the bytes of entries at which a server seals by itself. With the slots alone it doesn't.
+fn bytes_to_seal_at(matches: &ArgMatches) -> Option<u64> {
+    match matches.get_one::<u64>("seal-bytes") {
+        Some(bytes) => Some(bytes),
+        None if entries_to_seal_at(matches).is_none() => None,
+        None => Some(DEFAULT_BYTES),
+    }
+}
+
+/// Returns the slots of the journal.
+pub fn slots_of(matches: &ArgMatches) -> u32 {
+    matches.get_one::<u32>("journal").unwrap_or(DEFAULT_SLOTS)
 }
 
 /// Returns the permissions of one to four octal digits, or `None` if the word isn't that, or they are too great.
@@ -59,8 +92,8 @@ pub fn misused(matches: &ArgMatches) -> Option<&'static str> {
     if clients == admins {
         return Some("--socket and --admin have the same path");
     }
-    if matches.get_one::<u32>("seal-at") > matches.get_one::<u32>("journal") {
-        return Some("--seal-at is greater than the number of slots in the journal");
+    if matches.get_one::<u32>("seal-at") > Some(slots_of(matches) / 2) {
+        return Some("--seal-at is greater than half of the slots in the journal");
     }
     let mode = matches.get_str("mode")?;
     match permissions_of(mode) {

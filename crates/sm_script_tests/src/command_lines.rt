@@ -3,7 +3,7 @@
 use clap::error::ErrorKind;
 use sm_command::{
     AccessWords, AdminRequest, Administration, Ending, FilterWords, Invocation, Mode, NewFiles,
-    Options, Question, RuleWords, Sockets, TargetWord, invocation_of, words_of,
+    Question, RuleWords, Sockets, TargetWord, invocation_of, words_of,
 };
 use std::alloc::{AllocError, Global};
 use std::env::{Env, FillError};
@@ -37,22 +37,63 @@ const ACCEPTED: &[(&str, Mode, u32)] = &[
             admins: "a",
             workers: 16,
             mode: None,
-            seal_at: None,
+            seal_at: Some(524_288),
+            seal_bytes: Some(67_108_864),
             audit: false,
         }),
         1_048_576,
     ),
     (
-        "svcmgr serve --workers 64 --journal 2 --seal-at 2 --admin a --socket s --audit --mode 0660 r c",
+        "svcmgr serve --workers 64 --journal 4 --seal-at 2 --admin a --socket s --audit --mode 0660 r c",
         Mode::Serve(Sockets {
             clients: "s",
             admins: "a",
             workers: 64,
             mode: Some(0o660),
             seal_at: Some(2),
+            seal_bytes: Some(67_108_864),
             audit: true,
         }),
-        2,
+        4,
+    ),
+    (
+        "svcmgr serve --journal 100 --socket s --admin a r c",
+        Mode::Serve(Sockets {
+            clients: "s",
+            admins: "a",
+            workers: 16,
+            mode: None,
+            seal_at: None,
+            seal_bytes: None,
+            audit: false,
+        }),
+        100,
+    ),
+    (
+        "svcmgr serve --seal-bytes 4096 --socket s --admin a --journal 100 r c",
+        Mode::Serve(Sockets {
+            clients: "s",
+            admins: "a",
+            workers: 16,
+            mode: None,
+            seal_at: None,
+            seal_bytes: Some(4_096),
+            audit: false,
+        }),
+        100,
+    ),
+    (
+        "svcmgr serve --seal-bytes 5000 --socket s --admin a r c",
+        Mode::Serve(Sockets {
+            clients: "s",
+            admins: "a",
+            workers: 16,
+            mode: None,
+            seal_at: Some(524_288),
+            seal_bytes: Some(5_000),
+            audit: false,
+        }),
+        1_048_576,
     ),
     (
         "svcmgr label r c activity",
@@ -119,13 +160,6 @@ const ACCEPTED: &[(&str, Mode, u32)] = &[
     ),
 ];
 
-fn policy_options<'a, 'b>(invocation: &'b Invocation<'a>) -> Option<&'b Options<'a>> {
-    match invocation {
-        Invocation::Policy(options) => Some(options),
-        Invocation::Administer(_) => None,
-    }
-}
-
 fn accepts(
     rt: &impl Abort,
     alloc: Global,
@@ -134,13 +168,16 @@ fn accepts(
     places: u32,
 ) -> Result<(), Fail> {
     let words = words(alloc, line)?;
-    let invocation = invocation_of(alloc, &words)?;
-    let options = policy_options(&invocation).expect(rt, line);
-    assert!(rt; options.mode == mode);
-    assert_eq!(rt;
-        (options.places.entries(), options.rules, options.contexts),
-        (places, "r", "c")
-    );
+    let found = match invocation_of(alloc, &words)? {
+        Invocation::Policy(options) => Some((
+            options.mode,
+            (options.places.entries(), options.rules, options.contexts),
+        )),
+        Invocation::Administer(_) => None,
+    };
+    let (found, rest) = found.expect(rt, line);
+    assert!(rt; found == mode);
+    assert_eq!(rt; rest, (places, "r", "c"));
     Ok(())
 }
 
@@ -245,7 +282,19 @@ const REFUSED: &[(&str, ErrorKind)] = &[
         ErrorKind::ValueValidation,
     ),
     (
-        "svcmgr serve --journal 9 --seal-at 10 --socket s --admin a r c",
+        "svcmgr serve --journal 9 --seal-at 5 --socket s --admin a r c",
+        ErrorKind::ValueValidation,
+    ),
+    (
+        "svcmgr serve --seal-at 524289 --socket s --admin a r c",
+        ErrorKind::ValueValidation,
+    ),
+    (
+        "svcmgr serve --seal-bytes 4095 --socket s --admin a r c",
+        ErrorKind::ValueValidation,
+    ),
+    (
+        "svcmgr serve --seal-bytes 04096 --socket s --admin a r c",
         ErrorKind::ValueValidation,
     ),
     (

@@ -9,6 +9,7 @@ use Rattle.sm_history.specs.declared.event.Event.{Event}
 use Rattle.sm_history.specs.declared.event.Event.TheVariants.{Die, Reload}
 use Rattle.sm_history.specs.declared.query.Query.{Query}
 use Rattle.sm_history.specs.declared.query.Query.TheVariants.{List as ListNames, Version as AskVersion, Explain}
+use Rattle.sm_history.specs.declared.records.Record.{Record}
 use Rattle.sm_history.specs.declared.refusal.Refusal.{Refusal}
 use Rattle.sm_history.specs.declared.refusal.Refusal.TheVariants.{Failed, Memory}
 use Rattle.sm_history.specs.declared.refusal.Failure.TheVariants.{NotConnected}
@@ -18,6 +19,7 @@ use Rattle.sm_history.specs.Promises.{NotMade, NotTold, Queried, Submitted, Turn
 use Rattle.sm_history.specs.Tokens.{Grows, Knows}
 use Rattle.sm_history.specs.Verdict.{is_die}
 use Rattle.sm_history.proofs.BookOrder.{book_itself, book_through}
+use Rattle.sm_door.specs.Logged.{Logged}
 use Rattle.sm_wire.specs.declared.request.Request.{Request}
 use Rattle.sm_wire.specs.declared.request.Request.TheVariants.{Change, Look, Denials, Seal}
 use Rattle.sm_wire.specs.declared.request.Request.TheVariants as requests
@@ -30,14 +32,15 @@ use Rattle.sm_session.specs.declared.response.Response.{Response}
 use Rattle.sm_session.specs.declared.response.Response.TheVariants.{Replied, PolicyRefused, Denied}
 use Rattle.sm_serve.specs.declared.command.Command.{Command}
 use Rattle.sm_serve.specs.declared.command.Command.TheVariants.{Hello, Line, Install, End}
-use Rattle.sm_serve.specs.Connections.{AdminGives, AdminGivesLine, AdminInstalls, AdminReads, AdminReplies, AdminSeals}
-use Rattle.sm_serve.specs.Connections.{AdminTold}
+use Rattle.sm_serve.specs.Connections.{AdminAnswers, AdminGives, AdminGivesLine, AdminInstalls, AdminReads}
+use Rattle.sm_serve.specs.Connections.{AdminReplies, AdminSeals, AdminTold}
 use Rattle.sm_serve.specs.Connections.{ClientReplies, GivesChange, GivesHello, GivesLeave}
-use Rattle.sm_serve.specs.Connections.{GivesLine, GivesLook, Greets, OfSession, Parts, Reads, SaysOnly, SeatOr}
-use Rattle.sm_serve.specs.Connections.{GoesOn, StillHolds}
-use Rattle.sm_serve.specs.Desks.{DeskAnswers, DeskLeaves, command_of}
+use Rattle.sm_serve.specs.Connections.{GivesLine, GivesLook, Greets, OfSession, Parts, Reads, SaysOnly, SaysUnrecorded}
+use Rattle.sm_serve.specs.Connections.{SeatOr, GoesOn, StillHolds}
+use Rattle.sm_serve.specs.Desks.{DeskAnswers, DeskLeaves, Holding, command_of}
 use Rattle.sm_serve.specs.Growing.{AdminsSeeMore, ClientsSeeMore, ComesAfter}
 use Rattle.sm_serve.proofs.Lasting.{attends_keeps}
+use Rattle.sm_serve.proofs.Reading.{queried as entered}
 
 stays : (k : Knows) → GoesOn k k
 stays k = record { begins = book_itself k.seen; lawful = λ p. p }
@@ -93,11 +96,11 @@ hello None new who reply p = tt
 hello (Some old) new who reply p = seat_or old.by
     (λ x. held old x.0 new (greets old x.0 who reply x.1) x.2) (λ x. unchanged (Some old) new x.1) p
 
-of_session : (Answers : Knows → Type 0) (old new : Option Knows) (reply : Reply)
-    → ((session : Knows) → Answers session → ComesAfter (Some session) new) → OfSession Answers old reply new
-    → ComesAfter old new
-of_session Answers None new reply f p = tt
-of_session Answers (Some old) new reply f p = seat_or old.by (λ x. unchanged (Some old) new x.1) (λ x. f old x) p
+of_session : (Answers : Knows → Type 0) (Without : Type 0) (old new : Option Knows)
+    → ((session : Knows) → Answers session → ComesAfter (Some session) new) → (Without → ComesAfter old new)
+    → OfSession Answers Without old → ComesAfter old new
+of_session Answers Without None new f g p = tt
+of_session Answers Without (Some old) new f g p = seat_or old.by g (λ x. f old x) p
 
 parts : (session : Knows) (new : Option Knows) (reply : Reply) → Parts session reply new
     → ComesAfter (Some session) new
@@ -106,37 +109,42 @@ parts session new (Refused refusal) p = held session p.1.0 new (submitted sessio
 parts session new _ p = absurd p
 
 leave : (old new : Option Knows) (reply : Reply) → GivesLeave old reply new → ComesAfter old new
-leave old new reply p =
-    of_session (λ session. Parts session reply new) old new reply (λ session x. parts session new reply x) p
+leave old new reply p = of_session (λ session. Parts session reply new) (SaysOnly (Failed NotConnected) old reply new)
+    old new (λ session x. parts session new reply x) (λ x. unchanged old new x.1) p
 
-change : (old new : Option Knows) (event : Event) (reply : Reply) → GivesChange old event reply new → ComesAfter old new
-change old new event reply p = of_session
-    (λ session. (token : Knows) × Submitted session token event reply × (new ≡ Some token)) old new reply
-    (λ session x. held session x.0 new (submitted session x.0 event reply x.1) x.2) p
+change : (old new : Option Knows) (event : Event) (reply : Reply) (log : List Record)
+    → GivesChange old event reply log new → ComesAfter old new
+change old new event reply log p = of_session
+    (λ session. (token : Knows) × Submitted session token event reply × Logged session token event reply log
+    × (new ≡ Some token)) (SaysUnrecorded (Failed NotConnected) old reply log new) old new
+    (λ session x. held session x.0 new (submitted session x.0 event reply x.1) x.3) (λ x. unchanged old new x.0.1) p
 
-reads : (session : Knows) (new : Option Knows) (q : Query) (reply : Reply) → Reads session q reply new
-    → ComesAfter (Some session) new
-reads session new (ListNames mask) reply x = held session x.0 new (queried session x.0 (ListNames mask) reply x.1) x.2
-reads session new AskVersion reply x = held session x.0 new (queried session x.0 AskVersion reply x.1) x.2
-reads session new (Explain s t class perm) reply x = unchanged (Some session) new x.1
+reads : (session : Knows) (new : Option Knows) (q : Query) (reply : Reply) (log : List Record)
+    → Reads session q reply log new → ComesAfter (Some session) new
+reads session new (ListNames mask) reply log x = held session x.0 new
+    (queried session x.0 (ListNames mask) reply (entered session x.0 (ListNames mask) reply log x.1)) x.2
+reads session new AskVersion reply log x = held session x.0 new (queried session x.0 AskVersion reply x.1) x.3
+reads session new (Explain s t class perm) reply log x = unchanged (Some session) new x.0.1
 
-look : (old new : Option Knows) (q : Query) (reply : Reply) → GivesLook old q reply new → ComesAfter old new
-look old new q reply p =
-    of_session (λ session. Reads session q reply new) old new reply (λ session x. reads session new q reply x) p
+look : (old new : Option Knows) (q : Query) (reply : Reply) (log : List Record) → GivesLook old q reply log new
+    → ComesAfter old new
+look old new q reply log p = of_session (λ session. Reads session q reply log new)
+    (SaysUnrecorded (Failed NotConnected) old reply log new) old new
+    (λ session x. reads session new q reply log x) (λ x. unchanged old new x.0.1) p
 
 either : (b : Bool) {P Q R : Type 0} → (P → R) → (Q → R) → MatchBool b P Q → R
 either true p q x = p x
 either false p q x = q x
 
-line : (old new : Option Knows) (request : Request) (reply : Reply) → GivesLine old request reply new
-    → ComesAfter old new
-line old new (Change c event) reply p =
-    either (is_die event) (λ x. leave old new reply x) (λ x. change old new event reply x) p
-line old new (Look c q) reply p = look old new q reply p
-line old new (requests.Hello who) reply p = unchanged old new p.1
-line old new (requests.Reload expected rules contexts) reply p = unchanged old new p.1
-line old new Denials reply p = unchanged old new p.1
-line old new Seal reply p = unchanged old new p.1
+line : (old new : Option Knows) (request : Request) (reply : Reply) (log : List Record)
+    → GivesLine old request reply log new → ComesAfter old new
+line old new (Change c event) reply log p =
+    either (is_die event) (λ x. leave old new reply x.0) (λ x. change old new event reply log x) p
+line old new (Look c q) reply log p = look old new q reply log p
+line old new (requests.Hello who) reply log p = unchanged old new p.0.1
+line old new (requests.Reload expected rules contexts) reply log p = unchanged old new p.0.1
+line old new Denials reply log p = unchanged old new p.0.1
+line old new Seal reply log p = unchanged old new p.0.1
 
 through : (a b c : Knows) → GoesOn a b → GoesOn b c → GoesOn a c
 through a b c p q = record {
@@ -199,17 +207,17 @@ still_tried old tried new reply e p q =
     let P : Reply → Type 0 = λ x. GivesLeave tried x new in
     still_through old tried new p (tried_once tried new (subst P e q))
 
-replies : (old new : Option Knows) (command : Command) (reply : Reply) → ClientReplies old command reply new
-    → ComesAfter old new
-replies old new (Hello who) reply p = hello old new who reply p
-replies old new (Line request) reply p = line old new request reply p
-replies old new (Install expected policy) reply p = unchanged old new p.1
-replies old new End reply p = ended old p.0 new reply p.1 p.2
+replies : (old new : Option Knows) (command : Command) (reply : Reply) (log : List Record)
+    → ClientReplies old command reply log new → ComesAfter old new
+replies old new (Hello who) reply log p = hello old new who reply p.0
+replies old new (Line request) reply log p = line old new request reply log p
+replies old new (Install expected policy) reply log p = unchanged old new p.0.1
+replies old new End reply log p = ended old p.0.0 new reply p.0.1 p.0.2
 
 pub clients_see_more : ClientsSeeMore
-clients_see_more old new command (Replied reply) p = replies old new command reply p
-clients_see_more old new command (PolicyRefused fault) p = absurd p
-clients_see_more old new command (Denied records) p = absurd p
+clients_see_more old new command (Replied reply) log p = replies old new command reply log p
+clients_see_more old new command (PolicyRefused fault) log p = absurd p
+clients_see_more old new command (Denied records) log p = absurd p
 
 -- ---- administrators
 
@@ -252,28 +260,38 @@ admin_installs old new event (Replied reply) p = submitted old new event reply p
 admin_installs old new event (PolicyRefused fault) p = absurd p
 admin_installs old new event (Denied records) p = absurd p
 
-pub admins_see_more : AdminsSeeMore
-admins_see_more old new (Hello who) response p = same old new p.1
-admins_see_more old new (Line request) response p = admin_line old new request response p
-admins_see_more old new (Install expected policy) response p =
+admin_answered : (old new : Knows) (command : Command) (response : Response) → AdminAnswers old command response new
+    → GoesOn old new
+admin_answered old new (Hello who) response p = same old new p.1
+admin_answered old new (Line request) response p = admin_line old new request response p
+admin_answered old new (Install expected policy) response p =
     admin_installs old new (Reload expected policy) response p
-admins_see_more old new End response p = same old new p.1
+admin_answered old new End response p = same old new p.1
 
-admin_answers : (old : Knows) (item : Item) (response : Response) (new : Knows)
-    → DeskAnswers AdminGives old item response new → GoesOn old new
+pub admins_see_more : AdminsSeeMore
+admins_see_more old new command response log p = admin_answered old new command response p.0
+
+-- What an administrator's connection holds goes on.
+abbrev HoldsMore : Holding Knows → Holding Knows → Type 0
+HoldsMore old new = GoesOn old.held new.held
+
+admin_answers : (old : Holding Knows) (item : Item) (response : Response) (new : Holding Knows)
+    → DeskAnswers AdminGives old item response new → HoldsMore old new
 admin_answers old (items.Asked request) response new p =
-    admins_see_more old new (command_of request) response p
-admin_answers old (items.Policy texts) response new (inl p) = same old new p.3
+    admin_answered old.held new.held (command_of request) response p.1.0
+admin_answers old (items.Policy texts) response new (inl p) =
+    same old.held new.held (ap (λ (h : Holding Knows). h.held) p.3)
 admin_answers old (items.Policy texts) response new (inr p) =
-    admins_see_more old new (Install texts.expected p.0) response p.2
+    admin_answered old.held new.held (Install texts.expected p.0) response p.2.1.0
 admin_answers old items.Malformed response new p = absurd p
 admin_answers old items.LineTooLong response new p = absurd p
 
 -- A whole session of an administrator.
-pub admin_session : (result : Result (Unit {0}) Fault) (bound reads : ℕ) (old : Knows)
-    (r r_new w w_new : Option (List ℕ)) (new : Knows)
+pub admin_session : (result : Result (Unit {0}) Fault) (bound reads : ℕ) (old : Holding Knows)
+    (r r_new w w_new : Option (List ℕ)) (new : Holding Knows)
     → Attends Admins (DeskAnswers AdminGives) (DeskLeaves AdminGives) result bound reads old r r_new w w_new new
-    → GoesOn old new
+    → HoldsMore old new
 admin_session result bound reads old r r_new w w_new new p =
-    attends_keeps (DeskAnswers AdminGives) (DeskLeaves AdminGives) GoesOn stays through admin_answers
-    (λ s t x. admins_see_more s t End x.0 x.1) Admins result bound reads old r r_new w w_new new p
+    attends_keeps (DeskAnswers AdminGives) (DeskLeaves AdminGives) HoldsMore (λ h. stays h.held)
+    (λ a b c. through a.held b.held c.held) admin_answers
+    (λ s t x. admin_answered s.held t.held End x.0 x.1.1.0) Admins result bound reads old r r_new w w_new new p

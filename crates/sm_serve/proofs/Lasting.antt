@@ -1,5 +1,5 @@
 -- What each answer of a desk keeps, a whole session keeps.
-use Rattle.std.proofs.Common.{◌≡◌, ◌⊎◌, ◌-◌, ℕ, List, [], ◌∷◌, Bool, true, false, sym, subst, inl, inr, Option}
+use Rattle.std.proofs.Common.{◌≡◌, ◌-◌, ℕ, List, [], ◌∷◌, Bool, true, false, sym, subst, inl, inr, Option}
 use Rattle.std.proofs.Common.{Result, Ok, Err}
 use Rattle.std.specs.Prelude.{MatchBool}
 use Rattle.sm_wire.specs.declared.item.Item.{Item}

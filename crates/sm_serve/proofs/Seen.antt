@@ -1,16 +1,15 @@
 -- A session at a desk, seen by a part of the desk that its answers speak of.
-use Rattle.std.proofs.Common.{◌≡◌, ◌⊎◌, ◌-◌, ℕ, List, [], ◌∷◌, Bool, true, false, ap, inl, inr, Option, Result, Ok, Err, OnOk}
+use Rattle.std.proofs.Common.{◌-◌, ℕ, List, [], ◌∷◌, Bool, true, false, ap, inl, inr, Option, Result, Ok, Err}
 use Rattle.std.specs.Prelude.{MatchBool}
-use Rattle.std.specs.Io.KnownBytes.{IsAtEnd}
 use Rattle.sm_wire.specs.declared.item.Item.{Item}
 use Rattle.sm_wire.specs.declared.kind.Kind.{Kind}
 use Rattle.sm_engine.specs.declared.fault.Fault.{Fault}
 use Rattle.sm_engine.specs.declared.fault.Fault.TheVariants.{ReadFault, WriteFault, TooManyReads, LineTooLong, Memory}
-use Rattle.sm_engine.specs.Running.{Runs, Wrote, CaughtUp, LastRead, Stopped, Ended, AnswersAll, StopsEarly, Fronts}
-use Rattle.sm_engine.specs.Running.{ByResult, Served}
+use Rattle.sm_engine.specs.Running.{Runs, Wrote, CaughtUp, Stopped, Ended, AnswersAll, StopsEarly, Fronts}
+use Rattle.sm_engine.specs.Running.{ByResult}
 use Rattle.sm_session.specs.declared.response.Response.{Response}
 use Rattle.sm_session.specs.declared.session_state.SessionState.{SessionState}
-use Rattle.sm_session.specs.Sessions.{AnswersItem, Asks, AsksOnce, Attends, Leaves, SaysOnly, SitsThrough, TakesItem}
+use Rattle.sm_session.specs.Sessions.{AnswersItem, AsksOnce, Attends, SaysOnly}
 use Rattle.sm_session.specs.Sessions.{begins, held_limit, is_asked, is_over, said_to}
 
 by_cases : (b : Bool) {P Q R T : Type 0} → (P → R) → (Q → T) → MatchBool b P Q → MatchBool b R T

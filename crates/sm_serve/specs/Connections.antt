@@ -1,17 +1,17 @@
--- What the answers to a connection promise of the histories that its token sees.
-use Rattle.std.specs.Prelude.{◌≡◌, ◌⊎◌, ℕ, Bool, MatchBool, Option, Some, None}
+-- What the answers to a connection, and their audit records, promise of the histories that its token sees.
+use Rattle.std.specs.Prelude.{◌≡◌, ◌⊎◌, MatchBool, List, [], Option, Some, None}
 use Rattle.sm_kinds.specs.declared.identity.Identity.{Identity}
 use Rattle.sm_kinds.specs.declared.number.ClientId.{ClientId}
 use Rattle.sm_history.specs.declared.by.By.{By}
 use Rattle.sm_history.specs.declared.by.By.TheVariants.{Manager, Client, Admin}
 use Rattle.sm_history.specs.declared.event.Event.{Event}
 use Rattle.sm_history.specs.declared.event.Event.TheVariants.{Die, Reload}
-use Rattle.sm_history.specs.declared.outcome.Outcome.{Outcome}
 use Rattle.sm_history.specs.declared.outcome.Outcome.TheVariants.{Connected, Died}
 use Rattle.sm_history.specs.declared.query.Query.{Query}
 use Rattle.sm_history.specs.declared.query.Query.TheVariants.{List as ListNames, Version as AskVersion, Explain}
+use Rattle.sm_history.specs.declared.records.Record.{Record}
 use Rattle.sm_history.specs.declared.refusal.Refusal.{Refusal}
-use Rattle.sm_history.specs.declared.refusal.Refusal.TheVariants.{Failed, Memory, TooManyClients}
+use Rattle.sm_history.specs.declared.refusal.Refusal.TheVariants.{Failed, TooManyClients}
 use Rattle.sm_history.specs.declared.refusal.Failure.TheVariants.{NotYours, NotConnected}
 use Rattle.sm_history.specs.declared.reply.Reply.{Reply}
 use Rattle.sm_history.specs.declared.reply.Reply.TheVariants.{Done, GotNull, GotOwn, Looked, Sealed, Refused}
@@ -22,6 +22,7 @@ use Rattle.sm_history.specs.Promises.{Accepted, Closed, Joined, NotClosed, NotTo
 use Rattle.sm_history.specs.Promises.{Turned}
 use Rattle.sm_history.specs.Tokens.{Knows}
 use Rattle.sm_history.specs.Verdict.{is_die}
+use Rattle.sm_door.specs.Logged.{Logged, ReadLogged}
 use Rattle.sm_wire.specs.declared.request.Request.{Request}
 use Rattle.sm_wire.specs.declared.request.Request.TheVariants.{Change, Look, Denials, Seal}
 use Rattle.sm_wire.specs.declared.request.Request.TheVariants as requests
@@ -73,11 +74,10 @@ Parts old (GotOwn o) new = ⊥
 Parts old (Looked v l a) new = ⊥
 Parts old (Sealed n l) new = ⊥
 
--- This holds of the session of a connection's client; without a client, the answer is `not-connected`.
-abbrev pub OfSession : (Knows → Type 0) → Option Knows → Reply → Option Knows → Type 0
-OfSession Answers None reply new = SaysOnly (Failed NotConnected) None reply new
-OfSession Answers (Some token) reply new = SeatOr token.by
-    (SaysOnly (Failed NotConnected) (Some token) reply new) (Answers token)
+-- The one holds of the session of a connection's client; without a client, the other holds.
+abbrev pub OfSession : (Knows → Type 0) → Type 0 → Option Knows → Type 0
+OfSession Answers without None = without
+OfSession Answers without (Some token) = SeatOr token.by without (Answers token)
 
 -- There is no client.
 abbrev pub HasNoClient : Option Knows → Type 0
@@ -90,33 +90,43 @@ TakesSession old (Some session) new =
     (old ≡ Some session) × ((client : ClientId) × (session.by ≡ Client client)) × (new ≡ None)
 TakesSession old None new = HasNoClient old × (new ≡ old)
 
--- A client leaves.
+-- A client leaves; without a client, the answer is `not-connected`.
 abbrev pub GivesLeave : Option Knows → Reply → Option Knows → Type 0
-GivesLeave old reply new = OfSession (λ session. Parts session reply new) old reply new
+GivesLeave old reply new =
+    OfSession (λ session. Parts session reply new) (SaysOnly (Failed NotConnected) old reply new) old
 
--- A client makes a change.
-abbrev pub GivesChange : Option Knows → Event → Reply → Option Knows → Type 0
-GivesChange old event reply new = OfSession
-    (λ session. (token : Knows) × Submitted session token event reply × (new ≡ Some token)) old reply new
+-- The same refusal, which isn't recorded.
+abbrev pub SaysUnrecorded : Refusal → Option Knows → Reply → List Record → Option Knows → Type 0
+SaysUnrecorded refusal old reply log new = SaysOnly refusal old reply new × (log ≡ [])
 
--- A client makes a query. An `explain` isn't a client's.
-abbrev pub Reads : Knows → Query → Reply → Option Knows → Type 0
-Reads old (ListNames mask) reply new = (token : Knows) × Queried old token (ListNames mask) reply × (new ≡ Some token)
-Reads old AskVersion reply new = (token : Knows) × Queried old token AskVersion reply × (new ≡ Some token)
-Reads old (Explain s t class perm) reply new = SaysOnly (Failed NotYours) (Some old) reply new
+-- A client makes a change, which leaves its records.
+abbrev pub GivesChange : Option Knows → Event → Reply → List Record → Option Knows → Type 0
+GivesChange old event reply log new = OfSession
+    (λ session. (token : Knows) × Submitted session token event reply × Logged session token event reply log
+    × (new ≡ Some token)) (SaysUnrecorded (Failed NotConnected) old reply log new) old
 
-abbrev pub GivesLook : Option Knows → Query → Reply → Option Knows → Type 0
-GivesLook old q reply new = OfSession (λ session. Reads session q reply new) old reply new
+-- A client makes a query. A list of names leaves its records. An `explain` isn't a client's.
+abbrev pub Reads : Knows → Query → Reply → List Record → Option Knows → Type 0
+Reads old (ListNames mask) reply log new = (token : Knows) × ReadLogged old token (ListNames mask) reply log
+    × (new ≡ Some token)
+Reads old AskVersion reply log new = (token : Knows) × Queried old token AskVersion reply × (log ≡ [])
+    × (new ≡ Some token)
+Reads old (Explain s t class perm) reply log new = SaysUnrecorded (Failed NotYours) (Some old) reply log new
 
--- A client's line other than a `hello`.
-abbrev pub GivesLine : Option Knows → Request → Reply → Option Knows → Type 0
-GivesLine old (Change c event) reply new =
-    MatchBool (is_die event) (GivesLeave old reply new) (GivesChange old event reply new)
-GivesLine old (Look c q) reply new = GivesLook old q reply new
-GivesLine old (requests.Hello who) reply new = SaysOnly (Failed NotYours) old reply new
-GivesLine old (requests.Reload expected rules contexts) reply new = SaysOnly (Failed NotYours) old reply new
-GivesLine old Denials reply new = SaysOnly (Failed NotYours) old reply new
-GivesLine old Seal reply new = SaysOnly (Failed NotYours) old reply new
+abbrev pub GivesLook : Option Knows → Query → Reply → List Record → Option Knows → Type 0
+GivesLook old q reply log new = OfSession (λ session. Reads session q reply log new)
+    (SaysUnrecorded (Failed NotConnected) old reply log new) old
+
+-- A client's line other than a `hello`. A death leaves no records.
+abbrev pub GivesLine : Option Knows → Request → Reply → List Record → Option Knows → Type 0
+GivesLine old (Change c event) reply log new =
+    MatchBool (is_die event) (GivesLeave old reply new × (log ≡ [])) (GivesChange old event reply log new)
+GivesLine old (Look c q) reply log new = GivesLook old q reply log new
+GivesLine old (requests.Hello who) reply log new = SaysUnrecorded (Failed NotYours) old reply log new
+GivesLine old (requests.Reload expected rules contexts) reply log new =
+    SaysUnrecorded (Failed NotYours) old reply log new
+GivesLine old Denials reply log new = SaysUnrecorded (Failed NotYours) old reply log new
+GivesLine old Seal reply log new = SaysUnrecorded (Failed NotYours) old reply log new
 
 -- The history goes on from the one token to the other: it has seen all that the earlier one had, and what it sees is
 -- lawful if that was.
@@ -133,18 +143,18 @@ StillHolds (Some old) new = (token : Knows) × GoesOn old token × (new ≡ Some
 abbrev pub GivesEnd : Option Knows → Reply → Option Knows → Type 0
 GivesEnd old reply new = (tried : Option Knows) × StillHolds old tried × GivesLeave tried reply new
 
--- A client's connection gives this reply to a command.
-abbrev pub ClientReplies : Option Knows → Command → Reply → Option Knows → Type 0
-ClientReplies old (Hello who) reply new = GivesHello old who reply new
-ClientReplies old (Line request) reply new = GivesLine old request reply new
-ClientReplies old (Install expected policy) reply new = SaysOnly (Failed NotYours) old reply new
-ClientReplies old End reply new = GivesEnd old reply new
+-- A client's connection gives this reply to a command, with these audit records.
+abbrev pub ClientReplies : Option Knows → Command → Reply → List Record → Option Knows → Type 0
+ClientReplies old (Hello who) reply log new = GivesHello old who reply new × (log ≡ [])
+ClientReplies old (Line request) reply log new = GivesLine old request reply log new
+ClientReplies old (Install expected policy) reply log new = SaysUnrecorded (Failed NotYours) old reply log new
+ClientReplies old End reply log new = GivesEnd old reply new × (log ≡ [])
 
--- A client's connection answers a command so.
-abbrev pub ClientGives : Option Knows → Command → Response → Option Knows → Type 0
-ClientGives old command (Replied reply) new = ClientReplies old command reply new
-ClientGives old command (PolicyRefused fault) new = ⊥
-ClientGives old command (Denied records) new = ⊥
+-- A client's connection answers a command so, with these audit records.
+abbrev pub ClientGives : Option Knows → Command → Response → List Record → Option Knows → Type 0
+ClientGives old command (Replied reply) log new = ClientReplies old command reply log new
+ClientGives old command (PolicyRefused fault) log new = ⊥
+ClientGives old command (Denied records) log new = ⊥
 
 -- ---- administrators
 
@@ -195,8 +205,12 @@ AdminInstalls old event (PolicyRefused fault) new = ⊥
 AdminInstalls old event (Denied records) new = ⊥
 
 -- An administrator's connection answers a command so. An administrator's connection has no client.
-abbrev pub AdminGives : Knows → Command → Response → Knows → Type 0
-AdminGives old (Hello who) response new = (response ≡ Replied (Refused (Failed NotYours))) × (new ≡ old)
-AdminGives old (Line request) response new = AdminGivesLine old request response new
-AdminGives old (Install expected policy) response new = AdminInstalls old (Reload expected policy) response new
-AdminGives old End response new = (response ≡ Replied (Refused (Failed NotYours))) × (new ≡ old)
+abbrev pub AdminAnswers : Knows → Command → Response → Knows → Type 0
+AdminAnswers old (Hello who) response new = (response ≡ Replied (Refused (Failed NotYours))) × (new ≡ old)
+AdminAnswers old (Line request) response new = AdminGivesLine old request response new
+AdminAnswers old (Install expected policy) response new = AdminInstalls old (Reload expected policy) response new
+AdminAnswers old End response new = (response ≡ Replied (Refused (Failed NotYours))) × (new ≡ old)
+
+-- No answer to an administrator has audit records.
+abbrev pub AdminGives : Knows → Command → Response → List Record → Knows → Type 0
+AdminGives old command response log new = AdminAnswers old command response new × (log ≡ [])

@@ -1,7 +1,8 @@
 //! An administrator's connection at the door.
 
 ghost use Rattle.std.specs.Prelude.{◌≡◌};
-ghost use Rattle.sm_serve.specs.Connections.{AdminGives, AdminGivesLine, AdminInstalls, AdminReads, AdminSeals};
+ghost use Rattle.sm_serve.specs.Connections.{AdminAnswers, AdminGives, AdminGivesLine, AdminInstalls, AdminReads};
+ghost use Rattle.sm_serve.specs.Connections.{AdminSeals};
 ghost use Rattle.sm_history.specs.declared.event.Event.TheVariants.{Reload};
 ghost use Rattle.sm_wire.specs.declared.request.Request.TheVariants.{Denials};
 
@@ -16,11 +17,13 @@ use sm_history::{Gate, Outcome, Query, Reply};
 use sm_policy::Prepared;
 use sm_session::Response;
 use sm_wire::Request;
+use std::alloc::Global;
 use std::sync::Wait;
 
 /// An administrator's connection at the door, under the token that all connections of administrators use in turn.
 pub struct Administrator<'a, J: Naming, G: Gate, H, R> {
     rt: &'a R,
+    alloc: Global,
     door: &'a Door<J, G>,
     monitor: &'a Monitor<'a, H>,
 }
@@ -29,6 +32,7 @@ impl<'a, J: Naming, G: Gate, H, R> Drop for Administrator<'a, J, G, H, R> {
     fn drop(self) {
         let Administrator {
             rt: _,
+            alloc: _,
             door: _,
             monitor: _,
         } = self;
@@ -39,14 +43,20 @@ impl<'a, J: Naming, G: Gate + Drop, H: Supervisor, R: Wait> Administrator<'a, J,
     /// Makes a connection that has sent nothing.
     pub fn new(
         rt: &'a R,
+        alloc: Global,
         door: &'a Door<J, G>,
         monitor: &'a Monitor<'a, H>,
     ) -> Administrator<'a, J, G, H, R> {
-        Administrator { rt, door, monitor }
+        Administrator {
+            rt,
+            alloc,
+            door,
+            monitor,
+        }
     }
 
     fn response(&self, admin: &mut Admin<J>, command: Command) -> Response
-        ensures { AdminGives admin.old command result admin.new }
+        ensures { AdminAnswers admin.old command result admin.new }
     {
         match command {
             Command::Hello(_) => Response::Replied(not_yours()),
@@ -93,8 +103,18 @@ impl<'a, J: Naming, G: Gate + Drop, H: Supervisor, R: Wait> Administrator<'a, J,
         }
     }
 
-    // Closes the open segment, and drops it.
+    // Closes the open segment, if memory is short by the reserve.
     fn seal(&self, admin: &mut Admin<J>) -> Reply
+        ensures { AdminSeals admin.old result admin.new }
+    {
+        self.monitor.begin_seal(self.rt);
+        let reply = self.close_segment(admin);
+        self.monitor.end_seal(self.rt);
+        reply
+    }
+
+    // Closes the open segment, and drops it.
+    fn close_segment(&self, admin: &mut Admin<J>) -> Reply
         ensures { AdminSeals admin.old result admin.new }
     {
         match self.door.seal(self.rt, admin) {
@@ -118,12 +138,11 @@ impl<'a, J: Naming, G: Gate + Drop, H: Supervisor, R: Wait> Administrator<'a, J,
     }
 }
 
-// No request of an administrator's has audit records.
 impl<'a, J: Naming, G: Gate + Drop, H: Supervisor, R: Wait> Connection<Admin<J>>
     for Administrator<'a, J, G, H, R> {
     ghost gives = { AdminGives };
 
     fn answer(&self, admin: &mut Admin<J>, command: Command) -> Answered {
-        Answered::plain(self.response(admin, command))
+        Answered::plain(self.alloc, self.response(admin, command))
     }
 }

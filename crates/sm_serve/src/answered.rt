@@ -1,44 +1,40 @@
 //! Answers to a connection.
 
-ghost use Rattle.std.specs.Prelude.{◌≡◌};
+ghost use Rattle.std.specs.Prelude.{◌≡◌, []};
 ghost use Rattle.sm_session.specs.declared.response.Response.TheVariants.{Replied};
 
 use sm_history::{Record, Reply};
 use sm_session::Response;
+use std::alloc::Global;
 
 /// An answer to a connection, and the audit records of the request.
 #[derive(Drop)]
 pub struct Answered {
     pub response: Response,
-    /// The records, oldest first. `None`: the request asks for no rule.
-    pub records: Option<Vec<Record>>,
+    /// The records, oldest first.
+    pub records: Vec<Record>,
 }
 
 impl Answered {
     /// An answer without records.
-    pub fn plain(response: Response) -> Answered
-        ensures { result.response ≡ response }
+    pub fn plain(alloc: Global, response: Response) -> Answered
+        ensures response { result.response ≡ response }
+        ensures records { result.records.items ≡ [] }
     {
         Answered {
             response,
-            records: None,
+            records: Vec::new(alloc),
         }
     }
 
     /// A reply with its records.
     pub fn recorded(reply: Reply, records: Vec<Record>) -> Answered
-        ensures { result.response ≡ Replied reply }
+        ensures response { result.response ≡ Replied reply }
+        ensures records { result.records ≡ records }
     {
         Answered {
             response: Response::Replied(reply),
-            records: Some(records),
+            records,
         }
-    }
-
-    /// A reply without records.
-    pub fn replied(reply: Reply) -> Answered
-        ensures { result.response ≡ Replied reply }
-    {
-        Answered::plain(Response::Replied(reply))
     }
 }

@@ -1,11 +1,12 @@
 //! A client's connection at the door.
 
-ghost use Rattle.std.specs.Prelude.{◌≡◌, false, MatchBool};
+ghost use Rattle.std.specs.Prelude.{◌≡◌, false, MatchBool, []};
 ghost use Rattle.sm_history.specs.declared.query.Query.TheVariants.{List as ListNames, Version as AskVersion};
 ghost use Rattle.sm_history.specs.Promises.{Submitted};
 ghost use Rattle.sm_history.specs.Tokens.{Knows};
 ghost use Rattle.sm_history.specs.Verdict.{is_die};
 ghost use Rattle.sm_session.specs.declared.response.Response.TheVariants.{Replied};
+ghost use Rattle.sm_door.specs.Logged.{Logged};
 ghost use Rattle.sm_serve.specs.Connections.{ClientGives, GivesHello, GivesLine, GivesLook, GivesChange, GivesLeave};
 ghost use Rattle.sm_serve.specs.Connections.{GivesEnd, Greets, Parts, Reads, TakesSession};
 
@@ -17,7 +18,9 @@ use crate::refusals::{not_connected, not_yours};
 use sm_door::{Door, Naming, Seat, SeatOrSession, Session};
 use sm_history::{Event, Gate, Outcome, Query, Refusal, Reply, is_death};
 use sm_kinds::Identity;
+use sm_session::Response;
 use sm_wire::Request;
+use std::alloc::Global;
 use std::sync::Wait;
 
 /// The number of times that a client that is gone tries to leave, before the last. Only a failed allocation refuses it,
@@ -27,6 +30,7 @@ const TRIES: u32 = 15;
 /// A client's connection at the door. It takes a seat for its first `hello`, and gives it back when its client leaves.
 pub struct Client<'a, J: Naming, G: Gate, R> {
     rt: &'a R,
+    alloc: Global,
     door: &'a Door<J, G>,
     seats: &'a FreeSeats<J>,
 }
@@ -35,6 +39,7 @@ impl<'a, J: Naming, G: Gate, R> Drop for Client<'a, J, G, R> {
     fn drop(self) {
         let Client {
             rt: _,
+            alloc: _,
             door: _,
             seats: _,
         } = self;
@@ -43,8 +48,18 @@ impl<'a, J: Naming, G: Gate, R> Drop for Client<'a, J, G, R> {
 
 impl<'a, J: Naming, G: Gate + Drop, R: Wait> Client<'a, J, G, R> {
     /// Makes a connection with these seats.
-    pub fn new(rt: &'a R, door: &'a Door<J, G>, seats: &'a FreeSeats<J>) -> Client<'a, J, G, R> {
-        Client { rt, door, seats }
+    pub fn new(
+        rt: &'a R,
+        alloc: Global,
+        door: &'a Door<J, G>,
+        seats: &'a FreeSeats<J>,
+    ) -> Client<'a, J, G, R> {
+        Client {
+            rt,
+            alloc,
+            door,
+            seats,
+        }
     }
 
     fn hello(&self, held: &mut Option<SeatOrSession<J>>, who: Identity) -> Reply
@@ -89,25 +104,27 @@ impl<'a, J: Naming, G: Gate + Drop, R: Wait> Client<'a, J, G, R> {
     }
 
     fn line(&self, held: &mut Option<SeatOrSession<J>>, request: Request) -> Answered
-        ensures { (reply : _) × (result.response ≡ Replied reply) × GivesLine held.old request reply held.new }
+        ensures { (reply : _) × (result.response ≡ Replied reply)
+            × GivesLine held.old request reply result.records.items held.new }
     {
         match request {
             Request::Change(_, event) => self.change(held, event),
             Request::Look(_, query) => self.look(held, query),
-            _ => Answered::replied(not_yours()),
+            _ => self.replied(not_yours()),
         }
     }
 
     fn change(&self, held: &mut Option<SeatOrSession<J>>, event: Event) -> Answered
         ensures { (reply : _) × (result.response ≡ Replied reply)
-            × MatchBool (is_die event) (GivesLeave held.old reply held.new) (GivesChange held.old event reply held.new) }
+            × MatchBool (is_die event) (GivesLeave held.old reply held.new × (result.records.items ≡ []))
+            (GivesChange held.old event reply result.records.items held.new) }
     {
         if is_death(&event) {
-            return Answered::replied(self.leave(held));
+            return self.replied(self.leave(held));
         }
         match session_of(held) {
             Some(session) => self.submit(held, session, event),
-            None => Answered::replied(not_connected()),
+            None => self.replied(not_connected()),
         }
     }
 
@@ -119,7 +136,8 @@ impl<'a, J: Naming, G: Gate + Drop, R: Wait> Client<'a, J, G, R> {
     ) -> Answered
         requires { is_die event ≡ false }
         ensures { (reply : _) × (result.response ≡ Replied reply)
-            × ((token : Knows) × Submitted session token event reply × (held.new ≡ Some token)) }
+            × ((token : Knows) × Submitted session token event reply
+            × Logged session token event reply result.records.items × (held.new ≡ Some token)) }
     {
         let mut session = session;
         let (reply, records) = self.door.submit_recorded(self.rt, &mut session, event);
@@ -128,11 +146,12 @@ impl<'a, J: Naming, G: Gate + Drop, R: Wait> Client<'a, J, G, R> {
     }
 
     fn look(&self, held: &mut Option<SeatOrSession<J>>, query: Query) -> Answered
-        ensures { (reply : _) × (result.response ≡ Replied reply) × GivesLook held.old query reply held.new }
+        ensures { (reply : _) × (result.response ≡ Replied reply)
+            × GivesLook held.old query reply result.records.items held.new }
     {
         match session_of(held) {
             Some(session) => self.read(held, session, query),
-            None => Answered::replied(not_connected()),
+            None => self.replied(not_connected()),
         }
     }
 
@@ -142,7 +161,8 @@ impl<'a, J: Naming, G: Gate + Drop, R: Wait> Client<'a, J, G, R> {
         session: Session<J>,
         query: Query,
     ) -> Answered
-        ensures { (reply : _) × (result.response ≡ Replied reply) × Reads session query reply held.new }
+        ensures { (reply : _) × (result.response ≡ Replied reply)
+            × Reads session query reply result.records.items held.new }
     {
         match query {
             Query::List(mask) => return self.list(held, session, mask),
@@ -150,11 +170,12 @@ impl<'a, J: Naming, G: Gate + Drop, R: Wait> Client<'a, J, G, R> {
             Query::Explain { .. } => {}
         }
         *held = Some(SeatOrSession::of_session(session));
-        Answered::replied(not_yours())
+        self.replied(not_yours())
     }
 
     fn list(&self, held: &mut Option<SeatOrSession<J>>, session: Session<J>, mask: u32) -> Answered
-        ensures { (reply : _) × (result.response ≡ Replied reply) × Reads session (ListNames mask) reply held.new }
+        ensures { (reply : _) × (result.response ≡ Replied reply)
+            × Reads session (ListNames mask) reply result.records.items held.new }
     {
         let mut session = session;
         let (reply, records) = self.door.list_recorded(&mut session, mask);
@@ -163,12 +184,13 @@ impl<'a, J: Naming, G: Gate + Drop, R: Wait> Client<'a, J, G, R> {
     }
 
     fn version(&self, held: &mut Option<SeatOrSession<J>>, session: Session<J>) -> Answered
-        ensures { (reply : _) × (result.response ≡ Replied reply) × Reads session AskVersion reply held.new }
+        ensures { (reply : _) × (result.response ≡ Replied reply)
+            × Reads session AskVersion reply result.records.items held.new }
     {
         let mut session = session;
         let reply = self.door.version(&mut session);
         *held = Some(SeatOrSession::of_session(session));
-        Answered::replied(reply)
+        self.replied(reply)
     }
 
     fn leave(&self, held: &mut Option<SeatOrSession<J>>) -> Reply
@@ -209,6 +231,14 @@ impl<'a, J: Naming, G: Gate + Drop, R: Wait> Client<'a, J, G, R> {
         }
         self.leave(held)
     }
+
+    // A reply without records.
+    fn replied(&self, reply: Reply) -> Answered
+        ensures response { result.response ≡ Replied reply }
+        ensures records { result.records.items ≡ [] }
+    {
+        Answered::plain(self.alloc, Response::Replied(reply))
+    }
 }
 
 impl<'a, J: Naming, G: Gate + Drop, R: Wait> Connection<Option<SeatOrSession<J>>>
@@ -217,10 +247,10 @@ impl<'a, J: Naming, G: Gate + Drop, R: Wait> Connection<Option<SeatOrSession<J>>
 
     fn answer(&self, held: &mut Option<SeatOrSession<J>>, command: Command) -> Answered {
         match command {
-            Command::Hello(who) => Answered::replied(self.hello(held, who)),
+            Command::Hello(who) => self.replied(self.hello(held, who)),
             Command::Line(request) => self.line(held, request),
-            Command::Install { .. } => Answered::replied(not_yours()),
-            Command::End => Answered::replied(self.end(held)),
+            Command::Install { .. } => self.replied(not_yours()),
+            Command::End => self.replied(self.end(held)),
         }
     }
 }

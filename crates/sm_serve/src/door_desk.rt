@@ -1,11 +1,14 @@
 //! A session's desk at a door.
 
 ghost use Rattle.std.specs.Prelude.{◌≡◌};
-ghost use Rattle.sm_serve.specs.Desks.{DeskAnswers, DeskLeaves};
+ghost use Rattle.sm_serve.specs.Desks.{DeskAnswers, DeskLeaves, Puts, holding};
 
+use crate::answered::Answered;
+use crate::audit_sink::AuditSink;
 use crate::command::Command;
 use crate::connection::Connection;
 use crate::monitor::Monitor;
+use crate::owned::command_bytes;
 use crate::supervisor::Supervisor;
 use sm_history::{Outcome, Reply};
 use sm_kinds::Identity;
@@ -24,17 +27,24 @@ pub enum Occasion {
 }
 
 /// A session's desk at a door: it prepares policies itself, lets the connection answer all else, shows the monitor each
-/// answer, and then calls a function.
+/// answer, gives its audit records to the sink, and then calls a function.
 #[derive(Drop)]
-pub struct DoorDesk<'a, C, S, B, H> {
+pub struct DoorDesk<'a, C, S, B, H, L> {
     alloc: Global,
     connection: &'a C,
     held: S,
     tend: B,
     monitor: &'a Monitor<'a, H>,
+    sink: L,
 }
 
-impl<'a, C: Connection<S>, S, B: FnMut(Occasion), H: Supervisor> DoorDesk<'a, C, S, B, H> {
+impl<'a, C, S, B, H, L> DoorDesk<'a, C, S, B, H, L>
+where
+    C: Connection<S>,
+    B: FnMut(Occasion),
+    H: Supervisor,
+    L: AuditSink,
+{
     /// Makes the desk of a new session of a connection that holds this.
     pub fn new(
         alloc: Global,
@@ -42,9 +52,11 @@ impl<'a, C: Connection<S>, S, B: FnMut(Occasion), H: Supervisor> DoorDesk<'a, C,
         held: S,
         tend: B,
         monitor: &'a Monitor<'a, H>,
-    ) -> DoorDesk<'a, C, S, B, H>
+        sink: L,
+    ) -> DoorDesk<'a, C, S, B, H, L>
         ensures held { result.held ≡ held }
         ensures tend { result.tend ≡ tend }
+        ensures sink { result.sink ≡ sink }
     {
         DoorDesk {
             alloc,
@@ -52,12 +64,14 @@ impl<'a, C: Connection<S>, S, B: FnMut(Occasion), H: Supervisor> DoorDesk<'a, C,
             held,
             tend,
             monitor,
+            sink,
         }
     }
 
-    /// Returns what the connection holds.
-    pub fn into_held(self) -> S
-        ensures { result ≡ self.entry.held }
+    /// Returns what the connection holds, and the sink.
+    pub fn into_parts(self) -> (S, L)
+        ensures held { result.0 ≡ self.entry.held }
+        ensures sink { result.1 ≡ self.entry.sink }
     {
         let DoorDesk {
             alloc: _,
@@ -65,28 +79,35 @@ impl<'a, C: Connection<S>, S, B: FnMut(Occasion), H: Supervisor> DoorDesk<'a, C,
             held,
             tend: _,
             monitor: _,
+            sink,
         } = self;
-        held
+        (held, sink)
     }
 
     fn put(&mut self, command: Command) -> Response
         requires tend { B.IsAlwaysCallable self.old.tend }
-        ensures gives { C.gives self.old.held command result self.new.held }
+        ensures puts { Puts C.gives (holding self.old.held (L.given self.old.sink)) command result
+            (holding self.new.held (L.given self.new.sink)) }
         ensures tend { B.IsAlwaysCallable self.new.tend }
     {
-        let answered = self.connection.answer(&mut self.held, command);
-        let response = self.monitor.see(answered);
+        let asked = command_bytes(&command);
+        let Answered { response, records } = self.connection.answer(&mut self.held, command);
+        self.monitor.see(asked, &response);
+        self.sink.give(&records);
         (self.tend)(occasion_of(&response));
         response
     }
 }
 
-impl<'a, C: Connection<S>, S, B: FnMut(Occasion), H: Supervisor> Desk for DoorDesk<'a, C, S, B, H> {
+impl<'a, C: Connection<S>, S, B: FnMut(Occasion), H: Supervisor, L: AuditSink> Desk
+    for DoorDesk<'a, C, S, B, H, L> {
     ghost can_answer = { λ desk. B.IsAlwaysCallable desk.tend };
 
-    ghost answers = { λ old item response new. DeskAnswers C.gives old.held item response new.held };
+    ghost answers = { λ old item response new. DeskAnswers C.gives (holding old.held (L.given old.sink)) item response
+        (holding new.held (L.given new.sink)) };
 
-    ghost leaves = { λ old new. DeskLeaves C.gives old.held new.held };
+    ghost leaves = { λ old new. DeskLeaves C.gives (holding old.held (L.given old.sink))
+        (holding new.held (L.given new.sink)) };
 
     fn hello(&mut self, who: Identity) -> Response {
         self.put(Command::Hello(who))

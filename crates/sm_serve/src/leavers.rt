@@ -2,6 +2,7 @@
 
 use crate::free_seats::FreeSeats;
 use crate::monitor::Monitor;
+use crate::owned::ENTRY;
 use crate::supervisor::Supervisor;
 use sm_door::{Door, Naming, SeatOrSession, Session};
 use sm_history::Gate;
@@ -64,10 +65,11 @@ impl<J: Naming> Leavers<J> {
             };
             match door.leave(rt, session) {
                 Ok(seat) => {
-                    monitor.count();
+                    monitor.count(ENTRY);
                     seats.give_back(rt, seat);
                 }
                 Err((_, session)) => {
+                    monitor.run_short();
                     self.keep(rt, session);
                     return;
                 }

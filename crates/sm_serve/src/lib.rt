@@ -2,10 +2,12 @@
 #![tactic(auto)]
 
 mod administrator;
+mod admitting;
 mod answered;
 mod arriving;
 mod attending;
 mod audit_log;
+mod audit_sink;
 mod audit_writer;
 mod client;
 mod command;
@@ -17,19 +19,25 @@ mod free_seats;
 mod gauge;
 pub mod laws;
 mod leavers;
+mod live;
 mod monitor;
+mod owned;
+mod pace;
 mod patience;
 mod queue;
 mod refusals;
+mod reserve;
 mod sealing;
 mod serving;
 mod shared_admin;
 mod supervisor;
 mod uninterrupted;
+mod visitor;
 mod whole_lines;
 
 pub use attending::{serve_administrator, serve_client};
 pub use audit_log::{AuditLines, AuditLog};
+pub use audit_sink::{AuditSink, SupervisorSink};
 pub use audit_writer::write_log;
 pub use door_desk::Occasion;
 pub use entrance::Entrance;
@@ -37,5 +45,6 @@ pub use free_seats::FreeSeats;
 pub use gauge::Gauge;
 pub use monitor::Monitor;
 pub use patience::Patience;
+pub use sealing::SealAt;
 pub use serving::{Numbers, serve};
 pub use supervisor::{ServerEvent, Supervisor};

@@ -1,14 +1,14 @@
-//! Tells the supervisor how full the journal is, and what was denied.
+//! Tells the supervisor how full the journal is.
 
-ghost use Rattle.std.specs.Prelude.{◌≡◌};
-
-use crate::answered::Answered;
+use crate::audit_sink::SupervisorSink;
 use crate::gauge::Gauge;
+use crate::owned::outcome_bytes;
 use crate::supervisor::{ServerEvent, Supervisor};
 use sm_history::{Refusal, Reply};
 use sm_session::Response;
+use std::sync::Wait;
 
-/// Counts the changes that are answered, and tells the supervisor when the journal fills up and what was denied.
+/// Counts the changes that are answered, and tells the supervisor when the journal fills up.
 pub struct Monitor<'a, H> {
     host: &'a H,
     gauge: &'a Gauge,
@@ -26,27 +26,26 @@ impl<'a, H: Supervisor> Monitor<'a, H> {
         Monitor { host, gauge }
     }
 
-    /// Sees what was answered, and passes the response on.
-    pub fn see(&self, answered: Answered) -> Response
-        ensures { result ≡ answered.response }
-    {
-        let Answered { response, records } = answered;
-        match &response {
-            Response::Replied(Reply::Done(_)) => self.count(),
-            Response::Replied(Reply::Refused(Refusal::JournalFull)) => self.refuse(),
-            _ => {}
-        }
-        if let Some(records) = records
-            && !records.is_empty()
-        {
-            self.host.audit(&records);
-        }
-        response
+    /// Returns a sink for the audit records of a connection, which are passed to the supervisor.
+    pub fn sink(&self) -> SupervisorSink<'a, H> {
+        SupervisorSink::new(self.host)
     }
 
-    /// Counts a change.
-    pub fn count(&self) {
-        if self.gauge.fills_up() {
+    /// Sees what was answered to a command whose entry has this many bytes without its outcome (`command_bytes`).
+    pub fn see(&self, asked: u64, response: &Response) {
+        match response {
+            Response::Replied(Reply::Done(outcome)) => {
+                self.count(asked.saturating_add(outcome_bytes(outcome)));
+            }
+            Response::Replied(Reply::Refused(Refusal::JournalFull)) => self.refuse(),
+            Response::Replied(Reply::Refused(Refusal::Memory)) => self.run_short(),
+            _ => {}
+        }
+    }
+
+    /// Counts a change whose entry has this many bytes.
+    pub fn count(&self, bytes: u64) {
+        if self.gauge.fills_up(bytes) {
             self.host.tell(ServerEvent::AlmostFull {
                 used: self.gauge.used(),
                 slots: self.gauge.slots(),
@@ -60,9 +59,33 @@ impl<'a, H: Supervisor> Monitor<'a, H> {
         }
     }
 
-    /// Returns whether the server is to seal the open segment.
+    /// Notes that an allocation failed.
+    pub fn run_short(&self) {
+        if self.gauge.runs_short() {
+            self.host.tell(ServerEvent::MemoryShort);
+        }
+    }
+
+    /// Returns whether the server is to seal the open segment by itself.
     pub fn is_due(&self) -> bool {
         self.gauge.is_due()
+    }
+
+    /// Prepares a seal, which `end_seal` ends.
+    pub fn begin_seal<R: Wait>(&self, rt: &R) {
+        self.gauge.begin_seal(rt);
+    }
+
+    /// Notes that no memory was left for a seal.
+    pub fn fail_to_seal(&self) {
+        if self.gauge.fails_to_seal() {
+            self.host.tell(ServerEvent::MemoryShort);
+        }
+    }
+
+    /// Ends a seal, whether it was made or not.
+    pub fn end_seal<R: Wait>(&self, rt: &R) {
+        self.gauge.end_seal(rt);
     }
 
     /// Notes that a segment was sealed, which ends with the entry of this number.

@@ -4,11 +4,27 @@ use crate::monitor::Monitor;
 use crate::shared_admin::SharedAdmin;
 use crate::supervisor::Supervisor;
 use sm_door::{Door, Naming};
-use sm_history::Gate;
+use sm_history::{Gate, Refusal};
 use std::sync::Wait;
 
-/// Seals the open segment if it has the required number of entries, and drops it. If an allocation fails, the next
-/// change tries again.
+/// When a server seals its journal by itself. If it does at all, it also does when a change was refused because the
+/// journal is full or an allocation failed.
+#[derive(Clone, Copy, PartialEq, Eq)]
+pub struct SealAt {
+    /// When the open segment has this many entries.
+    pub entries: Option<u32>,
+    /// When its entries have this many bytes, by an upper bound.
+    pub bytes: Option<u64>,
+}
+
+impl SealAt {
+    /// Returns whether only administrators seal.
+    pub fn is_never(&self) -> bool {
+        self.entries.is_none() && self.bytes.is_none()
+    }
+}
+
+/// Seals the open segment if that is due, and drops it. If an allocation fails, a later answer tries again.
 pub fn seal_if_due<J: Naming, G: Gate + Drop, H: Supervisor, R: Wait>(
     rt: &R,
     door: &Door<J, G>,
@@ -23,8 +39,12 @@ pub fn seal_if_due<J: Naming, G: Gate + Drop, H: Supervisor, R: Wait>(
     if !monitor.is_due() {
         return;
     }
+    monitor.begin_seal(rt);
     let token = &mut *guard;
-    if let Ok(segment) = door.seal(rt, token) {
-        monitor.sealed(segment.length());
+    match door.seal(rt, token) {
+        Ok(segment) => monitor.sealed(segment.length()),
+        Err(Refusal::Memory) => monitor.fail_to_seal(),
+        Err(_other) => {}
     }
+    monitor.end_seal(rt);
 }

@@ -2,6 +2,7 @@
 
 ghost use denote.Param.Send.{IsSend, IsSync};
 
+use crate::admitting::admit;
 use crate::arriving::arrival;
 use crate::attending::{attend_administrator, attend_client};
 use crate::entrance::Entrance;
@@ -12,8 +13,10 @@ use crate::leavers::Leavers;
 use crate::monitor::Monitor;
 use crate::patience::Patience;
 use crate::queue::{Arrivals, Queue, next, queue_of};
+use crate::sealing::SealAt;
 use crate::shared_admin::SharedAdmin;
-use crate::supervisor::{ServerEvent, Supervisor};
+use crate::supervisor::Supervisor;
+use crate::visitor::Lobby;
 use sm_core::View;
 use sm_door::{
     Actor, Admin, Door, HistoryId, LockedManager, Naming, Published, Registry, Seat, Session,
@@ -22,6 +25,7 @@ use sm_door::{
 use sm_engine::ServeFault;
 use sm_history::Gate;
 use std::alloc::Global;
+use std::os::unix::net::UnixStream;
 use std::rt::Clock;
 use std::sync::{Arc, Wait};
 use std::thread;
@@ -39,15 +43,14 @@ pub struct Numbers {
     pub patience: Patience,
     /// The slots of the journal.
     pub slots: u32,
-    /// The number of entries at which the server seals the open segment. `None`: only administrators seal.
-    pub seal_at: Option<u32>,
+    pub seal_at: SealAt,
 }
 
 /// Accepts the connections of each kind, and returns when their sessions have ended. Clients' connections are served by
 /// `workers` threads, one connection at a time each; administrators' by one more thread, one after another, all under
 /// `admin`. Seals that are due are made under `sealer`. The supervisor is notified when all threads run. Returns an
 /// error if a listener failed for good, a thread couldn't be started or an allocation failed; then the entrances are
-/// closed, and the connections that have begun are served to their ends.
+/// closed, and the connections that have begun are shut down if they haven't ended in time.
 pub fn serve<
     J: Naming + Send + Sync,
     G: Gate + Drop + Send + Sync,
@@ -67,15 +70,17 @@ pub fn serve<
     sealer: Admin<J>,
     numbers: Numbers,
 ) -> Result<(), ServeFault> {
-    let Ok((to, queue)) = queue_of(alloc, numbers.workers) else {
+    let Ok((to, queue)) = queue_of(alloc) else {
         return Err(ServeFault::Memory);
     };
     let Ok(leavers) = Leavers::new(alloc) else {
         return Err(ServeFault::Memory);
     };
-    let faults = Faults::new();
+    let faults = Faults::new(alloc);
     let sealer = SharedAdmin::new(sealer);
-    let gauge = Gauge::new(numbers.slots, numbers.seal_at);
+    let Ok(gauge) = Gauge::new(alloc, numbers.slots, numbers.seal_at) else {
+        return Err(ServeFault::Memory);
+    };
     run_threads(
         rt, alloc, host, clients, admins, door, seats, admin, numbers, to, &queue, &leavers,
         &sealer, &gauge, &faults,
@@ -135,15 +140,17 @@ fn run_threads<
         shares::<Faults>();
         shares::<Gauge>();
         for _ in 0..numbers.workers {
+            faults.live().begin_thread();
             let started = scope.spawn(move || {
                 work(
-                    rt, alloc, host, gauge, door, seats, leavers, sealer, patience, queue,
+                    rt, alloc, host, gauge, door, seats, leavers, sealer, patience, queue, faults,
                 );
             });
             if started.is_err() {
-                faults.note(rt, host, ServeFault::NoThread);
+                faults.miss_thread(rt, host);
             }
         }
+        faults.live().begin_thread();
         let started = scope.spawn(move || {
             administer(
                 rt,
@@ -160,14 +167,15 @@ fn run_threads<
             );
         });
         if started.is_err() {
-            faults.note(rt, host, ServeFault::NoThread);
+            faults.miss_thread(rt, host);
         }
         admit(rt, clients, to, host, faults, numbers.clients);
+        faults.end_connections(rt, patience.end);
     });
 }
 
 /// Serves connections from the queue, until no more come.
-fn work<J: Naming, G: Gate + Drop, H: Supervisor, R: Wait>(
+fn work<J: Naming, G: Gate + Drop, H: Supervisor, R: Wait + Clock>(
     rt: &R,
     alloc: Global,
     host: &H,
@@ -178,16 +186,23 @@ fn work<J: Naming, G: Gate + Drop, H: Supervisor, R: Wait>(
     sealer: &SharedAdmin<J>,
     patience: Patience,
     queue: &Queue,
+    faults: &Faults,
 ) {
     let monitor = Monitor::new(host, gauge);
     for _ in rt.forever() {
-        match next(rt, queue) {
-            Some(stream) => attend_client(
-                rt, alloc, door, seats, leavers, sealer, &monitor, patience, stream,
-            ),
-            None => return,
-        }
+        let Some(stream) = next(rt, queue) else {
+            break;
+        };
+        let Ok((number, stream)) = faults.live().enter(rt, stream) else {
+            monitor.run_short();
+            continue;
+        };
+        attend_client(
+            rt, alloc, door, seats, leavers, sealer, &monitor, patience, &stream,
+        );
+        faults.live().leave(rt, number);
     }
+    faults.live().end_thread();
 }
 
 /// Serves administrators' connections, one after another.
@@ -199,46 +214,41 @@ fn administer<J: Naming, G: Gate + Drop, A: Entrance + Drop, H: Supervisor, R: W
     door: &Door<J, G>,
     admin: Admin<J>,
     sealer: &SharedAdmin<J>,
-    mut entrance: A,
+    entrance: A,
     faults: &Faults,
     number: u64,
     seconds: u64,
 ) {
     let monitor = Monitor::new(host, gauge);
     let mut token = admin;
+    let mut lobby = Lobby::new(entrance);
     for _ in 0..number {
-        match arrival(rt, &mut entrance, host, faults) {
-            Some(stream) => {
-                token = attend_administrator(
-                    rt, alloc, door, token, sealer, &monitor, seconds, stream,
-                );
-            }
-            None => return,
-        }
+        let Some(stream) = next_administrator(rt, &mut lobby, host, faults) else {
+            break;
+        };
+        let Ok((place, stream)) = faults.live().enter(rt, stream) else {
+            monitor.run_short();
+            continue;
+        };
+        token = attend_administrator(
+            rt, alloc, door, token, sealer, &monitor, seconds, &stream, &mut lobby,
+        );
+        faults.live().leave(rt, place);
     }
+    faults.live().end_thread();
 }
 
-/// Reports that the server listens, and passes this number of clients' connections to the workers.
-fn admit<C: Entrance, H: Supervisor, R: Wait + Clock>(
+/// Returns the administrator's connection that waits, or waits for one.
+fn next_administrator<A: Entrance, H: Supervisor, R: Wait + Clock>(
     rt: &R,
-    entrance: &mut C,
-    to: Arrivals,
+    lobby: &mut Lobby<A>,
     host: &H,
     faults: &Faults,
-    number: u64,
-) {
-    if !faults.is_noted(rt) {
-        host.tell(ServerEvent::Listening);
+) -> Option<UnixStream> {
+    if let Some(stream) = lobby.take() {
+        return Some(stream);
     }
-    for _ in 0..number {
-        let Some(stream) = arrival(rt, entrance, host, faults) else {
-            return;
-        };
-        if to.send(rt, stream).is_err() {
-            faults.note(rt, host, ServeFault::Memory);
-            return;
-        }
-    }
+    arrival(rt, lobby.entrance(), host, faults)
 }
 
 fn shares<X: Sync>()

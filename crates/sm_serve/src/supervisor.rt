@@ -11,12 +11,16 @@ pub enum ServerEvent {
     /// Files or memory were short when a connection was to be accepted. It is tried again, and reported once until
     /// then.
     AcceptDelayed(io::Error),
-    /// A listener failed. No more connections are accepted, and those that have begun are served to their ends.
+    /// A listener failed. No more connections are accepted, and those that have begun are served for some seconds more.
     AcceptFailed(io::Error),
+    /// A client's connection has waited for a worker for a second. Reported once until one needn't wait.
+    ClientWaits,
     /// Nine tenths of the journal's slots are used. Reported once until a seal.
     AlmostFull { used: u64, slots: u64 },
     /// A change was refused, because the journal has no slot left. Reported once until a seal.
     Full,
+    /// A request was refused or a connection has ended, because an allocation failed. Reported once until a seal.
+    MemoryShort,
 }
 
 /// The program that runs a server.

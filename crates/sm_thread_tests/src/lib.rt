@@ -2,6 +2,8 @@
 #![tactic(auto)]
 
 #[cfg(test)]
+mod connection;
+#[cfg(test)]
 mod door;
 #[cfg(test)]
 mod exchanges;

@@ -6,7 +6,7 @@ use crate::server::{
 use crate::steps::Step::{self, Close, Flood, Over, Repeat, Say};
 use crate::steps::connected;
 use sm_history::NoGate;
-use sm_serve::{Numbers, Patience};
+use sm_serve::{Numbers, Patience, SealAt};
 use std::test::Fail;
 
 /// One client, from its `hello` to its `bye`.
@@ -44,6 +44,44 @@ fn a_connection_that_has_begun_is_served_to_its_end(rt: HostRuntime) -> Result<(
     Ok(())
 }
 
+/// A client that says nothing after its `hello`.
+const A_CLIENT_THAT_IS_CUT_OFF: &[Step] = &[Say(0, HELLO, b"client 1\n"), Over(0)];
+
+#[test]
+fn a_connection_that_goes_on_is_cut_off(rt: HostRuntime) -> Result<(), Fail> {
+    let (mut visits, exchange) = connected(
+        &rt,
+        rt.alloc(),
+        numbers(1, 1, 0),
+        A_CLIENT_THAT_IS_CUT_OFF,
+    )?;
+    visits.numbers.clients = 2;
+    visits.numbers.patience.end = 1;
+    let left = at_a_door(&rt, rt.alloc(), 1000, NoGate, visits, exchange);
+    assert!(rt; left == ENDED_BY_ITS_LISTENER);
+    Ok(())
+}
+
+/// Two clients, and a worker for one.
+const A_CLIENT_THAT_WAITS: &[Step] = &[
+    Say(0, HELLO, b"client 1\n"),
+    Say(1, HELLO, b""),
+    Over(2),
+    Say(0, b"bye\n", b"bye\n"),
+    Say(1, b"bye\n", b"client 2\nbye\n"),
+];
+
+#[test]
+fn a_client_that_waits_is_told_once(rt: HostRuntime) {
+    let mut numbers = numbers(1, 2, 1);
+    numbers.patience.admin = 3;
+    let heard = Heard {
+        waits: 1,
+        ..LISTENING
+    };
+    holds(&rt, rt.alloc(), 1000, numbers, A_CLIENT_THAT_WAITS, heard);
+}
+
 /// A client and an administrator that say nothing, and a client that takes no reply.
 const IDLE_CONNECTIONS: &[Step] = &[
     Say(1, HELLO, b"client 1\n"),
@@ -59,6 +97,7 @@ fn connections_that_take_too_long_have_ended(rt: HostRuntime) {
             hello: 1,
             reply: 1,
             admin: 1,
+            end: 60,
         },
         ..numbers(2, 2, 1)
     };
@@ -119,9 +158,34 @@ const A_JOURNAL_THAT_IS_SEALED: &[Step] = &[
 #[test]
 fn a_server_seals_by_itself(rt: HostRuntime) {
     let numbers = Numbers {
-        seal_at: Some(8),
+        seal_at: SealAt {
+            entries: Some(8),
+            bytes: None,
+        },
         ..numbers(1, 1, 1)
     };
     let steps = A_JOURNAL_THAT_IS_SEALED;
     holds(&rt, rt.alloc(), 12, numbers, steps, LISTENING);
+}
+
+/// A client whose `hello` counts for 276 bytes and whose watches for 200 each, and an administrator.
+const A_JOURNAL_THAT_IS_SEALED_BY_ITS_BYTES: &[Step] = &[
+    Say(0, HELLO, b"client 1\n"),
+    Repeat(35, 0, b"watch activity o1\n", b"ok\n"),
+    Say(1, b"seal\n", b"sealed 4 37\n"),
+    Close(0),
+    Close(1),
+];
+
+#[test]
+fn a_server_seals_by_bytes(rt: HostRuntime) {
+    let numbers = Numbers {
+        seal_at: SealAt {
+            entries: None,
+            bytes: Some(2_000),
+        },
+        ..numbers(1, 1, 1)
+    };
+    let steps = A_JOURNAL_THAT_IS_SEALED_BY_ITS_BYTES;
+    holds(&rt, rt.alloc(), 100, numbers, steps, LISTENING);
 }

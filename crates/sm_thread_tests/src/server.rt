@@ -11,7 +11,7 @@ use sm_history::{Gate, NoGate, Record};
 use sm_kinds::{Context, Identity, Places};
 use sm_policy::Prepared;
 use sm_samples::{DEVICE_LABELS, DEVICE_RULES, STRICTER_RULES};
-use sm_serve::{Entrance, FreeSeats, Numbers, Patience, ServerEvent, Supervisor, serve};
+use sm_serve::{Entrance, FreeSeats, Numbers, Patience, SealAt, ServerEvent, Supervisor, serve};
 use std::alloc::Global;
 use std::io::ErrorKind;
 use std::marker::Brand;
@@ -48,6 +48,10 @@ impl Entrance for Waiting {
         }
         self.streams.pop().ok_or(io::Error::from(ErrorKind::Other))
     }
+
+    fn try_accept(&mut self) -> Option<UnixStream> {
+        self.streams.pop()
+    }
 }
 
 /// What a supervisor heard, and how often its entrances were closed.
@@ -56,8 +60,10 @@ pub struct Heard {
     pub listening: u64,
     pub delayed: u64,
     pub failed: u64,
+    pub waits: u64,
     pub almost_full: u64,
     pub full: u64,
+    pub short: u64,
     /// The audit records of clients' requests.
     pub records: u64,
     pub closed: u64,
@@ -68,32 +74,39 @@ pub const LISTENING: Heard = Heard {
     listening: 1,
     delayed: 0,
     failed: 0,
+    waits: 0,
     almost_full: 0,
     full: 0,
+    short: 0,
     records: 0,
     closed: 0,
 };
 
 /// Counts the notices of a server.
 #[derive(Drop)]
-struct Ear {
+pub struct Ear {
     listening: AtomicU64,
     delayed: AtomicU64,
     failed: AtomicU64,
+    waits: AtomicU64,
     almost_full: AtomicU64,
     full: AtomicU64,
+    short: AtomicU64,
     records: AtomicU64,
     closed: AtomicU64,
 }
 
 impl Ear {
-    fn new() -> Ear {
+    /// Makes one that has heard nothing.
+    pub fn new() -> Ear {
         Ear {
             listening: AtomicU64::new(0),
             delayed: AtomicU64::new(0),
             failed: AtomicU64::new(0),
+            waits: AtomicU64::new(0),
             almost_full: AtomicU64::new(0),
             full: AtomicU64::new(0),
+            short: AtomicU64::new(0),
             records: AtomicU64::new(0),
             closed: AtomicU64::new(0),
         }
@@ -104,8 +117,10 @@ impl Ear {
             listening: self.listening.load(Ordering::SeqCst),
             delayed: self.delayed.load(Ordering::SeqCst),
             failed: self.failed.load(Ordering::SeqCst),
+            waits: self.waits.load(Ordering::SeqCst),
             almost_full: self.almost_full.load(Ordering::SeqCst),
             full: self.full.load(Ordering::SeqCst),
+            short: self.short.load(Ordering::SeqCst),
             records: self.records.load(Ordering::SeqCst),
             closed: self.closed.load(Ordering::SeqCst),
         }
@@ -118,8 +133,10 @@ impl Supervisor for Ear {
             ServerEvent::Listening => &self.listening,
             ServerEvent::AcceptDelayed(_) => &self.delayed,
             ServerEvent::AcceptFailed(_) => &self.failed,
+            ServerEvent::ClientWaits => &self.waits,
             ServerEvent::AlmostFull { .. } => &self.almost_full,
             ServerEvent::Full => &self.full,
+            ServerEvent::MemoryShort => &self.short,
         };
         count.fetch_add(1, Ordering::SeqCst);
     }
@@ -164,6 +181,7 @@ const PATIENCE: Patience = Patience {
     hello: 60,
     reply: 60,
     admin: 60,
+    end: 60,
 };
 
 /// These numbers of workers, of clients' connections and of administrators' connections.
@@ -174,7 +192,10 @@ pub fn numbers(workers: u32, clients: u64, admins: u64) -> Numbers {
         admins,
         patience: PATIENCE,
         slots: 0,
-        seal_at: None,
+        seal_at: SealAt {
+            entries: None,
+            bytes: None,
+        },
     }
 }
 
@@ -313,13 +334,15 @@ fn serves<
     }
 }
 
-fn policy(rt: &impl Abort, alloc: Global) -> Prepared {
+/// The policy of a device.
+pub fn policy(rt: &impl Abort, alloc: Global) -> Prepared {
     Prepared::from_texts(alloc, DEVICE_RULES, DEVICE_LABELS)
         .ok()
         .expect(rt, "a policy")
 }
 
-fn manager(rt: &impl Abort, alloc: Global) -> Identity {
+/// The manager's identity.
+pub fn manager(rt: &impl Abort, alloc: Global) -> Identity {
     let context = Context::read(alloc, b"u:r:servicemanager:s0");
     Identity {
         pid: 1,

@@ -11,6 +11,31 @@ use std::os::unix::net::{UnixListener, UnixStream};
 use std::rt::Clock;
 use std::sync::Wait;
 
+/// A line on standard error.
+#[derive(Drop)]
+enum Line {
+    /// It needs no memory.
+    Fixed(&'static [u8]),
+    Made(String),
+}
+
+impl Line {
+    fn bytes(&self) -> &[u8] {
+        match self {
+            Line::Fixed(bytes) => *bytes,
+            Line::Made(text) => text.as_bytes(),
+        }
+    }
+}
+
+const CLIENT_WAITS: &[u8] = b"warning: a client has waited for a worker for a second\n";
+
+const FULL: &[u8] = b"warning: the journal is full: changes are refused until it is sealed\n";
+
+const MEMORY_SHORT: &[u8] = b"warning: memory is short: an allocation failed\n";
+
+const NO_LINE: &[u8] = b"warning: no memory for a line\n";
+
 /// What operators see of a server, on standard error, and the means to close its sockets.
 pub struct Console<'a, R> {
     host: &'a HostRuntime,
@@ -67,27 +92,26 @@ impl<'a, R: Wait> Console<'a, R> {
         }
     }
 
-    fn line_of(&self, notice: ServerEvent) -> Result<String, AllocError> {
+    fn line_of(&self, notice: ServerEvent) -> Result<Line, AllocError> {
         let alloc = self.host.alloc();
-        match notice {
-            ServerEvent::Listening => self.listening.clone(),
+        let line = match notice {
+            ServerEvent::Listening => self.listening.clone()?,
             ServerEvent::AcceptDelayed(error) => {
-                format!(in alloc; "warning: a connection waits to be accepted: {error}\n")
+                format!(in alloc; "warning: a connection waits to be accepted: {error}\n")?
             }
             ServerEvent::AcceptFailed(error) => {
-                format!(in alloc; "warning: no more connections are accepted: {error}\n")
+                format!(in alloc; "warning: no more connections are accepted: {error}\n")?
             }
             ServerEvent::AlmostFull { used, slots } => {
                 format!(in alloc;
                     "warning: the journal is almost full: {used} of {slots} slots are used\n"
-                )
+                )?
             }
-            ServerEvent::Full => {
-                format!(in alloc;
-                    "warning: the journal is full: changes are refused until it is sealed\n"
-                )
-            }
-        }
+            ServerEvent::ClientWaits => return Ok(Line::Fixed(CLIENT_WAITS)),
+            ServerEvent::Full => return Ok(Line::Fixed(FULL)),
+            ServerEvent::MemoryShort => return Ok(Line::Fixed(MEMORY_SHORT)),
+        };
+        Ok(Line::Made(line))
     }
 }
 
@@ -105,11 +129,8 @@ impl<'a, R: Wait> Supervisor for Console<'a, R> {
     // A line that can't be written is lost.
     fn tell(&self, notice: ServerEvent) {
         let _ = match self.line_of(notice) {
-            Ok(line) => self.host.stderr().write_all(line.as_bytes()),
-            Err(_) => self
-                .host
-                .stderr()
-                .write_all(b"warning: no memory for a line\n"),
+            Ok(line) => self.host.stderr().write_all(line.bytes()),
+            Err(_) => self.host.stderr().write_all(NO_LINE),
         };
     }
 

@@ -13,7 +13,7 @@ use sm_history::NoGate;
 use sm_kinds::{Identity, Places};
 use sm_policy::Prepared;
 use sm_script::ScriptFault;
-use sm_serve::{AuditLines, AuditLog, FreeSeats, Numbers, Patience, serve};
+use sm_serve::{AuditLines, AuditLog, FreeSeats, Numbers, Patience, SealAt, serve};
 use std::alloc::{AllocError, Global};
 use std::marker::Brand;
 use std::os::unix::net::UnixListener;
@@ -87,6 +87,7 @@ const PATIENCE: Patience = Patience {
     hello: 10,
     reply: 10,
     admin: 60,
+    end: 10,
 };
 
 /// Opens the clients' socket, then the administrators', and serves. Where it returns, the sockets and the locks that it
@@ -167,7 +168,10 @@ fn serve_at<'a, J: Naming + Send + Sync, R: Threads + Wait + Clock + Sync>(
         admins: u64::MAX,
         patience: PATIENCE,
         slots,
-        seal_at: sockets.seal_at,
+        seal_at: SealAt {
+            entries: sockets.seal_at,
+            bytes: sockets.seal_bytes,
+        },
     };
     let Some(lines) = lines else {
         return serve_under(

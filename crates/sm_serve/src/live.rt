@@ -1,0 +1,150 @@
+//! The connections that a server serves.
+
+use std::alloc::{AllocError, Global};
+use std::net::Shutdown;
+use std::os::unix::net::UnixStream;
+use std::rt::Clock;
+use std::sync::atomic::{AtomicU64, Ordering};
+use std::sync::{Arc, Mutex, Wait};
+use std::thread;
+use std::time::Duration;
+
+/// The connections that a server's threads serve, so that another thread can shut them down.
+pub struct Live {
+    alloc: Global,
+    open: Mutex<Open>,
+    // The threads that serve connections, or are about to.
+    threads: AtomicU64,
+}
+
+impl Drop for Live {
+    fn drop(self) {
+        let Live {
+            alloc: _,
+            open: _,
+            threads: _,
+        } = self;
+    }
+}
+
+/// The connections that are open.
+struct Open {
+    is_over: bool,
+    // The number of the next one.
+    next: u64,
+    connections: Vec<Connected>,
+}
+
+impl Drop for Open {
+    fn drop(self) {
+        let Open {
+            is_over: _,
+            next: _,
+            connections: _,
+        } = self;
+    }
+}
+
+/// A connection under a number of its own.
+struct Connected {
+    number: u64,
+    stream: Arc<UnixStream>,
+}
+
+impl Drop for Connected {
+    fn drop(self) {
+        let Connected {
+            number: _,
+            stream: _,
+        } = self;
+    }
+}
+
+/// Milliseconds between two looks at the number of threads.
+const PAUSE: u64 = 100;
+
+/// Looks in a second.
+const LOOKS: u64 = 10;
+
+impl Live {
+    /// Makes an empty list.
+    pub fn new(alloc: Global) -> Live {
+        Live {
+            alloc,
+            open: Mutex::new(Open {
+                is_over: false,
+                next: 0,
+                connections: Vec::new(alloc),
+            }),
+            threads: AtomicU64::new(0),
+        }
+    }
+
+    /// Counts a thread that is about to be started.
+    pub fn begin_thread(&self) {
+        self.threads.fetch_add(1, Ordering::SeqCst);
+    }
+
+    /// Counts a thread that has ended, or wasn't started.
+    pub fn end_thread(&self) {
+        self.threads.fetch_sub(1, Ordering::SeqCst);
+    }
+
+    /// Keeps a connection that begins, and returns it with its number. If all connections are to be shut down, so is
+    /// this one.
+    ///
+    /// # Errors
+    ///
+    /// `AllocError` if an allocation failed. The connection is closed then.
+    pub fn enter<R: Wait>(
+        &self,
+        rt: &R,
+        stream: UnixStream,
+    ) -> Result<(u64, Arc<UnixStream>), AllocError> {
+        let stream = Arc::new(self.alloc, stream)?;
+        let shared = Arc::try_clone(&stream)?;
+        let mut open = self.open.lock(rt);
+        let number = open.next;
+        if open.is_over {
+            shut_down(&stream);
+        }
+        open.connections.push(Connected {
+            number,
+            stream: shared,
+        })?;
+        open.next = number.wrapping_add(1);
+        Ok((number, stream))
+    }
+
+    /// Forgets the connection of this number, which has ended.
+    pub fn leave<R: Wait>(&self, rt: &R, number: u64) {
+        let mut open = self.open.lock(rt);
+        open.connections
+            .retain(|connection| connection.number != number);
+    }
+
+    /// Waits until all threads have ended, for this number of seconds at most. Then the connections that are open, and
+    /// those that begin later, are shut down.
+    pub fn cut_off<R: Wait + Clock>(&self, rt: &R, seconds: u64) {
+        for _ in 0..seconds.saturating_mul(LOOKS) {
+            if self.threads.load(Ordering::SeqCst) == 0 {
+                return;
+            }
+            thread::sleep(rt, Duration::from_millis(PAUSE));
+        }
+        self.shut_down(rt);
+    }
+
+    fn shut_down<R: Wait>(&self, rt: &R) {
+        let mut open = self.open.lock(rt);
+        open.is_over = true;
+        for connection in open.connections.iter() {
+            shut_down(&connection.stream);
+        }
+    }
+}
+
+// A connection that has ended meanwhile is as it should be.
+fn shut_down(stream: &UnixStream) {
+    let _ = stream.shutdown(Shutdown::Both);
+}
