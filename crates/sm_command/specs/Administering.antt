@@ -1,6 +1,7 @@
 -- The lines of an administrator's requests to a server, and of its answers.
-use Rattle.std.specs.Prelude.{ℕ, List, [], ◌∷◌, ◌++◌, Bool, ◌&&◌, ◌||◌, not, ◌==◌, ◌-◌, codes, length}
-use Rattle.std.specs.List.{count_by, ends_with, list_any, starts_with}
+use Rattle.std.specs.Prelude.{ℕ, List, [], ◌∷◌, ◌++◌, Bool, ◌&&◌, ◌||◌, not, ◌==◌, ◌-◌, codes, length, take, drop}
+use Rattle.std.specs.Prelude.{if◌then◌else◌, Option, None, option_map}
+use Rattle.std.specs.List.{count_by, ends_with, list_any, position, starts_with}
 use Rattle.sm_kinds.specs.Messages.{numbered}
 
 -- This is `explain SOURCE TARGET CLASS PERM`.
@@ -17,6 +18,14 @@ reload_request version rules contexts =
 -- An answer begins with these bytes.
 abbrev pub begins : List ℕ → List ℕ → Bool
 begins answer front = starts_with ◌==◌ answer front
+
+-- These are the bytes before the first space, if there is one.
+abbrev pub first_word : List ℕ → Option (List ℕ)
+first_word rest = option_map (λ n. take n rest) (position (λ byte. byte == 32) rest)
+
+-- This is VERSION of the answer `version VERSION LENGTH`. Another answer has none.
+abbrev pub version_in : List ℕ → Option (List ℕ)
+version_in answer = if begins answer (codes "version ") then first_word (drop 8 answer) else None
 
 -- The answers that grant a request begin with one of these.
 abbrev pub granted : List (List ℕ)

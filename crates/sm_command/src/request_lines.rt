@@ -1,8 +1,7 @@
 //! The lines of an administrator's requests to a server, and of its answers.
 
-ghost use Rattle.std.specs.List.{count_by};
-ghost use Rattle.std.specs.Prelude.{◌≡◌, ◌==◌, ◌++◌, codes, IfOk, IfSome, OnOk};
-ghost use Rattle.std.specs.Io.{StartsWith};
+ghost use Rattle.std.specs.List.{count_by, position};
+ghost use Rattle.std.specs.Prelude.{◌≡◌, ◌==◌, ◌++◌, codes, IfOk, OnOk, option_map};
 ghost use Rattle.sm_command.specs.Administering as spec;
 
 use sm_kinds::push_numbered;
@@ -55,11 +54,19 @@ pub fn reload_request(
 
 /// Returns VERSION of the answer `version VERSION LENGTH`, or `None` if the answer is another.
 pub fn version_in(answer: &[u8]) -> Option<&[u8]>
-    ensures { IfSome result (λ version. StartsWith answer.now (codes "version " ++ version.now ++ codes " ")) }
+    ensures { option_map (λ version. version.now) result ≡ spec.version_in answer.now }
 {
-    let rest = answer.strip_prefix(b"version ")?;
-    let end = rest.iter().position(|byte| *byte == b' ')?;
-    Some(&rest[..end])
+    if !answer.starts_with(b"version ") {
+        return None;
+    }
+    let rest = &answer[8..];
+    first_space(rest).map(|end| &rest[..end])
+}
+
+fn first_space(bytes: &[u8]) -> Option<usize>
+    ensures { result ≡ position (λ byte. byte == 32) bytes.now }
+{
+    bytes.iter().position(|byte| *byte == b' ')
 }
 
 /// Returns whether an answer grants the request. A server with nothing to seal answers `empty`.

@@ -1,14 +1,14 @@
 -- The entry at the index of a label.
 use Rattle.std.proofs.Common.{inl, inr, ◌≡◌, ◌⊎◌, ℕ, ◌<◌, ◌≤◌, Bool, true, false, cond, List, [], ◌∷◌, length, Option}
 use Rattle.std.proofs.Common.{None, Some}
-use Rattle.std.proofs.Common.{refl, sym, ap, ◌∙◌, arith}
+use Rattle.std.proofs.Common.{refl, ap, ◌∙◌, arith}
 use Rattle.std.specs.Prelude.{◌||◌, find, get_or, nat_lt, option_map, position, slice_get}
 use Rattle.std.specs.List.{list_any, position_or_len}
 use Rattle.std.specs.Option.{option_or}
 use Rattle.std.proofs.lemmas.Bool.{cases_lt, false≢true, lt-ltb}
 use Rattle.std.proofs.lemmas.List.Folds.{find_at}
 use Rattle.std.proofs.lemmas.Option.{slice_get_cases, slice_get_past}
-use Rattle.sm_contexts.specs.Reading.{Entry, has_key, default_key, label, label_place, or_default}
+use Rattle.sm_contexts.specs.Reading.{Entry, has_key, default_key, label, label_place}
 use borrow.Author.Tests.{ltb-true}
 
 -- The first that passes is at the first index.

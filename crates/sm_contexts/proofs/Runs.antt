@@ -1,6 +1,6 @@
 -- The loops over lines.
-use Rattle.std.proofs.Common.{Option, Some, None, ◌≡◌, ℕ, ◌+◌, List, [], ◌∷◌, Ok, Err, refl, sym, ◌∙◌, Bool, true}
-use Rattle.std.proofs.Common.{false, cond}
+use Rattle.std.proofs.Common.{◌≡◌, ℕ, ◌+◌, List, [], ◌∷◌, Ok, Err, refl, sym, ◌∙◌}
+use Rattle.std.proofs.Common.{cond}
 use Rattle.std.specs.List.{list_any}
 use Rattle.sm_contexts.specs.declared.fault.ContextsFault.{ContextsFault}
 use Rattle.sm_contexts.specs.declared.fault.ContextsFault.TheVariants.{NoDefault}

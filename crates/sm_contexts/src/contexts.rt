@@ -40,7 +40,8 @@ impl Contexts {
     ghost use Rattle.std.specs.Prelude.{◌≡◌, ◌<◌, Some, IfOk, length, option_map, slice_get};
     ghost use Rattle.sm_kinds.specs.Reading.{Gives};
     ghost use Rattle.sm_contexts.specs.Reading.{AreFirstLines, is_memory, label, label_place, line_and_context, read};
-    ghost use Rattle.sm_contexts.specs.Reading.{seen};
+    ghost use Rattle.std.specs.List.{list_any};
+    ghost use Rattle.sm_contexts.specs.Reading.{has_key, seen};
 
     /// Reads a file in the format of `service_contexts` of AOSP's system/sepolicy: each line has a key and a context,
     /// separated by spaces, tabs and carriage returns. A line without words, or whose first word begins with `#`, is
@@ -90,6 +91,20 @@ impl Contexts {
             Some(first) => Some((first.line, &first.context)),
             None => None,
         }
+    }
+
+    /// Returns the i-th distinct key, counted from 0, in the order of the keys' first lines.
+    pub fn key(&self, i: u32) -> Option<&[u8]>
+        ensures { option_map (λ k. k.now) result ≡ option_map (λ e. e.key) (slice_get self.now i) }
+    {
+        self.entries.key(i as usize)
+    }
+
+    /// Returns whether a line has this key.
+    pub fn has_key(&self, key: &[u8]) -> bool
+        ensures { result ≡ list_any (has_key key.now) self.now }
+    {
+        self.entries.has(key)
     }
 
     /// Returns the number of distinct keys.

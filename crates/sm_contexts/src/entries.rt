@@ -74,13 +74,6 @@ impl Entries {
         self.by_key.len()
     }
 
-    /// Returns whether `*` has an entry.
-    pub fn has_default(&self) -> bool
-        ensures { result ≡ list_any (has_key default_key) self.now }
-    {
-        self.by_key.contains_key(b"*".as_slice())
-    }
-
     /// Appends an entry, unless an earlier line has its key.
     #[tactic(auto, unfolding(crate::specs::Reading::with_entry))]
     pub fn add(
@@ -113,6 +106,23 @@ impl Entries {
         ensures within { IfSome result (λ i. i < length self.now) }
     {
         self.by_key.get_index_of(key)
+    }
+
+    /// Returns whether a key has an entry.
+    pub fn has(&self, key: &[u8]) -> bool
+        ensures { result ≡ list_any (has_key key.now) self.now }
+    {
+        self.by_key.contains_key(key)
+    }
+
+    /// Returns the key of an entry, by its index.
+    pub fn key(&self, i: usize) -> Option<&[u8]>
+        ensures { option_map (λ k. k.now) result ≡ option_map (λ e. e.key) (slice_get self.now i) }
+    {
+        match self.by_key.get_index(i) {
+            Some((key, _)) => Some(key.as_slice()),
+            None => None,
+        }
     }
 
     /// Returns the line and the context of an entry, by its index.

@@ -11,3 +11,4 @@ mod reading;
 pub use contexts::Contexts;
 pub use fault::ContextsFault;
 pub use limits::MOST_ENTRY_LINES;
+pub use lines::Lines;

@@ -72,7 +72,7 @@ fn add_lines(alloc: Global, mut lines: Lines) -> Result<Entries, ContextsFault>
         entries = add_line(alloc, entries, number, line)?;
         number += 1;
     }
-    if entries.has_default() {
+    if entries.has(b"*") {
         Ok(entries)
     } else {
         Err(ContextsFault::NoDefault)

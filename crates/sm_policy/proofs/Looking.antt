@@ -1,8 +1,9 @@
 -- What is decided of types by their numbers, and of names that aren't declared.
-use Rattle.std.proofs.Common.{◌≡◌, ℕ, ◌<◌, true, false, ◌&&◌, List, []}
+use Rattle.std.proofs.Common.{◌≡◌, ℕ, ◌<◌, ◌≤◌, Bool, true, false, ◌&&◌, List, [], inl, inr, nat_lt}
 use Rattle.std.proofs.Common.{length, Some, None, is_some, refl, sym, ◌∙◌, arith}
 use Rattle.std.specs.Prelude.{position}
 use Rattle.std.specs.Str.{bytes_eq}
+use Rattle.std.proofs.lemmas.Bool.{cases_lt}
 use Rattle.std.proofs.lemmas.List.Quantifiers.{position-Some}
 use Rattle.std.proofs.lemmas.Slice.Eq.{bytes_eq-Decides}
 use Rattle.sm_kinds.specs.Permissions.{perm_of}
@@ -65,3 +66,14 @@ named policy names s i of found =
     (p.0, sym ((bytes_eq-Decides s (at names i)).0 p.1))
 
 pub ruleset deciding = (refused_source, refused_target, named)
+
+-- A bit of a pair's byte, by whether the numbers have types.
+pub granted_bit : (n s t : ℕ) (bit passes : Bool) → (s < n → t < n → bit ≡ passes) → (n ≤ s → bit ≡ false)
+    → (n ≤ t → bit ≡ false) → bit ≡ ((nat_lt s n && nat_lt t n) && passes)
+granted_bit n s t bit passes inside no_s no_t = elim (cases_lt s n) [
+  | inl hs ↦ (elim (cases_lt t n) [
+    | inl ht ↦ grind (arith, inside hs ht)
+    | inr ge ↦ grind (arith, no_t ge)
+  ])
+  | inr ge ↦ grind (arith, no_s ge)
+]

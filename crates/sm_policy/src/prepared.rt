@@ -4,6 +4,7 @@ use crate::counts::{Counts, counted};
 use crate::labels::{Labels, labels_of};
 use crate::preparing::{refuse_violation, rules_of};
 use crate::{Decision, Label, PolicyFault};
+use sm_contexts::Contexts;
 use sm_kinds::{Class, Context, Perms};
 use sm_neverallow::Matrices;
 use sm_rules::Rules;
@@ -64,7 +65,7 @@ impl Drop for Prepared {
 }
 
 impl Prepared {
-    ghost use Rattle.std.specs.Prelude.{◌≡◌, ℕ, List, Some, IfOk, IfErr};
+    ghost use Rattle.std.specs.Prelude.{◌≡◌, ◌<◌, ℕ, List, Some, IfOk, IfErr};
     ghost use Rattle.sm_kinds.specs.Contexts.{type_of};
     ghost use Rattle.sm_policy.specs.Policy.{allowed, audits, decision, allowed_at, type_index, label_of, written_at};
     ghost use Rattle.sm_policy.specs.Policy.{IsConsistent};
@@ -73,6 +74,10 @@ impl Prepared {
     ghost use Rattle.sm_kinds.specs.Reading.{Gives};
     ghost use Rattle.sm_policy.specs.Preparing.{is_memory, prepared};
     ghost use Rattle.sm_policy.specs.Parts.{ArePartsOf};
+    ghost use Rattle.sm_bits.specs.Bits.{has_bit};
+    ghost use Rattle.sm_rules.specs.Keeping.{RulesOf, class_at, perm_at};
+    ghost use Rattle.sm_types.specs.Denoting.{types};
+    ghost use Rattle.sm_types.specs.Members.{IsOf};
 
     /// Prepares the policy of a policy source and a contexts file.
     ///
@@ -150,6 +155,14 @@ impl Prepared {
         self.parts().vectors.allows(source, target, class, perm)
     }
 
+    /// Returns the permissions that `allows_at` allows on the types of these numbers, as the bits of a byte: bit `b` is
+    /// that of `class_at(b)` and `perm_at(b)` of `sm_rules`. 0 if a number has no type.
+    pub fn granted_at(&self, source: u16, target: u16) -> u8
+        ensures { (b : ℕ) → b < 7 → has_bit result b ≡ allowed_at self.now source target (class_at b) (perm_at b) }
+    {
+        self.parts().vectors.granted(source, target)
+    }
+
     /// Returns the decision on two types whose `type_index` is `source` and `target`: whether the access is allowed,
     /// and whether it is audited. An access is audited if no allow rule grants it and no dontaudit rule covers it. If
     /// an index is `None`, nothing is allowed and everything is audited.
@@ -221,6 +234,27 @@ impl Prepared {
             },
             None => unreachable!(),
         }
+    }
+
+    /// Returns the declared types and attributes.
+    pub fn types(&self) -> &Types
+        ensures { IsOf self.now.statements result.now }
+    {
+        &self.parts().types
+    }
+
+    /// Returns the kept rules, and the permissive types.
+    pub fn rules(&self) -> &Rules
+        ensures { RulesOf self.now.statements (types self.now.statements) result.now }
+    {
+        &self.parts().rules
+    }
+
+    /// Returns the entries of the contexts file.
+    pub fn contexts(&self) -> &Contexts
+        ensures { result.now ≡ self.now.entries }
+    {
+        &self.parts().labels.contexts
     }
 
     /// Returns the counts that `svcmgr check` prints.

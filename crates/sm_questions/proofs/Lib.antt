@@ -1,10 +1,8 @@
 pub mod Anything
 pub mod Buffering
 pub mod Entries
-pub mod KeySets
-pub mod Keyed
+pub mod Granted
+pub mod Keys
 pub mod Permissions
-pub mod Reading
-pub mod Shown
 pub mod Sources
 pub mod Written

@@ -3,9 +3,9 @@ pub mod Buffered
 pub mod Differences
 pub mod Explanations
 pub mod Filters
+pub mod Granted
 pub mod Keys
 pub mod Labels
-pub mod Parts
 pub mod Relabelled
 pub mod Shown
 pub mod Sourced

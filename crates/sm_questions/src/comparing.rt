@@ -157,6 +157,9 @@ fn put_pair<W: Write>(
         (at (types one.now.statements) source) (at (types one.now.statements) target))) }
     ensures fault { IfErr result (λ e. Fails e (failures_of writer.old) (failures_of writer.new)) }
 {
+    if one.granted(source, target) == 0 {
+        return Ok(false);
+    }
     let any = push_pair(sign, one, other, numbers, source, target, held)?;
     write_full(writer, held)?;
     Ok(any)

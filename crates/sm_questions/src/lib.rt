@@ -6,8 +6,6 @@ mod buffer;
 mod comparing;
 mod explaining;
 mod filtering;
-mod key_set;
-mod keys;
 mod labelling;
 mod listing;
 mod relabelling;

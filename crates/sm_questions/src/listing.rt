@@ -5,7 +5,11 @@ ghost use Rattle.std.specs.Io.KnownBytes.{Appends};
 ghost use Rattle.sm_engine.specs.Counts.{failures_of, inner_of, greatest_count};
 ghost use Rattle.sm_types.specs.Names.{at};
 ghost use Rattle.sm_types.specs.Denoting.{types};
+ghost use Rattle.sm_bits.specs.Bits.{has_bit};
+ghost use Rattle.sm_rules.specs.Keeping.{class_at, perm_at};
+ghost use Rattle.sm_policy.specs.Policy.{allowed};
 ghost use Rattle.sm_questions.specs.Accesses as spec;
+ghost use Rattle.sm_questions.specs.Granted.{IsGranted};
 ghost use Rattle.sm_questions.specs.Buffered.{Fails, Passes, Stops};
 ghost use Rattle.sm_questions.specs.Sourced.{HasRulesOf};
 
@@ -62,25 +66,28 @@ fn push_line(
     held.extend_from_slice(b"\n")
 }
 
-/// Appends the line for a permission, if it is asked for and allowed.
+/// Appends the line for a permission, if it is asked for and granted.
 #[tactic(auto, unfolding(crate::specs::Accesses::perm_lines))]
 fn push_perm(
     policy: &PolicyTables,
     rules: &[&Kept],
     wanted: Perms,
+    granted: u8,
     source: u16,
     target: u16,
     bit: u32,
     held: &mut Vec<u8>,
 ) -> Result<(), AllocError>
     requires bit { bit < 7 }
+    requires granted { has_bit granted bit ≡ allowed policy.now (at (types policy.now.statements) source)
+        (at (types policy.now.statements) target) (class_at bit) (perm_at bit) }
     requires source { source < length (types policy.now.statements) }
     requires target { target < length (types policy.now.statements) }
     requires rules { HasRulesOf policy.now source rules.now }
     ensures { OnOk result (held.new.items ≡ held.old.items ++ spec.perm_lines policy.now wanted.0
         (at (types policy.now.statements) source) (at (types policy.now.statements) target) bit) }
 {
-    if has_bit(wanted.0, bit) && policy.allows_at(source, target, bit) {
+    if has_bit(wanted.0, bit) && has_bit(granted, bit) {
         push_line(policy, rules, source, target, bit, held)
     } else {
         Ok(())
@@ -93,10 +100,13 @@ fn push_pair(
     policy: &PolicyTables,
     rules: &[&Kept],
     wanted: Perms,
+    granted: u8,
     source: u16,
     target: u16,
     held: &mut Vec<u8>,
 ) -> Result<(), AllocError>
+    requires granted { IsGranted policy.now granted (at (types policy.now.statements) source)
+        (at (types policy.now.statements) target) }
     requires source { source < length (types policy.now.statements) }
     requires target { target < length (types policy.now.statements) }
     requires rules { HasRulesOf policy.now source rules.now }
@@ -104,7 +114,7 @@ fn push_pair(
         (at (types policy.now.statements) source) (at (types policy.now.statements) target)) }
 {
     for bit in 0..PERM_COUNT {
-        push_perm(policy, rules, wanted, source, target, bit, held)?;
+        push_perm(policy, rules, wanted, granted, source, target, bit, held)?;
     }
     Ok(())
 }
@@ -133,10 +143,14 @@ fn put_target<W: Write>(
         (at (types policy.now.statements) source) (at (types policy.now.statements) target))) }
     ensures fault { IfErr result (λ e. Fails e (failures_of writer.old) (failures_of writer.new)) }
 {
+    let granted = policy.granted(source, target);
+    if granted == 0 {
+        return Ok(());
+    }
     if !is_left(&filter.target, policy.type_name(target)) {
         return Ok(());
     }
-    push_pair(policy, rules, filter.perms, source, target, held)?;
+    push_pair(policy, rules, filter.perms, granted, source, target, held)?;
     write_full(writer, held)
 }
 

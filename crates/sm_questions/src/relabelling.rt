@@ -78,7 +78,7 @@ fn push_added(
 fn put_changed<W: Write>(
     old: &PolicyTables,
     new: &PolicyTables,
-    index: usize,
+    index: u32,
     writer: &mut Counted<W>,
     held: &mut Vec<u8>,
 ) -> Result<bool, Fault>
@@ -125,7 +125,7 @@ fn put_all_changed<W: Write>(
 fn put_added<W: Write>(
     old: &PolicyTables,
     new: &PolicyTables,
-    index: usize,
+    index: u32,
     writer: &mut Counted<W>,
     held: &mut Vec<u8>,
 ) -> Result<bool, Fault>

@@ -3,8 +3,7 @@
 ghost use Rattle.std.specs.Prelude.{◌≡◌, ◌++◌, IfOk, OnOk};
 ghost use Rattle.sm_questions.specs.Shown as spec;
 
-use crate::keys::cut_line;
-use sm_contexts::ContextsFault;
+use sm_contexts::{ContextsFault, Lines};
 use sm_kinds::push_numbered;
 use sm_policy::{PolicyFault, Violation};
 use sm_rules::RulesFault;
@@ -17,14 +16,12 @@ fn line_at(text: &[u8], number: u32) -> &[u8]
     ensures { result.now ≡ spec.line_at text.now number }
 {
     let mut before = number.saturating_sub(1);
-    let mut rest = text;
-    'cuts: while !rest.is_empty() {
-        let (line, more) = cut_line(rest);
+    let mut lines = Lines::new(text);
+    'lines: while let Some(line) = lines.take() {
         if before == 0 {
             return line;
         }
         before -= 1;
-        rest = more;
     }
     b""
 }

@@ -8,39 +8,12 @@ ghost use Rattle.sm_bits.specs.Bits.{has};
 ghost use Rattle.sm_rules.specs.Keeping.{RulesOf};
 ghost use Rattle.sm_questions.specs.Sourced.{AllFit, first_line, pointed};
 
-use crate::key_set::KeySet;
-use crate::keys::keys_in;
-use sm_contexts::Contexts;
 use sm_kinds::{Class, Context, Perms};
 use sm_policy::{PolicyFault, Prepared};
-use sm_rules::{Kept, Rules, class_at, perm_at};
-use sm_types::{TypeCount, Types};
+use sm_rules::{Kept, class_at, perm_at};
+use sm_types::TypeCount;
 use std::alloc::{AllocError, Global};
 use std::marker::Model;
-
-/// The types and the rules of a policy source.
-#[derive(Drop)]
-struct Source {
-    types: Types,
-    rules: Rules,
-}
-
-/// Reads the types and the rules of a policy source that a policy was prepared from. Only an allocation can fail then.
-fn source_of(alloc: Global, text: &[u8]) -> Result<Source, AllocError>
-    ensures { IfOk result (λ s. (policy : List TheStatement) → statements_of text.now ≡ Ok policy
-        → IsOf policy s.types × RulesOf policy s.types.symbols.types s.rules) }
-{
-    let Ok(statements) = sm_ruletext::read(alloc, text) else {
-        return Err(AllocError);
-    };
-    let Ok(types) = Types::build(alloc, &statements) else {
-        return Err(AllocError);
-    };
-    match Rules::build(alloc, &statements, &types) {
-        Ok(rules) => Ok(Source { types, rules }),
-        Err(_) => Err(AllocError),
-    }
-}
 
 /// Returns the rules that have a source.
 fn rules_of(alloc: Global, rules: &[Kept], source: usize) -> Result<Vec<&Kept>, AllocError>
@@ -70,37 +43,22 @@ fn first_of(rules: &[&Kept], count: TypeCount, bit: u32, s: usize, t: usize) -> 
         .map(|rule| rule.line)
 }
 
-/// An accepted policy with the tables of its parts, which name its types and give the lines of its rules and labels.
-/// Contracts see the policy.
+/// An accepted policy, and what questions read of its parts. Contracts see the policy.
 pub struct PolicyTables {
     prepared: Prepared,
-    types: Types,
-    rules: Rules,
-    contexts: Contexts,
-    /// The keys of the contexts, in order.
-    keys: KeySet,
 }
 
 impl Model for PolicyTables {
     ghost use Rattle.sm_policy.specs.Policy.{Policy};
-    ghost use Rattle.sm_questions.specs.Parts.{AreTablesOf};
 
     ghost Value = { Policy };
 
     ghost view = { λ t. t.prepared };
-
-    ghost invariant = { λ t. AreTablesOf t.prepared t.types t.rules t.contexts t.keys };
 }
 
 impl Drop for PolicyTables {
     fn drop(self) {
-        let PolicyTables {
-            prepared: _,
-            types: _,
-            rules: _,
-            contexts: _,
-            keys: _,
-        } = self;
+        let PolicyTables { prepared: _ } = self;
     }
 }
 
@@ -111,6 +69,7 @@ impl PolicyTables {
     ghost use Rattle.sm_policy.specs.Preparing.{is_memory, prepared};
     ghost use Rattle.sm_types.specs.Denoting.{declares, types};
     ghost use Rattle.sm_types.specs.Names.{at};
+    ghost use Rattle.sm_questions.specs.Granted.{IsGranted};
     ghost use Rattle.sm_rules.specs.Keeping.{class_at, perm_at};
     ghost use Rattle.sm_questions.specs.Sourced.{HasRulesOf};
     ghost use Rattle.sm_kinds.specs.Contexts.{type_of};
@@ -132,23 +91,7 @@ impl PolicyTables {
         ensures { Gives is_memory (λ p. p) result (prepared rules.now contexts.now) }
     {
         let prepared = Prepared::from_texts(alloc, rules, contexts)?;
-        let Ok(source) = source_of(alloc, rules) else {
-            return Err(PolicyFault::Memory);
-        };
-        let Ok(keys) = keys_in(alloc, contexts) else {
-            return Err(PolicyFault::Memory);
-        };
-        let Ok(contexts) = Contexts::read(alloc, contexts) else {
-            return Err(PolicyFault::Memory);
-        };
-        let Source { types, rules } = source;
-        Ok(PolicyTables {
-            prepared,
-            types,
-            rules,
-            contexts,
-            keys,
-        })
+        Ok(PolicyTables { prepared })
     }
 
     /// Returns the line of the key that labels a name, and the context on it.
@@ -156,8 +99,8 @@ impl PolicyTables {
     pub fn label_entry(&self, name: &[u8]) -> (u32, &Context)
         ensures { Some (seen result) ≡ option_map line_and_context (label_entry self.now name.now) }
     {
-        let place = self.contexts.place(name);
-        match self.contexts.entry(place) {
+        let contexts = self.prepared.contexts();
+        match contexts.entry(contexts.place(name)) {
             Some(entry) => entry,
             None => unreachable!(),
         }
@@ -174,15 +117,16 @@ impl PolicyTables {
     pub fn declares(&self, name: &[u8]) -> bool
         ensures { result ≡ declares self.now.statements name.now }
     {
-        self.types.index(name).is_some()
+        self.prepared.types().index(name).is_some()
     }
 
     /// Returns whether the policy source makes the type permissive.
     pub fn is_permissive(&self, source: &[u8]) -> bool
         ensures { result ≡ is_permissive self.now source.now }
     {
-        match self.types.index(source) {
-            Some(index) => self.rules.permissive(index),
+        let rules = self.prepared.rules();
+        match self.prepared.types().index(source) {
+            Some(index) => rules.permissive(index),
             None => false,
         }
     }
@@ -198,7 +142,7 @@ impl PolicyTables {
     pub(crate) fn type_count(&self) -> u16
         ensures { result ≡ length (types self.now.statements) }
     {
-        self.types.count() as u16
+        self.prepared.types().count() as u16
     }
 
     /// Returns the name of a type by its number, which is its place in the order of declaration, from 0. Nothing if
@@ -207,7 +151,7 @@ impl PolicyTables {
     pub(crate) fn type_name(&self, index: u16) -> &[u8]
         ensures { result.now ≡ at (types self.now.statements) index }
     {
-        self.types.name(index).unwrap_or(b"")
+        self.prepared.types().name(index).unwrap_or(b"")
     }
 
     /// Returns whether permission `bit` on the two types is allowed, by their numbers.
@@ -221,12 +165,22 @@ impl PolicyTables {
             .allows_at(source, target, class_at(bit), perm_at(bit))
     }
 
+    /// Returns the permissions that are allowed on the two types, by their numbers, as the bits of a byte.
+    pub(crate) fn granted(&self, source: u16, target: u16) -> u8
+        requires source { source < length (types self.now.statements) }
+        requires target { target < length (types self.now.statements) }
+        ensures { IsGranted self.now result (at (types self.now.statements) source)
+            (at (types self.now.statements) target) }
+    {
+        self.prepared.granted_at(source, target)
+    }
+
     /// Returns the allow rules that have a source.
     pub(crate) fn rules_of(&self, alloc: Global, source: u16) -> Result<Vec<&Kept>, AllocError>
         requires { source < length (types self.now.statements) }
         ensures { IfOk result (λ rules. HasRulesOf self.now source rules.items) }
     {
-        rules_of(alloc, self.rules.allows(), usize::from(source))
+        rules_of(alloc, self.prepared.rules().allows(), usize::from(source))
     }
 
     /// Returns the line of the first allow rule that grants permission `bit` on the two types, by their numbers, of
@@ -245,7 +199,7 @@ impl PolicyTables {
         ensures { result ≡ written_at self.now (at (types self.now.statements) source)
             (at (types self.now.statements) target) (class_at bit) (perm_at bit) }
     {
-        let count = self.types.type_count();
+        let count = self.prepared.types().type_count();
         first_of(rules, count, bit, usize::from(source), usize::from(target))
     }
 
@@ -268,24 +222,27 @@ impl PolicyTables {
     }
 
     /// Returns the number of distinct keys of the contexts file.
-    pub(crate) fn key_count(&self) -> usize
+    pub(crate) fn key_count(&self) -> u32
         ensures { result ≡ length (keys_of self.now) }
     {
-        self.keys.len()
+        self.prepared.contexts().count()
     }
 
     /// Returns a key by its place in the order of the keys' first lines, from 0. Nothing if there is no such key.
-    pub(crate) fn key(&self, index: usize) -> &[u8]
+    pub(crate) fn key(&self, index: u32) -> &[u8]
         ensures { result.now ≡ at (keys_of self.now) index }
     {
-        self.keys.key(index)
+        match self.prepared.contexts().key(index) {
+            Some(key) => key,
+            None => b"",
+        }
     }
 
     /// Returns whether the contexts file has the key.
     pub(crate) fn has_key(&self, key: &[u8]) -> bool
         ensures { result ≡ contains (keys_of self.now) key.now }
     {
-        self.keys.contains(key)
+        self.prepared.contexts().has_key(key)
     }
 
     /// Returns the context that labels a name.

@@ -1,5 +1,6 @@
 -- The decisions of the tables are those of the policy.
-use Rattle.std.proofs.Common.{◌≡◌, ℕ, ◌<◌, Bool, true, false, not, ◌&&◌, ◌||◌, cond, List, length, None, is_some, refl}
+use Rattle.std.proofs.Common.{◌≡◌, ◌∙◌, ℕ, ◌<◌, Bool, true, false, not, ◌&&◌, ◌||◌, cond, List, length, None, is_some, refl}
+use Rattle.std.proofs.Common.{sym, arith, suc, zero}
 use Rattle.sm_bits.specs.Bits.{has, has_bit}
 use Rattle.sm_kinds.specs.Permissions.{perm_of}
 use Rattle.sm_kinds.specs.declared.class.Class.{Class}
@@ -75,3 +76,36 @@ pub other_audited : (policy : Policy) (s t : Name) (class : Class) (perm : Perms
     → audits policy s t class perm ≡ true
 other_audited policy s t class perm none =
     rw (no_single Allow policy s t class perm none, no_single Dontaudit policy s t class perm none) refl
+
+-- ---- the permissions of a pair as a byte
+
+all_bits : (b : ℕ) → b < 7 → has_bit 127 b ≡ true
+unfolding has_bit
+all_bits zero lt = refl
+all_bits (suc zero) lt = refl
+all_bits (suc (suc zero)) lt = refl
+all_bits (suc (suc (suc zero))) lt = refl
+all_bits (suc (suc (suc (suc zero)))) lt = refl
+all_bits (suc (suc (suc (suc (suc zero))))) lt = refl
+all_bits (suc (suc (suc (suc (suc (suc zero)))))) lt = refl
+all_bits (suc (suc (suc (suc (suc (suc (suc b))))))) lt = absurd (omega arith)
+
+single : (b : ℕ) → b < 7 → is_some (perm_of (class_at b) (perm_at b)) ≡ true
+single b lt = grind arith
+
+anyway : (w p z : Bool) → p ≡ true
+    → (cond {A = Decision} w (record { allowed = true; audited = false })
+    (record { allowed = p; audited = not z })).allowed
+    ≡ true
+anyway true p z e = refl
+anyway false p z e = e
+
+-- A permissive source has each permission.
+pub permissive_granted : (policy : Policy) (names : List Name) (tables : Tables) (b s t : ℕ)
+    → TablesOf policy names tables → s < length names → t < length names → b < 7 → has tables.permissive s ≡ true
+    → has_bit 127 b ≡ allowed policy (at names s) (at names t) (class_at b) (perm_at b)
+permissive_granted policy names tables b s t of hs ht lt p =
+    all_bits b lt
+    ∙ (sym (anyway (has_bit (byte_at tables.written s t) b) (has tables.permissive s)
+    (has_bit (byte_at tables.silenced s t) b) p)
+    ∙ decided_allowed policy names tables b s t (class_at b) (perm_at b) of hs ht (lt, refl, refl) (single b lt))

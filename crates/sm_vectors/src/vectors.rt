@@ -39,6 +39,9 @@ fn permissive_row(alloc: Global, rules: &Rules) -> Result<BitRow, AllocError>
     Ok(row)
 }
 
+/// A bit for each permission.
+const EACH_PERM: u8 = 127;
+
 /// For each pair of types the permissions that allow rules grant and those that dontaudit rules cover, and the
 /// permissive types.
 pub struct Vectors {
@@ -80,7 +83,8 @@ impl Vectors {
     ghost use Rattle.sm_ruletext.specs.declared.statement.Statement.{Statement as TheStatement};
     ghost use Rattle.sm_types.specs.Names.{at};
     ghost use Rattle.sm_rules.specs.Access.{allowed, audits};
-    ghost use Rattle.sm_rules.specs.Keeping.{RulesOf};
+    ghost use Rattle.sm_bits.specs.Bits.{has_bit};
+    ghost use Rattle.sm_rules.specs.Keeping.{RulesOf, class_at, perm_at};
     ghost use Rattle.sm_neverallow.specs.Matrices.{AllCompiled, SayCovered};
     ghost use Rattle.sm_vectors.specs.Tables.{TablesOf, decision, refusal};
 
@@ -164,6 +168,27 @@ impl Vectors {
         ensures no_target { self.now.count ≤ target → result ≡ false }
     {
         self.decide(source, target, class, perm).allowed
+    }
+
+    /// Returns the permissions on the two types that pass, by their numbers, as the bits of a byte: bit `b` is that of
+    /// `class_at(b)` and `perm_at(b)`. 0 if a number has no type.
+    pub fn granted(&self, source: u16, target: u16) -> u8
+        ensures allowed { (policy : List TheStatement) (names : List (List ℕ))
+            → TablesOf policy names self.now
+            → source < length names → target < length names → (b : ℕ) → b < 7
+            → has_bit result b ≡ allowed policy (at names source) (at names target) (class_at b) (perm_at b) }
+        ensures no_source { self.now.count ≤ source → result ≡ 0 }
+        ensures no_target { self.now.count ≤ target → result ≡ 0 }
+    {
+        let s = usize::from(source);
+        let t = usize::from(target);
+        if s >= self.count.get() || t >= self.count.get() {
+            return 0;
+        }
+        if self.permissive.has(s) {
+            return EACH_PERM;
+        }
+        self.written.byte(s, t)
     }
 
     /// Returns whether a check of the permission on the two types is audited, by their numbers: no allow rule grants

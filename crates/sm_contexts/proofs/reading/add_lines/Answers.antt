@@ -21,14 +21,14 @@ lines-preserved c = record {
   short = omega (arith, c.lines.invariant.short, c.in_ok-entries.ensures.few);
 }
 
-pub returns-then-has_default-clause-read : goal.returns-then-has_default-clause-read
-returns-then-has_default-clause-read c = (
+pub returns-then-has-clause-read : goal.returns-then-has-clause-read
+returns-then-has-clause-read c = (
     runs_out c.lines.number c.lines.entries c.lines.lines (entries_from 1 no_entries c.args.lines)
     c.in_default.ensures.none c.lines.invariant.same
-    ∙ cond-true _ _ _ (sym c.has_default.ensures ∙ c.if-has_default.true))
+    ∙ cond-true _ _ _ (sym c.has.ensures ∙ c.if-has.true))
 
-pub returns-else-has_default-clause-read : goal.returns-else-has_default-clause-read
-returns-else-has_default-clause-read c =
+pub returns-else-has-clause-read : goal.returns-else-has-clause-read
+returns-else-has-clause-read c =
     runs_out c.lines.number c.lines.entries c.lines.lines (entries_from 1 no_entries c.args.lines)
     c.in_default.ensures.none c.lines.invariant.same
-    ∙ cond-false _ _ _ (sym c.has_default.ensures ∙ c.if-has_default.false)
+    ∙ cond-false _ _ _ (sym c.has.ensures ∙ c.if-has.false)

@@ -1,5 +1,4 @@
-use Rattle.std.proofs.Common.{◌≡◌, None, sym, ◌∙◌, position}
-use Rattle.sm_contexts.specs.Reading.{has_key, default_key}
+use Rattle.std.proofs.Common.{sym, ◌∙◌}
 use Rattle.sm_contexts.proofs.FirstLines.{first_lines}
 use Rattle.sm_contexts.proofs.Places.{default_placed}
 use Rattle.sm_contexts.proofs.contexts.Contexts.read.Goals as goal

@@ -5,7 +5,6 @@ pub returns : goal.returns
 returns c =
     let policy = c.self.inside.prepared in
     let name = c.args.name.now in
-    let place = c.place-place.result in
-    let at = entry_at policy.entries name place (rw c.self.invariant.labels at c.place-place.ensures.place) in
-    let is = rw c.self.invariant.labels at c.in-Some.ensures in
+    let at = entry_at policy.entries name c.place.result (rw c.contexts-contexts.ensures at c.place.ensures.place) in
+    let is = rw c.contexts-contexts.ensures at c.in-Some.ensures in
     rw (← c.self.view_is, at) is

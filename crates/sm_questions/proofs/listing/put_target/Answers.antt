@@ -1,0 +1,11 @@
+use Rattle.sm_types.specs.Names.{at}
+use Rattle.sm_types.specs.Denoting.{types}
+use Rattle.sm_questions.proofs.Buffering.{passes_none}
+use Rattle.sm_questions.proofs.Granted.{no_target}
+use Rattle.sm_questions.proofs.listing.put_target.Goals as goal
+
+pub returns-then-granted-eq0-clause-ok : goal.returns-then-granted-eq0-clause-ok
+returns-then-granted-eq0-clause-ok g c =
+    let names = types c.args.policy.now.statements in
+    rw (no_target c.args.policy.now c.granted-granted.result c.args.filter.now (at names c.args.source)
+    (at names c.args.target) c.if-granted-eq0.true c.granted-granted.ensures) (passes_none _ c.args.held.now.items)
