@@ -1,5 +1,5 @@
 -- One watcher is notified, or isn't.
-use Rattle.std.proofs.Common.{◌≡◌, ℕ, ◌+◌, ◌-◌, inl, inr, Bool, true, false, ◌&&◌, ◌||◌, ◌==◌}
+use Rattle.std.proofs.Common.{◌≡◌, ℕ, ◌-◌, inl, inr, Bool, true, false, ◌&&◌, ◌||◌, ◌==◌}
 use Rattle.std.proofs.Common.{List, [], ◌∷◌, ◌++◌, refl, ap, sym, ◌∙◌, subst, length, Option}
 use Rattle.std.proofs.Common.{Some, None, if◌then◌else◌, cond, arith, append-nil, length-append}
 use Rattle.std.specs.Prelude.{nat_lt, nat_eq, unwrap_or}

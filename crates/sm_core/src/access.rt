@@ -105,6 +105,7 @@ impl<'a> Model for Access<'a> {
 
 impl<'a> Access<'a> {
     /// Returns what checks read after `length` changes.
+    #[inline(always)]
     pub fn new(alloc: Global, length: u64, principals: &'a Principals) -> Access<'a>
         ensures { result ≡ record { at = length; version = principals.now.version; policy = principals.now.policy } }
     {
@@ -203,6 +204,7 @@ impl<'a> Access<'a> {
     }
 
     /// Checks that an allow rule grants a permission from a process to another one.
+    #[inline(always)]
     pub fn to_process(
         &self,
         source: &Process,
@@ -221,6 +223,7 @@ impl<'a> Access<'a> {
     }
 
     /// Checks that an allow rule grants a permission of the service manager from a process to the label of a name.
+    #[inline(always)]
     pub fn to_label(
         &self,
         source: &Process,
@@ -247,6 +250,8 @@ impl<'a> Access<'a> {
 
     /// Checks that an allow rule grants a permission from a process to a context, whose type has this number; the name
     /// is there if the context is its label.
+    #[inline(always)]
+    #[tactic(auto, unfolding(crate::specs::Judging::noted))]
     fn needs(
         &self,
         source: &Process,
@@ -263,10 +268,35 @@ impl<'a> Access<'a> {
             (option_map (λ n. n.now) name.entry) result }
     {
         let decision = self.policy.decide_at(source.index, index, class, perm);
-        self.audit(decision, &source.who, target, name, class, perm, notes)?;
         if decision.allowed {
+            if !decision.audited {
+                return Ok(());
+            }
+        }
+        self.settle(decision, &source.who, target, name, class, perm, notes)
+    }
+
+    /// As `needs`, of an access on which this is the decision. Most accesses are granted without a record, so this is out
+    /// of line.
+    #[inline(never)]
+    fn settle(
+        &self,
+        made: Decision,
+        who: &Identity,
+        target: &Context,
+        name: Option<&Name>,
+        class: Class,
+        perm: Perms,
+        notes: &mut Notes,
+    ) -> Result<(), SmallFailedCheck>
+        requires { made ≡ decision self.now.policy (type_of who.now.context) (type_of target.now) class perm }
+        ensures { IsRuled self.now notes.old notes.new class perm who.now target.now
+            (option_map (λ n. n.now) name.entry) result }
+    {
+        self.audit(made, who, target, name, class, perm, notes)?;
+        if made.allowed {
             return Ok(());
         }
-        Err(unruled(self.alloc, &source.who, target, name, class, perm)?)
+        Err(unruled(self.alloc, who, target, name, class, perm)?)
     }
 }

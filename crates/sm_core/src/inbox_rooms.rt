@@ -1,9 +1,11 @@
 //! The room left in the inboxes of clients while watchers are notified.
 
-ghost use Rattle.std.specs.Prelude.{◌≡◌, ◌==◌, ℕ, None, Some, MatchOption, OnOk, cond, nat_eq, position};
+ghost use Rattle.std.specs.Prelude.{◌≡◌, ◌==◌, ◌<◌, ℕ, None, Some, MatchOption, IfSome, OnOk, cond, nat_eq};
+ghost use Rattle.std.specs.Prelude.{position, length, slice_index_or};
 ghost use Rattle.std.specs.List.{find};
 ghost use Rattle.sm_history.specs.Tables.{IsPlace};
-ghost use Rattle.sm_core.specs.InboxRooms.{left_of};
+ghost use Rattle.sm_core.specs.InboxRooms.{left_of, AreOnce, AreUpTo};
+ghost use Rattle.sm_core.specs.declared.inbox_rooms.InboxRoom.{InboxRoom as TheRoom};
 
 use std::alloc::{AllocError, Global};
 
@@ -14,15 +16,18 @@ pub struct InboxRoom {
     pub left: usize,
 }
 
-/// The room left in the inboxes of the clients that were notified so far: a row for each, searched in order, since at
-/// most 64 clients are live.
+/// The room left in the inboxes of the clients that were notified so far: a row for each, of at most 64.
 pub struct InboxRooms {
     rows: Vec<InboxRoom>,
+    /// No row is of a client with a greater number, so a client that is newer has none.
+    newest: u32,
+    ghost once: { AreOnce rows.items },
+    ghost newer: { AreUpTo newest rows.items },
 }
 
 impl Drop for InboxRooms {
     fn drop(self) {
-        let InboxRooms { rows: _ } = self;
+        let InboxRooms { rows: _, newest: _ } = self;
     }
 }
 
@@ -32,12 +37,36 @@ fn first_of(rows: &[InboxRoom], client: u32) -> Option<usize>
     rows.iter().position(|row| row.client == client)
 }
 
+/// Returns an index at which a client's row was found at once: watchers are often notified in the order of their numbers,
+/// which follow each other.
+fn guessed(rows: &[InboxRoom], client: u32) -> Option<usize>
+    ensures { IfSome result
+        (λ i. (i < length rows.now) × ((r : TheRoom) → (slice_index_or rows.now i r).client ≡ client)) }
+{
+    if rows.is_empty() {
+        return None;
+    }
+    let guess = (client.wrapping_sub(rows[0].client) as usize).min(rows.len() - 1);
+    if rows[guess].client != client {
+        return None;
+    }
+    Some(guess)
+}
+
 /// Returns the index of a client's row.
-fn place_of(rows: &[InboxRoom], client: u32) -> Option<usize>
+fn place_of(rows: &[InboxRoom], newest: u32, client: u32) -> Option<usize>
+    requires once { AreOnce rows.now }
+    requires newer { AreUpTo newest rows.now }
     ensures { MatchOption result (find (λ r. r.client == client) rows.now ≡ None)
         (IsPlace (λ r. r.client) rows.now client) }
 {
-    first_of(rows, client)
+    if newest < client {
+        return None;
+    }
+    match guessed(rows, client) {
+        Some(place) => Some(place),
+        None => first_of(rows, client),
+    }
 }
 
 impl InboxRooms {
@@ -47,6 +76,7 @@ impl InboxRooms {
     {
         InboxRooms {
             rows: Vec::new(alloc),
+            newest: 0,
         }
     }
 
@@ -54,7 +84,7 @@ impl InboxRooms {
     pub fn of(&self, client: u32) -> Option<usize>
         ensures { result ≡ left_of self.now.rows.items client }
     {
-        let i = place_of(&self.rows, client)?;
+        let i = place_of(&self.rows, self.newest, client)?;
         Some(self.rows[i].left)
     }
 
@@ -64,9 +94,12 @@ impl InboxRooms {
             ≡ cond (nat_eq client c) (Some left) (left_of self.old.rows.items c)) }
     {
         let row = InboxRoom { client, left };
-        match place_of(&self.rows, client) {
+        match place_of(&self.rows, self.newest, client) {
             Some(i) => self.rows[i] = row,
-            None => self.rows.push(row)?,
+            None => {
+                self.rows.push(row)?;
+                self.newest = self.newest.max(client);
+            }
         }
         Ok(())
     }

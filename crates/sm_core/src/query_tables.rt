@@ -70,6 +70,7 @@ fn may_ask(by: By, query: &Query) -> bool
 
 impl<'a> QueryTables<'a> {
     /// Answers a query, and returns its records, oldest first: none if an allocation fails.
+    #[inline(always)]
     pub fn look_recorded(&self, by: By, query: &Query) -> (Reply, Vec<Record>)
         ensures looks { Looks self.now by query.now result.0 }
         ensures records { result.1.items ≡ look_leaves self.now by query.now result.0 }

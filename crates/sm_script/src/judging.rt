@@ -52,7 +52,7 @@ pub fn answer_hello(
 }
 
 /// Makes a client's change, and answers with the visible part of the reply.
-#[inline(never)]
+#[inline(always)]
 pub fn answer_change(
     alloc: Global,
     manager: &mut Manager,
@@ -104,6 +104,7 @@ pub fn answer_prepared(
 }
 
 // Makes an actor's event, at the actor's turn, and answers with the visible part of the reply.
+#[inline(never)]
 fn answer_event(
     alloc: Global,
     manager: &mut Manager,

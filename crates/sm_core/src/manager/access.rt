@@ -17,6 +17,7 @@ use sm_policy::Label;
 
 impl Manager {
     /// Returns what checks read now.
+    #[inline(always)]
     pub fn access(&self) -> Access<'_>
         ensures { result ≡ moment_in self.now }
     {
@@ -24,6 +25,7 @@ impl Manager {
     }
 
     /// Checks a permission of Binder from a process to the manager.
+    #[inline(always)]
     pub fn check_to_manager(
         &self,
         who: &Process,
@@ -38,6 +40,7 @@ impl Manager {
     }
 
     /// Checks a permission of Binder from the manager to a process.
+    #[inline(always)]
     pub fn check_from_manager(
         &self,
         who: &Process,
@@ -52,6 +55,7 @@ impl Manager {
     }
 
     /// Checks a permission of Binder from a process to another one.
+    #[inline(always)]
     pub fn check_to_client(
         &self,
         who: &Process,
@@ -76,6 +80,7 @@ impl Manager {
     }
 
     /// Checks a permission of the service manager from a process to the label of a name.
+    #[inline(always)]
     pub fn check_to_label(
         &self,
         who: &Process,
@@ -92,6 +97,7 @@ impl Manager {
     }
 
     /// As `check_to_label`, with the label of the name.
+    #[inline(always)]
     pub fn check_to_known_label(
         &self,
         who: &Process,

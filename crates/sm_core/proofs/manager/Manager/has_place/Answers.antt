@@ -11,7 +11,7 @@ returns-then-places c =
     let effects = rw (← c.self.view_is) at c.requires.effects in
     let may = rw (← c.self.view_is) at c.requires.may in
     let room = rw (← c.self.view_is) at c.has_places-places.ensures in
-    let alive = sym c.is_die.ensures ∙ c.if-is_die.false in
+    let alive = sym c.is_death.ensures ∙ c.if-is_death.false in
     rw (← c.self.view_is) (sym (ap (λ (t : Bool). t && c.counts_fit-counts.result) c.if-places.true)
     ∙ place_is c.self.inside.places h (client_of c.args.by) c.args.event.now
     c.places_needed.result c.has_places-places.result c.counts_fit-counts.result c.args.effects.now k.stands.sound may
@@ -25,7 +25,7 @@ returns-else-places c =
     let effects = rw (← c.self.view_is) at c.requires.effects in
     let may = rw (← c.self.view_is) at c.requires.may in
     let room = rw (← c.self.view_is) at c.has_places-places.ensures in
-    let alive = sym c.is_die.ensures ∙ c.if-is_die.false in
+    let alive = sym c.is_death.ensures ∙ c.if-is_death.false in
     rw (← c.self.view_is)
     (c.if-places.false ∙ sym (ap (λ (t : Bool). t && c.counts_fit-counts.result) c.if-places.false)
     ∙ place_is c.self.inside.places h (client_of c.args.by) c.args.event.now
