@@ -44,13 +44,13 @@ class Lines:
         """The next line with its newline, or what came before the end, if anything."""
         until = time.monotonic() + PATIENCE
         while b"\n" not in self.held and not self.ended:
-            if not select.select([self.number], [], [], max(0, until - time.monotonic()))[0]:
-                raise Wrong(f"no answer after {PATIENCE} seconds")
-            self.more()
+            self.more(max(0, until - time.monotonic()))
         line, newline, self.held = self.held.partition(b"\n")
         return (line + newline).decode()
 
-    def more(self):
+    def more(self, seconds=PATIENCE):
+        if not select.select([self.number], [], [], seconds)[0]:
+            raise Wrong(f"no answer after {PATIENCE} seconds")
         try:
             piece = os.read(self.number, 65536)
         except ConnectionResetError:

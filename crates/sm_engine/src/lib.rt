@@ -1,5 +1,5 @@
-//! An engine over any reader, writer and machine: it cuts its input into request lines, lets the machine answer them
-//! one after another, and writes the answers. It knows nothing of a service manager.
+//! An engine over any reader, writer and machine: it cuts its input into the items of `sm_wire`, requests and policies,
+//! lets the machine answer them one after another, and writes the answers. What an item means is the machine's.
 #![tactic(auto)]
 
 mod answering;

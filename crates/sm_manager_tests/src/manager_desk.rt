@@ -5,7 +5,7 @@ use sm_core::Manager;
 use sm_history::{By, Event, Failure, Outcome, Refusal, Reply};
 use sm_kinds::{ClientId, Identity};
 use sm_policy::Prepared;
-use sm_session::{Desk, Response};
+use sm_session::{Command, Desk, Response};
 use sm_wire::Request;
 use std::alloc::Global;
 use std::process::Abort;
@@ -75,6 +75,34 @@ impl ManagerDesk {
         Response::Replied(reply)
     }
 
+    fn hello(&mut self, who: Identity) -> Response {
+        self.asked = self.asked.saturating_add(1);
+        let reply = self.step(By::Manager, Event::Connect(who));
+        if let Reply::Done(Outcome::Connected(client)) = &reply {
+            self.client = Some(*client);
+        }
+        Response::Replied(reply)
+    }
+
+    fn line(&mut self, request: Request) -> Response {
+        self.asked = self.asked.saturating_add(1);
+        match request {
+            Request::Change(_, event) => self.change(event),
+            Request::Look(_, query) => Response::Replied(self.manager.look(self.by(), query)),
+            Request::Denials => self.denials(),
+            Request::Seal => Response::Replied(self.seal()),
+            _ => Response::Replied(Reply::Refused(Refusal::Failed(Failure::NotYours))),
+        }
+    }
+
+    fn end(&mut self) -> Response {
+        self.ends = self.ends.saturating_add(1);
+        match self.client {
+            Some(_) => self.change(Event::Die),
+            None => Response::Replied(Reply::Refused(Refusal::Failed(Failure::NotConnected))),
+        }
+    }
+
     fn seal(&mut self) -> Reply {
         match self.manager.seal() {
             Ok(segment) => Reply::Sealed {
@@ -96,40 +124,15 @@ impl ManagerDesk {
 impl Desk for ManagerDesk {
     ghost answers = { λ _ _ _ _. Unit {0} };
 
-    ghost leaves = { λ _ _. Unit {0} };
-
-    fn hello(&mut self, who: Identity) -> Response {
-        self.asked = self.asked.saturating_add(1);
-        let reply = self.step(By::Manager, Event::Connect(who));
-        if let Reply::Done(Outcome::Connected(client)) = &reply {
-            self.client = Some(*client);
-        }
-        Response::Replied(reply)
-    }
-
-    fn ask(&mut self, request: Request) -> Response {
-        self.asked = self.asked.saturating_add(1);
-        match request {
-            Request::Change(_, event) => self.change(event),
-            Request::Look(_, query) => Response::Replied(self.manager.look(self.by(), query)),
-            Request::Denials => self.denials(),
-            Request::Seal => Response::Replied(self.seal()),
-            _ => Response::Replied(Reply::Refused(Refusal::Failed(Failure::NotYours))),
-        }
-    }
-
-    fn reload(&mut self, expected: u64, rules: &[u8], contexts: &[u8]) -> Response {
-        self.asked = self.asked.saturating_add(1);
-        match Prepared::from_texts(self.alloc, rules, contexts) {
-            Ok(prepared) => self.change(Event::Reload { expected, prepared }),
-            Err(fault) => Response::PolicyRefused(fault),
-        }
-    }
-
-    fn bye(&mut self) {
-        self.ends = self.ends.saturating_add(1);
-        if self.client.is_some() {
-            self.change(Event::Die);
+    fn answer(&mut self, command: Command) -> Response {
+        match command {
+            Command::Hello(who) => self.hello(who),
+            Command::Line(request) => self.line(request),
+            Command::Install { expected, prepared } => {
+                self.asked = self.asked.saturating_add(1);
+                self.change(Event::Reload { expected, prepared })
+            }
+            Command::End => self.end(),
         }
     }
 }

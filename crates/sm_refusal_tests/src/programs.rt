@@ -4,11 +4,11 @@ use crate::outcome::same_text;
 use sm_check::check;
 use sm_engine::{Counted, Fault};
 use sm_history::{Event, NoGate, Outcome, Refusal, Reply};
-use sm_kinds::{ClientId, Identity, Places};
+use sm_kinds::{ClientId, Places};
 use sm_policy::PolicyFault;
 use sm_samples::{DEVICE_LABELS, DEVICE_RULES, ONE_LABEL, PLAIN_RULES};
 use sm_script::{ScriptFault, run_script};
-use sm_session::{Desk, Response, session};
+use sm_session::{Command, Desk, Response, session};
 use sm_wire::{Kind, Request};
 use std::alloc::Global;
 use std::process::Abort;
@@ -108,24 +108,15 @@ struct Deaf;
 impl Desk for Deaf {
     ghost answers = { λ _ _ _ _. Unit {0} };
 
-    ghost leaves = { λ _ _. Unit {0} };
-
-    fn hello(&mut self, _who: Identity) -> Response {
-        Response::Replied(Reply::Done(Outcome::Connected(ClientId(1))))
-    }
-
-    fn ask(&mut self, request: Request) -> Response {
-        match &request {
-            Request::Change(_, Event::Die) => Response::Replied(Reply::Done(Outcome::Died)),
+    fn answer(&mut self, command: Command) -> Response {
+        match &command {
+            Command::Hello(_) => Response::Replied(Reply::Done(Outcome::Connected(ClientId(1)))),
+            Command::Line(Request::Change(_, Event::Die)) => {
+                Response::Replied(Reply::Done(Outcome::Died))
+            }
             _ => Response::Replied(Reply::GotNull),
         }
     }
-
-    fn reload(&mut self, _expected: u64, _rules: &[u8], _contexts: &[u8]) -> Response {
-        Response::PolicyRefused(PolicyFault::Memory)
-    }
-
-    fn bye(&mut self) {}
 }
 
 const CONNECTION: &[u8] = b"hello 100 1000 u:r:system_server:s0\nget activity\nget power\nbye\n";

@@ -1,5 +1,1 @@
-mod Growing
-mod Lasting
 mod LineLemmas
-mod Reading
-mod Seen

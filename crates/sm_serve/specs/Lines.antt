@@ -1,6 +1,23 @@
 -- What a writer of whole lines does with a text, though a write may fail in the middle of a line.
-use Rattle.std.specs.Prelude.{◌≡◌, ◌++◌, ◌-◌, ◌==◌, ◌⊎◌, ℕ, List, Option, count_by, drop, length, slice_index, take}
+use Rattle.std.specs.Prelude.{◌≡◌, ◌++◌, ◌-◌, ◌==◌, ◌⊎◌, ℕ, List, Option, codes, count_by, drop, length, slice_index, take, vec_capacity}
+use Rattle.std.specs.Fmt.{decimal}
 use Rattle.std.specs.Io.KnownBytes.{Appends}
+use Rattle.sm_serve.specs.declared.log_lines.LogLines.{LogLines}
+use Rattle.sm_serve.specs.declared.log_lines.LogLines.TheVariants.{Fixed, Made}
+
+-- These are the bytes of lines of a log.
+abbrev pub bytes_of : LogLines → List ℕ
+bytes_of (Fixed bytes) = bytes.now
+bytes_of (Made bytes) = bytes.items
+
+-- They own this number of bytes of memory.
+abbrev pub capacity_of : LogLines → ℕ
+capacity_of (Fixed bytes) = 0
+capacity_of (Made bytes) = vec_capacity bytes
+
+-- This line says how many lines were lost.
+abbrev pub lost_line : ℕ → List ℕ
+lost_line lost = codes "warning: " ++ decimal lost ++ codes " lines were lost\n"
 
 -- This is the number of lines that end in the text.
 abbrev pub lines_in : List ℕ → ℕ

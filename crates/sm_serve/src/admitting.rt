@@ -4,7 +4,7 @@ use crate::arriving::arrival;
 use crate::entrance::Entrance;
 use crate::faults::Faults;
 use crate::queue::{Arrivals, Offered, offer};
-use crate::supervisor::{ServerEvent, Supervisor};
+use sm_connection::{ServerEvent, Supervisor};
 use sm_engine::ServeFault;
 use std::os::unix::net::UnixStream;
 use std::rt::Clock;

@@ -2,7 +2,7 @@
 
 use crate::entrance::Entrance;
 use crate::faults::Faults;
-use crate::supervisor::{ServerEvent, Supervisor};
+use sm_connection::{ServerEvent, Supervisor};
 use sm_engine::ServeFault;
 use std::io::{self, ErrorKind};
 use std::os::unix::net::UnixStream;

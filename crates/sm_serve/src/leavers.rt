@@ -1,9 +1,6 @@
 //! Clients that are gone and couldn't leave.
 
-use crate::free_seats::FreeSeats;
-use crate::monitor::Monitor;
-use crate::owned::ENTRY;
-use crate::supervisor::Supervisor;
+use sm_connection::{ENTRY, FreeSeats, Monitor, Supervisor};
 use sm_door::{Door, Naming, SeatOrSession, Session};
 use sm_history::Gate;
 use std::alloc::{AllocError, Global};

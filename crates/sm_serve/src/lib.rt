@@ -1,50 +1,29 @@
 //! A server of connections at a door: sessions of clients in worker threads, and those of administrators in one more.
 #![tactic(auto)]
 
-mod administrator;
 mod admitting;
-mod answered;
 mod arriving;
 mod attending;
-mod audit_log;
-mod audit_sink;
-mod audit_writer;
-mod client;
-mod command;
-mod connection;
-mod door_desk;
 mod entrance;
 mod faults;
-mod free_seats;
-mod gauge;
-pub mod laws;
 mod leavers;
 mod live;
-mod monitor;
-mod owned;
+mod log_lines;
+mod log_writer;
 mod pace;
 mod patience;
 mod queue;
-mod refusals;
-mod reserve;
 mod sealing;
+mod server_log;
 mod serving;
 mod shared_admin;
-mod supervisor;
 mod uninterrupted;
 mod visitor;
 mod whole_lines;
 
-pub use attending::{serve_administrator, serve_client};
-pub use audit_log::{AuditLines, AuditLog};
-pub use audit_sink::{AuditSink, SupervisorSink};
-pub use audit_writer::write_log;
-pub use door_desk::Occasion;
 pub use entrance::Entrance;
-pub use free_seats::FreeSeats;
-pub use gauge::Gauge;
-pub use monitor::Monitor;
+pub use log_lines::LogLines;
+pub use log_writer::write_log;
 pub use patience::Patience;
-pub use sealing::SealAt;
+pub use server_log::{ServerLog, WaitingLines};
 pub use serving::{Numbers, serve};
-pub use supervisor::{ServerEvent, Supervisor};

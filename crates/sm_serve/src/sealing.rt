@@ -1,28 +1,10 @@
 //! Seals that a server makes by itself.
 
-use crate::monitor::Monitor;
 use crate::shared_admin::SharedAdmin;
-use crate::supervisor::Supervisor;
+use sm_connection::{Monitor, Supervisor};
 use sm_door::{Door, Naming};
 use sm_history::{Gate, Refusal};
 use std::sync::Wait;
-
-/// When a server seals its journal by itself. If it does at all, it also does when a change was refused because the
-/// journal is full or an allocation failed.
-#[derive(Clone, Copy, PartialEq, Eq)]
-pub struct SealAt {
-    /// When the open segment has this many entries.
-    pub entries: Option<u32>,
-    /// When its entries have this many bytes, by an upper bound.
-    pub bytes: Option<u64>,
-}
-
-impl SealAt {
-    /// Returns whether only administrators seal.
-    pub fn is_never(&self) -> bool {
-        self.entries.is_none() && self.bytes.is_none()
-    }
-}
 
 /// Seals the open segment if that is due, and drops it. If an allocation fails, a later answer tries again.
 pub fn seal_if_due<J: Naming, G: Gate + Drop, H: Supervisor, R: Wait>(

@@ -7,16 +7,12 @@ use crate::arriving::arrival;
 use crate::attending::{attend_administrator, attend_client};
 use crate::entrance::Entrance;
 use crate::faults::Faults;
-use crate::free_seats::FreeSeats;
-use crate::gauge::Gauge;
 use crate::leavers::Leavers;
-use crate::monitor::Monitor;
 use crate::patience::Patience;
 use crate::queue::{Arrivals, Queue, next, queue_of};
-use crate::sealing::SealAt;
 use crate::shared_admin::SharedAdmin;
-use crate::supervisor::Supervisor;
 use crate::visitor::Lobby;
+use sm_connection::{FreeSeats, Gauge, Monitor, SealAt, Supervisor};
 use sm_core::View;
 use sm_door::{
     Actor, Admin, Door, HistoryId, LockedManager, Naming, Published, Registry, Seat, Session,

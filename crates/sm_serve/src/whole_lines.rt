@@ -2,9 +2,9 @@
 
 ghost use Rattle.std.specs.Prelude.{◌≡◌, ◌≤◌, ◌↔◌, ℕ, [], IsTrue, drop, length, take};
 ghost use Rattle.std.specs.Io.KnownBytes.{Appends};
-ghost use Rattle.sm_serve.specs.Lines.{BreaksAt, WritesLines, lines_in};
+ghost use Rattle.sm_serve.specs.Lines.{BreaksAt, WritesLines, bytes_of};
 
-use std::alloc::Global;
+use crate::log_lines::{LogLines, count_lines};
 use std::io::Write;
 
 /// A writer of whole lines. If a write fails in the middle of a line, the rest of it is written before anything else;
@@ -12,9 +12,9 @@ use std::io::Write;
 pub struct WholeLines<W> {
     writer: W,
     // Lines of which the first `written` bytes are written.
-    cut: Vec<u8>,
+    cut: LogLines,
     written: usize,
-    ghost within: { written ≤ length cut.items },
+    ghost within: { written ≤ length (bytes_of cut) },
 }
 
 impl<W: Drop> Drop for WholeLines<W> {
@@ -29,13 +29,13 @@ impl<W: Drop> Drop for WholeLines<W> {
 
 impl<W: Write> WholeLines<W> {
     /// Makes a writer that has begun no line.
-    pub fn new(alloc: Global, writer: W) -> WholeLines<W>
+    pub fn new(writer: W) -> WholeLines<W>
         ensures writer { result.writer ≡ writer }
-        ensures cut { result.cut.items ≡ [] }
+        ensures cut { bytes_of result.cut ≡ [] }
     {
         WholeLines {
             writer,
-            cut: Vec::new(alloc),
+            cut: LogLines::Fixed(&[]),
             written: 0,
         }
     }
@@ -44,38 +44,37 @@ impl<W: Write> WholeLines<W> {
     pub fn complete(&mut self) -> bool
         ensures front { (n : ℕ)
             × Appends (W.contents self.old.writer) (W.contents self.new.writer)
-            (take n (drop self.old.written self.old.cut.items))
-            × (drop self.new.written self.new.cut.items ≡ drop n (drop self.old.written self.old.cut.items)) }
-        ensures whole { IsTrue result ↔ (drop self.new.written self.new.cut.items ≡ []) }
+            (take n (drop self.old.written (bytes_of self.old.cut)))
+            × (drop self.new.written (bytes_of self.new.cut) ≡ drop n (drop self.old.written (bytes_of self.old.cut))) }
+        ensures whole { IsTrue result ↔ (drop self.new.written (bytes_of self.new.cut) ≡ []) }
     {
-        let more = write_front(&mut self.writer, &self.cut[self.written..]);
+        let more = write_front(&mut self.writer, &self.cut.bytes()[self.written..]);
         self.written += more;
-        self.written == self.cut.len()
+        self.written == self.cut.bytes().len()
     }
 
     /// Writes these lines, after the rest of the line that was cut. Returns the number of lines that were lost.
-    pub fn write(&mut self, lines: Vec<u8>) -> u64
-        ensures { WritesLines (drop self.old.written self.old.cut.items) lines.items
+    pub fn write(&mut self, lines: LogLines) -> u64
+        ensures { WritesLines (drop self.old.written (bytes_of self.old.cut)) (bytes_of lines)
             (W.contents self.old.writer) (W.contents self.new.writer)
-            (drop self.new.written self.new.cut.items) result }
+            (drop self.new.written (bytes_of self.new.cut)) result }
     {
         if !self.complete() {
-            return count_lines(&lines);
+            return lines.count();
         }
-        let written = write_front(&mut self.writer, &lines);
-        let end = line_end(&lines, written);
-        let lost = count_lines(&lines[end..]);
-        let mut lines = lines;
-        lines.truncate(end);
-        self.keep(lines, written);
+        let text = lines.bytes();
+        let written = write_front(&mut self.writer, text);
+        let end = line_end(text, written);
+        let lost = count_lines(&text[end..]);
+        self.keep(lines.truncated(end), written);
         lost
     }
 
     // Keeps lines of which the first `written` bytes are written.
-    fn keep(&mut self, lines: Vec<u8>, written: usize)
-        requires { written ≤ length lines.items }
+    fn keep(&mut self, lines: LogLines, written: usize)
+        requires { written ≤ length (bytes_of lines) }
         ensures writer { self.new.writer ≡ self.old.writer }
-        ensures cut { self.new.cut.items ≡ lines.items }
+        ensures cut { bytes_of self.new.cut ≡ bytes_of lines }
         ensures written { self.new.written ≡ written }
     {
         self.cut = lines;
@@ -118,10 +117,4 @@ fn line_end(lines: &[u8], written: usize) -> usize
         end += 1;
     }
     end
-}
-
-fn count_lines(text: &[u8]) -> u64
-    ensures { result ≡ lines_in text.now }
-{
-    text.iter().filter(|byte| **byte == b'\n').count() as u64
 }

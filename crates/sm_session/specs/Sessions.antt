@@ -1,6 +1,6 @@
 -- What a session asks its desk, and what it writes.
-use Rattle.std.specs.Prelude.{◌≡◌, ◌⊎◌, ℕ, List, [], ◌++◌, Bool, true, false, ◌||◌, ◌&&◌, not, codes, MatchBool}
-use Rattle.std.specs.Prelude.{Option, Some, Result, OnOk}
+use Rattle.std.specs.Prelude.{◌≡◌, ◌<◌, ◌≤◌, ◌+◌, ◌⊎◌, ℕ, List, [], ◌++◌, Bool, true, false, ◌||◌, ◌&&◌, not, codes}
+use Rattle.std.specs.Prelude.{MatchBool, Option, Some, Result, Err, OnOk, min}
 use Rattle.std.specs.Io.KnownBytes.{IsAtEnd}
 use Rattle.sm_history.specs.declared.outcome.Outcome.TheVariants.{Connected, Died}
 use Rattle.sm_history.specs.declared.reply.Reply.{Reply}
@@ -13,7 +13,10 @@ use Rattle.sm_wire.specs.declared.item.Item.TheVariants.{Asked, Policy, Malforme
 use Rattle.sm_wire.specs.declared.kind.Kind.{Kind}
 use Rattle.sm_wire.specs.declared.kind.Kind.TheVariants.{Client, Admin, Script}
 use Rattle.sm_wire.specs.Replies.{visible_reply}
+use Rattle.sm_engine.specs.declared.counted.Counted.{Counted}
 use Rattle.sm_engine.specs.declared.fault.Fault.{Fault}
+use Rattle.sm_engine.specs.declared.fault.Fault.TheVariants.{ReadFault, TooManyReads, WriteFault}
+use Rattle.sm_engine.specs.Counts.{calls_of, failures_of, greatest_count}
 use Rattle.sm_engine.specs.Running.{Served}
 use Rattle.sm_session.specs.declared.response.Response.{Response}
 use Rattle.sm_session.specs.declared.response.Response.TheVariants.{Replied}
@@ -81,11 +84,6 @@ unfoldable pub is_died : Response → Bool
 is_died (Replied (Done Died)) = true
 is_died _ = false
 
--- A request is a `hello`, for which a desk has its own call.
-abbrev pub is_hello : Request → Bool
-is_hello (Hello who) = true
-is_hello _ = false
-
 -- A `hello` is answered by a client's number.
 abbrev pub makes_client : Item → Response → Bool
 makes_client (Asked (Hello who)) response = is_connected response
@@ -143,7 +141,7 @@ held_limit = 8192
 abbrev pub begins : {D : Type 0} → Kind → D → SessionState D
 begins kind desk = record { kind = kind; desk = desk; connected = false; over = false }
 
--- The desk's `bye` was called once, if a client was made; otherwise the desk is as it was.
+-- The desk was told of the end once, if a client was made; otherwise the desk is as it was.
 abbrev pub Leaves : {D : Type 0} → (D → D → Type 0) → SessionState D → D → Type 0
 Leaves leaves last desk = MatchBool last.connected (leaves last.desk desk) (desk ≡ last.desk)
 
@@ -167,3 +165,14 @@ Appends IsText old new = (text : List ℕ) × IsText text × (new ≡ old ++ tex
 -- An item was answered and its text was lost because an allocation failed, or it wasn't answered.
 abbrev pub Loses : {S : Type 0} → (List ℕ → S → Type 0) → S → S → Type 0
 Loses answered old new = (new ≡ old) ⊎ ((text : List ℕ) × answered text new)
+
+-- At most `bound` reads were made. A session reports a failed read or write, and reports one only if there was one; it
+-- reports too many reads only after `bound` of them.
+pub record Counts {R W : Type 0} (result : Result (Unit {0}) Fault) (bound : ℕ) (r r_new : Counted R)
+    (w w_new : Counted W) : Type 0 where
+  pub reads : calls_of r_new ≤ calls_of r + bound
+  pub too_many : result ≡ Err TooManyReads → calls_of r_new ≡ min (calls_of r + bound) greatest_count
+  pub read_fault : result ≡ Err ReadFault → failures_of r < failures_of r_new
+  pub write_fault : result ≡ Err WriteFault → failures_of w < failures_of w_new
+  pub read_told : failures_of r < failures_of r_new → result ≡ Err ReadFault
+  pub write_told : failures_of w < failures_of w_new → result ≡ Err WriteFault

@@ -1,8 +1,10 @@
 //! A session that calls its gate at each line.
 
 ghost use Rattle.std.specs.Prelude.{◌≡◌};
+ghost use Rattle.sm_session.specs.Desks.{DeskAnswers, DeskLeaves};
 ghost use Rattle.sm_session.specs.Sessions.{AnswersItem, Leaves, begins, held_limit, is_over};
 
+use crate::command::Command;
 use crate::desk::Desk;
 use crate::session_state::SessionState;
 use sm_engine::Machine;
@@ -54,9 +56,9 @@ impl<'a, D: Desk, G: Gate> GatedSession<'a, D, G> {
         }
     }
 
-    /// Ends the session: calls the desk's `bye` if it has a client.
+    /// Ends the session: tells the desk so if it has a client.
     pub fn close(self) -> D
-        ensures { Leaves D.leaves self.entry result }
+        ensures { Leaves (DeskLeaves D.answers) self.entry result }
     {
         let GatedSession {
             alloc: _,
@@ -75,13 +77,13 @@ impl<'a, D: Desk, G: Gate> GatedSession<'a, D, G> {
             return desk;
         }
         let mut leaving = desk;
-        leaving.bye();
+        leaving.answer(Command::End);
         leaving
     }
 }
 
 impl<'a, D: Desk, G: Gate> Machine for GatedSession<'a, D, G> {
-    ghost answers = { AnswersItem D.answers };
+    ghost answers = { AnswersItem (DeskAnswers D.answers) };
 
     ghost over = { is_over };
 
@@ -94,11 +96,12 @@ impl<'a, D: Desk, G: Gate> Machine for GatedSession<'a, D, G> {
         _audit: &mut Vec<u8>,
     ) -> Result<(), AllocError> {
         self.line = self.line.saturating_add(1);
-        if self.session_state.will_ask(&item) {
-            self.unwritten.push(self.line)?;
-            self.gate.enter(self.line);
+        if !self.session_state.will_ask(&item) {
+            return self.session_state.turn_down(&item, replies);
         }
-        self.session_state.take(self.alloc, item, replies)
+        self.unwritten.push(self.line)?;
+        self.gate.enter(self.line);
+        self.session_state.pass(self.alloc, item, replies)
     }
 
     fn is_over(&self) -> bool {

@@ -1,17 +1,19 @@
 //! The state of a session.
 
-ghost use Rattle.std.specs.Prelude.{◌≡◌, OnOk, OnErr, false, if◌then◌else◌};
-ghost use Rattle.sm_history.specs.Verdict.{is_die};
+ghost use Rattle.std.specs.Prelude.{◌≡◌, ◌++◌, [], OnOk, OnErr, true, false, if◌then◌else◌};
 ghost use Rattle.sm_wire.specs.declared.request.Request.TheVariants.{Hello, Change};
 ghost use Rattle.sm_wire.specs.declared.item.Item.TheVariants.{Asked, Policy};
+ghost use Rattle.sm_session.specs.Desks.{DeskAnswers};
 ghost use Rattle.sm_session.specs.Sessions.{client_may, admin_may, may_ask, may_reload, is_asked, is_connected};
-ghost use Rattle.sm_session.specs.Sessions.{is_died, Asks, TakesItem, SitsThrough, Appends, Loses};
+ghost use Rattle.sm_session.specs.Sessions.{is_died, Asks, AsksOnce, Appends, Loses, said_to};
 
+use crate::command::Command;
 use crate::desk::Desk;
 use crate::response::Response;
 use crate::responses::push_response;
-use sm_history::{Event, Outcome, Reply};
+use sm_history::{Event, Outcome, Reply, is_death};
 use sm_kinds::{ClientId, Identity};
+use sm_policy::Prepared;
 use sm_wire::{Item, Kind, PolicyTexts, Request, Telling};
 use std::alloc::{AllocError, Global};
 
@@ -42,31 +44,42 @@ impl<D: Desk> SessionState<D> {
         }
     }
 
-    /// Passes an item to the desk, if it is allowed in this state, and appends the line of the answer.
-    pub fn take(
+    /// Passes an item to the desk, and appends the lines of its answer.
+    pub fn pass(
         &mut self,
         alloc: Global,
         item: Item,
         replies: &mut Vec<u8>,
     ) -> Result<(), AllocError>
         requires can { D.can_answer self.old.desk }
+        requires asked { is_asked self.old.kind self.old.connected item ≡ true }
         ensures can { D.can_answer self.new.desk }
-        ensures ok { OnOk result (Appends (λ text. SitsThrough D.answers self.old item text self.new)
+        ensures ok { OnOk result (Appends (λ text. AsksOnce (DeskAnswers D.answers) self.old item text self.new)
             replies.old.items replies.new.items) }
-        ensures err { OnErr result (Loses (SitsThrough D.answers self.old item) self.old self.new) }
+        ensures err { OnErr result (Loses (AsksOnce (DeskAnswers D.answers) self.old item) self.old self.new) }
+    {
+        match item {
+            Item::Asked(request) => self.pass_request(alloc, request, replies),
+            Item::Policy(texts) => self.pass_policy(alloc, &texts, replies),
+            Item::Malformed => unreachable!(),
+            Item::LineTooLong => unreachable!(),
+        }
+    }
+
+    /// Appends the answer to an item that isn't passed to the desk.
+    pub fn turn_down(&self, item: &Item, replies: &mut Vec<u8>) -> Result<(), AllocError>
+        ensures { OnOk result (replies.new.items ≡ replies.old.items ++ (if self.now.over then [] else said_to item.now)) }
     {
         if self.over {
             return Ok(());
         }
         match item {
-            Item::Asked(request) => self.take_request(alloc, request, replies),
-            Item::Policy(texts) => self.take_policy(alloc, &texts, replies),
-            Item::Malformed => replies.extend_from_slice(b"malformed\n"),
             Item::LineTooLong => replies.extend_from_slice(b"fault long\n"),
+            _ => replies.extend_from_slice(b"malformed\n"),
         }
     }
 
-    fn take_request(
+    fn pass_request(
         &mut self,
         alloc: Global,
         request: Request,
@@ -74,19 +87,16 @@ impl<D: Desk> SessionState<D> {
     ) -> Result<(), AllocError>
         requires can { D.can_answer self.old.desk }
         ensures can { D.can_answer self.new.desk }
-        ensures ok { OnOk result (Appends (λ text. TakesItem D.answers self.old (Asked request) text self.new)
+        ensures ok { OnOk result (Appends (λ text. AsksOnce (DeskAnswers D.answers) self.old (Asked request) text self.new)
             replies.old.items replies.new.items) }
-        ensures err { OnErr result (Loses (TakesItem D.answers self.old (Asked request)) self.old self.new) }
+        ensures err { OnErr result (Loses (AsksOnce (DeskAnswers D.answers) self.old (Asked request)) self.old self.new) }
     {
-        if !may_ask(self.kind, self.connected, &request) {
-            return replies.extend_from_slice(b"malformed\n");
-        }
         let telling = request.telling();
         let response = self.ask(request);
         push_response(alloc, replies, telling, &response)
     }
 
-    fn take_policy(
+    fn pass_policy(
         &mut self,
         alloc: Global,
         texts: &PolicyTexts,
@@ -94,14 +104,11 @@ impl<D: Desk> SessionState<D> {
     ) -> Result<(), AllocError>
         requires can { D.can_answer self.old.desk }
         ensures can { D.can_answer self.new.desk }
-        ensures ok { OnOk result (Appends (λ text. TakesItem D.answers self.old (Policy texts.now) text self.new)
+        ensures ok { OnOk result (Appends (λ text. AsksOnce (DeskAnswers D.answers) self.old (Policy texts.now) text self.new)
             replies.old.items replies.new.items) }
-        ensures err { OnErr result (Loses (TakesItem D.answers self.old (Policy texts.now)) self.old self.new) }
+        ensures err { OnErr result (Loses (AsksOnce (DeskAnswers D.answers) self.old (Policy texts.now)) self.old self.new) }
     {
-        if !may_reload(self.kind) {
-            return replies.extend_from_slice(b"malformed\n");
-        }
-        let response = self.reload(texts);
+        let response = self.reload(alloc, texts);
         push_response(alloc, replies, Telling::Whole, &response)
     }
 
@@ -109,23 +116,12 @@ impl<D: Desk> SessionState<D> {
     fn ask(&mut self, request: Request) -> Response
         requires can { D.can_answer self.old.desk }
         ensures can { D.can_answer self.new.desk }
-        ensures asks { Asks D.answers self.old (Asked request) result self.new }
+        ensures asks { Asks (DeskAnswers D.answers) self.old (Asked request) result self.new }
     {
         match request {
             Request::Hello(who) => self.hello(who),
             Request::Change(client, event) => self.change(client, event),
-            Request::Look(client, query) => self.desk.ask(Request::Look(client, query)),
-            Request::Reload {
-                expected,
-                rules,
-                contexts,
-            } => self.desk.ask(Request::Reload {
-                expected,
-                rules,
-                contexts,
-            }),
-            Request::Denials => self.desk.ask(Request::Denials),
-            Request::Seal => self.desk.ask(Request::Seal),
+            _ => self.desk.answer(Command::Line(request)),
         }
     }
 
@@ -133,9 +129,9 @@ impl<D: Desk> SessionState<D> {
     fn hello(&mut self, who: Identity) -> Response
         requires can { D.can_answer self.old.desk }
         ensures can { D.can_answer self.new.desk }
-        ensures asks { Asks D.answers self.old (Asked (Hello who)) result self.new }
+        ensures asks { Asks (DeskAnswers D.answers) self.old (Asked (Hello who)) result self.new }
     {
-        let response = self.desk.hello(who);
+        let response = self.desk.answer(Command::Hello(who));
         self.connected = is_connected(&response) | self.connected;
         response
     }
@@ -144,21 +140,29 @@ impl<D: Desk> SessionState<D> {
     fn change(&mut self, client: Option<ClientId>, event: Event) -> Response
         requires can { D.can_answer self.old.desk }
         ensures can { D.can_answer self.new.desk }
-        ensures asks { Asks D.answers self.old (Asked (Change client event)) result self.new }
+        ensures asks { Asks (DeskAnswers D.answers) self.old (Asked (Change client event)) result self.new }
     {
-        let leaving = is_die(&event);
-        let response = self.desk.ask(Request::Change(client, event));
+        let leaving = is_death(&event);
+        let response = self
+            .desk
+            .answer(Command::Line(Request::Change(client, event)));
         self.over = (leaving & is_died(&response)) | self.over;
         response
     }
 
-    fn reload(&mut self, texts: &PolicyTexts) -> Response
+    // Has the desk install the policy of these files, if it isn't refused.
+    fn reload(&mut self, alloc: Global, texts: &PolicyTexts) -> Response
         requires can { D.can_answer self.old.desk }
         ensures can { D.can_answer self.new.desk }
-        ensures asks { Asks D.answers self.old (Policy texts.now) result self.new }
+        ensures asks { Asks (DeskAnswers D.answers) self.old (Policy texts.now) result self.new }
     {
-        self.desk
-            .reload(texts.expected(), texts.rules(), texts.contexts())
+        match Prepared::from_texts(alloc, texts.rules(), texts.contexts()) {
+            Ok(prepared) => self.desk.answer(Command::Install {
+                expected: texts.expected(),
+                prepared,
+            }),
+            Err(fault) => Response::PolicyRefused(fault),
+        }
     }
 }
 
@@ -227,10 +231,4 @@ fn is_died(response: &Response) -> bool
     ensures { result ≡ is_died response.now }
 {
     matches!(response, Response::Replied(Reply::Done(Outcome::Died)))
-}
-
-fn is_die(event: &Event) -> bool
-    ensures { result ≡ is_die event.now }
-{
-    matches!(event, Event::Die)
 }

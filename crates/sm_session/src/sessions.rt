@@ -1,8 +1,9 @@
 //! One connection's session.
 
-ghost use Rattle.std.specs.Prelude.{◌≡◌, ◌<◌, ◌≤◌, ◌+◌, ◌-◌, min, ◌⊎◌, true, if◌then◌else◌};
+ghost use Rattle.std.specs.Prelude.{◌≡◌, ◌<◌, ◌-◌, ◌⊎◌, true, if◌then◌else◌};
 ghost use Rattle.sm_engine.specs.Counts.{failures_of, calls_of, inner_of, greatest_count};
-ghost use Rattle.sm_session.specs.Sessions.{Attends};
+ghost use Rattle.sm_session.specs.Desks.{DeskAnswers, DeskLeaves};
+ghost use Rattle.sm_session.specs.Sessions.{Attends, Counts};
 
 use crate::desk::Desk;
 use crate::gated_session::GatedSession;
@@ -13,8 +14,8 @@ use std::alloc::Global;
 use std::io::{Read, Write};
 
 /// Serves one connection of a client or an administrator: passes its lines to the desk until they end, until a `bye` is
-/// answered by `bye`, until a fault, or until `bound` reads were made. Returns the desk, whose `bye` was called if it
-/// had a client.
+/// answered by `bye`, until a fault, or until `bound` reads were made. Returns the desk, which was told of
+/// the end if it had a client.
 pub fn session<D: Desk, G: Gate, R: Read, W: Write>(
     alloc: Global,
     kind: Kind,
@@ -27,16 +28,11 @@ pub fn session<D: Desk, G: Gate, R: Read, W: Write>(
     requires can { D.can_answer desk }
     requires reader { failures_of reader.old < greatest_count }
     requires writer { failures_of writer.old < greatest_count }
-    ensures attends { Attends kind D.answers D.leaves result.1 bound (calls_of reader.new - calls_of reader.old) desk
+    ensures attends { Attends kind (DeskAnswers D.answers) (DeskLeaves D.answers) result.1 bound
+        (calls_of reader.new - calls_of reader.old) desk
         (R.remaining (inner_of reader.old)) (R.remaining (inner_of reader.new))
         (W.contents (inner_of writer.old)) (W.contents (inner_of writer.new)) result.0 }
-    ensures reads { calls_of reader.new ≤ calls_of reader.old + bound }
-    ensures too_many { result.1 ≡ Err Fault.TooManyReads
-        → calls_of reader.new ≡ min (calls_of reader.old + bound) greatest_count }
-    ensures read_fault { result.1 ≡ Err Fault.ReadFault → failures_of reader.old < failures_of reader.new }
-    ensures write_fault { result.1 ≡ Err Fault.WriteFault → failures_of writer.old < failures_of writer.new }
-    ensures read_told { failures_of reader.old < failures_of reader.new → result.1 ≡ Err Fault.ReadFault }
-    ensures write_told { failures_of writer.old < failures_of writer.new → result.1 ≡ Err Fault.WriteFault }
+    ensures counts { Counts result.1 bound reader.old reader.new writer.old writer.new }
 {
     let mut gated_session = GatedSession::new(alloc, kind, desk, gate);
     let mut unaudited = Counted::new(Vec::new(alloc));

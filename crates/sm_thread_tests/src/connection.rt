@@ -6,12 +6,14 @@ ghost use Rattle.sm_core.specs.Opening.{opened};
 
 use crate::server::{Ear, manager, policy};
 use sm_audit::push_lines;
+use sm_connection::{
+    AuditSink, FreeSeats, Gauge, Monitor, SealAt, serve_administrator, serve_client,
+};
 use sm_door::{Admin, Door, Naming, UnnamedRegistry};
 use sm_engine::Counted;
 use sm_history::{NoGate, Record};
 use sm_kinds::{Identity, Places};
 use sm_policy::Prepared;
-use sm_serve::{AuditSink, FreeSeats, Gauge, Monitor, SealAt, serve_administrator, serve_client};
 use std::alloc::Global;
 use std::marker::Brand;
 use std::process::Abort;

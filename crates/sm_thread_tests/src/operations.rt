@@ -5,8 +5,9 @@ use crate::server::{
 };
 use crate::steps::Step::{self, Close, Flood, Over, Repeat, Say};
 use crate::steps::connected;
+use sm_connection::SealAt;
 use sm_history::NoGate;
-use sm_serve::{Numbers, Patience, SealAt};
+use sm_serve::{Numbers, Patience};
 use std::test::Fail;
 
 /// One client, from its `hello` to its `bye`.

@@ -5,13 +5,14 @@ ghost use Rattle.sm_core.specs.Opening.{opened};
 
 use crate::steps::Step::{self, Close, Over, Reload, Say, SayAll, Vanish};
 use crate::steps::connected;
+use sm_connection::{FreeSeats, SealAt, ServerEvent, Supervisor};
 use sm_door::{Door, Naming, UnnamedRegistry};
 use sm_engine::ServeFault;
 use sm_history::{Gate, NoGate, Record};
 use sm_kinds::{Context, Identity, Places};
 use sm_policy::Prepared;
 use sm_samples::{DEVICE_LABELS, DEVICE_RULES, STRICTER_RULES};
-use sm_serve::{Entrance, FreeSeats, Numbers, Patience, SealAt, ServerEvent, Supervisor, serve};
+use sm_serve::{Entrance, Numbers, Patience, serve};
 use std::alloc::Global;
 use std::io::ErrorKind;
 use std::marker::Brand;

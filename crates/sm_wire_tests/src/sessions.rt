@@ -2,8 +2,7 @@
 
 use sm_engine::Counted;
 use sm_history::{Event, Gate, Outcome, Refusal, Reply};
-use sm_kinds::{ClientId, Identity};
-use sm_policy::PolicyFault;
+use sm_kinds::ClientId;
 use sm_samples::OneByte;
 use sm_session::*;
 use sm_wire::{Kind, Request};
@@ -33,21 +32,34 @@ impl Clerk {
 impl Desk for Clerk {
     ghost answers = { λ _ _ _ _. Unit {0} };
 
-    ghost leaves = { λ _ _. Unit {0} };
-
-    /// Refuses the first `hello`, and accepts the second one.
-    fn hello(&mut self, who: Identity) -> Response {
-        self.asked = self.asked.saturating_add(1);
-        if self.asked == 1 {
-            return Response::Replied(Reply::Refused(Refusal::TooManyClients));
+    fn answer(&mut self, command: Command) -> Response {
+        if matches!(command, Command::End) {
+            self.ends = self.ends.saturating_add(1);
+            return Response::Replied(Reply::GotNull);
         }
-        Response::Replied(Reply::Done(Outcome::Connected(ClientId(1))))
+        self.asked = self.asked.saturating_add(1);
+        match command {
+            Command::Hello(_) => Response::Replied(self.hello_reply()),
+            Command::Line(request) => self.line(&request),
+            Command::Install { expected, .. } => {
+                Response::Replied(Reply::Done(Outcome::Reloaded(expected)))
+            }
+            Command::End => Response::Replied(Reply::GotNull),
+        }
+    }
+}
+
+impl Clerk {
+    /// Refuses the first `hello`, and accepts the second one.
+    fn hello_reply(&self) -> Reply {
+        if self.asked == 1 {
+            return Reply::Refused(Refusal::TooManyClients);
+        }
+        Reply::Done(Outcome::Connected(ClientId(1)))
     }
 
-    /// A `bye` is refused once.
-    fn ask(&mut self, request: Request) -> Response {
-        self.asked = self.asked.saturating_add(1);
-        match &request {
+    fn line(&self, request: &Request) -> Response {
+        match request {
             Request::Change(_, Event::Die) => Response::Replied(self.bye_reply()),
             Request::Change(_, _) => Response::Replied(Reply::GotNull),
             Request::Denials => Response::Denied(Vec::new(self.alloc)),
@@ -55,20 +67,7 @@ impl Desk for Clerk {
         }
     }
 
-    fn reload(&mut self, expected: u64, rules: &[u8], contexts: &[u8]) -> Response {
-        self.asked = self.asked.saturating_add(1);
-        if rules.len() == 2 && contexts.len() == 1 {
-            return Response::Replied(Reply::Done(Outcome::Reloaded(expected)));
-        }
-        Response::PolicyRefused(PolicyFault::UndeclaredLabel(7))
-    }
-
-    fn bye(&mut self) {
-        self.ends = self.ends.saturating_add(1);
-    }
-}
-
-impl Clerk {
+    /// A `bye` is refused once.
     fn bye_reply(&self) -> Reply {
         if self.asked < 5 {
             return Reply::Refused(Refusal::Memory);
@@ -97,6 +96,24 @@ impl Turnstile {
     }
 }
 
+impl Turnstile {
+    /// How often it was entered, and the sum of the lines.
+    fn entries(&self) -> (u64, u64) {
+        (
+            self.entered.load(Ordering::Relaxed),
+            self.entered_lines.load(Ordering::Relaxed),
+        )
+    }
+
+    /// The same of those who left.
+    fn exits(&self) -> (u64, u64) {
+        (
+            self.left.load(Ordering::Relaxed),
+            self.left_lines.load(Ordering::Relaxed),
+        )
+    }
+}
+
 impl Gate for Turnstile {
     fn enter(&self, line: u64) {
         self.entered.fetch_add(1, Ordering::Relaxed);
@@ -111,8 +128,8 @@ impl Gate for Turnstile {
     }
 }
 
-/// Runs a session that must write this, ask its desk this often, for lines whose numbers have this sum, and end this
-/// often.
+/// Runs a session that must write this, ask its desk this often, call its gate at lines whose numbers are these, and end
+/// this often.
 fn attend(
     rt: &impl Abort,
     alloc: Global,
@@ -120,7 +137,7 @@ fn attend(
     input: &[u8],
     wanted: &[u8],
     asked: u32,
-    lines: u64,
+    lines: &[u64],
     ends: u32,
 ) {
     let mut reader = Counted::new(input);
@@ -139,10 +156,9 @@ fn attend(
     assert_eq!(rt; writer.into_inner().0.as_slice(), wanted);
     assert_eq!(rt; clerk.asked, asked);
     assert_eq!(rt; clerk.ends, ends);
-    assert_eq!(rt; gate.entered.load(Ordering::Relaxed), u64::from(asked));
-    assert_eq!(rt; gate.entered_lines.load(Ordering::Relaxed), lines);
-    assert_eq!(rt; gate.left.load(Ordering::Relaxed), u64::from(asked));
-    assert_eq!(rt; gate.left_lines.load(Ordering::Relaxed), lines);
+    let seen = (lines.len() as u64, lines.iter().sum());
+    assert_eq!(rt; gate.entries(), seen);
+    assert_eq!(rt; gate.exits(), seen);
 }
 
 // Before a client is made all else is malformed, and a refused `hello` may be tried again; so may a refused `bye`.
@@ -156,7 +172,7 @@ fn a_client_says_bye(rt: HostRuntime) {
         b"take\nhello 100 1000 u:r:a:s0\ntake\nhello 100 1000 u:r:a:s0\nhello 100 1000 u:r:a:s0\nreload 1 0 0\nget activity\nbye\nbye\nlist 15\nlis",
         b"malformed\nfailed too-many-clients\nmalformed\nclient 1\nmalformed\nmalformed\nnull\nfailed memory\nbye\n",
         5,
-        2 + 4 + 7 + 8 + 9,
+        &[2, 4, 7, 8, 9],
         1,
     );
 }
@@ -170,7 +186,7 @@ fn a_client_is_cut_off(rt: HostRuntime) {
         b"hello 1 1 u:r:a:s0\nhello 1 1 u:r:a:s0\nversion\ntak",
         b"failed too-many-clients\nclient 1\nown 3\nfault cut\n",
         3,
-        1 + 2 + 3,
+        &[1, 2, 3],
         1,
     );
 }
@@ -184,21 +200,22 @@ fn a_refused_client_isnt_ended(rt: HostRuntime) {
         b"hello 1 1 u:r:a:s0\nbye\n",
         b"failed too-many-clients\nmalformed\n",
         1,
-        1,
+        &[1],
         0,
     );
 }
 
+// A policy that is refused isn't passed to the desk.
 #[test]
 fn an_administrator(rt: HostRuntime) {
     attend(
         &rt,
         rt.alloc(),
         Kind::Admin,
-        b"hello 1 1 u:r:a:s0\ntake\nversion\ndenials\nreload 8 2 1\nabcreload 8 1 0\nxver",
-        b"malformed\nmalformed\nown 1\ndenials 0\nreloaded 8\nrefused contexts: undeclared type at line 7\nfault cut\n",
-        4,
-        3 + 4 + 5 + 6,
+        b"hello 1 1 u:r:a:s0\ntake\nversion\ndenials\nreload 8 8 11\ntype a;\n* u:r:a:s0\nreload 8 1 0\nxver",
+        b"malformed\nmalformed\nown 1\ndenials 0\nreloaded 8\nrefused rules: unsupported statement at line 1\nfault cut\n",
+        3,
+        &[3, 4, 5, 6],
         0,
     );
 }

@@ -1,8 +1,10 @@
 //! What operators see of a server, on standard error.
 
+use crate::standard_error::StandardError;
 use sm_command::Sockets;
+use sm_connection::{ServerEvent, Supervisor};
 use sm_history::Record;
-use sm_serve::{AuditLines, AuditLog, ServerEvent, Supervisor, write_log};
+use sm_serve::{LogLines, ServerLog, WaitingLines, write_log};
 use std::alloc::AllocError;
 use std::io;
 use std::net::Shutdown;
@@ -10,23 +12,6 @@ use std::os::fd::OwnedFd;
 use std::os::unix::net::{UnixListener, UnixStream};
 use std::rt::Clock;
 use std::sync::Wait;
-
-/// A line on standard error.
-#[derive(Drop)]
-enum Line {
-    /// It needs no memory.
-    Fixed(&'static [u8]),
-    Made(String),
-}
-
-impl Line {
-    fn bytes(&self) -> &[u8] {
-        match self {
-            Line::Fixed(bytes) => *bytes,
-            Line::Made(text) => text.as_bytes(),
-        }
-    }
-}
 
 const CLIENT_WAITS: &[u8] = b"warning: a client has waited for a worker for a second\n";
 
@@ -44,8 +29,9 @@ pub struct Console<'a, R> {
     listening: String,
     clients: UnixStream,
     admins: UnixStream,
-    // Where audit lines go. `None`: nowhere.
-    log: Option<AuditLog>,
+    log: ServerLog,
+    // Whether audit records are logged.
+    audits: bool,
 }
 
 impl<'a, R> Drop for Console<'a, R> {
@@ -57,22 +43,23 @@ impl<'a, R> Drop for Console<'a, R> {
             clients: _,
             admins: _,
             log: _,
+            audits: _,
         } = self;
     }
 }
 
 impl<'a, R: Wait> Console<'a, R> {
-    /// The console of a server that listens there.
+    /// The console of a server that listens there, and the lines for its writer.
     pub fn new(
         host: &'a HostRuntime,
         rt: &'a R,
         sockets: Sockets,
         clients: &UnixListener,
         admins: &UnixListener,
-        log: Option<AuditLog>,
-    ) -> io::Result<Console<'a, R>> {
+    ) -> io::Result<(Console<'a, R>, WaitingLines)> {
         let places = (sockets.clients, sockets.admins);
-        Ok(Console {
+        let (log, lines) = ServerLog::new(host.alloc())?;
+        let console = Console {
             host,
             rt,
             listening: format!(in host.alloc();
@@ -82,17 +69,17 @@ impl<'a, R: Wait> Console<'a, R> {
             clients: handle_of(clients)?,
             admins: handle_of(admins)?,
             log,
-        })
+            audits: sockets.audit,
+        };
+        Ok((console, lines))
     }
 
     /// Ends the log, once the lines that wait are written.
     pub fn end_log(&self) {
-        if let Some(log) = &self.log {
-            log.end(self.rt);
-        }
+        self.log.end(self.rt);
     }
 
-    fn line_of(&self, notice: ServerEvent) -> Result<Line, AllocError> {
+    fn line_of(&self, notice: ServerEvent) -> Result<LogLines, AllocError> {
         let alloc = self.host.alloc();
         let line = match notice {
             ServerEvent::Listening => self.listening.clone()?,
@@ -107,36 +94,35 @@ impl<'a, R: Wait> Console<'a, R> {
                     "warning: the journal is almost full: {used} of {slots} slots are used\n"
                 )?
             }
-            ServerEvent::ClientWaits => return Ok(Line::Fixed(CLIENT_WAITS)),
-            ServerEvent::Full => return Ok(Line::Fixed(FULL)),
-            ServerEvent::MemoryShort => return Ok(Line::Fixed(MEMORY_SHORT)),
+            ServerEvent::ClientWaits => return Ok(LogLines::Fixed(CLIENT_WAITS)),
+            ServerEvent::Full => return Ok(LogLines::Fixed(FULL)),
+            ServerEvent::MemoryShort => return Ok(LogLines::Fixed(MEMORY_SHORT)),
         };
-        Ok(Line::Made(line))
+        Ok(LogLines::Made(line.into_bytes()))
     }
 }
 
 impl<'a, R: Wait + Clock> Console<'a, R> {
-    /// Writes audit lines to standard error as they come, until the log ends.
-    pub fn write_log(&self, lines: AuditLines) {
-        if let Some(log) = &self.log {
-            let host = self.host;
-            write_log(self.rt, host.alloc(), log, lines, host.stderr());
-        }
+    /// Writes the lines of the log to standard error as they come, until it ends.
+    pub fn write_log(&self, lines: WaitingLines) {
+        let (host, log) = (self.host, &self.log);
+        let writer = StandardError::new(host, self.rt, Some(log));
+        write_log(self.rt, host.alloc(), log, lines, writer);
     }
 }
 
 impl<'a, R: Wait> Supervisor for Console<'a, R> {
-    // A line that can't be written is lost.
     fn tell(&self, notice: ServerEvent) {
-        let _ = match self.line_of(notice) {
-            Ok(line) => self.host.stderr().write_all(line.bytes()),
-            Err(_) => self.host.stderr().write_all(NO_LINE),
+        let line = match self.line_of(notice) {
+            Ok(line) => line,
+            Err(_) => LogLines::Fixed(NO_LINE),
         };
+        self.log.append(self.rt, line);
     }
 
     fn audit(&self, records: &[Record]) {
-        if let Some(log) = &self.log {
-            log.append(self.rt, records);
+        if self.audits {
+            self.log.append_records(self.rt, records);
         }
     }
 

@@ -6,6 +6,7 @@ ghost use Rattle.sm_core.specs.Opening.{opened};
 use crate::console::Console;
 use crate::sockets::{Claim, OWNER_ALONE};
 use sm_command::{Ending, Sockets};
+use sm_connection::{FreeSeats, SealAt};
 use sm_core::manager_identity;
 use sm_door::{Admin, Door, Naming, UnnamedRegistry};
 use sm_engine::ServeFault;
@@ -13,8 +14,7 @@ use sm_history::NoGate;
 use sm_kinds::{Identity, Places};
 use sm_policy::Prepared;
 use sm_script::ScriptFault;
-use sm_serve::{AuditLines, AuditLog, FreeSeats, Numbers, Patience, SealAt, serve};
-use std::alloc::{AllocError, Global};
+use sm_serve::{Numbers, Patience, serve};
 use std::marker::Brand;
 use std::os::unix::net::UnixListener;
 use std::rt::{Clock, Files, Net};
@@ -142,7 +142,7 @@ fn listen_to_both<'a, J: Naming + Send + Sync, R: Files + Net + Threads + Wait +
     ended
 }
 
-/// Serves at these sockets, with a thread of its own for the audit log if one is asked for.
+/// Serves at these sockets, with a thread of its own for the log.
 fn serve_at<'a, J: Naming + Send + Sync, R: Threads + Wait + Clock + Sync>(
     host: &HostRuntime,
     rt: &R,
@@ -154,12 +154,8 @@ fn serve_at<'a, J: Naming + Send + Sync, R: Threads + Wait + Clock + Sync>(
     clients: UnixListener,
     admins: UnixListener,
 ) -> Result<(), Ending<'a>> {
-    let (log, lines) = match log_of(host.alloc(), sockets.audit) {
-        Ok(ends) => ends,
-        Err(_) => return Err(Ending::Memory),
-    };
-    let console = match Console::new(host, rt, sockets, &clients, &admins, log) {
-        Ok(console) => console,
+    let (console, lines) = match Console::new(host, rt, sockets, &clients, &admins) {
+        Ok(parts) => parts,
         Err(error) => return Err(Ending::of_file(sockets.clients, error)),
     };
     let numbers = Numbers {
@@ -173,11 +169,6 @@ fn serve_at<'a, J: Naming + Send + Sync, R: Threads + Wait + Clock + Sync>(
             bytes: sockets.seal_bytes,
         },
     };
-    let Some(lines) = lines else {
-        return serve_under(
-            host, rt, &console, door, seats, tokens, numbers, clients, admins,
-        );
-    };
     let shown = &console;
     thread::scope(thread::scope_env(), rt, |scope| {
         if scope.spawn(move || shown.write_log(lines)).is_err() {
@@ -189,18 +180,6 @@ fn serve_at<'a, J: Naming + Send + Sync, R: Threads + Wait + Clock + Sync>(
         shown.end_log();
         ended
     })
-}
-
-/// The two ends of the audit log, if one is asked for.
-fn log_of(
-    alloc: Global,
-    is_asked_for: bool,
-) -> Result<(Option<AuditLog>, Option<AuditLines>), AllocError> {
-    if !is_asked_for {
-        return Ok((None, None));
-    }
-    let (log, lines) = AuditLog::new(alloc)?;
-    Ok((Some(log), Some(lines)))
 }
 
 /// Serves under the eyes of this console.

@@ -8,6 +8,7 @@ mod daemon;
 mod pipe;
 mod questions;
 mod sockets;
+mod standard_error;
 mod standard_streams;
 
 use admin::administer;
@@ -21,7 +22,9 @@ use sm_command::{
 use sm_engine::Counted;
 use sm_policy::Prepared;
 use sm_script::{ScriptFault, run_script};
+use standard_error::StandardError;
 use standard_streams::StandardStreams;
+use std::io::Write;
 use std::mem;
 use std::process::ExitCode;
 use std::rt::{Clock, Files, Net};
@@ -78,9 +81,19 @@ fn version(rt: &HostRuntime, words: &clap::Error) -> ExitCode {
 
 /// Prints why there is no answer.
 pub(crate) fn fail(rt: &HostRuntime, ending: &Ending) -> ExitCode {
+    fail_at(rt, rt.stderr(), ending)
+}
+
+/// Prints why a server has ended, and gives up after a while if standard error takes nothing.
+fn fail_server<'a, R: Wait>(host: &'a HostRuntime, rt: &'a R, ending: &Ending) -> ExitCode {
+    fail_at(host, StandardError::new(host, rt, None), ending)
+}
+
+/// Writes there why there is no answer.
+fn fail_at<W: Write + Drop>(rt: &HostRuntime, mut writer: W, ending: &Ending) -> ExitCode {
     let _ = match ending.line(rt.alloc()) {
-        Ok(line) => rt.stderr().write_all(&line),
-        Err(_) => rt.stderr().write_all(NO_MEMORY),
+        Ok(line) => writer.write_all(&line),
+        Err(_) => writer.write_all(NO_MEMORY),
     };
     ExitCode::FAILURE
 }
@@ -139,6 +152,8 @@ fn serve_sockets<'a, R: Files + Net + Threads + Wait + Clock + Sync>(
         Ok(policy) => policy,
         Err(fault) => return Err(Ending::Script(ScriptFault::Policy(fault))),
     };
-    serve_policy(host, rt, policy, options.places, sockets)?;
-    Ok(ExitCode::SUCCESS)
+    match serve_policy(host, rt, policy, options.places, sockets) {
+        Ok(()) => Ok(ExitCode::SUCCESS),
+        Err(ending) => Ok(fail_server(host, rt, &ending)),
+    }
 }

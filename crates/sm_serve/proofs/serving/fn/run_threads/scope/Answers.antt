@@ -19,7 +19,7 @@ use Rattle.sm_door.specs.contracts.door.Door as Door
 use Rattle.sm_door.specs.contracts.session.Session.TheInside as SessionInside
 use Rattle.sm_door.specs.contracts.published.PublishedAbsorbArcSharedView.TheImpl as Absorb
 use Rattle.sm_serve.specs.contracts.faults.Faults as Faults
-use Rattle.sm_serve.specs.contracts.gauge.Gauge as Gauge
+use Rattle.sm_connection.specs.contracts.gauge.Gauge as Gauge
 use Rattle.sm_serve.specs.contracts.shared_admin.SharedAdmin as SharedAdmin
 use Rattle.sm_core.proofs.Crossing.{view_send, view_sync}
 use Rattle.sm_core.proofs.CrossingManager.{manager_send}

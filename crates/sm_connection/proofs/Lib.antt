@@ -1,0 +1,4 @@
+mod Growing
+mod Lasting
+mod Reading
+mod Seen

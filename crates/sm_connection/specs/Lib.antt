@@ -1,0 +1,5 @@
+pub mod Connections
+pub mod Growing
+pub mod Held
+pub mod Owned
+pub mod Sinks

@@ -1,0 +1,268 @@
+//! A client's connection at the door.
+
+ghost use Rattle.std.specs.Prelude.{◌≡◌, false, MatchBool, []};
+ghost use Rattle.sm_history.specs.declared.query.Query.TheVariants.{List as ListNames, Version as AskVersion};
+ghost use Rattle.sm_history.specs.Promises.{Submitted};
+ghost use Rattle.sm_history.specs.Tokens.{Knows};
+ghost use Rattle.sm_history.specs.Verdict.{is_die};
+ghost use Rattle.sm_session.specs.declared.response.Response.TheVariants.{Replied};
+ghost use Rattle.sm_door.specs.Logged.{Logged};
+ghost use Rattle.sm_connection.specs.Connections.{ClientGives, GivesHello, GivesLine, GivesLook, GivesChange, GivesLeave};
+ghost use Rattle.sm_connection.specs.Connections.{GivesEnd, Greets, Parts, Reads, TakesSession};
+
+use crate::answered::Answered;
+use crate::connection::Connection;
+use crate::free_seats::FreeSeats;
+use crate::refusals::{not_connected, not_yours};
+use sm_door::{Door, Naming, Seat, SeatOrSession, Session};
+use sm_history::{Event, Gate, Outcome, Query, Refusal, Reply, is_death};
+use sm_kinds::Identity;
+use sm_session::{Command, Response};
+use sm_wire::Request;
+use std::alloc::Global;
+use std::sync::Wait;
+
+/// The number of times that a client that is gone tries to leave, before the last. Only a failed allocation refuses it,
+/// which may pass.
+const TRIES: u32 = 15;
+
+/// A client's connection at the door. It takes a seat for its first `hello`, and gives it back when its client leaves.
+pub struct Client<'a, J: Naming, G: Gate, R> {
+    rt: &'a R,
+    alloc: Global,
+    door: &'a Door<J, G>,
+    seats: &'a FreeSeats<J>,
+}
+
+impl<'a, J: Naming, G: Gate, R> Drop for Client<'a, J, G, R> {
+    fn drop(self) {
+        let Client {
+            rt: _,
+            alloc: _,
+            door: _,
+            seats: _,
+        } = self;
+    }
+}
+
+impl<'a, J: Naming, G: Gate + Drop, R: Wait> Client<'a, J, G, R> {
+    /// Makes a connection with these seats.
+    pub fn new(
+        rt: &'a R,
+        alloc: Global,
+        door: &'a Door<J, G>,
+        seats: &'a FreeSeats<J>,
+    ) -> Client<'a, J, G, R> {
+        Client {
+            rt,
+            alloc,
+            door,
+            seats,
+        }
+    }
+
+    fn hello(&self, held: &mut Option<SeatOrSession<J>>, who: Identity) -> Reply
+        ensures { GivesHello held.old who result held.new }
+    {
+        let Some(token) = held.take() else {
+            return self.hello_outside(held, who);
+        };
+        match token.taken() {
+            Ok(session) => {
+                *held = Some(SeatOrSession::of_session(session));
+                not_yours()
+            }
+            Err(seat) => self.connect(held, seat, who),
+        }
+    }
+
+    fn hello_outside(&self, held: &mut Option<SeatOrSession<J>>, who: Identity) -> Reply
+        requires { held.old ≡ None }
+        ensures { GivesHello held.old who result held.new }
+    {
+        match self.seats.take(self.rt) {
+            Some(seat) => self.connect(held, seat, who),
+            None => Reply::Refused(Refusal::TooManyClients),
+        }
+    }
+
+    fn connect(&self, held: &mut Option<SeatOrSession<J>>, seat: Seat<J>, who: Identity) -> Reply
+        ensures { (token : Knows) × Greets seat who result token × (held.new ≡ Some token) }
+    {
+        match self.door.connect(self.rt, seat, who) {
+            Ok(session) => {
+                let client = session.client();
+                *held = Some(SeatOrSession::of_session(session));
+                Reply::Done(Outcome::Connected(client))
+            }
+            Err((refusal, seat)) => {
+                *held = Some(SeatOrSession::of_seat(seat));
+                Reply::Refused(refusal)
+            }
+        }
+    }
+
+    fn line(&self, held: &mut Option<SeatOrSession<J>>, request: Request) -> Answered
+        ensures { (reply : _) × (result.response ≡ Replied reply)
+            × GivesLine held.old request reply result.records.items held.new }
+    {
+        match request {
+            Request::Change(_, event) => self.change(held, event),
+            Request::Look(_, query) => self.look(held, query),
+            _ => self.replied(not_yours()),
+        }
+    }
+
+    fn change(&self, held: &mut Option<SeatOrSession<J>>, event: Event) -> Answered
+        ensures { (reply : _) × (result.response ≡ Replied reply)
+            × MatchBool (is_die event) (GivesLeave held.old reply held.new × (result.records.items ≡ []))
+            (GivesChange held.old event reply result.records.items held.new) }
+    {
+        if is_death(&event) {
+            return self.replied(self.leave(held));
+        }
+        match session_of(held) {
+            Some(session) => self.submit(held, session, event),
+            None => self.replied(not_connected()),
+        }
+    }
+
+    fn submit(
+        &self,
+        held: &mut Option<SeatOrSession<J>>,
+        session: Session<J>,
+        event: Event,
+    ) -> Answered
+        requires { is_die event ≡ false }
+        ensures { (reply : _) × (result.response ≡ Replied reply)
+            × ((token : Knows) × Submitted session token event reply
+            × Logged session token event reply result.records.items × (held.new ≡ Some token)) }
+    {
+        let mut session = session;
+        let (reply, records) = self.door.submit_recorded(self.rt, &mut session, event);
+        *held = Some(SeatOrSession::of_session(session));
+        Answered::recorded(reply, records)
+    }
+
+    fn look(&self, held: &mut Option<SeatOrSession<J>>, query: Query) -> Answered
+        ensures { (reply : _) × (result.response ≡ Replied reply)
+            × GivesLook held.old query reply result.records.items held.new }
+    {
+        match session_of(held) {
+            Some(session) => self.read(held, session, query),
+            None => self.replied(not_connected()),
+        }
+    }
+
+    fn read(
+        &self,
+        held: &mut Option<SeatOrSession<J>>,
+        session: Session<J>,
+        query: Query,
+    ) -> Answered
+        ensures { (reply : _) × (result.response ≡ Replied reply)
+            × Reads session query reply result.records.items held.new }
+    {
+        match query {
+            Query::List(mask) => return self.list(held, session, mask),
+            Query::Version => return self.version(held, session),
+            Query::Explain { .. } => {}
+        }
+        *held = Some(SeatOrSession::of_session(session));
+        self.replied(not_yours())
+    }
+
+    fn list(&self, held: &mut Option<SeatOrSession<J>>, session: Session<J>, mask: u32) -> Answered
+        ensures { (reply : _) × (result.response ≡ Replied reply)
+            × Reads session (ListNames mask) reply result.records.items held.new }
+    {
+        let mut session = session;
+        let (reply, records) = self.door.list_recorded(&mut session, mask);
+        *held = Some(SeatOrSession::of_session(session));
+        Answered::recorded(reply, records)
+    }
+
+    fn version(&self, held: &mut Option<SeatOrSession<J>>, session: Session<J>) -> Answered
+        ensures { (reply : _) × (result.response ≡ Replied reply)
+            × Reads session AskVersion reply result.records.items held.new }
+    {
+        let mut session = session;
+        let reply = self.door.version(&mut session);
+        *held = Some(SeatOrSession::of_session(session));
+        self.replied(reply)
+    }
+
+    fn leave(&self, held: &mut Option<SeatOrSession<J>>) -> Reply
+        ensures { GivesLeave held.old result held.new }
+    {
+        match session_of(held) {
+            Some(session) => self.part(held, session),
+            None => not_connected(),
+        }
+    }
+
+    fn part(&self, held: &mut Option<SeatOrSession<J>>, session: Session<J>) -> Reply
+        requires { held.old ≡ None }
+        ensures { Parts session result held.new }
+    {
+        match self.door.leave(self.rt, session) {
+            Ok(seat) => {
+                self.seats.give_back(self.rt, seat);
+                Reply::Done(Outcome::Died)
+            }
+            Err((refusal, session)) => {
+                *held = Some(SeatOrSession::of_session(session));
+                Reply::Refused(refusal)
+            }
+        }
+    }
+
+    // Leaves, unless the client has left.
+    #[tactic(auto, using(crate::proofs::Growing::still_itself, crate::proofs::Growing::still_tried))]
+    fn end(&self, held: &mut Option<SeatOrSession<J>>) -> Reply
+        ensures { GivesEnd held.old result held.new }
+    {
+        for _ in 0..TRIES {
+            let reply = self.leave(held);
+            if !matches!(reply, Reply::Refused(Refusal::Memory)) {
+                return reply;
+            }
+        }
+        self.leave(held)
+    }
+
+    // A reply without records.
+    fn replied(&self, reply: Reply) -> Answered
+        ensures response { result.response ≡ Replied reply }
+        ensures records { result.records.items ≡ [] }
+    {
+        Answered::plain(self.alloc, Response::Replied(reply))
+    }
+}
+
+impl<'a, J: Naming, G: Gate + Drop, R: Wait> Connection<Option<SeatOrSession<J>>>
+    for Client<'a, J, G, R> {
+    ghost gives = { ClientGives };
+
+    fn answer(&self, held: &mut Option<SeatOrSession<J>>, command: Command) -> Answered {
+        match command {
+            Command::Hello(who) => self.replied(self.hello(held, who)),
+            Command::Line(request) => self.line(held, request),
+            Command::Install { .. } => self.replied(not_yours()),
+            Command::End => self.replied(self.end(held)),
+        }
+    }
+}
+
+/// Takes the session from what is held. A free seat stays.
+fn session_of<J: Naming>(held: &mut Option<SeatOrSession<J>>) -> Option<Session<J>>
+    ensures { TakesSession held.old result held.new }
+{
+    match held.take()?.taken() {
+        Ok(session) => Some(session),
+        Err(seat) => {
+            *held = Some(SeatOrSession::of_seat(seat));
+            None
+        }
+    }
+}

@@ -1,0 +1,164 @@
+//! A connection's session over any reader and writer.
+
+ghost use Rattle.std.specs.Prelude.{◌<◌, ◌-◌, None};
+ghost use Rattle.sm_engine.specs.Counts.{failures_of, calls_of, inner_of, greatest_count};
+ghost use Rattle.sm_wire.specs.declared.kind.Kind.TheVariants.{Client as AsClient, Admin as AsAdmin};
+ghost use Rattle.sm_session.specs.Desks.{DeskAnswers, DeskLeaves};
+ghost use Rattle.sm_session.specs.Sessions.{Attends, Counts};
+ghost use Rattle.sm_connection.specs.Connections.{ClientGives, AdminGives, GoesOn};
+ghost use Rattle.sm_connection.specs.Held.{Puts, holding};
+
+use crate::administrator::Administrator;
+use crate::audit_sink::AuditSink;
+use crate::client::Client;
+use crate::connection::Connection;
+use crate::door_desk::{DoorDesk, Occasion};
+use crate::free_seats::FreeSeats;
+use crate::monitor::Monitor;
+use crate::supervisor::Supervisor;
+use sm_door::{Admin, Door, Naming, SeatOrSession};
+use sm_engine::{Counted, Fault};
+use sm_history::Gate;
+use sm_session::session;
+use sm_wire::Kind;
+use std::alloc::Global;
+use std::io::{Read, Write};
+use std::sync::Wait;
+
+/// Serves a client's connection over any reader and writer: each allowed line is answered once, in order, from the
+/// history behind the door, until the lines end, a `bye` is answered by `bye`, a fault occurs, or `bound` reads were
+/// made. The sink is given the audit records of each answer once, in order. Returns what the connection still holds
+/// (nothing, a seat, or the session of a client that couldn't leave) and the sink.
+pub fn serve_client<
+    J: Naming,
+    G: Gate + Drop,
+    B: FnMut(Occasion) + Drop,
+    H: Supervisor,
+    L: AuditSink,
+    R: Wait,
+    I: Read,
+    O: Write,
+>(
+    rt: &R,
+    alloc: Global,
+    door: &Door<J, G>,
+    seats: &FreeSeats<J>,
+    tend: B,
+    monitor: &Monitor<H>,
+    sink: L,
+    reader: &mut Counted<I>,
+    writer: &mut Counted<O>,
+    bound: u32,
+) -> (Option<SeatOrSession<J>>, L, Result<(), Fault>)
+    requires tend { B.IsAlwaysCallable tend }
+    requires reader { failures_of reader.old < greatest_count }
+    requires writer { failures_of writer.old < greatest_count }
+    ensures attends { Attends AsClient (DeskAnswers (Puts ClientGives)) (DeskLeaves (Puts ClientGives)) result.2 bound
+        (calls_of reader.new - calls_of reader.old) (holding None (L.given sink))
+        (I.remaining (inner_of reader.old)) (I.remaining (inner_of reader.new))
+        (O.contents (inner_of writer.old)) (O.contents (inner_of writer.new))
+        (holding result.0 (L.given result.1)) }
+    ensures counts { Counts result.2 bound reader.old reader.new writer.old writer.new }
+{
+    let client = Client::new(rt, alloc, door, seats);
+    attend(
+        alloc,
+        Kind::Client,
+        &client,
+        None,
+        tend,
+        monitor,
+        sink,
+        door.gate(),
+        reader,
+        writer,
+        bound,
+    )
+}
+/// Serves an administrator's connection over any reader and writer, as `serve_client` does a client's, from what the
+/// token has seen. Returns the token.
+pub fn serve_administrator<
+    J: Naming,
+    G: Gate + Drop,
+    B: FnMut(Occasion) + Drop,
+    H: Supervisor,
+    L: AuditSink,
+    R: Wait,
+    I: Read,
+    O: Write,
+>(
+    rt: &R,
+    alloc: Global,
+    door: &Door<J, G>,
+    admin: Admin<J>,
+    tend: B,
+    monitor: &Monitor<H>,
+    sink: L,
+    reader: &mut Counted<I>,
+    writer: &mut Counted<O>,
+    bound: u32,
+) -> (Admin<J>, L, Result<(), Fault>)
+    requires tend { B.IsAlwaysCallable tend }
+    requires reader { failures_of reader.old < greatest_count }
+    requires writer { failures_of writer.old < greatest_count }
+    ensures attends { Attends AsAdmin (DeskAnswers (Puts AdminGives)) (DeskLeaves (Puts AdminGives)) result.2 bound
+        (calls_of reader.new - calls_of reader.old) (holding admin (L.given sink))
+        (I.remaining (inner_of reader.old)) (I.remaining (inner_of reader.new))
+        (O.contents (inner_of writer.old)) (O.contents (inner_of writer.new))
+        (holding result.0 (L.given result.1)) }
+    ensures goes_on { GoesOn admin result.0 }
+    ensures counts { Counts result.2 bound reader.old reader.new writer.old writer.new }
+{
+    let administrator = Administrator::new(rt, alloc, door, monitor);
+    attend(
+        alloc,
+        Kind::Admin,
+        &administrator,
+        admin,
+        tend,
+        monitor,
+        sink,
+        door.gate(),
+        reader,
+        writer,
+        bound,
+    )
+}
+// Serves a connection that holds this, and returns what it holds then, and the sink.
+fn attend<
+    C: Connection<S>,
+    S,
+    B: FnMut(Occasion) + Drop,
+    H: Supervisor,
+    L: AuditSink,
+    G: Gate,
+    I: Read,
+    O: Write,
+>(
+    alloc: Global,
+    kind: Kind,
+    connection: &C,
+    held: S,
+    tend: B,
+    monitor: &Monitor<H>,
+    sink: L,
+    gate: &G,
+    reader: &mut Counted<I>,
+    writer: &mut Counted<O>,
+    bound: u32,
+) -> (S, L, Result<(), Fault>)
+    requires tend { B.IsAlwaysCallable tend }
+    requires reader { failures_of reader.old < greatest_count }
+    requires writer { failures_of writer.old < greatest_count }
+    ensures attends { Attends kind (DeskAnswers (Puts C.gives)) (DeskLeaves (Puts C.gives)) result.2 bound
+        (calls_of reader.new - calls_of reader.old) (holding held (L.given sink))
+        (I.remaining (inner_of reader.old)) (I.remaining (inner_of reader.new))
+        (O.contents (inner_of writer.old)) (O.contents (inner_of writer.new))
+        (holding result.0 (L.given result.1)) }
+    ensures counts { Counts result.2 bound reader.old reader.new writer.old writer.new }
+{
+    let desk = DoorDesk::new(connection, held, tend, monitor, sink);
+    let (desk, ended) = session(alloc, kind, reader, writer, desk, gate, bound);
+    let (held, sink) = desk.into_parts();
+    (held, sink, ended)
+}

@@ -1,5 +1,0 @@
-use Rattle.sm_serve.proofs.Growing.{admins_see_more}
-use Rattle.sm_serve.proofs.laws.connections.Goals as goal
-
-pub returns-clause-admins : goal.returns-clause-admins
-returns-clause-admins c = admins_see_more

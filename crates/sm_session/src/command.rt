@@ -1,0 +1,18 @@
+//! Commands of a session to its desk.
+
+use sm_kinds::Identity;
+use sm_policy::Prepared;
+use sm_wire::Request;
+
+/// A command of a session to its desk.
+#[derive(Drop)]
+pub enum Command {
+    /// A process connects as a client.
+    Hello(Identity),
+    /// A line of a client or an administrator other than a `hello` or a `reload`.
+    Line(Request),
+    /// An administrator replaces the policy, if the one in force has the expected version.
+    Install { expected: u64, prepared: Prepared },
+    /// The session of a client has ended. If the client has left, there is nothing to do.
+    End,
+}
