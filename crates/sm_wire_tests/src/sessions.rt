@@ -156,7 +156,11 @@ fn attend(
     assert_eq!(rt; writer.into_inner().0.as_slice(), wanted);
     assert_eq!(rt; clerk.asked, asked);
     assert_eq!(rt; clerk.ends, ends);
-    let seen = (lines.len() as u64, lines.iter().sum());
+    let mut sum: u64 = 0;
+    for line in lines {
+        sum = sum.saturating_add(*line);
+    }
+    let seen = (lines.len() as u64, sum);
     assert_eq!(rt; gate.entries(), seen);
     assert_eq!(rt; gate.exits(), seen);
 }
