@@ -1,13 +1,12 @@
 -- Whether there are any lines.
-use Rattle.std.proofs.Common.{◌≡◌, ℕ, ◌+◌, ◌<◌, ◌≤◌, Bool, List, [], ◌∷◌, ◌++◌, length, take, get_or, refl, arith}
+use Rattle.std.proofs.Common.{◌≡◌, ℕ, ◌+◌, ◌<◌, ◌≤◌, Bool, List, [], ◌∷◌, ◌++◌, length, take, get_or, nat_lt, refl, arith}
 use Rattle.std.specs.Prelude.{◌||◌}
 use Rattle.std.specs.List.{flat_map}
 use Rattle.std.proofs.lemmas.List.{take_all}
 use Rattle.std.proofs.lemmas.Bool.Decides.{nat_tests}
-use Rattle.sm_questions.specs.Accesses.{perm_numbers}
+use Rattle.std.proofs.lemmas.Grind.{common_steps}
 use Rattle.sm_questions.specs.Differences.{is_any}
 use Rattle.sm_questions.proofs.Buffering.{flat_step}
-use Rattle.sm_questions.proofs.Permissions.{perms_step}
 
 -- There are lines in two texts if there are in one of them.
 pub any_both : (lines more : List ℕ) → is_any (lines ++ more) ≡ (is_any lines || is_any more)
@@ -20,11 +19,9 @@ pub any_step : {A : Type 0} (f : A → List ℕ) (xs : List A) (i : ℕ) (d : A)
 any_step f xs i d {any} {more} {both} lt p q e =
     rw (flat_step f xs i d lt, any_both (flat_map f (take i xs)) (f (get_or xs i d)), ← p, ← q) e
 
-pub any_perm : (f : ℕ → List ℕ) (b : ℕ) {any more both : Bool} → b < 7
-    → any ≡ is_any (flat_map f (take b perm_numbers)) → more ≡ is_any (f b) → both ≡ (any || more)
-    → both ≡ is_any (flat_map f (take (b + 1) perm_numbers))
-any_perm f b {any} {more} {both} lt p q e =
-    rw (perms_step f b lt, any_both (flat_map f (take b perm_numbers)) (f b), ← p, ← q) e
+-- There are lines if what is held got longer.
+pub any_held : {next : List ℕ} (held lines : List ℕ) → next ≡ held ++ lines → nat_lt (length held) (length next) ≡ is_any lines
+any_held {next} held lines e = grind (arith, common_steps, e)
 
 pub any_list : {A : Type 0} (f : A → List ℕ) (xs : List A) (i : ℕ) {any : Bool} → length xs ≤ i
     → any ≡ is_any (flat_map f (take i xs)) → any ≡ is_any (flat_map f xs)

@@ -56,6 +56,24 @@ stops_more {a} {b} {held} lines more p = record {
   joined = rw (← append_assoc, p.joined, append_assoc) refl;
 }
 
+-- Lines that are held before the buffer is written.
+pub passes_filled : {b c : Option (List ℕ)} {rest filled next lines : List ℕ} → filled ≡ rest ++ lines
+    → Passes b c filled next [] → Passes b c rest next lines
+passes_filled {b} {c} {rest} {filled} {next} {lines} e q = record {
+  written = q.written;
+  appended = q.appended;
+  joined = sym (append-nil filled ∙ e) ∙ q.joined;
+}
+
+pub stops_filled : {b c : Option (List ℕ)} {rest filled lines : List ℕ} → filled ≡ rest ++ lines
+    → Stops b c filled [] → Stops b c rest lines
+stops_filled {b} {c} {rest} {filled} {lines} e q = record {
+  written = q.written;
+  missing = q.missing;
+  appended = q.appended;
+  joined = sym (append-nil filled ∙ e) ∙ q.joined;
+}
+
 -- ---- the lines of a list
 
 pub flat_step : {A : Type 0} (f : A → List ℕ) (xs : List A) (i : ℕ) (d : A) → i < length xs
@@ -69,15 +87,43 @@ flat_split f xs i d lt = ap (flat_map f) (sym (take-append-drop (i + 1) xs))
     ∙ flat_map-append f (take (i + 1) xs) (drop (i + 1) xs)
     ∙ ap (λ l. l ++ flat_map f (drop (i + 1) xs)) (flat_step f xs i d lt)
 
-pub passes_step : {A : Type 0} {a b c : Option (List ℕ)} {held rest next : List ℕ} (f : A → List ℕ) (xs : List A)
+-- The lines of one more entry are appended to what is held.
+pub held_step : {A : Type 0} {held next : List ℕ} (f : A → List ℕ) (xs : List A) (i : ℕ) (d : A) (first : List ℕ) → i < length xs
+    → held ≡ first ++ flat_map f (take i xs) → next ≡ held ++ f (get_or xs i d)
+    → next ≡ first ++ flat_map f (take (i + 1) xs)
+held_step {A} {held} {next} f xs i d first lt p q = q ∙ rw (p, flat_step f xs i d lt, append_assoc) refl
+
+pub held_list : {A : Type 0} {held : List ℕ} (f : A → List ℕ) (xs : List A) (i : ℕ) (first : List ℕ) → length xs ≤ i
+    → held ≡ first ++ flat_map f (take i xs) → held ≡ first ++ flat_map f xs
+held_list {A} {held} f xs i first le p = rw (take_all i xs le) at p
+
+-- The same through a buffer.
+pub passes_more : {A : Type 0} {a b c : Option (List ℕ)} {held rest next : List ℕ} (f : A → List ℕ) (xs : List A)
     (i : ℕ) (d : A) → i < length xs → Passes a b held rest (flat_map f (take i xs))
     → Passes b c rest next (f (get_or xs i d)) → Passes a c held next (flat_map f (take (i + 1) xs))
-passes_step f xs i d lt p q = rw (flat_step f xs i d lt) (passes_then _ _ p q)
+passes_more f xs i d lt p q = rw (flat_step f xs i d lt) (passes_then _ _ p q)
 
-pub stops_step : {A : Type 0} {a b c : Option (List ℕ)} {held rest : List ℕ} (f : A → List ℕ) (xs : List A)
+pub stops_more_at : {A : Type 0} {a b c : Option (List ℕ)} {held rest : List ℕ} (f : A → List ℕ) (xs : List A)
     (i : ℕ) (d : A) → i < length xs → Passes a b held rest (flat_map f (take i xs))
     → Stops b c rest (f (get_or xs i d)) → Stops a c held (flat_map f xs)
-stops_step f xs i d lt p q = rw (flat_split f xs i d lt) (stops_more _ _ (stops_then _ _ p q))
+stops_more_at f xs i d lt p q = rw (flat_split f xs i d lt) (stops_more _ _ (stops_then _ _ p q))
+
+-- The lines of an entry are held, and then the buffer is written if it is full.
+pub passes_step : {A : Type 0} {a b c : Option (List ℕ)} {held rest filled next : List ℕ} (f : A → List ℕ)
+    (xs : List A) (i : ℕ) (d : A) → i < length xs → Passes a b held rest (flat_map f (take i xs))
+    → filled ≡ rest ++ f (get_or xs i d) → Passes b c filled next [] → Passes a c held next (flat_map f (take (i + 1) xs))
+passes_step f xs i d lt p e q = passes_more f xs i d lt p (passes_filled e q)
+
+pub stops_step : {A : Type 0} {a b c : Option (List ℕ)} {held rest filled : List ℕ} (f : A → List ℕ) (xs : List A)
+    (i : ℕ) (d : A) → i < length xs → Passes a b held rest (flat_map f (take i xs))
+    → filled ≡ rest ++ f (get_or xs i d) → Stops b c filled [] → Stops a c held (flat_map f xs)
+stops_step f xs i d lt p e q = stops_more_at f xs i d lt p (stops_filled e q)
+
+pub stops_lost : {A : Type 0} {a b : Option (List ℕ)} {held rest : List ℕ} (f : A → List ℕ) (xs : List A) (i : ℕ)
+    → Passes a b held rest (flat_map f (take i xs)) → Stops a b held (flat_map f xs)
+stops_lost {A} {a} {b} {held} {rest} f xs i p =
+    rw (← take-append-drop i xs, flat_map-append f (take i xs) (drop i xs))
+    (stops_then _ _ p (stops_none b rest (flat_map f (drop i xs))))
 
 pub passes_list : {A : Type 0} {a b : Option (List ℕ)} {held rest : List ℕ} (f : A → List ℕ) (xs : List A) (i : ℕ)
     → length xs ≤ i → Passes a b held rest (flat_map f (take i xs)) → Passes a b held rest (flat_map f xs)

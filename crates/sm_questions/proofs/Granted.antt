@@ -1,15 +1,18 @@
 -- Two types without a permission have no lines.
-use Rattle.std.proofs.Common.{◌≡◌, ◌∙◌, ℕ, ◌<◌, List, [], Bool, false, refl, sym, arith}
-use Rattle.std.specs.Prelude.{◌&&◌, not}
+use Rattle.std.proofs.Common.{◌≡◌, ◌∙◌, ℕ, ◌<◌, List, [], Some, None, false, get_or, length, map, refl, sym, arith}
 use Rattle.std.specs.List.{flat_map}
+use Rattle.std.proofs.lemmas.List.{get_or-map}
 use Rattle.std.proofs.lemmas.Nat.Bits.{bit_at-zero}
 use Rattle.sm_bits.specs.Bits.{has_bit}
 use Rattle.sm_rules.specs.Keeping.{class_at, perm_at}
-use Rattle.sm_policy.specs.Policy.{Policy, allowed}
+use Rattle.sm_policy.specs.Policy.{Policy, allowed, type_index}
+use Rattle.sm_policy.proofs.Looking.{named}
+use Rattle.sm_types.specs.Names.{at}
+use Rattle.sm_types.specs.Denoting.{types}
 use Rattle.sm_questions.specs.declared.filtering.Filter.{Filter}
 use Rattle.sm_questions.specs.Accesses.{perm_lines, pair_lines, perm_numbers, target_lines}
 use Rattle.sm_questions.specs.Differences.{is_lost, lost_pair, lost_perm}
-use Rattle.sm_questions.specs.Granted.{IsGranted}
+use Rattle.sm_questions.specs.Granted.{AllowsSame, IsGranted}
 
 no_bit : (b : ℕ) → has_bit 0 b ≡ false
 unfolding has_bit
@@ -49,3 +52,24 @@ pub none_lost : (sign : ℕ) (one other : Policy) (granted : ℕ) (s t : List �
 unfolding lost_pair lost_perm is_lost
 none_lost sign one other granted s t none is =
     no_lines (lost_perm sign one other s t) (λ b lt. grind (arith, nothing one granted s t none is b lt))
+
+-- Two policies with the same byte for two types allow the same on them.
+pub same_byte : (one other : Policy) (granted : ℕ) (s t : List ℕ) {byte : ℕ} {s_there t_there : List ℕ}
+    → granted ≡ byte → s_there ≡ s → t_there ≡ t → IsGranted one granted s t → IsGranted other byte s_there t_there
+    → AllowsSame one other s t
+same_byte one other granted s t {byte} {s_there} {t_there} same se te is is_there b lt =
+    sym (is b lt) ∙ rw same (rw (se, te) at is_there b lt)
+
+-- The number of a type in the other policy is that of the same name.
+pub found_at : (one other : Policy) (i : ℕ) {n : ℕ} → i < length (types one.statements)
+    → get_or (map (type_index other) (types one.statements)) i None ≡ Some n
+    → at (types other.statements) n ≡ at (types one.statements) i
+found_at one other i {n} lt is =
+    let here : type_index other (at (types one.statements) i) ≡ Some n =
+    sym (get_or-map (type_index other) (types one.statements) i [] None lt) ∙ is in
+    (named other.statements (types other.statements) (at (types one.statements) i) n refl here).1
+
+pub same_lost : (sign : ℕ) (one other : Policy) (s t : List ℕ) → AllowsSame one other s t
+    → lost_pair sign one other s t ≡ []
+unfolding lost_pair lost_perm is_lost
+same_lost sign one other s t same = no_lines (lost_perm sign one other s t) (λ b lt. grind (arith, same b lt))

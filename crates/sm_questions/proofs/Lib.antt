@@ -1,8 +1,9 @@
 pub mod Anything
 pub mod Buffering
 pub mod Entries
+pub mod FirstLines
 pub mod Granted
 pub mod Keys
+pub mod Parting
 pub mod Permissions
-pub mod Sources
 pub mod Written

@@ -10,7 +10,7 @@ use Rattle.sm_kinds.specs.Reading.{◌>>=◌}
 use Rattle.sm_types.specs.Denoting.{declares}
 use Rattle.sm_policy.specs.Policy.{Policy, label_of}
 use Rattle.sm_questions.specs.declared.filtering.Filter.{Filter}
-use Rattle.sm_questions.specs.declared.filtering.Options.{Options}
+use Rattle.sm_questions.specs.declared.filtering.FilterOptions.{FilterOptions}
 use Rattle.sm_questions.specs.declared.filtering.Target.{Target}
 use Rattle.sm_questions.specs.declared.filtering.Target.TheVariants as target
 use Rattle.sm_questions.specs.declared.unknown.Unknown.{Unknown}
@@ -67,7 +67,7 @@ abbrev pub perms_in : Option (List ℕ) → Option (List ℕ) → Result Perms U
 perms_in class perm = class_of class >>= λ c. perms_of c perm
 
 -- This is what the options ask for, or the first word that names nothing.
-abbrev pub filter_of : Policy → Options → Result Filter Unknown
+abbrev pub filter_of : Policy → FilterOptions → Result Filter Unknown
 filter_of policy options =
     source_of policy options.source >>= λ source.
     target_of policy options.target >>= λ target.

@@ -3,10 +3,11 @@ pub mod Buffered
 pub mod Differences
 pub mod Explanations
 pub mod Filters
+pub mod FirstLines
 pub mod Granted
 pub mod Keys
 pub mod Labels
+pub mod Parts
 pub mod Relabelled
 pub mod Shown
-pub mod Sourced
 pub mod Words

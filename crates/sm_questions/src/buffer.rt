@@ -1,4 +1,4 @@
-//! A buffer of bounded size before a writer.
+//! A buffer before a writer.
 
 ghost use Rattle.std.specs.Prelude.{◌≡◌, ◌<◌, ◌||◌, [], IfErr, OnOk, OnErr};
 ghost use Rattle.sm_engine.specs.Counts.{failures_of, inner_of, greatest_count};
@@ -7,7 +7,7 @@ ghost use Rattle.sm_questions.specs.Buffered.{Fails, Passes, Stops};
 use sm_engine::{Counted, Fault, write_whole};
 use std::io::Write;
 
-/// As many bytes are held before they are written.
+/// Lines are written once they have this number of bytes.
 pub const HELD_BYTES: usize = 65536;
 
 /// Writes what is held, if the buffer is full.

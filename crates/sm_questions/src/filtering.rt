@@ -27,7 +27,7 @@ pub enum Target<'a> {
 
 /// The options of a list of accesses, as words.
 #[derive(Drop)]
-pub struct Options<'a> {
+pub struct FilterOptions<'a> {
     pub source: Option<Word<'a>>,
     pub target: Target<'a>,
     pub class: Option<Word<'a>>,
@@ -146,7 +146,7 @@ fn perms_in<'a>(class: &Option<Word<'a>>, perm: &Option<Word<'a>>) -> Result<Per
 /// one of the class, if that is given. A service's name is never unknown.
 pub fn read_filter<'a>(
     policy: &'a PolicyTables,
-    options: &Options<'a>,
+    options: &FilterOptions<'a>,
 ) -> Result<Filter<'a>, Unknown<'a>>
     ensures { result ≡ spec.filter_of policy.now options.now }
 {

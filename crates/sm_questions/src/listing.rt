@@ -1,24 +1,24 @@
 //! The answer to `svcmgr access`.
 
-ghost use Rattle.std.specs.Prelude.{◌≡◌, ◌⊎◌, ◌<◌, ◌++◌, ℕ, IfErr, OnOk, OnErr, length, take};
+ghost use Rattle.std.specs.Prelude.{◌≡◌, ◌⊎◌, ◌<◌, ◌++◌, ◌*◌, ℕ, IfErr, IfSome, OnOk, OnErr, length, take};
 ghost use Rattle.std.specs.Io.KnownBytes.{Appends};
 ghost use Rattle.sm_engine.specs.Counts.{failures_of, inner_of, greatest_count};
 ghost use Rattle.sm_types.specs.Names.{at};
 ghost use Rattle.sm_types.specs.Denoting.{types};
 ghost use Rattle.sm_bits.specs.Bits.{has_bit};
 ghost use Rattle.sm_rules.specs.Keeping.{class_at, perm_at};
-ghost use Rattle.sm_policy.specs.Policy.{allowed};
+ghost use Rattle.sm_policy.specs.Policy.{allowed, written_at};
 ghost use Rattle.sm_questions.specs.Accesses as spec;
 ghost use Rattle.sm_questions.specs.Granted.{IsGranted};
 ghost use Rattle.sm_questions.specs.Buffered.{Fails, Passes, Stops};
-ghost use Rattle.sm_questions.specs.Sourced.{HasRulesOf};
+ghost use Rattle.sm_questions.specs.FirstLines.{HasLines};
 
 use crate::buffer::write_full;
 use crate::{Filter, PolicyTables};
 use sm_bits::has_bit;
 use sm_engine::{Counted, Fault, write_whole};
 use sm_kinds::{Perms, Word, push_access, push_numbered, spells};
-use sm_rules::{Kept, PERM_COUNT, class_at, perm_at};
+use sm_rules::{PERM_COUNT, class_at, perm_at};
 use std::alloc::{AllocError, Global};
 use std::io::Write;
 
@@ -41,11 +41,33 @@ fn push_grant(held: &mut Vec<u8>, line: Option<u32>) -> Result<(), AllocError>
     }
 }
 
+/// Returns the line of the first allow rule that grants an access: the one that was found for its source, or else the
+/// one that is found now. `None` if no rule does.
+fn line_of(
+    policy: &PolicyTables,
+    lines: Option<&[Option<u32>]>,
+    source: u16,
+    target: u16,
+    bit: u32,
+) -> Option<u32>
+    requires bit { bit < 7 }
+    requires source { source < length (types policy.now.statements) }
+    requires target { target < length (types policy.now.statements) }
+    requires lines { IfSome lines (λ l. HasLines policy.now source l.now) }
+    ensures { result ≡ written_at policy.now (at (types policy.now.statements) source)
+        (at (types policy.now.statements) target) (class_at bit) (perm_at bit) }
+{
+    match lines {
+        Some(lines) => lines[7 * usize::from(target) + bit as usize],
+        None => policy.written(source, target, bit),
+    }
+}
+
 /// Appends `SOURCE TARGET CLASS PERM LINE`.
 #[tactic(auto, unfolding(crate::specs::Accesses::access_line))]
 fn push_line(
     policy: &PolicyTables,
-    rules: &[&Kept],
+    lines: Option<&[Option<u32>]>,
     source: u16,
     target: u16,
     bit: u32,
@@ -54,11 +76,11 @@ fn push_line(
     requires bit { bit < 7 }
     requires source { source < length (types policy.now.statements) }
     requires target { target < length (types policy.now.statements) }
-    requires rules { HasRulesOf policy.now source rules.now }
+    requires lines { IfSome lines (λ l. HasLines policy.now source l.now) }
     ensures { OnOk result (held.new.items ≡ held.old.items ++ spec.access_line policy.now
         (at (types policy.now.statements) source) (at (types policy.now.statements) target) bit) }
 {
-    let line = policy.line_among(rules, source, target, bit);
+    let line = line_of(policy, lines, source, target, bit);
     let from = policy.type_name(source);
     let to = policy.type_name(target);
     push_access(held, from, to, class_at(bit), perm_at(bit))?;
@@ -70,7 +92,7 @@ fn push_line(
 #[tactic(auto, unfolding(crate::specs::Accesses::perm_lines))]
 fn push_perm(
     policy: &PolicyTables,
-    rules: &[&Kept],
+    lines: Option<&[Option<u32>]>,
     wanted: Perms,
     granted: u8,
     source: u16,
@@ -83,12 +105,12 @@ fn push_perm(
         (at (types policy.now.statements) target) (class_at bit) (perm_at bit) }
     requires source { source < length (types policy.now.statements) }
     requires target { target < length (types policy.now.statements) }
-    requires rules { HasRulesOf policy.now source rules.now }
+    requires lines { IfSome lines (λ l. HasLines policy.now source l.now) }
     ensures { OnOk result (held.new.items ≡ held.old.items ++ spec.perm_lines policy.now wanted.0
         (at (types policy.now.statements) source) (at (types policy.now.statements) target) bit) }
 {
     if has_bit(wanted.0, bit) && has_bit(granted, bit) {
-        push_line(policy, rules, source, target, bit, held)
+        push_line(policy, lines, source, target, bit, held)
     } else {
         Ok(())
     }
@@ -98,7 +120,7 @@ fn push_perm(
 #[tactic(auto, unfolding(crate::specs::Accesses::pair_lines))]
 fn push_pair(
     policy: &PolicyTables,
-    rules: &[&Kept],
+    lines: Option<&[Option<u32>]>,
     wanted: Perms,
     granted: u8,
     source: u16,
@@ -109,39 +131,31 @@ fn push_pair(
         (at (types policy.now.statements) target) }
     requires source { source < length (types policy.now.statements) }
     requires target { target < length (types policy.now.statements) }
-    requires rules { HasRulesOf policy.now source rules.now }
+    requires lines { IfSome lines (λ l. HasLines policy.now source l.now) }
     ensures { OnOk result (held.new.items ≡ held.old.items ++ spec.pair_lines policy.now wanted.0
         (at (types policy.now.statements) source) (at (types policy.now.statements) target)) }
 {
     for bit in 0..PERM_COUNT {
-        push_perm(policy, rules, wanted, granted, source, target, bit, held)?;
+        push_perm(policy, lines, wanted, granted, source, target, bit, held)?;
     }
     Ok(())
 }
 
-/// Lists the accesses of two types, if the target is asked for.
+/// Appends the lines for two types, if the target is asked for.
 #[tactic(auto, unfolding(crate::specs::Accesses::target_lines))]
-fn put_target<W: Write>(
+fn push_target(
     policy: &PolicyTables,
     filter: &Filter<'_>,
-    rules: &[&Kept],
+    lines: Option<&[Option<u32>]>,
     source: u16,
     target: u16,
-    writer: &mut Counted<W>,
     held: &mut Vec<u8>,
-) -> Result<(), Fault>
-    requires count { failures_of writer.old < greatest_count }
+) -> Result<(), AllocError>
     requires source { source < length (types policy.now.statements) }
     requires target { target < length (types policy.now.statements) }
-    requires rules { HasRulesOf policy.now source rules.now }
-    ensures ok { OnOk result (Passes (W.contents (inner_of writer.old)) (W.contents (inner_of writer.new))
-        held.old.items held.new.items (spec.target_lines policy.now filter.now
-        (at (types policy.now.statements) source) (at (types policy.now.statements) target))) }
-    ensures count { OnOk result (failures_of writer.new ≡ failures_of writer.old) }
-    ensures stopped { OnErr result (Stops (W.contents (inner_of writer.old)) (W.contents (inner_of writer.new))
-        held.old.items (spec.target_lines policy.now filter.now
-        (at (types policy.now.statements) source) (at (types policy.now.statements) target))) }
-    ensures fault { IfErr result (λ e. Fails e (failures_of writer.old) (failures_of writer.new)) }
+    requires lines { IfSome lines (λ l. HasLines policy.now source l.now) }
+    ensures { OnOk result (held.new.items ≡ held.old.items ++ spec.target_lines policy.now filter.now
+        (at (types policy.now.statements) source) (at (types policy.now.statements) target)) }
 {
     let granted = policy.granted(source, target);
     if granted == 0 {
@@ -150,72 +164,66 @@ fn put_target<W: Write>(
     if !is_left(&filter.target, policy.type_name(target)) {
         return Ok(());
     }
-    push_pair(policy, rules, filter.perms, granted, source, target, held)?;
-    write_full(writer, held)
+    push_pair(policy, lines, filter.perms, granted, source, target, held)
 }
 
-/// Lists the accesses of a source whose rules these are.
-fn put_targets<W: Write>(
+/// Appends the lines for a source, with all targets.
+#[tactic(auto, unfolding(crate::specs::Accesses::targets_lines))]
+fn push_targets(
     policy: &PolicyTables,
     filter: &Filter<'_>,
-    rules: &[&Kept],
+    lines: Option<&[Option<u32>]>,
     source: u16,
-    writer: &mut Counted<W>,
     held: &mut Vec<u8>,
-) -> Result<(), Fault>
-    requires count { failures_of writer.old < greatest_count }
+) -> Result<(), AllocError>
     requires source { source < length (types policy.now.statements) }
-    requires rules { HasRulesOf policy.now source rules.now }
-    ensures ok { OnOk result (Passes (W.contents (inner_of writer.old)) (W.contents (inner_of writer.new))
-        held.old.items held.new.items (spec.targets_lines policy.now filter.now
-        (at (types policy.now.statements) source))) }
-    ensures count { OnOk result (failures_of writer.new ≡ failures_of writer.old) }
-    ensures stopped { OnErr result (Stops (W.contents (inner_of writer.old)) (W.contents (inner_of writer.new))
-        held.old.items (spec.targets_lines policy.now filter.now (at (types policy.now.statements) source))) }
-    ensures fault { IfErr result (λ e. Fails e (failures_of writer.old) (failures_of writer.new)) }
+    requires lines { IfSome lines (λ l. HasLines policy.now source l.now) }
+    ensures { OnOk result (held.new.items ≡ held.old.items ++ spec.targets_lines policy.now filter.now
+        (at (types policy.now.statements) source)) }
 {
     for target in 0..policy.type_count() {
-        put_target(policy, filter, rules, source, target, writer, held)?;
+        push_target(policy, filter, lines, source, target, held)?;
     }
     Ok(())
 }
 
-/// Lists the accesses of a source, if it is asked for.
+/// Appends the lines for a source, if it is asked for. The lines of its rules are found in the table, unless only one
+/// target is asked for.
 #[tactic(auto, unfolding(crate::specs::Accesses::source_lines))]
-fn put_source<W: Write>(
-    alloc: Global,
+fn push_source(
     policy: &PolicyTables,
     filter: &Filter<'_>,
+    table: &mut [Option<u32>],
     source: u16,
-    writer: &mut Counted<W>,
     held: &mut Vec<u8>,
-) -> Result<(), Fault>
-    requires count { failures_of writer.old < greatest_count }
+) -> Result<(), AllocError>
+    requires room { length table.old ≡ 7 * length (types policy.now.statements) }
     requires source { source < length (types policy.now.statements) }
-    ensures ok { OnOk result (Passes (W.contents (inner_of writer.old)) (W.contents (inner_of writer.new))
-        held.old.items held.new.items (spec.source_lines policy.now filter.now
-        (at (types policy.now.statements) source))) }
-    ensures count { OnOk result (failures_of writer.new ≡ failures_of writer.old) }
-    ensures stopped { OnErr result (Stops (W.contents (inner_of writer.old)) (W.contents (inner_of writer.new))
-        held.old.items (spec.source_lines policy.now filter.now (at (types policy.now.statements) source))) }
-    ensures fault { IfErr result (λ e. Fails e (failures_of writer.old) (failures_of writer.new)) }
+    ensures room { length table.new ≡ length table.old }
+    ensures lines { OnOk result (held.new.items ≡ held.old.items ++ spec.source_lines policy.now filter.now
+        (at (types policy.now.statements) source)) }
 {
     if !is_left(&filter.source, policy.type_name(source)) {
         return Ok(());
     }
-    let rules = policy.rules_of(alloc, source)?;
-    put_targets(policy, filter, &rules, source, writer, held)
+    if filter.target.is_some() {
+        return push_targets(policy, filter, None, source, held);
+    }
+    policy.find_lines(source, table);
+    push_targets(policy, filter, Some(table), source, held)
 }
 
-/// Lists the accesses of all sources.
+/// Writes the lines for all sources, and holds the last ones.
+#[tactic(auto, unfolding(crate::specs::Accesses::access_lines))]
 fn put_sources<W: Write>(
-    alloc: Global,
     policy: &PolicyTables,
     filter: &Filter<'_>,
+    table: &mut [Option<u32>],
     writer: &mut Counted<W>,
     held: &mut Vec<u8>,
 ) -> Result<(), Fault>
-    requires { failures_of writer.old < greatest_count }
+    requires count { failures_of writer.old < greatest_count }
+    requires room { length table.old ≡ 7 * length (types policy.now.statements) }
     ensures ok { OnOk result (Passes (W.contents (inner_of writer.old)) (W.contents (inner_of writer.new))
         held.old.items held.new.items (spec.access_lines policy.now filter.now)) }
     ensures count { OnOk result (failures_of writer.new ≡ failures_of writer.old) }
@@ -224,7 +232,8 @@ fn put_sources<W: Write>(
     ensures fault { IfErr result (λ e. Fails e (failures_of writer.old) (failures_of writer.new)) }
 {
     for source in 0..policy.type_count() {
-        put_source(alloc, policy, filter, source, writer, held)?;
+        push_source(policy, filter, table, source, held)?;
+        write_full(writer, held)?;
     }
     Ok(())
 }
@@ -232,7 +241,7 @@ fn put_sources<W: Write>(
 /// Writes a line `SOURCE TARGET CLASS PERM LINE` for each access that the policy allows and the filter leaves.
 ///
 /// LINE is that of the first allow rule that grants it, or `permissive` if none does. Sources and targets are in the
-/// order of their declaration. The lines are written as they are found, through a buffer of bounded size.
+/// order of their declaration. The lines are written source by source.
 ///
 /// # Errors
 ///
@@ -254,6 +263,7 @@ pub fn access<W: Write>(
     ensures write_told { failures_of writer.old < failures_of writer.new → result ≡ Err Fault.WriteFault }
 {
     let mut held = Vec::new(alloc);
-    put_sources(alloc, policy, filter, writer, &mut held)?;
+    let mut table = policy.line_table(alloc)?;
+    put_sources(policy, filter, &mut table, writer, &mut held)?;
     write_whole(writer, &held)
 }

@@ -1,47 +1,11 @@
 //! The tables of a policy that questions read.
 
-ghost use Rattle.std.specs.Prelude.{◌≡◌, ◌<◌, ◌*◌, List, Ok, IfOk, All, filter, length};
-ghost use Rattle.sm_ruletext.specs.declared.statement.Statement.{Statement as TheStatement};
-ghost use Rattle.sm_ruletext.specs.Statements.{read as statements_of};
-ghost use Rattle.sm_types.specs.Members.{IsOf};
-ghost use Rattle.sm_bits.specs.Bits.{has};
-ghost use Rattle.sm_rules.specs.Keeping.{RulesOf};
-ghost use Rattle.sm_questions.specs.Sourced.{AllFit, first_line, pointed};
-
+use crate::first_lines::find_lines;
 use sm_kinds::{Class, Context, Perms};
 use sm_policy::{PolicyFault, Prepared};
-use sm_rules::{Kept, class_at, perm_at};
-use sm_types::TypeCount;
+use sm_rules::{class_at, perm_at};
 use std::alloc::{AllocError, Global};
 use std::marker::Model;
-
-/// Returns the rules that have a source.
-fn rules_of(alloc: Global, rules: &[Kept], source: usize) -> Result<Vec<&Kept>, AllocError>
-    requires { All (λ r. source < 64 * length r.sources) rules.now }
-    ensures { IfOk result (λ found. pointed found.items ≡ filter (λ r. has r.sources source) rules.now) }
-{
-    let mut found = Vec::new(alloc);
-    for rule in rules {
-        if rule.sources.has(source) {
-            found.push(rule)?;
-        }
-    }
-    Ok(found)
-}
-
-/// Returns the line of the first rule that covers an access.
-fn first_of(rules: &[&Kept], count: TypeCount, bit: u32, s: usize, t: usize) -> Option<u32>
-    requires fits { AllFit count rules.now }
-    requires bit { bit < 8 }
-    requires source { s < count }
-    requires target { t < count }
-    ensures { result ≡ first_line rules.now bit s t }
-{
-    rules
-        .iter()
-        .find(|rule| rule.covers(bit, s, t))
-        .map(|rule| rule.line)
-}
 
 /// An accepted policy, and what questions read of its parts. Contracts see the policy.
 pub struct PolicyTables {
@@ -63,7 +27,7 @@ impl Drop for PolicyTables {
 }
 
 impl PolicyTables {
-    ghost use Rattle.std.specs.Prelude.{◌≡◌, ◌<◌, ℕ, List, Some, IfOk, length, option_map};
+    ghost use Rattle.std.specs.Prelude.{◌≡◌, ◌<◌, ◌*◌, ℕ, List, Some, IfOk, length, option_map};
     ghost use Rattle.sm_kinds.specs.Reading.{Gives};
     ghost use Rattle.sm_contexts.specs.Reading.{line_and_context, seen};
     ghost use Rattle.sm_policy.specs.Preparing.{is_memory, prepared};
@@ -71,7 +35,7 @@ impl PolicyTables {
     ghost use Rattle.sm_types.specs.Names.{at};
     ghost use Rattle.sm_questions.specs.Granted.{IsGranted};
     ghost use Rattle.sm_rules.specs.Keeping.{class_at, perm_at};
-    ghost use Rattle.sm_questions.specs.Sourced.{HasRulesOf};
+    ghost use Rattle.sm_questions.specs.FirstLines.{HasLines};
     ghost use Rattle.sm_kinds.specs.Contexts.{type_of};
     ghost use Rattle.sm_policy.specs.Policy.{allowed, is_permissive, label_of, type_index, written_at};
     ghost use Rattle.sm_kinds.specs.Names.{contains};
@@ -145,6 +109,16 @@ impl PolicyTables {
         self.prepared.types().count() as u16
     }
 
+    /// Returns the number of a type by its place in the order of declaration, from 0: there are at most 4,096 types.
+    pub(crate) fn type_at(&self, index: u32) -> u16
+        requires { index < length (types self.now.statements) }
+        ensures { result ≡ index }
+    {
+        // The count, which is above the index, has 16 bits: without it the cast isn't proved.
+        let _ = self.type_count();
+        index as u16
+    }
+
     /// Returns the name of a type by its number, which is its place in the order of declaration, from 0. Nothing if
     /// there is no such type.
     #[tactic(auto, using(std::proofs::lemmas::Option::gets, std::proofs::lemmas::Grind::common_steps))]
@@ -175,32 +149,36 @@ impl PolicyTables {
         self.prepared.granted_at(source, target)
     }
 
-    /// Returns the allow rules that have a source.
-    pub(crate) fn rules_of(&self, alloc: Global, source: u16) -> Result<Vec<&Kept>, AllocError>
-        requires { source < length (types self.now.statements) }
-        ensures { IfOk result (λ rules. HasRulesOf self.now source rules.items) }
+    /// Returns a table for `find_lines`.
+    pub(crate) fn line_table(&self, alloc: Global) -> Result<Vec<Option<u32>>, AllocError>
+        ensures { IfOk result (λ lines. length lines.items ≡ 7 * length (types self.now.statements)) }
     {
-        rules_of(alloc, self.prepared.rules().allows(), usize::from(source))
+        vec![in alloc; None; 7 * self.prepared.types().type_count().get()]
     }
 
-    /// Returns the line of the first allow rule that grants permission `bit` on the two types, by their numbers, of
-    /// which the first is that of the rules. `None` if no rule does.
-    pub(crate) fn line_among(
-        &self,
-        rules: &[&Kept],
-        source: u16,
-        target: u16,
-        bit: u32,
-    ) -> Option<u32>
-        requires bit { bit < 7 }
+    /// Finds the lines of the first allow rules that grant the source, given by its number, its permissions: seven for
+    /// each target.
+    pub(crate) fn find_lines(&self, source: u16, lines: &mut [Option<u32>])
+        requires room { length lines.old ≡ 7 * length (types self.now.statements) }
+        requires source { source < length (types self.now.statements) }
+        ensures { HasLines self.now source lines.new }
+    {
+        let count = self.prepared.types().type_count();
+        let rules = self.prepared.rules().allows();
+        find_lines(lines, rules, count, usize::from(source));
+    }
+
+    /// Returns the line of the first allow rule that grants permission `bit` on the two types, by their numbers. `None`
+    /// if no rule does.
+    #[tactic(auto, unfolding(sm_policy::specs::Policy::written_at))]
+    pub(crate) fn written(&self, source: u16, target: u16, bit: u32) -> Option<u32>
         requires source { source < length (types self.now.statements) }
         requires target { target < length (types self.now.statements) }
-        requires rules { HasRulesOf self.now source rules.now }
         ensures { result ≡ written_at self.now (at (types self.now.statements) source)
             (at (types self.now.statements) target) (class_at bit) (perm_at bit) }
     {
-        let count = self.prepared.types().type_count();
-        first_of(rules, count, bit, usize::from(source), usize::from(target))
+        let rules = self.prepared.rules();
+        rules.written(source, target, class_at(bit), perm_at(bit))
     }
 
     /// Returns the number of a type by its name, or `None` if it isn't declared.

@@ -1,7 +1,7 @@
 //! Answers to questions about small policies. Each is worked out by hand.
 
 use crate::{
-    Options, PolicyTables, Target, access, diff, explain, label, read_access, read_filter,
+    FilterOptions, PolicyTables, Target, access, diff, explain, label, read_access, read_filter,
     shown_lines,
 };
 use sm_engine::Counted;
@@ -99,7 +99,7 @@ fn lists(
     rt: &impl Abort,
     alloc: Global,
     policy: &PolicyTables,
-    options: &Options<'_>,
+    options: &FilterOptions<'_>,
     lines: &[u8],
 ) -> bool {
     let filter = read_filter(policy, options).ok().expect(rt, "known words");
@@ -113,7 +113,7 @@ fn lists(
 #[test]
 fn accesses_of_a_source(rt: HostRuntime) {
     let policy = tables(&rt, rt.alloc(), RULES, CONTEXTS);
-    let options = Options {
+    let options = FilterOptions {
         source: Some(Word::new(b"app")),
         target: Target::Any,
         class: None,
@@ -126,7 +126,7 @@ fn accesses_of_a_source(rt: HostRuntime) {
 #[test]
 fn accesses_with_a_permission(rt: HostRuntime) {
     let policy = tables(&rt, rt.alloc(), RULES, CONTEXTS);
-    let options = Options {
+    let options = FilterOptions {
         source: Some(Word::new(b"init")),
         target: Target::Any,
         class: Some(Word::new(b"binder")),
@@ -140,7 +140,7 @@ fn accesses_with_a_permission(rt: HostRuntime) {
 #[test]
 fn accesses_of_a_name(rt: HostRuntime) {
     let policy = tables(&rt, rt.alloc(), RULES, CONTEXTS);
-    let options = Options {
+    let options = FilterOptions {
         source: None,
         target: Target::Name(Word::new(b"media")),
         class: None,

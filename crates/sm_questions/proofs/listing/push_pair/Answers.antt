@@ -1,8 +1,8 @@
-use Rattle.std.proofs.Common.{◌<◌, ◌∙◌, append_assoc, arith}
+use Rattle.std.proofs.Common.{◌<◌, arith}
 use Rattle.sm_types.specs.Names.{at}
 use Rattle.sm_types.specs.Denoting.{types}
 use Rattle.sm_questions.specs.Accesses.{perm_lines}
-use Rattle.sm_questions.proofs.Permissions.{perms_step}
+use Rattle.sm_questions.proofs.Permissions.{held_perm}
 use Rattle.sm_questions.proofs.listing.push_pair.Goals as goal
 
 pub loop-bit-preserved : goal.loop-bit-preserved
@@ -10,5 +10,4 @@ loop-bit-preserved c =
     let names = types c.args.policy.now.statements in
     let f = perm_lines c.args.policy.now c.args.wanted.0 (at names c.args.source) (at names c.args.target) in
     let lt : c.loop-bit.bit < 7 = omega arith in
-    rw (perms_step f c.loop-bit.bit lt) (c.in_ok-push_perm.ensures
-    ∙ rw (c.loop-bit.invariant, append_assoc))
+    held_perm f c.loop-bit.bit c.args.held.now.items lt c.loop-bit.invariant c.in_ok-push_perm.ensures

@@ -1,0 +1,125 @@
+//! The parts of the answer to `svcmgr diff`.
+
+ghost use Rattle.std.specs.Prelude.{◌≡◌, ◌<◌, ◌++◌, IfOk, OnOk, length};
+ghost use Rattle.sm_types.specs.Names.{at};
+ghost use Rattle.sm_questions.specs.Differences as spec;
+ghost use Rattle.sm_questions.specs.Parts.{AreNumbers, lines_of, names_in};
+
+use crate::PolicyTables;
+use crate::lost::{numbers_in, push_source};
+use crate::relabelling::{push_added, push_changed};
+use std::alloc::{AllocError, Global};
+
+/// All that differs in one way.
+#[derive(Clone, Copy)]
+pub enum Part {
+    /// Accesses that only the old policy allows.
+    Lost,
+    /// Accesses that only the new policy allows.
+    Gained,
+    /// Keys of the old policy whose names get another label.
+    Relabelled,
+    /// Keys that only the new policy has, and whose names get another label.
+    Added,
+    /// Types that cease to be permissive.
+    Ceased,
+    /// Types that become permissive.
+    Became,
+}
+
+/// Appends two texts.
+fn push_both(held: &mut Vec<u8>, one: &[u8], other: &[u8]) -> Result<(), AllocError>
+    ensures { OnOk result (held.new.items ≡ held.old.items ++ (one.now ++ other.now)) }
+{
+    held.extend_from_slice(one)?;
+    held.extend_from_slice(other)
+}
+
+/// Appends `permissive TYPE`.
+#[tactic(auto, unfolding(crate::specs::Differences::permissive_words))]
+fn push_words(name: &[u8], held: &mut Vec<u8>) -> Result<(), AllocError>
+    ensures { OnOk result (held.new.items ≡ held.old.items ++ spec.permissive_words name.now) }
+{
+    push_both(held, b"permissive ", name)
+}
+
+/// Appends a permissive type behind a sign.
+#[tactic(auto, unfolding(crate::specs::Differences::turned_line))]
+fn push_permissive(sign: u8, name: &[u8], held: &mut Vec<u8>) -> Result<(), AllocError>
+    ensures { OnOk result (held.new.items ≡ held.old.items ++ spec.turned_line sign name.now) }
+{
+    held.extend_from_slice(&[sign, b' '])?;
+    push_words(name, held)?;
+    held.extend_from_slice(b"\n")
+}
+
+/// Appends the line for a type, if it is permissive only in the first policy.
+#[tactic(auto, unfolding(crate::specs::Differences::turned_type))]
+fn push_turned(
+    sign: u8,
+    one: &PolicyTables,
+    other: &PolicyTables,
+    name: &[u8],
+    held: &mut Vec<u8>,
+) -> Result<(), AllocError>
+    ensures { OnOk result (held.new.items ≡ held.old.items ++ spec.turned_type sign one.now other.now name.now) }
+{
+    if !one.is_permissive(name) || other.is_permissive(name) {
+        return Ok(());
+    }
+    push_permissive(sign, name, held)
+}
+
+impl Part {
+    /// Returns the number of types or keys that this part goes through.
+    pub fn count(self, old: &PolicyTables, new: &PolicyTables) -> u32
+        ensures { result ≡ length (names_in self old.now new.now) }
+    {
+        match self {
+            Part::Lost | Part::Ceased => u32::from(old.type_count()),
+            Part::Gained | Part::Became => u32::from(new.type_count()),
+            Part::Relabelled => old.key_count(),
+            Part::Added => new.key_count(),
+        }
+    }
+
+    /// Returns the numbers in the other policy of the types whose accesses are compared.
+    pub fn numbers(
+        self,
+        alloc: Global,
+        old: &PolicyTables,
+        new: &PolicyTables,
+    ) -> Result<Vec<Option<u16>>, AllocError>
+        ensures { IfOk result (λ numbers. AreNumbers self old.now new.now numbers.items) }
+    {
+        match self {
+            Part::Lost => numbers_in(alloc, old, new),
+            Part::Gained => numbers_in(alloc, new, old),
+            _ => Ok(Vec::new(alloc)),
+        }
+    }
+
+    /// Appends the lines for a type or a key, given by its place in the order of the policy.
+    pub fn push(
+        self,
+        old: &PolicyTables,
+        new: &PolicyTables,
+        numbers: &[Option<u16>],
+        index: u32,
+        held: &mut Vec<u8>,
+    ) -> Result<(), AllocError>
+        requires index { index < length (names_in self old.now new.now) }
+        requires numbers { AreNumbers self old.now new.now numbers.now }
+        ensures { OnOk result (held.new.items ≡ held.old.items
+            ++ lines_of self old.now new.now (at (names_in self old.now new.now) index)) }
+    {
+        match self {
+            Part::Lost => push_source(b'-', old, new, numbers, old.type_at(index), held),
+            Part::Gained => push_source(b'+', new, old, numbers, new.type_at(index), held),
+            Part::Relabelled => push_changed(old, new, old.key(index), held),
+            Part::Added => push_added(old, new, new.key(index), held),
+            Part::Ceased => push_turned(b'-', old, new, old.type_name(old.type_at(index)), held),
+            Part::Became => push_turned(b'+', new, old, new.type_name(new.type_at(index)), held),
+        }
+    }
+}
