@@ -164,12 +164,16 @@ fn server(rt: &impl Abort, alloc: Global) -> Identity {
     process(rt, alloc, 100, 1000, b"u:r:system_server:s0")
 }
 
-fn application(rt: &impl Abort, alloc: Global) -> Identity {
+pub fn application(rt: &impl Abort, alloc: Global) -> Identity {
     process(rt, alloc, 200, 10007, b"u:r:untrusted_app:s0")
 }
 
+pub fn name(rt: &impl Abort, alloc: Global, bytes: &[u8]) -> Name {
+    Name::new(alloc, bytes).ok().expect(rt, "a name")
+}
+
 fn activity(rt: &impl Abort, alloc: Global) -> Name {
-    Name::new(alloc, b"activity").ok().expect(rt, "a name")
+    name(rt, alloc, b"activity")
 }
 
 fn add(rt: &impl Abort, alloc: Global) -> Event {

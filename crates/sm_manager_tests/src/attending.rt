@@ -57,7 +57,10 @@ fn attend<W: Write>(
         },
         left: way.failing_read,
     });
-    let mut writer = Counted::new(writer);
+    let mut writer = Counted::new(FailAt {
+        inner: writer,
+        left: way.failing_write,
+    });
     let (desk, ending) = session(
         alloc,
         kind,
@@ -68,21 +71,19 @@ fn attend<W: Write>(
         way.reads,
     );
     let failures = (reader.failures(), writer.failures());
-    (desk, ending.err(), failures, writer.into_inner())
+    let FailAt { inner, left: _ } = writer.into_inner();
+    (desk, ending.err(), failures, inner)
 }
 
 /// Serves a connection at the desk, where each write takes all that it is given.
 pub fn serve(alloc: Global, kind: Kind, desk: ManagerDesk, script: &[u8], way: Way) -> Left {
-    let writer = FailAt {
-        inner: Vec::new(alloc),
-        left: way.failing_write,
-    };
-    let (desk, fault, failures, writer) = attend(alloc, kind, desk, script, way, writer);
+    let writer = Vec::new(alloc);
+    let (desk, fault, failures, written) = attend(alloc, kind, desk, script, way, writer);
     Left {
         desk,
         fault,
         failures,
-        written: writer.inner,
+        written,
     }
 }
 
@@ -94,16 +95,13 @@ pub fn serve_by_bytes(
     script: &[u8],
     way: Way,
 ) -> Left {
-    let writer = FailAt {
-        inner: OneByte(Vec::new(alloc)),
-        left: way.failing_write,
-    };
+    let writer = OneByte(Vec::new(alloc));
     let (desk, fault, failures, writer) = attend(alloc, kind, desk, script, way, writer);
     Left {
         desk,
         fault,
         failures,
-        written: writer.inner.0,
+        written: writer.0,
     }
 }
 

@@ -1,26 +1,15 @@
 //! The lines of records, and the ring of the newest.
 
+use crate::acts::{application, name};
 use sm_audit::{Ring, push_line, push_lines};
 use sm_history::{Denial, Record};
-use sm_kinds::{Class, Context, Identity, Name, Perms};
+use sm_kinds::{Class, Context, Perms};
 use std::alloc::Global;
 use std::process::Abort;
 use std::test::*;
 
 fn context(rt: &impl Abort, alloc: Global, text: &[u8]) -> Context {
     Context::read(alloc, text).ok().expect(rt, "a context")
-}
-
-fn name(rt: &impl Abort, alloc: Global, bytes: &[u8]) -> Name {
-    Name::new(alloc, bytes).ok().expect(rt, "a name")
-}
-
-fn application(rt: &impl Abort, alloc: Global) -> Identity {
-    Identity {
-        pid: 200,
-        uid: 10007,
-        context: context(rt, alloc, b"u:r:untrusted_app:s0"),
-    }
 }
 
 /// That `find` is missing for `activity`.

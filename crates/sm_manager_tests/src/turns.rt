@@ -1,13 +1,13 @@
 //! A manager that is called directly: whose turn it is, and who may do and ask what.
 
 use crate::acts::{
-    A_SERVER, ADMIN, AN_ADD, APPLICATION, Act, SERVER, Seen, event, has_turn, look, opened, step,
-    steps,
+    A_SERVER, ADMIN, AN_ADD, APPLICATION, Act, SERVER, Seen, event, has_turn, look, name, opened,
+    step, steps,
 };
 use sm_audit::push_lines;
 use sm_core::Manager;
 use sm_history::{By, Entry, Query, Record};
-use sm_kinds::{AdminId, Class, Name, Perms};
+use sm_kinds::{AdminId, Class, Perms};
 use std::alloc::Global;
 use std::mem::size_of;
 use std::process::Abort;
@@ -48,10 +48,6 @@ const OF_OTHERS: &[(By, u64, Act, Seen)] = &[
     (SERVER, 0, Act::ConnectServer, Seen::NotYours),
     (ADMIN, 0, Act::ConnectServer, Seen::NotYours),
 ];
-
-fn name(rt: &impl Abort, alloc: Global, bytes: &[u8]) -> Name {
-    Name::new(alloc, bytes).ok().expect(rt, "a name")
-}
 
 fn explain(rt: &impl Abort, alloc: Global) -> Query {
     Query::Explain {

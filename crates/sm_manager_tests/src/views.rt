@@ -8,18 +8,21 @@ use sm_kinds::ClientId;
 use std::alloc::Global;
 use std::process::Abort;
 
-/// Shows an actor's next change, which is done, and makes it.
+/// A system server connects.
+const A_CONNECTION: (By, Act) = (By::Manager, Act::ConnectServer);
+
+/// Builds the view with an actor's next change, and then makes the change, which has to succeed.
 fn shown(
     rt: &impl Abort,
     alloc: Global,
     manager: &mut Manager,
     last: &View,
-    by: By,
-    act: Act,
+    change: (By, Act),
 ) -> View
     requires { last.now ≡ manager.old.book }
     ensures { result ≡ manager.new.book }
 {
+    let (by, act) = change;
     let turn = manager.turn(by);
     let Ok(ready) = manager.ready(by, turn, event(rt, alloc, act)) else {
         panic!(rt; "an event that isn't done");
@@ -59,24 +62,10 @@ fn a_name_is_listed_from_its_change_on(rt: HostRuntime) {
     let alloc = rt.alloc();
     let mut manager = opened(&rt, alloc, 1000);
     let opening = opening(&rt, &manager);
-    let one = shown(
-        &rt,
-        alloc,
-        &mut manager,
-        &opening,
-        By::Manager,
-        Act::ConnectServer,
-    );
-    let two = shown(
-        &rt,
-        alloc,
-        &mut manager,
-        &one,
-        By::Manager,
-        Act::ConnectServer,
-    );
-    let added = shown(&rt, alloc, &mut manager, &two, SERVER, Act::Add);
-    let again = shown(&rt, alloc, &mut manager, &added, SERVER, Act::Add);
+    let one = shown(&rt, alloc, &mut manager, &opening, A_CONNECTION);
+    let two = shown(&rt, alloc, &mut manager, &one, A_CONNECTION);
+    let added = shown(&rt, alloc, &mut manager, &two, (SERVER, Act::Add));
+    let again = shown(&rt, alloc, &mut manager, &added, (SERVER, Act::Add));
     lists(&rt, &opening, 2, Seen::NotConnected);
     lists(&rt, &two, 2, Seen::Names(1, 3, 0));
     lists(&rt, &added, 2, Seen::Names(1, 4, 1));
@@ -90,26 +79,12 @@ fn a_death_takes_its_names(rt: HostRuntime) {
     let alloc = rt.alloc();
     let mut manager = opened(&rt, alloc, 1000);
     let opening = opening(&rt, &manager);
-    let one = shown(
-        &rt,
-        alloc,
-        &mut manager,
-        &opening,
-        By::Manager,
-        Act::ConnectServer,
-    );
-    let added = shown(&rt, alloc, &mut manager, &one, SERVER, Act::Add);
-    let dead = shown(&rt, alloc, &mut manager, &added, SERVER, Act::Die);
+    let one = shown(&rt, alloc, &mut manager, &opening, A_CONNECTION);
+    let added = shown(&rt, alloc, &mut manager, &one, (SERVER, Act::Add));
+    let dead = shown(&rt, alloc, &mut manager, &added, (SERVER, Act::Die));
     lists(&rt, &added, 1, Seen::Names(1, 3, 1));
     lists(&rt, &dead, 1, Seen::NotConnected);
-    let two = shown(
-        &rt,
-        alloc,
-        &mut manager,
-        &dead,
-        By::Manager,
-        Act::ConnectServer,
-    );
+    let two = shown(&rt, alloc, &mut manager, &dead, A_CONNECTION);
     lists(&rt, &two, 2, Seen::Names(1, 5, 0));
     assert!(rt; two.turn(SERVER) == 2);
 }
@@ -120,7 +95,7 @@ fn a_reload_is_seen_from_its_change_on(rt: HostRuntime) {
     let alloc = rt.alloc();
     let mut manager = opened(&rt, alloc, 1000);
     let opening = opening(&rt, &manager);
-    let reloaded = shown(&rt, alloc, &mut manager, &opening, ADMIN, Act::Reload(1));
+    let reloaded = shown(&rt, alloc, &mut manager, &opening, (ADMIN, Act::Reload(1)));
     has_version(&rt, &opening, Seen::Version(1, 1));
     has_version(&rt, &reloaded, Seen::Version(2, 2));
 }

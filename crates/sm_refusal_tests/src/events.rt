@@ -1,13 +1,11 @@
 //! Each event at a manager.
 
-use crate::manager::{activity, does, opened, policy, process};
+use crate::manager::{SERVER, activity, does, opened, policy, process};
 use sm_core::Manager;
 use sm_history::{By, Event};
 use sm_kinds::{AdminId, ClientId, Name, ObjRef, Payload, Refs};
 use std::alloc::Global;
 use std::process::Abort;
-
-const SERVER: By = By::Client(ClientId(1));
 
 const APPLICATION: By = By::Client(ClientId(2));
 

@@ -11,7 +11,7 @@ use sm_samples::{DEVICE_LABELS, DEVICE_RULES};
 use std::alloc::Global;
 use std::process::Abort;
 
-const SERVER: By = By::Client(ClientId(1));
+pub const SERVER: By = By::Client(ClientId(1));
 
 pub fn process(alloc: Global, context: &[u8]) -> Option<Identity> {
     let context = Context::read(alloc, context).ok()?;

@@ -1,5 +1,6 @@
 //! Policy sources and contexts files.
 
+use crate::manager::policy;
 use crate::outcome::value;
 use sm_contexts::{Contexts, ContextsFault};
 use sm_kinds::{Class, Perms};
@@ -7,7 +8,7 @@ use sm_neverallow::{Matrices, first_violation};
 use sm_policy::{PolicyFault, Prepared, refused_text};
 use sm_rules::{Rules, RulesFault};
 use sm_ruletext::{RuleKind, RuleTextFault, Statement, What, read};
-use sm_samples::{BROKEN_RULE, DEVICE_LABELS, DEVICE_RULES, device_rules_with};
+use sm_samples::{BROKEN_RULE, DEVICE_LABELS, device_rules_with};
 use sm_types::{Types, TypesFault};
 use sm_vectors::Vectors;
 use std::alloc::Global;
@@ -100,13 +101,7 @@ fn a_broken_policy_is_refused(rt: HostRuntime) {
 }
 
 fn shared(rt: &impl Abort, alloc: Global) -> Option<()> {
-    let policy = match Prepared::from_texts(alloc, DEVICE_RULES, DEVICE_LABELS) {
-        Ok(policy) => policy,
-        Err(fault) => {
-            assert!(rt; matches!(fault, PolicyFault::Memory));
-            return None;
-        }
-    };
+    let policy = policy(rt, alloc)?;
     let other = policy.share().ok()?;
     let line = other.why(
         b"untrusted_app",

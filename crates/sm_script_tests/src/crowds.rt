@@ -2,7 +2,7 @@
 
 use crate::fixture::{Fixture, hold};
 use crate::parts::Part::{Lines, Repeat};
-use crate::parts::{Parts, repeat};
+use crate::parts::{ONE_CLIENT, Parts, repeat};
 use sm_samples::{Said, Talk};
 use std::alloc::{AllocError, Global};
 
@@ -30,8 +30,6 @@ const A_FULL_TABLE_OF_HANDLES: Parts = &[
     ),
     Lines(ONE_HANDLE_TOO_MANY),
 ];
-
-const ONE_CLIENT: Talk = &[("hello 100 1000 u:r:system_server:s0", "client 1")];
 
 const ONE_WATCH_TOO_MANY: Talk = &[
     ("1 watch activity o4", "exception -5 table-full"),

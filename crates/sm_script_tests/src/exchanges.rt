@@ -3,7 +3,6 @@
 use crate::fixture::{DEVICE, Files, Fixture, hold};
 use crate::parts::Part::{Lines, Reload, Repeat};
 use crate::parts::Parts;
-use crate::texts::RULES_WITHOUT_CALLS;
 use sm_samples::Talk;
 
 const A_HANDLE_COUNTS: Parts = &[Lines(&[
@@ -132,38 +131,34 @@ const SIXTEEN_REFERENCES: Parts = &[Lines(&[
 ])];
 
 // Client 2 dies holding a handle, watching, owning the service, and with a full inbox.
-const BEFORE_A_DEATH: Talk = &[
-    ("hello 200 10007 u:r:untrusted_app:s0", "client 1"),
-    ("hello 100 1000 u:r:system_server:s0", "client 2"),
-    ("2 watch activity o3", "ok"),
-    ("2 add activity o1 0 8", "ok"),
-    ("1 get activity", "handle 1"),
-    ("1 call 1 - o5", "ok"),
-];
-
-const AFTER_A_DEATH: Talk = &[
-    ("1 call 1 -", "failed target-full"),
-    ("1 watch activity o9", "ok"),
-    ("2 bye", "bye"),
-    ("1 get activity", "null"),
-    ("1 call 1 -", "dead"),
-    ("2 take", "failed not-connected"),
-    ("hello 101 1000 u:r:system_server:s0", "client 3"),
-    ("3 add activity o1 0 8", "ok"),
-    ("3 take", "empty"),
-    ("1 take", "registered o9 activity h1"),
-    ("1 take", "registered o9 activity h2"),
-    ("1 take", "empty"),
-    ("1 release 1", "ok"),
-    ("1 release 1", "ok"),
-    ("1 release 1", "failed bad-handle"),
-    ("1 get activity", "handle 2"),
-];
-
 const A_DEATH_OF_ONE_THAT_HAS_ALL: Parts = &[
-    Lines(BEFORE_A_DEATH),
+    Lines(&[
+        ("hello 200 10007 u:r:untrusted_app:s0", "client 1"),
+        ("hello 100 1000 u:r:system_server:s0", "client 2"),
+        ("2 watch activity o3", "ok"),
+        ("2 add activity o1 0 8", "ok"),
+        ("1 get activity", "handle 1"),
+        ("1 call 1 - o5", "ok"),
+    ]),
     Repeat(254, b"1 call 1 -\n", b"ok\n"),
-    Lines(AFTER_A_DEATH),
+    Lines(&[
+        ("1 call 1 -", "failed target-full"),
+        ("1 watch activity o9", "ok"),
+        ("2 bye", "bye"),
+        ("1 get activity", "null"),
+        ("1 call 1 -", "dead"),
+        ("2 take", "failed not-connected"),
+        ("hello 101 1000 u:r:system_server:s0", "client 3"),
+        ("3 add activity o1 0 8", "ok"),
+        ("3 take", "empty"),
+        ("1 take", "registered o9 activity h1"),
+        ("1 take", "registered o9 activity h2"),
+        ("1 take", "empty"),
+        ("1 release 1", "ok"),
+        ("1 release 1", "ok"),
+        ("1 release 1", "failed bad-handle"),
+        ("1 get activity", "handle 2"),
+    ]),
 ];
 
 // One of four slots is kept for the death of the client.
@@ -206,31 +201,28 @@ pub const A_SERVER_THAT_DIES: Parts = &[
     Lines(ANOTHER_SERVER_COMES),
 ];
 
+/// A device's policy without the rule that lets applications call the system server.
 pub const WITHOUT_CALLS: Files = Files {
-    rules: RULES_WITHOUT_CALLS,
+    without: b"allow untrusted_app system_server:binder { call transfer };\n",
     ..DEVICE
 };
 
-const AN_APPLICATION_HAS_A_HANDLE: Talk = &[
-    ("hello 100 1000 u:r:system_server:s0", "client 1"),
-    ("1 add activity o1 0 8", "ok"),
-    ("hello 200 10007 u:r:untrusted_app:s0", "client 2"),
-    ("2 get activity", "handle 1"),
-];
-
 // A watcher isn't notified of a service, either, while its inbox is full.
-const ONE_CALL_TOO_MANY: Talk = &[
-    ("2 call 1 -", "failed target-full"),
-    ("1 take", "call o1 200 10007 -"),
-    ("2 call 1 -", "ok"),
-    ("1 watch activity o3", "ok"),
-    ("2 call 1 -", "failed target-full"),
-];
-
 const A_FULL_INBOX: Parts = &[
-    Lines(AN_APPLICATION_HAS_A_HANDLE),
+    Lines(&[
+        ("hello 100 1000 u:r:system_server:s0", "client 1"),
+        ("1 add activity o1 0 8", "ok"),
+        ("hello 200 10007 u:r:untrusted_app:s0", "client 2"),
+        ("2 get activity", "handle 1"),
+    ]),
     Repeat(256, b"2 call 1 -\n", b"ok\n"),
-    Lines(ONE_CALL_TOO_MANY),
+    Lines(&[
+        ("2 call 1 -", "failed target-full"),
+        ("1 take", "call o1 200 10007 -"),
+        ("2 call 1 -", "ok"),
+        ("1 watch activity o3", "ok"),
+        ("2 call 1 -", "failed target-full"),
+    ]),
 ];
 
 #[test]

@@ -13,6 +13,8 @@ use std::process::Abort;
 #[derive(Clone, Copy)]
 pub struct Files {
     pub rules: &'static [u8],
+    /// The line of the rules that is left out, with its newline; empty if all are kept.
+    pub without: &'static [u8],
     /// Appended to the rules.
     pub more: &'static [u8],
     pub contexts: &'static [u8],
@@ -21,6 +23,7 @@ pub struct Files {
 /// A device's policy.
 pub const DEVICE: Files = Files {
     rules: DEVICE_RULES,
+    without: b"",
     more: b"",
     contexts: DEVICE_LABELS,
 };
@@ -34,17 +37,26 @@ pub const DEVICE_WITH_DEFAULTS: Files = Files {
 /// A policy of single names.
 pub const PLAIN: Files = Files {
     rules: PLAIN_RULES,
+    without: b"",
     more: b"",
     contexts: ONE_LABEL,
 };
 
 impl Files {
-    /// The policy source.
+    /// Returns the policy source. Asserts that the line to leave out is one of the rules.
     pub fn source(self, rt: &impl Abort, alloc: Global) -> Vec<u8> {
         let mut source = Vec::new(alloc);
-        for text in [self.rules, self.more] {
-            source.extend_from_slice(text).ok().expect(rt, "memory");
+        for line in self.rules.split_inclusive(|byte| *byte == b'\n') {
+            if line != self.without {
+                source.extend_from_slice(line).ok().expect(rt, "memory");
+            }
         }
+        let kept = source.len().saturating_add(self.without.len());
+        assert_eq!(rt; kept, self.rules.len());
+        source
+            .extend_from_slice(self.more)
+            .ok()
+            .expect(rt, "memory");
         source
     }
 }

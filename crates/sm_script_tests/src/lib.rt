@@ -28,5 +28,3 @@ mod renumbering;
 mod scripts;
 #[cfg(test)]
 mod seals;
-#[cfg(test)]
-mod texts;

@@ -2,17 +2,15 @@
 
 use crate::fixture::{DEVICE, DEVICE_WITH_DEFAULTS, Files, Fixture, LONGEST, PLAIN, hold};
 use crate::parts::Part::{Bytes, Lines, Repeat};
-use crate::parts::{Parts, said_of};
+use crate::parts::{ONE_CLIENT, Parts, said_of};
 use sm_engine::{Counted, Fault};
 use sm_history::{Denial, Refusal};
 use sm_kinds::{Class, Perms, Places};
 use sm_policy::PolicyFault;
-use sm_samples::{DEVICE_LABELS, Talk};
+use sm_samples::DEVICE_LABELS;
 use sm_script::{ScriptFault, run_script};
 use std::alloc::Global;
 use std::process::Abort;
-
-const ONE_CLIENT: Talk = &[("hello 100 1000 u:r:system_server:s0", "client 1")];
 
 const INPUT_THAT_ENDS_INSIDE_A_LINE: Parts = &[Lines(ONE_CLIENT), Bytes(b"1 lis", b"fault cut\n")];
 
@@ -185,25 +183,27 @@ fn not_begun(rt: &impl Abort, alloc: Global, files: Files) -> &'static str {
     reason(&ending.err().expect(rt, "a fault"))
 }
 
-// A policy without the bytes of its source in this range.
-fn without(rt: &impl Abort, files: Files, from: usize, to: usize) -> Files {
-    Files {
-        rules: files.rules.get(..from).expect(rt, "a front"),
-        more: files.rules.get(to..).expect(rt, "a back"),
-        contexts: files.contexts,
-    }
-}
+const UNDECLARED: Files = Files {
+    contexts: DEVICE_LABELS,
+    ..PLAIN
+};
+
+const PLAIN_WITHOUT_A_MANAGER: Files = Files {
+    without: b"allow servicemanager servicemanager:binder set_context_mgr;\n",
+    ..PLAIN
+};
+
+const DEVICE_WITHOUT_A_MANAGER: Files = Files {
+    without: b"allow servicemanager self:binder set_context_mgr;\n",
+    ..DEVICE
+};
 
 #[test]
 fn scripts_that_are_not_begun(rt: HostRuntime) {
-    let undeclared = Files {
-        contexts: DEVICE_LABELS,
-        ..PLAIN
-    };
     for (files, wanted) in [
-        (undeclared, "the label at line 3"),
-        (without(&rt, PLAIN, 64, 124), "no set_context_mgr"),
-        (without(&rt, DEVICE, 241, 291), "no set_context_mgr"),
+        (UNDECLARED, "the label at line 3"),
+        (PLAIN_WITHOUT_A_MANAGER, "no set_context_mgr"),
+        (DEVICE_WITHOUT_A_MANAGER, "no set_context_mgr"),
     ] {
         assert_eq!(rt; not_begun(&rt, rt.alloc(), files), wanted);
     }

@@ -22,6 +22,9 @@ pub enum Part {
 /// The parts of a script.
 pub type Parts = &'static [Part];
 
+/// The first client connects.
+pub const ONE_CLIENT: Talk = &[("hello 100 1000 u:r:system_server:s0", "client 1")];
+
 /// What a script of these parts says, and what it is to be answered.
 pub fn said_of(rt: &impl Abort, alloc: Global, parts: Parts) -> Said {
     let mut said = Said::new(alloc);

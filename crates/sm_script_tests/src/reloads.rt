@@ -2,7 +2,7 @@
 
 use crate::fixture::{DEVICE, Files, Fixture, PLAIN, hold};
 use crate::parts::Part::{Lines, Reload};
-use crate::parts::{Parts, said_of};
+use crate::parts::{ONE_CLIENT, Parts, said_of};
 use sm_samples::{BROKEN_RULE, Talk};
 use std::alloc::Global;
 use std::process::Abort;
@@ -88,8 +88,6 @@ const WITHOUT_A_PLACE_FOR_A_THIRD: Parts = &[
         ),
     ]),
 ];
-
-const ONE_CLIENT: Talk = &[("hello 100 1000 u:r:system_server:s0", "client 1")];
 
 const WITHOUT_A_PLACE: Parts = &[
     Lines(ONE_CLIENT),

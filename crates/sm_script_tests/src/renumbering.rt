@@ -7,7 +7,7 @@ use sm_samples::Talk;
 
 const LABELS: &[u8] = b"* u:object_r:activity_service:s0\n";
 
-// A service manager, a system server that adds services, and an application that finds and calls them.
+// A service manager, and a system server that adds services.
 const RULES: &[u8] = b"type servicemanager;
 type system_server;
 type untrusted_app;
@@ -15,10 +15,6 @@ type activity_service;
 allow servicemanager self:binder set_context_mgr;
 allow system_server servicemanager:binder { call transfer };
 allow system_server activity_service:service_manager add;
-allow untrusted_app servicemanager:binder { call transfer };
-allow servicemanager untrusted_app:binder transfer;
-allow untrusted_app activity_service:service_manager find;
-allow untrusted_app system_server:binder call;
 ";
 
 // The same rules, where the types are declared the other way round.
@@ -29,19 +25,12 @@ type servicemanager;
 allow servicemanager self:binder set_context_mgr;
 allow system_server servicemanager:binder { call transfer };
 allow system_server activity_service:service_manager add;
-allow untrusted_app servicemanager:binder { call transfer };
+";
+
+const RULES_FOR_APPLICATIONS: &[u8] = b"allow untrusted_app servicemanager:binder { call transfer };
 allow servicemanager untrusted_app:binder transfer;
 allow untrusted_app activity_service:service_manager find;
 allow untrusted_app system_server:binder call;
-";
-
-// The same rules without the application's type.
-const RULES_WITHOUT_APPLICATIONS: &[u8] = b"type activity_service;
-type system_server;
-type servicemanager;
-allow servicemanager self:binder set_context_mgr;
-allow system_server servicemanager:binder { call transfer };
-allow system_server activity_service:service_manager add;
 ";
 
 const TWO_CLIENTS: Talk = &[
@@ -97,9 +86,11 @@ const APPLICATIONS_AGAIN: Talk = &[
     ),
 ];
 
+// Applications find the services and call them.
 const PLAIN: Files = Files {
     rules: RULES,
-    more: b"",
+    without: b"",
+    more: RULES_FOR_APPLICATIONS,
     contexts: LABELS,
 };
 
@@ -109,8 +100,9 @@ const TURNED: Files = Files {
 };
 
 const WITHOUT_APPLICATIONS: Files = Files {
-    rules: RULES_WITHOUT_APPLICATIONS,
-    ..PLAIN
+    without: b"type untrusted_app;\n",
+    more: b"",
+    ..TURNED
 };
 
 const TYPES_IN_ANOTHER_ORDER: Parts = &[

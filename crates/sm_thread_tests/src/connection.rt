@@ -1,21 +1,16 @@
 //! Connections over bytes, one after another at one door: what is written to them, and the audit lines of their
 //! requests.
 
-ghost use Rattle.std.specs.Prelude.{◌≡◌};
-ghost use Rattle.sm_core.specs.Opening.{opened};
-
-use crate::server::{Ear, manager, policy};
+use crate::door::{Scene, plays};
+use crate::server::Ear;
 use sm_audit::push_lines;
 use sm_connection::{
     AuditSink, FreeSeats, Gauge, Monitor, SealAt, serve_administrator, serve_client,
 };
-use sm_door::{Admin, Door, Naming, UnnamedRegistry};
+use sm_door::{Admin, Door, Naming, Seat};
 use sm_engine::Counted;
 use sm_history::{NoGate, Record};
-use sm_kinds::{Identity, Places};
-use sm_policy::Prepared;
 use std::alloc::Global;
-use std::marker::Brand;
 use std::process::Abort;
 use std::sync::Wait;
 
@@ -142,21 +137,13 @@ sealed 1 3
 ";
 
 /// Serves an application, which is denied three requests, and an administrator after it.
-fn serves<J: Naming, R: Wait + Abort>(
+pub fn serves<J: Naming, R: Wait + Abort>(
     rt: &R,
     alloc: Global,
-    unnamed: UnnamedRegistry,
-    who: Identity,
-    policy: Prepared,
-    places: Places,
-)
-    requires registry { unnamed.seen.book ≡ J.registry }
-    requires opening { J.opening ≡ opened places who policy }
-{
-    let (door, seats, mut admins) = Door::<J, NoGate>::open(
-        rt, alloc, unnamed, who, policy, places, NoGate,
-    ).ok()
-        .expect(rt, "a door");
+    door: &Door<J, NoGate>,
+    seats: Vec<Seat<J>>,
+    mut admins: Vec<Admin<J>>,
+) {
     let seats = FreeSeats::new(seats);
     let admin = admins.pop().expect(rt, "an administrator");
     let ear = Ear::new();
@@ -171,28 +158,15 @@ fn serves<J: Naming, R: Wait + Abort>(
         alloc,
         text: Vec::new(alloc),
     };
-    let (told, sink) = client_told(rt, alloc, &door, &seats, &monitor, sink, AN_APPLICATION);
+    let (told, sink) = client_told(rt, alloc, door, &seats, &monitor, sink, AN_APPLICATION);
     assert_eq!(rt; told.as_slice(), TOLD_TO_THE_APPLICATION);
-    let (told, sink) = administrator_told(
-        rt,
-        alloc,
-        &door,
-        admin,
-        &monitor,
-        sink,
-        AN_ADMINISTRATOR,
-    );
+    let (told, sink) = administrator_told(rt, alloc, door, admin, &monitor, sink, AN_ADMINISTRATOR);
     assert_eq!(rt; told.as_slice(), TOLD_TO_THE_ADMINISTRATOR);
     assert_eq!(rt; sink.text.as_slice(), DENIED);
     assert_eq!(rt; seats.count(rt), 64);
-    door.close(rt);
 }
 
 #[test]
 fn each_denial_is_recorded_once_and_in_order(rt: HostRuntime) {
-    let alloc = rt.alloc();
-    let who = manager(&rt, alloc);
-    let rules = policy(&rt, alloc);
-    let places = Places::new(1000).expect(&rt, "places");
-    serves::<Brand, HostRuntime>(&rt, alloc, UnnamedRegistry::new(), who, rules, places);
+    plays(&rt, rt.alloc(), 1000, Scene::Connections);
 }

@@ -4,6 +4,8 @@ ghost use Rattle.std.specs.Prelude.{◌≡◌};
 ghost use Rattle.sm_core.specs.Opening.{opened};
 ghost use denote.Param.Send.{IsSend, IsSync};
 
+use crate::connection::serves;
+use crate::exchanges::{Exchange, converse};
 use crossbeam_utils::Backoff;
 use sm_core::View;
 use sm_door::{
@@ -106,28 +108,22 @@ fn are(list: &NameList, names: &[&[u8]]) -> bool {
 
 /// What a test does at a door of its own.
 #[derive(Clone, Copy)]
-enum Scene {
+pub enum Scene {
     Meeting,
     FullJournal,
     Installs,
     Race,
+    /// Lines of two clients and an administrator.
+    Lines(Exchange),
+    /// Connections over bytes.
+    Connections,
 }
 
-impl Scene {
-    /// The slots of the journal.
-    fn places(self) -> u32 {
-        match self {
-            Scene::FullJournal => 4,
-            _ => 1000,
-        }
-    }
-}
-
-/// Plays a scene at a door of its own.
-fn plays<R: Threads + Wait + Abort + Sync>(rt: &R, alloc: Global, scene: Scene) {
+/// Plays a scene at a door of its own, under a device's policy and with a journal of `places` slots.
+pub fn plays<R: Threads + Wait + Abort + Sync>(rt: &R, alloc: Global, places: u32, scene: Scene) {
     let who = manager(rt, alloc);
     let rules = policy(rt, alloc, DEVICE_RULES);
-    let places = Places::new(scene.places()).expect(rt, "places");
+    let places = Places::new(places).expect(rt, "places");
     opens::<Brand, R>(rt, alloc, UnnamedRegistry::new(), who, rules, places, scene);
 }
 
@@ -152,13 +148,15 @@ fn opens<J: Naming + Send + Sync, R: Threads + Wait + Abort + Sync>(
         Scene::FullJournal => fills(rt, alloc, &door, &mut seats),
         Scene::Installs => grows(rt, alloc, &door, admins),
         Scene::Race => rivals(rt, alloc, &door, admins),
+        Scene::Lines(exchange) => converse(rt, alloc, &door, seats, admins, exchange),
+        Scene::Connections => serves(rt, alloc, &door, seats, admins),
     }
     door.close(rt);
 }
 
 #[test]
 fn a_change_is_seen_after_a_meeting_and_without_one(rt: HostRuntime) {
-    plays(&rt, rt.alloc(), Scene::Meeting);
+    plays(&rt, rt.alloc(), 1000, Scene::Meeting);
 }
 
 fn meets<J: Naming, R: Wait + Abort>(
@@ -210,7 +208,7 @@ fn an_administrator_meets<J: Naming, R: Wait + Abort>(
 
 #[test]
 fn a_full_journal_refuses_changes_but_a_last_one(rt: HostRuntime) {
-    plays(&rt, rt.alloc(), Scene::FullJournal);
+    plays(&rt, rt.alloc(), 4, Scene::FullJournal);
 }
 
 /// The opening, a connect and an add leave one of four slots, which is kept for the client's death.
@@ -265,7 +263,7 @@ fn lists_activity<J: Naming, R: Abort>(
 
 #[test]
 fn versions_never_go_back(rt: HostRuntime) {
-    plays(&rt, rt.alloc(), Scene::Installs);
+    plays(&rt, rt.alloc(), 1000, Scene::Installs);
 }
 
 fn grows<J: Naming + Send + Sync, R: Threads + Wait + Abort + Sync>(
@@ -522,7 +520,7 @@ impl Race {
 
 #[test]
 fn one_of_two_installs_is_done(rt: HostRuntime) {
-    plays(&rt, rt.alloc(), Scene::Race);
+    plays(&rt, rt.alloc(), 1000, Scene::Race);
 }
 
 fn rivals<J: Naming + Send + Sync, R: Threads + Wait + Abort + Sync>(

@@ -1,25 +1,19 @@
 //! What two clients and an administrator are answered through a door, one after another, in the words of their lines,
 //! and the audit lines of what they ask.
 
-ghost use Rattle.std.specs.Prelude.{◌≡◌};
-ghost use Rattle.sm_core.specs.Opening.{opened};
-
-use crate::door::{manager, policy};
+use crate::door::{Scene, plays};
 use sm_audit::push_lines;
-use sm_door::{Admin, Door, Naming, Seat, Session, UnnamedRegistry};
+use sm_door::{Admin, Door, Naming, Seat, Session};
 use sm_history::{Event, Failure, NoGate, Outcome, Query, Record, Refusal, Reply, is_death};
-use sm_kinds::{Identity, Places};
-use sm_policy::Prepared;
-use sm_samples::DEVICE_RULES;
+use sm_kinds::Identity;
 use sm_wire::{Kind, Request, Telling, push_denials, reply_line};
 use std::alloc::Global;
-use std::marker::Brand;
 use std::process::Abort;
 use std::sync::Wait;
 
 /// Who sends a line.
 #[derive(Clone, Copy, PartialEq, Eq)]
-enum Sender {
+pub enum Sender {
     Service,
     Application,
     Admin,
@@ -28,7 +22,7 @@ enum Sender {
 use Sender::{Admin as Administrator, Application, Service};
 
 /// Lines, each with who sends it, and the line that answers it with the audit lines behind it.
-type Exchange = &'static [(Sender, &'static str, &'static str)];
+pub type Exchange = &'static [(Sender, &'static str, &'static str)];
 
 /// The connections at a door.
 #[derive(Drop)]
@@ -238,38 +232,15 @@ impl<J: Naming> Parties<J> {
     }
 }
 
-/// Holds an exchange at a door with these rules whose journal has `places` slots.
-fn holds<R: Wait + Abort>(rt: &R, alloc: Global, rules: &[u8], places: u32, exchange: Exchange) {
-    let who = manager(rt, alloc);
-    let rules = policy(rt, alloc, rules);
-    let places = Places::new(places).expect(rt, "places");
-    exchanges::<Brand, R>(
-        rt,
-        alloc,
-        UnnamedRegistry::new(),
-        who,
-        rules,
-        places,
-        exchange,
-    );
-}
-
-fn exchanges<J: Naming, R: Wait + Abort>(
+/// Sends the lines of an exchange. Asserts that each is answered as the exchange says.
+pub fn converse<J: Naming, R: Wait + Abort>(
     rt: &R,
     alloc: Global,
-    unnamed: UnnamedRegistry,
-    who: Identity,
-    policy: Prepared,
-    places: Places,
+    door: &Door<J, NoGate>,
+    seats: Vec<Seat<J>>,
+    mut admins: Vec<Admin<J>>,
     exchange: Exchange,
-)
-    requires registry { unnamed.seen.book ≡ J.registry }
-    requires opening { J.opening ≡ opened places who policy }
-{
-    let (door, seats, mut admins) = Door::<J, NoGate>::open(
-        rt, alloc, unnamed, who, policy, places, NoGate,
-    ).ok()
-        .expect(rt, "a door");
+) {
     let mut parties = Parties {
         seats,
         service: None,
@@ -277,10 +248,9 @@ fn exchanges<J: Naming, R: Wait + Abort>(
         admin: admins.pop().expect(rt, "an administrator"),
     };
     for (sender, line, wanted) in exchange {
-        let told = parties.answered(rt, alloc, &door, *sender, line);
+        let told = parties.answered(rt, alloc, door, *sender, line);
         assert_eq!(rt; told.strip_suffix(b"\n"), Some(wanted.as_bytes()));
     }
-    door.close(rt);
 }
 
 const A_FULL_JOURNAL_IS_SEALED: Exchange = &[
@@ -311,7 +281,7 @@ const A_FULL_JOURNAL_IS_SEALED: Exchange = &[
 
 #[test]
 fn a_full_journal_is_sealed(rt: HostRuntime) {
-    holds(&rt, rt.alloc(), DEVICE_RULES, 4, A_FULL_JOURNAL_IS_SEALED);
+    plays(&rt, rt.alloc(), 4, Scene::Lines(A_FULL_JOURNAL_IS_SEALED));
 }
 
 const CHANGES_OF_EACH_KIND: Exchange = &[
@@ -358,7 +328,7 @@ const CHANGES_OF_EACH_KIND: Exchange = &[
 
 #[test]
 fn changes_of_each_kind(rt: HostRuntime) {
-    holds(&rt, rt.alloc(), DEVICE_RULES, 1000, CHANGES_OF_EACH_KIND);
+    plays(&rt, rt.alloc(), 1000, Scene::Lines(CHANGES_OF_EACH_KIND));
 }
 
 const EXPLANATIONS_AND_DENIALS: Exchange = &[
@@ -417,11 +387,6 @@ const EXPLANATIONS_AND_DENIALS: Exchange = &[
 
 #[test]
 fn explanations_and_denials(rt: HostRuntime) {
-    holds(
-        &rt,
-        rt.alloc(),
-        DEVICE_RULES,
-        1000,
-        EXPLANATIONS_AND_DENIALS,
-    );
+    let scene = Scene::Lines(EXPLANATIONS_AND_DENIALS);
+    plays(&rt, rt.alloc(), 1000, scene);
 }

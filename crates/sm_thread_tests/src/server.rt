@@ -3,13 +3,14 @@
 ghost use Rattle.std.specs.Prelude.{◌≡◌};
 ghost use Rattle.sm_core.specs.Opening.{opened};
 
+use crate::door::{manager, policy};
 use crate::steps::Step::{self, Close, Over, Reload, Say, SayAll, Vanish};
 use crate::steps::connected;
 use sm_connection::{FreeSeats, SealAt, ServerEvent, Supervisor};
 use sm_door::{Door, Naming, UnnamedRegistry};
 use sm_engine::ServeFault;
 use sm_history::{Gate, NoGate, Record};
-use sm_kinds::{Context, Identity, Places};
+use sm_kinds::{Identity, Places};
 use sm_policy::Prepared;
 use sm_samples::{DEVICE_LABELS, DEVICE_RULES, STRICTER_RULES};
 use sm_serve::{Entrance, Numbers, Patience, serve};
@@ -261,7 +262,7 @@ pub fn at_a_door<
     visits.numbers.slots = places;
     let places = Places::new(places).expect(rt, "places");
     let who = manager(rt, alloc);
-    let rules = policy(rt, alloc);
+    let rules = policy(rt, alloc, DEVICE_RULES);
     serves::<Brand, T, G, R>(
         rt,
         alloc,
@@ -332,23 +333,6 @@ fn serves<
         heard: ear.heard(),
         ending,
         free,
-    }
-}
-
-/// The policy of a device.
-pub fn policy(rt: &impl Abort, alloc: Global) -> Prepared {
-    Prepared::from_texts(alloc, DEVICE_RULES, DEVICE_LABELS)
-        .ok()
-        .expect(rt, "a policy")
-}
-
-/// The manager's identity.
-pub fn manager(rt: &impl Abort, alloc: Global) -> Identity {
-    let context = Context::read(alloc, b"u:r:servicemanager:s0");
-    Identity {
-        pid: 1,
-        uid: 1000,
-        context: context.ok().expect(rt, "a context"),
     }
 }
 
