@@ -67,7 +67,7 @@ impl<'a, J: Naming, G: Gate + Drop, R: Wait> Client<'a, J, G, R> {
         let Some(token) = held.take() else {
             return self.hello_outside(held, who);
         };
-        match token.taken() {
+        match token.into_session() {
             Ok(session) => {
                 *held = Some(SeatOrSession::of_session(session));
                 not_yours()
@@ -258,7 +258,7 @@ impl<'a, J: Naming, G: Gate + Drop, R: Wait> Connection<Option<SeatOrSession<J>>
 fn session_of<J: Naming>(held: &mut Option<SeatOrSession<J>>) -> Option<Session<J>>
     ensures { TakesSession held.old result held.new }
 {
-    match held.take()?.taken() {
+    match held.take()?.into_session() {
         Ok(session) => Some(session),
         Err(seat) => {
             *held = Some(SeatOrSession::of_seat(seat));

@@ -20,7 +20,7 @@ pub struct Gauge {
     // The bytes of the entries of the open segment.
     bytes: AtomicU64,
     // What was reported of the open segment: `NOTHING`, `ALMOST_FULL` or `FULL`.
-    told: AtomicU64,
+    reported: AtomicU64,
     // Whether an allocation failed since the last seal: `ENOUGH`, `SHORT` or `TRIED`.
     memory: AtomicU64,
     reserve: Reserve,
@@ -57,7 +57,7 @@ impl Gauge {
             entries: AtomicU64::new(1),
             sealed: AtomicU64::new(0),
             bytes: AtomicU64::new(0),
-            told: AtomicU64::new(NOTHING),
+            reported: AtomicU64::new(NOTHING),
             memory: AtomicU64::new(ENOUGH),
             reserve: Reserve::new(alloc)?,
         })
@@ -76,7 +76,7 @@ impl Gauge {
 
     /// Counts a change whose entry has this many bytes. Returns whether the open segment is almost full and this is to
     /// be reported, which it is once.
-    pub fn fills_up(&self, bytes: u64) -> bool {
+    pub fn count_change(&self, bytes: u64) -> bool {
         self.bytes.fetch_add(bytes, Ordering::SeqCst);
         self.entries.fetch_add(1, Ordering::SeqCst);
         let is_almost_full = self.used().saturating_mul(10) >= self.slots.saturating_mul(MARK);
@@ -85,19 +85,19 @@ impl Gauge {
 
     /// Counts a change that was refused because no slot is left. Returns whether this is to be reported, which it is
     /// once.
-    pub fn is_full(&self) -> bool {
-        self.told.swap(FULL, Ordering::SeqCst) != FULL
+    pub fn note_full(&self) -> bool {
+        self.reported.swap(FULL, Ordering::SeqCst) != FULL
     }
 
     fn says_first(&self, before: u64, after: u64) -> bool {
         let (order, failed) = (Ordering::SeqCst, Ordering::SeqCst);
-        self.told
+        self.reported
             .compare_exchange(before, after, order, failed)
             .is_ok()
     }
 
     /// Notes that an allocation failed. Returns whether this is to be reported, which it is once until a seal.
-    pub fn runs_short(&self) -> bool {
+    pub fn note_short(&self) -> bool {
         self.memory.swap(SHORT, Ordering::SeqCst) == ENOUGH
     }
 
@@ -109,7 +109,7 @@ impl Gauge {
         }
         self.has_entries()
             || self.has_bytes()
-            || self.told.load(Ordering::SeqCst) == FULL
+            || self.reported.load(Ordering::SeqCst) == FULL
             || self.memory.load(Ordering::SeqCst) == SHORT
     }
 
@@ -139,12 +139,12 @@ impl Gauge {
     pub fn seal(&self, entries: u64) {
         self.sealed.store(entries, Ordering::SeqCst);
         self.bytes.store(0, Ordering::SeqCst);
-        self.told.store(NOTHING, Ordering::SeqCst);
+        self.reported.store(NOTHING, Ordering::SeqCst);
         self.memory.store(ENOUGH, Ordering::SeqCst);
     }
 
     /// Notes that no memory was left for a seal. Returns whether this is to be reported.
-    pub fn fails_to_seal(&self) -> bool {
+    pub fn note_failed_seal(&self) -> bool {
         self.memory.swap(TRIED, Ordering::SeqCst) == ENOUGH
     }
 

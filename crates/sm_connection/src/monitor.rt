@@ -45,7 +45,7 @@ impl<'a, H: Supervisor> Monitor<'a, H> {
 
     /// Counts a change whose entry has this many bytes.
     pub fn count(&self, bytes: u64) {
-        if self.gauge.fills_up(bytes) {
+        if self.gauge.count_change(bytes) {
             self.host.tell(ServerEvent::AlmostFull {
                 used: self.gauge.used(),
                 slots: self.gauge.slots(),
@@ -54,14 +54,14 @@ impl<'a, H: Supervisor> Monitor<'a, H> {
     }
 
     fn refuse(&self) {
-        if self.gauge.is_full() {
+        if self.gauge.note_full() {
             self.host.tell(ServerEvent::Full);
         }
     }
 
     /// Notes that an allocation failed.
     pub fn run_short(&self) {
-        if self.gauge.runs_short() {
+        if self.gauge.note_short() {
             self.host.tell(ServerEvent::MemoryShort);
         }
     }
@@ -78,7 +78,7 @@ impl<'a, H: Supervisor> Monitor<'a, H> {
 
     /// Notes that no memory was left for a seal.
     pub fn fail_to_seal(&self) {
-        if self.gauge.fails_to_seal() {
+        if self.gauge.note_failed_seal() {
             self.host.tell(ServerEvent::MemoryShort);
         }
     }

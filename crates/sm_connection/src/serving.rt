@@ -25,9 +25,9 @@ use std::alloc::Global;
 use std::io::{Read, Write};
 use std::sync::Wait;
 
-/// Serves a client's connection over any reader and writer: each allowed line is answered once, in order, from the
-/// history behind the door, until the lines end, a `bye` is answered by `bye`, a fault occurs, or `bound` reads were
-/// made. The sink is given the audit records of each answer once, in order. Returns what the connection still holds
+/// Serves a client's connection over any reader and writer. Each allowed line is answered once, in order, from the
+/// history behind the door. That ends with the lines, with a `bye` that is answered by `bye`, with a fault, or after
+/// `bound` reads. The sink is given the audit records of each answer once, in order. Returns what the connection still holds
 /// (nothing, a seat, or the session of a client that couldn't leave) and the sink.
 pub fn serve_client<
     J: Naming,

@@ -32,7 +32,7 @@ use Rattle.sm_grants.specs.Handing.{AreNamed, others}
 use Rattle.sm_grants.proofs.Handing.{handed_are}
 use Rattle.sm_core.specs.declared.plan.Plan.{Plan}
 use Rattle.sm_core.specs.Stands.{DeathIsLast}
-use Rattle.sm_core.specs.Judging.{AllPass, IsPlan, Judged, wanted}
+use Rattle.sm_core.specs.Judging.{AllPass, IsPlan, Judged, out_of_memory}
 use Rattle.sm_core.specs.Calling.{Sends, gives_of, sent, target_checks}
 use Rattle.sm_core.proofs.CallChecks.{call_passes}
 
@@ -172,7 +172,7 @@ pub call_judged : (h : History) (old one new : List Record) (c handle : ℕ) (n 
     → node_at d c handle ≡ Some n → Sound d → is_live d n.owner.0 ≡ true → AreNamed d c refs named
     → AllPass m one new (all_pass_to_client d c n.owner.0 refs)
     → (has_inbox_room d n.owner.0 && fits_handles (after_grants d n.owner.0 (others n.owner.0 named)) n.owner.0) ≡ true
-    → MatchResult result (Sends d c n payload named) (λ s. s ≡ wanted)
+    → MatchResult result (Sends d c n payload named) (λ s. s ≡ out_of_memory)
     → Judged h old new c (Call handle payload refs) result
 call_judged h old one new c handle n payload refs named (Err s) target at sound live are pass room made = inl made
 call_judged h old one new c handle n payload refs named (Ok plan) target at sound live are pass room made =

@@ -23,7 +23,7 @@ use Rattle.sm_history.specs.Histories.{History}
 use Rattle.sm_history.specs.Queries.{checks_of_query, looked, query_verdict}
 use Rattle.sm_history.specs.Records.{moment_of, records, query_records}
 use Rattle.sm_history.specs.PossibleReplies.{takes_memory}
-use Rattle.sm_core.specs.Judging.{Halts, AllPass, after_checks, IsAskerStop, wanted}
+use Rattle.sm_core.specs.Judging.{Halts, AllPass, after_checks, IsAskerStop, out_of_memory}
 use Rattle.sm_core.specs.Managed.{is_out_of_memory, look_leaves}
 use Rattle.sm_history.specs.Promises.{Looks}
 use Rattle.sm_core.proofs.Stopping.{failing_is, left_is}
@@ -67,7 +67,7 @@ look_stops b by q new s reply halts answers unmet asker =
 
 -- The records of a query.
 pub query_left : (h : History) (by : By) (q : Query) (new : List Record) (s : FailedCheck)
-    → Halts (moment_of h) [] new (checks_of_query h by q) s → (s ≡ wanted → ⊥) → new ≡ query_records h by q
+    → Halts (moment_of h) [] new (checks_of_query h by q) s → (s ≡ out_of_memory → ⊥) → new ≡ query_records h by q
 query_left h by q new s (inl w) other = absurd (other w)
 query_left h by q new s (inr e) other = sym (left_is (moment_of h) [] new (checks_of_query h by q) (Some s) e)
 
@@ -77,19 +77,19 @@ query_passed h by q new e = sym (left_is (moment_of h) [] new (checks_of_query h
 
 -- These are the records of an event that was refused, unless by a failed allocation.
 pub event_left : (places : ℕ) (h : History) (by : By) (turn : ℕ) (event : Event) (new : List Record) (s : FailedCheck)
-    → Halts (moment_of h) [] new (checks places h by turn event) s → (s ≡ wanted → ⊥)
+    → Halts (moment_of h) [] new (checks places h by turn event) s → (s ≡ out_of_memory → ⊥)
     → new ≡ records places h by turn event
 event_left places h by turn event new s (inl w) other = absurd (other w)
 event_left places h by turn event new s (inr e) other = stop_records places h by turn event new s e
 
 -- A failed check that isn't reported as a failed allocation is none.
-pub not_wanted : (b : Bool) (s : FailedCheck) → (IsTrue b ↔ (s ≡ wanted)) → b ≡ false → s ≡ wanted → ⊥
-not_wanted b s both isnt w = true≢false (sym (both.1 w) ∙ isnt)
+pub not_out_of_memory : (b : Bool) (s : FailedCheck) → (IsTrue b ↔ (s ≡ out_of_memory)) → b ≡ false → s ≡ out_of_memory → ⊥
+not_out_of_memory b s both isnt w = true≢false (sym (both.1 w) ∙ isnt)
 
 -- A reply other than `Memory` doesn't come from a failed allocation.
 other_stop : (s : FailedCheck) (reply : Reply) → (reply ≡ Refused Memory) ⊎ (reply ≡ answer_of s)
     → is_out_of_memory reply ≡ false
-    → s ≡ wanted → ⊥
+    → s ≡ out_of_memory → ⊥
 other_stop s reply (inl is) other w = true≢false (sym (ap is_out_of_memory is) ∙ other)
 other_stop s reply (inr is) other w = true≢false (sym (ap is_out_of_memory (is ∙ ap answer_of w)) ∙ other)
 

@@ -37,7 +37,7 @@ use Rattle.sm_history.proofs.AfterInboxes.{inbox_delivers}
 use Rattle.sm_history.proofs.AgreeNotices.{both, cons_alike, wants_alike}
 use Rattle.sm_core.specs.declared.notifications.Notifications.{Notifications}
 use Rattle.sm_core.specs.Stands.{is_death}
-use Rattle.sm_core.specs.Judging.{Halts, AllPass, wanted}
+use Rattle.sm_core.specs.Judging.{Halts, AllPass, out_of_memory}
 use Rattle.sm_history.specs.declared.records.Record.{Record}
 use Rattle.sm_history.specs.Records.{moment_of, left_by_all}
 use Rattle.sm_history.specs.Histories.{History, effects_of}
@@ -271,7 +271,7 @@ tells h n w old new mid left g x t live is asks noted given told items counts =
 pub tells_not : (h : History) (n : Node) (w : Watch) (old new : Notifications) (left : ℕ) (s : FailedCheck) (r : Reason)
     → let d = effects_of h in new.effects ≡ old.effects → new.left ≡ old.left → AreNotifications d n old
     → is_live d w.client ≡ true → left ≡ left_at d old w.client
-    → Halts (moment_of h) old.records new.records (told_checks d n w left) s → (s ≡ wanted → ⊥) → r ≡ reason_of s
+    → Halts (moment_of h) old.records new.records (told_checks d n w left) s → (s ≡ out_of_memory → ⊥) → r ≡ reason_of s
     → (NotTold r ≡ told_of (followed d old.effects.items) n w (first_missing (followed d old.effects.items) n w))
     × GoesOn (moment_of h) d n w old new
 tells_not h n w old new left s r same_effects same_left t live is (inl memory) other why = absurd (other memory)

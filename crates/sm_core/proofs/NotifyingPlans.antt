@@ -28,7 +28,7 @@ use Rattle.sm_history.specs.Verdict.{outcome_of, add_checks, watch_checks}
 use Rattle.sm_history.specs.Lawful.{HasSoundPolicy}
 use Rattle.sm_core.specs.declared.plan.Plan.{Plan}
 use Rattle.sm_core.specs.Stands.{is_death, DeathIsLast}
-use Rattle.sm_core.specs.Judging.{AllPass, Halts, IsPlan, Judged, wanted}
+use Rattle.sm_core.specs.Judging.{AllPass, Halts, IsPlan, Judged, out_of_memory}
 use Rattle.sm_core.specs.Notifications.{MayPrecede, Tells}
 use Rattle.sm_history.specs.declared.records.Record.{Record}
 use Rattle.sm_history.specs.Records.{Moment, moment_of, left_by_notices, left_by_telling}
@@ -76,7 +76,7 @@ precede_watches d n xs w s live few is = subst (MayPrecede d n) (sym is) (record
 judged : (m : Moment) (old new : List Record) (d : Effects) (c : ℕ) (event : Event) (r : Result Plan FailedCheck)
     (P : Plan → Type 0) (checks : List Check)
     → AllPass m old new checks → ((plan : Plan) → P plan → IsPlan m d c event plan)
-    → MatchResult r P (λ s. s ≡ wanted)
+    → MatchResult r P (λ s. s ≡ out_of_memory)
     → MatchResult r (λ plan. AllPass m old new checks × IsPlan m d c event plan) (Halts m old new checks)
 judged m old new d c event (Ok plan) P checks pass is h = (pass, is plan h)
 judged m old new d c event (Err s) P checks pass is h = inl h
@@ -88,7 +88,7 @@ pub add_judged : (h : History) (old new : List Record) (c : ℕ) (name copy : Li
     → copy ≡ name → xs ≡ Adds copy (service c n allow dump) ∷ []
     → MatchResult r (λ plan. (plan.outcome ≡ Added (notices_at (followed d xs) n (watchers_at d name)))
     × (plan.records ≡ left_by_notices (moment_of h) (followed d xs) n (watchers_at d name))
-    × Tells d (after_notices (followed d xs) n (watchers_at d name)) plan) (λ s. s ≡ wanted)
+    × Tells d (after_notices (followed d xs) n (watchers_at d name)) plan) (λ s. s ≡ out_of_memory)
     → Judged h old new c (Add name obj allow dump) r
 add_judged h old new c name copy obj allow dump object n xs r pass is some same items made =
     let d = effects_of h in
@@ -113,7 +113,7 @@ pub watch_judged : (h : History) (old new : List Record) (c : ℕ) (name : List 
     → w ≡ watch c name object → v ≡ watch c name object → xs ≡ Watches v ∷ []
     → MatchResult r (λ plan. (plan.outcome ≡ Watched (Some (notice_at (followed d xs) s.node w)))
     × (plan.records ≡ left_by_notices (moment_of h) (followed d xs) s.node (w ∷ []))
-    × Tells d (after_notice (followed d xs) s.node w) plan) (λ s. s ≡ wanted)
+    × Tells d (after_notice (followed d xs) s.node w) plan) (λ s. s ≡ out_of_memory)
     → Judged h old new c (WatchName name object) r
 watch_judged h old new c name object s w v xs r pass is told made items done =
     let d = effects_of h in

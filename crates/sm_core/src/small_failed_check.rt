@@ -44,8 +44,8 @@ pub enum Stored {
 }
 
 /// Returns the failed check for a failed allocation.
-pub fn wanted() -> SmallFailedCheck
-    ensures { result ≡ spec.wanted }
+pub fn out_of_memory() -> SmallFailedCheck
+    ensures { result ≡ spec.out_of_memory }
 {
     SmallFailedCheck::unmet(Plain::Memory)
 }
@@ -75,10 +75,10 @@ impl From<AllocError> for SmallFailedCheck {
     ghost use Rattle.std.specs.Prelude.{◌≡◌};
     ghost use Rattle.sm_core.specs.Judging as spec;
 
-    ghost from_gives = { λ _ s. s ≡ spec.wanted };
+    ghost from_gives = { λ _ s. s ≡ spec.out_of_memory };
 
     fn from(_e: AllocError) -> SmallFailedCheck {
-        wanted()
+        out_of_memory()
     }
 }
 
@@ -86,10 +86,10 @@ impl<T: Drop> From<AllocFailed<T>> for SmallFailedCheck {
     ghost use Rattle.std.specs.Prelude.{◌≡◌};
     ghost use Rattle.sm_core.specs.Judging as spec;
 
-    ghost from_gives = { λ _ s. s ≡ spec.wanted };
+    ghost from_gives = { λ _ s. s ≡ spec.out_of_memory };
 
     fn from(_e: AllocFailed<T>) -> SmallFailedCheck {
-        wanted()
+        out_of_memory()
     }
 }
 

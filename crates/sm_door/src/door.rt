@@ -59,8 +59,8 @@ where
 }
 
 impl<J: Naming, G: Gate + Drop> Door<J, G> {
-    /// Opens a manager under this identity and policy, with a journal of this many slots, a free seat for each of 64
-    /// clients and the tokens of four administrators, which have all seen the opening. The identity's type needs
+    /// Opens a manager under this identity and policy, with a journal of this many slots. Returns free seats for 64
+    /// clients and the tokens of four administrators, too, which have all seen the opening. The identity's type needs
     /// SELinux's `set_context_mgr` on itself.
     ///
     /// # Errors

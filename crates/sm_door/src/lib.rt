@@ -6,13 +6,13 @@
 //! `version`, `explain`).
 //!
 //! Callers hold tokens (`Seat`, `Session`, `Admin`), none of which can be copied. Contracts see a token as what it
-//! knows: whose it is, the history that it has seen, and how often it has read. Every call says of its answer that it
-//! is the verdict of the history which the token sees from then on, and that this one begins with all that it had seen
-//! (`Promises.antt` of `sm_history`).
+//! knows: whose it is, the history that it has seen, and how often it has read. Every answer is the verdict of
+//! the history which the token sees from then on. That history begins with all that the token had seen (`Promises.antt`
+//! of `sm_history`).
 //!
 //! A thread that finds a published view can't see which history the view is of. So each view has an **id**, a number
 //! that was given to its history when the view was made. Two ids with the same number denote the same history
-//! (`HistoryId::is`), so a thread that holds the lock knows whether it found the view of the history under the lock, or
+//! (`HistoryId::is`). So a thread that holds the lock knows whether it found the view of the history under the lock, or
 //! an older one. The **registry** gives out these numbers, in order (`Registry::add`). It records the histories only in
 //! proofs: at run time a registry is a counter, and an id is a number.
 #![tactic(auto)]

@@ -64,7 +64,7 @@ impl<J: Naming> SeatOrSession<J> {
     }
 
     /// Returns the session of its client, or the free seat if it has no client.
-    pub fn taken(self) -> Result<Session<J>, Seat<J>>
+    pub fn into_session(self) -> Result<Session<J>, Seat<J>>
         ensures { MatchResult result (λ session. (session ≡ self) × ((client : ClientId) × (self.by ≡ Client client)))
             (λ seat. (seat ≡ self) × (self.by ≡ Manager)) }
     {

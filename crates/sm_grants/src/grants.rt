@@ -210,7 +210,7 @@ impl Grants {
     }
 
     /// Returns the number of a client's handle for an object that it doesn't own, or the one that a grant would give
-    /// it, `None` if its handles have no room for a grant.
+    /// it. `None` if its handles have no room for a grant.
     pub fn number_if_room(&self, client: u32, node: Node) -> Option<u32>
         ensures room { (d : Effects) (r : ℕ) → Tracks d self.now → is_live d client ≡ true
             → is_some result ≡ fits_handles (Gives client node r ∷ d) client }

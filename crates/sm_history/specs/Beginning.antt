@@ -25,8 +25,8 @@ AreJudged places h [] = Unit {0}
 AreJudged places h (Made e ∷ moves) = IsJudged places e (gone_on h moves) × AreJudged places h moves
 AreJudged places h (Seals ∷ moves) = AreJudged places h moves
 
--- The history `new` begins with the history `old` if moves lead from `old` to `new`, and each change among them is
--- judged by the history before it, with this number of journal slots.
+-- The history `new` begins with the history `old` if moves lead from `old` to `new`. Each change among them is judged by
+-- the history before it, with this number of journal slots.
 pub record BeginsWith (places : ℕ) (new old : History) : Type 0 where
   pub moves : List Move
   pub is : new ≡ gone_on old moves

@@ -128,8 +128,8 @@ pub record NotClosed (old new : Knows) (refusal : Refusal) : Type 0 where
 
 -- ---- connecting
 
--- The history that the session sees ends with the manager's change that connected its client, and the outcome is the
--- verdict of the history before it, which begins with all that the seat had seen. So the change is a new one.
+-- The history that the session sees ends with the manager's change that connected its client. The outcome is the verdict
+-- of the history before it, which begins with all that the seat had seen. So the change is a new one.
 pub record Joined (old new : Knows) (who : Identity) : Type 0 where
   pub lawful : IsLawfulBook new.seen
   pub begins : Begins new.seen old.seen

@@ -9,14 +9,14 @@ ghost use Rattle.sm_history.specs.LawStatements.{BeginsWithTheOneSealed, BeginsW
 ghost use Rattle.sm_history.specs.LawStatements.{LaterIsMore, LaterIsLawful, RecordsAreTrue, QueryRecordsAreTrue};
 ghost use Rattle.sm_history.specs.LawStatements.{RecordsStayTrue};
 
-/// A lawful history gives the same verdicts as a segment that begins with the rows of its older part and goes on with
-/// its newer part, except where a journal is full.
+/// A lawful history gives the same verdicts as its segment: one that begins with the rows of its older part and goes on
+/// with its newer part. The exception is a journal that is full.
 pub fn segments()
     ensures { SegmentsRead }
 {}
 
-/// In every lawful history no effect concerns a client that hasn't connected, the owner of each added object has
-/// connected, no more grants are released than were made, no client holds two objects under one number, and no more is
+/// In every lawful history no effect concerns a client that hasn't connected, and the owner of each added object has
+/// connected. No client holds two objects under one number. No more grants are released than were made, and no more is
 /// taken than was delivered.
 pub fn soundness()
     ensures { LawfulAreSound }

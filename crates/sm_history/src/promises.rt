@@ -12,7 +12,7 @@ ghost use Rattle.sm_history.specs.PromiseLaws.{ConnectJoins, ConnectTurns, SealC
 /// "Begins with" is an order of books. A book comes after the one that judged its last change, and after the one that
 /// was sealed. A beginning of a book with as many changes of the last change's actor as there are before that change is
 /// a beginning of the book before it. A book that begins with a lawful one is lawful. Compared with its beginnings, a
-/// book has no smaller number, length, version or number of changes of an actor that is there, and within a segment the
+/// book has no smaller number, length, version or number of changes of an actor that is there. Within a segment the
 /// changes stay as they are. A live client is the process that it was, in whatever segment.
 pub fn books()
     ensures itself { BookBeginsWithItself }

@@ -9,7 +9,7 @@ use std::marker::Model;
 use std::sync::ArcSlice;
 
 /// A security context, `user:role:type` or `user:role:type:range`, which contracts see as its text.
-/// The range is kept as text and never compared.
+/// No check reads the range.
 pub struct Context {
     text: ArcSlice<u8>,
     /// Where the type begins in the text, and its length in bytes.

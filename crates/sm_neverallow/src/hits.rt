@@ -165,8 +165,8 @@ fn first_own(own: &BitRow, rules: &[Kept], places: &[usize], count: TypeCount) -
     places.len()
 }
 
-/// Returns the first of the indexes below `end` whose rule joins a source of one of a few groups to a target of its row
-/// in the matrix, or `end` if there is none.
+/// Returns the first index below `end` whose rule joins a source of one of a few groups to a target of its row in the
+/// matrix, or `end` if there is none.
 fn first_of_groups(
     alloc: Global,
     matrix: &Matrix,
@@ -247,8 +247,8 @@ fn is_candidate(targets: &BitRow, rule: &Kept, count: TypeCount, set: Perms) -> 
     perm_set(rule) == set && may_hit(targets, rule)
 }
 
-/// Returns the indexes of the rules below `end` that have exactly the permissions `set`, except for some that join no
-/// source to one of these targets, which are those of all sources: most neverallow rules forbid what no rule allows to
+/// Returns the indexes of the rules below `end` that have exactly the permissions `set`. Some are left out that join no
+/// source to one of these targets, which are those of all sources. Most neverallow rules forbid what no rule allows to
 /// any source.
 fn places_of(
     alloc: Global,

@@ -51,8 +51,8 @@ first_clash policy never allow = first_some (clash_of_source policy never allow)
 unfoldable pub clash_of_never : List Statement → ℕ × Rule → Option Violation
 clash_of_never policy never = first_some (first_clash policy never) (rules_in Allow policy)
 
--- The first violation is that of the first broken neverallow rule in the file, with the first allow rule that breaks it
--- and the first access that they have in common.
+-- The first violation is that of the first broken neverallow rule in the file. It has the first allow rule that breaks
+-- it, and the first access that they have in common.
 unfoldable pub first_violation : List Statement → Option Violation
 first_violation policy = first_some (clash_of_never policy) (rules_in Neverallow policy)
 

@@ -33,7 +33,7 @@ impl<J: Naming> Leavers<J> {
         let Some(slot) = slot else {
             return;
         };
-        match slot.taken() {
+        match slot.into_session() {
             Ok(session) => self.keep(rt, session),
             Err(seat) => seats.give_back(rt, seat),
         }

@@ -90,6 +90,23 @@ const PATIENCE: Patience = Patience {
     end: 10,
 };
 
+/// Claims a socket, and listens there.
+fn open_socket<'a, R: Files + Net>(
+    host: &HostRuntime,
+    rt: &R,
+    path: &'a str,
+    mode: Option<u32>,
+) -> Result<(Claim<'a>, UnixListener), Ending<'a>> {
+    let claim = Claim::new(host, path)?;
+    match claim.listen(rt, mode) {
+        Ok(listener) => Ok((claim, listener)),
+        Err(error) => {
+            claim.give_up(rt);
+            Err(Ending::of_file(path, error))
+        }
+    }
+}
+
 /// Opens the clients' socket, then the administrators', and serves. Where it returns, the sockets and the locks that it
 /// made are gone.
 fn listen<'a, J: Naming + Send + Sync, R: Files + Net + Threads + Wait + Clock + Sync>(
@@ -101,15 +118,7 @@ fn listen<'a, J: Naming + Send + Sync, R: Files + Net + Threads + Wait + Clock +
     slots: u32,
     sockets: Sockets<'a>,
 ) -> Result<(), Ending<'a>> {
-    let path = sockets.clients;
-    let claim = Claim::new(host, path)?;
-    let clients = match claim.listen(rt, sockets.mode) {
-        Ok(clients) => clients,
-        Err(error) => {
-            claim.give_up(rt);
-            return Err(Ending::of_file(path, error));
-        }
-    };
+    let (claim, clients) = open_socket(host, rt, sockets.clients, sockets.mode)?;
     let ended = listen_to_both(host, rt, door, seats, tokens, slots, sockets, clients);
     claim.remove(rt);
     ended
@@ -126,15 +135,7 @@ fn listen_to_both<'a, J: Naming + Send + Sync, R: Files + Net + Threads + Wait +
     sockets: Sockets<'a>,
     clients: UnixListener,
 ) -> Result<(), Ending<'a>> {
-    let path = sockets.admins;
-    let claim = Claim::new(host, path)?;
-    let admins = match claim.listen(rt, Some(OWNER_ALONE)) {
-        Ok(admins) => admins,
-        Err(error) => {
-            claim.give_up(rt);
-            return Err(Ending::of_file(path, error));
-        }
-    };
+    let (claim, admins) = open_socket(host, rt, sockets.admins, Some(OWNER_ALONE))?;
     let ended = serve_at(
         host, rt, door, seats, tokens, slots, sockets, clients, admins,
     );

@@ -104,7 +104,7 @@ fn perform<'a, R: Files + Net + Threads + Wait + Clock + Sync>(
     options: &Options<'a>,
 ) -> Result<ExitCode, Ending<'a>> {
     match options.mode {
-        Mode::Run => serve_script(host, options),
+        Mode::Run => run_stdin(host, options),
         Mode::Check { show } => check_policy(host, options, show),
         Mode::Serve(sockets) => serve_sockets(host, rt, options, sockets),
         Mode::Ask(question) => ask(host, options, question),
@@ -117,7 +117,7 @@ pub(crate) fn text_of<'a>(rt: &HostRuntime, path: &'a str) -> Result<Vec<u8>, En
 }
 
 /// Runs the script on standard input. Replies go to standard output, audit lines to standard error.
-fn serve_script<'a>(rt: &HostRuntime, options: &Options<'a>) -> Result<ExitCode, Ending<'a>> {
+fn run_stdin<'a>(rt: &HostRuntime, options: &Options<'a>) -> Result<ExitCode, Ending<'a>> {
     let rules = text_of(rt, options.rules)?;
     let contexts = text_of(rt, options.contexts)?;
     let mut reader = Counted::new(rt.stdin());

@@ -11,8 +11,8 @@ use sm_engine::{Counted, Fault, write_whole};
 use sm_kinds::Word;
 use sm_policy::PolicyFault;
 use sm_questions::{
-    Options as FilterOptions, PolicyTables, Target, Unknown, access, diff, explain, label,
-    read_access, read_filter,
+    FilterOptions, PolicyTables, Target, Unknown, access, diff, explain, label, read_access,
+    read_filter,
 };
 use std::process::ExitCode;
 
@@ -52,11 +52,11 @@ fn refuse<'a>(rt: &HostRuntime, fault: &PolicyFault) -> Result<ExitCode, Ending<
         return Err(Ending::Memory);
     };
     let mut writer = Counted::new(Pipe::new(rt.stdout()));
-    let told = match write_whole(&mut writer, &line) {
+    let ended = match write_whole(&mut writer, &line) {
         Ok(()) => Ok(false),
         Err(fault) => Err(fault),
     };
-    decided(told, writer.into_inner().is_closed())
+    decided(ended, writer.into_inner().is_closed())
 }
 
 /// Prints that a word of a question names nothing.
@@ -75,8 +75,8 @@ fn refuse_word(rt: &HostRuntime, unknown: &Unknown<'_>) -> ExitCode {
 }
 
 /// Returns the status of a list. One that is cut off since nobody reads on is no failure.
-fn listed<'a>(told: Result<(), Fault>, is_closed: bool) -> Result<ExitCode, Ending<'a>> {
-    match told {
+fn listed<'a>(ended: Result<(), Fault>, is_closed: bool) -> Result<ExitCode, Ending<'a>> {
+    match ended {
         Ok(()) => Ok(ExitCode::SUCCESS),
         Err(Fault::WriteFault) if is_closed => Ok(ExitCode::SUCCESS),
         Err(fault) => Err(Ending::from(fault)),
@@ -84,8 +84,8 @@ fn listed<'a>(told: Result<(), Fault>, is_closed: bool) -> Result<ExitCode, Endi
 }
 
 /// Returns the status of a yes or a no. An answer that nobody reads is no yes.
-fn decided<'a>(told: Result<bool, Fault>, is_closed: bool) -> Result<ExitCode, Ending<'a>> {
-    match told {
+fn decided<'a>(ended: Result<bool, Fault>, is_closed: bool) -> Result<ExitCode, Ending<'a>> {
+    match ended {
         Ok(true) => Ok(ExitCode::SUCCESS),
         Ok(false) => Ok(ExitCode::FAILURE),
         Err(Fault::WriteFault) if is_closed => Ok(ExitCode::FAILURE),
@@ -99,8 +99,8 @@ fn tell_label<'a>(
     name: &str,
 ) -> Result<ExitCode, Ending<'a>> {
     let mut writer = Counted::new(Pipe::new(rt.stdout()));
-    let told = label(rt.alloc(), policy, name.as_bytes(), &mut writer);
-    listed(told, writer.into_inner().is_closed())
+    let ended = label(rt.alloc(), policy, name.as_bytes(), &mut writer);
+    listed(ended, writer.into_inner().is_closed())
 }
 
 fn tell_rule<'a>(
@@ -121,8 +121,8 @@ fn tell_rule<'a>(
         Err(unknown) => return Ok(refuse_word(rt, &unknown)),
     };
     let mut writer = Counted::new(Pipe::new(rt.stdout()));
-    let told = explain(rt.alloc(), policy, source, target, class, perm, &mut writer);
-    decided(told, writer.into_inner().is_closed())
+    let ended = explain(rt.alloc(), policy, source, target, class, perm, &mut writer);
+    decided(ended, writer.into_inner().is_closed())
 }
 
 /// Returns the name of the target's type.
@@ -144,8 +144,8 @@ fn tell_accesses<'a>(
         Err(unknown) => return Ok(refuse_word(rt, &unknown)),
     };
     let mut writer = Counted::new(Pipe::new(rt.stdout()));
-    let told = access(rt.alloc(), policy, &filter, &mut writer);
-    listed(told, writer.into_inner().is_closed())
+    let ended = access(rt.alloc(), policy, &filter, &mut writer);
+    listed(ended, writer.into_inner().is_closed())
 }
 
 fn filter_options<'a>(words: FilterWords<'a>) -> FilterOptions<'a> {
@@ -185,6 +185,6 @@ fn compare<'a>(
     new: &PolicyTables,
 ) -> Result<ExitCode, Ending<'a>> {
     let mut writer = Counted::new(Pipe::new(rt.stdout()));
-    let told = diff(rt.alloc(), old, new, &mut writer);
-    decided(told, writer.into_inner().is_closed())
+    let ended = diff(rt.alloc(), old, new, &mut writer);
+    decided(ended, writer.into_inner().is_closed())
 }

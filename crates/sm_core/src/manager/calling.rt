@@ -267,7 +267,7 @@ impl Manager {
         requires few { length nodes.now ≤ MOST_REFS }
         requires foreign { nodes.now ≡ others target.owner.0 named.now }
         ensures { MatchResult result (λ plan. Sends (effects_in self.now) row.now.id target payload.now named.now plan)
-            (λ s. s ≡ spec.wanted) }
+            (λ s. s ≡ spec.out_of_memory) }
     {
         let owner = target.owner.0;
         let numbers = self.numbers(owner, nodes)?;

@@ -113,7 +113,7 @@ impl Manager {
             (λ t. (t ≡ told_of (followed (effects_in self.now) notifications.old.effects.items) node watch.now
             (first_missing (followed (effects_in self.now) notifications.old.effects.items) node watch.now))
             × GoesOn (moment_in self.now) (effects_in self.now) node watch.now notifications.old notifications.new)
-            (λ s. s ≡ spec.wanted) }
+            (λ s. s ≡ spec.out_of_memory) }
     {
         let left = self.left(notifications, watch.client);
         match self.judge_told(watch, node, label, left, &mut notifications.records) {
@@ -140,7 +140,7 @@ impl Manager {
         ensures { MatchResult result
             (λ x. (x ≡ notice_at (followed (effects_in self.now) notifications.old.effects.items) node watch.now)
             × GoesOn (moment_in self.now) (effects_in self.now) node watch.now notifications.old notifications.new)
-            (λ s. s ≡ spec.wanted) }
+            (λ s. s ≡ spec.out_of_memory) }
     {
         let result = self.tell(watch, node, label, notifications)?;
         Ok(Notice {
@@ -166,7 +166,7 @@ impl Manager {
             (λ notices. (notices.items
             ≡ notices_at (followed (effects_in self.now) notifications.old.effects.items) node watches.now)
             × GoesFar (moment_in self.now) (effects_in self.now) node watches.now notifications.old notifications.new)
-            (λ s. s ≡ spec.wanted) }
+            (λ s. s ≡ spec.out_of_memory) }
     {
         let mut notices = Vec::new(self.alloc);
         for watch in watches {
@@ -199,7 +199,7 @@ impl Manager {
             (watch.now ∷ []))
             × Tells (effects_in self.now)
             (after_notice (followed (effects_in self.now) effects.items) node watch.now) plan)
-            (λ s. s ≡ spec.wanted) }
+            (λ s. s ≡ spec.out_of_memory) }
     {
         let mut notifications = Notifications::behind(self.alloc, effects);
         let label = self.label(watch.name.bytes());
@@ -232,7 +232,7 @@ impl Manager {
             × Tells (effects_in self.now)
             (after_notices (followed (effects_in self.now) effects.items) node
             (watchers_at (effects_in self.now) name.now)) plan)
-            (λ s. s ≡ spec.wanted) }
+            (λ s. s ≡ spec.out_of_memory) }
     {
         let mut notifications = Notifications::behind(self.alloc, effects);
         let watchers = self.watchers(name.bytes());
