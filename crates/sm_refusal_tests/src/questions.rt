@@ -5,8 +5,8 @@ use sm_engine::{Counted, Fault};
 use sm_kinds::{Class, Perms, Word};
 use sm_policy::PolicyFault;
 use sm_questions::{
-    Options, PolicyTables, Target, Unknown, access, diff, explain, label, read_filter, shown_lines,
-    unknown_text,
+    FilterOptions, PolicyTables, Target, Unknown, access, diff, explain, label, read_filter,
+    shown_lines, unknown_text,
 };
 use sm_samples::{DEVICE_LABELS, DEVICE_RULES, STRICTER_RULES};
 use std::alloc::Global;
@@ -64,7 +64,7 @@ fn explains(rt: &impl Abort, alloc: Global, policy: &PolicyTables) -> Option<()>
 }
 
 fn lists(rt: &impl Abort, alloc: Global, policy: &PolicyTables) -> Option<()> {
-    let options = Options {
+    let options = FilterOptions {
         source: Some(Word::new(b"untrusted_app")),
         target: Target::Type(Word::new(b"activity_service")),
         class: None,
