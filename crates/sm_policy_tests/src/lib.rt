@@ -2,18 +2,4 @@
 #![tactic(auto)]
 
 #[cfg(test)]
-mod bit_rows;
-#[cfg(test)]
-mod declarations;
-#[cfg(test)]
-mod kinds;
-#[cfg(test)]
-mod labels;
-#[cfg(test)]
-mod plain;
-#[cfg(test)]
-mod policies;
-#[cfg(test)]
-mod rule_texts;
-#[cfg(test)]
-mod statements;
+mod tests;

@@ -5,20 +5,4 @@
 #![tactic(auto)]
 
 #[cfg(test)]
-mod at_a_door;
-#[cfg(test)]
-mod events;
-#[cfg(test)]
-mod manager;
-#[cfg(test)]
-mod outcome;
-#[cfg(test)]
-mod policy;
-#[cfg(test)]
-mod programs;
-#[cfg(test)]
-mod questions;
-#[cfg(test)]
-mod tables;
-#[cfg(test)]
-mod texts;
+mod tests;

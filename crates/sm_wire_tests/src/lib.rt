@@ -2,8 +2,4 @@
 #![tactic(auto)]
 
 #[cfg(test)]
-mod lines;
-#[cfg(test)]
-mod replies;
-#[cfg(test)]
-mod sessions;
+mod tests;

@@ -1,0 +1,14 @@
+mod acts;
+mod answers;
+mod attending;
+mod audit_lines;
+mod connections;
+mod handles;
+mod inboxes;
+mod lost_connections;
+mod manager_desk;
+mod names;
+mod notices;
+mod seals;
+mod turns;
+mod views;

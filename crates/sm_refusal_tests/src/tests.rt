@@ -1,0 +1,9 @@
+mod at_a_door;
+mod events;
+mod manager;
+mod outcome;
+mod policy;
+mod programs;
+mod questions;
+mod tables;
+mod texts;

@@ -1,0 +1,258 @@
+//! A door: sessions, changes, reads, installs, denials, seals and audit records.
+
+ghost use Rattle.std.specs.Prelude.{◌≡◌};
+ghost use Rattle.sm_core.specs.Opening.{opened};
+
+use super::manager::{activity, is_memory, lists_activity, policy, process};
+use super::outcome::same;
+use sm_door::{Admin, Door, Naming, Seat, Session, UnnamedRegistry};
+use sm_history::{NoGate, Outcome, Record, Refusal, Reply};
+use sm_kinds::{Identity, Places};
+use sm_policy::Prepared;
+use std::alloc::Global;
+use std::marker::Brand;
+use std::process::Abort;
+use std::sync::Wait;
+
+/// What calls at a door take.
+struct Caller<'a, J: Naming, R> {
+    rt: &'a R,
+    alloc: Global,
+    door: &'a Door<J, NoGate>,
+}
+
+impl<'a, J: Naming, R> Drop for Caller<'a, J, R> {
+    fn drop(self) {
+        let Caller {
+            rt: _,
+            alloc: _,
+            door: _,
+        } = self;
+    }
+}
+
+impl<'a, J: Naming, R: Wait + Abort> Caller<'a, J, R> {
+    /// A session of a process. After a failed allocation the seat comes back, and another try succeeds.
+    fn joined(&self, seats: &mut Vec<Seat<J>>, context: &[u8]) -> Option<Session<J>> {
+        let who = process(self.alloc, context)?;
+        let seat = seats.pop().expect(self.rt, "a seat");
+        match self.door.connect(self.rt, seat, who) {
+            Ok(session) => Some(session),
+            Err((refusal, seat)) => {
+                assert!(self.rt; matches!(refusal, Refusal::Memory));
+                let again = process(self.alloc, context).expect(self.rt, "an identity");
+                let session = self.door.connect(self.rt, seat, again).ok();
+                assert!(self.rt; session.is_some());
+                session
+            }
+        }
+    }
+
+    /// Adds `activity`. After a refusal nothing has changed, and another try succeeds.
+    fn adds(&self, me: &mut Session<J>) -> Option<()> {
+        let event = activity(self.alloc)?;
+        if !is_added(self.rt, self.door.submit(self.rt, me, event)) {
+            let again = activity(self.alloc)?;
+            assert!(self.rt; is_added(self.rt, self.door.submit(self.rt, me, again)));
+        }
+        Some(())
+    }
+
+    /// Installs a policy over version 1. If an allocation failed, the policy comes back.
+    fn refused(&self, me: &mut Admin<J>, rules: Prepared) -> Option<Prepared> {
+        match self.door.install(self.rt, me, 1, rules) {
+            Ok(version) => {
+                same(self.rt, version, 2);
+                None
+            }
+            Err((refusal, back)) => {
+                assert!(self.rt; matches!(refusal, Refusal::Memory));
+                Some(back)
+            }
+        }
+    }
+
+    /// Installs a policy. One that comes back is installed at the second try.
+    fn installs(&self, me: &mut Admin<J>) -> Option<()> {
+        let rules = policy(self.rt, self.alloc)?;
+        if let Some(back) = self.refused(me, rules) {
+            assert!(self.rt; self.refused(me, back).is_none());
+        }
+        Some(())
+    }
+
+    /// Installs a policy over a version that isn't in force any more. The policy comes back. `None` if an allocation
+    /// failed.
+    fn loses(&self, me: &mut Admin<J>) -> Option<()> {
+        let rules = policy(self.rt, self.alloc)?;
+        let counts = rules.counts();
+        match self.door.install(self.rt, me, 1, rules) {
+            Err((Refusal::VersionMoved(2), back)) => {
+                assert!(self.rt; back.counts().rules == counts.rules);
+                Some(())
+            }
+            Err((refusal, _)) => {
+                assert!(self.rt; matches!(refusal, Refusal::Memory));
+                None
+            }
+            Ok(_) => None.expect(self.rt, "a refusal"),
+        }
+    }
+
+    /// Whether a seal returns the first segment, with four changes.
+    fn closes(&self, me: &mut Admin<J>) -> bool {
+        match self.door.seal(self.rt, me) {
+            Ok(segment) => {
+                same(self.rt, segment.number(), 1);
+                same(self.rt, segment.length(), 4);
+                true
+            }
+            Err(_) => false,
+        }
+    }
+
+    /// Seals. After a refusal nothing has changed, and another try succeeds.
+    fn seals(&self, me: &mut Admin<J>) {
+        if !self.closes(me) {
+            assert!(self.rt; self.closes(me));
+        }
+    }
+
+    /// Whether a session is ended. If it isn't, an allocation failed, and the session comes back.
+    fn kept(&self, me: Session<J>) -> Option<Session<J>> {
+        match self.door.leave(self.rt, me) {
+            Ok(_) => None,
+            Err((refusal, me)) => {
+                assert!(self.rt; matches!(refusal, Refusal::Memory));
+                Some(me)
+            }
+        }
+    }
+
+    /// Ends a session. After a failed allocation another try succeeds.
+    fn leaves(&self, me: Session<J>) {
+        if let Some(me) = self.kept(me) {
+            assert!(self.rt; self.kept(me).is_none());
+        }
+    }
+
+    /// An add that is denied comes with its record.
+    fn may_not_add(&self, me: &mut Session<J>) -> Option<()> {
+        let event = activity(self.alloc)?;
+        let (reply, records) = self.door.submit_recorded(self.rt, me, event);
+        is_denied(self.rt, reply, records);
+        Some(())
+    }
+
+    /// A list that is denied comes with its record.
+    fn may_not_list(&self, me: &mut Session<J>) {
+        let (reply, records) = self.door.list_recorded(me, 15);
+        is_denied(self.rt, reply, records);
+    }
+
+    /// The calls of an application.
+    fn application(&self, seats: &mut Vec<Seat<J>>) -> Option<()> {
+        let mut me = self.joined(seats, b"u:r:untrusted_app:s0")?;
+        let ended = self.may_not_add(&mut me);
+        self.may_not_list(&mut me);
+        self.leaves(me);
+        ended
+    }
+
+    /// Whether there are no records. `None` if an allocation failed.
+    fn has_no_denials(&self, me: &mut Admin<J>) -> Option<bool> {
+        let records = self.door.denials(self.rt, me).ok()?;
+        Some(records.is_empty())
+    }
+
+    /// The calls of an administrator.
+    fn administrator(&self, me: &mut Admin<J>) -> Option<()> {
+        self.installs(me)?;
+        self.loses(me)?;
+        let none = self.has_no_denials(me)?;
+        assert!(self.rt; none);
+        self.seals(me);
+        Some(())
+    }
+
+    /// The calls of a server, and then those of an administrator.
+    fn server(&self, me: &mut Session<J>, admin: &mut Admin<J>) -> Option<()> {
+        self.adds(me)?;
+        lists_activity(self.rt, self.door.list(me, 15), 3)?;
+        self.administrator(admin)
+    }
+
+    /// The calls while a server has a session.
+    fn while_served(&self, seats: &mut Vec<Seat<J>>, admin: &mut Admin<J>) -> Option<()> {
+        let mut me = self.joined(seats, b"u:r:system_server:s0")?;
+        let ended = self.server(&mut me, admin);
+        self.leaves(me);
+        ended
+    }
+
+    fn calls(&self, seats: &mut Vec<Seat<J>>, admins: &mut Vec<Admin<J>>) -> Option<()> {
+        let admin = admins.first_mut().expect(self.rt, "an administrator");
+        self.while_served(seats, admin)?;
+        self.application(seats)
+    }
+}
+
+/// Whether `activity` was added. If it wasn't, an allocation failed.
+fn is_added(rt: &impl Abort, reply: Reply) -> bool {
+    if matches!(&reply, Reply::Done(Outcome::Added(_))) {
+        return true;
+    }
+    assert!(rt; is_memory(&reply));
+    false
+}
+
+/// A request was denied, with its record; or an allocation failed, and there is none.
+fn is_denied(rt: &impl Abort, reply: Reply, records: Vec<Record>) {
+    if matches!(&reply, Reply::Refused(Refusal::Denied(_))) {
+        assert!(rt; records.len() == 1);
+    } else {
+        assert!(rt; is_memory(&reply));
+        assert!(rt; records.is_empty());
+    }
+}
+
+fn opens<J: Naming, R: Wait + Abort>(
+    rt: &R,
+    alloc: Global,
+    unnamed: UnnamedRegistry,
+    who: Identity,
+    rules: Prepared,
+    places: Places,
+) -> Option<()>
+    requires registry { unnamed.seen.book ≡ J.registry }
+    requires opening { J.opening ≡ opened places who rules }
+{
+    match Door::<J, NoGate>::open(rt, alloc, unnamed, who, rules, places, NoGate) {
+        Ok((door, mut seats, mut admins)) => {
+            let ended = Caller {
+                rt,
+                alloc,
+                door: &door,
+            }
+            .calls(&mut seats, &mut admins);
+            door.close(rt);
+            ended
+        }
+        Err(refusal) => {
+            assert!(rt; matches!(refusal, Refusal::Memory | Refusal::NoSeat));
+            None
+        }
+    }
+}
+
+fn door<R: Wait + Abort>(rt: &R, alloc: Global) -> Option<()> {
+    let who = process(alloc, b"u:r:servicemanager:s0")?;
+    let rules = policy(rt, alloc)?;
+    let places = Places::new(1000).expect(rt, "places");
+    opens::<Brand, R>(rt, alloc, UnnamedRegistry::new(), who, rules, places)
+}
+
+#[test]
+fn each_call_of_a_door(rt: HostRuntime) {
+    assert!(rt; door(&rt, rt.alloc()).is_some() || door(&rt, rt.alloc()).is_some());
+}

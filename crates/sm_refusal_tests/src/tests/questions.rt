@@ -1,0 +1,120 @@
+//! Answers to questions about a policy.
+
+use super::outcome::same_text;
+use sm_engine::{Counted, Fault};
+use sm_kinds::{Class, Perms, Word};
+use sm_policy::PolicyFault;
+use sm_questions::{
+    FilterOptions, PolicyTables, Target, Unknown, access, diff, explain, label, read_filter,
+    shown_lines, unknown_text,
+};
+use sm_samples::{DEVICE_LABELS, DEVICE_RULES, STRICTER_RULES};
+use std::alloc::Global;
+use std::process::Abort;
+
+/// The tables of a policy. `None` if an allocation failed.
+fn tables(rt: &impl Abort, alloc: Global, rules: &[u8]) -> Option<PolicyTables> {
+    match PolicyTables::from_texts(alloc, rules, DEVICE_LABELS) {
+        Ok(tables) => Some(tables),
+        Err(fault) => {
+            assert!(rt; matches!(fault, PolicyFault::Memory));
+            None
+        }
+    }
+}
+
+/// Compares what a call wrote. `None` if an allocation failed, of the call or of its writer.
+fn wrote(
+    rt: &impl Abort,
+    fault: Option<Fault>,
+    writer: Counted<Vec<u8>>,
+    wanted: &[u8],
+) -> Option<()> {
+    match fault {
+        None => {
+            same_text(rt, writer.into_inner().as_slice(), wanted);
+            Some(())
+        }
+        Some(fault) => {
+            assert!(rt; matches!(fault, Fault::Memory | Fault::WriteFault));
+            None
+        }
+    }
+}
+
+fn labels(rt: &impl Abort, alloc: Global, policy: &PolicyTables) -> Option<()> {
+    let mut writer = Counted::new(Vec::new(alloc));
+    let fault = label(alloc, policy, b"activity", &mut writer).err();
+    wrote(rt, fault, writer, b"u:object_r:activity_service:s0 2\n")
+}
+
+fn explains(rt: &impl Abort, alloc: Global, policy: &PolicyTables) -> Option<()> {
+    let mut writer = Counted::new(Vec::new(alloc));
+    let fault = explain(
+        alloc,
+        policy,
+        b"untrusted_app",
+        b"activity_service",
+        Class::ServiceManager,
+        Perms::FIND,
+        &mut writer,
+    )
+    .err();
+    wrote(rt, fault, writer, b"allowed 13\n")
+}
+
+fn lists(rt: &impl Abort, alloc: Global, policy: &PolicyTables) -> Option<()> {
+    let options = FilterOptions {
+        source: Some(Word::new(b"untrusted_app")),
+        target: Target::Type(Word::new(b"activity_service")),
+        class: None,
+        perm: None,
+    };
+    let filter = read_filter(policy, &options).ok().expect(rt, "known words");
+    let mut writer = Counted::new(Vec::new(alloc));
+    let fault = access(alloc, policy, &filter, &mut writer).err();
+    let line = b"untrusted_app activity_service service_manager find 13\n";
+    wrote(rt, fault, writer, line)
+}
+
+fn compares(rt: &impl Abort, alloc: Global, old: &PolicyTables, new: &PolicyTables) -> Option<()> {
+    let mut writer = Counted::new(Vec::new(alloc));
+    let fault = diff(alloc, old, new, &mut writer).err();
+    let line = b"- untrusted_app activity_service service_manager find\n";
+    wrote(rt, fault, writer, line)
+}
+
+fn names_a_word(rt: &impl Abort, alloc: Global) -> Option<()> {
+    let unknown = Unknown::Type(Word::new(b"nobody"));
+    let text = unknown_text(alloc, &unknown).ok()?;
+    same_text(rt, &text, b"unknown type nobody");
+    Some(())
+}
+
+fn shows_a_line(rt: &impl Abort, alloc: Global) -> Option<()> {
+    let fault = PolicyFault::UndeclaredLabel(1);
+    let shown = shown_lines(alloc, b"t.te", b"", b"labels", b"* u:r:b\n", &fault).ok()?;
+    same_text(rt, &shown, b"labels:1: * u:r:b\n");
+    Some(())
+}
+
+fn answers(rt: &impl Abort, alloc: Global, old: &PolicyTables, new: &PolicyTables) -> Option<()> {
+    labels(rt, alloc, old)?;
+    explains(rt, alloc, old)?;
+    lists(rt, alloc, old)?;
+    compares(rt, alloc, old, new)?;
+    names_a_word(rt, alloc)?;
+    shows_a_line(rt, alloc)
+}
+
+fn asks(rt: &impl Abort, alloc: Global) -> Option<()> {
+    let old = tables(rt, alloc, DEVICE_RULES)?;
+    let new = tables(rt, alloc, STRICTER_RULES)?;
+    answers(rt, alloc, &old, &new)
+}
+
+#[test]
+fn questions_are_answered(rt: HostRuntime) {
+    let alloc = rt.alloc();
+    assert!(rt; asks(&rt, alloc).is_some() || asks(&rt, alloc).is_some());
+}

@@ -1,0 +1,13 @@
+mod checks;
+mod command_lines;
+mod crowds;
+mod denials;
+mod exchanges;
+mod faults;
+mod fixture;
+mod limits;
+mod parts;
+mod reloads;
+mod renumbering;
+mod scripts;
+mod seals;

@@ -1,0 +1,6 @@
+use Rattle.sm_core.specs.Opening.{opened}
+use Rattle.sm_thread_tests.proofs.tests.server.at_a_door.Given as goal
+
+-- The registry that was just made, and the opening.
+abbrev pub ghosts-serves : goal.ghosts-serves
+ghosts-serves g a = record { registry = a.unnamed.seen.book; opening = opened a.places a.who a.policy }

@@ -1,0 +1,9 @@
+mod connection;
+mod door;
+mod exchanges;
+mod held;
+mod hold;
+mod operations;
+mod registries;
+mod server;
+mod steps;

@@ -1,0 +1,172 @@
+//! Connections over bytes, one after another at one door: what is written to them, and the audit lines of their
+//! requests.
+
+use super::door::{Scene, plays};
+use super::server::Ear;
+use sm_audit::push_lines;
+use sm_connection::{
+    AuditSink, FreeSeats, Gauge, Monitor, SealAt, serve_administrator, serve_client,
+};
+use sm_door::{Admin, Door, Naming, Seat};
+use sm_engine::Counted;
+use sm_history::{NoGate, Record};
+use std::alloc::Global;
+use std::process::Abort;
+use std::sync::Wait;
+
+/// Keeps the audit lines of the records that it is given.
+struct Lines<'a, R> {
+    rt: &'a R,
+    alloc: Global,
+    text: Vec<u8>,
+}
+
+impl<'a, R> Drop for Lines<'a, R> {
+    fn drop(self) {
+        let Lines {
+            rt: _,
+            alloc: _,
+            text: _,
+        } = self;
+    }
+}
+
+impl<'a, R: Abort> AuditSink for Lines<'a, R> {
+    fn give(&mut self, records: &[Record]) {
+        push_lines(self.alloc, &mut self.text, records)
+            .ok()
+            .expect(self.rt, "memory");
+    }
+}
+
+/// The most reads of a connection.
+const READS: u32 = 10;
+
+/// What is written to a client's connection. Asserts that it ends well and holds nothing then.
+fn client_told<'a, J: Naming, R: Wait + Abort>(
+    rt: &'a R,
+    alloc: Global,
+    door: &Door<J, NoGate>,
+    seats: &FreeSeats<J>,
+    monitor: &Monitor<Ear>,
+    sink: Lines<'a, R>,
+    lines: &'static [u8],
+) -> (Vec<u8>, Lines<'a, R>) {
+    let mut reader = Counted::new(lines);
+    let mut writer = Counted::new(Vec::new(alloc));
+    let (held, sink, ended) = serve_client(
+        rt,
+        alloc,
+        door,
+        seats,
+        |_| {},
+        monitor,
+        sink,
+        &mut reader,
+        &mut writer,
+        READS,
+    );
+    assert!(rt; held.is_none() && ended.is_ok());
+    (writer.into_inner(), sink)
+}
+
+/// What is written to an administrator's connection. Asserts that it ends well.
+fn administrator_told<'a, J: Naming, R: Wait + Abort>(
+    rt: &'a R,
+    alloc: Global,
+    door: &Door<J, NoGate>,
+    admin: Admin<J>,
+    monitor: &Monitor<Ear>,
+    sink: Lines<'a, R>,
+    lines: &'static [u8],
+) -> (Vec<u8>, Lines<'a, R>) {
+    let mut reader = Counted::new(lines);
+    let mut writer = Counted::new(Vec::new(alloc));
+    let (_, sink, ended) = serve_administrator(
+        rt,
+        alloc,
+        door,
+        admin,
+        |_| {},
+        monitor,
+        sink,
+        &mut reader,
+        &mut writer,
+        READS,
+    );
+    assert!(rt; ended.is_ok());
+    (writer.into_inner(), sink)
+}
+
+const AN_APPLICATION: &[u8] = b"hello 200 10007 u:r:untrusted_app:s0
+add activity o1 0 8
+version
+list 15
+hello 200 10007 u:r:untrusted_app:s0
+get foo
+bye
+get foo
+";
+
+const TOLD_TO_THE_APPLICATION: &[u8] = b"client 1
+exception -1 app 10007
+version 1 2
+exception -1 denied untrusted_app servicemanager service_manager list
+malformed
+null
+bye
+";
+
+/// The audit lines of the application's requests.
+const DENIED: &[u8] =
+    b"journal=2 version=1 clause: denied app for pid=200 uid=10007 name=activity scontext=u:r:untrusted_app:s0
+journal=2 version=1 avc: denied { list } for pid=200 uid=10007 scontext=u:r:untrusted_app:s0 tcontext=u:r:servicemanager:s0 tclass=service_manager permissive=0
+journal=2 version=1 avc: denied { find } for pid=200 uid=10007 name=foo scontext=u:r:untrusted_app:s0 tcontext=u:object_r:default_android_service:s0 tclass=service_manager permissive=0
+";
+
+const AN_ADMINISTRATOR: &[u8] = b"version
+explain untrusted_app servicemanager service_manager list
+list 15
+seal
+";
+
+const TOLD_TO_THE_ADMINISTRATOR: &[u8] = b"version 1 3
+unwritten 1
+malformed
+sealed 1 3
+";
+
+/// Serves an application, which is denied three requests, and an administrator after it.
+pub fn serves<J: Naming, R: Wait + Abort>(
+    rt: &R,
+    alloc: Global,
+    door: &Door<J, NoGate>,
+    seats: Vec<Seat<J>>,
+    mut admins: Vec<Admin<J>>,
+) {
+    let seats = FreeSeats::new(seats);
+    let admin = admins.pop().expect(rt, "an administrator");
+    let ear = Ear::new();
+    let never = SealAt {
+        entries: None,
+        bytes: None,
+    };
+    let gauge = Gauge::new(alloc, 1000, never).ok().expect(rt, "memory");
+    let monitor = Monitor::new(&ear, &gauge);
+    let sink = Lines {
+        rt,
+        alloc,
+        text: Vec::new(alloc),
+    };
+    let (told, sink) = client_told(rt, alloc, door, &seats, &monitor, sink, AN_APPLICATION);
+    assert_eq!(rt; told.as_slice(), TOLD_TO_THE_APPLICATION);
+    let (told, sink) = administrator_told(rt, alloc, door, admin, &monitor, sink, AN_ADMINISTRATOR);
+    assert_eq!(rt; told.as_slice(), TOLD_TO_THE_ADMINISTRATOR);
+    assert_eq!(rt; sink.text.as_slice(), DENIED);
+    assert_eq!(rt; seats.count(rt), 64);
+}
+
+#[test]
+fn each_denial_is_recorded_once_and_in_order(rt: HostRuntime) {
+    plays(&rt, rt.alloc(), 1000, Scene::Connections);
+}

@@ -1,0 +1,421 @@
+//! Requests as lines, and the lines of replies.
+
+use sm_history::{Denial, Event, Outcome, Query, Refusal, Reply};
+use sm_kinds::{ClientId, Name, ObjRef, push_numbered};
+use sm_wire::*;
+use std::alloc::{AllocError, Global};
+use std::process::Abort;
+use std::test::*;
+
+// Adds a reference in words.
+fn push_reference(out: &mut Vec<u8>, reference: ObjRef) -> Result<(), AllocError> {
+    match reference {
+        ObjRef::Own(object) => push_numbered(out, b" own ", u64::from(object)),
+        ObjRef::Handle(handle) => push_numbered(out, b" handle ", u64::from(handle)),
+        ObjRef::Null => out.extend_from_slice(b" null"),
+    }
+}
+
+// Adds what an event does, and a name.
+fn push_named(out: &mut Vec<u8>, words: &[u8], name: &Name) -> Result<(), AllocError> {
+    out.extend_from_slice(words)?;
+    out.extend_from_slice(name.bytes())
+}
+
+// Adds a call's bytes and references in words.
+fn push_call(out: &mut Vec<u8>, bytes: &[u8], refs: &[ObjRef]) -> Result<(), AllocError> {
+    for byte in bytes {
+        push_numbered(out, b" byte ", u64::from(*byte))?;
+    }
+    for reference in refs {
+        push_reference(out, *reference)?;
+    }
+    Ok(())
+}
+
+// Adds an event in words.
+fn push_event(out: &mut Vec<u8>, event: &Event) -> Result<(), AllocError> {
+    match event {
+        Event::Add {
+            name,
+            obj,
+            allow_isolated,
+            dump,
+        } => {
+            push_named(out, b" adds ", name)?;
+            push_reference(out, *obj)?;
+            push_numbered(out, b" isolated ", u64::from(*allow_isolated))?;
+            push_numbered(out, b" flags ", u64::from(*dump))
+        }
+        Event::Get { name } => push_named(out, b" gets ", name),
+        Event::Watch { name, object } => {
+            push_named(out, b" watches ", name)?;
+            push_numbered(out, b" by ", u64::from(*object))
+        }
+        Event::Unwatch { name, object } => {
+            push_named(out, b" unwatches ", name)?;
+            push_numbered(out, b" by ", u64::from(*object))
+        }
+        Event::Unregister { name, obj } => {
+            push_named(out, b" unregisters ", name)?;
+            push_reference(out, *obj)
+        }
+        Event::Call {
+            handle,
+            payload,
+            refs,
+        } => {
+            push_numbered(out, b" calls ", u64::from(*handle))?;
+            push_call(out, payload.bytes(), refs.list())
+        }
+        Event::Release { handle } => push_numbered(out, b" releases ", u64::from(*handle)),
+        Event::Take => out.extend_from_slice(b" takes"),
+        Event::Die => out.extend_from_slice(b" dies"),
+        _ => out.extend_from_slice(b" does what no line asks"),
+    }
+}
+
+// Adds who makes a request, where the line says so, and what it does.
+fn push_asked(out: &mut Vec<u8>, client: Option<ClientId>, words: &[u8]) -> Result<(), AllocError> {
+    if let Some(client) = client {
+        push_numbered(out, b"", u64::from(client.0))?;
+    }
+    out.extend_from_slice(words)
+}
+
+// Adds a request in words.
+fn push_request(out: &mut Vec<u8>, request: &Request) -> Result<(), AllocError> {
+    match request {
+        Request::Change(client, event) => {
+            push_asked(out, *client, b"")?;
+            push_event(out, event)
+        }
+        Request::Look(client, Query::Version) => push_asked(out, *client, b" asks the version"),
+        Request::Look(client, Query::List(_)) => push_asked(out, *client, b" asks the names"),
+        Request::Look(client, Query::Explain { .. }) => push_asked(out, *client, b" asks why"),
+        Request::Hello(who) => push_numbered(out, b"hello of ", u64::from(who.pid)),
+        Request::Reload {
+            expected,
+            rules,
+            contexts,
+        } => {
+            push_numbered(out, b"reload of ", *expected)?;
+            push_numbered(out, b" by ", u64::from(*rules))?;
+            push_numbered(out, b" and ", u64::from(*contexts))
+        }
+        Request::Denials => out.extend_from_slice(b"denials"),
+        Request::Seal => out.extend_from_slice(b"seal"),
+    }
+}
+
+// What a line of this kind is read as, in words.
+fn read_by(alloc: Global, kind: Kind, line: &[u8]) -> Result<Vec<u8>, AllocError> {
+    let mut out = Vec::new(alloc);
+    match Request::read(alloc, kind, line) {
+        Ok(request) => push_request(&mut out, &request)?,
+        Err(ReadError::Malformed) => out.extend_from_slice(b"malformed")?,
+        Err(ReadError::Memory) => return Err(AllocError),
+    }
+    Ok(out)
+}
+
+// What a line of a script is read as, in words.
+fn read_as(alloc: Global, line: &[u8]) -> Result<Vec<u8>, AllocError> {
+    read_by(alloc, Kind::Script, line)
+}
+
+/// Request lines, each with what it is read as.
+type Readings = &'static [(&'static str, &'static str)];
+
+const WELL_FORMED: Readings = &[
+    (
+        "1 add a o4294967295 1 8",
+        "1 adds a own 4294967295 isolated 1 flags 8",
+    ),
+    (
+        "1 add %612062 null 0 0",
+        "1 adds a b null isolated 0 flags 0",
+    ),
+    ("2 get %2525", "2 gets %%"),
+    ("2 check a%", "2 gets a%"),
+    ("1 watch a o0", "1 watches a by 0"),
+    (
+        "4294967295 unwatch % o4294967295",
+        "4294967295 unwatches  by 4294967295",
+    ),
+    ("1 unregister a h2", "1 unregisters a handle 2"),
+    ("1 unregister a null", "1 unregisters a null"),
+    ("1 call 3 -", "1 calls 3"),
+    (
+        "1 call 0 00fFAb1c",
+        "1 calls 0 byte 0 byte 255 byte 171 byte 28",
+    ),
+    (
+        "1 call 3 0a o1 h2 null o1",
+        "1 calls 3 byte 10 own 1 handle 2 null own 1",
+    ),
+    ("1 release 4294967295", "1 releases 4294967295"),
+    ("1 take", "1 takes"),
+    ("0 bye", "0 dies"),
+    ("1 list 15", "1 asks the names"),
+    ("1 version", "1 asks the version"),
+    ("hello 7 0 u:r:t", "hello of 7"),
+    ("explain a b binder call", " asks why"),
+    (
+        "reload 18446744073709551615 2 4294967295",
+        "reload of 18446744073709551615 by 2 and 4294967295",
+    ),
+];
+
+#[test]
+fn well_formed_lines(rt: HostRuntime) -> Result<(), Fail> {
+    for (line, wanted) in WELL_FORMED {
+        let words = read_as(rt.alloc(), line.as_bytes())?;
+        assert_eq!(rt; words.as_slice(), wanted.as_bytes(), "{line}");
+    }
+    Ok(())
+}
+
+/// Lines, each with what a client's connection, an administrator's and a script read it as.
+const BY_KIND: &[(&str, &str, &str, &str)] = &[
+    ("hello 7 0 u:r:t", "hello of 7", "malformed", "hello of 7"),
+    ("get a", " gets a", "malformed", "malformed"),
+    ("1 get a", "malformed", "malformed", "1 gets a"),
+    ("call 3 -", " calls 3", "malformed", "malformed"),
+    ("1 call 3 -", "malformed", "malformed", "1 calls 3"),
+    ("list 15", " asks the names", "malformed", "malformed"),
+    ("1 list 15", "malformed", "malformed", "1 asks the names"),
+    ("bye", " dies", "malformed", "malformed"),
+    ("1 bye", "malformed", "malformed", "1 dies"),
+    (
+        "version",
+        " asks the version",
+        " asks the version",
+        "malformed",
+    ),
+    ("1 version", "malformed", "malformed", "1 asks the version"),
+    (
+        "explain a b binder call",
+        "malformed",
+        " asks why",
+        " asks why",
+    ),
+    (
+        "reload 1 2 3",
+        "malformed",
+        "reload of 1 by 2 and 3",
+        "reload of 1 by 2 and 3",
+    ),
+    ("denials", "malformed", "denials", "denials"),
+    ("seal", "malformed", "seal", "seal"),
+    ("version ", "malformed", "malformed", "malformed"),
+    ("denials 1", "malformed", "malformed", "malformed"),
+    ("seal 1", "malformed", "malformed", "malformed"),
+    ("", "malformed", "malformed", "malformed"),
+];
+
+#[test]
+fn lines_of_each_kind(rt: HostRuntime) -> Result<(), Fail> {
+    let alloc = rt.alloc();
+    for (line, client, admin, script) in BY_KIND {
+        let words = read_by(alloc, Kind::Client, line.as_bytes())?;
+        assert_eq!(rt; words.as_slice(), client.as_bytes(), "{line}");
+        let words = read_by(alloc, Kind::Admin, line.as_bytes())?;
+        assert_eq!(rt; words.as_slice(), admin.as_bytes(), "{line}");
+        let words = read_by(alloc, Kind::Script, line.as_bytes())?;
+        assert_eq!(rt; words.as_slice(), script.as_bytes(), "{line}");
+    }
+    Ok(())
+}
+
+const MALFORMED: &[&str] = &[
+    // The number of fields.
+    "",
+    "1",
+    "1 ",
+    "1 take 1",
+    "1 take ",
+    "1 bye 1",
+    "1 release",
+    "1 release 1 2",
+    "1 watch a",
+    "1 watch a o1 o2",
+    "1 unwatch a",
+    "1 unwatch a o1 o2",
+    "1 unregister a",
+    "1 unregister a o1 o2",
+    "1 call",
+    "1 call 3",
+    "1 call 3 ",
+    "1 call 3 - ",
+    "1 call 3 -  o1",
+    "take",
+    "watch a o1",
+    // Words are written in small letters.
+    "1 Take",
+    "1 bye\r",
+    // The watcher's object must be the client's own.
+    "1 watch a h1",
+    "1 watch a null",
+    "1 watch a 1",
+    "1 watch a o",
+    "1 unwatch a h1",
+    "1 unwatch a null",
+    "1 watch %6 o1",
+    "1 watch  o1",
+    "1 unregister a o",
+    "1 unregister a Null",
+    // Bytes are pairs of digits.
+    "1 call 3 0",
+    "1 call 3 0a1",
+    "1 call 3 0g",
+    "1 call 3 --",
+    "1 call 3 o1",
+    "1 call 3 - -",
+    "1 call 3 00 00",
+    // Numbers have at most 32 bits, and no leading zeros.
+    "01 take",
+    "4294967296 take",
+    "-1 take",
+    "1 release 01",
+    "1 release 4294967296",
+    "1 release h1",
+    "1 watch a o01",
+    "1 watch a o4294967296",
+    "1 call 03 -",
+    "1 call 4294967296 -",
+    "1 call 3 - o01",
+    "1 call 3 - h4294967296",
+];
+
+#[test]
+fn malformed_lines(rt: HostRuntime) -> Result<(), Fail> {
+    for line in MALFORMED {
+        let words = read_as(rt.alloc(), line.as_bytes())?;
+        assert_eq!(rt; words.as_slice(), b"malformed".as_slice(), "{line}");
+    }
+    Ok(())
+}
+
+// A call with `bytes` bytes, in digits of either case, and `refs` references.
+fn call_line(alloc: Global, bytes: usize, refs: usize) -> Result<Vec<u8>, AllocError> {
+    let mut line = Vec::from_slice(alloc, b"1 call 1 ")?;
+    for _ in 0..bytes {
+        line.extend_from_slice(b"aF")?;
+    }
+    for _ in 0..refs {
+        line.extend_from_slice(b" null")?;
+    }
+    Ok(line)
+}
+
+#[test]
+fn longest_calls(rt: HostRuntime) -> Result<(), Fail> {
+    let alloc = rt.alloc();
+    let calls = [
+        (1024, 16, true),
+        (1025, 0, false),
+        (1, 17, false),
+        (0, 0, false),
+    ];
+    for (bytes, refs, fits) in calls {
+        let line = call_line(alloc, bytes, refs)?;
+        let words = read_as(alloc, &line)?;
+        assert!(rt;
+            (words.as_slice() != b"malformed".as_slice()) == fits,
+            "{bytes} {refs}"
+        );
+    }
+    Ok(())
+}
+
+// The reply to a line, if it is a request.
+fn answered(rt: &impl Abort, alloc: Global, line: &[u8], reply: &Reply) -> Vec<u8> {
+    let asked = Request::read(alloc, Kind::Script, line).expect(rt, "a request");
+    reply_line(alloc, asked.telling(), reply).expect(rt, "memory")
+}
+
+#[test]
+fn replies_to_requests(rt: HostRuntime) {
+    let granted = Reply::Done(Outcome::Granted(3));
+    let died = Reply::Done(Outcome::Died);
+    let isolated = Reply::Refused(Refusal::Denied(Denial::Isolated(99001)));
+    // A get hides that the service isn't for isolated processes.
+    let replies = [
+        ("2 get activity", &granted, "handle 3\n"),
+        ("2 get activity", &isolated, "null\n"),
+        (
+            "2 watch activity o1",
+            &isolated,
+            "exception -1 isolated 99001\n",
+        ),
+        ("2 bye", &died, "bye\n"),
+    ];
+    for (line, reply, wanted) in replies {
+        let words = answered(&rt, rt.alloc(), line.as_bytes(), reply);
+        assert_eq!(rt; words.as_slice(), wanted.as_bytes());
+    }
+}
+
+#[test]
+fn lines_in_pieces(rt: HostRuntime) {
+    let alloc = rt.alloc();
+    let mut lines = LineReader::new(alloc, Kind::Script);
+    assert!(rt; !lines.rest() && !lines.is_dead());
+    assert_eq!(rt; lines.feed(b"2 get act").expect(&rt, "items").len(), 0);
+    assert!(rt; lines.rest());
+    let items = lines.feed(b"ivity\nreload 1 2 1\na").expect(&rt, "items");
+    assert!(rt;
+        matches!(
+            items.as_slice(),
+            [Item::Asked(Request::Change(_, Event::Get { .. }))]
+        )
+    );
+    let items = lines.feed(b"bc\n").expect(&rt, "items");
+    assert!(rt; matches!(items.as_slice(), [Item::Policy(_), Item::Malformed]));
+    if let [Item::Policy(texts), _] = items.as_slice() {
+        assert!(rt; texts.expected() == 1);
+        assert_eq!(rt; texts.rules(), b"ab".as_slice());
+        assert_eq!(rt; texts.contexts(), b"c".as_slice());
+    }
+    assert!(rt; !lines.rest());
+}
+
+// The requests of a client's stream, in words, one on each line.
+fn streamed(rt: &impl Abort, alloc: Global, stream: &[u8]) -> Result<Vec<u8>, AllocError> {
+    let mut lines = LineReader::new(alloc, Kind::Client);
+    let mut out = Vec::new(alloc);
+    let items = lines.feed(stream).expect(rt, "items");
+    for item in &items {
+        match item {
+            Item::Asked(request) => push_request(&mut out, request)?,
+            _ => out.extend_from_slice(b"malformed")?,
+        }
+        out.extend_from_slice(b"\n")?;
+    }
+    Ok(out)
+}
+
+// Among the names that a stream caches, `Aa` and `BB` have the same slot.
+#[test]
+fn names_that_come_again(rt: HostRuntime) -> Result<(), Fail> {
+    let stream =
+        b"get Aa\nget BB\ncheck Aa\nget Aa\nget %4242\nget a b\nget \nget \x7f\ncheck BB\n";
+    let words = streamed(&rt, rt.alloc(), stream)?;
+    let wanted =
+        b" gets Aa\n gets BB\n gets Aa\n gets Aa\n gets BB\nmalformed\nmalformed\nmalformed\n gets BB\n";
+    assert_eq!(rt; words.as_slice(), wanted.as_slice());
+    Ok(())
+}
+
+#[test]
+fn no_line_behind_one_that_is_too_long(rt: HostRuntime) -> Result<(), Fail> {
+    let alloc = rt.alloc();
+    let mut lines = LineReader::new(alloc, Kind::Script);
+    let long = vec![in alloc; b'a'; 4097]?;
+    let items = lines.feed(&long).expect(&rt, "items");
+    assert!(rt; matches!(items.as_slice(), [Item::LineTooLong]));
+    assert!(rt; lines.is_dead());
+    assert!(rt; matches!(lines.feed(b"\n"), Err(FeedError::LineTooLong)));
+    Ok(())
+}
