@@ -14,7 +14,7 @@ use Rattle.sm_rules.proofs.Consistent.{some_any}
 use Rattle.sm_rules.specs.Keeping.{rules_in, class_at, perm_at}
 use Rattle.sm_neverallow.specs.Violating.{breaks, IsFirstViolation}
 use Rattle.sm_neverallow.proofs.Searches.{any_at}
-use Rattle.sm_neverallow.specs.declared.violation.Violation.{Violation as Numbered}
+use Rattle.sm_neverallow.specs.declared.violation.NumberedViolation.{NumberedViolation as Numbered}
 use Rattle.sm_policy.specs.declared.violation.Violation.{Violation}
 use Rattle.sm_policy.specs.Violating.{first_some, perm_numbers, clash, clash_of_pair, clash_of_source, first_clash}
 use Rattle.sm_policy.specs.Violating.{clash_of_never, first_violation, named_violation}

@@ -66,14 +66,3 @@ named policy names s i of found =
     (p.0, sym ((bytes_eq-Decides s (at names i)).0 p.1))
 
 pub ruleset deciding = (refused_source, refused_target, named)
-
--- A bit of a pair's byte, by whether the numbers have types.
-pub granted_bit : (n s t : ℕ) (bit passes : Bool) → (s < n → t < n → bit ≡ passes) → (n ≤ s → bit ≡ false)
-    → (n ≤ t → bit ≡ false) → bit ≡ ((nat_lt s n && nat_lt t n) && passes)
-granted_bit n s t bit passes inside no_s no_t = elim (cases_lt s n) [
-  | inl hs ↦ (elim (cases_lt t n) [
-    | inl ht ↦ grind (arith, inside hs ht)
-    | inr ge ↦ grind (arith, no_t ge)
-  ])
-  | inr ge ↦ grind (arith, no_s ge)
-]

@@ -8,7 +8,7 @@ use Rattle.sm_types.specs.Denoting.{types}
 use Rattle.sm_rules.specs.Access.{covers}
 use Rattle.sm_rules.specs.Keeping.{rules_in, class_at, perm_at}
 use Rattle.sm_types.specs.Names.{Name, at}
-use Rattle.sm_neverallow.specs.declared.violation.Violation.{Violation as Numbered}
+use Rattle.sm_neverallow.specs.declared.violation.NumberedViolation.{NumberedViolation as Numbered}
 use Rattle.sm_policy.specs.declared.violation.Violation.{Violation}
 
 -- This is the first result of f on the items, in their order.

@@ -65,7 +65,8 @@ impl Drop for Prepared {
 }
 
 impl Prepared {
-    ghost use Rattle.std.specs.Prelude.{◌≡◌, ◌<◌, ℕ, List, Some, IfOk, IfErr};
+    ghost use Rattle.std.specs.Prelude.{◌≡◌, ◌<◌, ◌≤◌, ℕ, List, [], Some, IfOk, IfErr, length};
+    ghost use Rattle.std.proofs.Common.{get_or};
     ghost use Rattle.sm_kinds.specs.Contexts.{type_of};
     ghost use Rattle.sm_policy.specs.Policy.{allowed, audits, decision, allowed_at, type_index, label_of, written_at};
     ghost use Rattle.sm_policy.specs.Policy.{IsConsistent};
@@ -77,6 +78,7 @@ impl Prepared {
     ghost use Rattle.sm_bits.specs.Bits.{has_bit};
     ghost use Rattle.sm_rules.specs.Keeping.{RulesOf, class_at, perm_at};
     ghost use Rattle.sm_types.specs.Denoting.{types};
+    ghost use Rattle.sm_types.specs.Names.{at};
     ghost use Rattle.sm_types.specs.Members.{IsOf};
 
     /// Prepares the policy of a policy source and a contexts file.
@@ -155,12 +157,17 @@ impl Prepared {
         self.parts().vectors.allows(source, target, class, perm)
     }
 
-    /// Returns the permissions that `allows_at` allows on the types of these numbers, as the bits of a byte: bit `b` is
-    /// that of `class_at(b)` and `perm_at(b)` of `sm_rules`. 0 if a number has no type.
-    pub fn granted_at(&self, source: u16, target: u16) -> u8
-        ensures { (b : ℕ) → b < 7 → has_bit result b ≡ allowed_at self.now source target (class_at b) (perm_at b) }
+    /// Returns the permissions that a source is allowed, by the numbers of the types: for each target a byte,
+    /// whose bit `b` is that of `class_at(b)` and `perm_at(b)` of `sm_rules`. Nothing if the source's number has no
+    /// type.
+    pub fn granted_row(&self, source: u16) -> &[u8]
+        ensures allowed { source < length (types self.now.statements)
+            → (t b : ℕ) → t < length (types self.now.statements) → b < 7
+            → has_bit (get_or result.now t 0) b ≡ allowed self.now (at (types self.now.statements) source)
+            (at (types self.now.statements) t) (class_at b) (perm_at b) }
+        ensures no_source { length (types self.now.statements) ≤ source → result.now ≡ [] }
     {
-        self.parts().vectors.granted(source, target)
+        self.parts().vectors.granted_row(source)
     }
 
     /// Returns the decision on two types whose `type_index` is `source` and `target`: whether the access is allowed,

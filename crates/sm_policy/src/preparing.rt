@@ -44,7 +44,7 @@ fn type_name(types: &Types, index: u16) -> &[u8]
 fn named(
     alloc: Global,
     types: &Types,
-    violation: &sm_neverallow::Violation,
+    violation: &sm_neverallow::NumberedViolation,
 ) -> Result<Violation, AllocError>
     ensures { IfOk result (λ v. v ≡ named_violation types.now.symbols.types violation.now) }
 {

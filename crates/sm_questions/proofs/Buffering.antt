@@ -98,26 +98,26 @@ pub held_list : {A : Type 0} {held : List ℕ} (f : A → List ℕ) (xs : List A
 held_list {A} {held} f xs i first le p = rw (take_all i xs le) at p
 
 -- The same through a buffer.
-pub passes_more : {A : Type 0} {a b c : Option (List ℕ)} {held rest next : List ℕ} (f : A → List ℕ) (xs : List A)
+pub passes_entry : {A : Type 0} {a b c : Option (List ℕ)} {held rest next : List ℕ} (f : A → List ℕ) (xs : List A)
     (i : ℕ) (d : A) → i < length xs → Passes a b held rest (flat_map f (take i xs))
     → Passes b c rest next (f (get_or xs i d)) → Passes a c held next (flat_map f (take (i + 1) xs))
-passes_more f xs i d lt p q = rw (flat_step f xs i d lt) (passes_then _ _ p q)
+passes_entry f xs i d lt p q = rw (flat_step f xs i d lt) (passes_then _ _ p q)
 
-pub stops_more_at : {A : Type 0} {a b c : Option (List ℕ)} {held rest : List ℕ} (f : A → List ℕ) (xs : List A)
+pub stops_entry : {A : Type 0} {a b c : Option (List ℕ)} {held rest : List ℕ} (f : A → List ℕ) (xs : List A)
     (i : ℕ) (d : A) → i < length xs → Passes a b held rest (flat_map f (take i xs))
     → Stops b c rest (f (get_or xs i d)) → Stops a c held (flat_map f xs)
-stops_more_at f xs i d lt p q = rw (flat_split f xs i d lt) (stops_more _ _ (stops_then _ _ p q))
+stops_entry f xs i d lt p q = rw (flat_split f xs i d lt) (stops_more _ _ (stops_then _ _ p q))
 
 -- The lines of an entry are held, and then the buffer is written if it is full.
 pub passes_step : {A : Type 0} {a b c : Option (List ℕ)} {held rest filled next : List ℕ} (f : A → List ℕ)
     (xs : List A) (i : ℕ) (d : A) → i < length xs → Passes a b held rest (flat_map f (take i xs))
     → filled ≡ rest ++ f (get_or xs i d) → Passes b c filled next [] → Passes a c held next (flat_map f (take (i + 1) xs))
-passes_step f xs i d lt p e q = passes_more f xs i d lt p (passes_filled e q)
+passes_step f xs i d lt p e q = passes_entry f xs i d lt p (passes_filled e q)
 
 pub stops_step : {A : Type 0} {a b c : Option (List ℕ)} {held rest filled : List ℕ} (f : A → List ℕ) (xs : List A)
     (i : ℕ) (d : A) → i < length xs → Passes a b held rest (flat_map f (take i xs))
     → filled ≡ rest ++ f (get_or xs i d) → Stops b c filled [] → Stops a c held (flat_map f xs)
-stops_step f xs i d lt p e q = stops_more_at f xs i d lt p (stops_filled e q)
+stops_step f xs i d lt p e q = stops_entry f xs i d lt p (stops_filled e q)
 
 pub stops_lost : {A : Type 0} {a b : Option (List ℕ)} {held rest : List ℕ} (f : A → List ℕ) (xs : List A) (i : ℕ)
     → Passes a b held rest (flat_map f (take i xs)) → Stops a b held (flat_map f xs)

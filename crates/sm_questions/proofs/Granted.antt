@@ -1,8 +1,10 @@
 -- Two types without a permission have no lines.
-use Rattle.std.proofs.Common.{◌≡◌, ◌∙◌, ℕ, ◌<◌, List, [], Some, None, false, get_or, length, map, refl, sym, arith}
+use Rattle.std.proofs.Common.{◌≡◌, ◌∙◌, ℕ, ◌<◌, List, [], Option, Some, None, IfSome, true, false, nat_eq, get_or, length}
+use Rattle.std.proofs.Common.{map, refl, sym, inl, inr, arith}
 use Rattle.std.specs.List.{flat_map}
 use Rattle.std.proofs.lemmas.List.{get_or-map}
 use Rattle.std.proofs.lemmas.Nat.Bits.{bit_at-zero}
+use Rattle.std.proofs.lemmas.Bool.{eqb-true, or_cases}
 use Rattle.sm_bits.specs.Bits.{has_bit}
 use Rattle.sm_rules.specs.Keeping.{class_at, perm_at}
 use Rattle.sm_policy.specs.Policy.{Policy, allowed, type_index}
@@ -12,7 +14,7 @@ use Rattle.sm_types.specs.Denoting.{types}
 use Rattle.sm_questions.specs.declared.filtering.Filter.{Filter}
 use Rattle.sm_questions.specs.Accesses.{perm_lines, pair_lines, perm_numbers, target_lines}
 use Rattle.sm_questions.specs.Differences.{is_lost, lost_pair, lost_perm}
-use Rattle.sm_questions.specs.Granted.{AllowsSame, IsGranted}
+use Rattle.sm_questions.specs.Granted.{IsGranted, IsRow, byte_for, is_kept}
 
 no_bit : (b : ℕ) → has_bit 0 b ≡ false
 unfolding has_bit
@@ -53,8 +55,13 @@ unfolding lost_pair lost_perm is_lost
 none_lost sign one other granted s t none is =
     no_lines (lost_perm sign one other s t) (λ b lt. grind (arith, nothing one granted s t none is b lt))
 
+-- Both policies allow the source the same permissions on the target.
+abbrev AllowsSame : Policy → Policy → List ℕ → List ℕ → Type 0
+AllowsSame one other s t =
+    (b : ℕ) → b < 7 → allowed one s t (class_at b) (perm_at b) ≡ allowed other s t (class_at b) (perm_at b)
+
 -- Two policies with the same byte for two types allow the same on them.
-pub same_byte : (one other : Policy) (granted : ℕ) (s t : List ℕ) {byte : ℕ} {s_there t_there : List ℕ}
+same_byte : (one other : Policy) (granted : ℕ) (s t : List ℕ) {byte : ℕ} {s_there t_there : List ℕ}
     → granted ≡ byte → s_there ≡ s → t_there ≡ t → IsGranted one granted s t → IsGranted other byte s_there t_there
     → AllowsSame one other s t
 same_byte one other granted s t {byte} {s_there} {t_there} same se te is is_there b lt =
@@ -63,13 +70,54 @@ same_byte one other granted s t {byte} {s_there} {t_there} same se te is is_ther
 -- The number of a type in the other policy is that of the same name.
 pub found_at : (one other : Policy) (i : ℕ) {n : ℕ} → i < length (types one.statements)
     → get_or (map (type_index other) (types one.statements)) i None ≡ Some n
-    → at (types other.statements) n ≡ at (types one.statements) i
+    → (n < length (types other.statements)) × (at (types other.statements) n ≡ at (types one.statements) i)
 found_at one other i {n} lt is =
     let here : type_index other (at (types one.statements) i) ≡ Some n =
     sym (get_or-map (type_index other) (types one.statements) i [] None lt) ∙ is in
-    (named other.statements (types other.statements) (at (types one.statements) i) n refl here).1
+    named other.statements (types other.statements) (at (types one.statements) i) n refl here
 
-pub same_lost : (sign : ℕ) (one other : Policy) (s t : List ℕ) → AllowsSame one other s t
+same_lost : (sign : ℕ) (one other : Policy) (s t : List ℕ) → AllowsSame one other s t
     → lost_pair sign one other s t ≡ []
 unfolding lost_pair lost_perm is_lost
 same_lost sign one other s t same = no_lines (lost_perm sign one other s t) (λ b lt. grind (arith, same b lt))
+
+no_byte : (n : Option ℕ) → byte_for [] n ≡ 0
+no_byte None = refl
+no_byte (Some t) = refl
+
+equal_lost : (sign : ℕ) (one other : Policy) (there : List ℕ) (byte s t : ℕ) (m n : Option ℕ)
+    → s < length (types one.statements) → t < length (types one.statements)
+    → IsGranted one byte (at (types one.statements) s) (at (types one.statements) t)
+    → get_or (map (type_index other) (types one.statements)) s None ≡ m
+    → get_or (map (type_index other) (types one.statements)) t None ≡ n
+    → IfSome m (IsRow other there) → (m ≡ None → there ≡ []) → byte ≡ byte_for there n
+    → lost_pair sign one other (at (types one.statements) s) (at (types one.statements) t) ≡ []
+equal_lost sign one other there byte s t None n hs ht is em en row none same =
+    none_lost sign one other byte (at (types one.statements) s) (at (types one.statements) t)
+    (same ∙ rw (none refl) (no_byte n)) is
+equal_lost sign one other there byte s t (Some k) None hs ht is em en row none same =
+    none_lost sign one other byte (at (types one.statements) s) (at (types one.statements) t) same is
+equal_lost sign one other there byte s t (Some k) (Some l) hs ht is em en row none same =
+    let from = found_at one other s hs em in
+    let to = found_at one other t ht en in
+    same_lost sign one other (at (types one.statements) s) (at (types one.statements) t)
+    (same_byte one other byte (at (types one.statements) s) (at (types one.statements) t) same from.1 to.1 is
+    (row l to.0))
+
+-- What is kept isn't lost.
+pub kept_lost : (sign : ℕ) (one other : Policy) (here there : List ℕ) (s t : ℕ)
+    → s < length (types one.statements) → t < length (types one.statements) → IsRow one here s
+    → IfSome (get_or (map (type_index other) (types one.statements)) s None) (IsRow other there)
+    → (get_or (map (type_index other) (types one.statements)) s None ≡ None → there ≡ [])
+    → is_kept (get_or here t 0) (byte_for there (get_or (map (type_index other) (types one.statements)) t None)) ≡ true
+    → lost_pair sign one other (at (types one.statements) s) (at (types one.statements) t) ≡ []
+kept_lost sign one other here there s t hs ht is row none kept =
+    let byte = get_or here t 0 in
+    let numbers = map (type_index other) (types one.statements) in
+    let same = byte_for there (get_or numbers t None) in
+    elim (or_cases (nat_eq byte 0) (nat_eq byte same) kept) [
+      | inl zero ↦ none_lost sign one other byte (at (types one.statements) s) (at (types one.statements) t)
+          (eqb-true byte 0 zero) (is t ht)
+      | inr equal ↦ equal_lost sign one other there byte s t (get_or numbers s None) (get_or numbers t None) hs ht
+          (is t ht) refl refl row none (eqb-true byte same equal)
+    ]

@@ -1,13 +1,16 @@
 //! Accesses that only one of two policies allows.
 
-ghost use Rattle.std.specs.Prelude.{◌≡◌, ◌<◌, ◌++◌, IfOk, IsTrue, OnOk, length, map};
+ghost use Rattle.std.specs.Prelude.{◌≡◌, ◌<◌, ◌++◌, [], IfOk, IfSome, None, OnOk, length, map};
+ghost use Rattle.std.proofs.Common.{get_or};
 ghost use Rattle.sm_types.specs.Names.{at};
 ghost use Rattle.sm_types.specs.Denoting.{types};
 ghost use Rattle.sm_policy.specs.Policy.{type_index};
 ghost use Rattle.sm_questions.specs.Differences as spec;
-ghost use Rattle.sm_questions.specs.Granted.{AllowsSame};
+ghost use Rattle.sm_questions.specs.Granted as granted;
+ghost use Rattle.sm_questions.specs.Granted.{IsRow, byte_for};
 
 use crate::PolicyTables;
+use crate::tables::byte_at;
 use sm_kinds::push_access;
 use sm_rules::{PERM_COUNT, class_at, perm_at};
 use std::alloc::{AllocError, Global};
@@ -90,26 +93,6 @@ fn push_perm(
     push_lost(sign, from, to, bit, held)
 }
 
-/// Returns whether the other policy has both types of one policy, and allows exactly the same accesses of them.
-fn are_equal(
-    one: &PolicyTables,
-    other: &PolicyTables,
-    numbers: &[Option<u16>],
-    source: u16,
-    target: u16,
-) -> bool
-    requires source { source < length (types one.now.statements) }
-    requires target { target < length (types one.now.statements) }
-    requires numbers { numbers.now ≡ map (type_index other.now) (types one.now.statements) }
-    ensures { IsTrue result → AllowsSame one.now other.now (at (types one.now.statements) source)
-        (at (types one.now.statements) target) }
-{
-    match (numbers[usize::from(source)], numbers[usize::from(target)]) {
-        (Some(from), Some(to)) => one.granted(source, target) == other.granted(from, to),
-        _ => false,
-    }
-}
-
 /// Appends the lines for two types.
 #[tactic(auto, unfolding(crate::specs::Differences::lost_pair))]
 fn push_pair(
@@ -127,16 +110,32 @@ fn push_pair(
     ensures { OnOk result (held.new.items ≡ held.old.items ++ spec.lost_pair sign one.now other.now
         (at (types one.now.statements) source) (at (types one.now.statements) target)) }
 {
-    if one.granted(source, target) == 0 {
-        return Ok(());
-    }
-    if are_equal(one, other, numbers, source, target) {
-        return Ok(());
-    }
     for bit in 0..PERM_COUNT {
         push_perm(sign, one, other, numbers, source, target, bit, held)?;
     }
     Ok(())
+}
+
+/// Returns the permissions of a source of the other policy, or nothing if it isn't declared there.
+fn row_there(other: &PolicyTables, source: Option<u16>) -> &[u8]
+    requires { IfSome source (λ s. s < length (types other.now.statements)) }
+    ensures some { IfSome source (λ s. IsRow other.now result.now s) }
+    ensures none { source ≡ None → result.now ≡ [] }
+{
+    match source {
+        Some(source) => other.granted_row(source),
+        None => &[],
+    }
+}
+
+/// Returns whether a source loses nothing on a type: it has no permission on it, or has the same in the other policy,
+/// where the type has this number.
+#[inline]
+fn is_kept(here: &[u8], there: &[u8], target: u16, number: Option<u16>) -> bool
+    ensures { result ≡ granted.is_kept (get_or here.now target 0) (byte_for there.now number) }
+{
+    let byte = byte_at(here, target);
+    byte == 0 || number.is_some_and(|n| byte == byte_at(there, n))
 }
 
 /// Appends the lines for a source, with all targets.
@@ -154,8 +153,12 @@ pub fn push_source(
     ensures { OnOk result (held.new.items ≡ held.old.items ++ spec.lost_source sign one.now other.now
         (at (types one.now.statements) source)) }
 {
+    let here = one.granted_row(source);
+    let there = row_there(other, numbers[usize::from(source)]);
     for target in 0..one.type_count() {
-        push_pair(sign, one, other, numbers, source, target, held)?;
+        if !is_kept(here, there, target, numbers[usize::from(target)]) {
+            push_pair(sign, one, other, numbers, source, target, held)?;
+        }
     }
     Ok(())
 }

@@ -1,11 +1,25 @@
 //! The tables of a policy that questions read.
 
+ghost use Rattle.std.specs.Prelude.{◌≡◌};
+ghost use Rattle.std.proofs.Common.{get_or};
+
 use crate::first_lines::find_lines;
 use sm_kinds::{Class, Context, Perms};
 use sm_policy::{PolicyFault, Prepared};
 use sm_rules::{class_at, perm_at};
 use std::alloc::{AllocError, Global};
 use std::marker::Model;
+
+/// Returns the byte of a type in a row, or 0 if there is none.
+#[inline]
+pub fn byte_at(row: &[u8], target: u16) -> u8
+    ensures { result ≡ get_or row.now target 0 }
+{
+    match row.get(usize::from(target)) {
+        Some(byte) => *byte,
+        None => 0,
+    }
+}
 
 /// An accepted policy, and what questions read of its parts. Contracts see the policy.
 pub struct PolicyTables {
@@ -33,7 +47,7 @@ impl PolicyTables {
     ghost use Rattle.sm_policy.specs.Preparing.{is_memory, prepared};
     ghost use Rattle.sm_types.specs.Denoting.{declares, types};
     ghost use Rattle.sm_types.specs.Names.{at};
-    ghost use Rattle.sm_questions.specs.Granted.{IsGranted};
+    ghost use Rattle.sm_questions.specs.Granted.{IsGranted, IsRow};
     ghost use Rattle.sm_rules.specs.Keeping.{class_at, perm_at};
     ghost use Rattle.sm_questions.specs.FirstLines.{HasLines};
     ghost use Rattle.sm_kinds.specs.Contexts.{type_of};
@@ -139,6 +153,15 @@ impl PolicyTables {
             .allows_at(source, target, class_at(bit), perm_at(bit))
     }
 
+    /// Returns the permissions that a source is allowed, by the numbers of the types: for each target the bits of a byte.
+    #[inline]
+    pub(crate) fn granted_row(&self, source: u16) -> &[u8]
+        requires { source < length (types self.now.statements) }
+        ensures { IsRow self.now result.now source }
+    {
+        self.prepared.granted_row(source)
+    }
+
     /// Returns the permissions that are allowed on the two types, by their numbers, as the bits of a byte.
     pub(crate) fn granted(&self, source: u16, target: u16) -> u8
         requires source { source < length (types self.now.statements) }
@@ -146,7 +169,7 @@ impl PolicyTables {
         ensures { IsGranted self.now result (at (types self.now.statements) source)
             (at (types self.now.statements) target) }
     {
-        self.prepared.granted_at(source, target)
+        byte_at(self.granted_row(source), target)
     }
 
     /// Returns a table for `find_lines`.

@@ -15,9 +15,13 @@ pub record Table : Type 0 where
   pub places : List ℕ
   pub rows : List (List ℕ)
 
+-- These are the bytes of source s.
+abbrev pub bytes_at : Table → ℕ → List ℕ
+bytes_at table s = row table.rows (get_or table.places s 0)
+
 -- This is the byte of source s and target t.
 abbrev pub byte_at : Table → ℕ → ℕ → ℕ
-byte_at table s t = get_or (row table.rows (get_or table.places s 0)) t 0
+byte_at table s t = get_or (bytes_at table s) t 0
 
 -- Contracts see these of a policy's tables: the number of types, what its allow rules grant, what its dontaudit rules
 -- cover, and its permissive types.

@@ -94,7 +94,7 @@ impl ByteRows {
 
     /// Returns the index of a row, which is appended unless it is there. The others keep their indexes. The digest must
     /// be the same for equal rows; rows with equal digests are compared.
-    pub fn place_of(&mut self, digest: u64, bytes: Vec<u8>) -> Result<usize, AllocError>
+    pub fn insert(&mut self, digest: u64, bytes: Vec<u8>) -> Result<usize, AllocError>
         ensures place { IfOk result (λ place. row self.new place ≡ bytes.items) }
         ensures inside { IfOk result (λ place. place < length self.new) }
         ensures more { OnOk result (length self.old ≤ length self.new) }

@@ -103,7 +103,7 @@ fn place_for(
         return Ok(places[source - 1]);
     }
     let bytes = bytes_of(alloc, matrices, count, source)?;
-    rows.place_of(digest_of(matrices, count, source), bytes)
+    rows.insert(digest_of(matrices, count, source), bytes)
 }
 
 /// For each pair of types a byte, with a bit for each permission. Equal rows are stored once.
@@ -129,7 +129,7 @@ impl Model for ByteTable {
 impl ByteTable {
     ghost use Rattle.std.specs.Prelude.{◌≡◌, ◌<◌, ℕ, length, IfOk};
     ghost use Rattle.std.proofs.Common.{get_or};
-    ghost use Rattle.sm_vectors.specs.Tables.{byte_at};
+    ghost use Rattle.sm_vectors.specs.Tables.{byte_at, bytes_at};
 
     /// Makes a table without rows: each byte is 0.
     pub fn empty(alloc: Global) -> ByteTable
@@ -171,15 +171,22 @@ impl ByteTable {
         }
     }
 
+    /// Returns the bytes of a source, by the target. Nothing if there is no such source.
+    pub fn row(&self, source: usize) -> &[u8]
+        ensures { result.now ≡ bytes_at self.now source }
+    {
+        match self.rows.get(self.place(source)) {
+            Some(row) => row,
+            None => &[],
+        }
+    }
+
     /// Returns the byte of a source and a target, or 0 if there is no such target.
     pub fn byte(&self, source: usize, target: usize) -> u8
         ensures { result ≡ byte_at self.now source target }
     {
-        match self.rows.get(self.place(source)) {
-            Some(row) => match row.get(target) {
-                Some(byte) => *byte,
-                None => 0,
-            },
+        match self.row(source).get(target) {
+            Some(byte) => *byte,
             None => 0,
         }
     }

@@ -49,10 +49,12 @@ pub struct Vectors {
     written: ByteTable,
     silenced: ByteTable,
     permissive: BitRow,
+    /// The row of a permissive source.
+    everything: Vec<u8>,
 }
 
 impl Model for Vectors {
-    ghost use Rattle.std.specs.Prelude.{◌≡◌, ◌+◌, ◌/◌, length};
+    ghost use Rattle.std.specs.Prelude.{◌≡◌, ◌+◌, ◌/◌, length, replicate};
     ghost use Rattle.sm_vectors.specs.Tables.{Tables};
 
     ghost Value = { Tables };
@@ -64,7 +66,8 @@ impl Model for Vectors {
       permissive = v.permissive;
     } };
 
-    ghost invariant = { λ v. length v.permissive ≡ v.count / 64 + 1 };
+    ghost invariant = { λ v. (length v.permissive ≡ v.count / 64 + 1)
+        × (v.everything.items ≡ replicate v.count 127) };
 }
 
 impl Drop for Vectors {
@@ -74,12 +77,14 @@ impl Drop for Vectors {
             written: _,
             silenced: _,
             permissive: _,
+            everything: _,
         } = self;
     }
 }
 
 impl Vectors {
-    ghost use Rattle.std.specs.Prelude.{◌≡◌, ◌<◌, ◌≤◌, ℕ, List, length, IfOk, true, false};
+    ghost use Rattle.std.specs.Prelude.{◌≡◌, ◌<◌, ◌≤◌, ℕ, List, [], length, IfOk, true, false};
+    ghost use Rattle.std.proofs.Common.{get_or};
     ghost use Rattle.sm_ruletext.specs.declared.statement.Statement.{Statement as TheStatement};
     ghost use Rattle.sm_types.specs.Names.{at};
     ghost use Rattle.sm_rules.specs.Access.{allowed, audits};
@@ -99,11 +104,13 @@ impl Vectors {
         let written = ByteTable::compile(alloc, matrices, count)?;
         let silenced = silenced_bytes(alloc, rules)?;
         let permissive = permissive_row(alloc, rules)?;
+        let everything = vec![in alloc; EACH_PERM; count.get()]?;
         Ok(Vectors {
             count,
             written,
             silenced,
             permissive,
+            everything,
         })
     }
 
@@ -170,25 +177,23 @@ impl Vectors {
         self.decide(source, target, class, perm).allowed
     }
 
-    /// Returns the permissions on the two types that pass, by their numbers, as the bits of a byte: bit `b` is that of
-    /// `class_at(b)` and `perm_at(b)`. 0 if a number has no type.
-    pub fn granted(&self, source: u16, target: u16) -> u8
+    /// Returns the permissions of a source that pass, by the numbers of the types: for each target a byte, whose bit `b`
+    /// is that of `class_at(b)` and `perm_at(b)`. Nothing if the source's number has no type.
+    pub fn granted_row(&self, source: u16) -> &[u8]
         ensures allowed { (policy : List TheStatement) (names : List (List ℕ))
-            → TablesOf policy names self.now
-            → source < length names → target < length names → (b : ℕ) → b < 7
-            → has_bit result b ≡ allowed policy (at names source) (at names target) (class_at b) (perm_at b) }
-        ensures no_source { self.now.count ≤ source → result ≡ 0 }
-        ensures no_target { self.now.count ≤ target → result ≡ 0 }
+            → TablesOf policy names self.now → source < length names → (t b : ℕ) → t < length names → b < 7
+            → has_bit (get_or result.now t 0) b
+            ≡ allowed policy (at names source) (at names t) (class_at b) (perm_at b) }
+        ensures no_source { self.now.count ≤ source → result.now ≡ [] }
     {
         let s = usize::from(source);
-        let t = usize::from(target);
-        if s >= self.count.get() || t >= self.count.get() {
-            return 0;
+        if s >= self.count.get() {
+            return &[];
         }
         if self.permissive.has(s) {
-            return EACH_PERM;
+            return &self.everything;
         }
-        self.written.byte(s, t)
+        self.written.row(s)
     }
 
     /// Returns whether a check of the permission on the two types is audited, by their numbers: no allow rule grants

@@ -2,7 +2,7 @@ use Rattle.std.proofs.Common.{◌<◌, ◌≤◌, length, ◌∙◌, arith}
 use Rattle.sm_engine.proofs.Results.{on_err}
 use Rattle.sm_questions.specs.Parts.{all_parts, part_lines}
 use Rattle.sm_questions.specs.declared.part.Part.TheVariants.{Lost}
-use Rattle.sm_questions.proofs.Buffering.{passes_more, stops_more_at, passes_list}
+use Rattle.sm_questions.proofs.Buffering.{passes_entry, stops_entry, passes_list}
 use Rattle.sm_questions.proofs.Anything.{any_list, any_step}
 use Rattle.sm_questions.proofs.Parting.{all_lines}
 use Rattle.sm_questions.proofs.comparing.put_parts.Goals as goal
@@ -11,7 +11,7 @@ pub returns-in_err-more-clause-stopped : goal.returns-in_err-more-clause-stopped
 returns-in_err-more-clause-stopped g c =
     let f = part_lines c.args.old.now c.args.new.now in
     let lt : c.loop-part.part-index < length all_parts = omega (arith, c.loop-part-test.true) in
-    on_err c.from_residual.result (rw (all_lines c.args.old.now c.args.new.now) (stops_more_at f all_parts
+    on_err c.from_residual.result (rw (all_lines c.args.old.now c.args.new.now) (stops_entry f all_parts
     c.loop-part.part-index Lost lt c.loop-part.invariant.so_far c.in_err-more.ensures.stopped))
 
 pub loop-part-preserved : goal.loop-part-preserved
@@ -19,7 +19,7 @@ loop-part-preserved g c =
     let f = part_lines c.args.old.now c.args.new.now in
     let lt : c.loop-part.part-index < length all_parts = omega (arith, c.loop-part-test.true) in
     record {
-      so_far = passes_more f all_parts c.loop-part.part-index Lost lt c.loop-part.invariant.so_far
+      so_far = passes_entry f all_parts c.loop-part.part-index Lost lt c.loop-part.invariant.so_far
           c.in_ok-more.ensures.ok;
       any = any_step f all_parts c.loop-part.part-index Lost lt c.loop-part.invariant.any c.in_ok-more.ensures.any
           c.either-any.ensures;

@@ -1,9 +1,7 @@
-use Rattle.std.proofs.Common.{◌<◌, refl, arith}
-use Rattle.std.proofs.lemmas.List.{append-nil}
+use Rattle.std.proofs.Common.{◌<◌, arith}
 use Rattle.sm_types.specs.Names.{at}
 use Rattle.sm_types.specs.Denoting.{types}
 use Rattle.sm_questions.specs.Differences.{lost_perm}
-use Rattle.sm_questions.proofs.Granted.{none_lost, same_lost}
 use Rattle.sm_questions.proofs.Permissions.{held_perm}
 use Rattle.sm_questions.proofs.lost.push_pair.Goals as goal
 
@@ -13,21 +11,3 @@ loop-bit-preserved c =
     let f = lost_perm c.args.sign c.args.one.now c.args.other.now (at names c.args.source) (at names c.args.target) in
     let lt : c.loop-bit.bit < 7 = omega arith in
     held_perm f c.loop-bit.bit c.args.held.now.items lt c.loop-bit.invariant c.in_ok-push_perm.ensures
-
-pub returns-then-granted-eq0 : goal.returns-then-granted-eq0
-returns-then-granted-eq0 c =
-    let names = types c.args.one.now.statements in
-    rw (
-      none_lost c.args.sign c.args.one.now c.args.other.now c.granted.result (at names c.args.source)
-          (at names c.args.target) c.if-granted-eq0.true c.granted.ensures,
-      append-nil c.args.held.now.items,
-    ) refl
-
-pub returns-then-are_equal : goal.returns-then-are_equal
-returns-then-are_equal c =
-    let names = types c.args.one.now.statements in
-    rw (
-      same_lost c.args.sign c.args.one.now c.args.other.now (at names c.args.source) (at names c.args.target)
-          (c.are_equal.ensures c.if-are_equal.true),
-      append-nil c.args.held.now.items,
-    ) refl
