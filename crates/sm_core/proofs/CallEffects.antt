@@ -153,7 +153,7 @@ call_plan m d c handle n payload refs named plan at s live are room fits sends =
     record {
       records = sends.records;
       outcome = sends.outcome ∙ ap (λ (v : Delivery). Sent v) is;
-      told = sends.told;
+      reply_outcome = sends.reply_outcome;
       effects = ap (followed d) sends.effects ∙ followed_gives d k ns (Delivers k x)
           ∙ ap (λ (e : Effects). Delivers k x ∷ e) (sym (handed_are d c k refs named s live are).1)
           ∙ ap (λ (v : Delivery). Delivers k v ∷ handed_refs d c k refs) is

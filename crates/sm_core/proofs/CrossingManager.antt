@@ -15,7 +15,7 @@ use Rattle.sm_history.specs.contracts.by.By as By
 use Rattle.sm_history.specs.contracts.event.Event as Event
 use Rattle.sm_history.specs.contracts.entry.Entry as Entry
 use Rattle.sm_history.proofs.outcome.Outcome.TheSendSync as Outcome
-use Rattle.sm_names.proofs.names.Names.TheSendSync as Names
+use Rattle.sm_names.proofs.names.NameTable.TheSendSync as NameTable
 use Rattle.sm_grants.proofs.grants.Grants.TheSendSync as Grants
 use Rattle.sm_inbox.proofs.inboxes.Inboxes.TheSendSync as Inboxes
 use Rattle.sm_audit.proofs.ring.Ring.TheSendSync as Ring
@@ -166,7 +166,7 @@ principals_send =
 state_send : IsSend State.the_field.row
 state_send =
     struct_send (struct.shape State.the_type)
-    (principals_send, (u64_send, (Names.the_field_send, (Grants.the_field_send, (Inboxes.the_field_send, tt)))))
+    (principals_send, (u64_send, (NameTable.the_field_send, (Grants.the_field_send, (Inboxes.the_field_send, tt)))))
 
 pub manager_send : IsSend Manager.the_row
 manager_send =

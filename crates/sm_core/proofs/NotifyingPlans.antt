@@ -51,7 +51,7 @@ told_plan : (m : Moment) (d : Effects) (c : ℕ) (event : Event) (plan : Plan) (
 told_plan m d c event plan after records t outcome is sound = record {
   records = records;
   outcome = outcome;
-  told = t.told;
+  reply_outcome = t.reply_outcome;
   effects = t.effects ∙ is;
   may = t.may;
   last = last_of_none plan.effects t.none_dies;
@@ -138,8 +138,8 @@ watch_judged h old new c name object s w v xs r pass is told made items done =
 pub watch_alone : (m : Moment) (d : Effects) (c : ℕ) (name : List ℕ) (object : ℕ) (v : Watch) (plan : Plan)
     → plan.records ≡ [] → None ≡ service_at d name → v ≡ watch c name object → is_live d c ≡ true
     → nat_lt (length (watches_at d)) MOST_WATCHES ≡ true → plan.effects ≡ Watches v ∷ []
-    → plan.outcome ≡ Watched None → plan.told ≡ plan.outcome → IsPlan m d c (WatchName name object) plan
-watch_alone m d c name object v plan none is made live few items outcome told =
+    → plan.outcome ≡ Watched None → plan.reply_outcome ≡ plan.outcome → IsPlan m d c (WatchName name object) plan
+watch_alone m d c name object v plan none is made live few items outcome reply_outcome =
     one_plan m d c (WatchName name object) plan (Watches v) (none ∙ rw (← is) refl) items
     (ap (λ (u : Watch). let e : Effects = Watches u ∷ d in e) made ∙ rw (← is) refl)
-    (subst (λ (u : Watch). is_live d u.client ≡ true) (sym made) live, few) (outcome ∙ rw (← is) refl) told tt
+    (subst (λ (u : Watch). is_live d u.client ≡ true) (sym made) live, few) (outcome ∙ rw (← is) refl) reply_outcome tt

@@ -17,7 +17,7 @@ use Rattle.sm_history.proofs.Balanced.{node_same}
 use Rattle.sm_history.proofs.Grants.{held_gives}
 use Rattle.sm_core.specs.declared.state.State.{State}
 use Rattle.sm_grants.specs.Rows.{spare_for}
-use Rattle.sm_names.specs.declared.names.Names.{Names}
+use Rattle.sm_names.specs.declared.names.NameTable.{NameTable}
 use Rattle.sm_names.specs.Tracking.{HasRoom as HasNameRoom}
 use Rattle.sm_core.specs.Stands.{gives_to, HasRoom}
 use Rattle.sm_core.proofs.Numbers.{sets_first, connects_first}
@@ -113,7 +113,7 @@ gives_spare c n r spare room =
     let le = room (ap (λ b. b || false) e) in
     omega (arith, le)
 
-pub fewer_names : (n m : ℕ) (t : Names) → m ≤ n → HasNameRoom n t → HasNameRoom m t
+pub fewer_names : (n m : ℕ) (t : NameTable) → m ≤ n → HasNameRoom n t → HasNameRoom m t
 fewer_names n m t le r = record {
   services = let a = r.services in omega (arith, a, le);
   watches = let a = r.watches in omega (arith, a, le);
@@ -132,7 +132,7 @@ room_one x rest s r =
     }
 
 -- Room for one effect less, where only names changed.
-pub room_left : (x : Effect) (rest : List Effect) (s : State) (t : Names)
+pub room_left : (x : Effect) (rest : List Effect) (s : State) (t : NameTable)
     → (HasNameRoom (length rest + 1) s.names → HasNameRoom (length rest) t) → HasRoom (x ∷ rest) s
     → HasRoom rest (record s { names = t })
 room_left x rest s t left r = record {

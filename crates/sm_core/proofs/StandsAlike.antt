@@ -20,7 +20,7 @@ use Rattle.sm_grants.specs.Slots.{node_of}
 use Rattle.sm_grants.specs.Tracking.{TracksSlots}
 use Rattle.sm_grants.specs.Rows.{TracksRows, slots_of}
 use Rattle.sm_grants.specs.declared.rows.ClientHandles.{ClientHandles}
-use Rattle.sm_names.specs.declared.names.Names.{Names}
+use Rattle.sm_names.specs.declared.names.NameTable.{NameTable}
 use Rattle.sm_history.specs.declared.named_row.NamedRow.{NamedRow}
 use Rattle.sm_names.specs.Rows.{TracksRows as TracksServices}
 use Rattle.sm_names.specs.Tracking.{TracksNames}
@@ -69,7 +69,7 @@ services_alike d e rows a tr = record {
   rises = tr.rises;
 }
 
-names_alike : (d e : Effects) (t : Names) → Agree d e → TracksNames d t → TracksNames e t
+names_alike : (d e : Effects) (t : NameTable) → Agree d e → TracksNames d t → TracksNames e t
 names_alike d e t a tr = record {
   services = services_alike d e t.services.rows.items a tr.services;
   watches = record {

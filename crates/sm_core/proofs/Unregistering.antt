@@ -49,7 +49,7 @@ removing_is m old new d c name obj object pass is = ap (removal_checks d c name)
 
 pub removal_plan : (m : Moment) (d : Effects) (c : ℕ) (name copy : List ℕ) (obj : ObjRef) (plan : Plan)
     → plan.records ≡ [] → copy ≡ name → plan.effects ≡ Removes copy ∷ [] → plan.outcome ≡ Unregistered
-    → plan.told ≡ plan.outcome → IsPlan m d c (Unregister name obj) plan
-removal_plan m d c name copy obj plan none same items outcome told =
+    → plan.reply_outcome ≡ plan.outcome → IsPlan m d c (Unregister name obj) plan
+removal_plan m d c name copy obj plan none same items outcome reply_outcome =
     one_plan m d c (Unregister name obj) plan (Removes copy) none items (ap (λ (v : List ℕ). Removes v ∷ d) same) tt
-    outcome told tt
+    outcome reply_outcome tt

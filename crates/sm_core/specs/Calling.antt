@@ -57,7 +57,7 @@ pub record Sends (d : Effects) (c : ℕ) (n : Node) (payload : List ℕ) (named 
     : Type 0 where
   pub records : plan.records ≡ []
   pub outcome : plan.outcome ≡ Sent (sent d c n payload named)
-  pub told : plan.told ≡ plan.outcome
+  pub reply_outcome : plan.reply_outcome ≡ plan.outcome
   pub effects : plan.effects
       ≡ gives_of n.owner.0 (others n.owner.0 named) (numbers_for d n.owner.0 (others n.owner.0 named))
       ++ Delivers n.owner.0 (sent d c n payload named) ∷ []

@@ -97,7 +97,7 @@ pub record MayPrecede (d : Effects) (n : Node) (xs : List Effect) : Type 0 where
 
 -- This is a plan of notices, apart from its outcome.
 pub record Tells (d after : Effects) (plan : Plan) : Type 0 where
-  pub told : plan.told ≡ plan.outcome
+  pub reply_outcome : plan.reply_outcome ≡ plan.outcome
   pub effects : followed d plan.effects ≡ after
   pub may : MayAllApart d plan.effects
   pub none_dies : list_any is_death plan.effects ≡ false

@@ -5,13 +5,13 @@ use Rattle.sm_history.specs.declared.failed_check.FailedCheck.TheVariants.{Unmet
 use Rattle.sm_history.specs.declared.failed_check.EarlyAnswer.{EarlyAnswer}
 use Rattle.sm_history.specs.declared.failed_check.EarlyAnswer.TheVariants as answered
 use Rattle.sm_history.specs.declared.refusal.Refusal.TheVariants as refused
-use Rattle.sm_core.specs.declared.small_failed_check.Plain.{Plain}
-use Rattle.sm_core.specs.declared.small_failed_check.Plain.TheVariants as plain
-use Rattle.sm_core.specs.declared.small_failed_check.Stored.{Stored}
-use Rattle.sm_core.specs.declared.small_failed_check.Stored.TheVariants as held
+use Rattle.sm_core.specs.declared.small_failed_check.ShortAnswer.{ShortAnswer}
+use Rattle.sm_core.specs.declared.small_failed_check.ShortAnswer.TheVariants as plain
+use Rattle.sm_core.specs.declared.small_failed_check.Storage.{Storage}
+use Rattle.sm_core.specs.declared.small_failed_check.Storage.TheVariants as held
 
 -- This is the answer for a failed condition without texts.
-abbrev pub early_answer : Plain → EarlyAnswer
+abbrev pub early_answer : ShortAnswer → EarlyAnswer
 early_answer plain.GotNull = answered.GotNull
 early_answer (plain.GotOwn object) = answered.GotOwn object
 early_answer (plain.Exception exception) = answered.Refused (refused.Exception exception)
@@ -24,6 +24,6 @@ early_answer plain.JournalFull = answered.Refused refused.JournalFull
 early_answer plain.Memory = answered.Refused refused.Memory
 
 -- This is the failed check that is stored.
-abbrev pub stored_check : Stored → FailedCheck
-stored_check (held.Plain p) = Unmet (early_answer p)
-stored_check (held.Whole s) = box_value s
+abbrev pub stored_check : Storage → FailedCheck
+stored_check (held.Inline p) = Unmet (early_answer p)
+stored_check (held.Boxed s) = box_value s

@@ -19,7 +19,7 @@ use sm_grants::Grants;
 use sm_history::{BoxedDelivery, Effect, MOST_WATCHES, WatchPair};
 use sm_inbox::Inboxes;
 use sm_kinds::Node;
-use sm_names::Names;
+use sm_names::NameTable;
 use std::alloc::AllocError;
 
 /// Grants an object once more, which has this number.
@@ -67,7 +67,7 @@ pub fn take_oldest(inboxes: &mut Inboxes, client: u32)
 }
 
 /// Adds a watch of a name.
-pub fn watch(names: &mut Names, made: WatchPair)
+pub fn watch(names: &mut NameTable, made: WatchPair)
     requires { HasRoom 1 names.old }
     ensures tracks { (d : Effects) → TracksNames d names.old → is_live d made.client ≡ true
         → nat_lt (length (watches_at d)) MOST_WATCHES ≡ true → TracksNames (Watches made ∷ d) names.new }

@@ -54,7 +54,7 @@ fn guessed(rows: &[InboxRoom], client: u32) -> Option<usize>
 }
 
 /// Returns the index of a client's row.
-fn place_of(rows: &[InboxRoom], newest: u32, client: u32) -> Option<usize>
+fn room_index(rows: &[InboxRoom], newest: u32, client: u32) -> Option<usize>
     requires once { AreOnce rows.now }
     requires newer { AreUpTo newest rows.now }
     ensures { MatchOption result (find (λ r. r.client == client) rows.now ≡ None)
@@ -84,7 +84,7 @@ impl InboxRooms {
     pub fn of(&self, client: u32) -> Option<usize>
         ensures { result ≡ left_of self.now.rows.items client }
     {
-        let i = place_of(&self.rows, self.newest, client)?;
+        let i = room_index(&self.rows, self.newest, client)?;
         Some(self.rows[i].left)
     }
 
@@ -94,7 +94,7 @@ impl InboxRooms {
             ≡ cond (nat_eq client c) (Some left) (left_of self.old.rows.items c)) }
     {
         let row = InboxRoom { client, left };
-        match place_of(&self.rows, self.newest, client) {
+        match room_index(&self.rows, self.newest, client) {
             Some(i) => self.rows[i] = row,
             None => {
                 self.rows.push(row)?;

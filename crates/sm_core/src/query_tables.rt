@@ -20,7 +20,7 @@ use crate::journal::Journal;
 use crate::manager::replying::{answer, is_memory};
 use crate::notes::Notes;
 use crate::principals::Principals;
-use crate::small_failed_check::{Plain, SmallFailedCheck};
+use crate::small_failed_check::{ShortAnswer, SmallFailedCheck};
 use sm_history::{Answer, BoxedNames, By, Entry, Failure, Query, Record, Reply};
 use sm_kinds::{Class, Perms};
 use sm_names::Services;
@@ -114,10 +114,10 @@ impl<'a> QueryTables<'a> {
         ensures asker { takes_memory query.now ≡ false → IfErr result IsAskerStop }
     {
         if !may_ask(by, query) {
-            return Err(SmallFailedCheck::unmet(Plain::Failed(Failure::NotYours)));
+            return Err(SmallFailedCheck::unmet(ShortAnswer::Failed(Failure::NotYours)));
         }
         let Some(caller) = self.principals.caller(by) else {
-            return Err(SmallFailedCheck::unmet(Plain::Failed(Failure::NotConnected)));
+            return Err(SmallFailedCheck::unmet(ShortAnswer::Failed(Failure::NotConnected)));
         };
         match query {
             Query::List(mask) => match caller {

@@ -11,7 +11,7 @@ use std::marker::Model;
 
 /// The answer to a condition that failed, where it has no texts: `EarlyAnswer` without its denials.
 #[derive(Clone, Copy, PartialEq, Eq)]
-pub enum Plain {
+pub enum ShortAnswer {
     /// A Get found nothing.
     GotNull,
     /// A Get found an object of the caller's own; has the caller's number for it.
@@ -36,24 +36,22 @@ pub enum Plain {
 
 /// How a failed check is stored.
 #[derive(Drop)]
-pub enum Stored {
-    /// Inline.
-    Plain(Plain),
-    /// Boxed.
-    Whole(Box<FailedCheck>),
+pub enum Storage {
+    Inline(ShortAnswer),
+    Boxed(Box<FailedCheck>),
 }
 
 /// Returns the failed check for a failed allocation.
 pub fn out_of_memory() -> SmallFailedCheck
     ensures { result ≡ spec.out_of_memory }
 {
-    SmallFailedCheck::unmet(Plain::Memory)
+    SmallFailedCheck::unmet(ShortAnswer::Memory)
 }
 
 /// Why a request makes no change. Contracts see the failed check. Each judgement passes it on, so it is small: only a
 /// failed check with texts is boxed.
 pub struct SmallFailedCheck {
-    held: Stored,
+    held: Storage,
 }
 
 impl Model for SmallFailedCheck {
@@ -96,11 +94,11 @@ impl<T: Drop> From<AllocFailed<T>> for SmallFailedCheck {
 impl SmallFailedCheck {
     /// Makes a failed check without texts.
     #[inline]
-    pub fn unmet(plain: Plain) -> SmallFailedCheck
+    pub fn unmet(plain: ShortAnswer) -> SmallFailedCheck
         ensures { result ≡ Unmet (early_answer plain) }
     {
         SmallFailedCheck {
-            held: Stored::Plain(plain),
+            held: Storage::Inline(plain),
         }
     }
 
@@ -108,19 +106,19 @@ impl SmallFailedCheck {
     pub fn whole(alloc: Global, stop: FailedCheck) -> Result<SmallFailedCheck, AllocError>
         ensures { IfOk result (λ s. s ≡ stop) }
     {
-        let held = Stored::Whole(Box::new(alloc, stop)?);
+        let held = Storage::Boxed(Box::new(alloc, stop)?);
         Ok(SmallFailedCheck { held })
     }
 
     /// Returns how the failed check is stored.
-    pub fn held(&self) -> &Stored
+    pub fn held(&self) -> &Storage
         ensures { stored_check result.now ≡ self.now }
     {
         &self.held
     }
 
     /// Returns how the failed check is stored.
-    pub fn into_stored(self) -> Stored
+    pub fn into_stored(self) -> Storage
         ensures { stored_check result ≡ self }
     {
         let SmallFailedCheck { held } = self;

@@ -14,7 +14,7 @@ use crate::counted::Counted;
 use crate::fault::Fault;
 use crate::machine::Machine;
 use crate::writing::write_whole;
-use sm_wire::{FeedError, Kind, Lines};
+use sm_wire::{FeedError, Kind, LineReader};
 use std::alloc::Global;
 use std::io::{Read, Write};
 
@@ -52,7 +52,7 @@ pub fn run<M: Machine, R: Read, W: Write, A: Write>(
     ensures write_told { failures_of writer.old + failures_of audit.old < failures_of writer.new + failures_of audit.new
         → result ≡ Err Fault.WriteFault }
 {
-    let mut lines = Lines::new(alloc, kind);
+    let mut lines = LineReader::new(alloc, kind);
     let mut buffers = Buffers::new(alloc);
     let mut buffer = [0u8; PIECE];
     for reads in 0..bound {
@@ -100,7 +100,7 @@ fn read_piece<R: Read>(reader: &mut Counted<R>, buffer: &mut [u8]) -> Result<usi
 
 fn take_piece<M: Machine, W: Write, A: Write>(
     machine: &mut M,
-    lines: &mut Lines,
+    lines: &mut LineReader,
     piece: &[u8],
     buffers: &mut Buffers,
     writer: &mut Counted<W>,
@@ -133,7 +133,7 @@ fn take_piece<M: Machine, W: Write, A: Write>(
 }
 
 // Reports the end of the input inside a line or a file.
-fn write_ending<W: Write>(lines: &Lines, writer: &mut Counted<W>) -> Result<(), Fault>
+fn write_ending<W: Write>(lines: &LineReader, writer: &mut Counted<W>) -> Result<(), Fault>
     requires { failures_of writer.old < greatest_count }
     ensures ok { OnOk result
         (Appends (W.contents (inner_of writer.old)) (W.contents (inner_of writer.new)) (ending_of lines.now)) }

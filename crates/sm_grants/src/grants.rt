@@ -18,7 +18,7 @@ ghost use Rattle.sm_grants.specs.Several.{after_grants, numbers_for, new_among, 
 ghost use Rattle.sm_grants.specs.Holders.{holders_at};
 
 use crate::handles::Handles;
-use crate::place::place_of;
+use crate::place::node_index;
 use crate::rows::{ClientHandles, handles_of, holders_in, place_for, row_of};
 use sm_history::{Held, MOST_HANDLES};
 use sm_kinds::{ClientId, Node, ObjRef};
@@ -293,7 +293,7 @@ impl Grants {
         if let Some(i) = self.index_of(client, node) {
             return (i + 1, behind);
         }
-        if let Some(i) = place_of(earlier, node) {
+        if let Some(i) = node_index(earlier, node) {
             return (numbers[i], behind);
         }
         let free = self.free_from(client, behind);
@@ -318,7 +318,7 @@ impl Grants {
         ensures { result
             ≡ not (is_in (slots_of self.now.rows.items client) node || list_any (λ n. same_node n node) earlier.now) }
     {
-        !self.holds(client, node) && place_of(earlier, node).is_none()
+        !self.holds(client, node) && node_index(earlier, node).is_none()
     }
 
     /// Returns the slot of an object that a client holds.

@@ -6,7 +6,7 @@ ghost use Rattle.sm_history.specs.Effects.{same_node};
 use sm_kinds::Node;
 
 /// Returns the index of an object in a list.
-pub fn place_of(nodes: &[Node], node: Node) -> Option<usize>
+pub fn node_index(nodes: &[Node], node: Node) -> Option<usize>
     ensures { result ≡ position (λ n. same_node n node) nodes.now }
 {
     nodes

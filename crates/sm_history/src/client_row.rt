@@ -91,7 +91,7 @@ fn first_of(rows: &[ClientRow], client: u32) -> Option<usize>
 }
 
 /// Returns the index of a client's row.
-pub fn place_of(rows: &[ClientRow], client: u32) -> Option<usize>
+pub fn client_index(rows: &[ClientRow], client: u32) -> Option<usize>
     ensures { MatchOption result (client_row_of rows.now client ≡ None) (IsPlace (λ r. r.client) rows.now client) }
 {
     first_of(rows, client)

@@ -18,7 +18,7 @@ ghost use Rattle.sm_history.specs.Sound.{Sound};
 ghost use Rattle.sm_history.specs.Tables.{TracksTables};
 ghost use Rattle.sm_history.specs.Entering.{AllFit, IsDone, given_of};
 
-use crate::client_row::{held_under, place_of};
+use crate::client_row::{client_index, held_under};
 use crate::delivery::{Delivery, Given, Message};
 use crate::event::Event;
 use crate::named_row::service_in;
@@ -66,7 +66,7 @@ impl Tables {
         ensures { (d : Effects) → TracksTables d self.now → is_live d client ≡ true
             → result ≡ node_at d client number }
     {
-        let i = place_of(&self.live, client)?;
+        let i = client_index(&self.live, client)?;
         let held = held_under(&self.live[i].held, number)?;
         Some(held.node)
     }

@@ -10,7 +10,7 @@ ghost use Rattle.sm_history.specs.Sound.{Sound};
 ghost use Rattle.sm_history.specs.Following.{MayFollow, MayGive};
 ghost use Rattle.sm_history.specs.Tables.{TracksClients};
 
-use crate::client_row::{ClientRow, give, place_of, release};
+use crate::client_row::{ClientRow, client_index, give, release};
 use crate::delivery::BoxedDelivery;
 use sm_kinds::{Identity, Node};
 use std::alloc::{AllocError, Global};
@@ -52,7 +52,7 @@ pub fn give_to(
     ensures { OnOk result ((d : Effects) → Sound d → TracksClients d live.old.items
         → MayGive d client node number → TracksClients (Gives client node number ∷ d) live.new.items) }
 {
-    let Some(i) = place_of(live, client) else {
+    let Some(i) = client_index(live, client) else {
         return Ok(());
     };
     give(&mut live[i], node, number)?;
@@ -65,7 +65,7 @@ pub fn release_of(live: &mut Vec<ClientRow>, client: u32, number: u32) -> Result
         → node_at d client number ≡ Some n → MayFollow d (Releases client n)
         → TracksClients (Releases client n ∷ d) live.new.items) }
 {
-    let Some(i) = place_of(live, client) else {
+    let Some(i) = client_index(live, client) else {
         return Ok(());
     };
     release(&mut live[i], number)?;
@@ -81,7 +81,7 @@ pub fn deliver_to(
     ensures { OnOk result ((d : Effects) → Sound d → TracksClients d live.old.items
         → is_live d client ≡ true → TracksClients (Delivers client delivery ∷ d) live.new.items) }
 {
-    let Some(i) = place_of(live, client) else {
+    let Some(i) = client_index(live, client) else {
         return Ok(());
     };
     live[i].waiting.push(delivery)?;
@@ -93,7 +93,7 @@ pub fn take_from(live: &mut Vec<ClientRow>, client: u32)
     ensures { (d : Effects) → TracksClients d live.old.items → is_live d client ≡ true
         → TracksClients (Takes client ∷ d) live.new.items }
 {
-    let Some(i) = place_of(live, client) else {
+    let Some(i) = client_index(live, client) else {
         return;
     };
     take_first(&mut live[i].waiting);

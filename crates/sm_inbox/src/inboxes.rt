@@ -10,7 +10,7 @@ ghost use Rattle.sm_history.specs.Inboxes.{inbox_at, has_inbox_room};
 ghost use Rattle.sm_inbox.specs.Rows.{AreOnce};
 
 use crate::inbox::Inbox;
-use crate::places::place_of;
+use crate::places::inbox_index;
 use sm_history::{BoxedDelivery, MOST_DELIVERIES};
 use std::alloc::{AllocError, Global};
 use std::collections::VecDeque;
@@ -71,7 +71,7 @@ impl Inboxes {
         ensures err { OnErr result (room_of self.new client ≡ room_of self.old client) }
         ensures others { (k : ℕ) → (client == k) ≡ false → room_of self.new k ≡ room_of self.old k }
     {
-        if place_of(&self.rows, client).is_some() {
+        if inbox_index(&self.rows, client).is_some() {
             return Ok(());
         }
         self.rows.reserve(1)?;
@@ -84,7 +84,7 @@ impl Inboxes {
     pub fn listed(&self, alloc: Global, client: u32) -> Result<Vec<BoxedDelivery>, AllocError>
         ensures { IfOk result (λ v. (d : Effects) → TracksInboxes d self.now → v.items ≡ inbox_at d client) }
     {
-        match place_of(&self.rows, client) {
+        match inbox_index(&self.rows, client) {
             Some(i) => copies_of(alloc, &self.rows[i].waiting),
             None => Ok(Vec::new(alloc)),
         }
@@ -94,7 +94,7 @@ impl Inboxes {
     fn waiting(&self, client: u32) -> usize
         ensures { result ≡ length (deliveries_of self.now client) }
     {
-        match place_of(&self.rows, client) {
+        match inbox_index(&self.rows, client) {
             Some(i) => self.rows[i].waiting.len(),
             None => 0,
         }
@@ -120,7 +120,7 @@ impl Inboxes {
     pub fn can_put(&self, client: u32) -> bool
         ensures { IsTrue result ↔ (0 < room_of self.now client) }
     {
-        match place_of(&self.rows, client) {
+        match inbox_index(&self.rows, client) {
             Some(i) => self.rows[i].waiting.len() < MOST_DELIVERIES,
             None => false,
         }
@@ -135,7 +135,7 @@ impl Inboxes {
         ensures room { room_of self.new client + 1 ≡ room_of self.old client }
         ensures others { (k : ℕ) → (client == k) ≡ false → room_of self.new k ≡ room_of self.old k }
     {
-        let Some(i) = place_of(&self.rows, client) else {
+        let Some(i) = inbox_index(&self.rows, client) else {
             unreachable!();
         };
         let row = &mut self.rows[i];
@@ -147,7 +147,7 @@ impl Inboxes {
         ensures { (d : Effects) → TracksInboxes d self.now → MatchOption result (inbox_at d client ≡ [])
             (λ x. inbox_at d client ≡ x.now ∷ drop 1 (inbox_at d client)) }
     {
-        let i = place_of(&self.rows, client)?;
+        let i = inbox_index(&self.rows, client)?;
         self.rows[i].waiting.front()
     }
 
@@ -159,7 +159,7 @@ impl Inboxes {
         ensures still { (k : ℕ) → is_open self.new k ≡ is_open self.old k }
         ensures room { (k : ℕ) → room_of self.old k ≤ room_of self.new k }
     {
-        let i = place_of(&self.rows, client)?;
+        let i = inbox_index(&self.rows, client)?;
         let row = &mut self.rows[i];
         row.waiting.pop_front()
     }

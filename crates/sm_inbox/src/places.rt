@@ -29,7 +29,7 @@ fn guessed(rows: &[Inbox], client: u32) -> Option<usize>
 }
 
 /// Returns the index of a client's inbox.
-pub fn place_of(rows: &[Inbox], client: u32) -> Option<usize>
+pub fn inbox_index(rows: &[Inbox], client: u32) -> Option<usize>
     requires { AreOnce rows.now }
     ensures { MatchOption result (inbox_of rows.now client ≡ None) (IsPlace (λ r. r.client) rows.now client) }
 {

@@ -14,7 +14,7 @@ use Rattle.sm_history.proofs.Sound.{is_new}
 use Rattle.sm_history.proofs.AfterNames.{service_connects}
 use Rattle.sm_history.proofs.AfterWatches.{watches_connects}
 use Rattle.sm_history.specs.declared.named_row.NamedRow.{NamedRow}
-use Rattle.sm_names.specs.declared.names.Names.{Names}
+use Rattle.sm_names.specs.declared.names.NameTable.{NameTable}
 use Rattle.sm_names.specs.Rows.{TracksRows}
 use Rattle.sm_names.specs.Watching.{TracksList}
 use Rattle.sm_names.specs.Tracking.{TracksNames}
@@ -41,7 +41,7 @@ same_list x d ws same tr = record {
   ordered = tr.ordered;
 }
 
-tracks_same : (x : Effect) (d : Effects) (t : Names)
+tracks_same : (x : Effect) (d : Effects) (t : NameTable)
     → ((name : List ℕ) → service_at (x ∷ d) name ≡ service_at d name) → watches_at (x ∷ d) ≡ watches_at d
     → TracksNames d t → TracksNames (x ∷ d) t
 tracks_same x d t services watches tr = record {
@@ -50,7 +50,7 @@ tracks_same x d t services watches tr = record {
   order = tr.order ∙ sym watches;
 }
 
-pub tracks_other : (x : Effect) (d : Effects) (t : Names) → is_heard x ≡ false → TracksNames d t → TracksNames (x ∷ d) t
+pub tracks_other : (x : Effect) (d : Effects) (t : NameTable) → is_heard x ≡ false → TracksNames d t → TracksNames (x ∷ d) t
 tracks_other (Connects c who) d t h tr = absurd (true≢false h)
 tracks_other (Dies c) d t h tr = absurd (true≢false h)
 tracks_other (Adds name s) d t h tr = absurd (true≢false h)
@@ -60,7 +60,7 @@ tracks_other (Unwatches w) d t h tr = absurd (true≢false h)
 tracks_other x d t h tr = tracks_same x d t (λ name. refl) refl tr
 
 -- The next client connects: no effect named it before, and it owns no service.
-pub tracks_connects : (d : Effects) (c : ℕ) (who : Identity) (t : Names) → c ≡ next_client d → IsFresh d → IsOwned d
+pub tracks_connects : (d : Effects) (c : ℕ) (who : Identity) (t : NameTable) → c ≡ next_client d → IsFresh d → IsOwned d
     → TracksNames d t → TracksNames (Connects c who ∷ d) t
 tracks_connects d c who t is fresh owned tr =
     tracks_same (Connects c who) d t (λ name. service_connects d c who name is owned)

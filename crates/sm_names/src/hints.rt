@@ -46,7 +46,7 @@ impl Hints {
 
     /// Returns the index of a name's row, if the hint in a slot leads there.
     #[inline(always)]
-    pub fn place_of(&self, slot: usize, rows: &[NamedRow], name: &[u8]) -> Option<usize>
+    pub fn hinted_index(&self, slot: usize, rows: &[NamedRow], name: &[u8]) -> Option<usize>
         ensures { IfSome result
             (λ i. (i < length rows.now) × ((r : TheRow) → (slice_index_or rows.now i r).name ≡ name.now)) }
     {

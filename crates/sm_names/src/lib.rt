@@ -12,5 +12,5 @@ mod watch_list;
 mod watch_order;
 mod words;
 
-pub use names::Names;
+pub use names::NameTable;
 pub use services::Services;

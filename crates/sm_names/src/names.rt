@@ -20,15 +20,15 @@ use sm_kinds::Name;
 use std::alloc::{AllocError, Global};
 
 /// The table of services under their names, and of watches.
-pub struct Names {
+pub struct NameTable {
     services: Services,
     watches: WatchList,
     order: WatchOrder,
 }
 
-impl Drop for Names {
+impl Drop for NameTable {
     fn drop(self) {
-        let Names {
+        let NameTable {
             services: _,
             watches: _,
             order: _,
@@ -36,12 +36,12 @@ impl Drop for Names {
     }
 }
 
-impl Names {
+impl NameTable {
     /// Makes an empty table.
-    pub fn new(alloc: Global) -> Names
+    pub fn new(alloc: Global) -> NameTable
         ensures { TracksNames [] result }
     {
-        Names {
+        NameTable {
             services: Services::new(alloc),
             watches: WatchList::new(alloc),
             order: WatchOrder::new(alloc),

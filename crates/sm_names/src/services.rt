@@ -41,12 +41,12 @@ fn searched(rows: &[NamedRow], name: &[u8]) -> Result<usize, usize>
 
 /// As `searched`; the hint in the name's slot is tried first.
 #[inline(always)]
-fn place_of(rows: &[NamedRow], hints: &Hints, slot: usize, name: &[u8]) -> Result<usize, usize>
+fn service_index(rows: &[NamedRow], hints: &Hints, slot: usize, name: &[u8]) -> Result<usize, usize>
     ensures within { IsSearchInRange result (length rows.now) }
     ensures place { IsRising (names_of rows.now)
         → MatchResult result (IsNamePlace rows.now name.now) (IsNameGap rows.now name.now) }
 {
-    match hints.place_of(slot, rows, name) {
+    match hints.hinted_index(slot, rows, name) {
         Some(place) => Ok(place),
         None => searched(rows, name),
     }
@@ -140,7 +140,7 @@ impl Services {
             → result ≡ service_at d name.now }
     {
         let slot = self.hints.slot_of(name);
-        match place_of(&self.rows, &self.hints, slot, name) {
+        match service_index(&self.rows, &self.hints, slot, name) {
             Ok(i) => Some(self.rows[i].service),
             Err(_) => None,
         }
@@ -164,7 +164,7 @@ impl Services {
             × (length self.new.rows.items ≤ length self.old.rows.items + 1) }
     {
         let slot = self.hints.slot_of(name.bytes());
-        match place_of(&self.rows, &self.hints, slot, name.bytes()) {
+        match service_index(&self.rows, &self.hints, slot, name.bytes()) {
             Ok(i) => {
                 self.hints.set(slot, i);
                 self.rows[i].service = service;
@@ -188,7 +188,7 @@ impl Services {
             × (length self.new.rows.items ≤ length self.old.rows.items) }
     {
         let slot = self.hints.slot_of(name);
-        if let Ok(i) = place_of(&self.rows, &self.hints, slot, name) {
+        if let Ok(i) = service_index(&self.rows, &self.hints, slot, name) {
             self.hints.removed(i);
             let _ = self.rows.remove(i);
         }

@@ -8,7 +8,7 @@ use Rattle.sm_rules.specs.Access.{written, forbidden}
 use Rattle.sm_rules.specs.Keeping.{class_at, perm_at, covers, covered, Says, KeptRules, RulesOf}
 use Rattle.sm_rules.specs.declared.kept.Kept.{Kept}
 use Rattle.sm_neverallow.specs.Violating.{clashes, breaks, IsFirstAmong, IsFirstViolation}
-use Rattle.sm_neverallow.specs.declared.violation.Violation.{Violation}
+use Rattle.sm_neverallow.specs.declared.violation.NumberedViolation.{NumberedViolation}
 use Rattle.sm_neverallow.proofs.Searches.{any_at}
 use Rattle.sm_neverallow.proofs.Apart.{apart_from_each}
 use Rattle.sm_neverallow.proofs.Consistent.{AreSaid}
@@ -20,7 +20,7 @@ clash_is : (policy : Policy) (names : List Name) (b s t : ℕ) (allow never : �
 clash_is policy names b s t allow never a n hs ht low for_a for_n =
     rw (for_a.covers b s t low hs ht, for_n.covers b s t low hs ht) refl
 
-pub first_is_first : (policy : Policy) (names : List Name) (rules : KeptRules) (v : Violation)
+pub first_is_first : (policy : Policy) (names : List Name) (rules : KeptRules) (v : NumberedViolation)
     → RulesOf policy names rules → AreSaid policy names rules
     → IsFirstAmong rules.allows rules.neverallows rules.count v → IsFirstViolation policy names v
 first_is_first policy names rules v is said h =
@@ -72,7 +72,7 @@ first_is_first policy names rules v is said h =
     }
 
 -- What is violated is both written and forbidden.
-pub violation_is_both : (policy : Policy) (names : List Name) (rules : KeptRules) (v : Violation)
+pub violation_is_both : (policy : Policy) (names : List Name) (rules : KeptRules) (v : NumberedViolation)
     → RulesOf policy names rules
     → AreSaid policy names rules → IsFirstAmong rules.allows rules.neverallows rules.count v
     → (written policy (at names v.source) (at names v.target) v.class v.perm

@@ -7,7 +7,7 @@ use Rattle.sm_types.specs.Denoting.{Policy}
 use Rattle.sm_rules.specs.Access as access
 use Rattle.sm_rules.specs.Keeping.{joins, covers, covered, class_at, perm_at, rules_in}
 use Rattle.sm_rules.specs.declared.kept.Kept.{Kept}
-use Rattle.sm_neverallow.specs.declared.violation.Violation.{Violation}
+use Rattle.sm_neverallow.specs.declared.violation.NumberedViolation.{NumberedViolation}
 
 -- ---- by number: permission b, source s and target t
 
@@ -38,7 +38,7 @@ pub record AreApart (allow never : Kept) (count : ℕ) : Type 0 where
 
 -- The violation is the first thing that the two rules have in common: the least source, then the
 -- least target, then the lowest permission.
-pub record IsBetween (allow never : Kept) (count : ℕ) (v : Violation) : Type 0 where
+pub record IsBetween (allow never : Kept) (count : ℕ) (v : NumberedViolation) : Type 0 where
   pub never_line : v.never_line ≡ never.line
   pub allow_line : v.allow_line ≡ allow.line
   pub bit : ℕ
@@ -53,7 +53,7 @@ pub record IsBetween (allow never : Kept) (count : ℕ) (v : Violation) : Type 0
   pub no_lesser_perm : (b : ℕ) → b < bit → clashes b v.source v.target allow never ≡ false
 
 -- The violation is that of the first of these allow rules that has something in common with the neverallow rule.
-pub record IsFirstOf (allows : List Kept) (never : Kept) (count : ℕ) (v : Violation) : Type 0 where
+pub record IsFirstOf (allows : List Kept) (never : Kept) (count : ℕ) (v : NumberedViolation) : Type 0 where
   pub place : ℕ
   pub allow : Kept
   pub found : slice_get allows place ≡ Some allow
@@ -61,7 +61,7 @@ pub record IsFirstOf (allows : List Kept) (never : Kept) (count : ℕ) (v : Viol
   pub no_earlier : (i : ℕ) (other : Kept) → i < place → slice_get allows i ≡ Some other → AreApart other never count
 
 -- The same for the first of these neverallow rules that has something in common with an allow rule.
-pub record IsFirstAmong (allows neverallows : List Kept) (count : ℕ) (v : Violation) : Type 0 where
+pub record IsFirstAmong (allows neverallows : List Kept) (count : ℕ) (v : NumberedViolation) : Type 0 where
   pub place : ℕ
   pub never : Kept
   pub found : slice_get neverallows place ≡ Some never
@@ -84,7 +84,7 @@ breaks policy names b s t allow never =
 -- The first violation of the policy, whose types have these names: of the first neverallow rule that
 -- is broken, by the first allow rule that breaks it; then of the least source, the least target and the
 -- lowest permission. Types come in the order of their declaration, permissions in that of their bits.
-pub record IsFirstViolation (policy : Policy) (names : List Name) (v : Violation) : Type 0 where
+pub record IsFirstViolation (policy : Policy) (names : List Name) (v : NumberedViolation) : Type 0 where
   pub never_place : ℕ
   pub allow_place : ℕ
   pub never : ℕ × Rule

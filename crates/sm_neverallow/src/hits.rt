@@ -46,7 +46,7 @@ fn with_source(byte: u8, rule: &Kept, group: usize, bit: u32) -> u8
 }
 
 /// Which of the eight sources of a group a rule has, a bit for each.
-fn place_of(rule: &Kept, group: usize) -> u8
+fn place_in_group(rule: &Kept, group: usize) -> u8
     requires room { 8 * group + 8 ≤ 64 * length rule.now.sources }
     requires group { group < 1024 }
     ensures { IsPlaceOf result group rule.now }
@@ -69,7 +69,7 @@ fn is_group_hit(unions: &Unions, rule: &Kept, count: TypeCount, group: usize) ->
     ensures some { IsTrue result → UnionHits unions.now group rule.now }
 {
     let words = count.words();
-    let place = place_of(rule, group);
+    let place = place_in_group(rule, group);
     // The first union is empty.
     place != 0 && unions.meets(place as usize, &rule.targets, words)
 }

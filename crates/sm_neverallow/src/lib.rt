@@ -15,4 +15,4 @@ mod unions;
 mod violation;
 
 pub use matrices::Matrices;
-pub use violation::{Violation, first_violation};
+pub use violation::{NumberedViolation, first_violation};

@@ -26,7 +26,7 @@ use std::alloc::{AllocError, Global};
 
 /// The first tuple that a neverallow rule forbids and an allow rule allows.
 #[derive(Clone, Copy, PartialEq, Eq)]
-pub struct Violation {
+pub struct NumberedViolation {
     /// The line of the neverallow rule.
     pub never_line: u32,
     /// The line of the allow rule.
@@ -135,7 +135,7 @@ fn first_pair(a: &Kept, b: &Kept, count: TypeCount) -> Option<(u16, u16)>
 }
 
 /// Returns the first violation of a neverallow rule by an allow rule, if there is one.
-fn violation_between(allow: &Kept, never: &Kept, count: TypeCount) -> Option<Violation>
+fn violation_between(allow: &Kept, never: &Kept, count: TypeCount) -> Option<NumberedViolation>
     requires allow { FitsRule count allow.now }
     requires never { FitsRule count never.now }
     ensures none { IfNone result (AreApart allow.now never.now count) }
@@ -146,7 +146,7 @@ fn violation_between(allow: &Kept, never: &Kept, count: TypeCount) -> Option<Vio
         return None;
     }
     let (source, target) = first_pair(allow, never, count)?;
-    Some(Violation {
+    Some(NumberedViolation {
         never_line: never.line,
         allow_line: allow.line,
         source,
@@ -157,7 +157,7 @@ fn violation_between(allow: &Kept, never: &Kept, count: TypeCount) -> Option<Vio
 }
 
 /// Returns the first violation of a neverallow rule by the first allow rule that breaks it, if one does.
-fn first_of(allows: &[Kept], never: &Kept, count: TypeCount) -> Option<Violation>
+fn first_of(allows: &[Kept], never: &Kept, count: TypeCount) -> Option<NumberedViolation>
     requires allows { All (FitsRule count) allows.now }
     requires never { FitsRule count never.now }
     ensures none { IfNone result ((i : ℕ) (allow : TheKept) → slice_get allows.now i ≡ Some allow
@@ -251,7 +251,7 @@ fn first_among(
     allows: &[Kept],
     neverallows: &[Kept],
     count: TypeCount,
-) -> Result<Option<Violation>, AllocError>
+) -> Result<Option<NumberedViolation>, AllocError>
     requires compiled { AllCompiled allows.now count 7 matrices.now }
     requires allows { All (FitsRule count) allows.now }
     requires neverallows { All (FitsRule count) neverallows.now }
@@ -273,7 +273,7 @@ pub fn first_violation(
     alloc: Global,
     rules: &Rules,
     matrices: &Matrices,
-) -> Result<Option<Violation>, AllocError>
+) -> Result<Option<NumberedViolation>, AllocError>
     requires { AllCompiled rules.now.allows rules.now.count 7 matrices.now }
     ensures none { IfOk result
         (λ o. IfNone o ((policy : List TheStatement) (names : List (List ℕ))

@@ -37,16 +37,16 @@ impl From<AllocError> for FeedError {
 }
 
 /// Cuts a stream into items, in whatever pieces it comes.
-pub struct Lines {
+pub struct LineReader {
     kind: Kind,
     mode: FrameState,
     held: Vec<u8>,
     recent: RecentNames,
 }
 
-impl Drop for Lines {
+impl Drop for LineReader {
     fn drop(self) {
-        let Lines {
+        let LineReader {
             kind: _,
             mode: _,
             held: _,
@@ -55,7 +55,7 @@ impl Drop for Lines {
     }
 }
 
-impl Model for Lines {
+impl Model for LineReader {
     ghost use Rattle.sm_wire.specs.Items.{Scan};
 
     ghost Value = { Scan };
@@ -63,12 +63,12 @@ impl Model for Lines {
     ghost view = { λ l. record { kind = l.kind; mode = l.mode; held = l.held.items } };
 }
 
-impl Lines {
+impl LineReader {
     /// Makes a reader of a stream of this kind, before its first byte.
-    pub fn new(alloc: Global, kind: Kind) -> Lines
+    pub fn new(alloc: Global, kind: Kind) -> LineReader
         ensures { result ≡ scan_start kind }
     {
-        Lines {
+        LineReader {
             kind,
             mode: FrameState::Line,
             held: Vec::new(alloc),

@@ -94,7 +94,7 @@ impl RecentNames {
         ensures spelled { IfSome result (λ n. n.now ≡ bytes.now) }
         ensures graphic { IfSome result (λ n. IsTrue (list_all is_graphic bytes.now)) }
     {
-        let place = self.places.get(place_of(bytes))?;
+        let place = self.places.get(slot_of(bytes))?;
         if let Some(kept) = &place.last {
             if spells(kept.name.bytes(), bytes) {
                 return Some(&kept.name);
@@ -116,7 +116,7 @@ impl RecentNames {
             return Ok(());
         }
         self.make_places();
-        if let Some(place) = self.places.get_mut(place_of(name.bytes())) {
+        if let Some(place) = self.places.get_mut(slot_of(name.bytes())) {
             let name = name.clone()?;
             place.before = place.last.replace(Kept { name });
         }
@@ -141,7 +141,7 @@ impl RecentNames {
 }
 
 // Returns the place of a name, by its length and its last eight bytes.
-fn place_of(bytes: &[u8]) -> usize {
+fn slot_of(bytes: &[u8]) -> usize {
     let last = match bytes.last_chunk::<8>() {
         Some(last) => u64::from_be_bytes(*last),
         None => short_number(bytes),

@@ -21,7 +21,7 @@ use crate::effect_list::EffectList;
 use crate::manager::Manager;
 use crate::notes::Notes;
 use crate::plan::Plan;
-use crate::small_failed_check::{Plain, SmallFailedCheck};
+use crate::small_failed_check::{ShortAnswer, SmallFailedCheck};
 use sm_history::{BoxedDelivery, Delivery, Effect, Failure, Given, GivenRefs, Message, Outcome};
 use sm_kinds::{Identity, Node, ObjRef, Payload, Perms, Refs};
 use std::alloc::{AllocError, Global};
@@ -129,7 +129,7 @@ impl Manager {
         let named = self.judge_references(row, target.owner.0, refs.list(), notes)?;
         let nodes = foreign(self.alloc, target.owner.0, named.as_slice())?;
         if !self.has_room(target.owner.0, nodes.as_slice()) {
-            return Err(SmallFailedCheck::unmet(Plain::Failed(Failure::TargetFull)));
+            return Err(SmallFailedCheck::unmet(ShortAnswer::Failed(Failure::TargetFull)));
         }
         self.plan_call(row, target, payload, named.as_slice(), nodes.as_slice())
     }
@@ -151,10 +151,10 @@ impl Manager {
             (target_checks (effects_in self.now) row.now.id (node_at (effects_in self.now) row.now.id handle))) }
     {
         let Some(node) = self.resolved(row.id, ObjRef::Handle(handle)) else {
-            return Err(SmallFailedCheck::unmet(Plain::Failed(Failure::BadHandle)));
+            return Err(SmallFailedCheck::unmet(ShortAnswer::Failed(Failure::BadHandle)));
         };
         let Some(owner) = self.client_row(node.owner.0) else {
-            return Err(SmallFailedCheck::unmet(Plain::Dead));
+            return Err(SmallFailedCheck::unmet(ShortAnswer::Dead));
         };
         self.check_to_client(&row.process, &owner.process, Perms::CALL, notes)?;
         Ok(node)
@@ -226,7 +226,7 @@ impl Manager {
             (passing_checks (effects_in self.now) row.now.id receiver node)) }
     {
         if node.is_none() {
-            return Err(SmallFailedCheck::unmet(Plain::Failed(Failure::BadHandle)));
+            return Err(SmallFailedCheck::unmet(ShortAnswer::Failed(Failure::BadHandle)));
         }
         let Some(other) = self.client_row(receiver) else {
             unreachable!();
@@ -275,14 +275,14 @@ impl Manager {
         let given = given(self.alloc, owner, named, numbers.as_slice())?;
         let delivery = delivery(self.alloc, &row.process.who, target.object, payload, given)?;
         let outcome = Outcome::Sent(delivery.clone()?);
-        let told = Outcome::Sent(delivery.clone()?);
+        let reply_outcome = Outcome::Sent(delivery.clone()?);
         effects.push(Effect::Delivers {
             client: owner,
             delivery,
         })?;
         Ok(Plan {
             outcome,
-            told,
+            reply_outcome,
             effects: EffectList::many(effects),
             records: Notes::none(self.alloc),
         })

@@ -22,7 +22,7 @@ use crate::manager::replying::reason;
 use crate::notes::Notes;
 use crate::notifications::{Notifications, shared_notice, shared_notices};
 use crate::plan::Plan;
-use crate::small_failed_check::{Plain, SmallFailedCheck};
+use crate::small_failed_check::{ShortAnswer, SmallFailedCheck};
 use sm_history::{Effect, Failure, Given, Notice, Outcome, Told, Watch};
 use sm_kinds::{ClientId, Name, Node, Perms};
 use sm_policy::Label;
@@ -31,7 +31,7 @@ use sm_policy::Label;
 fn full() -> SmallFailedCheck
     ensures { result ≡ spec.full }
 {
-    SmallFailedCheck::unmet(Plain::Failed(Failure::TargetFull))
+    SmallFailedCheck::unmet(ShortAnswer::Failed(Failure::TargetFull))
 }
 
 impl Manager {
@@ -204,10 +204,10 @@ impl Manager {
         let mut notifications = Notifications::behind(self.alloc, effects);
         let label = self.label(watch.name.bytes());
         let notice = self.notify(watch, node, label, &mut notifications)?;
-        let (outcome, told) = shared_notice(self.alloc, notice)?;
+        let (outcome, reply_outcome) = shared_notice(self.alloc, notice)?;
         Ok(Plan {
             outcome: Outcome::Watched(Some(outcome)),
-            told: Outcome::Watched(Some(told)),
+            reply_outcome: Outcome::Watched(Some(reply_outcome)),
             effects: EffectList::many(notifications.effects),
             records: notifications.records,
         })
@@ -237,10 +237,10 @@ impl Manager {
         let mut notifications = Notifications::behind(self.alloc, effects);
         let watchers = self.watchers(name.bytes());
         let notices = self.notify_all(watchers, node, label, &mut notifications)?;
-        let (outcome, told) = shared_notices(self.alloc, notices)?;
+        let (outcome, reply_outcome) = shared_notices(self.alloc, notices)?;
         Ok(Plan {
             outcome: Outcome::Added(outcome),
-            told: Outcome::Added(told),
+            reply_outcome: Outcome::Added(reply_outcome),
             effects: EffectList::many(notifications.effects),
             records: notifications.records,
         })

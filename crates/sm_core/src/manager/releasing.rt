@@ -10,7 +10,7 @@ ghost use Rattle.sm_core.specs.Managed.{effects_in};
 
 use crate::manager::Manager;
 use crate::plan::Plan;
-use crate::small_failed_check::{Plain, SmallFailedCheck};
+use crate::small_failed_check::{ShortAnswer, SmallFailedCheck};
 use sm_history::{Effect, Failure, Outcome};
 use sm_kinds::ObjRef;
 
@@ -21,7 +21,7 @@ impl Manager {
         ensures { (old : List Record) → Judged self.now.book.history old old client (Release handle) result }
     {
         let Some(node) = self.resolved(client, ObjRef::Handle(handle)) else {
-            return Err(SmallFailedCheck::unmet(Plain::Failed(Failure::BadHandle)));
+            return Err(SmallFailedCheck::unmet(ShortAnswer::Failed(Failure::BadHandle)));
         };
         let releases = Effect::Releases { client, node };
         Ok(Plan::quiet(self.alloc, releases, Outcome::Released, Outcome::Released))

@@ -11,7 +11,7 @@ ghost use Rattle.sm_core.specs.Managed.{effects_in};
 
 use crate::manager::Manager;
 use crate::plan::Plan;
-use crate::small_failed_check::{Plain, SmallFailedCheck};
+use crate::small_failed_check::{ShortAnswer, SmallFailedCheck};
 use sm_history::{BoxedDelivery, Effect, Outcome};
 
 impl Manager {
@@ -30,10 +30,10 @@ impl Manager {
         ensures { (old : List Record) → Judged self.now.book.history old old client Take result }
     {
         let Some(oldest) = self.oldest(client) else {
-            return Err(SmallFailedCheck::unmet(Plain::Empty));
+            return Err(SmallFailedCheck::unmet(ShortAnswer::Empty));
         };
         let outcome = Outcome::Taken(oldest.clone()?);
-        let told = Outcome::Taken(oldest.clone()?);
-        Ok(Plan::quiet(self.alloc, Effect::Takes { client }, outcome, told))
+        let reply_outcome = Outcome::Taken(oldest.clone()?);
+        Ok(Plan::quiet(self.alloc, Effect::Takes { client }, outcome, reply_outcome))
     }
 }

@@ -15,7 +15,7 @@ use crate::client::LiveClient;
 use crate::manager::Manager;
 use crate::notes::Notes;
 use crate::plan::Plan;
-use crate::small_failed_check::{Plain, SmallFailedCheck};
+use crate::small_failed_check::{ShortAnswer, SmallFailedCheck};
 use sm_history::{Effect, Exception, Outcome};
 use sm_kinds::{Name, Node, ObjRef, Perms};
 
@@ -23,7 +23,7 @@ use sm_kinds::{Name, Node, ObjRef, Perms};
 fn failed(exception: Exception) -> SmallFailedCheck
     ensures { result ≡ Unmet (Refused (Excepted exception)) }
 {
-    SmallFailedCheck::unmet(Plain::Exception(exception))
+    SmallFailedCheck::unmet(ShortAnswer::Exception(exception))
 }
 
 impl Manager {

@@ -16,7 +16,7 @@ use crate::client::LiveClient;
 use crate::manager::Manager;
 use crate::notes::Notes;
 use crate::plan::Plan;
-use crate::small_failed_check::{Plain, SmallFailedCheck};
+use crate::small_failed_check::{ShortAnswer, SmallFailedCheck};
 use sm_history::{Denial, Effect, Exception, MOST_WATCHES, Outcome, Watch, WatchPair};
 use sm_kinds::{Name, Perms, is_isolated, valid_name};
 use std::alloc::AllocError;
@@ -80,10 +80,10 @@ impl Manager {
             return Err(self.access().barred(denial, &row.process.who, name, notes)?);
         }
         if !valid_name(name.bytes()) {
-            return Err(SmallFailedCheck::unmet(Plain::Exception(Exception::InvalidName)));
+            return Err(SmallFailedCheck::unmet(ShortAnswer::Exception(Exception::InvalidName)));
         }
         if self.watches() >= MOST_WATCHES {
-            return Err(SmallFailedCheck::unmet(Plain::Exception(Exception::TableFull)));
+            return Err(SmallFailedCheck::unmet(ShortAnswer::Exception(Exception::TableFull)));
         }
         Ok(())
     }
@@ -112,7 +112,9 @@ impl Manager {
         self.check_to_manager(&row.process, Perms::TRANSFER, notes)?;
         self.check_to_label(&row.process, name, Perms::FIND, notes)?;
         if !self.is_watching(row.id, name.bytes(), object) {
-            return Err(SmallFailedCheck::unmet(Plain::Exception(Exception::NothingToUnregister)));
+            return Err(SmallFailedCheck::unmet(ShortAnswer::Exception(
+                Exception::NothingToUnregister,
+            )));
         }
         let ended = self.watching(row.id, name.bytes(), object);
         let unwatches = Effect::Unwatches(watch_of(row.id, name, object)?);

@@ -11,8 +11,8 @@ make_room-requires c =
 pub returns-clause-ready : goal.returns-clause-ready
 returns-clause-ready c = (
   ready_planned c.args.self.now.book c.make_room.new.self c.args.by c.args.turn c.args.event c.args.plan
-      c.args.plan.told c.in_ok-records.records c.make_room.ensures.same c.requires.pass c.requires.plan
-      c.requires.plan.told
+      c.args.plan.reply_outcome c.in_ok-records.records c.make_room.ensures.same c.requires.pass c.requires.plan
+      c.requires.plan.reply_outcome
       (search rules) (search rules) (search rules),
   refl,
   refl,

@@ -15,4 +15,4 @@ returns-then-not-holds c =
     let absent : is_in (slots_of c.args.self.now.rows.items c.args.client) c.args.node ≡ false = sym c.holds.ensures ∙
     c.if-not-holds.true in
     rw absent (other_way _ _ _ c.is_none.ensures
-    (place_among (λ n. same_node n c.args.node) c.args.earlier.now c.place_of.result c.place_of.ensures))
+    (place_among (λ n. same_node n c.args.node) c.args.earlier.now c.node_index.result c.node_index.ensures))

@@ -18,14 +18,14 @@ returns-in-Some-clause-step c t a =
     along_held s t c.args.earlier.now c.args.numbers.now c.args.node (c.in-Some.i + 1) c.args.behind a
     c.requires.as_many (omega arith) here
 
-pub returns-in-Some-place_of-clause-step : goal.returns-in-Some-place_of-clause-step
-returns-in-Some-place_of-clause-step c t a =
+pub returns-in-Some-node_index-clause-step : goal.returns-in-Some-node_index-clause-step
+returns-in-Some-node_index-clause-step c t a =
     let s = slots_of c.args.self.now.rows.items c.args.client in
-    let r = get_or c.args.numbers.now c.in-Some-place_of.i 0 in
-    let found = place_is (λ n. same_node n c.args.node) c.args.earlier.now c.args.node (Some c.in-Some-place_of.i)
-    c.in-Some-place_of.ensures in
-    let w = a.given c.in-Some-place_of.i c.args.node found.0 in
-    let same = node_same (get_or c.args.earlier.now c.in-Some-place_of.i c.args.node) c.args.node found.1 in
+    let r = get_or c.args.numbers.now c.in-Some-node_index.i 0 in
+    let found = place_is (λ n. same_node n c.args.node) c.args.earlier.now c.args.node (Some c.in-Some-node_index.i)
+    c.in-Some-node_index.ensures in
+    let w = a.given c.in-Some-node_index.i c.args.node found.0 in
+    let same = node_same (get_or c.args.earlier.now c.in-Some-node_index.i c.args.node) c.args.node found.1 in
     along_held s t c.args.earlier.now c.args.numbers.now c.args.node r c.args.behind a c.requires.as_many w.0
     (w.1 ∙ ap (λ (v : Node). Some v) same)
 
@@ -34,5 +34,5 @@ returns-clause-step c t a =
     along_new (slots_of c.args.self.now.rows.items c.args.client) t c.args.earlier.now c.args.numbers.now c.args.node
     c.free_from-free.result c.args.behind a c.requires.as_many
     c.in_default.ensures.found
-    (place_is (λ n. same_node n c.args.node) c.args.earlier.now c.args.node None c.in_default-place_of.ensures)
+    (place_is (λ n. same_node n c.args.node) c.args.earlier.now c.args.node None c.in_default-node_index.ensures)
     c.free_from-free.ensures.behind c.free_from-free.ensures.free c.free_from-free.ensures.least

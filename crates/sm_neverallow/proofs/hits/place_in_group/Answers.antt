@@ -1,7 +1,7 @@
 use Rattle.std.proofs.Common.{◌+◌, ◌*◌, arith}
 use Rattle.sm_bits.specs.Bits.{has}
 use Rattle.sm_bits.proofs.ByteBits.{told_none, told_more}
-use Rattle.sm_neverallow.proofs.hits.place_of.Goals as goal
+use Rattle.sm_neverallow.proofs.hits.place_in_group.Goals as goal
 
 pub loop-bit-init : goal.loop-bit-init
 loop-bit-init c = record {

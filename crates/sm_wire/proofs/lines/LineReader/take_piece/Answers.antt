@@ -1,7 +1,7 @@
 use Rattle.std.proofs.Common.{◌≡◌, ◌∙◌, Result, Ok, Err, OnOk, if◌then◌else◌}
 use Rattle.std.specs.Result.{is_ok}
 use Rattle.sm_wire.proofs.FramingLemmas.{piece_later, piece_never}
-use Rattle.sm_wire.proofs.lines.Lines.take_piece.Goals as goal
+use Rattle.sm_wire.proofs.lines.LineReader.take_piece.Goals as goal
 
 -- An allocation that succeeded.
 grown : {T E X P : Type 0} (r : Result T E) (new more old : X) → new ≡ (if is_ok r then more else old)

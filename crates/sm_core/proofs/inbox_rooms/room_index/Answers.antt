@@ -1,7 +1,7 @@
 use Rattle.sm_history.proofs.ClientRows.{by_position}
 use Rattle.sm_inbox.proofs.OnceRows.{place_once}
 use Rattle.sm_core.proofs.RoomRows.{client, none_newer}
-use Rattle.sm_core.proofs.inbox_rooms.place_of.Goals as goal
+use Rattle.sm_core.proofs.inbox_rooms.room_index.Goals as goal
 
 pub returns-then-newest-client : goal.returns-then-newest-client
 returns-then-newest-client c =

@@ -1,7 +1,7 @@
 use Rattle.std.proofs.Common.{refl}
 use Rattle.sm_history.specs.declared.effect.Effect.TheVariants.{Removes}
 use Rattle.sm_names.proofs.Others.{same_list}
-use Rattle.sm_names.proofs.names.Names.remove.Goals as goal
+use Rattle.sm_names.proofs.names.NameTable.remove.Goals as goal
 
 pub returns-clause-tracks : goal.returns-clause-tracks
 returns-clause-tracks c d tr = record {

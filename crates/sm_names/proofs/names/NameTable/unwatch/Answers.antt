@@ -2,7 +2,7 @@ use Rattle.std.proofs.Common.{refl}
 use Rattle.sm_history.specs.declared.effect.Effect.TheVariants.{Unwatches}
 use Rattle.sm_history.specs.Histories.{watch as make_watch}
 use Rattle.sm_names.proofs.Others.{same_rows}
-use Rattle.sm_names.proofs.names.Names.unwatch.Goals as goal
+use Rattle.sm_names.proofs.names.NameTable.unwatch.Goals as goal
 
 pub returns-clause-tracks : goal.returns-clause-tracks
 returns-clause-tracks c d tr = record {

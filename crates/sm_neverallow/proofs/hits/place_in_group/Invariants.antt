@@ -1,7 +1,7 @@
 use Rattle.std.proofs.Common.{◌+◌, ◌*◌, ◌<◌}
 use Rattle.sm_bits.specs.Bits.{has}
 use Rattle.sm_bits.proofs.ByteBits.{Told}
-use Rattle.sm_neverallow.proofs.hits.place_of.Given as goal
+use Rattle.sm_neverallow.proofs.hits.place_in_group.Given as goal
 
 abbrev pub invariant-loop-bit : goal.invariant-loop-bit
 invariant-loop-bit l = record {

@@ -1,7 +1,7 @@
 use Rattle.std.proofs.Common.{refl}
 use Rattle.sm_history.specs.declared.effect.Effect.TheVariants.{Watches}
 use Rattle.sm_names.proofs.Others.{same_rows}
-use Rattle.sm_names.proofs.names.Names.watch.Goals as goal
+use Rattle.sm_names.proofs.names.NameTable.watch.Goals as goal
 
 pub returns-clause-tracks : goal.returns-clause-tracks
 returns-clause-tracks c d tr live = record {

@@ -1,4 +1,4 @@
-use Rattle.sm_names.proofs.names.Names.forget.Goals as goal
+use Rattle.sm_names.proofs.names.NameTable.forget.Goals as goal
 
 pub returns-clause-tracks : goal.returns-clause-tracks
 returns-clause-tracks c d tr = record {

@@ -1,6 +1,6 @@
 use Rattle.std.proofs.Common.{◌∙◌}
 use Rattle.sm_wire.proofs.FramingLemmas.{piece_taken}
-use Rattle.sm_wire.proofs.lines.Lines.take_end.Goals as goal
+use Rattle.sm_wire.proofs.lines.LineReader.take_end.Goals as goal
 
 pub returns-clause-items : goal.returns-clause-items
 returns-clause-items c = rw (← c.self.view_is)

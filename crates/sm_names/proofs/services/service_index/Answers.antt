@@ -1,5 +1,5 @@
 use Rattle.sm_history.proofs.NamedRows.{place_here}
-use Rattle.sm_names.proofs.services.place_of.Goals as goal
+use Rattle.sm_names.proofs.services.service_index.Goals as goal
 
 pub returns-in-Some-clause-place : goal.returns-in-Some-clause-place
 returns-in-Some-clause-place c rises =
