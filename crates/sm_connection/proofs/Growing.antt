@@ -31,13 +31,13 @@ use Rattle.sm_session.specs.Sessions.{Attends}
 use Rattle.sm_session.specs.declared.response.Response.{Response}
 use Rattle.sm_session.specs.declared.response.Response.TheVariants.{Replied, PolicyRefused, Denied}
 use Rattle.sm_session.specs.declared.command.Command.{Command}
-use Rattle.sm_session.specs.declared.command.Command.TheVariants.{Hello, Line, Install, End}
+use Rattle.sm_session.specs.declared.command.Command.TheVariants.{Hello, Line, Install, Death}
 use Rattle.sm_connection.specs.Connections.{AdminAnswers, AdminGives, AdminGivesLine, AdminInstalls, AdminReads}
 use Rattle.sm_connection.specs.Connections.{AdminReplies, AdminSeals, AdminTold}
-use Rattle.sm_connection.specs.Connections.{ClientReplies, GivesChange, GivesHello, GivesLeave}
-use Rattle.sm_connection.specs.Connections.{GivesLine, GivesLook, Greets, OfSession, Parts, Reads, SaysOnly, SaysUnrecorded}
+use Rattle.sm_connection.specs.Connections.{ClientReplies, GivesChange, GivesHello, GivesDeath}
+use Rattle.sm_connection.specs.Connections.{GivesLine, GivesLook, Greets, OfSession, DiesAtDoor, Reads, SaysOnly, SaysUnrecorded}
 use Rattle.sm_connection.specs.Connections.{SeatOr, GoesOn, StillHolds}
-use Rattle.sm_session.specs.Desks.{DeskAnswers, DeskLeaves, command_of}
+use Rattle.sm_session.specs.Desks.{DeskAnswers, DeskDeath, command_of}
 use Rattle.sm_connection.specs.Held.{Holding, Puts}
 use Rattle.sm_connection.specs.Growing.{AdminsSeeMore, ClientsSeeMore, ComesAfter}
 use Rattle.sm_connection.proofs.Lasting.{attends_keeps}
@@ -103,15 +103,17 @@ of_session : (Answers : Knows → Type 0) (Without : Type 0) (old new : Option K
 of_session Answers Without None new f g p = tt
 of_session Answers Without (Some old) new f g p = seat_or old.by g (λ x. f old x) p
 
-parts : (session : Knows) (new : Option Knows) (reply : Reply) → Parts session reply new
+dies_at_door : (session : Knows) (new : Option Knows) (reply : Reply) → DiesAtDoor session reply new
     → ComesAfter (Some session) new
-parts session new (Done outcome) p = nothing (Some session) new p.1
-parts session new (Refused refusal) p = held session p.1.0 new (submitted session p.1.0 Die (Refused refusal) p.1.1) p.1.2
-parts session new _ p = absurd p
+dies_at_door session new (Done outcome) p = nothing (Some session) new p.1
+dies_at_door session new (Refused refusal) p =
+    held session p.1.0 new (submitted session p.1.0 Die (Refused refusal) p.1.1) p.1.2
+dies_at_door session new _ p = absurd p
 
-leave : (old new : Option Knows) (reply : Reply) → GivesLeave old reply new → ComesAfter old new
-leave old new reply p = of_session (λ session. Parts session reply new) (SaysOnly (Failed NotConnected) old reply new)
-    old new (λ session x. parts session new reply x) (λ x. unchanged old new x.1) p
+dies : (old new : Option Knows) (reply : Reply) → GivesDeath old reply new → ComesAfter old new
+dies old new reply p = of_session
+    (λ session. DiesAtDoor session reply new) (SaysOnly (Failed NotConnected) old reply new) old new
+    (λ session x. dies_at_door session new reply x) (λ x. unchanged old new x.1) p
 
 change : (old new : Option Knows) (event : Event) (reply : Reply) (log : List Record)
     → GivesChange old event reply log new → ComesAfter old new
@@ -140,7 +142,7 @@ either false p q x = q x
 line : (old new : Option Knows) (request : Request) (reply : Reply) (log : List Record)
     → GivesLine old request reply log new → ComesAfter old new
 line old new (Change c event) reply log p =
-    either (is_die event) (λ x. leave old new reply x.0) (λ x. change old new event reply log x) p
+    either (is_die event) (λ x. dies old new reply x.0) (λ x. change old new event reply log x) p
 line old new (Look c q) reply log p = look old new q reply log p
 line old new (requests.Hello who) reply log p = unchanged old new p.0.1
 line old new (requests.Reload expected rules contexts) reply log p = unchanged old new p.0.1
@@ -158,14 +160,14 @@ behind : (old token : Knows) (new : Option Knows) → GoesOn old token → Comes
 behind old token None p q = tt
 behind old token (Some new) p q = through old token new p q
 
-ended : (old tried new : Option Knows) (reply : Reply) → StillHolds old tried → GivesLeave tried reply new
+dies_after_tries : (old tried new : Option Knows) (reply : Reply) → StillHolds old tried → GivesDeath tried reply new
     → ComesAfter old new
-ended None tried new reply s p = tt
-ended (Some old) tried new reply s p =
+dies_after_tries None tried new reply s p = tt
+dies_after_tries (Some old) tried new reply s p =
     let P : Option Knows → Type 0 = λ x. ComesAfter x new in
-    behind old s.0 new s.1 (subst P s.2 (leave tried new reply p))
+    behind old s.0 new s.1 (subst P s.2 (dies tried new reply p))
 
--- ---- tries to leave
+-- ---- tries to die
 
 by_same : (old new : Knows) → new ≡ old → new.by ≡ old.by
 by_same old new e = ap (λ (k : Knows). k.by) e
@@ -184,11 +186,11 @@ still_itself None = refl
 still_itself (Some old) = (old, stays old, refl, refl)
 
 -- A try that an allocation failed.
-tried_once : (old new : Option Knows) → GivesLeave old (Refused Memory) new → StillHolds old new
+tried_once : (old new : Option Knows) → GivesDeath old (Refused Memory) new → StillHolds old new
 tried_once None new p = absurd (cc p.0)
 tried_once (Some old) new p = seat_or old.by
     (λ (x : SaysOnly (Failed NotConnected) (Some old) (Refused Memory) new). absurd (cc x.0))
-    (λ (x : Parts old (Refused Memory) new). (
+    (λ (x : DiesAtDoor old (Refused Memory) new). (
       x.1.0,
       submitted old x.1.0 Die (Refused Memory) x.1.1,
       x.1.2,
@@ -203,9 +205,9 @@ still_through (Some old) tried new p q =
     (r.0, through old p.0 r.0 p.1 r.1, r.2, r.3 ∙ p.3)
 
 pub still_tried : (old tried new : Option Knows) (reply : Reply) → reply ≡ Refused Memory → StillHolds old tried
-    → GivesLeave tried reply new → StillHolds old new
+    → GivesDeath tried reply new → StillHolds old new
 still_tried old tried new reply e p q =
-    let P : Reply → Type 0 = λ x. GivesLeave tried x new in
+    let P : Reply → Type 0 = λ x. GivesDeath tried x new in
     still_through old tried new p (tried_once tried new (subst P e q))
 
 replies : (old new : Option Knows) (command : Command) (reply : Reply) (log : List Record)
@@ -213,7 +215,7 @@ replies : (old new : Option Knows) (command : Command) (reply : Reply) (log : Li
 replies old new (Hello who) reply log p = hello old new who reply p.0
 replies old new (Line request) reply log p = line old new request reply log p
 replies old new (Install expected policy) reply log p = unchanged old new p.0.1
-replies old new End reply log p = ended old p.0.0 new reply p.0.1 p.0.2
+replies old new Death reply log p = dies_after_tries old p.0.0 new reply p.0.1 p.0.2
 
 pub clients_see_more : ClientsSeeMore
 clients_see_more old new command (Replied reply) log p = replies old new command reply log p
@@ -267,7 +269,7 @@ admin_answered old new (Hello who) response p = same old new p.1
 admin_answered old new (Line request) response p = admin_line old new request response p
 admin_answered old new (Install expected policy) response p =
     admin_installs old new (Reload expected policy) response p
-admin_answered old new End response p = same old new p.1
+admin_answered old new Death response p = same old new p.1
 
 pub admins_see_more : AdminsSeeMore
 admins_see_more old new command response log p = admin_answered old new command response p.0
@@ -290,9 +292,9 @@ admin_answers old items.LineTooLong response new p = absurd p
 -- A whole session of an administrator.
 pub admin_session : (result : Result (Unit {0}) Fault) (bound reads : ℕ) (old : Holding Knows)
     (r r_new w w_new : Option (List ℕ)) (new : Holding Knows)
-    → Attends Admins (DeskAnswers (Puts AdminGives)) (DeskLeaves (Puts AdminGives)) result bound reads old r r_new w w_new new
+    → Attends Admins (DeskAnswers (Puts AdminGives)) (DeskDeath (Puts AdminGives)) result bound reads old r r_new w w_new new
     → HoldsMore old new
 admin_session result bound reads old r r_new w w_new new p =
-    attends_keeps (DeskAnswers (Puts AdminGives)) (DeskLeaves (Puts AdminGives)) HoldsMore (λ h. stays h.held)
+    attends_keeps (DeskAnswers (Puts AdminGives)) (DeskDeath (Puts AdminGives)) HoldsMore (λ h. stays h.held)
     (λ a b c. through a.held b.held c.held) admin_answers
-    (λ s t x. admin_answered s.held t.held End x.0 x.1.1.0) Admins result bound reads old r r_new w w_new new p
+    (λ s t x. admin_answered s.held t.held Death x.0 x.1.1.0) Admins result bound reads old r r_new w w_new new p

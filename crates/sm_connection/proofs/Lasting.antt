@@ -17,10 +17,10 @@ either true p q x = p x
 either false p q x = q x
 
 -- A relation of states that is an order, and holds from each state to the next.
-module _ {S : Type 0} (answers : S → Item → Response → S → Type 0) (leaves : S → S → Type 0) (After : S → S → Type 0)
+module _ {S : Type 0} (answers : S → Item → Response → S → Type 0) (death : S → S → Type 0) (After : S → S → Type 0)
     (itself : (s : S) → After s s) (through : (a b c : S) → After a b → After b c → After a c)
     (asked : (s : S) (item : Item) (response : Response) (t : S) → answers s item response t → After s t)
-    (left : (s t : S) → leaves s t → After s t) where
+    (told : (s t : S) → death s t → After s t) where
   abbrev Comes : SessionState S → SessionState S → Type 0
   Comes old new = After old.desk new.desk
 
@@ -106,8 +106,8 @@ module _ {S : Type 0} (answers : S → Item → Response → S → Type 0) (leav
 
   pub attends_keeps : (kind : Kind) (result : Result (Unit {0}) Fault) (bound reads : ℕ) (old : S)
       (r r_new w w_new : Option (List ℕ)) (new : S)
-      → Attends kind answers leaves result bound reads old r r_new w w_new new → After old new
+      → Attends kind answers death result bound reads old r r_new w w_new new → After old new
   attends_keeps kind result bound reads old r r_new w w_new new p = through old p.last.desk new
       (result_keeps kind result held_limit bound reads (begins kind old) p.served.bytes w w_new _ p.unaudited p.last
       p.served.written)
-      (either p.last.connected (λ x. left p.last.desk new x) (λ e. same p.last.desk new e) p.left)
+      (either p.last.connected (λ x. told p.last.desk new x) (λ e. same p.last.desk new e) p.told)

@@ -10,7 +10,7 @@ use Rattle.sm_engine.specs.Running.{ByResult}
 use Rattle.sm_wire.specs.declared.item.Item.TheVariants as items
 use Rattle.sm_session.specs.declared.response.Response.{Response}
 use Rattle.sm_session.specs.declared.session_state.SessionState.{SessionState}
-use Rattle.sm_session.specs.Desks.{Answers, DeskAnswers, DeskLeaves}
+use Rattle.sm_session.specs.Desks.{Answers, DeskAnswers, DeskDeath}
 use Rattle.sm_session.specs.Sessions.{AnswersItem, AsksOnce, Attends, SaysOnly}
 use Rattle.sm_session.specs.Sessions.{begins, held_limit, is_asked, is_over, said_to}
 
@@ -170,12 +170,12 @@ module _ {D S : Type 0} (f : D → S) (under : D → Item → Response → D →
   result_seen kind (Err Memory) limit bound reads old bytes w w_new a a_new new p =
       fronts_seen kind limit reads old bytes w w_new a a_new new p
 
-  attends_seen : (goes : D → D → Type 0) (leaves : S → S → Type 0)
-      (left : (old new : D) → goes old new → leaves (f old) (f new)) (kind : Kind) (result : Result (Unit {0}) Fault)
+  attends_seen : (goes : D → D → Type 0) (death : S → S → Type 0)
+      (told : (old new : D) → goes old new → death (f old) (f new)) (kind : Kind) (result : Result (Unit {0}) Fault)
       (bound reads : ℕ) (old : D) (r r_new w w_new : Option (List ℕ)) (new : D)
       → Attends kind under goes result bound reads old r r_new w w_new new
-      → Attends kind answers leaves result bound reads (f old) r r_new w w_new (f new)
-  attends_seen goes leaves left kind result bound reads old r r_new w w_new new p = record {
+      → Attends kind answers death result bound reads (f old) r r_new w w_new (f new)
+  attends_seen goes death told kind result bound reads old r r_new w w_new new p = record {
     last = shown p.last;
     unaudited = p.unaudited;
     served = record {
@@ -185,7 +185,7 @@ module _ {D S : Type 0} (f : D → S) (under : D → Item → Response → D →
           p.last p.served.written;
     };
     end = p.end;
-    left = by_cases p.last.connected (left p.last.desk new) (λ e. ap f e) p.left;
+    told = by_cases p.last.connected (told p.last.desk new) (λ e. ap f e) p.told;
   }
 
 module _ {D S : Type 0} (f : D → S) (answers : Answers S) where
@@ -203,7 +203,7 @@ module _ {D S : Type 0} (f : D → S) (answers : Answers S) where
 
   pub desk_seen : (kind : Kind) (result : Result (Unit {0}) Fault) (bound reads : ℕ) (old : D)
       (r r_new w w_new : Option (List ℕ)) (new : D)
-      → Attends kind (DeskAnswers under) (DeskLeaves under) result bound reads old r r_new w w_new new
-      → Attends kind (DeskAnswers answers) (DeskLeaves answers) result bound reads (f old) r r_new w w_new (f new)
-  desk_seen = attends_seen f (DeskAnswers under) (DeskAnswers answers) answered (DeskLeaves under)
-      (DeskLeaves answers) (λ (old new : D) p. p)
+      → Attends kind (DeskAnswers under) (DeskDeath under) result bound reads old r r_new w w_new new
+      → Attends kind (DeskAnswers answers) (DeskDeath answers) result bound reads (f old) r r_new w w_new (f new)
+  desk_seen = attends_seen f (DeskAnswers under) (DeskAnswers answers) answered (DeskDeath under)
+      (DeskDeath answers) (λ (old new : D) p. p)

@@ -17,7 +17,7 @@ use Rattle.sm_history.specs.declared.reply.Reply.{Reply}
 use Rattle.sm_history.specs.declared.reply.Reply.TheVariants.{Done, GotNull, GotOwn, Looked, Sealed, Refused}
 use Rattle.sm_history.specs.Histories.{History, client_of, length_of}
 use Rattle.sm_history.specs.BookOrder.{Begins, IsLawfulBook}
-use Rattle.sm_history.specs.PossibleReplies.{OfConnect, OfLeave}
+use Rattle.sm_history.specs.PossibleReplies.{OfConnect, OfDeath}
 use Rattle.sm_history.specs.Promises.{Accepted, Closed, Joined, NotClosed, NotTold, Queried, Submitted, TellsRecords}
 use Rattle.sm_history.specs.Promises.{Turned}
 use Rattle.sm_history.specs.Tokens.{Knows}
@@ -29,7 +29,7 @@ use Rattle.sm_wire.specs.declared.request.Request.TheVariants as requests
 use Rattle.sm_session.specs.declared.response.Response.{Response}
 use Rattle.sm_session.specs.declared.response.Response.TheVariants.{Replied, PolicyRefused, Denied}
 use Rattle.sm_session.specs.declared.command.Command.{Command}
-use Rattle.sm_session.specs.declared.command.Command.TheVariants.{Hello, Line, Install, End}
+use Rattle.sm_session.specs.declared.command.Command.TheVariants.{Hello, Line, Install, Death}
 
 -- This is refused without a look at any history, and what the connection holds stays as it is.
 abbrev pub SaysOnly : {T : Type 0} → Refusal → T → Reply → T → Type 0
@@ -64,15 +64,15 @@ GivesHello (Some seat) who reply new = SeatOr seat.by
     ((token : Knows) × Greets seat who reply token × (new ≡ Some token))
     (SaysOnly (Failed NotYours) (Some seat) reply new)
 
--- The client's last change was made, and the connection holds nothing more; or it wasn't made, and the client is left.
-abbrev pub Parts : Knows → Reply → Option Knows → Type 0
-Parts old (Done outcome) new = (outcome ≡ Died) × (new ≡ None) × ((seat : Knows) × Accepted old seat Die Died)
-Parts old (Refused refusal) new = OfLeave refusal
+-- The client died, and the connection holds nothing more; or its death was refused, and it still holds the client.
+abbrev pub DiesAtDoor : Knows → Reply → Option Knows → Type 0
+DiesAtDoor old (Done outcome) new = (outcome ≡ Died) × (new ≡ None) × ((seat : Knows) × Accepted old seat Die Died)
+DiesAtDoor old (Refused refusal) new = OfDeath refusal
     × ((token : Knows) × Submitted old token Die (Refused refusal) × (new ≡ Some token))
-Parts old GotNull new = ⊥
-Parts old (GotOwn o) new = ⊥
-Parts old (Looked v l a) new = ⊥
-Parts old (Sealed n l) new = ⊥
+DiesAtDoor old GotNull new = ⊥
+DiesAtDoor old (GotOwn o) new = ⊥
+DiesAtDoor old (Looked v l a) new = ⊥
+DiesAtDoor old (Sealed n l) new = ⊥
 
 -- The one holds of the session of a connection's client; without a client, the other holds.
 abbrev pub OfSession : (Knows → Type 0) → Type 0 → Option Knows → Type 0
@@ -90,10 +90,10 @@ TakesSession old (Some session) new =
     (old ≡ Some session) × ((client : ClientId) × (session.by ≡ Client client)) × (new ≡ None)
 TakesSession old None new = HasNoClient old × (new ≡ old)
 
--- A client leaves; without a client, the answer is `not-connected`.
-abbrev pub GivesLeave : Option Knows → Reply → Option Knows → Type 0
-GivesLeave old reply new =
-    OfSession (λ session. Parts session reply new) (SaysOnly (Failed NotConnected) old reply new) old
+-- A client dies; without a client, the answer is `not-connected`.
+abbrev pub GivesDeath : Option Knows → Reply → Option Knows → Type 0
+GivesDeath old reply new =
+    OfSession (λ session. DiesAtDoor session reply new) (SaysOnly (Failed NotConnected) old reply new) old
 
 -- The same refusal, which isn't recorded.
 abbrev pub SaysUnrecorded : Refusal → Option Knows → Reply → List Record → Option Knows → Type 0
@@ -120,7 +120,7 @@ GivesLook old q reply log new = OfSession (λ session. Reads session q reply log
 -- A client's line other than a `hello`. A death leaves no records.
 abbrev pub GivesLine : Option Knows → Request → Reply → List Record → Option Knows → Type 0
 GivesLine old (Change c event) reply log new =
-    MatchBool (is_die event) (GivesLeave old reply new × (log ≡ [])) (GivesChange old event reply log new)
+    MatchBool (is_die event) (GivesDeath old reply new × (log ≡ [])) (GivesChange old event reply log new)
 GivesLine old (Look c q) reply log new = GivesLook old q reply log new
 GivesLine old (requests.Hello who) reply log new = SaysUnrecorded (Failed NotYours) old reply log new
 GivesLine old (requests.Reload expected rules contexts) reply log new =
@@ -139,16 +139,16 @@ abbrev pub StillHolds : Option Knows → Option Knows → Type 0
 StillHolds None new = new ≡ None
 StillHolds (Some old) new = (token : Knows) × GoesOn old token × (new ≡ Some token) × (token.by ≡ old.by)
 
--- A connection ends: its client leaves, after tries that an allocation failed.
-abbrev pub GivesEnd : Option Knows → Reply → Option Knows → Type 0
-GivesEnd old reply new = (tried : Option Knows) × StillHolds old tried × GivesLeave tried reply new
+-- A connection ends: its client dies, after tries that an allocation failed.
+abbrev pub GivesDeathAfterTries : Option Knows → Reply → Option Knows → Type 0
+GivesDeathAfterTries old reply new = (tried : Option Knows) × StillHolds old tried × GivesDeath tried reply new
 
 -- A client's connection gives this reply to a command, with these audit records.
 abbrev pub ClientReplies : Option Knows → Command → Reply → List Record → Option Knows → Type 0
 ClientReplies old (Hello who) reply log new = GivesHello old who reply new × (log ≡ [])
 ClientReplies old (Line request) reply log new = GivesLine old request reply log new
 ClientReplies old (Install expected policy) reply log new = SaysUnrecorded (Failed NotYours) old reply log new
-ClientReplies old End reply log new = GivesEnd old reply new × (log ≡ [])
+ClientReplies old Death reply log new = GivesDeathAfterTries old reply new × (log ≡ [])
 
 -- A client's connection answers a command so, with these audit records.
 abbrev pub ClientGives : Option Knows → Command → Response → List Record → Option Knows → Type 0
@@ -209,7 +209,7 @@ abbrev pub AdminAnswers : Knows → Command → Response → Knows → Type 0
 AdminAnswers old (Hello who) response new = (response ≡ Replied (Refused (Failed NotYours))) × (new ≡ old)
 AdminAnswers old (Line request) response new = AdminGivesLine old request response new
 AdminAnswers old (Install expected policy) response new = AdminInstalls old (Reload expected policy) response new
-AdminAnswers old End response new = (response ≡ Replied (Refused (Failed NotYours))) × (new ≡ old)
+AdminAnswers old Death response new = (response ≡ Replied (Refused (Failed NotYours))) × (new ≡ old)
 
 -- No answer to an administrator has audit records.
 abbrev pub AdminGives : Knows → Command → Response → List Record → Knows → Type 0

@@ -21,7 +21,7 @@ use Rattle.sm_history.specs.declared.outcome.Outcome.TheVariants as outcomes
 use Rattle.sm_wire.specs.declared.request.Request.{Request}
 use Rattle.sm_wire.specs.declared.request.Request.TheVariants as requests
 use Rattle.sm_session.specs.declared.command.Command.{Command}
-use Rattle.sm_session.specs.declared.command.Command.TheVariants.{Hello, Line, Install, End}
+use Rattle.sm_session.specs.declared.command.Command.TheVariants.{Hello, Line, Install, Death}
 use Rattle.sm_connection.specs.declared.owned.TheConstants.{ENTRY, TEXT, DELIVERY, LIST, REFERENCE, NOTICE, TURNS}
 use Rattle.sm_connection.specs.declared.owned.TheConstants.{RULE, LABEL}
 
@@ -137,4 +137,4 @@ abbrev pub command_bytes : Command → ℕ
 command_bytes (Hello who) = plus (text_bytes who.context) ENTRY
 command_bytes (Line request) = request_bytes request
 command_bytes (Install expected policy) = plus (policy_bytes policy) ENTRY
-command_bytes End = ENTRY
+command_bytes Death = ENTRY

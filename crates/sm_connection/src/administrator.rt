@@ -63,7 +63,7 @@ impl<'a, J: Naming, G: Gate + Drop, H: Supervisor, R: Wait> Administrator<'a, J,
             Command::Install { expected, prepared } => {
                 Response::Replied(self.install(admin, expected, prepared))
             }
-            Command::End => Response::Replied(not_yours()),
+            Command::Death => Response::Replied(not_yours()),
         }
     }
 

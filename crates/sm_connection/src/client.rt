@@ -7,8 +7,8 @@ ghost use Rattle.sm_history.specs.Tokens.{Knows};
 ghost use Rattle.sm_history.specs.Verdict.{is_die};
 ghost use Rattle.sm_session.specs.declared.response.Response.TheVariants.{Replied};
 ghost use Rattle.sm_door.specs.Logged.{Logged};
-ghost use Rattle.sm_connection.specs.Connections.{ClientGives, GivesHello, GivesLine, GivesLook, GivesChange, GivesLeave};
-ghost use Rattle.sm_connection.specs.Connections.{GivesEnd, Greets, Parts, Reads, TakesSession};
+ghost use Rattle.sm_connection.specs.Connections.{ClientGives, GivesHello, GivesLine, GivesLook, GivesChange, GivesDeath};
+ghost use Rattle.sm_connection.specs.Connections.{GivesDeathAfterTries, Greets, DiesAtDoor, Reads, TakesSession};
 
 use crate::answered::Answered;
 use crate::connection::Connection;
@@ -22,11 +22,11 @@ use sm_wire::Request;
 use std::alloc::Global;
 use std::sync::Wait;
 
-/// The number of times that a client that is gone tries to leave, before the last. Only a failed allocation refuses it,
-/// which may pass.
+/// How often a client's death is tried at the end of its connection, before the last time. Only a failed allocation
+/// refuses it, which may pass.
 const TRIES: u32 = 15;
 
-/// A client's connection at the door. It takes a seat for its first `hello`, and gives it back when its client leaves.
+/// A client's connection at the door. It takes a seat for its first `hello`, and gives it back when its client dies.
 pub struct Client<'a, J: Naming, G: Gate, R> {
     rt: &'a R,
     alloc: Global,
@@ -115,11 +115,11 @@ impl<'a, J: Naming, G: Gate + Drop, R: Wait> Client<'a, J, G, R> {
 
     fn change(&self, held: &mut Option<SeatOrSession<J>>, event: Event) -> Answered
         ensures { (reply : _) × (result.response ≡ Replied reply)
-            × MatchBool (is_die event) (GivesLeave held.old reply held.new × (result.records.items ≡ []))
+            × MatchBool (is_die event) (GivesDeath held.old reply held.new × (result.records.items ≡ []))
             (GivesChange held.old event reply result.records.items held.new) }
     {
         if is_death(&event) {
-            return self.replied(self.leave(held));
+            return self.replied(self.die(held));
         }
         match session_of(held) {
             Some(session) => self.submit(held, session, event),
@@ -192,20 +192,20 @@ impl<'a, J: Naming, G: Gate + Drop, R: Wait> Client<'a, J, G, R> {
         self.replied(reply)
     }
 
-    fn leave(&self, held: &mut Option<SeatOrSession<J>>) -> Reply
-        ensures { GivesLeave held.old result held.new }
+    fn die(&self, held: &mut Option<SeatOrSession<J>>) -> Reply
+        ensures { GivesDeath held.old result held.new }
     {
         match session_of(held) {
-            Some(session) => self.part(held, session),
+            Some(session) => self.die_at_door(held, session),
             None => not_connected(),
         }
     }
 
-    fn part(&self, held: &mut Option<SeatOrSession<J>>, session: Session<J>) -> Reply
+    fn die_at_door(&self, held: &mut Option<SeatOrSession<J>>, session: Session<J>) -> Reply
         requires { held.old ≡ None }
-        ensures { Parts session result held.new }
+        ensures { DiesAtDoor session result held.new }
     {
-        match self.door.leave(self.rt, session) {
+        match self.door.die(self.rt, session) {
             Ok(seat) => {
                 self.seats.give_back(self.rt, seat);
                 Reply::Done(Outcome::Died)
@@ -217,18 +217,18 @@ impl<'a, J: Naming, G: Gate + Drop, R: Wait> Client<'a, J, G, R> {
         }
     }
 
-    // Leaves, unless the client has left.
+    // The client dies, unless it is dead.
     #[tactic(auto, using(crate::proofs::Growing::still_itself, crate::proofs::Growing::still_tried))]
-    fn end(&self, held: &mut Option<SeatOrSession<J>>) -> Reply
-        ensures { GivesEnd held.old result held.new }
+    fn die_after_tries(&self, held: &mut Option<SeatOrSession<J>>) -> Reply
+        ensures { GivesDeathAfterTries held.old result held.new }
     {
         for _ in 0..TRIES {
-            let reply = self.leave(held);
+            let reply = self.die(held);
             if !matches!(reply, Reply::Refused(Refusal::Memory)) {
                 return reply;
             }
         }
-        self.leave(held)
+        self.die(held)
     }
 
     // A reply without records.
@@ -249,7 +249,7 @@ impl<'a, J: Naming, G: Gate + Drop, R: Wait> Connection<Option<SeatOrSession<J>>
             Command::Hello(who) => self.replied(self.hello(held, who)),
             Command::Line(request) => self.line(held, request),
             Command::Install { .. } => self.replied(not_yours()),
-            Command::End => self.replied(self.end(held)),
+            Command::Death => self.replied(self.die_after_tries(held)),
         }
     }
 }

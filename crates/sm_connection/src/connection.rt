@@ -14,7 +14,7 @@ pub trait Connection<S> {
     // A connection that holds this may answer the command so, with these audit records, and then holds that.
     ghost gives: { S → Command → Response → List Record → S → Type 0 };
 
-    /// Answers a command. The answer to the end of a session is ignored.
+    /// Answers a command. The answer to a client's death is ignored.
     fn answer(&self, held: &mut S, command: Command) -> Answered
         ensures { gives held.old command result.response result.records.items held.new };
 }

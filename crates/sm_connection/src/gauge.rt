@@ -102,7 +102,7 @@ impl Gauge {
     }
 
     /// Returns whether the server is to seal the open segment by itself: it has the required number of entries or
-    /// bytes, it was full before that, since slots are kept for the ends of clients, or an allocation failed.
+    /// bytes, it was full before that, since slots are kept for the deaths of clients, or an allocation failed.
     pub fn is_due(&self) -> bool {
         if self.seal_at.is_never() {
             return false;

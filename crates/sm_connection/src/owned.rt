@@ -212,6 +212,6 @@ pub fn command_bytes(command: &Command) -> u64
             expected: _,
             prepared,
         } => policy_bytes(prepared).saturating_add(ENTRY),
-        Command::End => ENTRY,
+        Command::Death => ENTRY,
     }
 }

@@ -14,7 +14,7 @@ pub fn not_yours() -> Reply
     Reply::Refused(Refusal::Failed(Failure::NotYours))
 }
 
-/// Returns the answer to a client that has left, or never was.
+/// Returns the answer to a client that is dead, or never was.
 pub fn not_connected() -> Reply
     ensures { result ≡ Refused (Failed NotConnected) }
 {

@@ -3,7 +3,7 @@
 ghost use Rattle.std.specs.Prelude.{◌<◌, ◌-◌, None};
 ghost use Rattle.sm_engine.specs.Counts.{failures_of, calls_of, inner_of, greatest_count};
 ghost use Rattle.sm_wire.specs.declared.kind.Kind.TheVariants.{Client as AsClient, Admin as AsAdmin};
-ghost use Rattle.sm_session.specs.Desks.{DeskAnswers, DeskLeaves};
+ghost use Rattle.sm_session.specs.Desks.{DeskAnswers, DeskDeath};
 ghost use Rattle.sm_session.specs.Sessions.{Attends, Counts};
 ghost use Rattle.sm_connection.specs.Connections.{ClientGives, AdminGives, GoesOn};
 ghost use Rattle.sm_connection.specs.Held.{Puts, holding};
@@ -28,7 +28,7 @@ use std::sync::Wait;
 /// Serves a client's connection over any reader and writer. Each allowed line is answered once, in order, from the
 /// history behind the door. That ends with the lines, with a `bye` that is answered by `bye`, with a fault, or after
 /// `bound` reads. The sink is given the audit records of each answer once, in order. Returns what the connection still holds
-/// (nothing, a seat, or the session of a client that couldn't leave) and the sink.
+/// (nothing, a seat, or the session of a client that couldn't die) and the sink.
 pub fn serve_client<
     J: Naming,
     G: Gate + Drop,
@@ -53,7 +53,7 @@ pub fn serve_client<
     requires tend { B.IsAlwaysCallable tend }
     requires reader { failures_of reader.old < greatest_count }
     requires writer { failures_of writer.old < greatest_count }
-    ensures attends { Attends AsClient (DeskAnswers (Puts ClientGives)) (DeskLeaves (Puts ClientGives)) result.2 bound
+    ensures attends { Attends AsClient (DeskAnswers (Puts ClientGives)) (DeskDeath (Puts ClientGives)) result.2 bound
         (calls_of reader.new - calls_of reader.old) (holding None (L.given sink))
         (I.remaining (inner_of reader.old)) (I.remaining (inner_of reader.new))
         (O.contents (inner_of writer.old)) (O.contents (inner_of writer.new))
@@ -101,7 +101,7 @@ pub fn serve_administrator<
     requires tend { B.IsAlwaysCallable tend }
     requires reader { failures_of reader.old < greatest_count }
     requires writer { failures_of writer.old < greatest_count }
-    ensures attends { Attends AsAdmin (DeskAnswers (Puts AdminGives)) (DeskLeaves (Puts AdminGives)) result.2 bound
+    ensures attends { Attends AsAdmin (DeskAnswers (Puts AdminGives)) (DeskDeath (Puts AdminGives)) result.2 bound
         (calls_of reader.new - calls_of reader.old) (holding admin (L.given sink))
         (I.remaining (inner_of reader.old)) (I.remaining (inner_of reader.new))
         (O.contents (inner_of writer.old)) (O.contents (inner_of writer.new))
@@ -150,7 +150,7 @@ fn attend<
     requires tend { B.IsAlwaysCallable tend }
     requires reader { failures_of reader.old < greatest_count }
     requires writer { failures_of writer.old < greatest_count }
-    ensures attends { Attends kind (DeskAnswers (Puts C.gives)) (DeskLeaves (Puts C.gives)) result.2 bound
+    ensures attends { Attends kind (DeskAnswers (Puts C.gives)) (DeskDeath (Puts C.gives)) result.2 bound
         (calls_of reader.new - calls_of reader.old) (holding held (L.given sink))
         (I.remaining (inner_of reader.old)) (I.remaining (inner_of reader.new))
         (O.contents (inner_of writer.old)) (O.contents (inner_of writer.new))

@@ -63,7 +63,7 @@ fn follow(services: &mut Services, effect: &Effect) -> Result<(), AllocError>
             services.put(name, *service);
         }
         Effect::Removes { name } => services.remove(name.bytes()),
-        Effect::Dies { client } => services.forget(*client),
+        Effect::Dies { client } => services.remove_client(*client),
         _ => {}
     }
     Ok(())

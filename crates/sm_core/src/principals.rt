@@ -105,7 +105,7 @@ impl Principals {
                 self.clients.reserve(1)?;
                 self.connect(*client, who.clone()?);
             }
-            Effect::Dies { client } => self.forget(*client),
+            Effect::Dies { client } => self.remove_client(*client),
             _ => {}
         }
         Ok(())
@@ -150,7 +150,7 @@ impl Principals {
     }
 
     /// Removes a client.
-    pub fn forget(&mut self, client: u32)
+    pub fn remove_client(&mut self, client: u32)
         ensures stand { (d : Effects) → StandPrincipals d self.old → StandPrincipals (Dies client ∷ d) self.new }
         ensures kept { (vec_capacity self.new.clients ≡ vec_capacity self.old.clients)
             × (length self.new.clients.items ≤ length self.old.clients.items)

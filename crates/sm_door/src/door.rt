@@ -16,7 +16,7 @@ ghost use Rattle.sm_history.specs.Verdict.{is_die};
 ghost use Rattle.sm_core.specs.Opening.{opened, opening_denial};
 ghost use Rattle.sm_history.specs.Promises.{Submitted, Accepted, Queried, Joined, TellsRecords, Turned, Closed};
 ghost use Rattle.sm_history.specs.Promises.{NotClosed, NotTold};
-ghost use Rattle.sm_history.specs.PossibleReplies.{OfConnect, OfLeave, OfInstall};
+ghost use Rattle.sm_history.specs.PossibleReplies.{OfConnect, OfDeath, OfInstall};
 ghost use Rattle.sm_history.specs.Tokens.{Sees, keeps_turn, token};
 ghost use Rattle.sm_history.specs.declared.limits.TheConstants.{MOST_CLIENTS};
 ghost use Rattle.sm_door.specs.declared.opening.TheConstants.{ADMINS};
@@ -38,7 +38,7 @@ use crossbeam_utils::Backoff;
 use left_right::Absorb;
 use sm_core::{Manager, View};
 use sm_history::{
-    Event, Failure, Gate, Query, Record, Refusal, Reply, Segment, installed, is_death, left,
+    Event, Failure, Gate, Query, Record, Refusal, Reply, Segment, died, installed, is_death,
 };
 use sm_kinds::{Class, Identity, Name, Perms, Places};
 use sm_policy::Prepared;
@@ -162,8 +162,8 @@ impl<J: Naming, G: Gate + Drop> Door<J, G> {
         answer
     }
 
-    /// Judges an event of a client, and makes it if it is accepted. A death can't be submitted (`NotYours`): it is a
-    /// `leave`.
+    /// Judges an event of a client, and makes it if it is accepted. A death can't be submitted (`NotYours`): it is made
+    /// by `die`.
     pub fn submit<R: Wait>(&self, rt: &R, me: &mut Session<J>, event: Event) -> Reply
         ensures death { is_die event ≡ true → (result ≡ Refused (Failed NotYours)) × (me.new ≡ me.old) }
         ensures other { is_die event ≡ false → Submitted me.old me.new event result }
@@ -195,15 +195,15 @@ impl<J: Naming, G: Gate + Drop> Door<J, G> {
         self.act(rt, &mut me.actor, event)
     }
 
-    /// Makes the client's last change, and returns its free seat. On error (`OutOfTurn`, `NotConnected` or `Memory`,
-    /// and never `JournalFull`) the session comes back.
-    pub fn leave<R: Wait>(&self, rt: &R, me: Session<J>) -> Result<Seat<J>, (Refusal, Session<J>)>
+    /// Makes the client's death, which is its last change, and returns its free seat. On error (`OutOfTurn`,
+    /// `NotConnected` or `Memory`, and never `JournalFull`) the session comes back.
+    pub fn die<R: Wait>(&self, rt: &R, me: Session<J>) -> Result<Seat<J>, (Refusal, Session<J>)>
         ensures { MatchResult result (λ s. Accepted me (token me.by s.seen s.reads) Die Died)
-            (λ r. OfLeave r.0 × Submitted me r.1 Die (Refused r.0)) }
+            (λ r. OfDeath r.0 × Submitted me r.1 Die (Refused r.0)) }
     {
         let mut me = me;
         let (reply, _records) = self.act(rt, &mut me.actor, Event::Die);
-        match left(reply) {
+        match died(reply) {
             None => Ok(me.into_seat()),
             Some(refusal) => Err((refusal, me)),
         }

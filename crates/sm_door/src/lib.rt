@@ -1,6 +1,6 @@
 //! The door: one manager for many threads, behind one lock, with a published view that is read without it.
 //!
-//! Changes go through the lock, one at a time (`Door::submit`, `connect`, `leave`, `install`). Each change that is
+//! Changes go through the lock, one at a time (`Door::submit`, `connect`, `die`, `install`). Each change that is
 //! accepted is published as a whole **shared view**, a view of the manager, before it is kept, and what can't be
 //! published isn't kept. Reads take the shared view that is published at that moment, and never block (`Door::list`,
 //! `version`, `explain`).

@@ -11,7 +11,7 @@ use sm_kinds::ClientId;
 use std::marker::Model;
 
 /// A connected client's token. It can't be copied, and serves the door that made it. A session that is dropped without
-/// `Door::leave` stays a live client until the door ends.
+/// `Door::die` stays a live client until the door ends.
 pub struct Session<J: Naming> {
     client: ClientId,
     pub(crate) actor: Actor<J>,
@@ -60,7 +60,7 @@ impl<J: Naming> Session<J> {
         actor
     }
 
-    /// Returns the free seat of a client that has left.
+    /// Returns the free seat of a client that has died.
     pub(crate) fn into_seat(self) -> Seat<J>
         ensures { result ≡ token Manager self.seen self.reads }
     {

@@ -383,13 +383,13 @@ spare_more rows i r none k =
 -- ---- a death
 
 -- A client's row is gone.
-pub record IsForgotten (rows rows' : List ClientHandles) (c : ℕ) : Type 0 where
+pub record IsRemoved (rows rows' : List ClientHandles) (c : ℕ) : Type 0 where
   pub tables : (k : ℕ) → table_of rows' k ≡ (let o : Option HandleTable = if c == k then None else table_of rows k in o)
   pub once : IsOnce (map (λ (x : ClientHandles). x.client) rows')
 
-pub none_forgotten : (rows : List ClientHandles) (c : ℕ) → index_from 0 rows c ≡ None
-    → IsOnce (map (λ (x : ClientHandles). x.client) rows) → IsForgotten rows rows c
-none_forgotten rows c h once = record {
+pub none_removed : (rows : List ClientHandles) (c : ℕ) → index_from 0 rows c ≡ None
+    → IsOnce (map (λ (x : ClientHandles). x.client) rows) → IsRemoved rows rows c
+none_removed rows c h once = record {
   tables = λ k. elim (c == k) as (λ b. (c == k) ≡ b →
       table_of rows k ≡ (let o : Option HandleTable = if b then None else table_of rows k in o)) [
         | true ↦ λ e. subst (λ (v : ℕ). table_of rows v ≡ None) (number_same c k e) (no_row 0 rows c h)
@@ -421,13 +421,13 @@ fewer_among (r ∷ rows) (suc i) x h =
     (fewer_among rows i x (or_parts (r.client == x)
     (list_any (λ (y : ℕ). y == x) (map (λ (r : ClientHandles). r.client) rows)) h).1)
 
-forgotten_at : (a : ℕ) (rows : List ClientHandles) (c j : ℕ) → index_from a rows c ≡ Some j
-    → IsOnce (map (λ (x : ClientHandles). x.client) rows) → (i : ℕ) × (j ≡ a + i) × IsForgotten rows (remove rows i) c
-forgotten_at a [] c j h once = cc
-forgotten_at a (r ∷ rows) c j h once =
+removed_at : (a : ℕ) (rows : List ClientHandles) (c j : ℕ) → index_from a rows c ≡ Some j
+    → IsOnce (map (λ (x : ClientHandles). x.client) rows) → (i : ℕ) × (j ≡ a + i) × IsRemoved rows (remove rows i) c
+removed_at a [] c j h once = cc
+removed_at a (r ∷ rows) c j h once =
     elim (r.client == c) as (λ b. (r.client == c) ≡ b →
     (let o : Option ℕ = if b then Some a else index_from (a + 1) rows c in o ≡ Some j) →
-    (i : ℕ) × (j ≡ a + i) × IsForgotten (r ∷ rows) (remove (r ∷ rows) i) c) [
+    (i : ℕ) × (j ≡ a + i) × IsRemoved (r ∷ rows) (remove (r ∷ rows) i) c) [
       | true ↦ λ e f.
           let at : a ≡ j = cc in
           let same = number_same r.client c e in (
@@ -447,7 +447,7 @@ forgotten_at a (r ∷ rows) c j h once =
             },
           )
       | false ↦ λ e f.
-          let w = forgotten_at (a + 1) rows c j f once.1 in
+          let w = removed_at (a + 1) rows c j f once.1 in
           let at = w.1 in (
             suc w.0,
             omega (arith, at),
@@ -467,10 +467,10 @@ forgotten_at a (r ∷ rows) c j h once =
           )
     ] refl h
 
-pub row_forgotten : (rows : List ClientHandles) (c i : ℕ) → index_from 0 rows c ≡ Some i
-    → IsOnce (map (λ (x : ClientHandles). x.client) rows) → IsForgotten rows (remove rows i) c
-row_forgotten rows c i h once = let w = forgotten_at 0 rows c i h once in let e = w.1 in
-    subst (λ (v : ℕ). IsForgotten rows (remove rows v) c) (let f : w.0 ≡ i = omega (arith, e) in f) w.2
+pub row_removed : (rows : List ClientHandles) (c i : ℕ) → index_from 0 rows c ≡ Some i
+    → IsOnce (map (λ (x : ClientHandles). x.client) rows) → IsRemoved rows (remove rows i) c
+row_removed rows c i h once = let w = removed_at 0 rows c i h once in let e = w.1 in
+    subst (λ (v : ℕ). IsRemoved rows (remove rows v) c) (let f : w.0 ≡ i = omega (arith, e) in f) w.2
 
 others_at : (a : ℕ) (rows : List ClientHandles) (c k j : ℕ) → index_from a rows c ≡ Some j → (c == k) ≡ false
     → (i : ℕ) × (j ≡ a + i) × (table_of (remove rows i) k ≡ table_of rows k)
@@ -497,7 +497,7 @@ others_stay rows c i k h e =
     let at = w.1 in
     subst (λ (v : ℕ). table_of (remove rows v) k ≡ table_of rows k) (let f : w.0 ≡ i = omega (arith, at) in f) w.2
 
-pub tracks_dies : (d : Effects) (rows rows' : List ClientHandles) (c : ℕ) → IsForgotten rows rows' c
+pub tracks_dies : (d : Effects) (rows rows' : List ClientHandles) (c : ℕ) → IsRemoved rows rows' c
     → TracksRows d rows → TracksRows (Dies c ∷ d) rows'
 tracks_dies d rows rows' c fo tr = record {
   balanced = step (Dies c) d (λ k m. refl) tr.balanced;

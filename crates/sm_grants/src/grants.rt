@@ -130,7 +130,7 @@ impl Grants {
     }
 
     /// Removes what a client holds, at its death.
-    pub fn forget(&mut self, client: u32)
+    pub fn remove_client(&mut self, client: u32)
         ensures tracks { (d : Effects) → Tracks d self.old → Tracks (Dies client ∷ d) self.new }
         ensures others { (k : ℕ) → (client == k) ≡ false → spare_for self.new k ≡ spare_for self.old k }
     {

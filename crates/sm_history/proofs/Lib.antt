@@ -58,8 +58,8 @@ pub mod TokensGrow
 pub mod Turns
 pub mod PossibleReplies
 pub mod SpannedNames
+pub mod SubmittedReplies
 pub mod Submitting
-pub mod Leaving
 pub mod Joining
 pub mod SealedTokens
 pub mod Staying

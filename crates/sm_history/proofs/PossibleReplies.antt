@@ -15,19 +15,19 @@ use Rattle.sm_history.specs.Checks.{Wants, first_failing}
 use Rattle.sm_history.specs.Histories.{History, effects_of, turn_of}
 use Rattle.sm_history.specs.Segments.{client}
 use Rattle.sm_history.specs.Verdict.{verdict, answered, has_place}
-use Rattle.sm_history.specs.PossibleReplies.{ConnectReply, LeaveReply, InstallReply}
+use Rattle.sm_history.specs.PossibleReplies.{ConnectReply, DeathReply, InstallReply}
 
-leave_of : (p : Policy) (b c : Bool) (n : ℕ) → LeaveReply (answered (first_failing p
+death_of : (p : Policy) (b c : Bool) (n : ℕ) → DeathReply (answered (first_failing p
     (Wants true (Refused (Failed NotYours)) ∷ Wants b (Refused (Failed NotConnected))
     ∷ Wants c (Refused (Failed (OutOfTurn n))) ∷ Wants true (Refused JournalFull) ∷ [])) Died)
-leave_of p true true n = tt
-leave_of p true false n = tt
-leave_of p false c n = tt
+death_of p true true n = tt
+death_of p true false n = tt
+death_of p false c n = tt
 
-pub leave_answer : (places : ℕ) (h : History) (c turn : ℕ) → LeaveReply (verdict places h (client c) turn Die)
-leave_answer places h c turn =
+pub death_answer : (places : ℕ) (h : History) (c turn : ℕ) → DeathReply (verdict places h (client c) turn Die)
+death_answer places h c turn =
     let n = turn_of h (client c) in
-    leave_of (policy_at (effects_of h)) (is_live (effects_of h) c) (turn == n) n
+    death_of (policy_at (effects_of h)) (is_live (effects_of h) c) (turn == n) n
 
 install_of : (p : Policy) (c x y : Bool) (n v o : ℕ) → InstallReply (answered (first_failing p
     (Wants true (Refused (Failed NotYours)) ∷ Wants true (Refused (Failed NotConnected))

@@ -52,17 +52,17 @@ OfConnect JournalFull = Unit {0}
 OfConnect Memory = Unit {0}
 OfConnect _ = ⊥
 
--- A client that ends may be out of turn, or not connected any more.
-abbrev pub FailsLeave : Failure → Type 0
-FailsLeave NotConnected = Unit {0}
-FailsLeave (OutOfTurn n) = Unit {0}
-FailsLeave _ = ⊥
+-- A client that dies may be out of turn, or not connected any more.
+abbrev pub FailsDeath : Failure → Type 0
+FailsDeath NotConnected = Unit {0}
+FailsDeath (OutOfTurn n) = Unit {0}
+FailsDeath _ = ⊥
 
--- A client may be refused to end for these reasons. Its journal slot is kept for it.
-abbrev pub OfLeave : Refusal → Type 0
-OfLeave (Failed failure) = FailsLeave failure
-OfLeave Memory = Unit {0}
-OfLeave _ = ⊥
+-- A client's death may be refused for these reasons. Its journal slot is kept for it.
+abbrev pub OfDeath : Refusal → Type 0
+OfDeath (Failed failure) = FailsDeath failure
+OfDeath Memory = Unit {0}
+OfDeath _ = ⊥
 
 -- An administrator's change may be out of turn.
 abbrev pub FailsInstall : Failure → Type 0
@@ -84,10 +84,10 @@ ConnectReply (Refused refusal) = OfConnect refusal
 ConnectReply _ = ⊥
 
 -- A client's Die has one of these answers.
-abbrev pub LeaveReply : Reply → Type 0
-LeaveReply (Done Died) = Unit {0}
-LeaveReply (Refused refusal) = OfLeave refusal
-LeaveReply _ = ⊥
+abbrev pub DeathReply : Reply → Type 0
+DeathReply (Done Died) = Unit {0}
+DeathReply (Refused refusal) = OfDeath refusal
+DeathReply _ = ⊥
 
 -- An administrator's Reload has one of these answers.
 abbrev pub InstallReply : Reply → Type 0

@@ -25,7 +25,7 @@ use Rattle.sm_history.specs.Segments.{sealed}
 use Rattle.sm_history.specs.Verdict.{verdict, is_there}
 use Rattle.sm_history.specs.BookOrder.{Begins, IsLawfulBook, extended, sealed_book}
 use Rattle.sm_history.specs.Promises.{Submitted, Joined, Turned, Closed, NotClosed}
-use Rattle.sm_history.specs.PossibleReplies.{moves, ConnectReply, LeaveReply, InstallReply}
+use Rattle.sm_history.specs.PossibleReplies.{moves, ConnectReply, DeathReply, InstallReply}
 use Rattle.sm_history.specs.Steps.{Steps, ClosesSegment, StaysOpen}
 use Rattle.sm_history.specs.Tokens.{Knows, Grows, Sees, token, turn}
 
@@ -134,9 +134,9 @@ UnseenIsSubmitted = (b after : Book) (old : Knows) (event : Event) (reply : Repl
     → Steps b old.by (turn old) event reply after → Submitted old old event reply
 
 -- A client's Die has one of its possible answers.
-abbrev pub LeaveIsAnswered : Type 0
-LeaveIsAnswered = (old new : Knows) (c : ClientId) (reply : Reply) → old.by ≡ Client c
-    → Submitted old new Die reply → LeaveReply reply
+abbrev pub DeathIsAnswered : Type 0
+DeathIsAnswered = (old new : Knows) (c : ClientId) (reply : Reply) → old.by ≡ Client c
+    → Submitted old new Die reply → DeathReply reply
 
 -- An administrator's Reload has one of its possible answers.
 abbrev pub InstallIsAnswered : Type 0

@@ -6,7 +6,7 @@
 //!
 //! Threads share one manager behind a lock, and each has a token. In contracts a token knows a history, the one that
 //! its thread has seen; that history only goes on, and is always lawful (`specs/Tokens.antt`). What a change, a read, a
-//! connect or a leave promises of it is in `specs/Promises.antt`: the answer is the verdict of the history that the
+//! connect or a death promises of it is in `specs/Promises.antt`: the answer is the verdict of the history that the
 //! token sees from then on, and this one begins with all that it had seen before. `promises` derives this from one step
 //! of the manager and the book that is seen after it.
 //!
@@ -69,7 +69,7 @@ pub use query::Query;
 pub use records::Record;
 pub use refusal::{Exception, Failure, Refusal};
 pub use reply::{Answer, Reply};
-pub use results::{connected, installed, is_death, left, moves};
+pub use results::{connected, died, installed, is_death, moves};
 pub use rows::Rows;
 pub use segment::Segment;
 pub use service::Service;

@@ -35,7 +35,7 @@ pub fn connect(
 }
 
 /// Removes a client's row.
-pub fn forget(live: &mut Vec<ClientRow>, client: u32)
+pub fn remove_client(live: &mut Vec<ClientRow>, client: u32)
     ensures { (d : Effects) → Sound d → TracksClients d live.old.items
         → MayFollow d (Dies client) → TracksClients (Dies client ∷ d) live.new.items }
 {

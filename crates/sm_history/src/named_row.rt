@@ -74,7 +74,7 @@ pub fn remove_name(rows: &mut Vec<NamedRow>, name: &[u8])
 }
 
 /// Removes the services of a client's objects.
-pub fn forget_names(rows: &mut Vec<NamedRow>, client: u32)
+pub fn remove_names(rows: &mut Vec<NamedRow>, client: u32)
     ensures { (d : Effects) → TracksNames d rows.old.items → TracksNames (Dies client ∷ d) rows.new.items }
 {
     rows.retain(|row| client != row.service.node.owner.0);

@@ -6,7 +6,7 @@ ghost use Rattle.sm_history.specs.PromiseLaws.{BeginningIsBefore, NothingGoesBac
 ghost use Rattle.sm_history.specs.PromiseLaws.{ClientStays};
 ghost use Rattle.sm_history.specs.PromiseLaws.{SealIsNoChange, DoneIsInTurn, OutOfTurnTellsTurn, OthersAreInTurn};
 ghost use Rattle.sm_history.specs.PromiseLaws.{NotYoursIsAlike, TokenGoesOn, StepIsSubmitted, UnseenIsSubmitted};
-ghost use Rattle.sm_history.specs.PromiseLaws.{LeaveIsAnswered, InstallIsAnswered, ConnectIsAnswered, PlaceSeesAlike};
+ghost use Rattle.sm_history.specs.PromiseLaws.{DeathIsAnswered, InstallIsAnswered, ConnectIsAnswered, PlaceSeesAlike};
 ghost use Rattle.sm_history.specs.PromiseLaws.{ConnectJoins, ConnectTurns, SealCloses, OpenIsNotClosed};
 
 /// "Begins with" is an order of books. A book comes after the one that judged its last change, and after the one that
@@ -49,9 +49,9 @@ pub fn submitting()
     ensures unseen { UnseenIsSubmitted }
 {}
 
-/// The possible answers to a client's last change and to an administrator's change.
+/// The possible answers to a client's death and to an administrator's change.
 pub fn answers()
-    ensures leave { LeaveIsAnswered }
+    ensures death { DeathIsAnswered }
     ensures install { InstallIsAnswered }
 {}
 

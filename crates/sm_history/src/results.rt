@@ -4,8 +4,8 @@ ghost use Rattle.std.specs.Prelude.{◌≡◌, MatchResult, MatchOption};
 ghost use Rattle.sm_history.specs.Verdict.{is_die};
 ghost use Rattle.sm_history.specs.declared.outcome.Outcome.TheVariants.{Connected, Died, Reloaded};
 ghost use Rattle.sm_history.specs.declared.reply.Reply.TheVariants.{Done, Refused};
-ghost use Rattle.sm_history.specs.PossibleReplies.{moves, refusal_moves, ConnectReply, LeaveReply, InstallReply};
-ghost use Rattle.sm_history.specs.PossibleReplies.{OfConnect, OfLeave, OfInstall};
+ghost use Rattle.sm_history.specs.PossibleReplies.{moves, refusal_moves, ConnectReply, DeathReply, InstallReply};
+ghost use Rattle.sm_history.specs.PossibleReplies.{OfConnect, OfDeath, OfInstall};
 
 use crate::{Event, Failure, Outcome, Refusal, Reply};
 use sm_kinds::ClientId;
@@ -50,10 +50,10 @@ pub fn connected(reply: Reply) -> Result<ClientId, Refusal>
     }
 }
 
-/// Returns why a client hasn't left (`OutOfTurn`, `NotConnected` or `Memory`), or `None` if it has.
-pub fn left(reply: Reply) -> Option<Refusal>
-    requires { LeaveReply reply }
-    ensures { MatchOption result (reply ≡ Done Died) (λ r. (reply ≡ Refused r) × OfLeave r) }
+/// Returns why a client hasn't died (`OutOfTurn`, `NotConnected` or `Memory`), or `None` if it has.
+pub fn died(reply: Reply) -> Option<Refusal>
+    requires { DeathReply reply }
+    ensures { MatchOption result (reply ≡ Done Died) (λ r. (reply ≡ Refused r) × OfDeath r) }
 {
     match reply {
         Reply::Done(Outcome::Died) => None,

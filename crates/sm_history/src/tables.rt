@@ -18,8 +18,8 @@ ghost use Rattle.sm_history.specs.Tables.{TracksTables};
 use crate::client_row::ClientRow;
 use crate::delivery::BoxedDelivery;
 use crate::effect::Watch;
-use crate::live::{connect, deliver_to, forget, give_to, release_of, take_from};
-use crate::named_row::{NamedRow, forget_names, put_name, remove_name};
+use crate::live::{connect, deliver_to, give_to, release_of, remove_client, take_from};
+use crate::named_row::{NamedRow, put_name, remove_name, remove_names};
 use crate::service::Service;
 use sm_kinds::{Identity, Name, Node};
 use sm_policy::Prepared;
@@ -67,7 +67,7 @@ fn end_watches(watches: &mut Vec<Watch>, client: u32, name: &[u8], object: u32)
 }
 
 /// Removes a client's watches.
-fn forget_watches(watches: &mut Vec<Watch>, client: u32)
+fn remove_watches(watches: &mut Vec<Watch>, client: u32)
     ensures { watches.new.items ≡ filter (λ w. not (client == w.client)) watches.old.items }
 {
     watches.retain(|w| client != w.client);
@@ -108,9 +108,9 @@ impl Tables {
         ensures { (d : Effects) → Sound d → TracksTables d self.old
             → MayFollow d (Dies client) → TracksTables (Dies client ∷ d) self.new }
     {
-        forget(&mut self.live, client);
-        forget_names(&mut self.names, client);
-        forget_watches(&mut self.watches, client);
+        remove_client(&mut self.live, client);
+        remove_names(&mut self.names, client);
+        remove_watches(&mut self.watches, client);
     }
 
     /// Sets the service of a name. Returns an error if an allocation fails.

@@ -165,7 +165,7 @@ impl Inboxes {
     }
 
     /// Removes a client's inbox with its deliveries.
-    pub fn forget(&mut self, client: u32)
+    pub fn remove_client(&mut self, client: u32)
         ensures tracks { (d : Effects) → TracksInboxes d self.old → TracksInboxes (Dies client ∷ d) self.new }
         ensures still { (k : ℕ) → (client == k) ≡ false → is_open self.new k ≡ is_open self.old k }
         ensures others { (k : ℕ) → (client == k) ≡ false → room_of self.new k ≡ room_of self.old k }

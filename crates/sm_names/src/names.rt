@@ -186,14 +186,14 @@ impl NameTable {
     }
 
     /// Removes the services of a client's objects, and its watches.
-    pub fn forget(&mut self, client: u32)
+    pub fn remove_client(&mut self, client: u32)
         ensures tracks { (d : Effects) → TracksNames d self.old
             → TracksNames (Dies client ∷ d) self.new }
         ensures left { (n : ℕ) → HasRoom n self.old → HasRoom n self.new }
         ensures fewer { watch_count self.new ≤ watch_count self.old }
     {
-        self.services.forget(client);
-        self.watches.forget(client);
-        self.order.forget(client);
+        self.services.remove_client(client);
+        self.watches.remove_client(client);
+        self.order.remove_client(client);
     }
 }

@@ -195,7 +195,7 @@ impl Services {
     }
 
     /// Removes the services of a client's objects.
-    pub fn forget(&mut self, client: u32)
+    pub fn remove_client(&mut self, client: u32)
         ensures tracks { (d : Effects) → TracksRows d self.old.rows.items
             → TracksRows (Dies client ∷ d) self.new.rows.items }
         ensures kept { (vec_capacity self.new.rows ≡ vec_capacity self.old.rows)

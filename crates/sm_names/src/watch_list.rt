@@ -191,7 +191,7 @@ impl WatchList {
     }
 
     /// Removes a client's watches.
-    pub fn forget(&mut self, client: u32)
+    pub fn remove_client(&mut self, client: u32)
         ensures tracks { (d : Effects) → TracksList d self.old.list.items
             → TracksList (Dies client ∷ d) self.new.list.items }
         ensures kept { (vec_capacity self.new.list ≡ vec_capacity self.old.list)

@@ -67,7 +67,7 @@ impl WatchOrder {
     }
 
     /// Removes a client's watches.
-    pub fn forget(&mut self, client: u32)
+    pub fn remove_client(&mut self, client: u32)
         ensures tracks { (d : Effects) → self.old.list.items ≡ watches_at d
             → self.new.list.items ≡ watches_at (Dies client ∷ d) }
         ensures kept { (vec_capacity self.new.list ≡ vec_capacity self.old.list)

@@ -1,7 +1,7 @@
 //! One connection's session, from its first line to its end.
 
+use crate::dying_clients::DyingClients;
 use crate::entrance::Entrance;
-use crate::leavers::Leavers;
 use crate::pace::{Pace, Paced};
 use crate::patience::{Patience, limit_administrator};
 use crate::sealing::seal_if_due;
@@ -20,15 +20,15 @@ use std::sync::Wait;
 /// The most reads of a session. Each gives at least one byte, or is the last.
 const READS: u32 = 16_777_216;
 
-/// Serves a client's connection, which has a seat from its first `hello` to its end. A client that can't leave at its
-/// end is left to the leavers, who are tried again whenever a connection begins or ends. After each answer the journal
-/// is sealed if it is due.
+/// Serves a client's connection, which has a seat from its first `hello` to its end. A client that can't die at its
+/// end joins those that are dying, which are tried again whenever a connection begins or ends. After each answer the
+/// journal is sealed if it is due.
 pub fn attend_client<J: Naming, G: Gate + Drop, H: Supervisor, R: Wait + Clock>(
     rt: &R,
     alloc: Global,
     door: &Door<J, G>,
     seats: &FreeSeats<J>,
-    leavers: &Leavers<J>,
+    dying: &DyingClients<J>,
     sealer: &SharedAdmin<J>,
     monitor: &Monitor<H>,
     patience: Patience,
@@ -37,11 +37,11 @@ pub fn attend_client<J: Naming, G: Gate + Drop, H: Supervisor, R: Wait + Clock>(
     let Ok(pace) = Pace::new(rt, stream, patience) else {
         return;
     };
-    leavers.retry(rt, door, seats, monitor);
+    dying.retry(rt, door, seats, monitor);
     let held = attend_stream(rt, alloc, door, seats, sealer, monitor, &pace);
-    leavers.take_over(rt, seats, held);
+    dying.take_over(rt, seats, held);
     seal_if_due(rt, door, sealer, monitor);
-    leavers.retry(rt, door, seats, monitor);
+    dying.retry(rt, door, seats, monitor);
 }
 
 // Serves a client's connection at this pace, and returns what it still holds.

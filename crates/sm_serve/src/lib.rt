@@ -4,9 +4,9 @@
 mod admitting;
 mod arriving;
 mod attending;
+mod dying_clients;
 mod entrance;
 mod faults;
-mod leavers;
 mod live;
 mod log_lines;
 mod log_writer;

@@ -5,9 +5,9 @@ ghost use denote.Param.Send.{IsSend, IsSync};
 use crate::admitting::admit;
 use crate::arriving::arrival;
 use crate::attending::{attend_administrator, attend_client};
+use crate::dying_clients::DyingClients;
 use crate::entrance::Entrance;
 use crate::faults::Faults;
-use crate::leavers::Leavers;
 use crate::patience::Patience;
 use crate::queue::{Arrivals, Queue, next, queue_of};
 use crate::shared_admin::SharedAdmin;
@@ -69,7 +69,7 @@ pub fn serve<
     let Ok((to, queue)) = queue_of(alloc) else {
         return Err(ServeFault::Memory);
     };
-    let Ok(leavers) = Leavers::new(alloc) else {
+    let Ok(dying) = DyingClients::new(alloc) else {
         return Err(ServeFault::Memory);
     };
     let faults = Faults::new(alloc);
@@ -78,10 +78,10 @@ pub fn serve<
         return Err(ServeFault::Memory);
     };
     run_threads(
-        rt, alloc, host, clients, admins, door, seats, admin, numbers, to, &queue, &leavers,
-        &sealer, &gauge, &faults,
+        rt, alloc, host, clients, admins, door, seats, admin, numbers, to, &queue, &dying, &sealer,
+        &gauge, &faults,
     );
-    leavers.retry(rt, door, seats, &Monitor::new(host, &gauge));
+    dying.retry(rt, door, seats, &Monitor::new(host, &gauge));
     faults.into_result()
 }
 
@@ -105,7 +105,7 @@ fn run_threads<
     numbers: Numbers,
     to: Arrivals,
     queue: &Queue,
-    leavers: &Leavers<J>,
+    dying: &DyingClients<J>,
     sealer: &SharedAdmin<J>,
     gauge: &Gauge,
     faults: &Faults,
@@ -130,7 +130,7 @@ fn run_threads<
         shares::<Door<J, G>>();
         sends::<Session<J>>();
         shares::<FreeSeats<J>>();
-        shares::<Leavers<J>>();
+        shares::<DyingClients<J>>();
         shares::<Queue>();
         shares::<SharedAdmin<J>>();
         shares::<Faults>();
@@ -139,7 +139,7 @@ fn run_threads<
             faults.live().begin_thread();
             let started = scope.spawn(move || {
                 work(
-                    rt, alloc, host, gauge, door, seats, leavers, sealer, patience, queue, faults,
+                    rt, alloc, host, gauge, door, seats, dying, sealer, patience, queue, faults,
                 );
             });
             if started.is_err() {
@@ -178,7 +178,7 @@ fn work<J: Naming, G: Gate + Drop, H: Supervisor, R: Wait + Clock>(
     gauge: &Gauge,
     door: &Door<J, G>,
     seats: &FreeSeats<J>,
-    leavers: &Leavers<J>,
+    dying: &DyingClients<J>,
     sealer: &SharedAdmin<J>,
     patience: Patience,
     queue: &Queue,
@@ -194,7 +194,7 @@ fn work<J: Naming, G: Gate + Drop, H: Supervisor, R: Wait + Clock>(
             continue;
         };
         attend_client(
-            rt, alloc, door, seats, leavers, sealer, &monitor, patience, &stream,
+            rt, alloc, door, seats, dying, sealer, &monitor, patience, &stream,
         );
         faults.live().leave(rt, number);
     }

@@ -11,7 +11,7 @@ use Rattle.sm_wire.specs.declared.item.Item.{Item}
 use Rattle.sm_wire.specs.declared.item.Item.TheVariants as items
 use Rattle.sm_wire.specs.Texts.{Texts}
 use Rattle.sm_session.specs.declared.command.Command.{Command}
-use Rattle.sm_session.specs.declared.command.Command.TheVariants.{Hello, Line, Install, End}
+use Rattle.sm_session.specs.declared.command.Command.TheVariants.{Hello, Line, Install, Death}
 use Rattle.sm_session.specs.declared.response.Response.{Response}
 use Rattle.sm_session.specs.declared.response.Response.TheVariants.{PolicyRefused}
 
@@ -44,6 +44,6 @@ DeskAnswers answers old (items.Policy texts) response new = AnswersPolicy answer
 DeskAnswers answers old items.Malformed response new = ⊥
 DeskAnswers answers old items.LineTooLong response new = ⊥
 
--- A session of a desk ends so.
-abbrev pub DeskLeaves : {D : Type 0} → Answers D → D → D → Type 0
-DeskLeaves answers old new = (response : Response) × answers old End response new
+-- A desk takes the death of its client so.
+abbrev pub DeskDeath : {D : Type 0} → Answers D → D → D → Type 0
+DeskDeath answers old new = (response : Response) × answers old Death response new

@@ -79,7 +79,7 @@ unfoldable pub is_connected : Response → Bool
 is_connected (Replied (Done (Connected client))) = true
 is_connected _ = false
 
--- An answer says that the client has ended.
+-- An answer says that the client has died.
 unfoldable pub is_died : Response → Bool
 is_died (Replied (Done Died)) = true
 is_died _ = false
@@ -89,17 +89,17 @@ abbrev pub makes_client : Item → Response → Bool
 makes_client (Asked (Hello who)) response = is_connected response
 makes_client _ response = false
 
--- A `bye` is answered by `bye`.
-abbrev pub ends : Item → Response → Bool
-ends (Asked (Change client event)) response = is_die event && is_died response
-ends _ response = false
+-- A client dies: its `bye` is answered by `bye`.
+abbrev pub dies : Item → Response → Bool
+dies (Asked (Change client event)) response = is_die event && is_died response
+dies _ response = false
 
 -- The desk was asked the item once, and this was its answer.
 pub record Asks {D : Type 0} (answers : D → Item → Response → D → Type 0) (old : SessionState D) (item : Item)
     (response : Response) (new : SessionState D) : Type 0 where
   pub asked : answers old.desk item response new.desk
   pub connected : new.connected ≡ (makes_client item response || old.connected)
-  pub over : new.over ≡ (ends item response || old.over)
+  pub over : new.over ≡ (dies item response || old.over)
   pub kind : new.kind ≡ old.kind
 
 -- The desk was asked the item once, and its answer's line is written.
@@ -141,13 +141,13 @@ held_limit = 8192
 abbrev pub begins : {D : Type 0} → Kind → D → SessionState D
 begins kind desk = record { kind = kind; desk = desk; connected = false; over = false }
 
--- The desk was told of the end once, if a client was made; otherwise the desk is as it was.
-abbrev pub Leaves : {D : Type 0} → (D → D → Type 0) → SessionState D → D → Type 0
-Leaves leaves last desk = MatchBool last.connected (leaves last.desk desk) (desk ≡ last.desk)
+-- The desk was told once of the client's death, if a client was made; otherwise the desk is as it was.
+abbrev pub TellsDeath : {D : Type 0} → (D → D → Type 0) → SessionState D → D → Type 0
+TellsDeath death last desk = MatchBool last.connected (death last.desk desk) (desk ≡ last.desk)
 
 -- A whole session has asked the desk this for the bytes that it read in this number of reads, has written this for
--- them, and has left the desk so.
-pub record Attends {D : Type 0} (kind : Kind) (answers : D → Item → Response → D → Type 0) (leaves : D → D → Type 0)
+-- them, and has told the desk of the client's death so.
+pub record Attends {D : Type 0} (kind : Kind) (answers : D → Item → Response → D → Type 0) (death : D → D → Type 0)
     (result : Result (Unit {0}) Fault) (bound reads : ℕ) (old : D) (r r_new w w_new : Option (List ℕ)) (new : D)
     : Type 0 where
   pub last : SessionState D
@@ -156,7 +156,7 @@ pub record Attends {D : Type 0} (kind : Kind) (answers : D → Item → Response
       w_new (Some []) unaudited last
   -- An input that is answered whole is at its end, unless a `bye` was answered before.
   pub end : OnOk result (MatchBool last.over (Unit {0}) (IsAtEnd r_new))
-  pub left : Leaves leaves last new
+  pub told : TellsDeath death last new
 
 -- This text was appended to another.
 abbrev pub Appends : (List ℕ → Type 0) → List ℕ → List ℕ → Type 0

@@ -13,6 +13,6 @@ pub enum Command {
     Line(Request),
     /// An administrator replaces the policy, if the one in force has the expected version.
     Install { expected: u64, prepared: Prepared },
-    /// The session of a client has ended. If the client has left, there is nothing to do.
-    End,
+    /// The session of a client has ended, and so the client dies. If it is dead, there is nothing to do.
+    Death,
 }

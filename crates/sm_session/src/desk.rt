@@ -14,7 +14,7 @@ pub trait Desk {
     // The command may be answered so, with the desk in this state afterwards.
     ghost answers: { Self → Command → Response → Self → Type 0 };
 
-    /// Answers a command. The answer to `Command::End` is ignored.
+    /// Answers a command. The answer to `Command::Death` is ignored.
     fn answer(&mut self, command: Command) -> Response
         requires can { can_answer self.old }
         ensures can { can_answer self.new }

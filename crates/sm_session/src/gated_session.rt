@@ -1,8 +1,8 @@
 //! A session that calls its gate at each line.
 
 ghost use Rattle.std.specs.Prelude.{◌≡◌};
-ghost use Rattle.sm_session.specs.Desks.{DeskAnswers, DeskLeaves};
-ghost use Rattle.sm_session.specs.Sessions.{AnswersItem, Leaves, begins, held_limit, is_over};
+ghost use Rattle.sm_session.specs.Desks.{DeskAnswers, DeskDeath};
+ghost use Rattle.sm_session.specs.Sessions.{AnswersItem, TellsDeath, begins, held_limit, is_over};
 
 use crate::command::Command;
 use crate::desk::Desk;
@@ -56,9 +56,9 @@ impl<'a, D: Desk, G: Gate> GatedSession<'a, D, G> {
         }
     }
 
-    /// Ends the session: tells the desk so if it has a client.
+    /// Ends the session: tells the desk of its client's death, if it has one.
     pub fn close(self) -> D
-        ensures { Leaves (DeskLeaves D.answers) self.entry result }
+        ensures { TellsDeath (DeskDeath D.answers) self.entry result }
     {
         let GatedSession {
             alloc: _,
@@ -76,9 +76,9 @@ impl<'a, D: Desk, G: Gate> GatedSession<'a, D, G> {
         if !connected {
             return desk;
         }
-        let mut leaving = desk;
-        leaving.answer(Command::End);
-        leaving
+        let mut desk = desk;
+        desk.answer(Command::Death);
+        desk
     }
 }
 

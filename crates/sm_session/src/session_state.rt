@@ -136,17 +136,17 @@ impl<D: Desk> SessionState<D> {
         response
     }
 
-    // Asks for a change, and records whether the client has left.
+    // Asks for a change, and records whether the client has died.
     fn change(&mut self, client: Option<ClientId>, event: Event) -> Response
         requires can { D.can_answer self.old.desk }
         ensures can { D.can_answer self.new.desk }
         ensures asks { Asks (DeskAnswers D.answers) self.old (Asked (Change client event)) result self.new }
     {
-        let leaving = is_death(&event);
+        let dies = is_death(&event);
         let response = self
             .desk
             .answer(Command::Line(Request::Change(client, event)));
-        self.over = (leaving & is_died(&response)) | self.over;
+        self.over = (dies & is_died(&response)) | self.over;
         response
     }
 

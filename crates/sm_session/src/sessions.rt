@@ -2,7 +2,7 @@
 
 ghost use Rattle.std.specs.Prelude.{◌≡◌, ◌<◌, ◌-◌, ◌⊎◌, true, if◌then◌else◌};
 ghost use Rattle.sm_engine.specs.Counts.{failures_of, calls_of, inner_of, greatest_count};
-ghost use Rattle.sm_session.specs.Desks.{DeskAnswers, DeskLeaves};
+ghost use Rattle.sm_session.specs.Desks.{DeskAnswers, DeskDeath};
 ghost use Rattle.sm_session.specs.Sessions.{Attends, Counts};
 
 use crate::desk::Desk;
@@ -15,7 +15,7 @@ use std::io::{Read, Write};
 
 /// Serves one connection of a client or an administrator: passes its lines to the desk until they end, until a `bye` is
 /// answered by `bye`, until a fault, or until `bound` reads were made. Returns the desk, which was told of
-/// the end if it had a client.
+/// its client's death if it had one.
 pub fn session<D: Desk, G: Gate, R: Read, W: Write>(
     alloc: Global,
     kind: Kind,
@@ -28,7 +28,7 @@ pub fn session<D: Desk, G: Gate, R: Read, W: Write>(
     requires can { D.can_answer desk }
     requires reader { failures_of reader.old < greatest_count }
     requires writer { failures_of writer.old < greatest_count }
-    ensures attends { Attends kind (DeskAnswers D.answers) (DeskLeaves D.answers) result.1 bound
+    ensures attends { Attends kind (DeskAnswers D.answers) (DeskDeath D.answers) result.1 bound
         (calls_of reader.new - calls_of reader.old) desk
         (R.remaining (inner_of reader.old)) (R.remaining (inner_of reader.new))
         (W.contents (inner_of writer.old)) (W.contents (inner_of writer.new)) result.0 }

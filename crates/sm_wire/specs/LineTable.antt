@@ -135,7 +135,7 @@ denials_line = line (codes "denials") [] Denials
 abbrev pub seal_line : Production
 seal_line = line (codes "seal") [] Seal
 
--- These are a client's lines that change what is registered, and the one by which it leaves.
+-- These are a client's lines that change what is registered, and the one by which it dies.
 abbrev pub registering_lines : Option ClientId → List Production
 registering_lines who = add_line who ∷ watch_line who ∷ unwatch_line who ∷ unregister_line who ∷ bye_line who ∷ []
 

@@ -61,7 +61,7 @@ pub fn client_request(
     registering_request(recent, client, word, fields, items)
 }
 
-// Reads a change of what is registered, or a leave.
+// Reads a change of what is registered, or a client's death.
 #[tactic(auto, unfolding(crate::specs::Grammar::lines_of, crate::specs::Grammar::parsed_by))]
 fn registering_request(
     recent: &mut RecentNames,

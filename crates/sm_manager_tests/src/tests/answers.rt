@@ -1,6 +1,6 @@
 //! What no contract says: that these calls give what they are called for.
 
-use sm_history::{Event, Outcome, Refusal, Reply, connected, installed, is_death, left, moves};
+use sm_history::{Event, Outcome, Refusal, Reply, connected, died, installed, is_death, moves};
 use sm_kinds::ClientId;
 use std::process::Abort;
 
@@ -8,7 +8,7 @@ use std::process::Abort;
 fn replies_are_taken_apart(rt: HostRuntime) {
     let client = connected(Reply::Done(Outcome::Connected(ClientId(7))));
     assert!(rt; client.ok() == Some(ClientId(7)));
-    assert!(rt; left(Reply::Done(Outcome::Died)).is_none());
+    assert!(rt; died(Reply::Done(Outcome::Died)).is_none());
     let version = installed(Reply::Done(Outcome::Reloaded(2)));
     assert!(rt; version.ok() == Some(2));
     let refused = installed(Reply::Refused(Refusal::VersionMoved(2)));

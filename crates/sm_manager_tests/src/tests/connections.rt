@@ -36,7 +36,7 @@ fn a_client_says_bye(rt: HostRuntime) {
         .expect(&rt, "memory");
     let desk = device_desk(&rt, alloc);
     let desk = ends_at(&rt, alloc, Kind::Client, desk, &said, None);
-    assert!(rt; desk.ends == 1);
+    assert!(rt; desk.deaths == 1);
 }
 
 const AN_APPLICATION: Talk = &[
@@ -77,7 +77,7 @@ fn an_administrator_reads_what_a_client_was_denied(rt: HostRuntime) {
     assert!(rt; desk.does(&rt, SERVER, Act::Add));
     let desk = holds_at(&rt, alloc, Kind::Client, desk, AN_APPLICATION);
     let desk = holds_at(&rt, alloc, Kind::Admin, desk, WHAT_IT_WAS_DENIED);
-    assert!(rt; desk.ends == 1);
+    assert!(rt; desk.deaths == 1);
 }
 
 /// An administrator's connection: a refused policy, one that is accepted, one that comes too late.
@@ -102,7 +102,7 @@ fn an_administrator_reloads(rt: HostRuntime) {
     let said = an_administrator(alloc).ok().expect(&rt, "memory");
     let desk = device_desk(&rt, alloc);
     let desk = ends_at(&rt, alloc, Kind::Admin, desk, &said, None);
-    assert!(rt; desk.ends == 0);
+    assert!(rt; desk.deaths == 0);
 }
 
 // Before a client is made all else is malformed.
@@ -156,9 +156,9 @@ fn lines_out_of_their_place(rt: HostRuntime) {
     let desk = device_desk(&rt, alloc);
     let desk = holds_at(&rt, alloc, Kind::Client, desk, BEFORE_A_HELLO);
     let desk = holds_at(&rt, alloc, Kind::Admin, desk, NOT_OF_AN_ADMINISTRATOR);
-    assert!(rt; desk.ends == 0);
+    assert!(rt; desk.deaths == 0);
     let desk = holds_at(&rt, alloc, Kind::Client, desk, NOT_OF_A_CLIENT);
-    assert!(rt; desk.ends == 1);
+    assert!(rt; desk.deaths == 1);
 }
 
 const A_LOST_SERVER: Talk = &[
@@ -180,7 +180,7 @@ fn push_too_long(alloc: Global, said: &mut Said) -> Result<(), AllocError> {
     said.wanted.extend_from_slice(b"fault long\n")
 }
 
-// Nothing after a line that is too long is read, and the client has left.
+// Nothing after a line that is too long is read, and the client has died.
 #[test]
 fn a_line_too_long(rt: HostRuntime) {
     let alloc = rt.alloc();
@@ -195,6 +195,6 @@ fn a_line_too_long(rt: HostRuntime) {
         &said,
         Some(Fault::LineTooLong),
     );
-    assert!(rt; desk.ends == 1);
+    assert!(rt; desk.deaths == 1);
     holds_at(&rt, alloc, Kind::Client, desk, AFTER_A_LOST_SERVER);
 }

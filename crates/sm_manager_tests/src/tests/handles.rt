@@ -34,7 +34,7 @@ fn numbers_are_used_again(rt: HostRuntime) {
     assert!(rt; grants.resolve(7, ObjRef::Own(4)) == Some(object(7, 4)));
     assert!(rt; give(&rt, &mut grants, 7, object(3, 5)) == 1);
     assert!(rt; grants.node(7, 1) == Some(object(3, 5)));
-    grants.forget(7);
+    grants.remove_client(7);
     assert!(rt; grants.node(7, 1).is_none());
     assert!(rt; grants.number_for(7, object(2, 5)) == 1);
 }

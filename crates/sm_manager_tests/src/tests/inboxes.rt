@@ -65,7 +65,7 @@ fn the_oldest_is_taken_first(rt: HostRuntime) {
     assert!(rt; taken(&mut inboxes, 7) == 2);
     assert!(rt; taken(&mut inboxes, 7) == 0);
     assert!(rt; oldest(&inboxes, 8) == 5);
-    inboxes.forget(8);
+    inboxes.remove_client(8);
     assert!(rt; oldest(&inboxes, 8) == 0);
     assert!(rt; !inboxes.can_put(8));
     assert!(rt; inboxes.can_put(7));

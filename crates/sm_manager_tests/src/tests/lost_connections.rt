@@ -120,10 +120,13 @@ impl Connection {
         true
     }
 
-    // What was written are its answers or a front of them. As many clients as these have left, and none is there.
-    fn is_served(&self, rt: &impl Abort, left: &Left, ends: u32) {
+    // What was written are its answers or a front of them. As many clients as these have died, and none is there.
+    fn is_served(&self, rt: &impl Abort, left: &Left, deaths: u32) {
         assert!(rt; self.said.wanted.starts_with(&left.written));
-        assert_eq!(rt; (left.desk.ends, left.desk.client.is_none()), (ends, true));
+        assert_eq!(rt;
+            (left.desk.deaths, left.desk.client.is_none()),
+            (deaths, true)
+        );
     }
 
     // Each read fails in turn, and each write.
@@ -252,7 +255,7 @@ fn too_many_reads(rt: HostRuntime) {
     let alloc = rt.alloc();
     let script = b"hello 100 1000 u:r:system_server:s0\nlis";
     let policy = policy(&rt, alloc, DEVICE_RULES);
-    for (reads, written, ends) in [(3, b"".as_slice(), 0), (38, b"client 1\n", 1)] {
+    for (reads, written, deaths) in [(3, b"".as_slice(), 0), (38, b"client 1\n", 1)] {
         let way = Way {
             piece: 1,
             reads,
@@ -266,6 +269,9 @@ fn too_many_reads(rt: HostRuntime) {
             way,
         );
         assert!(rt; left.fault == Some(Fault::TooManyReads));
-        assert_eq!(rt; (left.written.as_slice(), left.desk.ends), (written, ends));
+        assert_eq!(rt;
+            (left.written.as_slice(), left.desk.deaths),
+            (written, deaths)
+        );
     }
 }

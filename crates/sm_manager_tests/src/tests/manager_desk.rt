@@ -14,12 +14,12 @@ use std::process::Abort;
 pub struct ManagerDesk {
     alloc: Global,
     manager: Manager,
-    /// The client that the connection made, until it has left.
+    /// The client that the connection made, until it has died.
     pub client: Option<ClientId>,
     /// How often it was asked.
     pub asked: u32,
-    /// The number of connections that have ended.
-    pub ends: u32,
+    /// How often it was told of a client's death.
+    pub deaths: u32,
 }
 
 impl Drop for ManagerDesk {
@@ -29,7 +29,7 @@ impl Drop for ManagerDesk {
             manager: _,
             client: _,
             asked: _,
-            ends: _,
+            deaths: _,
         } = self;
     }
 }
@@ -43,7 +43,7 @@ impl ManagerDesk {
             manager: opened_under(rt, alloc, policy, 1000),
             client: None,
             asked: 0,
-            ends: 0,
+            deaths: 0,
         }
     }
 
@@ -95,8 +95,8 @@ impl ManagerDesk {
         }
     }
 
-    fn end(&mut self) -> Response {
-        self.ends = self.ends.saturating_add(1);
+    fn die(&mut self) -> Response {
+        self.deaths = self.deaths.saturating_add(1);
         match self.client {
             Some(_) => self.change(Event::Die),
             None => Response::Replied(Reply::Refused(Refusal::Failed(Failure::NotConnected))),
@@ -132,7 +132,7 @@ impl Desk for ManagerDesk {
                 self.asked = self.asked.saturating_add(1);
                 self.change(Event::Reload { expected, prepared })
             }
-            Command::End => self.end(),
+            Command::Death => self.die(),
         }
     }
 }

@@ -87,7 +87,7 @@ fn services_stand_under_their_names(rt: HostRuntime) {
     }
     names.remove(power);
     stands(&rt, &names, power, None);
-    names.forget(2);
+    names.remove_client(2);
     stands(&rt, &names, b"audio", None);
 }
 
@@ -155,6 +155,6 @@ fn a_watch_made_twice_is_there_twice(rt: HostRuntime) {
     assert!(rt; names.is_watching(8, b"power", 2) && !names.is_watching(8, b"power", 1));
     assert!(rt; names.unwatch(7, b"power", 1) == 2);
     are_told(&rt, rt.alloc(), names.watchers(b"power"), b"8 power 2\n");
-    names.forget(8);
+    names.remove_client(8);
     assert!(rt; names.watches() == 0);
 }

@@ -118,9 +118,9 @@ impl<'a, J: Naming, R: Wait + Abort> Caller<'a, J, R> {
         }
     }
 
-    /// Whether a session is ended. If it isn't, an allocation failed, and the session comes back.
+    /// Returns no session if its client dies. If it doesn't, an allocation failed, and the session comes back.
     fn kept(&self, me: Session<J>) -> Option<Session<J>> {
-        match self.door.leave(self.rt, me) {
+        match self.door.die(self.rt, me) {
             Ok(_) => None,
             Err((refusal, me)) => {
                 assert!(self.rt; matches!(refusal, Refusal::Memory));
@@ -129,8 +129,8 @@ impl<'a, J: Naming, R: Wait + Abort> Caller<'a, J, R> {
         }
     }
 
-    /// Ends a session. After a failed allocation another try succeeds.
-    fn leaves(&self, me: Session<J>) {
+    /// A session's client dies. After a failed allocation another try succeeds.
+    fn dies(&self, me: Session<J>) {
         if let Some(me) = self.kept(me) {
             assert!(self.rt; self.kept(me).is_none());
         }
@@ -155,7 +155,7 @@ impl<'a, J: Naming, R: Wait + Abort> Caller<'a, J, R> {
         let mut me = self.joined(seats, b"u:r:untrusted_app:s0")?;
         let ended = self.may_not_add(&mut me);
         self.may_not_list(&mut me);
-        self.leaves(me);
+        self.dies(me);
         ended
     }
 
@@ -186,7 +186,7 @@ impl<'a, J: Naming, R: Wait + Abort> Caller<'a, J, R> {
     fn while_served(&self, seats: &mut Vec<Seat<J>>, admin: &mut Admin<J>) -> Option<()> {
         let mut me = self.joined(seats, b"u:r:system_server:s0")?;
         let ended = self.server(&mut me, admin);
-        self.leaves(me);
+        self.dies(me);
         ended
     }
 

@@ -151,8 +151,8 @@ const MALFORMED: Parts = &[Lines(&[
     ("1 list 4294967295", "names 1 2 0"),
 ])];
 
-// A handle is held until it was released as often as it was given; an owner's end takes its services along.
-const HANDLES_AND_ENDS: Parts = &[Lines(&[
+// A handle is held until it was released as often as it was given; an owner's death takes its services along.
+const HANDLES_AND_DEATHS: Parts = &[Lines(&[
     ("hello 100 1000 u:r:system_server:s0", "client 1"),
     ("1 add activity o1 0 8", "ok"),
     ("hello 200 10007 u:r:untrusted_app:s0", "client 2"),
@@ -192,7 +192,7 @@ fn scripts(rt: HostRuntime) {
             NAMES_WITHOUT_LABELS,
             GREATEST_NUMBERS,
             MALFORMED,
-            HANDLES_AND_ENDS,
+            HANDLES_AND_DEATHS,
         ],
     );
     hold(

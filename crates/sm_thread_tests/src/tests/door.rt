@@ -223,7 +223,7 @@ fn fills<J: Naming, R: Wait + Abort>(
     let reply = door.submit(rt, &mut me, activity(rt, alloc));
     assert!(rt; matches!(reply, Reply::Refused(Refusal::JournalFull)));
     is_turned_away(rt, alloc, door, seats);
-    assert!(rt; door.leave(rt, me).is_ok());
+    assert!(rt; door.die(rt, me).is_ok());
     is_turned_away(rt, alloc, door, seats);
 }
 

@@ -52,8 +52,8 @@ fn hello<J: Naming, R: Wait + Abort>(
     }
 }
 
-fn bye<J: Naming, R: Wait>(rt: &R, door: &Door<J, NoGate>, session: Session<J>) -> Reply {
-    match door.leave(rt, session) {
+fn die<J: Naming, R: Wait>(rt: &R, door: &Door<J, NoGate>, session: Session<J>) -> Reply {
+    match door.die(rt, session) {
         Ok(_) => Reply::Done(Outcome::Died),
         Err((refusal, _)) => Reply::Refused(refusal),
     }
@@ -90,7 +90,7 @@ fn change<J: Naming, R: Wait>(
         return Heard::plain(alloc, (not_connected(), None));
     };
     if is_death(&event) {
-        return Heard::plain(alloc, (bye(rt, door, session), None));
+        return Heard::plain(alloc, (die(rt, door, session), None));
     }
     let (reply, records) = door.submit_recorded(rt, &mut session, event);
     Heard {

@@ -1,4 +1,4 @@
-//! A session's end, and its calls of the gate, over a desk that only counts.
+//! A client's death at the end of a session, and its calls of the gate, over a desk that only counts.
 
 use sm_engine::Counted;
 use sm_history::{Event, Gate, Outcome, Refusal, Reply};
@@ -11,12 +11,12 @@ use std::process::Abort;
 use std::sync::atomic::{AtomicU64, Ordering};
 use std::test::*;
 
-/// A desk that counts its questions, and the ends of sessions.
+/// A desk that counts its questions, and the deaths of clients.
 #[derive(Drop)]
 struct Clerk {
     alloc: Global,
     asked: u32,
-    ends: u32,
+    deaths: u32,
 }
 
 impl Clerk {
@@ -24,7 +24,7 @@ impl Clerk {
         Clerk {
             alloc,
             asked: 0,
-            ends: 0,
+            deaths: 0,
         }
     }
 }
@@ -33,8 +33,8 @@ impl Desk for Clerk {
     ghost answers = { λ _ _ _ _. Unit {0} };
 
     fn answer(&mut self, command: Command) -> Response {
-        if matches!(command, Command::End) {
-            self.ends = self.ends.saturating_add(1);
+        if matches!(command, Command::Death) {
+            self.deaths = self.deaths.saturating_add(1);
             return Response::Replied(Reply::GotNull);
         }
         self.asked = self.asked.saturating_add(1);
@@ -44,7 +44,7 @@ impl Desk for Clerk {
             Command::Install { expected, .. } => {
                 Response::Replied(Reply::Done(Outcome::Reloaded(expected)))
             }
-            Command::End => Response::Replied(Reply::GotNull),
+            Command::Death => Response::Replied(Reply::GotNull),
         }
     }
 }
@@ -128,8 +128,8 @@ impl Gate for Turnstile {
     }
 }
 
-/// Runs a session that must write this, ask its desk this often, call its gate at lines whose numbers are these, and end
-/// this often.
+/// Runs a session that must write this, ask its desk this often, call its gate at lines whose numbers are these, and
+/// tell its desk of a death this often.
 fn attend(
     rt: &impl Abort,
     alloc: Global,
@@ -138,7 +138,7 @@ fn attend(
     wanted: &[u8],
     asked: u32,
     lines: &[u64],
-    ends: u32,
+    deaths: u32,
 ) {
     let mut reader = Counted::new(input);
     let mut writer = Counted::new(OneByte(Vec::new(alloc)));
@@ -155,7 +155,7 @@ fn attend(
     assert!(rt; ending.is_ok());
     assert_eq!(rt; writer.into_inner().0.as_slice(), wanted);
     assert_eq!(rt; clerk.asked, asked);
-    assert_eq!(rt; clerk.ends, ends);
+    assert_eq!(rt; clerk.deaths, deaths);
     let mut sum: u64 = 0;
     for line in lines {
         sum = sum.saturating_add(*line);
@@ -196,7 +196,7 @@ fn a_client_is_cut_off(rt: HostRuntime) {
 }
 
 #[test]
-fn a_refused_client_isnt_ended(rt: HostRuntime) {
+fn a_refused_client_doesnt_die(rt: HostRuntime) {
     attend(
         &rt,
         rt.alloc(),

@@ -9,4 +9,4 @@ returns-in-Removes-clause-tracks c = rw c.in-Removes.is (λ d s m tr.
     rw (← c.bytes.ensures) (c.remove.ensures.tracks d tr))
 
 pub returns-in-Dies-clause-tracks : goal.returns-in-Dies-clause-tracks
-returns-in-Dies-clause-tracks c = rw c.in-Dies.is (λ d s m tr. c.forget.ensures.tracks d tr)
+returns-in-Dies-clause-tracks c = rw c.in-Dies.is (λ d s m tr. c.remove_client.ensures.tracks d tr)

@@ -11,5 +11,5 @@ returns-clause-attends g c =
       served = rw (c.new-gated_session.ensures, c.new-unaudited.ensures.inner, c.new.ensures.items) at served;
       end = OnOk-memory _ c.run-result.result c.by_writer-result.result c.run-result.ensures.end
           c.by_writer-result.ensures.same;
-      left = c.close.ensures;
+      told = c.close.ensures;
     }

@@ -1,4 +1,4 @@
-use Rattle.sm_history.proofs.Leaving.{install_answered}
+use Rattle.sm_history.proofs.SubmittedReplies.{install_answered}
 use Rattle.sm_door.proofs.door.Door.install.Goals as goal
 
 pub installed-requires : goal.installed-requires

@@ -5,7 +5,7 @@ use Rattle.sm_history.proofs.tables.Tables.die.Goals as goal
 
 pub returns : goal.returns
 returns c d s tr may =
-    let live = c.forget.ensures d s tr.live may in
-    let names = c.forget_names.ensures d tr.names in
-    let watches = c.forget_watches.ensures ∙ ap (filter (λ w. not (c.args.client == w.client))) tr.watches
+    let live = c.remove_client.ensures d s tr.live may in
+    let names = c.remove_names.ensures d tr.names in
+    let watches = c.remove_watches.ensures ∙ ap (filter (λ w. not (c.args.client == w.client))) tr.watches
     ∙ sym (watches_dies d c.args.client) in assumption

@@ -3,7 +3,7 @@ use Rattle.std.specs.Prelude.{not, ◌==◌}
 use Rattle.std.proofs.lemmas.Fn.{filter_same}
 use Rattle.sm_history.specs.declared.effect.Watch.{Watch}
 use Rattle.sm_names.proofs.TrackedWatches.{tracks_dies}
-use Rattle.sm_names.proofs.watch_list.WatchList.forget.Goals as goal
+use Rattle.sm_names.proofs.watch_list.WatchList.remove_client.Goals as goal
 
 pub returns-clause-tracks : goal.returns-clause-tracks
 returns-clause-tracks c d tr =

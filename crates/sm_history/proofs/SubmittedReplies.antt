@@ -12,9 +12,9 @@ use Rattle.sm_history.specs.declared.refusal.Refusal.TheVariants.{Memory}
 use Rattle.sm_history.specs.Books.{Book}
 use Rattle.sm_history.specs.Verdict.{verdict}
 use Rattle.sm_history.specs.Promises.{Submitted, NotMade}
-use Rattle.sm_history.specs.PossibleReplies.{LeaveReply, InstallReply}
+use Rattle.sm_history.specs.PossibleReplies.{DeathReply, InstallReply}
 use Rattle.sm_history.specs.Tokens.{Knows, turn}
-use Rattle.sm_history.proofs.PossibleReplies.{leave_answer, install_answer}
+use Rattle.sm_history.proofs.PossibleReplies.{death_answer, install_answer}
 use Rattle.sm_history.specs.declared.by.By.{By}
 
 -- What holds of a failed allocation and of each verdict holds of the answer.
@@ -34,12 +34,12 @@ module _ (Of : Reply → Type 0) (old new : Knows) (event : Event) (memory : Of 
   of_submitted (Done o) s = subst Of s.verdict_is (verdicts s.before)
   of_submitted r s = not_made r s
 
-pub leave_answered : (old new : Knows) (c : ClientId) (r : Reply) → old.by ≡ Client c → Submitted old new Die r
-    → LeaveReply r
-leave_answered old new c r is s =
-    of_submitted LeaveReply old new Die tt
-    (λ b. subst (λ (by : By). LeaveReply (verdict b.places b.history by (turn old) Die)) (sym is)
-    (leave_answer b.places b.history c.0 (turn old))) r s
+pub death_answered : (old new : Knows) (c : ClientId) (r : Reply) → old.by ≡ Client c → Submitted old new Die r
+    → DeathReply r
+death_answered old new c r is s =
+    of_submitted DeathReply old new Die tt
+    (λ b. subst (λ (by : By). DeathReply (verdict b.places b.history by (turn old) Die)) (sym is)
+    (death_answer b.places b.history c.0 (turn old))) r s
 
 pub install_answered : (old new : Knows) (a : AdminId) (expected : ℕ) (policy : Policy) (r : Reply) → old.by ≡ Admin a
     → Submitted old new (Reload expected policy) r → InstallReply r

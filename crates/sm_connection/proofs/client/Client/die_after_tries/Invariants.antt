@@ -1,5 +1,5 @@
 use Rattle.sm_connection.specs.Connections.{StillHolds}
-use Rattle.sm_connection.proofs.client.Client.end.Given as goal
+use Rattle.sm_connection.proofs.client.Client.die_after_tries.Given as goal
 
 -- Each try so far was refused because an allocation failed.
 abbrev pub invariant-loop : goal.invariant-loop

@@ -2,7 +2,7 @@ use Rattle.std.proofs.Common.{ap, sym, ◌∙◌}
 use Rattle.std.specs.Prelude.{filter, not, ◌==◌}
 use Rattle.sm_core.specs.declared.client.LiveClient.{LiveClient}
 use Rattle.sm_core.proofs.Dying.{clients_dies}
-use Rattle.sm_core.proofs.principals.Principals.forget.Goals as goal
+use Rattle.sm_core.proofs.principals.Principals.remove_client.Goals as goal
 
 pub returns-clause-stand : goal.returns-clause-stand
 returns-clause-stand c d s = record {

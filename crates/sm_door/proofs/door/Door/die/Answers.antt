@@ -4,12 +4,12 @@ use Rattle.sm_history.specs.declared.outcome.Outcome.TheVariants.{Died}
 use Rattle.sm_history.specs.declared.reply.Reply.TheVariants.{Done}
 use Rattle.sm_history.specs.Promises.{Submitted, Accepted}
 use Rattle.sm_history.specs.Tokens.{Knows, token}
-use Rattle.sm_history.proofs.Leaving.{leave_answered}
-use Rattle.sm_door.proofs.door.Door.leave.Goals as goal
+use Rattle.sm_history.proofs.SubmittedReplies.{death_answered}
+use Rattle.sm_door.proofs.door.Door.die.Goals as goal
 
-pub left-requires : goal.left-requires
-left-requires g c =
-    leave_answered c.me.inside.actor c.act-reply.new.me c.me.inside.client c.act-reply.result.0 c.me.invariant
+pub died-requires : goal.died-requires
+died-requires g c =
+    death_answered c.me.inside.actor c.act-reply.new.me c.me.inside.client c.act-reply.result.0 c.me.invariant
     c.act-reply.ensures.submitted
 
 pub returns-in-None : goal.returns-in-None

@@ -3,7 +3,7 @@ use Rattle.std.specs.Prelude.{not, ◌==◌}
 use Rattle.std.proofs.lemmas.Fn.{filter_same}
 use Rattle.sm_history.specs.Rows.{NamedRow}
 use Rattle.sm_history.proofs.AfterNamedRows.{names_die}
-use Rattle.sm_history.proofs.named_row.forget_names.Goals as goal
+use Rattle.sm_history.proofs.named_row.remove_names.Goals as goal
 
 pub returns : goal.returns
 returns c d tr =

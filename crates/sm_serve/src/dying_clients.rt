@@ -1,4 +1,4 @@
-//! Clients that are gone and couldn't leave.
+//! Clients whose connections have ended, and that couldn't die yet.
 
 use sm_connection::{ENTRY, FreeSeats, Monitor, Supervisor};
 use sm_door::{Door, Naming, SeatOrSession, Session};
@@ -9,21 +9,22 @@ use std::sync::{Mutex, Wait};
 /// The most sessions at a time.
 const SESSIONS: usize = 64;
 
-/// Sessions whose connections have ended and that couldn't leave, because an allocation failed. Each is tried again.
-pub struct Leavers<J: Naming> {
+/// The sessions of clients whose connections have ended, and that couldn't die because an allocation failed. Each death
+/// is tried again.
+pub struct DyingClients<J: Naming> {
     sessions: Mutex<Vec<Session<J>>>,
 }
 
-impl<J: Naming> Drop for Leavers<J> {
+impl<J: Naming> Drop for DyingClients<J> {
     fn drop(self) {
-        let Leavers { sessions: _ } = self;
+        let DyingClients { sessions: _ } = self;
     }
 }
 
-impl<J: Naming> Leavers<J> {
+impl<J: Naming> DyingClients<J> {
     /// Makes an empty list, with room for all sessions that there may be.
-    pub fn new(alloc: Global) -> Result<Leavers<J>, AllocError> {
-        Ok(Leavers {
+    pub fn new(alloc: Global) -> Result<DyingClients<J>, AllocError> {
+        Ok(DyingClients {
             sessions: Mutex::new(Vec::with_capacity(alloc, SESSIONS)?),
         })
     }
@@ -48,7 +49,7 @@ impl<J: Naming> Leavers<J> {
         self.sessions.lock(rt).pop()
     }
 
-    /// Lets them leave one after another, up to the first that can't, and frees their seats.
+    /// Lets the clients die one after another, up to the first that can't, and frees their seats.
     pub fn retry<G: Gate + Drop, H: Supervisor, R: Wait>(
         &self,
         rt: &R,
@@ -60,7 +61,7 @@ impl<J: Naming> Leavers<J> {
             let Some(session) = self.next(rt) else {
                 return;
             };
-            match door.leave(rt, session) {
+            match door.die(rt, session) {
                 Ok(seat) => {
                     monitor.count(ENTRY);
                     seats.give_back(rt, seat);

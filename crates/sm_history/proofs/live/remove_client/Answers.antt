@@ -3,7 +3,7 @@ use Rattle.std.specs.Prelude.{not, ◌==◌}
 use Rattle.std.proofs.lemmas.Fn.{filter_same}
 use Rattle.sm_history.specs.declared.client_row.ClientRow.{ClientRow}
 use Rattle.sm_history.proofs.AfterClientRows.{tracks_dies}
-use Rattle.sm_history.proofs.live.forget.Goals as goal
+use Rattle.sm_history.proofs.live.remove_client.Goals as goal
 
 pub returns : goal.returns
 returns c d s tr may =
