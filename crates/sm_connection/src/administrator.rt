@@ -118,7 +118,7 @@ impl<'a, J: Naming, G: Gate + Drop, H: Supervisor, R: Wait> Administrator<'a, J,
     {
         match self.door.seal(self.rt, admin) {
             Ok(segment) => {
-                let length = segment.length();
+                let length = segment.history_length();
                 let number = segment.number();
                 self.monitor.sealed(length);
                 Reply::Sealed { number, length }

@@ -125,7 +125,7 @@ impl View {
         Ok(View {
             alloc,
             places,
-            length: journal.length(),
+            length: journal.history_length(),
             principals: Arc::new(alloc, state.principals.copy(alloc)?)?,
             services: Arc::new(alloc, state.names.services().copy(alloc, 0)?)?,
             turn_counts: TurnCounts::of(alloc, turns)?,

@@ -194,8 +194,8 @@ impl Rows {
         self.turns.as_slice()
     }
 
-    /// Returns the number of changes.
-    pub fn length(&self) -> u64
+    /// Returns the length of the history that left them: the number of its changes.
+    pub fn history_length(&self) -> u64
         ensures { result ≡ self.now.length }
     {
         self.length

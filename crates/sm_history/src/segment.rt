@@ -121,10 +121,10 @@ impl Segment {
     }
 
     /// Returns the length of the whole history at its end, in changes. Allocates nothing.
-    pub fn length(&self) -> u64
+    pub fn history_length(&self) -> u64
         ensures { result ≡ length_of self.now }
     {
-        self.opening.length() + count_chunks(&self.full) + self.last.len() as u64
+        self.opening.history_length() + count_chunks(&self.full) + self.last.len() as u64
     }
 
     /// Computes the rows after its last change, by applying each change to its opening.

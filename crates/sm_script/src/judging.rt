@@ -215,7 +215,7 @@ fn seal(manager: &mut Manager) -> Reply
     match manager.seal() {
         Ok(segment) => Reply::Sealed {
             number: segment.number(),
-            length: segment.length(),
+            length: segment.history_length(),
         },
         Err(refusal) => Reply::Refused(refusal),
     }

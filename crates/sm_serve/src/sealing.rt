@@ -24,7 +24,7 @@ pub fn seal_if_due<J: Naming, G: Gate + Drop, H: Supervisor, R: Wait>(
     monitor.begin_seal(rt);
     let token = &mut *guard;
     match door.seal(rt, token) {
-        Ok(segment) => monitor.sealed(segment.length()),
+        Ok(segment) => monitor.sealed(segment.history_length()),
         Err(Refusal::Memory) => monitor.fail_to_seal(),
         Err(_other) => {}
     }

@@ -21,7 +21,7 @@ impl Manager {
     pub fn access(&self) -> Access<'_>
         ensures { result ≡ moment_in self.now }
     {
-        Access::new(self.alloc, self.length(), &self.state.principals)
+        Access::new(self.alloc, self.history_length(), &self.state.principals)
     }
 
     /// Checks a permission of Binder from a process to the manager.

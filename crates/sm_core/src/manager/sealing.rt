@@ -43,7 +43,7 @@ impl Manager {
         ensures ready { IfOk result (λ r. IsReadySeal self.new r) }
         ensures refused { IfErr result (λ r. (r ≡ Memory) ⊎ ((r ≡ IsEmpty) × (self.old.book.history.entries ≡ []))) }
     {
-        if self.journal.len() == 0 {
+        if self.journal.entry_count() == 0 {
             return Err(Refusal::Empty);
         }
         self.opened_next().map_err(|_| Refusal::Memory)
@@ -70,7 +70,7 @@ impl Manager {
         let alloc = self.alloc;
         let tables = tables_of(alloc, &self.state)?;
         let turns = self.turns.rows(alloc, &self.state.principals.clients)?;
-        let length = self.length();
+        let length = self.history_length();
         Ok(Rows::new(tables, turns, length))
     }
 

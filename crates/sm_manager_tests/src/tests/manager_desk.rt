@@ -107,7 +107,7 @@ impl ManagerDesk {
         match self.manager.seal() {
             Ok(segment) => Reply::Sealed {
                 number: segment.number(),
-                length: segment.length(),
+                length: segment.history_length(),
             },
             Err(refusal) => Reply::Refused(refusal),
         }

@@ -119,7 +119,7 @@ fn same_rows(one: &Rows, other: &Rows) -> bool {
     one.version() == other.version()
         && same_manager(one.manager(), other.manager())
         && one.clients() == other.clients()
-        && one.length() == other.length()
+        && one.history_length() == other.history_length()
         && same_clients(one.live(), other.live())
         && same_names(one.names(), other.names())
         && same_watches(one.watches(), other.watches())
@@ -137,7 +137,12 @@ struct Round {
 /// A short segment has this number, length and number of changes.
 fn is_short(rt: &impl Abort, segment: &Segment, wanted: (u64, u64, usize)) {
     let (full, last) = segment.entries();
-    let numbers = (segment.number(), segment.length(), full.len(), last.len());
+    let numbers = (
+        segment.number(),
+        segment.history_length(),
+        full.len(),
+        last.len(),
+    );
     assert_eq!(rt; numbers, (wanted.0, wanted.1, 0, wanted.2));
 }
 
@@ -308,7 +313,7 @@ fn a_long_segment_is_replayed(rt: HostRuntime) {
         steps(&rt, alloc, &mut manager, AN_ADD);
     }
     let segment = manager.seal().ok().expect(&rt, "a segment");
-    assert!(rt; segment.length() == 5_002);
+    assert!(rt; segment.history_length() == 5_002);
     let rows = segment.replay().ok().expect(&rt, "memory");
     steps(&rt, alloc, &mut manager, AN_ADD);
     let next = manager.seal().ok().expect(&rt, "a segment");

@@ -104,7 +104,7 @@ impl<'a, J: Naming, R: Wait + Abort> Caller<'a, J, R> {
         match self.door.seal(self.rt, me) {
             Ok(segment) => {
                 same(self.rt, segment.number(), 1);
-                same(self.rt, segment.length(), 4);
+                same(self.rt, segment.history_length(), 4);
                 true
             }
             Err(_) => false,

@@ -262,9 +262,9 @@ fn a_change_is_seen(rt: HostRuntime) {
 /// The first segment, with three changes.
 fn is_first(rt: &impl Abort, segment: &Segment) -> Option<()> {
     same(rt, segment.number(), 1);
-    same(rt, segment.length(), 3);
+    same(rt, segment.history_length(), 3);
     let rows = segment.replay().ok()?;
-    same(rt, rows.length(), 3);
+    same(rt, rows.history_length(), 3);
     assert!(rt; rows.names().len() == 1);
     Some(())
 }
@@ -300,7 +300,7 @@ fn seals_second(rt: &impl Abort, manager: &mut Manager) -> Option<()> {
     match manager.seal() {
         Ok(segment) => {
             same(rt, segment.number(), 2);
-            same(rt, segment.length(), 4);
+            same(rt, segment.history_length(), 4);
             Some(())
         }
         Err(refusal) => {

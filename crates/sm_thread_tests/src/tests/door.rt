@@ -457,7 +457,7 @@ fn is_sealed(closed: Result<Segment, Refusal>, number: u64) -> bool {
         Ok(segment) => {
             let (full, last) = segment.entries();
             segment.number() == number
-                && segment.length() == number.saturating_add(1)
+                && segment.history_length() == number.saturating_add(1)
                 && full.is_empty()
                 && last.len() == if number == 1 { 2 } else { 1 }
         }

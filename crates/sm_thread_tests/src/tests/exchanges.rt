@@ -195,10 +195,10 @@ fn seal<J: Naming, R: Wait + Abort>(rt: &R, door: &Door<J, NoGate>, admin: &mut 
     match door.seal(rt, admin) {
         Ok(segment) => {
             let rows = segment.replay().ok().expect(rt, "rows");
-            assert_eq!(rt; rows.length(), segment.length());
+            assert_eq!(rt; rows.history_length(), segment.history_length());
             Reply::Sealed {
                 number: segment.number(),
-                length: segment.length(),
+                length: segment.history_length(),
             }
         }
         Err(refusal) => Reply::Refused(refusal),

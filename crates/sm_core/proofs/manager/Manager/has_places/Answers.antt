@@ -1,5 +1,5 @@
 use Rattle.sm_core.proofs.Small.{small_length}
 use Rattle.sm_core.proofs.manager.Manager.has_places.Goals as goal
 
-pub length-length-requires : goal.length-length-requires
-length-length-requires c = small_length _ _ _ _ c.self.invariant
+pub history_length-length-requires : goal.history_length-length-requires
+history_length-length-requires c = small_length _ _ _ _ c.self.invariant

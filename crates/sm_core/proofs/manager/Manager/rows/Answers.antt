@@ -29,11 +29,11 @@ returns c =
     (Manager ∷ map as_client (ids rs) ++ counted_admins c.self.inside.turns)) c.deref.ensures.value
     ∙ actor_rows h c.self.inside.turns c.self.inside.state.principals.clients.items k.turns_are k.admins_are
     k.stands.principals.clients in
-    let length : c.length-length.result ≡ length_of h =
-    c.length-length.ensures ∙ sym (ap (λ (m : Managed). length_of m.book.history) c.self.view_is) in
+    let length : c.history_length-length.result ≡ length_of h =
+    c.history_length-length.ensures ∙ sym (ap (λ (m : Managed). length_of m.book.history) c.self.view_is) in
     c.new.ensures
-    ∙ ap (λ (t : Rows). record { tables = t; length = c.length-length.result; turns = c.in_ok-turns.turns.items })
+    ∙ ap (λ (t : Rows). record { tables = t; length = c.history_length-length.result; turns = c.in_ok-turns.turns.items })
     tables
-    ∙ ap (λ (ts : List TurnRow). record { tables = rows_at d; length = c.length-length.result; turns = ts }) turns
+    ∙ ap (λ (ts : List TurnRow). record { tables = rows_at d; length = c.history_length-length.result; turns = ts }) turns
     ∙ ap (λ (n : ℕ). record { tables = rows_at d; length = n; turns = map (turn_row h) (actors_of h) }) length
     ∙ ap (λ (m : Managed). rows_of m.book.history) c.self.view_is
