@@ -4,8 +4,7 @@ use Rattle.sm_kinds.specs.Messages.{name_text, numbered}
 use Rattle.sm_kinds.specs.Permissions.{class_word, perm_word}
 use Rattle.sm_kinds.specs.declared.perms.Perms.{Perms}
 use Rattle.sm_kinds.specs.declared.identity.Identity.{Identity}
-use Rattle.sm_history.specs.declared.denial.Denial.{Denial}
-use Rattle.sm_history.specs.declared.denial.Denial.TheVariants.{Rule, App, Isolated}
+use Rattle.sm_history.specs.declared.denial.Denial.{Denial, TheVariants.Rule, TheVariants.App, TheVariants.Isolated}
 use Rattle.sm_history.specs.declared.records.Record.{Record}
 
 -- This is `journal=L version=V`.

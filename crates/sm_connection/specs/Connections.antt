@@ -2,16 +2,13 @@
 use Rattle.std.specs.Prelude.{◌≡◌, ◌⊎◌, MatchBool, List, [], Option, Some, None}
 use Rattle.sm_kinds.specs.declared.identity.Identity.{Identity}
 use Rattle.sm_kinds.specs.declared.number.ClientId.{ClientId}
-use Rattle.sm_history.specs.declared.by.By.{By}
-use Rattle.sm_history.specs.declared.by.By.TheVariants.{Manager, Client, Admin}
-use Rattle.sm_history.specs.declared.event.Event.{Event}
-use Rattle.sm_history.specs.declared.event.Event.TheVariants.{Die, Reload}
+use Rattle.sm_history.specs.declared.by.By.{By, TheVariants.Manager, TheVariants.Client, TheVariants.Admin}
+use Rattle.sm_history.specs.declared.event.Event.{Event, TheVariants.Die, TheVariants.Reload}
 use Rattle.sm_history.specs.declared.outcome.Outcome.TheVariants.{Connected, Died}
 use Rattle.sm_history.specs.declared.query.Query.{Query}
 use Rattle.sm_history.specs.declared.query.Query.TheVariants.{List as ListNames, Version as AskVersion, Explain}
 use Rattle.sm_history.specs.declared.records.Record.{Record}
-use Rattle.sm_history.specs.declared.refusal.Refusal.{Refusal}
-use Rattle.sm_history.specs.declared.refusal.Refusal.TheVariants.{Failed, TooManyClients}
+use Rattle.sm_history.specs.declared.refusal.Refusal.{Refusal, TheVariants.Failed, TheVariants.TooManyClients}
 use Rattle.sm_history.specs.declared.refusal.Failure.TheVariants.{NotYours, NotConnected}
 use Rattle.sm_history.specs.declared.reply.Reply.{Reply}
 use Rattle.sm_history.specs.declared.reply.Reply.TheVariants.{Done, GotNull, GotOwn, Looked, Sealed, Refused}

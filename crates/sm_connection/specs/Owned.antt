@@ -5,15 +5,11 @@ use Rattle.sm_policy.specs.Policy.{Policy}
 use Rattle.sm_policy.specs.Counting.{counts_of}
 use Rattle.sm_policy.specs.declared.counts.Counts.{Counts}
 use Rattle.sm_history.specs.declared.delivery.Delivery.{Delivery}
-use Rattle.sm_history.specs.declared.delivery.Message.{Message}
-use Rattle.sm_history.specs.declared.delivery.Message.TheVariants.{Called, Registered}
-use Rattle.sm_history.specs.declared.denial.Denial.{Denial}
-use Rattle.sm_history.specs.declared.denial.Denial.TheVariants.{Rule, App, Isolated}
+use Rattle.sm_history.specs.declared.delivery.Message.{Message, TheVariants.Called, TheVariants.Registered}
+use Rattle.sm_history.specs.declared.denial.Denial.{Denial, TheVariants.Rule, TheVariants.App, TheVariants.Isolated}
 use Rattle.sm_history.specs.declared.notice.Notice.{Notice}
-use Rattle.sm_history.specs.declared.notice.Reason.{Reason}
-use Rattle.sm_history.specs.declared.notice.Reason.TheVariants.{Denied, TargetFull}
-use Rattle.sm_history.specs.declared.notice.Told.{Told}
-use Rattle.sm_history.specs.declared.notice.Told.TheVariants.{Told as IsTold, NotTold}
+use Rattle.sm_history.specs.declared.notice.Reason.{Reason, TheVariants.Denied, TheVariants.TargetFull}
+use Rattle.sm_history.specs.declared.notice.Told.{Told, TheVariants.Told as IsTold, TheVariants.NotTold}
 use Rattle.sm_history.specs.declared.event.Event.{Event}
 use Rattle.sm_history.specs.declared.event.Event.TheVariants as events
 use Rattle.sm_history.specs.declared.outcome.Outcome.{Outcome}

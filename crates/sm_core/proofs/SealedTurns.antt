@@ -24,6 +24,7 @@ use Rattle.sm_history.specs.Histories.{History, effects_of, turn_of}
 use Rattle.sm_history.specs.Segments.{is_admin, with_admin, admins_after, admins_of, client, actors_of, turn_row}
 use Rattle.sm_history.specs.Segments.{sealed}
 use Rattle.sm_history.specs.Sound.{Sound}
+use Rattle.sm_history.specs.Turning.{admin}
 use Rattle.sm_history.proofs.AfterClients.{was_not_live}
 use Rattle.sm_history.proofs.Later.{sealed_turn}
 use Rattle.sm_history.proofs.Living.{any_live}
@@ -31,7 +32,7 @@ use Rattle.sm_history.proofs.SegmentReads.{any_client}
 use Rattle.sm_history.proofs.TurnRows.{turn_rows}
 use Rattle.sm_core.specs.declared.client.LiveClient.{LiveClient}
 use Rattle.sm_core.specs.declared.turns.Turns.{Turns}
-use Rattle.sm_core.specs.Counting.{admin_of, counted_admins, as_client, change_count, made_sealed, row_for}
+use Rattle.sm_core.specs.Counting.{counted_admins, change_count, made_sealed, row_for}
 use Rattle.sm_core.specs.Tables.{client_row, client_rows}
 
 abbrev pub ids : List LiveClient → List ℕ
@@ -171,38 +172,38 @@ taken_suc (x ∷ xs) (suc i) a e = ap (λ (ns : List ℕ). x ∷ ns) (taken_suc 
 
 -- One more administrator was listed.
 pub admins_more : (t : Turns) (ks : List ℕ) (i a : ℕ) (start rows rows' : List TurnRow) (r : TurnRow)
-    → slice_get ks i ≡ Some a → rows' ≡ rows ++ r ∷ [] → r ≡ row_for t (admin_of a)
-    → rows ≡ start ++ map (row_for t) (map admin_of (take i ks))
-    → rows' ≡ start ++ map (row_for t) (map admin_of (take (i + 1) ks))
+    → slice_get ks i ≡ Some a → rows' ≡ rows ++ r ∷ [] → r ≡ row_for t (admin a)
+    → rows ≡ start ++ map (row_for t) (map admin (take i ks))
+    → rows' ≡ start ++ map (row_for t) (map admin (take (i + 1) ks))
 admins_more t ks i a start rows rows' r at more is are =
     let one : i + 1 ≡ suc i = omega arith in
-    let before = map (row_for t) (map admin_of (take i ks)) in
-    let taken : map (row_for t) (map admin_of (take (i + 1) ks)) ≡ before ++ r ∷ [] =
-    ap (λ (n : ℕ). map (row_for t) (map admin_of (take n ks))) one
-    ∙ ap (λ (ns : List ℕ). map (row_for t) (map admin_of ns)) (taken_suc ks i a at)
-    ∙ ap (map (row_for t)) (map-append admin_of (take i ks) (a ∷ []))
-    ∙ map-append (row_for t) (map admin_of (take i ks)) (admin_of a ∷ [])
+    let before = map (row_for t) (map admin (take i ks)) in
+    let taken : map (row_for t) (map admin (take (i + 1) ks)) ≡ before ++ r ∷ [] =
+    ap (λ (n : ℕ). map (row_for t) (map admin (take n ks))) one
+    ∙ ap (λ (ns : List ℕ). map (row_for t) (map admin ns)) (taken_suc ks i a at)
+    ∙ ap (map (row_for t)) (map-append admin (take i ks) (a ∷ []))
+    ∙ map-append (row_for t) (map admin (take i ks)) (admin a ∷ [])
     ∙ ap (λ (x : TurnRow). before ++ x ∷ []) (sym is) in
     more ∙ ap (λ (rs : List TurnRow). rs ++ r ∷ []) are ∙ append_assoc start before (r ∷ [])
     ∙ ap (λ (rs : List TurnRow). start ++ rs) (sym taken)
 
 -- One more change of an administrator, in the order of the first of each.
 pub admins_counted : (es : List (ℕ × ℕ)) (k v : ℕ)
-    → map admin_of (keys_of (insert_entry (◌==◌) es k v)) ≡ with_admin (admin_of k) (map admin_of (keys_of es))
+    → map admin (keys_of (insert_entry (◌==◌) es k v)) ≡ with_admin (admin k) (map admin (keys_of es))
 admins_counted [] k v = refl
 admins_counted (e ∷ es) k v =
     let rest = admins_counted es k v in
-    let any = list_any (is_same (admin_of k)) (map admin_of (keys_of es)) in
-    elim (k == e.0) as (λ b. map admin_of (keys_of (let xs : List (ℕ × ℕ) =
+    let any = list_any (is_same (admin k)) (map admin (keys_of es)) in
+    elim (k == e.0) as (λ b. map admin (keys_of (let xs : List (ℕ × ℕ) =
     if b then (e.0, v) ∷ es else e ∷ insert_entry (◌==◌) es k v in xs))
-    ≡ (if b || any then admin_of e.0 ∷ map admin_of (keys_of es)
-    else (admin_of e.0 ∷ map admin_of (keys_of es)) ++ admin_of k ∷ [])) [
+    ≡ (if b || any then admin e.0 ∷ map admin (keys_of es)
+    else (admin e.0 ∷ map admin (keys_of es)) ++ admin k ∷ [])) [
       | true ↦ refl
-      | false ↦ ap (λ (bys : List By). admin_of e.0 ∷ bys) rest
-          ∙ elim any as (λ t. admin_of e.0 ∷ (if t then map admin_of (keys_of es)
-          else map admin_of (keys_of es) ++ admin_of k ∷ [])
-          ≡ (if t then admin_of e.0 ∷ map admin_of (keys_of es)
-          else (admin_of e.0 ∷ map admin_of (keys_of es)) ++ admin_of k ∷ [])) [ true ↦ refl | false ↦ refl ]
+      | false ↦ ap (λ (bys : List By). admin e.0 ∷ bys) rest
+          ∙ elim any as (λ t. admin e.0 ∷ (if t then map admin (keys_of es)
+          else map admin (keys_of es) ++ admin k ∷ [])
+          ≡ (if t then admin e.0 ∷ map admin (keys_of es)
+          else (admin e.0 ∷ map admin (keys_of es)) ++ admin k ∷ [])) [ true ↦ refl | false ↦ refl ]
     ]
 
 -- ---- administrators behind a seal
@@ -255,10 +256,10 @@ same_rows h t (b ∷ bys) are =
 
 pub actor_rows : (h : History) (t : Turns) (rows : List LiveClient) → ((by : By) → change_count t by ≡ turn_of h by)
     → counted_admins t ≡ admins_of h → rows ≡ client_rows (effects_of h)
-    → map (row_for t) (Manager ∷ map as_client (ids rows) ++ counted_admins t) ≡ map (turn_row h) (actors_of h)
+    → map (row_for t) (Manager ∷ map client (ids rows) ++ counted_admins t) ≡ map (turn_row h) (actors_of h)
 actor_rows h t rows are admins is =
-    ap (λ (bys : List By). map (row_for t) (Manager ∷ map as_client (ids rows) ++ bys)) admins
-    ∙ ap (λ (rs : List LiveClient). map (row_for t) (Manager ∷ map as_client (ids rs) ++ admins_of h)) is
-    ∙ ap (λ (ks : List ℕ). map (row_for t) (Manager ∷ map as_client ks ++ admins_of h))
+    ap (λ (bys : List By). map (row_for t) (Manager ∷ map client (ids rows) ++ bys)) admins
+    ∙ ap (λ (rs : List LiveClient). map (row_for t) (Manager ∷ map client (ids rs) ++ admins_of h)) is
+    ∙ ap (λ (ks : List ℕ). map (row_for t) (Manager ∷ map client ks ++ admins_of h))
     (ids_are (effects_of h) (live_clients (effects_of h)))
     ∙ same_rows h t (actors_of h) are

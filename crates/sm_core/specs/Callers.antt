@@ -2,8 +2,7 @@
 use Rattle.std.specs.Prelude.{◌≡◌, true}
 use Rattle.sm_history.specs.Effects.{Effects}
 use Rattle.sm_history.specs.Clients.{is_live}
-use Rattle.sm_history.specs.declared.by.By.{By}
-use Rattle.sm_history.specs.declared.by.By.TheVariants.{Manager, Client, Admin}
+use Rattle.sm_history.specs.declared.by.By.{By, TheVariants.Manager, TheVariants.Client, TheVariants.Admin}
 use Rattle.sm_core.specs.declared.caller.Caller.{Caller}
 use Rattle.sm_core.specs.declared.caller.Caller.TheVariants.{Manager as TheManager, Client as AClient, Admin as AnAdmin}
 use Rattle.sm_core.specs.Tables.{client_row}

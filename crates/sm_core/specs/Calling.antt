@@ -3,8 +3,7 @@ use Rattle.std.specs.Prelude.{ℕ, ◌≡◌, ◌&&◌, List, [], ◌∷◌, ◌
 use Rattle.sm_kinds.specs.declared.number.Node.{Node}
 use Rattle.sm_history.specs.declared.delivery.Delivery.{Delivery}
 use Rattle.sm_history.specs.declared.delivery.Message.TheVariants.{Called}
-use Rattle.sm_history.specs.declared.effect.Effect.{Effect}
-use Rattle.sm_history.specs.declared.effect.Effect.TheVariants.{Gives, Delivers}
+use Rattle.sm_history.specs.declared.effect.Effect.{Effect, TheVariants.Gives, TheVariants.Delivers}
 use Rattle.sm_history.specs.declared.outcome.Outcome.TheVariants.{Sent}
 use Rattle.sm_history.specs.declared.refusal.Refusal.TheVariants.{Failed, Dead}
 use Rattle.sm_history.specs.declared.refusal.Failure.TheVariants.{BadHandle, TargetFull}

@@ -6,14 +6,12 @@ use Rattle.sm_history.specs.declared.failed_check.EarlyAnswer.TheVariants.{Refus
 use Rattle.sm_history.specs.declared.refusal.Refusal.TheVariants.{Failed}
 use Rattle.sm_history.specs.declared.refusal.Failure.TheVariants.{TargetFull}
 use Rattle.sm_history.specs.declared.delivery.Delivery.{Delivery}
-use Rattle.sm_history.specs.declared.delivery.Given.{Given}
-use Rattle.sm_history.specs.declared.delivery.Given.TheVariants.{Handle}
+use Rattle.sm_history.specs.declared.delivery.Given.{Given, TheVariants.Handle}
 use Rattle.sm_history.specs.declared.delivery.Message.TheVariants.{Registered}
 use Rattle.sm_history.specs.declared.limits.TheConstants.{MOST_DELIVERIES}
 use Rattle.sm_history.specs.Effects.{Effects}
 use Rattle.sm_history.specs.declared.effect.Watch.{Watch}
-use Rattle.sm_history.specs.declared.effect.Effect.{Effect}
-use Rattle.sm_history.specs.declared.effect.Effect.TheVariants.{Gives}
+use Rattle.sm_history.specs.declared.effect.Effect.{Effect, TheVariants.Gives}
 use Rattle.sm_history.specs.Clients.{policy_at, manager_at, identity_at, is_live}
 use Rattle.sm_history.specs.Holdings.{handed, number_for, fits_handles}
 use Rattle.sm_history.specs.Inboxes.{inbox_at}

@@ -1,7 +1,6 @@
 -- Why a request makes no change, in a small value.
 use Rattle.std.specs.Box.{box_value}
-use Rattle.sm_history.specs.declared.failed_check.FailedCheck.{FailedCheck}
-use Rattle.sm_history.specs.declared.failed_check.FailedCheck.TheVariants.{Unmet}
+use Rattle.sm_history.specs.declared.failed_check.FailedCheck.{FailedCheck, TheVariants.Unmet}
 use Rattle.sm_history.specs.declared.failed_check.EarlyAnswer.{EarlyAnswer}
 use Rattle.sm_history.specs.declared.failed_check.EarlyAnswer.TheVariants as answered
 use Rattle.sm_history.specs.declared.refusal.Refusal.TheVariants as refused

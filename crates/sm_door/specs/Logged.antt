@@ -8,8 +8,7 @@ use Rattle.sm_history.specs.declared.event.Event.{Event}
 use Rattle.sm_history.specs.declared.query.Query.{Query}
 use Rattle.sm_history.specs.declared.records.Record.{Record}
 use Rattle.sm_history.specs.declared.refusal.Refusal.TheVariants.{NoSeat}
-use Rattle.sm_history.specs.declared.reply.Reply.{Reply}
-use Rattle.sm_history.specs.declared.reply.Reply.TheVariants.{Refused}
+use Rattle.sm_history.specs.declared.reply.Reply.{Reply, TheVariants.Refused}
 use Rattle.sm_history.specs.BookOrder.{Begins}
 use Rattle.sm_history.specs.Promises.{IsOutOfTurn, Looks}
 use Rattle.sm_history.specs.Steps.{book_after}

@@ -3,13 +3,10 @@ use Rattle.std.specs.Prelude.{ℕ, ◌≡◌, ◌<◌, true, List, [], ◌∷◌
 use Rattle.sm_kinds.specs.declared.number.Node.{Node}
 use Rattle.sm_policy.specs.Policy.{Policy}
 use Rattle.sm_history.specs.declared.limits.TheConstants.{GREATEST}
-use Rattle.sm_history.specs.declared.delivery.Given.{Given}
-use Rattle.sm_history.specs.declared.delivery.Given.TheVariants.{Null}
+use Rattle.sm_history.specs.declared.delivery.Given.{Given, TheVariants.Null}
 use Rattle.sm_history.specs.declared.delivery.Delivery.{Delivery}
-use Rattle.sm_history.specs.declared.delivery.Message.{Message}
-use Rattle.sm_history.specs.declared.delivery.Message.TheVariants.{Called, Registered}
-use Rattle.sm_history.specs.declared.event.Event.{Event}
-use Rattle.sm_history.specs.declared.event.Event.TheVariants.{Open, Connect, Reload}
+use Rattle.sm_history.specs.declared.delivery.Message.{Message, TheVariants.Called, TheVariants.Registered}
+use Rattle.sm_history.specs.declared.event.Event.{Event, TheVariants.Open, TheVariants.Connect, TheVariants.Reload}
 use Rattle.sm_history.specs.declared.outcome.Outcome.{Outcome}
 use Rattle.sm_history.specs.Effects.{Effects}
 use Rattle.sm_history.specs.Clients.{is_live, policy_at, version_at}

@@ -1,12 +1,9 @@
 -- What the outcomes of changes list, and what the effects of a history did.
 use Rattle.std.specs.Prelude.{ℕ, ◌≡◌, List, [], ◌∷◌, ◌++◌, Option, Some, None, filter_map, reverse}
-use Rattle.sm_history.specs.declared.delivery.Given.{Given}
-use Rattle.sm_history.specs.declared.delivery.Given.TheVariants.{Handle, Own, Null}
+use Rattle.sm_history.specs.declared.delivery.Given.{Given, TheVariants.Handle, TheVariants.Own, TheVariants.Null}
 use Rattle.sm_history.specs.declared.delivery.Delivery.{Delivery}
-use Rattle.sm_history.specs.declared.delivery.Message.{Message}
-use Rattle.sm_history.specs.declared.delivery.Message.TheVariants.{Called, Registered}
-use Rattle.sm_history.specs.declared.notice.Told.{Told}
-use Rattle.sm_history.specs.declared.notice.Told.TheVariants.{Told as IsTold, NotTold}
+use Rattle.sm_history.specs.declared.delivery.Message.{Message, TheVariants.Called, TheVariants.Registered}
+use Rattle.sm_history.specs.declared.notice.Told.{Told, TheVariants.Told as IsTold, TheVariants.NotTold}
 use Rattle.sm_history.specs.declared.notice.Notice.{Notice}
 use Rattle.sm_history.specs.declared.outcome.Outcome.{Outcome}
 use Rattle.sm_history.specs.declared.outcome.Outcome.TheVariants.{Connected, Added, Granted, Watched, Sent}

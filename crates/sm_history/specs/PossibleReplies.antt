@@ -8,8 +8,7 @@ use Rattle.sm_history.specs.declared.refusal.Refusal.TheVariants.{Failed, TooMan
 use Rattle.sm_history.specs.declared.refusal.Refusal.TheVariants.{Memory}
 use Rattle.sm_history.specs.declared.refusal.Failure.{Failure}
 use Rattle.sm_history.specs.declared.refusal.Failure.TheVariants.{NotYours, NotConnected, OutOfTurn}
-use Rattle.sm_history.specs.declared.reply.Reply.{Reply}
-use Rattle.sm_history.specs.declared.reply.Reply.TheVariants.{Done, Refused}
+use Rattle.sm_history.specs.declared.reply.Reply.{Reply, TheVariants.Done, TheVariants.Refused}
 
 -- A failure says that the event had the turn of its actor: the checks of the actor come before it.
 abbrev pub failure_tells_turn : Failure → Bool

@@ -4,18 +4,13 @@ use Rattle.sm_kinds.specs.declared.identity.Identity.{Identity}
 use Rattle.sm_kinds.specs.declared.number.AdminId.{AdminId}
 use Rattle.sm_kinds.specs.declared.number.ClientId.{ClientId}
 use Rattle.sm_policy.specs.Policy.{Policy}
-use Rattle.sm_history.specs.declared.by.By.{By}
-use Rattle.sm_history.specs.declared.by.By.TheVariants.{Manager, Client, Admin}
-use Rattle.sm_history.specs.declared.event.Event.{Event}
-use Rattle.sm_history.specs.declared.event.Event.TheVariants.{Connect, Die, Reload}
+use Rattle.sm_history.specs.declared.by.By.{By, TheVariants.Manager, TheVariants.Client, TheVariants.Admin}
+use Rattle.sm_history.specs.declared.event.Event.{Event, TheVariants.Connect, TheVariants.Die, TheVariants.Reload}
 use Rattle.sm_history.specs.declared.entry.Entry.{Entry}
-use Rattle.sm_history.specs.declared.outcome.Outcome.{Outcome}
-use Rattle.sm_history.specs.declared.outcome.Outcome.TheVariants.{Connected}
-use Rattle.sm_history.specs.declared.refusal.Refusal.{Refusal}
-use Rattle.sm_history.specs.declared.refusal.Refusal.TheVariants.{Failed}
+use Rattle.sm_history.specs.declared.outcome.Outcome.{Outcome, TheVariants.Connected}
+use Rattle.sm_history.specs.declared.refusal.Refusal.{Refusal, TheVariants.Failed}
 use Rattle.sm_history.specs.declared.refusal.Failure.TheVariants.{NotYours, NotConnected, OutOfTurn}
-use Rattle.sm_history.specs.declared.reply.Reply.{Reply}
-use Rattle.sm_history.specs.declared.reply.Reply.TheVariants.{Done, Refused}
+use Rattle.sm_history.specs.declared.reply.Reply.{Reply, TheVariants.Done, TheVariants.Refused}
 use Rattle.sm_history.specs.Beginning.{IsLonger, IsLater}
 use Rattle.sm_history.specs.Books.{Book}
 use Rattle.sm_history.specs.Clients.{version_at, identity_at, is_live, next_client}

@@ -1,12 +1,9 @@
 -- What each call promises of the token with which it is made.
 use Rattle.std.specs.Prelude.{true, false, ◌≡◌, ◌≢◌, ℕ, ◌+◌, ◌≤◌, ◌<◌, ◌⊎◌, List, [], All, length}
 use Rattle.sm_kinds.specs.declared.identity.Identity.{Identity}
-use Rattle.sm_history.specs.declared.by.By.{By}
-use Rattle.sm_history.specs.declared.by.By.TheVariants.{Manager, Client}
-use Rattle.sm_history.specs.declared.event.Event.{Event}
-use Rattle.sm_history.specs.declared.event.Event.TheVariants.{Connect}
-use Rattle.sm_history.specs.declared.outcome.Outcome.{Outcome}
-use Rattle.sm_history.specs.declared.outcome.Outcome.TheVariants.{Connected}
+use Rattle.sm_history.specs.declared.by.By.{By, TheVariants.Manager, TheVariants.Client}
+use Rattle.sm_history.specs.declared.event.Event.{Event, TheVariants.Connect}
+use Rattle.sm_history.specs.declared.outcome.Outcome.{Outcome, TheVariants.Connected}
 use Rattle.sm_history.specs.declared.query.Query.{Query}
 use Rattle.sm_history.specs.declared.records.Record.{Record}
 use Rattle.sm_history.specs.declared.refusal.Refusal.{Refusal}

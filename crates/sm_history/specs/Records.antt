@@ -9,10 +9,8 @@ use Rattle.sm_kinds.specs.declared.identity.Identity.{Identity}
 use Rattle.sm_kinds.specs.declared.number.Node.{Node}
 use Rattle.sm_policy.specs.Policy.{Policy, written, allowed, audits}
 use Rattle.sm_history.specs.declared.by.By.{By}
-use Rattle.sm_history.specs.declared.event.Event.{Event}
-use Rattle.sm_history.specs.declared.event.Event.TheVariants.{Add, Watch as WatchName}
-use Rattle.sm_history.specs.declared.denial.Denial.{Denial}
-use Rattle.sm_history.specs.declared.denial.Denial.TheVariants.{Rule, App, Isolated}
+use Rattle.sm_history.specs.declared.event.Event.{Event, TheVariants.Add, TheVariants.Watch as WatchName}
+use Rattle.sm_history.specs.declared.denial.Denial.{Denial, TheVariants.Rule, TheVariants.App, TheVariants.Isolated}
 use Rattle.sm_history.specs.declared.query.Query.{Query}
 use Rattle.sm_history.specs.declared.records.Record.{Record}
 use Rattle.sm_history.specs.Effects.{Effects, Service, Watch, Adds, Watches}

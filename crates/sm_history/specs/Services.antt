@@ -3,8 +3,7 @@ use Rattle.std.specs.Prelude.{ℕ, Bool, ◌&&◌, ◌||◌, not, ◌==◌, nat_
 use Rattle.std.specs.Prelude.{bytes_eq, if◌then◌else◌, filter, is_some, length}
 use Rattle.std.specs.Ordering.{nat_cmp}
 use Rattle.std.specs.Cmp.Lexicographic.{slice_cmp}
-use Rattle.std.specs.declared.cmp.Ordering.{Ordering}
-use Rattle.std.specs.declared.cmp.Ordering.TheVariants.{Less, Equal, Greater}
+use Rattle.std.specs.declared.cmp.Ordering.{Ordering, TheVariants.Less, TheVariants.Equal, TheVariants.Greater}
 use Rattle.sm_history.specs.Effects.{Effect, Effects, Service, Watch, Adds, Removes, Watches, Unwatches}
 use Rattle.sm_history.specs.Clients.{is_live}
 use Rattle.sm_history.specs.declared.limits.TheConstants.{MOST_NAMES}

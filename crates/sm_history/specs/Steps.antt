@@ -4,8 +4,7 @@ use Rattle.sm_history.specs.declared.by.By.{By}
 use Rattle.sm_history.specs.declared.event.Event.{Event}
 use Rattle.sm_history.specs.declared.outcome.Outcome.{Outcome}
 use Rattle.sm_history.specs.declared.entry.Entry.{Entry}
-use Rattle.sm_history.specs.declared.refusal.Refusal.{Refusal}
-use Rattle.sm_history.specs.declared.refusal.Refusal.TheVariants.{Memory, Empty}
+use Rattle.sm_history.specs.declared.refusal.Refusal.{Refusal, TheVariants.Memory, TheVariants.Empty}
 use Rattle.sm_history.specs.declared.reply.Reply.{Reply}
 use Rattle.sm_history.specs.declared.reply.Reply.TheVariants.{Done, GotNull, GotOwn, Looked, Sealed, Refused}
 use Rattle.sm_history.specs.Books.{Book}

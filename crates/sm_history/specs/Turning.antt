@@ -4,8 +4,7 @@ use Rattle.std.specs.Prelude.{unwrap_or, if◌then◌else◌}
 use Rattle.std.specs.List.{list_any}
 use Rattle.std.specs.HashMap.{get}
 use Rattle.sm_history.specs.declared.limits.TheConstants.{GREATEST}
-use Rattle.sm_history.specs.declared.by.By.{By}
-use Rattle.sm_history.specs.declared.by.By.TheVariants.{Manager, Client, Admin}
+use Rattle.sm_history.specs.declared.by.By.{By, TheVariants.Manager, TheVariants.Client, TheVariants.Admin}
 use Rattle.sm_history.specs.declared.client_row.ClientRow.{ClientRow}
 use Rattle.sm_history.specs.declared.turning.Turning.{Turning}
 use Rattle.sm_history.specs.Openings.{TurnRow, is_same}

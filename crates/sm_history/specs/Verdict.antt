@@ -8,13 +8,11 @@ use Rattle.std.specs.Prelude.{ℕ, ◌+◌, Bool, true, false, ◌&&◌, ◌||�
 use Rattle.std.specs.Prelude.{Option, Some, None, is_some, length, count_by}
 use Rattle.std.specs.List.{list_any}
 use Rattle.sm_kinds.specs.declared.number.Node.{Node}
-use Rattle.sm_kinds.specs.declared.number.ObjRef.{ObjRef}
-use Rattle.sm_kinds.specs.declared.number.ObjRef.TheVariants.{Null as NullRef}
+use Rattle.sm_kinds.specs.declared.number.ObjRef.{ObjRef, TheVariants.Null as NullRef}
 use Rattle.sm_kinds.specs.Names.{is_valid_name}
 use Rattle.sm_kinds.specs.Users.{is_barred, is_isolated_user}
 use Rattle.sm_history.specs.declared.failed_check.FailedCheck.{FailedCheck}
-use Rattle.sm_history.specs.declared.by.By.{By}
-use Rattle.sm_history.specs.declared.by.By.TheVariants.{Manager, Client, Admin}
+use Rattle.sm_history.specs.declared.by.By.{By, TheVariants.Manager, TheVariants.Client, TheVariants.Admin}
 use Rattle.sm_history.specs.declared.event.Event.{Event}
 use Rattle.sm_history.specs.declared.event.Event.TheVariants.{Open, Connect, Add, Get, Watch as WatchName, Unwatch}
 use Rattle.sm_history.specs.declared.event.Event.TheVariants.{Unregister, Call, Release, Take, Die, Reload}
@@ -29,8 +27,7 @@ use Rattle.sm_history.specs.declared.refusal.Failure.TheVariants.{TargetFull}
 use Rattle.sm_history.specs.declared.refusal.Exception.TheVariants.{NotAdder, InvalidName, NullService, NullBinder}
 use Rattle.sm_history.specs.declared.refusal.Exception.TheVariants.{DeadOwner, TableFull, NothingToUnregister}
 use Rattle.sm_history.specs.declared.refusal.Exception.TheVariants.{NotRegistered, OtherObject, InUse}
-use Rattle.sm_history.specs.declared.reply.Reply.{Reply}
-use Rattle.sm_history.specs.declared.reply.Reply.TheVariants.{Done}
+use Rattle.sm_history.specs.declared.reply.Reply.{Reply, TheVariants.Done}
 use Rattle.sm_history.specs.declared.failed_check.EarlyAnswer.TheVariants.{GotNull, GotOwn, Refused}
 use Rattle.sm_history.specs.declared.delivery.Delivery.{Delivery}
 use Rattle.sm_history.specs.declared.notice.Notice.{Notice}

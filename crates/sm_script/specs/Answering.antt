@@ -7,18 +7,15 @@ use Rattle.sm_policy.specs.declared.fault.PolicyFault.{PolicyFault}
 use Rattle.sm_policy.specs.Policy.{Policy}
 use Rattle.sm_kinds.specs.Reading.{Fails}
 use Rattle.sm_policy.specs.Preparing.{is_memory, prepared}
-use Rattle.sm_history.specs.declared.by.By.{By}
-use Rattle.sm_history.specs.declared.by.By.TheVariants.{Manager, Client, Admin}
-use Rattle.sm_history.specs.declared.event.Event.{Event}
-use Rattle.sm_history.specs.declared.event.Event.TheVariants.{Connect, Reload}
-use Rattle.sm_history.specs.declared.reply.Reply.{Reply}
+use Rattle.sm_history.specs.declared.by.By.{By, TheVariants.Manager, TheVariants.Client, TheVariants.Admin}
+use Rattle.sm_history.specs.declared.event.Event.{Event, TheVariants.Connect, TheVariants.Reload}
+use Rattle.sm_history.specs.declared.reply.Reply.{Reply, TheVariants.Refused}
 use Rattle.sm_history.specs.Histories.{turn_of}
 use Rattle.sm_history.specs.Told.{told}
 use Rattle.sm_history.specs.Books.{Book}
 use Rattle.sm_history.specs.declared.query.Query.{Query}
 use Rattle.sm_history.specs.declared.records.Record.{Record}
 use Rattle.sm_history.specs.declared.refusal.Refusal.TheVariants.{Memory}
-use Rattle.sm_history.specs.declared.reply.Reply.TheVariants.{Refused}
 use Rattle.sm_audit.specs.AuditLines.{audit_line}
 use Rattle.sm_core.specs.Managed.{Managed, look_leaves, ring_after, step_leaves}
 use Rattle.sm_history.specs.Promises.{Looks}

@@ -5,8 +5,7 @@ use Rattle.sm_kinds.specs.Contexts.{type_of}
 use Rattle.sm_policy.specs.Policy.{Policy, allowed}
 use Rattle.sm_kinds.specs.Reading.{Fails}
 use Rattle.sm_policy.specs.Preparing.{is_memory, prepared}
-use Rattle.sm_history.specs.declared.refusal.Refusal.{Refusal}
-use Rattle.sm_history.specs.declared.refusal.Refusal.TheVariants.{Memory}
+use Rattle.sm_history.specs.declared.refusal.Refusal.{Refusal, TheVariants.Memory}
 use Rattle.sm_history.specs.Checks.{managing}
 use Rattle.sm_history.specs.Lawful.{MayOpen}
 use Rattle.sm_history.specs.Books.{Book}

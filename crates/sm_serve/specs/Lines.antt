@@ -2,8 +2,7 @@
 use Rattle.std.specs.Prelude.{◌≡◌, ◌++◌, ◌-◌, ◌==◌, ◌⊎◌, ℕ, List, Option, codes, count_by, drop, length, slice_index, take, vec_capacity}
 use Rattle.std.specs.Fmt.{decimal}
 use Rattle.std.specs.Io.KnownBytes.{Appends}
-use Rattle.sm_serve.specs.declared.log_lines.LogLines.{LogLines}
-use Rattle.sm_serve.specs.declared.log_lines.LogLines.TheVariants.{Fixed, Made}
+use Rattle.sm_serve.specs.declared.log_lines.LogLines.{LogLines, TheVariants.Fixed, TheVariants.Made}
 
 -- These are the bytes of lines of a log.
 abbrev pub bytes_of : LogLines → List ℕ

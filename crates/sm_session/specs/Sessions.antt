@@ -3,23 +3,20 @@ use Rattle.std.specs.Prelude.{◌≡◌, ◌<◌, ◌≤◌, ◌+◌, ◌⊎◌,
 use Rattle.std.specs.Prelude.{MatchBool, Option, Some, Result, Err, OnOk, min}
 use Rattle.std.specs.Io.KnownBytes.{IsAtEnd}
 use Rattle.sm_history.specs.declared.outcome.Outcome.TheVariants.{Connected, Died}
-use Rattle.sm_history.specs.declared.reply.Reply.{Reply}
-use Rattle.sm_history.specs.declared.reply.Reply.TheVariants.{Done}
+use Rattle.sm_history.specs.declared.reply.Reply.{Reply, TheVariants.Done}
 use Rattle.sm_history.specs.Verdict.{is_die}
 use Rattle.sm_wire.specs.declared.request.Request.{Request}
 use Rattle.sm_wire.specs.declared.request.Request.TheVariants.{Hello, Change, Look, Reload, Denials, Seal}
 use Rattle.sm_wire.specs.declared.item.Item.{Item}
 use Rattle.sm_wire.specs.declared.item.Item.TheVariants.{Asked, Policy, Malformed, LineTooLong}
-use Rattle.sm_wire.specs.declared.kind.Kind.{Kind}
-use Rattle.sm_wire.specs.declared.kind.Kind.TheVariants.{Client, Admin, Script}
+use Rattle.sm_wire.specs.declared.kind.Kind.{Kind, TheVariants.Client, TheVariants.Admin, TheVariants.Script}
 use Rattle.sm_wire.specs.Replies.{visible_reply}
 use Rattle.sm_engine.specs.declared.counted.Counted.{Counted}
 use Rattle.sm_engine.specs.declared.fault.Fault.{Fault}
 use Rattle.sm_engine.specs.declared.fault.Fault.TheVariants.{ReadFault, TooManyReads, WriteFault}
 use Rattle.sm_engine.specs.Counts.{calls_of, failures_of, greatest_count}
 use Rattle.sm_engine.specs.Running.{Served}
-use Rattle.sm_session.specs.declared.response.Response.{Response}
-use Rattle.sm_session.specs.declared.response.Response.TheVariants.{Replied}
+use Rattle.sm_session.specs.declared.response.Response.{Response, TheVariants.Replied}
 use Rattle.sm_session.specs.declared.session_state.SessionState.{SessionState}
 use Rattle.sm_session.specs.Responses.{response_text}
 

@@ -1,13 +1,11 @@
 -- Where an item ends, and its result: the scan of its bytes, in one step.
 use Rattle.std.specs.Prelude.{◌≡◌, ◌≢◌, ℕ, ◌+◌, ◌-◌, ◌<◌, ◌≤◌, List, [], ◌∷◌, length, take}
 use Rattle.std.specs.List.{slice_index}
-use Rattle.sm_wire.specs.declared.item.Item.{Item}
-use Rattle.sm_wire.specs.declared.item.Item.TheVariants.{LineTooLong}
+use Rattle.sm_wire.specs.declared.item.Item.{Item, TheVariants.LineTooLong}
 use Rattle.sm_wire.specs.declared.kind.Kind.{Kind}
 use Rattle.sm_wire.specs.declared.frame_state.FrameState.{FrameState}
 use Rattle.sm_wire.specs.declared.frame_state.FrameState.TheVariants.{Line, Texts as TextsMode, Dead}
-use Rattle.sm_wire.specs.declared.ends.End.{End}
-use Rattle.sm_wire.specs.declared.ends.End.TheVariants.{At, Later, Never}
+use Rattle.sm_wire.specs.declared.ends.End.{End, TheVariants.At, TheVariants.Later, TheVariants.Never}
 use Rattle.sm_wire.specs.Items.{FrameStep, Scan, line_limit, scan_start, scan_dead, line_end, policy_item}
 
 -- There is no newline among the first n bytes.

@@ -2,8 +2,7 @@
 use Rattle.std.specs.Prelude.{◌≡◌, List, [], ◌∷◌, ◌++◌, Option, Some, None, Result, Ok, Err}
 use Rattle.sm_wire.specs.declared.item.Item.{Item}
 use Rattle.sm_wire.specs.declared.item.Item.TheVariants.{Asked, Policy, Malformed as MalformedItem, LineTooLong}
-use Rattle.sm_wire.specs.declared.read_error.ReadError.{ReadError}
-use Rattle.sm_wire.specs.declared.read_error.ReadError.TheVariants.{Malformed, Memory}
+use Rattle.sm_wire.specs.declared.read_error.ReadError.{ReadError, TheVariants.Malformed, TheVariants.Memory}
 use Rattle.sm_wire.specs.declared.reload_header.ReloadHeader.{ReloadHeader}
 use Rattle.sm_wire.specs.declared.request.Request.{Request}
 use Rattle.sm_wire.specs.Grammar.{header_by}

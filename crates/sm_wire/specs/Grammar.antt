@@ -5,8 +5,7 @@ use Rattle.sm_kinds.specs.Permissions.{class_read}
 use Rattle.sm_wire.specs.declared.request.Request.{Request}
 use Rattle.sm_wire.specs.declared.request.Request.TheVariants.{Hello, Change, Look, Reload, Denials, Seal}
 use Rattle.sm_wire.specs.declared.reload_header.ReloadHeader.{ReloadHeader}
-use Rattle.sm_wire.specs.declared.kind.Kind.{Kind}
-use Rattle.sm_wire.specs.declared.kind.Kind.TheVariants.{Client, Admin, Script}
+use Rattle.sm_wire.specs.declared.kind.Kind.{Kind, TheVariants.Client, TheVariants.Admin, TheVariants.Script}
 use Rattle.sm_wire.specs.LineTable.{Field, Value, Maker, Production, client_lines, connection_lines, admin_lines}
 use Rattle.sm_wire.specs.LineTable.{unnumbered_lines}
 use Rattle.sm_wire.specs.Number.{u32_max, u64_max, parsed_number}

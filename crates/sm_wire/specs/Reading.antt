@@ -1,7 +1,6 @@
 -- Results of parsing a field or a line.
 use Rattle.std.specs.Prelude.{◌≡◌, Option, Some, None, option_and_then, Result, Ok, Err}
-use Rattle.sm_wire.specs.declared.read_error.ReadError.{ReadError}
-use Rattle.sm_wire.specs.declared.read_error.ReadError.TheVariants.{Malformed, Memory}
+use Rattle.sm_wire.specs.declared.read_error.ReadError.{ReadError, TheVariants.Malformed, TheVariants.Memory}
 
 -- A value goes to the next parser.
 infixl 10 ◌>>=◌

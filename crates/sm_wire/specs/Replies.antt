@@ -2,18 +2,14 @@
 use Rattle.std.specs.Prelude.{ℕ, List, [], ◌∷◌, ◌++◌, length, codes, Option, Some, None}
 use Rattle.std.specs.List.{flat_map}
 use Rattle.hex.specs.Hex.{encode_lower}
-use Rattle.sm_kinds.specs.declared.class.Class.{Class}
-use Rattle.sm_kinds.specs.declared.class.Class.TheVariants.{ServiceManager, Binder}
+use Rattle.sm_kinds.specs.declared.class.Class.{Class, TheVariants.ServiceManager, TheVariants.Binder}
 use Rattle.sm_kinds.specs.declared.perms.Perms.{Perms}
 use Rattle.sm_kinds.specs.Messages.{access_words, name_text, numbered}
 use Rattle.sm_policy.specs.declared.fault.PolicyFault.{PolicyFault}
 use Rattle.sm_policy.specs.Refused.{refused_words}
-use Rattle.sm_history.specs.declared.delivery.Given.{Given}
-use Rattle.sm_history.specs.declared.delivery.Given.TheVariants.{Handle, Own, Null}
-use Rattle.sm_history.specs.declared.delivery.Message.{Message}
-use Rattle.sm_history.specs.declared.delivery.Message.TheVariants.{Called, Registered}
-use Rattle.sm_history.specs.declared.denial.Denial.{Denial}
-use Rattle.sm_history.specs.declared.denial.Denial.TheVariants.{Rule, App, Isolated}
+use Rattle.sm_history.specs.declared.delivery.Given.{Given, TheVariants.Handle, TheVariants.Own, TheVariants.Null}
+use Rattle.sm_history.specs.declared.delivery.Message.{Message, TheVariants.Called, TheVariants.Registered}
+use Rattle.sm_history.specs.declared.denial.Denial.{Denial, TheVariants.Rule, TheVariants.App, TheVariants.Isolated}
 use Rattle.sm_history.specs.declared.event.Event.TheVariants as events
 use Rattle.sm_history.specs.declared.outcome.Outcome.{Outcome}
 use Rattle.sm_history.specs.declared.outcome.Outcome.TheVariants.{Opened, Connected, Added, Granted, Watched, Unwatched}
@@ -28,16 +24,14 @@ use Rattle.sm_history.specs.declared.refusal.Failure.TheVariants.{TargetFull}
 use Rattle.sm_history.specs.declared.refusal.Refusal.{Refusal}
 use Rattle.sm_history.specs.declared.refusal.Refusal.TheVariants as refusals
 use Rattle.sm_history.specs.declared.records.Record.{Record}
-use Rattle.sm_history.specs.declared.reply.Answer.{Answer}
-use Rattle.sm_history.specs.declared.reply.Answer.TheVariants.{Names, Version, Why}
+use Rattle.sm_history.specs.declared.reply.Answer.{Answer, TheVariants.Names, TheVariants.Version, TheVariants.Why}
 use Rattle.sm_history.specs.declared.reply.Reply.{Reply}
 use Rattle.sm_history.specs.declared.reply.Reply.TheVariants.{Done, GotNull, GotOwn, Looked, Sealed, Refused}
 use Rattle.sm_history.specs.Told.{told, told_to_get}
 use Rattle.sm_audit.specs.AuditLines.{audit_line}
 use Rattle.sm_wire.specs.declared.request.Request.{Request}
 use Rattle.sm_wire.specs.declared.request.Request.TheVariants.{Hello, Change, Look, Reload, Denials, Seal}
-use Rattle.sm_wire.specs.declared.telling.Telling.{Telling}
-use Rattle.sm_wire.specs.declared.telling.Telling.TheVariants.{Whole, ToGet}
+use Rattle.sm_wire.specs.declared.telling.Telling.{Telling, TheVariants.Whole, TheVariants.ToGet}
 
 -- A name is written after a space.
 abbrev pub spaced_name : List ℕ → List ℕ

@@ -3,14 +3,11 @@ use Rattle.std.specs.Prelude.{◌≡◌, ◌≤◌, ◌⊎◌, ℕ, Bool, true, 
 use Rattle.std.specs.Prelude.{Result, Ok, Err}
 use Rattle.std.specs.List.{join_with_byte}
 use Rattle.sm_kinds.specs.declared.limits.TheConstants.{MOST_REFS}
-use Rattle.sm_kinds.specs.declared.number.ObjRef.{ObjRef}
-use Rattle.sm_kinds.specs.declared.number.ObjRef.TheVariants.{Own}
+use Rattle.sm_kinds.specs.declared.number.ObjRef.{ObjRef, TheVariants.Own}
 use Rattle.sm_ruletext.specs.Lexing.{is_word}
-use Rattle.sm_wire.specs.declared.read_error.ReadError.{ReadError}
-use Rattle.sm_wire.specs.declared.read_error.ReadError.TheVariants.{Malformed, Memory}
+use Rattle.sm_wire.specs.declared.read_error.ReadError.{ReadError, TheVariants.Malformed, TheVariants.Memory}
 use Rattle.sm_wire.specs.declared.request.Request.{Request}
-use Rattle.sm_wire.specs.declared.kind.Kind.{Kind}
-use Rattle.sm_wire.specs.declared.kind.Kind.TheVariants.{Client, Admin, Script}
+use Rattle.sm_wire.specs.declared.kind.Kind.{Kind, TheVariants.Client, TheVariants.Admin, TheVariants.Script}
 use Rattle.sm_wire.specs.LineTable.{Field, Value, Maker, Production, client_lines, connection_lines, admin_lines}
 use Rattle.sm_wire.specs.LineTable.{unnumbered_lines}
 use Rattle.sm_wire.specs.Number.{u32_max, u64_max}

@@ -6,8 +6,7 @@ use Rattle.std.specs.Result.{result_ok}
 use Rattle.std.specs.Str.{bytes_eq}
 use Rattle.hex.specs.Hex.{decode_of}
 use Rattle.sm_kinds.specs.declared.limits.TheConstants.{MOST_PAYLOAD_BYTES, MOST_REFS}
-use Rattle.sm_kinds.specs.declared.number.ObjRef.{ObjRef}
-use Rattle.sm_kinds.specs.declared.number.ObjRef.TheVariants.{Own, Handle, Null}
+use Rattle.sm_kinds.specs.declared.number.ObjRef.{ObjRef, TheVariants.Own, TheVariants.Handle, TheVariants.Null}
 use Rattle.sm_kinds.specs.declared.class.Class.TheVariants.{ServiceManager, Binder}
 use Rattle.sm_kinds.specs.declared.perms.Perms.{Perms}
 use Rattle.sm_kinds.specs.Contexts.{is_graphic, is_context}

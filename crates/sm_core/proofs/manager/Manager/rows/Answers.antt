@@ -3,10 +3,10 @@ use Rattle.sm_history.specs.declared.by.By.TheVariants.{Manager}
 use Rattle.sm_history.specs.declared.turn.TurnRow.{TurnRow}
 use Rattle.sm_history.specs.Histories.{effects_of, length_of}
 use Rattle.sm_history.specs.Rows.{Rows, rows_at}
-use Rattle.sm_history.specs.Segments.{actors_of, rows_of, turn_row}
+use Rattle.sm_history.specs.Segments.{actors_of, client, rows_of, turn_row}
 use Rattle.sm_history.proofs.TableRows.{tables_are}
 use Rattle.sm_core.specs.declared.client.LiveClient.{LiveClient}
-use Rattle.sm_core.specs.Counting.{counted_admins, as_client, row_for}
+use Rattle.sm_core.specs.Counting.{counted_admins, row_for}
 use Rattle.sm_core.specs.Managed.{Managed}
 use Rattle.sm_core.proofs.SealedTurns.{actor_rows, ids}
 use Rattle.sm_core.proofs.manager.Manager.rows.Goals as goal
@@ -26,7 +26,7 @@ returns c =
     let turns : c.in_ok-turns.turns.items ≡ map (turn_row h) (actors_of h) =
     c.in_ok-turns.ensures
     ∙ ap (λ (rs : List LiveClient). map (row_for c.self.inside.turns)
-    (Manager ∷ map as_client (ids rs) ++ counted_admins c.self.inside.turns)) c.deref.ensures.value
+    (Manager ∷ map client (ids rs) ++ counted_admins c.self.inside.turns)) c.deref.ensures.value
     ∙ actor_rows h c.self.inside.turns c.self.inside.state.principals.clients.items k.turns_are k.admins_are
     k.stands.principals.clients in
     let length : c.history_length-length.result ≡ length_of h =

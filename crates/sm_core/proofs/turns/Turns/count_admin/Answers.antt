@@ -3,7 +3,7 @@ use Rattle.std.proofs.lemmas.Bool.Decides.{nat_tests}
 use Rattle.std.specs.HashMap.{spare}
 use Rattle.std.specs.Map.{keys_of}
 use Rattle.sm_grants.proofs.Indexed.{ok_is}
-use Rattle.sm_core.specs.Counting.{admin_of}
+use Rattle.sm_history.specs.Turning.{admin}
 use Rattle.sm_core.proofs.SealedTurns.{admins_counted}
 use Rattle.sm_core.proofs.turns.Turns.count_admin.Goals as goal
 
@@ -11,6 +11,6 @@ pub returns-clause-admins : goal.returns-clause-admins
 returns-clause-admins c =
     let room = c.requires.room in
     let some : 0 < spare c.args.self.now.admins = grind (arith, nat_tests) in
-    ap (λ (es : List (ℕ × ℕ)). map admin_of (keys_of es))
+    ap (λ (es : List (ℕ × ℕ)). map admin (keys_of es))
     (ok_is c.insert.result _ (c.insert.ensures.succeeds some) c.insert.ensures.entries)
     ∙ admins_counted c.args.self.now.admins.entries c.args.admin _

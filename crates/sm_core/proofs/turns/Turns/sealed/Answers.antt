@@ -2,7 +2,8 @@ use Rattle.std.proofs.Common.{ℕ, ◌-◌, ◌==◌, List, refl, ap, map}
 use Rattle.std.specs.Prelude.{nat_lt, slice_index_or}
 use Rattle.sm_history.specs.declared.by.By.TheVariants.{Manager, Client, Admin}
 use Rattle.std.specs.List.{list_any}
-use Rattle.sm_core.specs.Counting.{admin_of, change_count}
+use Rattle.sm_history.specs.Turning.{admin}
+use Rattle.sm_core.specs.Counting.{change_count}
 use Rattle.sm_core.proofs.SealedTurns.{ids, sealed_client}
 use Rattle.sm_core.proofs.turns.Turns.sealed.Goals as goal
 
@@ -15,4 +16,4 @@ returns-clause-turns c (Client k) =
 returns-clause-turns c (Admin a) = c.in_ok-same_admins.ensures.gets a.0
 
 pub returns-clause-admins : goal.returns-clause-admins
-returns-clause-admins c = ap (λ (ks : List ℕ). map admin_of ks) c.in_ok-same_admins.ensures.keys
+returns-clause-admins c = ap (λ (ks : List ℕ). map admin ks) c.in_ok-same_admins.ensures.keys
