@@ -10,8 +10,8 @@ use Rattle.sm_kinds.specs.declared.identity.Identity.{Identity}
 use Rattle.sm_kinds.specs.declared.number.Node.{Node}
 use Rattle.sm_history.specs.declared.delivery.Delivery.{Delivery}
 use Rattle.sm_history.specs.declared.limits.TheConstants.{GREATEST}
-use Rattle.sm_history.specs.declared.client_row.Held.{Held}
-use Rattle.sm_history.specs.declared.client_row.ClientRow.{ClientRow}
+use Rattle.sm_history.specs.declared.replay.client_row.Held.{Held}
+use Rattle.sm_history.specs.declared.replay.client_row.ClientRow.{ClientRow}
 use Rattle.sm_history.specs.Effects.{Effects, Connects, Dies, Gives, Releases, Delivers, Takes, same_node}
 use Rattle.sm_history.specs.Clients.{is_live, live_clients, identity_at, next_client}
 use Rattle.sm_history.specs.Holdings.{refs_at, is_held, number_at, node_at}

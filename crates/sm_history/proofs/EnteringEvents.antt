@@ -10,7 +10,7 @@ use Rattle.sm_history.specs.declared.notice.Notice.{Notice}
 use Rattle.sm_history.specs.declared.event.Event.TheVariants.{Add, Get, Watch as WatchName, Call}
 use Rattle.sm_history.specs.declared.outcome.Outcome.{Outcome}
 use Rattle.sm_history.specs.declared.outcome.Outcome.TheVariants.{Added, Granted, Watched, Sent}
-use Rattle.sm_history.specs.declared.tables.Tables.{Tables}
+use Rattle.sm_history.specs.declared.replay.tables.Tables.{Tables}
 use Rattle.sm_history.specs.Effects.{Effects, Watch, Adds, Gives, Watches, Delivers}
 use Rattle.sm_history.specs.Clients.{is_live}
 use Rattle.sm_history.specs.Holdings.{node_at, resolve_at}

@@ -8,7 +8,7 @@ use Rattle.sm_kinds.specs.declared.number.Node.{Node}
 use Rattle.sm_kinds.specs.declared.number.ObjRef.{ObjRef}
 use Rattle.sm_history.specs.declared.delivery.Given.{Given}
 use Rattle.sm_history.specs.declared.notice.Notice.{Notice}
-use Rattle.sm_history.specs.declared.tables.Tables.{Tables}
+use Rattle.sm_history.specs.declared.replay.tables.Tables.{Tables}
 use Rattle.sm_history.specs.Effects.{Effects, Watch}
 use Rattle.sm_history.specs.Clients.{is_live}
 use Rattle.sm_history.specs.Holdings.{resolve_at, given_to, handed}

@@ -8,7 +8,7 @@ use Rattle.sm_history.specs.declared.delivery.Given.TheVariants.{Handle, Own}
 use Rattle.sm_history.specs.declared.delivery.Delivery.{Delivery}
 use Rattle.sm_history.specs.declared.notice.Notice.{Notice}
 use Rattle.sm_history.specs.declared.notice.Told.TheVariants.{Told as IsTold}
-use Rattle.sm_history.specs.declared.tables.Tables.{Tables}
+use Rattle.sm_history.specs.declared.replay.tables.Tables.{Tables}
 use Rattle.sm_history.specs.Effects.{Effects, Watch, Gives, Delivers}
 use Rattle.sm_history.specs.Clients.{is_live}
 use Rattle.sm_history.specs.Holdings.{refs_at, number_for, given_to, handed}

@@ -3,9 +3,9 @@ use Rattle.std.proofs.Common.{◌≡◌, ℕ, true, false, ◌==◌, List, [], �
 use Rattle.std.proofs.Common.{cond, ◌+◌, ◌<◌, ◌++◌, length, take, get_or}
 use Rattle.std.specs.Prelude.{is_some}
 use Rattle.std.specs.List.{list_any}
-use Rattle.sm_history.specs.declared.client_row.Held.{Held}
-use Rattle.sm_history.specs.declared.client_row.ClientRow.{ClientRow}
-use Rattle.sm_history.specs.declared.tables.Tables.{Tables}
+use Rattle.sm_history.specs.declared.replay.client_row.Held.{Held}
+use Rattle.sm_history.specs.declared.replay.client_row.ClientRow.{ClientRow}
+use Rattle.sm_history.specs.declared.replay.tables.Tables.{Tables}
 use Rattle.sm_history.specs.Effects.{Effects}
 use Rattle.sm_history.specs.Clients.{is_live, live_clients}
 use Rattle.sm_history.specs.Agreeing.{Agree}

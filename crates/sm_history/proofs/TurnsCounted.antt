@@ -8,8 +8,8 @@ use Rattle.sm_history.specs.declared.limits.TheConstants.{GREATEST}
 use Rattle.sm_history.specs.declared.by.By.{By}
 use Rattle.sm_history.specs.declared.by.By.TheVariants.{Manager, Client, Admin}
 use Rattle.sm_history.specs.declared.entry.Entry.{Entry}
-use Rattle.sm_history.specs.declared.client_row.ClientRow.{ClientRow}
-use Rattle.sm_history.specs.declared.turning.Turning.{Turning}
+use Rattle.sm_history.specs.declared.replay.client_row.ClientRow.{ClientRow}
+use Rattle.sm_history.specs.declared.replay.turning.Turning.{Turning}
 use Rattle.sm_history.specs.Clients.{live_clients}
 use Rattle.sm_history.specs.Openings.{TurnRow, is_same, turns_in}
 use Rattle.sm_history.specs.Histories.{History, entered, effects_of, turn_of}

@@ -4,7 +4,7 @@ use Rattle.sm_history.specs.declared.limits.TheConstants.{GREATEST}
 use Rattle.sm_history.specs.declared.by.By.{By}
 use Rattle.sm_history.specs.declared.entry.Entry.{Entry}
 use Rattle.sm_history.specs.declared.replay.Replay.{Replay}
-use Rattle.sm_history.specs.declared.tables.Tables.{Tables}
+use Rattle.sm_history.specs.declared.replay.tables.Tables.{Tables}
 use Rattle.sm_history.specs.Effects.{Effects}
 use Rattle.sm_history.specs.Rows.{rows_at}
 use Rattle.sm_history.specs.Sound.{Sound}

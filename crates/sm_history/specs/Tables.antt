@@ -8,10 +8,10 @@ use Rattle.sm_kinds.specs.declared.identity.Identity.{Identity}
 use Rattle.sm_kinds.specs.declared.number.Node.{Node}
 use Rattle.sm_policy.specs.Policy.{Policy, no_policy}
 use Rattle.sm_history.specs.declared.service.Service.{Service}
-use Rattle.sm_history.specs.declared.client_row.Held.{Held}
-use Rattle.sm_history.specs.declared.client_row.ClientRow.{ClientRow}
+use Rattle.sm_history.specs.declared.replay.client_row.Held.{Held}
+use Rattle.sm_history.specs.declared.replay.client_row.ClientRow.{ClientRow}
 use Rattle.sm_history.specs.declared.limits.TheConstants.{GREATEST}
-use Rattle.sm_history.specs.declared.tables.Tables.{Tables}
+use Rattle.sm_history.specs.declared.replay.tables.Tables.{Tables}
 use Rattle.sm_history.specs.Effects.{Effects}
 use Rattle.sm_history.specs.Clients.{nobody, policy_at, version_at, manager_at, clients_made, live_clients, identity_at}
 use Rattle.sm_history.specs.Holdings.{refs_at, node_at}

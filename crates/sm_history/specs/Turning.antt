@@ -5,8 +5,8 @@ use Rattle.std.specs.List.{list_any}
 use Rattle.std.specs.HashMap.{get}
 use Rattle.sm_history.specs.declared.limits.TheConstants.{GREATEST}
 use Rattle.sm_history.specs.declared.by.By.{By, TheVariants.Manager, TheVariants.Client, TheVariants.Admin}
-use Rattle.sm_history.specs.declared.client_row.ClientRow.{ClientRow}
-use Rattle.sm_history.specs.declared.turning.Turning.{Turning}
+use Rattle.sm_history.specs.declared.replay.client_row.ClientRow.{ClientRow}
+use Rattle.sm_history.specs.declared.replay.turning.Turning.{Turning}
 use Rattle.sm_history.specs.Openings.{TurnRow, is_same}
 use Rattle.sm_history.specs.Segments.{is_admin, client}
 

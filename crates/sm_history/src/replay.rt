@@ -5,9 +5,17 @@ ghost use Rattle.sm_history.specs.Histories.{History, entered, effects_of};
 ghost use Rattle.sm_history.specs.Sound.{Sound};
 ghost use Rattle.sm_history.specs.Replaying.{IsNext, TracksHistory};
 
+pub mod client_row;
+pub mod copying;
+pub mod entering;
+pub mod live;
+pub mod named_row;
+pub mod tables;
+pub mod turning;
+
 use crate::entry::Entry;
-use crate::tables::Tables;
-use crate::turning::{Turning, number_of};
+use crate::replay::tables::Tables;
+use crate::replay::turning::{Turning, number_of};
 use std::alloc::AllocError;
 
 /// The state of a replay: tables, the number of changes of each actor, and the number of all changes.

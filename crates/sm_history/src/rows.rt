@@ -40,13 +40,13 @@ ghost use Rattle.sm_history.specs.Replaying.{AreLeft, StartsFrom};
 ghost use Rattle.sm_history.specs.Turning.{turn_rows};
 ghost use Rattle.sm_history.specs.Tables.{held_of, live_of, manager_of, policy_of, tables_of, waiting_of};
 
-use crate::client_row::ClientRow;
 use crate::effect::Watch;
-use crate::named_row::NamedRow;
 use crate::replay::Replay;
-use crate::tables::Tables;
+use crate::replay::client_row::ClientRow;
+use crate::replay::named_row::NamedRow;
+use crate::replay::tables::Tables;
+use crate::replay::turning::Turning;
 use crate::turn::TurnRow;
-use crate::turning::Turning;
 use sm_kinds::Identity;
 use sm_policy::Prepared;
 use std::alloc::{AllocError, Global};

@@ -3,7 +3,7 @@ use Rattle.std.proofs.Common.{◌≡◌, ℕ, true, false, List, [], ◌∷◌, 
 use Rattle.std.specs.Prelude.{filter, filter_map, option_map, map}
 use Rattle.std.specs.List.{cons_option}
 use Rattle.sm_history.specs.declared.service.Service.{Service}
-use Rattle.sm_history.specs.declared.named_row.NamedRow.{NamedRow}
+use Rattle.sm_history.specs.declared.replay.named_row.NamedRow.{NamedRow}
 use Rattle.sm_history.specs.Queries.{shares_bit}
 use Rattle.sm_history.specs.Rising.{IsRising}
 use Rattle.sm_history.specs.Rows.{named_row}

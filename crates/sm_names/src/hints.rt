@@ -3,7 +3,7 @@
 //! nothing of hints, and hints that can't be allocated are just not there.
 
 ghost use Rattle.std.specs.Prelude.{◌≡◌, ◌<◌, ℕ, IfSome, length, slice_index_or};
-ghost use Rattle.sm_history.specs.declared.named_row.NamedRow.{NamedRow as TheRow};
+ghost use Rattle.sm_history.specs.declared.replay.named_row.NamedRow.{NamedRow as TheRow};
 
 use crate::words::{digest, is_same};
 use sm_history::NamedRow;

@@ -2,7 +2,7 @@ use Rattle.std.proofs.Common.{rules}
 use Rattle.std.specs.Ordering.{nat_cmp}
 use Rattle.std.specs.Cmp.Lexicographic.{slice_cmp}
 use Rattle.std.proofs.lemmas.Fn.{always_returns_same}
-use Rattle.sm_history.specs.declared.named_row.NamedRow.{NamedRow}
+use Rattle.sm_history.specs.declared.replay.named_row.NamedRow.{NamedRow}
 use Rattle.sm_history.proofs.NamedRows.{searched}
 use Rattle.sm_names.proofs.services.searched.Goals as goal
 

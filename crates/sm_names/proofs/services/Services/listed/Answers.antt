@@ -1,6 +1,6 @@
 use Rattle.std.proofs.Common.{◌∙◌, sym, subst, List}
 use Rattle.std.proofs.lemmas.Result.{IfOk-weaker}
-use Rattle.sm_history.specs.declared.named_row.NamedRow.{NamedRow}
+use Rattle.sm_history.specs.declared.replay.named_row.NamedRow.{NamedRow}
 use Rattle.sm_names.specs.Rows.{TracksRows}
 use Rattle.sm_names.proofs.services.Services.listed.Goals as goal
 

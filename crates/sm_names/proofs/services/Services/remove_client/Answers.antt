@@ -1,7 +1,7 @@
 use Rattle.std.proofs.Common.{rules}
 use Rattle.std.specs.Prelude.{not, ◌==◌}
 use Rattle.std.proofs.lemmas.Fn.{filter_same}
-use Rattle.sm_history.specs.declared.named_row.NamedRow.{NamedRow}
+use Rattle.sm_history.specs.declared.replay.named_row.NamedRow.{NamedRow}
 use Rattle.sm_history.proofs.AfterNamedRows.{names_die}
 use Rattle.sm_names.proofs.services.Services.remove_client.Goals as goal
 
