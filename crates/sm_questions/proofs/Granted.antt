@@ -11,8 +11,7 @@ use Rattle.sm_policy.specs.Policy.{Policy, allowed, type_index}
 use Rattle.sm_policy.proofs.Looking.{named}
 use Rattle.sm_types.specs.Names.{at}
 use Rattle.sm_types.specs.Denoting.{types}
-use Rattle.sm_questions.specs.declared.filtering.Filter.{Filter}
-use Rattle.sm_questions.specs.Accesses.{perm_lines, pair_lines, perm_numbers, target_lines}
+use Rattle.sm_questions.specs.Accesses.{perm_lines, pair_lines, perm_numbers}
 use Rattle.sm_questions.specs.Differences.{is_lost, lost_pair, lost_perm}
 use Rattle.sm_questions.specs.Granted.{IsGranted, IsRow, byte_for, is_kept}
 
@@ -37,17 +36,11 @@ no_lines f none =
       none 6 (omega arith),
     ) refl
 
-no_pair : (policy : Policy) (granted wanted : ℕ) (s t : List ℕ) → granted ≡ 0 → IsGranted policy granted s t
+pub no_pair : (policy : Policy) (granted wanted : ℕ) (s t : List ℕ) → granted ≡ 0 → IsGranted policy granted s t
     → pair_lines policy wanted s t ≡ []
 unfolding pair_lines perm_lines
 no_pair policy granted wanted s t none is =
     no_lines (perm_lines policy wanted s t) (λ b lt. grind (arith, nothing policy granted s t none is b lt))
-
-pub no_target : (policy : Policy) (granted : ℕ) (filter : Filter) (s t : List ℕ) → granted ≡ 0
-    → IsGranted policy granted s t → target_lines policy filter s t ≡ []
-unfolding target_lines
-no_target policy granted filter s t none is =
-    grind (arith, no_pair policy granted filter.perms.0 s t none is)
 
 pub none_lost : (sign : ℕ) (one other : Policy) (granted : ℕ) (s t : List ℕ) → granted ≡ 0 → IsGranted one granted s t
     → lost_pair sign one other s t ≡ []

@@ -4,6 +4,7 @@ pub mod Entries
 pub mod FirstLines
 pub mod Granted
 pub mod Keys
+pub mod Numbers
 pub mod Parting
 pub mod Permissions
 pub mod Written

@@ -1,6 +1,6 @@
 //! The answer to `svcmgr access`.
 
-ghost use Rattle.std.specs.Prelude.{◌≡◌, ◌⊎◌, ◌<◌, ◌++◌, ◌*◌, ℕ, IfErr, IfSome, OnOk, OnErr, length, take};
+ghost use Rattle.std.specs.Prelude.{◌≡◌, ◌⊎◌, ◌<◌, ◌++◌, ◌*◌, ℕ, IfErr, IfOk, IfSome, OnOk, OnErr, length, take};
 ghost use Rattle.std.specs.Io.KnownBytes.{Appends};
 ghost use Rattle.sm_engine.specs.Counts.{failures_of, inner_of, greatest_count};
 ghost use Rattle.sm_types.specs.Names.{at};
@@ -12,6 +12,7 @@ ghost use Rattle.sm_questions.specs.Accesses as spec;
 ghost use Rattle.sm_questions.specs.Granted.{IsGranted};
 ghost use Rattle.sm_questions.specs.Buffered.{Fails, Passes, Stops};
 ghost use Rattle.sm_questions.specs.FirstLines.{HasLines};
+ghost use Rattle.sm_questions.specs.Numbers.{AreNumbers};
 
 use crate::buffer::write_full;
 use crate::{Filter, PolicyTables};
@@ -29,6 +30,23 @@ fn is_left(wanted: &Option<Word<'_>>, name: &[u8]) -> bool
         Some(word) => spells(word.bytes(), name),
         None => true,
     }
+}
+
+/// Returns the numbers of the types that are asked for, in the order of their declaration.
+fn numbers_left(
+    alloc: Global,
+    policy: &PolicyTables,
+    wanted: &Option<Word<'_>>,
+) -> Result<Vec<u16>, AllocError>
+    ensures { IfOk result (λ numbers. AreNumbers (types policy.now.statements) wanted.now numbers.items) }
+{
+    let mut numbers = Vec::new(alloc);
+    for number in 0..policy.type_count() {
+        if is_left(wanted, policy.type_name(number)) {
+            numbers.push(number)?;
+        }
+    }
+    Ok(numbers)
 }
 
 /// Appends the number of a line, or `permissive`.
@@ -141,12 +159,11 @@ fn push_pair(
     Ok(())
 }
 
-/// Appends the lines for two types, if the target is asked for.
-#[tactic(auto, unfolding(crate::specs::Accesses::target_lines))]
+/// Appends the lines for two types, of which the target is asked for.
 fn push_target(
     policy: &PolicyTables,
-    filter: &Filter<'_>,
     lines: Option<&[Option<u32>]>,
+    wanted: Perms,
     source: u16,
     target: u16,
     held: &mut Vec<u8>,
@@ -154,35 +171,34 @@ fn push_target(
     requires source { source < length (types policy.now.statements) }
     requires target { target < length (types policy.now.statements) }
     requires lines { IfSome lines (λ l. HasLines policy.now source l.now) }
-    ensures { OnOk result (held.new.items ≡ held.old.items ++ spec.target_lines policy.now filter.now
+    ensures { OnOk result (held.new.items ≡ held.old.items ++ spec.pair_lines policy.now wanted.0
         (at (types policy.now.statements) source) (at (types policy.now.statements) target)) }
 {
     let granted = policy.granted(source, target);
     if granted == 0 {
         return Ok(());
     }
-    if !is_left(&filter.target, policy.type_name(target)) {
-        return Ok(());
-    }
-    push_pair(policy, lines, filter.perms, granted, source, target, held)
+    push_pair(policy, lines, wanted, granted, source, target, held)
 }
 
-/// Appends the lines for a source, with all targets.
+/// Appends the lines for a source, with all targets that are asked for.
 #[tactic(auto, unfolding(crate::specs::Accesses::targets_lines))]
 fn push_targets(
     policy: &PolicyTables,
     filter: &Filter<'_>,
+    targets: &[u16],
     lines: Option<&[Option<u32>]>,
     source: u16,
     held: &mut Vec<u8>,
 ) -> Result<(), AllocError>
+    requires targets { AreNumbers (types policy.now.statements) filter.now.target targets.now }
     requires source { source < length (types policy.now.statements) }
     requires lines { IfSome lines (λ l. HasLines policy.now source l.now) }
     ensures { OnOk result (held.new.items ≡ held.old.items ++ spec.targets_lines policy.now filter.now
         (at (types policy.now.statements) source)) }
 {
-    for target in 0..policy.type_count() {
-        push_target(policy, filter, lines, source, target, held)?;
+    for target in targets {
+        push_target(policy, lines, filter.perms, source, *target, held)?;
     }
     Ok(())
 }
@@ -193,10 +209,12 @@ fn push_targets(
 fn push_source(
     policy: &PolicyTables,
     filter: &Filter<'_>,
+    targets: &[u16],
     table: &mut [Option<u32>],
     source: u16,
     held: &mut Vec<u8>,
 ) -> Result<(), AllocError>
+    requires targets { AreNumbers (types policy.now.statements) filter.now.target targets.now }
     requires room { length table.old ≡ 7 * length (types policy.now.statements) }
     requires source { source < length (types policy.now.statements) }
     ensures room { length table.new ≡ length table.old }
@@ -207,10 +225,10 @@ fn push_source(
         return Ok(());
     }
     if filter.target.is_some() {
-        return push_targets(policy, filter, None, source, held);
+        return push_targets(policy, filter, targets, None, source, held);
     }
     policy.find_lines(source, table);
-    push_targets(policy, filter, Some(table), source, held)
+    push_targets(policy, filter, targets, Some(table), source, held)
 }
 
 /// Writes the lines for all sources, and holds the last ones.
@@ -218,11 +236,13 @@ fn push_source(
 fn put_sources<W: Write>(
     policy: &PolicyTables,
     filter: &Filter<'_>,
+    targets: &[u16],
     table: &mut [Option<u32>],
     writer: &mut Counted<W>,
     held: &mut Vec<u8>,
 ) -> Result<(), Fault>
     requires count { failures_of writer.old < greatest_count }
+    requires targets { AreNumbers (types policy.now.statements) filter.now.target targets.now }
     requires room { length table.old ≡ 7 * length (types policy.now.statements) }
     ensures ok { OnOk result (Passes (W.contents (inner_of writer.old)) (W.contents (inner_of writer.new))
         held.old.items held.new.items (spec.access_lines policy.now filter.now)) }
@@ -232,7 +252,7 @@ fn put_sources<W: Write>(
     ensures fault { IfErr result (λ e. Fails e (failures_of writer.old) (failures_of writer.new)) }
 {
     for source in 0..policy.type_count() {
-        push_source(policy, filter, table, source, held)?;
+        push_source(policy, filter, targets, table, source, held)?;
         write_full(writer, held)?;
     }
     Ok(())
@@ -263,7 +283,8 @@ pub fn access<W: Write>(
     ensures write_told { failures_of writer.old < failures_of writer.new → result ≡ Err Fault.WriteFault }
 {
     let mut held = Vec::new(alloc);
+    let targets = numbers_left(alloc, policy, &filter.target)?;
     let mut table = policy.line_table(alloc)?;
-    put_sources(policy, filter, &mut table, writer, &mut held)?;
+    put_sources(policy, filter, &targets, &mut table, writer, &mut held)?;
     write_whole(writer, &held)
 }

@@ -11,4 +11,4 @@ pub returns-clause-front : goal.returns-clause-front
 returns-clause-front g c =
     let passes = rw c.new-held.ensures.items at c.in_ok-put_sources.ensures.ok in
     on_err_weaker c.write_whole.result (λ f. passes_front _ f.0 passes f.1)
-    (rw c.deref.ensures.value at c.write_whole.ensures.front)
+    (rw c.deref-2.ensures.value at c.write_whole.ensures.front)

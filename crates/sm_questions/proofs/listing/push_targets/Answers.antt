@@ -1,21 +1,24 @@
-use Rattle.std.proofs.Common.{◌<◌, ◌≤◌, [], length, arith}
+use Rattle.std.proofs.Common.{◌≤◌, ◌∙◌, ◌++◌, length, ap, arith}
 use Rattle.sm_types.specs.Names.{at}
 use Rattle.sm_types.specs.Denoting.{types}
-use Rattle.sm_questions.specs.Accesses.{target_lines, targets_lines}
+use Rattle.sm_questions.specs.Accesses.{pair_lines, target_lines, targets_lines}
 use Rattle.sm_questions.proofs.Buffering.{held_step, held_list}
+use Rattle.sm_questions.proofs.Numbers.{numbered, numbered_lines}
 use Rattle.sm_questions.proofs.listing.push_targets.Goals as goal
 
 pub loop-target-preserved : goal.loop-target-preserved
 loop-target-preserved c =
     let names = types c.args.policy.now.statements in
-    let f = target_lines c.args.policy.now c.args.filter.now (at names c.args.source) in
-    let lt : c.loop-target.target < length names = omega (arith, c.type_count-target-end.ensures) in
-    held_step f names c.loop-target.target [] c.args.held.now.items lt c.loop-target.invariant c.in_ok-push_target.ensures
+    let f = numbered names (pair_lines c.args.policy.now c.args.filter.now.perms.0 (at names c.args.source)) in
+    held_step f c.args.targets.now c.loop-target.target-index 0 c.args.held.now.items c.loop-target-test.true
+    c.loop-target.invariant c.in_ok-push_target.ensures
 
 pub returns : goal.returns
-unfolding targets_lines
+unfolding target_lines targets_lines
 returns c =
     let names = types c.args.policy.now.statements in
-    let f = target_lines c.args.policy.now c.args.filter.now (at names c.args.source) in
-    let le : length names ≤ c.loop-target.target = omega (arith, c.type_count-target-end.ensures) in
-    held_list f names c.loop-target.target c.args.held.now.items le c.loop-target.invariant
+    let f = pair_lines c.args.policy.now c.args.filter.now.perms.0 (at names c.args.source) in
+    let numbers = c.args.targets.now in
+    let le : length numbers ≤ c.loop-target.target-index = omega (arith, c.loop-target-test.false) in
+    held_list (numbered names f) numbers c.loop-target.target-index c.args.held.now.items le c.loop-target.invariant
+    ∙ ap (λ l. c.args.held.now.items ++ l) (numbered_lines names c.args.filter.now.target f numbers c.requires.targets)
