@@ -10,5 +10,6 @@ pub mod Labels
 pub mod Numbers
 pub mod Parts
 pub mod Relabelled
+pub mod Runs
 pub mod Shown
 pub mod Words

@@ -1,13 +1,15 @@
 -- The parts of the answer to `svcmgr diff`, each for the types or keys that it goes through.
-use Rattle.std.specs.Prelude.{◌≡◌, ℕ, List, [], ◌∷◌, map, Option}
+use Rattle.std.specs.Prelude.{ℕ, List, [], ◌∷◌}
 use Rattle.std.specs.List.{flat_map}
 use Rattle.sm_types.specs.Denoting.{types}
-use Rattle.sm_policy.specs.Policy.{Policy, type_index}
+use Rattle.sm_policy.specs.Policy.{Policy}
 use Rattle.sm_questions.specs.declared.part.Part.{Part}
 use Rattle.sm_questions.specs.declared.part.Part.TheVariants.{Lost, Gained, Relabelled, Added, Ceased, Became}
 use Rattle.sm_questions.specs.Differences.{lost_source, turned_type}
 use Rattle.sm_questions.specs.Keys.{keys_of}
 use Rattle.sm_questions.specs.Relabelled.{changed, added}
+use Rattle.sm_questions.specs.Runs.{AreNumbersIn}
+use Rattle.sm_questions.specs.declared.runs.TypeNumbers.{TypeNumbers}
 
 -- These are the types or keys that a part goes through.
 abbrev pub names_in : Part → Policy → Policy → List (List ℕ)
@@ -35,12 +37,8 @@ part_lines old new part = flat_map (lines_of part old new) (names_in part old ne
 abbrev pub all_parts : List Part
 all_parts = Lost ∷ Gained ∷ Relabelled ∷ Added ∷ Ceased ∷ Became ∷ []
 
--- The types of one policy have these numbers in the other one.
-abbrev pub AreNumbersIn : Policy → Policy → List (Option ℕ) → Type 0
-AreNumbersIn one other numbers = numbers ≡ map (type_index other) (types one.statements)
-
 -- A part that compares accesses has the numbers in the other policy of the types that it goes through.
-abbrev pub AreNumbers : Part → Policy → Policy → List (Option ℕ) → Type 0
+abbrev pub AreNumbers : Part → Policy → Policy → TypeNumbers → Type 0
 AreNumbers Lost old new numbers = AreNumbersIn old new numbers
 AreNumbers Gained old new numbers = AreNumbersIn new old numbers
 AreNumbers Relabelled old new numbers = Unit {0}

@@ -12,6 +12,7 @@ mod listing;
 mod lost;
 mod part;
 mod relabelling;
+mod runs;
 mod showing;
 mod tables;
 #[cfg(test)]

@@ -1,6 +1,6 @@
 //! Accesses that only one of two policies allows.
 
-ghost use Rattle.std.specs.Prelude.{◌≡◌, ◌<◌, ◌++◌, [], IfOk, IfSome, None, OnOk, length, map};
+ghost use Rattle.std.specs.Prelude.{◌≡◌, ◌+◌, ◌<◌, ◌≤◌, ◌++◌, ℕ, [], IfSome, None, OnOk, length, map, option_map, true};
 ghost use Rattle.std.proofs.Common.{get_or};
 ghost use Rattle.sm_types.specs.Names.{at};
 ghost use Rattle.sm_types.specs.Denoting.{types};
@@ -8,27 +8,15 @@ ghost use Rattle.sm_policy.specs.Policy.{type_index};
 ghost use Rattle.sm_questions.specs.Differences as spec;
 ghost use Rattle.sm_questions.specs.Granted as granted;
 ghost use Rattle.sm_questions.specs.Granted.{IsRow, byte_for};
+ghost use Rattle.sm_questions.specs.Runs.{AreNumbersIn};
+ghost use Rattle.sm_questions.specs.Runs.{run_lines};
 
 use crate::PolicyTables;
+use crate::runs::TypeNumbers;
 use crate::tables::byte_at;
 use sm_kinds::push_access;
 use sm_rules::{PERM_COUNT, class_at, perm_at};
-use std::alloc::{AllocError, Global};
-
-/// Returns the number in the other policy of each type of one policy.
-pub fn numbers_in(
-    alloc: Global,
-    one: &PolicyTables,
-    other: &PolicyTables,
-) -> Result<Vec<Option<u16>>, AllocError>
-    ensures { IfOk result (λ numbers. numbers.items ≡ map (type_index other.now) (types one.now.statements)) }
-{
-    let mut numbers = Vec::new(alloc);
-    for index in 0..one.type_count() {
-        numbers.push(other.type_index(one.type_name(index)))?;
-    }
-    Ok(numbers)
-}
+use std::alloc::AllocError;
 
 /// Returns whether only the first policy allows an access of two of its types.
 #[tactic(auto, unfolding(crate::specs::Differences::is_lost))]
@@ -138,27 +126,85 @@ fn is_kept(here: &[u8], there: &[u8], target: u16, number: Option<u16>) -> bool
     byte == 0 || number.is_some_and(|n| byte == byte_at(there, n))
 }
 
+/// Returns whether a source loses nothing on the types of a run, as a comparison of the rows shows. The first type has this
+/// number in the other policy.
+fn is_run_kept(here: &[u8], there: &[u8], from: u16, to: u16, number: Option<u16>) -> bool
+    requires { from < to }
+    ensures { result ≡ true → (k : ℕ) → from + k < to
+        → granted.is_kept (get_or here.now (from + k) 0) (byte_for there.now (option_map (λ n. n + k) number)) ≡ true }
+{
+    if to - from == 1 {
+        return is_kept(here, there, from, number);
+    }
+    let Some(number) = number else {
+        return false;
+    };
+    let (from, to, start) = (usize::from(from), usize::from(to), usize::from(number));
+    let end = start + (to - from);
+    if here.len() < to {
+        return false;
+    }
+    if there.len() < end {
+        return false;
+    }
+    here[from..to] == there[start..end]
+}
+
+/// Appends the lines for a source, with the targets of a run.
+fn push_run(
+    sign: u8,
+    one: &PolicyTables,
+    other: &PolicyTables,
+    numbers: &[Option<u16>],
+    source: u16,
+    from: u16,
+    to: u16,
+    held: &mut Vec<u8>,
+) -> Result<(), AllocError>
+    requires source { source < length (types one.now.statements) }
+    requires from { from ≤ to }
+    requires to { to ≤ length (types one.now.statements) }
+    requires numbers { numbers.now ≡ map (type_index other.now) (types one.now.statements) }
+    ensures { OnOk result (held.new.items ≡ held.old.items ++ run_lines sign one.now other.now
+        (at (types one.now.statements) source) from to) }
+{
+    let here = one.granted_row(source);
+    let there = row_there(other, numbers[usize::from(source)]);
+    for target in from..to {
+        if !is_kept(here, there, target, numbers[usize::from(target)]) {
+            push_pair(sign, one, other, numbers, source, target, held)?;
+        }
+    }
+    Ok(())
+}
+
 /// Appends the lines for a source, with all targets.
 #[tactic(auto, unfolding(crate::specs::Differences::lost_source))]
 pub fn push_source(
     sign: u8,
     one: &PolicyTables,
     other: &PolicyTables,
-    numbers: &[Option<u16>],
+    numbers: &TypeNumbers,
     source: u16,
     held: &mut Vec<u8>,
 ) -> Result<(), AllocError>
     requires source { source < length (types one.now.statements) }
-    requires numbers { numbers.now ≡ map (type_index other.now) (types one.now.statements) }
+    requires numbers { AreNumbersIn one.now other.now numbers.now }
     ensures { OnOk result (held.new.items ≡ held.old.items ++ spec.lost_source sign one.now other.now
         (at (types one.now.statements) source)) }
 {
     let here = one.granted_row(source);
+    let ends = numbers.ends.as_slice();
+    let numbers = numbers.numbers.as_slice();
     let there = row_there(other, numbers[usize::from(source)]);
-    for target in 0..one.type_count() {
-        if !is_kept(here, there, target, numbers[usize::from(target)]) {
-            push_pair(sign, one, other, numbers, source, target, held)?;
+    let count = one.type_count();
+    let mut from = 0;
+    while from < count {
+        let to = ends[usize::from(from)];
+        if !is_run_kept(here, there, from, to, numbers[usize::from(from)]) {
+            push_run(sign, one, other, numbers, source, from, to, held)?;
         }
+        from = to;
     }
     Ok(())
 }

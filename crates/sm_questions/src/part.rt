@@ -6,8 +6,9 @@ ghost use Rattle.sm_questions.specs.Differences as spec;
 ghost use Rattle.sm_questions.specs.Parts.{AreNumbers, lines_of, names_in};
 
 use crate::PolicyTables;
-use crate::lost::{numbers_in, push_source};
+use crate::lost::push_source;
 use crate::relabelling::{push_added, push_changed};
+use crate::runs::TypeNumbers;
 use std::alloc::{AllocError, Global};
 
 /// All that differs in one way.
@@ -89,13 +90,13 @@ impl Part {
         alloc: Global,
         old: &PolicyTables,
         new: &PolicyTables,
-    ) -> Result<Vec<Option<u16>>, AllocError>
-        ensures { IfOk result (λ numbers. AreNumbers self old.now new.now numbers.items) }
+    ) -> Result<TypeNumbers, AllocError>
+        ensures { IfOk result (λ numbers. AreNumbers self old.now new.now numbers) }
     {
         match self {
-            Part::Lost => numbers_in(alloc, old, new),
-            Part::Gained => numbers_in(alloc, new, old),
-            _ => Ok(Vec::new(alloc)),
+            Part::Lost => TypeNumbers::between(alloc, old, new),
+            Part::Gained => TypeNumbers::between(alloc, new, old),
+            _ => Ok(TypeNumbers::new(alloc)),
         }
     }
 
@@ -104,7 +105,7 @@ impl Part {
         self,
         old: &PolicyTables,
         new: &PolicyTables,
-        numbers: &[Option<u16>],
+        numbers: &TypeNumbers,
         index: u32,
         held: &mut Vec<u8>,
     ) -> Result<(), AllocError>

@@ -158,6 +158,30 @@ media u:object_r:app:s0
 zygote u:object_r:app:s0
 ";
 
+/// Two policies of which the second has a type more in front, one more in the middle and two more at the end. What differs
+/// is moved to the type beside it, or to one that only the second policy has.
+const SIX_TYPES: &[u8] = b"type app; type cam; type drm; type nfc; type sys; type vold;
+allow app cam:binder call;
+allow cam nfc:binder call;
+allow drm cam:binder call;
+allow nfc cam:binder call;
+allow sys app:service_manager { add find };
+allow vold sys:binder transfer;
+";
+
+const TEN_TYPES: &[u8] =
+    b"type init; type app; type cam; type drm; type log; type nfc; type sys; type vold; type wifi; type zygote;
+allow init app:binder call;
+allow app { cam log }:binder call;
+allow cam log:binder call;
+allow drm drm:binder call;
+allow nfc app:binder call;
+allow sys app:service_manager { find list };
+allow vold { sys zygote }:binder transfer;
+";
+
+const ONE_KEY: &[u8] = b"* u:object_r:app:s0\n";
+
 /// A policy source and a contexts file, those of another policy, and the lines for what differs.
 const COMPARED: &[([&[u8]; 2], [&[u8]; 2], &[u8])] = &[
     ([RULES, CONTEXTS], [RULES, CONTEXTS], b""),
@@ -195,6 +219,38 @@ const COMPARED: &[([&[u8]; 2], [&[u8]; 2], &[u8])] = &[
         [TWO_TYPES, CONTEXTS],
         [TWO_TYPES, OTHER_CONTEXTS],
         b"~ media u:object_r:svc:s0 u:object_r:app:s0\n~ vold u:object_r:app:s0 u:object_r:svc:s0\n",
+    ),
+    (
+        [SIX_TYPES, ONE_KEY],
+        [TEN_TYPES, ONE_KEY],
+        b"- cam nfc binder call
+- drm cam binder call
+- nfc cam binder call
+- sys app service_manager add
++ init app binder call
++ app log binder call
++ cam log binder call
++ drm drm binder call
++ nfc app binder call
++ sys app service_manager list
++ vold zygote binder transfer
+",
+    ),
+    (
+        [TEN_TYPES, ONE_KEY],
+        [SIX_TYPES, ONE_KEY],
+        b"- init app binder call
+- app log binder call
+- cam log binder call
+- drm drm binder call
+- nfc app binder call
+- sys app service_manager list
+- vold zygote binder transfer
++ cam nfc binder call
++ drm cam binder call
++ nfc cam binder call
++ sys app service_manager add
+",
     ),
 ];
 
