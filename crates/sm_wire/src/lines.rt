@@ -1,6 +1,6 @@
 //! Reads a stream that comes in pieces.
 
-ghost use Rattle.std.specs.Prelude.{◌≡◌, ◌≤◌, ◌↔◌, ◌++◌, IfOk, OnOk, OnErr, IsTrue, vec_len, length, drop};
+ghost use Rattle.std.specs.Prelude.{◌≡◌, ◌≤◌, ◌↔◌, ◌++◌, IfOk, OnOk, OnErr, IsTrue, [], vec_len, length, drop};
 ghost use Rattle.sm_wire.specs.Items.{has_rest, IsAlive, IsDead, scan_start, scan_after, items_after};
 ghost use Rattle.sm_wire.specs.Ends.{EndsAs, Overfull};
 ghost use Rattle.sm_wire.specs.Giving.{Keeps};
@@ -124,6 +124,9 @@ impl LineReader {
         ensures err { OnErr result (Overfull self.old self.new) }
         ensures kept { OnErr result (Keeps items.old.items items.new.items) }
     {
+        if self.held.is_empty() {
+            return self.take_fresh(piece, items);
+        }
         match item_end(self.mode, self.held.len(), piece) {
             End::At(n) => self.take_end(piece, n, items),
             End::Later => self.held.extend_from_slice(piece),
@@ -134,6 +137,21 @@ impl LineReader {
                 Ok(())
             }
         }
+    }
+
+    // The same, if no bytes are held. Items that are whole in the piece are read in place.
+    #[tactic(auto, using(crate::proofs::GivingLemmas::keeps_same))]
+    fn take_fresh(&mut self, piece: &[u8], items: &mut VecDeque<Item>) -> Result<(), AllocError>
+        requires { self.old.held ≡ [] }
+        ensures items { OnOk result (items.new.items ≡ items.old.items ++ items_after self.old piece.now) }
+        ensures scan { OnOk result (self.new ≡ scan_after self.old piece.now) }
+        ensures err { OnErr result (Overfull self.old self.new) }
+        ensures kept { OnErr result (Keeps items.old.items items.new.items) }
+    {
+        let Remainder { mode, start } = cut(self.kind, self.mode, piece, &mut self.recent, items)?;
+        self.held.extend_from_slice(&piece[start..])?;
+        self.mode = mode;
+        Ok(())
     }
 
     // The same, if the held item ends after the first `n` bytes of the piece. Items that are whole in the rest of the
