@@ -108,6 +108,6 @@ module _ {S : Type 0} (answers : S → Item → Response → S → Type 0) (deat
       (r r_new w w_new : Option (List ℕ)) (new : S)
       → Attends kind answers death result bound reads old r r_new w w_new new → After old new
   attends_keeps kind result bound reads old r r_new w w_new new p = through old p.last.desk new
-      (result_keeps kind result held_limit bound reads (begins kind old) p.served.bytes w w_new _ p.unaudited p.last
+      (result_keeps kind result held_limit bound reads (begins kind old) p.served.bytes w w_new _ _ p.last
       p.served.written)
       (either p.last.connected (λ x. told p.last.desk new x) (λ e. same p.last.desk new e) p.told)

@@ -177,12 +177,11 @@ module _ {D S : Type 0} (f : D → S) (under : D → Item → Response → D →
       → Attends kind answers death result bound reads (f old) r r_new w w_new (f new)
   attends_seen goes death told kind result bound reads old r r_new w w_new new p = record {
     last = shown p.last;
-    unaudited = p.unaudited;
     served = record {
       bytes = p.served.bytes;
       consumed = p.served.consumed;
-      written = result_seen kind result held_limit bound reads (begins kind old) p.served.bytes w w_new _ p.unaudited
-          p.last p.served.written;
+      written = result_seen kind result held_limit bound reads (begins kind old) p.served.bytes w w_new _ _ p.last
+          p.served.written;
     };
     end = p.end;
     told = by_cases p.last.connected (told p.last.desk new) (λ e. ap f e) p.told;

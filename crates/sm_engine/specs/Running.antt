@@ -29,6 +29,11 @@ pub record Answered {S : Type 0} (answers : Answers S) (old : S) (item : Item)
   pub replied : replies_new ≡ replies ++ reply
   pub audited : audit_new ≡ audit ++ lines
 
+-- No answer has audit lines.
+abbrev pub IsSilent : {S : Type 0} → Answers S → Type 0
+IsSilent {S} answers = (old : S) → (item : Item) → (replies audit : List ℕ) → (new : S)
+    → answers old item replies audit new → audit ≡ []
+
 -- An item was answered and its texts were lost because an allocation failed, or it wasn't answered.
 abbrev pub GaveUp : {S : Type 0} → Answers S → S → Item → S → Type 0
 GaveUp answers old item new = (new ≡ old) ⊎ ((reply : List ℕ) × (lines : List ℕ) × answers old item reply lines new)

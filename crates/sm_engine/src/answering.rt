@@ -3,7 +3,7 @@
 ghost use Rattle.std.specs.Prelude.{◌≡◌, ◌<◌, ◌≤◌, ◌+◌, ◌-◌, ℕ, [], length, OnOk, OnErr, take, ◌⊎◌};
 ghost use Rattle.std.specs.Io.KnownBytes.{Appends};
 ghost use Rattle.sm_engine.specs.Counts.{failures_of, inner_of, greatest_count};
-ghost use Rattle.sm_engine.specs.Running.{Wrote, Stopped, Spilled};
+ghost use Rattle.sm_engine.specs.Running.{IsSilent, Wrote, Stopped, Spilled};
 
 use crate::buffers::Buffers;
 use crate::counted::Counted;
@@ -36,6 +36,7 @@ pub fn answer_items<M: Machine, W: Write, A: Write>(
         < failures_of writer.new + failures_of audit.new }
     ensures told { failures_of writer.old + failures_of audit.old < failures_of writer.new + failures_of audit.new
         → result ≡ Err Fault.WriteFault }
+    ensures unaudited { IsSilent M.answers → audit.new ≡ audit.old }
 {
     while let Some(item) = buffers.items.pop_front() {
         machine.answer(item, &mut buffers.replies, &mut buffers.lines)?;
@@ -70,6 +71,7 @@ fn spill<W: Write>(writer: &mut Counted<W>, limit: usize, held: &mut Vec<u8>) ->
         (take n held.old.items)) }
     ensures fault { OnErr result (result ≡ Err Fault.WriteFault) }
     ensures failed { OnErr result (failures_of writer.old < failures_of writer.new) }
+    ensures nothing { held.old.items ≡ [] → (writer.new ≡ writer.old) × (held.new.items ≡ []) }
 {
     if held.len() < limit {
         return Ok(());
@@ -77,7 +79,7 @@ fn spill<W: Write>(writer: &mut Counted<W>, limit: usize, held: &mut Vec<u8>) ->
     write_held(writer, held)
 }
 
-/// Writes what is held back.
+/// Writes what is held back, if there is anything.
 fn write_held<W: Write>(writer: &mut Counted<W>, held: &mut Vec<u8>) -> Result<(), Fault>
     requires { failures_of writer.old < greatest_count }
     ensures ok { OnOk result
@@ -89,7 +91,11 @@ fn write_held<W: Write>(writer: &mut Counted<W>, held: &mut Vec<u8>) -> Result<(
         (take n held.old.items)) }
     ensures fault { OnErr result (result ≡ Err Fault.WriteFault) }
     ensures failed { OnErr result (failures_of writer.old < failures_of writer.new) }
+    ensures nothing { held.old.items ≡ [] → writer.new ≡ writer.old }
 {
+    if held.is_empty() {
+        return Ok(());
+    }
     write_whole(writer, held)?;
     held.clear();
     Ok(())

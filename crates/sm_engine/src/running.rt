@@ -6,7 +6,7 @@ ghost use Rattle.std.specs.Io.KnownBytes.{Appends, Consumes, Keeps, IsAtEnd};
 ghost use Rattle.sm_wire.specs.Items.{IsAlive, scan_after, items_after};
 ghost use Rattle.sm_engine.specs.Buffers.{IsIdle};
 ghost use Rattle.sm_engine.specs.Counts.{failures_of, calls_of, inner_of, greatest_count, one_more};
-ghost use Rattle.sm_engine.specs.Running.{Wrote, Stopped, Served, ending_of};
+ghost use Rattle.sm_engine.specs.Running.{IsSilent, Wrote, Stopped, Served, ending_of};
 
 use crate::answering::answer_items;
 use crate::buffers::Buffers;
@@ -51,6 +51,7 @@ pub fn run<M: Machine, R: Read, W: Write, A: Write>(
     ensures read_told { failures_of reader.old < failures_of reader.new → result ≡ Err Fault.ReadFault }
     ensures write_told { failures_of writer.old + failures_of audit.old < failures_of writer.new + failures_of audit.new
         → result ≡ Err Fault.WriteFault }
+    ensures unaudited { IsSilent M.answers → audit.new ≡ audit.old }
 {
     let mut lines = LineReader::new(alloc, kind);
     let mut buffers = Buffers::new(alloc);
@@ -124,6 +125,7 @@ fn take_piece<M: Machine, W: Write, A: Write>(
         < failures_of writer.new + failures_of audit.new }
     ensures told { failures_of writer.old + failures_of audit.old < failures_of writer.new + failures_of audit.new
         → result ≡ Err Fault.WriteFault }
+    ensures unaudited { IsSilent M.answers → audit.new ≡ audit.old }
 {
     match lines.feed_into(piece, &mut buffers.items) {
         Ok(()) => answer_items(machine, buffers, writer, audit),

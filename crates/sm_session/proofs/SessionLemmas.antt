@@ -1,13 +1,10 @@
--- The answer to an item that was asked, and the end of a whole session.
+-- The answer to an item that was asked.
 use Rattle.std.specs.Prelude.{MatchBool, if◌then◌else◌}
-use Rattle.std.proofs.Common.{◌≡◌, ◌⊎◌, ℕ, List, [], Bool, true, false, ap, refl, sym, inl, inr, Option, Result, Err, OnOk}
+use Rattle.std.proofs.Common.{◌≡◌, [], Bool, true, false, ap, refl, sym, inl, inr}
 use Rattle.sm_history.specs.declared.reply.Reply.{Reply}
 use Rattle.sm_wire.specs.declared.item.Item.{Item}
-use Rattle.sm_wire.specs.declared.kind.Kind.{Kind}
 use Rattle.sm_wire.specs.Replies.{told_text}
-use Rattle.sm_engine.specs.declared.fault.Fault.{Fault}
-use Rattle.sm_engine.specs.declared.fault.Fault.TheVariants.{WriteFault, Memory}
-use Rattle.sm_engine.specs.Running.{Answers, GaveUp, Served}
+use Rattle.sm_engine.specs.Running.{GaveUp}
 use Rattle.sm_session.specs.declared.response.Response.{Response}
 use Rattle.sm_session.specs.declared.response.Response.TheVariants.{Replied, PolicyRefused, Denied}
 use Rattle.sm_session.specs.declared.session_state.SessionState.{SessionState}
@@ -42,20 +39,3 @@ pub gave_up : {D : Type 0} (answers : D → Item → Response → D → Type 0) 
 gave_up answers old item new asked (inl e) = inl e
 gave_up answers old item new asked (inr p) =
     inr (p.0, [], (sits old.over (is_asked old.kind old.connected item) _ _ _ asked p.1, refl))
-
--- A fault that had another cause.
-pub Served-memory : {S : Type 0} {kind : Kind} {answers : Answers S} {over : S → Bool} {limit bound reads : ℕ}
-    {old : S} {r r' w w' a a' : Option (List ℕ)} {new : S} (ending result : Result (Unit {0}) Fault)
-    → Served kind answers over limit ending bound reads old r r' w w' a a' new
-    → (result ≡ ending) ⊎ ((ending ≡ Err WriteFault) × (result ≡ Err Memory))
-    → Served kind answers over limit result bound reads old r r' w w' a a' new
-Served-memory ending result p (inl e) = rw e p
-Served-memory ending result p (inr e) =
-    let q = rw e.0 at p in
-    rw e.1 (record { bytes = q.bytes; consumed = q.consumed; written = q.written })
-
--- What holds after a good end.
-pub OnOk-memory : (P : Type 0) (ending result : Result (Unit {0}) Fault) → OnOk ending P
-    → (result ≡ ending) ⊎ ((ending ≡ Err WriteFault) × (result ≡ Err Memory)) → OnOk result P
-OnOk-memory P ending result p (inl e) = rw e p
-OnOk-memory P ending result p (inr e) = rw e.1 tt

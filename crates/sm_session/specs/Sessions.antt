@@ -148,9 +148,8 @@ pub record Attends {D : Type 0} (kind : Kind) (answers : D → Item → Response
     (result : Result (Unit {0}) Fault) (bound reads : ℕ) (old : D) (r r_new w w_new : Option (List ℕ)) (new : D)
     : Type 0 where
   pub last : SessionState D
-  pub unaudited : Option (List ℕ)
   pub served : Served kind (AnswersItem answers) is_over held_limit result bound reads (begins kind old) r r_new w
-      w_new (Some []) unaudited last
+      w_new (Some []) (Some []) last
   -- An input that is answered whole is at its end, unless a `bye` was answered before.
   pub end : OnOk result (MatchBool last.over (Unit {0}) (IsAtEnd r_new))
   pub told : TellsDeath death last new

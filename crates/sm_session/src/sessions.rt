@@ -1,6 +1,6 @@
 //! One connection's session.
 
-ghost use Rattle.std.specs.Prelude.{◌≡◌, ◌<◌, ◌-◌, ◌⊎◌, true, if◌then◌else◌};
+ghost use Rattle.std.specs.Prelude.{◌<◌, ◌-◌};
 ghost use Rattle.sm_engine.specs.Counts.{failures_of, calls_of, inner_of, greatest_count};
 ghost use Rattle.sm_session.specs.Desks.{DeskAnswers, DeskDeath};
 ghost use Rattle.sm_session.specs.Sessions.{Attends, Counts};
@@ -35,8 +35,8 @@ pub fn session<D: Desk, G: Gate, R: Read, W: Write>(
     ensures counts { Counts result.1 bound reader.old reader.new writer.old writer.new }
 {
     let mut gated_session = GatedSession::new(alloc, kind, desk, gate);
+    // A session has no audit lines, so nothing is ever written to this.
     let mut unaudited = Counted::new(Vec::new(alloc));
-    let failures = writer.failures();
     let result = run(
         alloc,
         kind,
@@ -46,29 +46,5 @@ pub fn session<D: Desk, G: Gate, R: Read, W: Write>(
         writer,
         &mut unaudited,
     );
-    let result = by_writer(result, failures < writer.failures());
     (gated_session.close(), result)
-}
-
-// A session has no audit lines, so the audit writer can only fail by a failed allocation.
-fn by_writer(ending: Result<(), Fault>, has_failed: bool) -> Result<(), Fault>
-    ensures same { (result ≡ ending) ⊎ ((ending ≡ Err Fault.WriteFault) × (result ≡ Err Fault.Memory)) }
-    ensures write_fault { result ≡ Err Fault.WriteFault → has_failed ≡ true }
-    ensures told { has_failed ≡ true → result ≡ ending }
-{
-    match ending {
-        Ok(()) => Ok(()),
-        Err(Fault::WriteFault) => Err(write_fault(has_failed)),
-        Err(fault) => Err(fault),
-    }
-}
-
-fn write_fault(has_failed: bool) -> Fault
-    ensures { result ≡ (if has_failed then Fault.WriteFault else Fault.Memory) }
-{
-    if has_failed {
-        Fault::WriteFault
-    } else {
-        Fault::Memory
-    }
 }

@@ -1,5 +1,7 @@
-use Rattle.std.proofs.Common.{◌≡◌, List, ◌++◌, ◌∷◌, [], sym, ◌∙◌, refl, arith, append_assoc}
+use Rattle.std.proofs.Common.{◌≡◌, ℕ, List, ◌++◌, ◌∷◌, [], sym, ◌∙◌, refl, arith, append_assoc}
 use Rattle.std.proofs.lemmas.Result.{on_err_weaker}
+use Rattle.sm_wire.specs.declared.item.Item.{Item}
+use Rattle.sm_engine.specs.Running.{Answered, Answers, IsSilent}
 use Rattle.sm_engine.proofs.Results.{on_err}
 use Rattle.sm_engine.proofs.KnownLemmas.{Spilled-all, Spilled-front, Spilled-none}
 use Rattle.sm_engine.proofs.RunLemmas.{going_answer, going_lost, going_spill, going_fail, going_fail_end}
@@ -14,6 +16,11 @@ next before after done all x e s = sym e ∙ rw s refl
 joined : {X : Type 0} (before after done all : List X) (x : X) → done ++ before ≡ all → before ≡ x ∷ after
     → all ≡ (done ++ x ∷ []) ++ after
 joined before after done all x e s = rw append_assoc (next before after done all x e s)
+
+-- A silent machine leaves no audit lines.
+unspoken : {S : Type 0} {answers : Answers S} {old new : S} {item : Item} {replies replies_new audit audit_new : List ℕ}
+    → IsSilent answers → Answered answers old item replies replies_new audit audit_new new → audit ≡ [] → audit_new ≡ []
+unspoken s a none = rw (s _ _ _ _ _ a.step, none) at a.audited
 
 pub returns-in_err-answer-clause-err : goal.returns-in_err-answer-clause-err
 returns-in_err-answer-clause-err g c =
@@ -41,6 +48,9 @@ loop-item-preserved g c =
         short_lines = omega (arith, c.in_ok-spill-2.ensures.short, c.hold_limit-limit.ensures);
         writer_count = c.in_ok-spill.ensures.count ∙ i.writer_count;
         audit_count = c.in_ok-spill-2.ensures.count ∙ i.audit_count;
+        silent = λ s.
+            let w = c.spill-in-Some.ensures.nothing (unspoken s c.in_ok-answer.ensures.ok (i.silent s).1) in
+            (w.0 ∙ (i.silent s).0, w.1);
       },
     )
 

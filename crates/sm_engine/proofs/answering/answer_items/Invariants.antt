@@ -1,7 +1,7 @@
-use Rattle.std.proofs.Common.{◌≡◌, ◌++◌, ◌-◌, ◌≤◌, length, List}
+use Rattle.std.proofs.Common.{◌≡◌, ◌++◌, ◌-◌, ◌≤◌, length, List, []}
 use Rattle.sm_wire.specs.declared.item.Item.{Item}
 use Rattle.sm_engine.specs.Counts.{failures_of, inner_of}
-use Rattle.sm_engine.specs.Running.{Going}
+use Rattle.sm_engine.specs.Running.{Going, IsSilent}
 use Rattle.sm_engine.proofs.answering.answer_items.Given as goal
 
 abbrev pub invariant-loop-item : goal.invariant-loop-item
@@ -14,6 +14,7 @@ invariant-loop-item g l = (done : List Item) × (record {
   short_lines : length l.buffers.lines.items ≤ g.M.Machine.hold_limit - 1;
   writer_count : failures_of l.writer ≡ failures_of l.fn.writer;
   audit_count : failures_of l.audit ≡ failures_of l.fn.audit;
+  silent : IsSilent g.M.Machine.answers → (l.audit ≡ l.fn.audit) × (l.buffers.lines.items ≡ []);
 })
 
 abbrev pub decreases-loop-item : goal.decreases-loop-item

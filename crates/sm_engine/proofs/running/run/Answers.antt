@@ -31,6 +31,7 @@ loop-reads-init g c = record {
   reader_count = refl;
   writer_count = refl;
   audit_count = refl;
+  silent = λ _. refl;
 }
 
 pub read_piece-requires-clause-count : goal.read_piece-requires-clause-count
@@ -123,6 +124,7 @@ loop-reads-preserved g c = record {
   reader_count = c.in_ok-n.ensures.count ∙ c.loop-reads.invariant.reader_count;
   writer_count = c.in_ok-take_piece.ensures.writer_count ∙ c.loop-reads.invariant.writer_count;
   audit_count = c.in_ok-take_piece.ensures.audit_count ∙ c.loop-reads.invariant.audit_count;
+  silent = λ s. c.take_piece.ensures.unaudited s ∙ c.loop-reads.invariant.silent s;
 }
 
 pub returns-clause-served : goal.returns-clause-served

@@ -1,7 +1,7 @@
 use Rattle.std.proofs.Common.{◌≡◌, ◌+◌, min}
 use Rattle.sm_engine.specs.Buffers.{IsIdle}
 use Rattle.sm_engine.specs.Counts.{failures_of, calls_of, inner_of, greatest_count}
-use Rattle.sm_engine.specs.Running.{Sofar}
+use Rattle.sm_engine.specs.Running.{IsSilent, Sofar}
 use Rattle.sm_engine.proofs.running.run.Given as goal
 
 abbrev pub invariant-loop-reads : goal.invariant-loop-reads
@@ -16,4 +16,5 @@ invariant-loop-reads g l = record {
   reader_count : failures_of l.reader ≡ failures_of l.fn.reader;
   writer_count : failures_of l.writer ≡ failures_of l.fn.writer;
   audit_count : failures_of l.audit ≡ failures_of l.fn.audit;
+  silent : IsSilent g.M.Machine.answers → l.audit ≡ l.fn.audit;
 }
