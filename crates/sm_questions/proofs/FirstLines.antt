@@ -1,16 +1,19 @@
 -- The lines of the first rules in a table.
-use Rattle.std.proofs.Common.{◌≡◌, ℕ, ◌+◌, ◌*◌, ◌<◌, Bool, true, false, List, [], ◌∷◌, ◌++◌, length, take}
-use Rattle.std.proofs.Common.{get_or, refl, sym, ap, ◌∙◌, Option, Some, None}
+use Rattle.std.proofs.Common.{◌≡◌, ℕ, ◌+◌, ◌*◌, ◌<◌, ◌≤◌, Bool, true, false, List, [], ◌∷◌, ◌++◌, length, take}
+use Rattle.std.proofs.Common.{get_or, refl, sym, ap, ◌∙◌, Option, Some, None, All, slice_get}
 use Rattle.std.specs.Prelude.{find, option_map, if◌then◌else◌}
 use Rattle.std.specs.Option.{option_or}
-use Rattle.std.proofs.lemmas.List.{take_more}
+use Rattle.std.proofs.lemmas.List.{take_all, take_more}
+use Rattle.std.proofs.lemmas.List.Elements.{All-push, filter_map-append}
 use Rattle.std.proofs.lemmas.List.Folds.{find-append}
+use Rattle.std.proofs.lemmas.Option.{slice_get_read}
+use Rattle.sm_bits.specs.Bits.{has}
 use Rattle.sm_types.specs.Denoting.{types}
 use Rattle.sm_rules.specs.Keeping.{KeptRules, RulesOf, covered_line, covers, class_at, perm_at}
-use Rattle.sm_rules.specs.declared.kept.Kept.{Kept}
 use Rattle.sm_rules.proofs.Lines.{written_is}
+use Rattle.sm_rules.specs.declared.kept.Kept.{Kept}
 use Rattle.sm_policy.specs.Policy.{Policy, written_at}
-use Rattle.sm_questions.specs.FirstLines.{HasLines, kept_line, line_in}
+use Rattle.sm_questions.specs.FirstLines.{AreNear, HasLines, kept_line, line_in, rules_at}
 
 map_or : (found : Option Kept) (p : Bool) (r : Kept)
     → option_map (λ k. k.line) (option_or found (if p then Some r else None))
@@ -36,14 +39,68 @@ line_next rules k b s t r {old} inside is so_far =
     ap (kept_line (covers b s t r) r.line) so_far ∙ sym (line_more (take k rules) r b s t)
     ∙ ap (λ l. covered_line l b s t) (sym more)
 
+-- One more index adds its rule.
+rules_more : (rules : List Kept) (near : List ℕ) (i : ℕ) (r : Kept) → i < length rules → r ≡ get_or rules i r
+    → rules_at rules (near ++ i ∷ []) ≡ rules_at rules near ++ r ∷ []
+rules_more rules near i r inside is =
+    let there : slice_get rules i ≡ Some r = slice_get_read rules (length rules) i r refl inside is in
+    filter_map-append (slice_get rules) near (i ∷ []) ∙ rw there refl
+
+-- The same for the index at a place of a list of indexes.
+pub line_at : (rules : List Kept) (near : List ℕ) (k b s t : ℕ) (r : Kept) {old : Option ℕ} → k < length near
+    → get_or near k 0 < length rules → r ≡ get_or rules (get_or near k 0) r
+    → old ≡ covered_line (rules_at rules (take k near)) b s t
+    → kept_line (covers b s t r) r.line old ≡ covered_line (rules_at rules (take (k + 1) near)) b s t
+line_at rules near k b s t r {old} inside there is so_far =
+    let more : rules_at rules (take (k + 1) near) ≡ rules_at rules (take k near) ++ r ∷ [] =
+    ap (rules_at rules) (take_more near k 0 inside) ∙ rules_more rules (take k near) (get_or near k 0) r there is in
+    ap (kept_line (covers b s t r) r.line) so_far ∙ sym (line_more (rules_at rules (take k near)) r b s t)
+    ∙ ap (λ l. covered_line l b s t) (sym more)
+
+-- The same as AreNear, where the rules before an index have been looked at.
+pub record AreNearFirst (rules : List Kept) (k from to : ℕ) (near : List ℕ) : Type 0 where
+  pub inside : All (λ i. i < length rules) near
+  pub line : (b s t : ℕ) → from ≤ s → s < to
+      → covered_line (rules_at rules near) b s t ≡ covered_line (take k rules) b s t
+
+-- The next rule has a source of the block, or another one.
+pub near_with : (rules : List Kept) (k from to : ℕ) (near : List ℕ) (r : Kept) → k < length rules
+    → r ≡ get_or rules k r → AreNearFirst rules k from to near → AreNearFirst rules (k + 1) from to (near ++ k ∷ [])
+near_with rules k from to near r inside is so_far = record {
+  inside = All-push (λ i. i < length rules) near k so_far.inside inside;
+  line = λ b s t low high. ap (λ l. covered_line l b s t) (rules_more rules near k r inside is)
+      ∙ line_more (rules_at rules near) r b s t ∙ line_next rules k b s t r inside is (so_far.line b s t low high);
+}
+
+no_line : (b s t : ℕ) (r : Kept) (old : Option ℕ) → has r.sources s ≡ false
+    → old ≡ kept_line (covers b s t r) r.line old
+no_line b s t r old none = rw none refl
+
+-- The next rule has no source of the block.
+pub near_without : (rules : List Kept) (k from to : ℕ) (near : List ℕ) (r : Kept) → k < length rules
+    → r ≡ get_or rules k r → ((s : ℕ) → from ≤ s → s < to → has r.sources s ≡ false)
+    → AreNearFirst rules k from to near → AreNearFirst rules (k + 1) from to near
+near_without rules k from to near r inside is none so_far = record {
+  inside = so_far.inside;
+  line = λ b s t low high. no_line b s t r (covered_line (rules_at rules near) b s t) (none s low high)
+      ∙ line_next rules k b s t r inside is (so_far.line b s t low high);
+}
+
+pub near_all : (rules : List Kept) (k from to : ℕ) (near : List ℕ) → length rules ≤ k
+    → AreNearFirst rules k from to near → AreNear rules from to near
+near_all rules k from to near all first = record {
+  inside = first.inside;
+  line = λ b s t low high. first.line b s t low high ∙ ap (λ l. covered_line l b s t) (take_all k rules all);
+}
+
 -- What is found for the kept rules are the lines of the policy's rules.
 pub has_lines : (policy : Policy) (rules : KeptRules) (s : ℕ) (lines : List (Option ℕ))
     → RulesOf policy.statements (types policy.statements) rules → s < length (types policy.statements)
-    → length lines ≡ 7 * length (types policy.statements)
+    → length lines ≡ 7 * rules.count
     → ((b t : ℕ) → b < 7 → line_in lines b t ≡ covered_line rules.allows b s t) → HasLines policy s lines
 unfolding written_at
 has_lines policy rules s lines of lt room found = record {
-  room = room;
+  room = room ∙ ap (λ n. 7 * n) of.count;
   line = λ b t low inside. found b t low
       ∙ written_is policy.statements (types policy.statements) rules b s t (class_at b) (perm_at b) of lt inside
       (low, refl, refl);

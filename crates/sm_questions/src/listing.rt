@@ -1,25 +1,26 @@
 //! The answer to `svcmgr access`.
 
-ghost use Rattle.std.specs.Prelude.{◌≡◌, ◌⊎◌, ◌<◌, ◌++◌, ◌*◌, ℕ, IfErr, IfOk, IfSome, OnOk, OnErr, length, take};
+ghost use Rattle.std.specs.Prelude.{◌≡◌, ◌⊎◌, ◌<◌, ◌++◌, ℕ, IfErr, IfOk, IfSome, OnOk, OnErr, length, take};
 ghost use Rattle.std.specs.Io.KnownBytes.{Appends};
 ghost use Rattle.sm_engine.specs.Counts.{failures_of, inner_of, greatest_count};
 ghost use Rattle.sm_types.specs.Names.{at};
 ghost use Rattle.sm_types.specs.Denoting.{types};
 ghost use Rattle.sm_bits.specs.Bits.{has_bit};
-ghost use Rattle.sm_rules.specs.Keeping.{class_at, perm_at};
+ghost use Rattle.sm_rules.specs.Keeping.{RulesOf, class_at, perm_at};
 ghost use Rattle.sm_policy.specs.Policy.{allowed, written_at};
 ghost use Rattle.sm_questions.specs.Accesses as spec;
 ghost use Rattle.sm_questions.specs.Granted.{IsGranted};
 ghost use Rattle.sm_questions.specs.Buffered.{Fails, Passes, Stops};
-ghost use Rattle.sm_questions.specs.FirstLines.{HasLines};
+ghost use Rattle.sm_questions.specs.FirstLines.{HasLines, IsTable};
 ghost use Rattle.sm_questions.specs.Numbers.{AreNumbers};
 
 use crate::buffer::write_full;
+use crate::first_lines::LineTable;
 use crate::{Filter, PolicyTables};
 use sm_bits::has_bit;
 use sm_engine::{Counted, Fault, write_whole};
 use sm_kinds::{Perms, Word, push_access, push_numbered, spells};
-use sm_rules::{PERM_COUNT, class_at, perm_at};
+use sm_rules::{PERM_COUNT, Rules, class_at, perm_at};
 use std::alloc::{AllocError, Global};
 use std::io::Write;
 
@@ -210,14 +211,16 @@ fn push_source(
     policy: &PolicyTables,
     filter: &Filter<'_>,
     targets: &[u16],
-    table: &mut [Option<u32>],
+    rules: &Rules,
+    table: &mut LineTable,
     source: u16,
     held: &mut Vec<u8>,
 ) -> Result<(), AllocError>
     requires targets { AreNumbers (types policy.now.statements) filter.now.target targets.now }
-    requires room { length table.old ≡ 7 * length (types policy.now.statements) }
+    requires rules { RulesOf policy.now.statements (types policy.now.statements) rules.now }
+    requires table { IsTable rules.now table.old }
     requires source { source < length (types policy.now.statements) }
-    ensures room { length table.new ≡ length table.old }
+    ensures table { OnOk result (IsTable rules.now table.new) }
     ensures lines { OnOk result (held.new.items ≡ held.old.items ++ spec.source_lines policy.now filter.now
         (at (types policy.now.statements) source)) }
 {
@@ -227,8 +230,8 @@ fn push_source(
     if filter.target.is_some() {
         return push_targets(policy, filter, targets, None, source, held);
     }
-    policy.find_lines(source, table);
-    push_targets(policy, filter, targets, Some(table), source, held)
+    table.find(rules, usize::from(source))?;
+    push_targets(policy, filter, targets, Some(table.lines()), source, held)
 }
 
 /// Writes the lines for all sources, and holds the last ones.
@@ -237,13 +240,15 @@ fn put_sources<W: Write>(
     policy: &PolicyTables,
     filter: &Filter<'_>,
     targets: &[u16],
-    table: &mut [Option<u32>],
+    rules: &Rules,
+    table: &mut LineTable,
     writer: &mut Counted<W>,
     held: &mut Vec<u8>,
 ) -> Result<(), Fault>
     requires count { failures_of writer.old < greatest_count }
     requires targets { AreNumbers (types policy.now.statements) filter.now.target targets.now }
-    requires room { length table.old ≡ 7 * length (types policy.now.statements) }
+    requires rules { RulesOf policy.now.statements (types policy.now.statements) rules.now }
+    requires table { IsTable rules.now table.old }
     ensures ok { OnOk result (Passes (W.contents (inner_of writer.old)) (W.contents (inner_of writer.new))
         held.old.items held.new.items (spec.access_lines policy.now filter.now)) }
     ensures count { OnOk result (failures_of writer.new ≡ failures_of writer.old) }
@@ -252,7 +257,7 @@ fn put_sources<W: Write>(
     ensures fault { IfErr result (λ e. Fails e (failures_of writer.old) (failures_of writer.new)) }
 {
     for source in 0..policy.type_count() {
-        push_source(policy, filter, targets, table, source, held)?;
+        push_source(policy, filter, targets, rules, table, source, held)?;
         write_full(writer, held)?;
     }
     Ok(())
@@ -284,7 +289,10 @@ pub fn access<W: Write>(
 {
     let mut held = Vec::new(alloc);
     let targets = numbers_left(alloc, policy, &filter.target)?;
-    let mut table = policy.line_table(alloc)?;
-    put_sources(policy, filter, &targets, &mut table, writer, &mut held)?;
+    let rules = policy.rules();
+    let mut table = LineTable::new(alloc, rules)?;
+    put_sources(
+        policy, filter, &targets, rules, &mut table, writer, &mut held,
+    )?;
     write_whole(writer, &held)
 }

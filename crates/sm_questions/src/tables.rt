@@ -3,11 +3,10 @@
 ghost use Rattle.std.specs.Prelude.{◌≡◌};
 ghost use Rattle.std.proofs.Common.{get_or};
 
-use crate::first_lines::find_lines;
 use sm_kinds::{Class, Context, Perms};
 use sm_policy::{PolicyFault, Prepared};
-use sm_rules::{class_at, perm_at};
-use std::alloc::{AllocError, Global};
+use sm_rules::{Rules, class_at, perm_at};
+use std::alloc::Global;
 use std::marker::Model;
 
 /// Returns the byte of a type in a row, or 0 if there is none.
@@ -41,15 +40,14 @@ impl Drop for PolicyTables {
 }
 
 impl PolicyTables {
-    ghost use Rattle.std.specs.Prelude.{◌≡◌, ◌<◌, ◌*◌, ℕ, List, Some, IfOk, length, option_map};
+    ghost use Rattle.std.specs.Prelude.{◌≡◌, ◌<◌, ℕ, List, Some, length, option_map};
     ghost use Rattle.sm_kinds.specs.Reading.{Gives};
     ghost use Rattle.sm_contexts.specs.Reading.{line_and_context, seen};
     ghost use Rattle.sm_policy.specs.Preparing.{is_memory, prepared};
     ghost use Rattle.sm_types.specs.Denoting.{declares, types};
     ghost use Rattle.sm_types.specs.Names.{at};
     ghost use Rattle.sm_questions.specs.Granted.{IsGranted, IsRow};
-    ghost use Rattle.sm_rules.specs.Keeping.{class_at, perm_at};
-    ghost use Rattle.sm_questions.specs.FirstLines.{HasLines};
+    ghost use Rattle.sm_rules.specs.Keeping.{RulesOf, class_at, perm_at};
     ghost use Rattle.sm_kinds.specs.Contexts.{type_of};
     ghost use Rattle.sm_policy.specs.Policy.{allowed, is_permissive, label_of, type_index, written_at};
     ghost use Rattle.sm_kinds.specs.Names.{contains};
@@ -172,23 +170,11 @@ impl PolicyTables {
         byte_at(self.granted_row(source), target)
     }
 
-    /// Returns a table for `find_lines`.
-    pub(crate) fn line_table(&self, alloc: Global) -> Result<Vec<Option<u32>>, AllocError>
-        ensures { IfOk result (λ lines. length lines.items ≡ 7 * length (types self.now.statements)) }
+    /// Returns the rules of the policy, whose types are given by their numbers.
+    pub(crate) fn rules(&self) -> &Rules
+        ensures { RulesOf self.now.statements (types self.now.statements) result.now }
     {
-        vec![in alloc; None; 7 * self.prepared.types().type_count().get()]
-    }
-
-    /// Finds the lines of the first allow rules that grant the source, given by its number, its permissions: seven for
-    /// each target.
-    pub(crate) fn find_lines(&self, source: u16, lines: &mut [Option<u32>])
-        requires room { length lines.old ≡ 7 * length (types self.now.statements) }
-        requires source { source < length (types self.now.statements) }
-        ensures { HasLines self.now source lines.new }
-    {
-        let count = self.prepared.types().type_count();
-        let rules = self.prepared.rules().allows();
-        find_lines(lines, rules, count, usize::from(source));
+        self.prepared.rules()
     }
 
     /// Returns the line of the first allow rule that grants permission `bit` on the two types, by their numbers. `None`

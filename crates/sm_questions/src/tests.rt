@@ -123,6 +123,37 @@ fn accesses_of_a_source(rt: HostRuntime) {
     assert!(rt; lists(&rt, rt.alloc(), &policy, &options, lines));
 }
 
+/// Sources in two blocks of 64.
+const MANY_TYPES: &[u8] =
+    b"type a00; type a01; type a02; type a03; type a04; type a05; type a06; type a07; type a08; type a09;
+type a10; type a11; type a12; type a13; type a14; type a15; type a16; type a17; type a18; type a19;
+type a20; type a21; type a22; type a23; type a24; type a25; type a26; type a27; type a28; type a29;
+type a30; type a31; type a32; type a33; type a34; type a35; type a36; type a37; type a38; type a39;
+type a40; type a41; type a42; type a43; type a44; type a45; type a46; type a47; type a48; type a49;
+type a50; type a51; type a52; type a53; type a54; type a55; type a56; type a57; type a58; type a59;
+type a60; type a61; type a62; type a63; type a64; type a65; type a66; type a67; type a68; type a69;
+allow a01 a00:service_manager find;
+allow a69 a00:service_manager { add find };
+allow { a01 a69 } a00:service_manager { add find };
+";
+
+#[test]
+fn accesses_of_all_sources(rt: HostRuntime) {
+    let policy = tables(&rt, rt.alloc(), MANY_TYPES, b"* u:object_r:a00:s0\n");
+    let options = FilterOptions {
+        source: None,
+        target: Target::Any,
+        class: None,
+        perm: None,
+    };
+    let lines = b"a01 a00 service_manager add 10
+a01 a00 service_manager find 8
+a69 a00 service_manager add 9
+a69 a00 service_manager find 9
+";
+    assert!(rt; lists(&rt, rt.alloc(), &policy, &options, lines));
+}
+
 #[test]
 fn accesses_with_a_permission(rt: HostRuntime) {
     let policy = tables(&rt, rt.alloc(), RULES, CONTEXTS);

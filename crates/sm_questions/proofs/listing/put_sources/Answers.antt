@@ -27,7 +27,7 @@ loop-source-preserved g c =
     let f = source_lines c.args.policy.now c.args.filter.now in
     let lt : c.loop-source.source < length names = omega (arith, c.type_count-source-end.ensures) in
     record {
-      room = c.in_ok-push_source.ensures.room ∙ c.loop-source.invariant.room;
+      table = c.in_ok-push_source.ensures.table;
       so_far = passes_step f names c.loop-source.source [] lt c.loop-source.invariant.so_far
           c.in_ok-push_source.ensures.lines c.in_ok-write_full.ensures.ok;
       count = c.in_ok-write_full.ensures.count ∙ c.loop-source.invariant.count;
