@@ -8,7 +8,7 @@ use Rattle.std.proofs.lemmas.List.Elements.{All-push, filter_more}
 use Rattle.std.proofs.lemmas.List.Folds.{flat_map-map}
 use Rattle.sm_types.specs.Names.{Name, at}
 use Rattle.sm_questions.specs.Accesses.{is_left}
-use Rattle.sm_questions.specs.Numbers.{AreNumbers}
+use Rattle.sm_questions.specs.Numbers.{AreAsked}
 
 flat_one : {A : Type 0} (b : Bool) (x : A) (f : A → List ℕ) (rest : List ℕ) (zs : List A) → rest ≡ flat_map f zs
     → (if b then f x else []) ++ rest ≡ flat_map f (cond b (x ∷ zs) zs)
@@ -54,7 +54,7 @@ without_next names wanted k numbers lt other so_far =
     }
 
 pub all_first : (names : List Name) (wanted : Option (List ℕ)) (k : ℕ) (numbers : List ℕ) → length names ≤ k
-    → AreFirst names wanted k numbers → AreNumbers names wanted numbers
+    → AreFirst names wanted k numbers → AreAsked names wanted numbers
 all_first names wanted k numbers le first = record {
   inside = first.inside;
   picked = first.picked ∙ ap (filter (is_left wanted)) (take_all k names le);
@@ -66,7 +66,7 @@ numbered names f i = f (at names i)
 
 -- The lines of the numbers are those of the types that are asked for.
 pub numbered_lines : (names : List Name) (wanted : Option (List ℕ)) (f : Name → List ℕ) (numbers : List ℕ)
-    → AreNumbers names wanted numbers
+    → AreAsked names wanted numbers
     → flat_map (numbered names f) numbers ≡ flat_map (λ t. if is_left wanted t then f t else []) names
 numbered_lines names wanted f numbers are = sym (flat_map-map f (at names) numbers) ∙ ap (flat_map f) are.picked
     ∙ sym (flat_map-filter (is_left wanted) f names)

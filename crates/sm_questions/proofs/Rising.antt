@@ -1,6 +1,7 @@
 -- Runs of types whose numbers rise together.
-use Rattle.std.proofs.Common.{◌≡◌, ◌∙◌, ℕ, zero, suc, true, ◌-◌, ◌+◌, ◌<◌, ◌≤◌, List, [], ◌∷◌, ◌++◌, Option, Some, None, IfSome}
-use Rattle.std.proofs.Common.{get_or, length, map, take, refl, sym, ap, append_assoc, arith}
+use Rattle.std.proofs.Common.{◌≡◌, ◌∙◌, ℕ, zero, suc, true, ◌-◌, ◌+◌, ◌<◌, ◌≤◌, List, [], ◌∷◌, ◌++◌}
+use Rattle.std.proofs.Common.{Option, Some, None, IfSome, get_or, length, map, take, refl, sym, arith}
+use Rattle.std.proofs.Common.{ap, append_assoc}
 use Rattle.std.specs.Prelude.{option_map}
 use Rattle.std.specs.List.{between, flat_map}
 use Rattle.std.proofs.lemmas.List.{append-nil, length-map, take-append-drop, take-take}
@@ -66,7 +67,8 @@ kept_equal a b e = grind (arith, nat_tests)
 
 -- A source loses nothing on types whose bytes stand in both rows.
 pub kept_between : (here there : List ℕ) (from to start end k : ℕ) → between from to here ≡ between start end there
-    → end ≡ start + (to - from) → from + k < to → is_kept (get_or here (from + k) 0) (get_or there (start + k) 0) ≡ true
+    → end ≡ start + (to - from) → from + k < to
+    → is_kept (get_or here (from + k) 0) (get_or there (start + k) 0) ≡ true
 kept_between here there from to start end k same e lt =
     kept_equal (get_or here (from + k) 0) (get_or there (start + k) 0)
     (sym (get_or-between here from to k 0 lt) ∙ rw same (get_or-between there start end k 0 (omega arith)))
@@ -78,8 +80,8 @@ unfolding run_lines
 no_run sign one other s from = rw (between_none (types one.statements) from) refl
 
 -- The lines of one more target are appended to what is held.
-pub run_next : {held next : List ℕ} (sign : ℕ) (one other : Policy) (s : List ℕ) (from t : ℕ) (first : List ℕ) → from ≤ t
-    → t < length (types one.statements) → held ≡ first ++ run_lines sign one other s from t
+pub run_next : {held next : List ℕ} (sign : ℕ) (one other : Policy) (s : List ℕ) (from t : ℕ) (first : List ℕ)
+    → from ≤ t → t < length (types one.statements) → held ≡ first ++ run_lines sign one other s from t
     → next ≡ held ++ lost_pair sign one other s (at (types one.statements) t)
     → next ≡ first ++ run_lines sign one other s from (t + 1)
 unfolding run_lines
@@ -99,7 +101,8 @@ take_between xs from to le =
     sym (rw (between_is xs from to, ← take-take from to xs le) (take-append-drop from (take to xs)))
 
 -- The lines of a run are appended to those of the targets before it.
-pub run_then : {held next : List ℕ} (sign : ℕ) (one other : Policy) (s : List ℕ) (from to : ℕ) (first : List ℕ) → from ≤ to
+pub run_then : {held next : List ℕ} (sign : ℕ) (one other : Policy) (s : List ℕ) (from to : ℕ) (first : List ℕ)
+    → from ≤ to
     → held ≡ first ++ flat_map (lost_pair sign one other s) (take from (types one.statements))
     → next ≡ held ++ run_lines sign one other s from to
     → next ≡ first ++ flat_map (lost_pair sign one other s) (take to (types one.statements))
@@ -124,7 +127,8 @@ pub run_at : (one other : Policy) (n : TypeNumbers) (from to : ℕ) → AreNumbe
     → IsRun (map (type_index other) (types one.statements)) from to
 run_at one other n from to are lt e =
     let names = types one.statements in
-    let as_many : length n.numbers.items ≡ length names = ap length are.numbers ∙ length-map names (type_index other) in
+    let as_many : length n.numbers.items ≡ length names =
+    ap length are.numbers ∙ length-map names (type_index other) in
     let below : from < length n.numbers.items = omega (arith, as_many) in
     rw (e, ← are.numbers) (are.ends.runs from below)
 
@@ -138,8 +142,8 @@ pub run_kept : (sign : ℕ) (one other : Policy) (here there : List ℕ) (s from
     → IfSome (get_or (map (type_index other) (types one.statements)) s None) (IsRow other there)
     → (get_or (map (type_index other) (types one.statements)) s None ≡ None → there ≡ [])
     → IsRun (map (type_index other) (types one.statements)) from to
-    → ((k : ℕ) → from + k < to → is_kept (get_or here (from + k) 0)
-    (byte_for there (option_map (λ n. n + k) (get_or (map (type_index other) (types one.statements)) from None))) ≡ true)
+    → ((k : ℕ) → from + k < to → is_kept (get_or here (from + k) 0) (byte_for there
+    (option_map (λ n. n + k) (get_or (map (type_index other) (types one.statements)) from None))) ≡ true)
     → run_lines sign one other (at (types one.statements) s) from to ≡ []
 unfolding run_lines
 run_kept sign one other here there s from to hs row some none run kept =

@@ -7,12 +7,13 @@ use Rattle.sm_policy.specs.Policy.{Policy, type_index}
 use Rattle.sm_questions.specs.Differences.{lost_pair}
 use Rattle.sm_questions.specs.declared.runs.TypeNumbers.{TypeNumbers}
 
--- These types, from the first number up to the second, are a run: each has the next number in the other policy. Or none
--- of them has one.
+-- These types, from the first number up to the second, are a run: each has the next number in the other policy. Or
+-- none of them has one.
 pub record IsRun (numbers : List (Option ℕ)) (from to : ℕ) : Type 0 where
   pub some : from < to
   pub within : to ≤ length numbers
-  pub rises : (k : ℕ) → from + k < to → get_or numbers (from + k) None ≡ option_map (λ n. n + k) (get_or numbers from None)
+  pub rises : (k : ℕ) → from + k < to
+      → get_or numbers (from + k) None ≡ option_map (λ n. n + k) (get_or numbers from None)
 
 -- At each type a run begins, which ends there.
 pub record AreEnds (numbers : List (Option ℕ)) (ends : List ℕ) : Type 0 where

@@ -12,7 +12,7 @@ ghost use Rattle.sm_questions.specs.Accesses as spec;
 ghost use Rattle.sm_questions.specs.Granted.{IsGranted};
 ghost use Rattle.sm_questions.specs.Buffered.{Fails, Passes, Stops};
 ghost use Rattle.sm_questions.specs.FirstLines.{HasLines, IsTable};
-ghost use Rattle.sm_questions.specs.Numbers.{AreNumbers};
+ghost use Rattle.sm_questions.specs.Numbers.{AreAsked};
 
 use crate::buffer::write_full;
 use crate::first_lines::LineTable;
@@ -39,7 +39,7 @@ fn numbers_left(
     policy: &PolicyTables,
     wanted: &Option<Word<'_>>,
 ) -> Result<Vec<u16>, AllocError>
-    ensures { IfOk result (λ numbers. AreNumbers (types policy.now.statements) wanted.now numbers.items) }
+    ensures { IfOk result (λ numbers. AreAsked (types policy.now.statements) wanted.now numbers.items) }
 {
     let mut numbers = Vec::new(alloc);
     for number in 0..policy.type_count() {
@@ -192,7 +192,7 @@ fn push_targets(
     source: u16,
     held: &mut Vec<u8>,
 ) -> Result<(), AllocError>
-    requires targets { AreNumbers (types policy.now.statements) filter.now.target targets.now }
+    requires targets { AreAsked (types policy.now.statements) filter.now.target targets.now }
     requires source { source < length (types policy.now.statements) }
     requires lines { IfSome lines (λ l. HasLines policy.now source l.now) }
     ensures { OnOk result (held.new.items ≡ held.old.items ++ spec.targets_lines policy.now filter.now
@@ -216,7 +216,7 @@ fn push_source(
     source: u16,
     held: &mut Vec<u8>,
 ) -> Result<(), AllocError>
-    requires targets { AreNumbers (types policy.now.statements) filter.now.target targets.now }
+    requires targets { AreAsked (types policy.now.statements) filter.now.target targets.now }
     requires rules { RulesOf policy.now.statements (types policy.now.statements) rules.now }
     requires table { IsTable rules.now table.old }
     requires source { source < length (types policy.now.statements) }
@@ -246,7 +246,7 @@ fn put_sources<W: Write>(
     held: &mut Vec<u8>,
 ) -> Result<(), Fault>
     requires count { failures_of writer.old < greatest_count }
-    requires targets { AreNumbers (types policy.now.statements) filter.now.target targets.now }
+    requires targets { AreAsked (types policy.now.statements) filter.now.target targets.now }
     requires rules { RulesOf policy.now.statements (types policy.now.statements) rules.now }
     requires table { IsTable rules.now table.old }
     ensures ok { OnOk result (Passes (W.contents (inner_of writer.old)) (W.contents (inner_of writer.new))

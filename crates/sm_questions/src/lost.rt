@@ -1,6 +1,7 @@
 //! Accesses that only one of two policies allows.
 
-ghost use Rattle.std.specs.Prelude.{◌≡◌, ◌+◌, ◌<◌, ◌≤◌, ◌++◌, ℕ, [], IfSome, None, OnOk, length, map, option_map, true};
+ghost use Rattle.std.specs.Prelude.{◌≡◌, ◌+◌, ◌<◌, ◌≤◌, ◌++◌, ℕ, [], IfSome, None, OnOk, length, map, option_map};
+ghost use Rattle.std.specs.Prelude.{true};
 ghost use Rattle.std.proofs.Common.{get_or};
 ghost use Rattle.sm_types.specs.Names.{at};
 ghost use Rattle.sm_types.specs.Denoting.{types};
@@ -8,8 +9,7 @@ ghost use Rattle.sm_policy.specs.Policy.{type_index};
 ghost use Rattle.sm_questions.specs.Differences as spec;
 ghost use Rattle.sm_questions.specs.Granted as granted;
 ghost use Rattle.sm_questions.specs.Granted.{IsRow, byte_for};
-ghost use Rattle.sm_questions.specs.Runs.{AreNumbersIn};
-ghost use Rattle.sm_questions.specs.Runs.{run_lines};
+ghost use Rattle.sm_questions.specs.Runs.{AreNumbersIn, run_lines};
 
 use crate::PolicyTables;
 use crate::runs::TypeNumbers;
@@ -126,19 +126,14 @@ fn is_kept(here: &[u8], there: &[u8], target: u16, number: Option<u16>) -> bool
     byte == 0 || number.is_some_and(|n| byte == byte_at(there, n))
 }
 
-/// Returns whether a source loses nothing on the types of a run, as a comparison of the rows shows. The first type has this
-/// number in the other policy.
-fn is_run_kept(here: &[u8], there: &[u8], from: u16, to: u16, number: Option<u16>) -> bool
+/// Returns whether both rows have the same bytes for the types of a run, of which the first one has this number in the
+/// other policy.
+#[inline(never)]
+fn is_same(here: &[u8], there: &[u8], from: u16, to: u16, number: u16) -> bool
     requires { from < to }
     ensures { result ≡ true → (k : ℕ) → from + k < to
-        → granted.is_kept (get_or here.now (from + k) 0) (byte_for there.now (option_map (λ n. n + k) number)) ≡ true }
+        → granted.is_kept (get_or here.now (from + k) 0) (get_or there.now (number + k) 0) ≡ true }
 {
-    if to - from == 1 {
-        return is_kept(here, there, from, number);
-    }
-    let Some(number) = number else {
-        return false;
-    };
     let (from, to, start) = (usize::from(from), usize::from(to), usize::from(number));
     let end = start + (to - from);
     if here.len() < to {
@@ -150,7 +145,25 @@ fn is_run_kept(here: &[u8], there: &[u8], from: u16, to: u16, number: Option<u16
     here[from..to] == there[start..end]
 }
 
+/// Returns whether a source loses nothing on the types of a run, as far as the bytes of both rows show. The first type
+/// has this number in the other policy.
+#[inline]
+fn is_run_kept(here: &[u8], there: &[u8], from: u16, to: u16, number: Option<u16>) -> bool
+    requires { from < to }
+    ensures { result ≡ true → (k : ℕ) → from + k < to
+        → granted.is_kept (get_or here.now (from + k) 0) (byte_for there.now (option_map (λ n. n + k) number)) ≡ true }
+{
+    if to - from == 1 {
+        return is_kept(here, there, from, number);
+    }
+    match number {
+        Some(number) => is_same(here, there, from, to, number),
+        None => false,
+    }
+}
+
 /// Appends the lines for a source, with the targets of a run.
+#[inline(never)]
 fn push_run(
     sign: u8,
     one: &PolicyTables,

@@ -10,8 +10,8 @@ use std::alloc::{AllocError, Global};
 
 /// The numbers in the other policy of the types of one, and the end of the run that begins at each.
 ///
-/// Two policies mostly declare the same types in the same order. The numbers of these rise together, so the permissions
-/// on them stand side by side in the rows of both policies, and are compared at once.
+/// Two policies mostly declare the same types in the same order. The numbers of these rise together, so the
+/// permissions on them stand side by side in the rows of both policies, and are compared at once.
 pub struct TypeNumbers {
     /// The number of each type, or `None` if the other policy doesn't declare it.
     pub numbers: Vec<Option<u16>>,
@@ -93,7 +93,7 @@ fn numbers_in(
 
 impl TypeNumbers {
     /// Returns no numbers.
-    pub fn new(alloc: Global) -> TypeNumbers {
+    pub(crate) fn new(alloc: Global) -> TypeNumbers {
         TypeNumbers {
             numbers: Vec::new(alloc),
             ends: Vec::new(alloc),
@@ -101,7 +101,7 @@ impl TypeNumbers {
     }
 
     /// Returns the number in the other policy of each type of one policy, with the runs.
-    pub fn between(
+    pub(crate) fn between(
         alloc: Global,
         one: &PolicyTables,
         other: &PolicyTables,

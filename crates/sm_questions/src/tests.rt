@@ -189,8 +189,8 @@ media u:object_r:app:s0
 zygote u:object_r:app:s0
 ";
 
-/// Two policies of which the second has a type more in front, one more in the middle and two more at the end. What differs
-/// is moved to the type beside it, or to one that only the second policy has.
+/// The second one of two policies has a type more in front, one more in the middle and two more at the end. What it
+/// allows otherwise is mostly on the type beside, or on one that only it has.
 const SIX_TYPES: &[u8] = b"type app; type cam; type drm; type nfc; type sys; type vold;
 allow app cam:binder call;
 allow cam nfc:binder call;
@@ -200,8 +200,8 @@ allow sys app:service_manager { add find };
 allow vold sys:binder transfer;
 ";
 
-const TEN_TYPES: &[u8] =
-    b"type init; type app; type cam; type drm; type log; type nfc; type sys; type vold; type wifi; type zygote;
+const TEN_TYPES: &[u8] = b"type init; type app; type cam; type drm; type log;
+type nfc; type sys; type vold; type wifi; type zygote;
 allow init app:binder call;
 allow app { cam log }:binder call;
 allow cam log:binder call;
