@@ -16,6 +16,7 @@ ghost use Rattle.sm_questions.specs.Numbers.{AreAsked};
 
 use crate::buffer::write_full;
 use crate::first_lines::LineTable;
+use crate::tables::byte_at;
 use crate::{Filter, PolicyTables};
 use sm_bits::has_bit;
 use sm_engine::{Counted, Fault, write_whole};
@@ -165,17 +166,19 @@ fn push_target(
     policy: &PolicyTables,
     lines: Option<&[Option<u32>]>,
     wanted: Perms,
+    granted: u8,
     source: u16,
     target: u16,
     held: &mut Vec<u8>,
 ) -> Result<(), AllocError>
+    requires granted { IsGranted policy.now granted (at (types policy.now.statements) source)
+        (at (types policy.now.statements) target) }
     requires source { source < length (types policy.now.statements) }
     requires target { target < length (types policy.now.statements) }
     requires lines { IfSome lines (λ l. HasLines policy.now source l.now) }
     ensures { OnOk result (held.new.items ≡ held.old.items ++ spec.pair_lines policy.now wanted.0
         (at (types policy.now.statements) source) (at (types policy.now.statements) target)) }
 {
-    let granted = policy.granted(source, target);
     if granted == 0 {
         return Ok(());
     }
@@ -198,8 +201,10 @@ fn push_targets(
     ensures { OnOk result (held.new.items ≡ held.old.items ++ spec.targets_lines policy.now filter.now
         (at (types policy.now.statements) source)) }
 {
+    let row = policy.granted_row(source);
     for target in targets {
-        push_target(policy, lines, filter.perms, source, *target, held)?;
+        let granted = byte_at(row, *target);
+        push_target(policy, lines, filter.perms, granted, source, *target, held)?;
     }
     Ok(())
 }

@@ -46,7 +46,7 @@ impl PolicyTables {
     ghost use Rattle.sm_policy.specs.Preparing.{is_memory, prepared};
     ghost use Rattle.sm_types.specs.Denoting.{declares, types};
     ghost use Rattle.sm_types.specs.Names.{at};
-    ghost use Rattle.sm_questions.specs.Granted.{IsGranted, IsRow};
+    ghost use Rattle.sm_questions.specs.Granted.{IsRow};
     ghost use Rattle.sm_rules.specs.Keeping.{RulesOf, class_at, perm_at};
     ghost use Rattle.sm_kinds.specs.Contexts.{type_of};
     ghost use Rattle.sm_policy.specs.Policy.{allowed, is_permissive, label_of, type_index, written_at};
@@ -158,16 +158,6 @@ impl PolicyTables {
         ensures { IsRow self.now result.now source }
     {
         self.prepared.granted_row(source)
-    }
-
-    /// Returns the permissions that are allowed on the two types, by their numbers, as the bits of a byte.
-    pub(crate) fn granted(&self, source: u16, target: u16) -> u8
-        requires source { source < length (types self.now.statements) }
-        requires target { target < length (types self.now.statements) }
-        ensures { IsGranted self.now result (at (types self.now.statements) source)
-            (at (types self.now.statements) target) }
-    {
-        byte_at(self.granted_row(source), target)
     }
 
     /// Returns the rules of the policy, whose types are given by their numbers.

@@ -9,7 +9,7 @@ pub returns-then-granted-eq0 : goal.returns-then-granted-eq0
 returns-then-granted-eq0 c =
     let names = types c.args.policy.now.statements in
     rw (
-      no_pair c.args.policy.now c.granted-granted.result c.args.wanted.0 (at names c.args.source)
-          (at names c.args.target) c.if-granted-eq0.true c.granted-granted.ensures,
+      no_pair c.args.policy.now c.args.granted c.args.wanted.0 (at names c.args.source)
+          (at names c.args.target) c.if-granted-eq0.true c.requires.granted,
       append-nil c.args.held.now.items,
     ) refl
