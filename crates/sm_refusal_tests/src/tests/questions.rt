@@ -63,18 +63,32 @@ fn explains(rt: &impl Abort, alloc: Global, policy: &PolicyTables) -> Option<()>
     wrote(rt, fault, writer, b"allowed 13\n")
 }
 
+/// The filter leaves one access, which an application has.
+fn lists_one(
+    rt: &impl Abort,
+    alloc: Global,
+    policy: &PolicyTables,
+    options: &FilterOptions<'_>,
+) -> Option<()> {
+    let filter = read_filter(policy, options).ok().expect(rt, "known words");
+    let mut writer = Counted::new(Vec::new(alloc));
+    let fault = access(alloc, policy, &filter, &mut writer).err();
+    let line = b"untrusted_app activity_service service_manager find 13\n";
+    wrote(rt, fault, writer, line)
+}
+
+/// Lists the accesses to one target, and then those to any target, whose lines are found together.
 fn lists(rt: &impl Abort, alloc: Global, policy: &PolicyTables) -> Option<()> {
-    let options = FilterOptions {
+    let mut options = FilterOptions {
         source: Some(Word::new(b"untrusted_app")),
         target: Target::Type(Word::new(b"activity_service")),
         class: None,
         perm: None,
     };
-    let filter = read_filter(policy, &options).ok().expect(rt, "known words");
-    let mut writer = Counted::new(Vec::new(alloc));
-    let fault = access(alloc, policy, &filter, &mut writer).err();
-    let line = b"untrusted_app activity_service service_manager find 13\n";
-    wrote(rt, fault, writer, line)
+    lists_one(rt, alloc, policy, &options)?;
+    options.target = Target::Any;
+    options.class = Some(Word::new(b"service_manager"));
+    lists_one(rt, alloc, policy, &options)
 }
 
 fn compares(rt: &impl Abort, alloc: Global, old: &PolicyTables, new: &PolicyTables) -> Option<()> {
