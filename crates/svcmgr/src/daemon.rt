@@ -119,26 +119,16 @@ fn listen<'a, J: Naming + Send + Sync, R: Files + Net + Threads + Wait + Clock +
     sockets: Sockets<'a>,
 ) -> Result<(), Ending<'a>> {
     let (claim, clients) = open_socket(host, rt, sockets.clients, sockets.mode)?;
-    let ended = listen_to_both(host, rt, door, seats, tokens, slots, sockets, clients);
-    claim.remove(rt);
-    ended
-}
-
-/// Opens the administrators' socket, and serves.
-fn listen_to_both<'a, J: Naming + Send + Sync, R: Files + Net + Threads + Wait + Clock + Sync>(
-    host: &HostRuntime,
-    rt: &R,
-    door: &Door<J, NoGate>,
-    seats: &FreeSeats<J>,
-    tokens: AdminTokens<J>,
-    slots: u32,
-    sockets: Sockets<'a>,
-    clients: UnixListener,
-) -> Result<(), Ending<'a>> {
-    let (claim, admins) = open_socket(host, rt, sockets.admins, Some(OWNER_ALONE))?;
-    let ended = serve_at(
-        host, rt, door, seats, tokens, slots, sockets, clients, admins,
-    );
+    let ended = match open_socket(host, rt, sockets.admins, Some(OWNER_ALONE)) {
+        Ok((other, admins)) => {
+            let ended = serve_at(
+                host, rt, door, seats, tokens, slots, sockets, clients, admins,
+            );
+            other.remove(rt);
+            ended
+        }
+        Err(ending) => Err(ending),
+    };
     claim.remove(rt);
     ended
 }
