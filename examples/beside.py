@@ -1,6 +1,10 @@
 """Prints the requests of a script, each beside its reply from standard input: beside.py SCRIPT"""
 
+import signal
 import sys
+
+# If nobody reads on, it ends quietly.
+signal.signal(signal.SIGPIPE, signal.SIG_DFL)
 
 # The column of the replies.
 WIDTH = 60
