@@ -2,7 +2,8 @@
 use Rattle.std.proofs.Common.{◌≡◌, ℕ, suc, ◌+◌, ◌<◌, ◌≤◌, true, false, not, cond, eqb, List, [], ◌∷◌, length, take}
 use Rattle.std.proofs.Common.{drop, refl, arith}
 use Rattle.std.specs.List.{prefix_len}
-use Rattle.sm_contexts.specs.Lines.{lines, is_in_line, onto_first}
+use Rattle.sm_kinds.specs.Lines.{is_in_line}
+use Rattle.sm_contexts.specs.Lines.{lines, onto_first}
 
 pub first_line : (bytes : List ℕ) → 0 < length bytes
     → lines bytes ≡ take (prefix_len is_in_line bytes) bytes ∷ lines (drop (prefix_len is_in_line bytes + 1) bytes)

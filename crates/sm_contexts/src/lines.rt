@@ -2,33 +2,14 @@
 
 ghost use Rattle.std.specs.Prelude.{◌≡◌, ◌≤◌, ◌+◌, ◌++◌, [], length, take, drop, option_map, option_to_list, IfNone};
 ghost use Rattle.std.specs.List.{prefix_len};
+ghost use Rattle.sm_kinds.specs.Lines.{is_blank};
 ghost use Rattle.sm_contexts.specs.Lines as spec;
 
+use sm_kinds::{behind, is_blank, line_len};
 use std::marker::Model;
 
-/// Returns the bytes after the first `count` ones.
-fn behind(bytes: &[u8], count: usize) -> &[u8]
-    requires { count ≤ length bytes.now }
-    ensures { result.now ≡ drop count bytes.now }
-{
-    &bytes[count..]
-}
-
-fn line_len(bytes: &[u8]) -> usize
-    ensures value { result ≡ prefix_len spec.is_in_line bytes.now }
-    ensures within { result ≤ length bytes.now }
-{
-    bytes.iter().take_while(|b| **b != b'\n').count()
-}
-
-fn is_blank(b: u8) -> bool
-    ensures { result ≡ spec.is_blank b }
-{
-    b == b' ' || b == b'\t' || b == b'\r'
-}
-
 fn blank_len(bytes: &[u8]) -> usize
-    ensures value { result ≡ prefix_len spec.is_blank bytes.now }
+    ensures value { result ≡ prefix_len is_blank bytes.now }
     ensures within { result ≤ length bytes.now }
 {
     bytes.iter().take_while(|b| is_blank(**b)).count()

@@ -4,3 +4,4 @@ pub mod Names
 pub mod Permissions
 pub mod Messages
 pub mod Reading
+pub mod Lines

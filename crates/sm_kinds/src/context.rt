@@ -4,6 +4,7 @@ ghost use Rattle.std.specs.Prelude.{◌≡◌, ◌≢◌, ◌≤◌, ◌<◌, le
 ghost use Rattle.std.specs.List.{prefix_len, list_all};
 ghost use Rattle.sm_kinds.specs.Contexts as spec;
 
+use crate::lines::behind;
 use std::alloc::{AllocError, Global};
 use std::marker::Model;
 use std::sync::ArcSlice;
@@ -128,14 +129,6 @@ fn part_len(bytes: &[u8]) -> usize
     ensures within { result ≤ length bytes.now }
 {
     bytes.iter().take_while(|b| **b != b':').count()
-}
-
-/// Returns the bytes after the first `count` ones.
-fn behind(bytes: &[u8], count: usize) -> &[u8]
-    requires { count ≤ length bytes.now }
-    ensures { result.now ≡ drop count bytes.now }
-{
-    &bytes[count..]
 }
 
 /// Returns where what follows the first part and its colon begins, or the length if there is no colon.

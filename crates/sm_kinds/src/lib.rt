@@ -7,6 +7,7 @@ mod class;
 mod context;
 mod identity;
 mod limits;
+mod lines;
 mod messages;
 mod name;
 mod number;
@@ -23,6 +24,7 @@ pub use identity::Identity;
 pub use limits::{
     LEAST_PLACES, MOST_NAME_BYTES, MOST_PAYLOAD_BYTES, MOST_PLACES, MOST_REFS, MOST_TEXT_BYTES,
 };
+pub use lines::{behind, is_blank, line_len};
 pub use messages::{push_access, push_name, push_numbered};
 pub use name::{Name, Names, valid_name};
 pub use number::{AdminId, ClientId, Node, ObjRef};

@@ -3,6 +3,7 @@ use Rattle.std.specs.Prelude.{ℕ, zero, suc, ◌+◌, Bool, false, not, ◌&&�
 use Rattle.std.specs.Prelude.{take, slice_index, IsTrue}
 use Rattle.std.specs.List.{prefix_len, list_all}
 use Rattle.std.specs.Char.{is_ascii_alphabetic, is_ascii_alphanumeric}
+use Rattle.sm_kinds.specs.Lines.{is_blank, is_in_line}
 use Rattle.sm_ruletext.specs.declared.token.TokenKind.{TokenKind}
 use Rattle.sm_ruletext.specs.declared.token.TokenKind.TheVariants.{Word, Semicolon, Comma, Colon, Open, Close, Star}
 use Rattle.sm_ruletext.specs.declared.token.TokenKind.TheVariants.{Tilde}
@@ -11,14 +12,6 @@ use Rattle.sm_ruletext.specs.declared.token.TokenKind.TheVariants.{Dash, Other}
 -- Tokens have the line that they begin in.
 abbrev pub Tokens : Type 0
 Tokens = List (ℕ × TokenKind)
-
--- A byte is a space, a tab or a carriage return.
-abbrev pub is_blank : ℕ → Bool
-is_blank b = (b == 32 || b == 9) || b == 13
-
--- A byte isn't a newline.
-abbrev pub is_in_line : ℕ → Bool
-is_in_line b = not (b == 10)
 
 -- A byte is a letter, a digit, `_`, `.` or `-`.
 abbrev pub is_word_byte : ℕ → Bool

@@ -13,36 +13,15 @@ use crate::set_pool::SetPool;
 use crate::token::{Token, TokenKind};
 use crate::word::is_word_byte;
 use crate::words::Words;
-use sm_kinds::{MOST_TEXT_BYTES, Name, Word};
+use sm_kinds::{MOST_TEXT_BYTES, Name, Word, behind, is_blank, line_len};
 use std::alloc::{AllocError, Global};
 use std::marker::Model;
-
-/// Returns the bytes after the first `count` ones.
-fn behind(bytes: &[u8], count: usize) -> &[u8]
-    requires { count ≤ length bytes.now }
-    ensures { result.now ≡ drop count bytes.now }
-{
-    &bytes[count..]
-}
-
-fn is_blank(b: u8) -> bool
-    ensures { result ≡ spec.is_blank b }
-{
-    b == b' ' || b == b'\t' || b == b'\r'
-}
 
 fn word_len(bytes: &[u8]) -> usize
     ensures value { result ≡ prefix_len spec.is_word_byte bytes.now }
     ensures within { result ≤ length bytes.now }
 {
     bytes.iter().take_while(|b| is_word_byte(**b)).count()
-}
-
-fn line_len(bytes: &[u8]) -> usize
-    ensures value { result ≡ prefix_len spec.is_in_line bytes.now }
-    ensures within { result ≤ length bytes.now }
-{
-    bytes.iter().take_while(|b| **b != b'\n').count()
 }
 
 fn until_quote(bytes: &[u8]) -> usize
