@@ -20,7 +20,8 @@ use Rattle.sm_types.specs.Names.{Name, at}
 use Rattle.sm_types.specs.Denoting.{Policy, types, declares, chosen, in_set, type_of, is_type_named}
 use Rattle.sm_rules.specs.Access as access
 use Rattle.sm_rules.specs.Access.{rule_of, covered_by, covers_as, gives, written, forbidden, picks, IsConsistent}
-use Rattle.sm_rules.specs.Keeping.{class_at, perm_at, covers, covered, AllSay, KeptRules, RulesOf, rules_in, CoverAs}
+use Rattle.sm_rules.specs.Keeping.{class_at, perm_at, covers, covered, AllSay, KeptRules, RulesOf, rules_in}
+use Rattle.sm_rules.specs.Keeping.{CoverAs, SayAs}
 use Rattle.sm_rules.specs.declared.kept.Kept.{Kept}
 use Rattle.sm_neverallow.specs.Matrices.{AllCompiled, SayCovered}
 use Rattle.sm_neverallow.specs.Violating.{AllApart}
@@ -157,6 +158,18 @@ pub record AreSaid (policy : Policy) (names : List Name) (rules : KeptRules) : T
       → covered rules.allows b s t ≡ written policy (at names s) (at names t) (class_at b) (perm_at b)
   pub forbidding : (b s t : ℕ) → b < 7 → s < length names → t < length names
       → covered rules.neverallows b s t ≡ forbidden policy (at names s) (at names t) (class_at b) (perm_at b)
+
+-- Rules that say so of both of their lists do.
+pub are_said : (rules : KeptRules) (allows nevers : List Kept) → allows ≡ rules.allows → nevers ≡ rules.neverallows
+    → SayAs Allow rules allows → SayAs Neverallow rules nevers → CoverAs Allow rules allows
+    → CoverAs Neverallow rules nevers → (policy : Policy) (names : List Name) → RulesOf policy names rules
+    → AreSaid policy names rules
+are_said rules allows nevers a n allowing refusing writing forbidding policy names is = record {
+  allowing = rw a at (allowing policy names is);
+  refusing = rw n at (refusing policy names is);
+  writing = rw a at (writing policy names is);
+  forbidding = rw n at (forbidding policy names is);
+}
 
 -- What is both written and forbidden is covered by an allow rule and by a neverallow rule.
 none_both : (policy : Policy) (names : List Name) (rules : KeptRules) (b i j : ℕ) → RulesOf policy names rules
