@@ -1,6 +1,6 @@
 -- A set that is kept as a single number.
-use Rattle.std.proofs.Common.{inl, inr, ◌≡◌, ℕ, ◌<◌, ◌≤◌, ◌/◌, Bool, true, false, ◌&&◌, eqb, List, length, refl}
-use Rattle.std.proofs.Common.{subst, sym, ap, ◌∙◌}
+use Rattle.std.proofs.Common.{inl, inr, ◌≡◌, ℕ, ◌<◌, ◌≤◌, ◌*◌, ◌/◌, Bool, true, false, ◌&&◌, eqb, List, length, refl}
+use Rattle.std.proofs.Common.{subst, sym, ap, ◌∙◌, arith}
 use Rattle.std.specs.Bool.{IsTrue}
 use Rattle.std.proofs.lemmas.Bool.{eq-eqb, ne_eqb, cases_eq, cases_lt, and_right}
 use Rattle.sm_bits.specs.Bits.{has}
@@ -37,6 +37,11 @@ one_elsewhere row words n j one other = elim (cases_lt (n / 64) words) [
   | inl h ↦ one.inside j h ∙ ne_eqb j n other
   | inr h ↦ one.outside j h
 ]
+
+-- Its number has a bit in any row of the same length.
+pub one_within : (row other : List ℕ) (words n : ℕ) → IsOne row words n → length row ≡ length other → n / 64 < words
+    → n < 64 * length other
+one_within row other words n one same h = let room = one.room in omega (arith, room, same, h)
 
 pub one_has_not : (row other : List ℕ) (words n j : ℕ) (b : Bool) → IsOne row words n → b ≡ has other n → b ≡ false
     → (has row j && has other j) ≡ false
