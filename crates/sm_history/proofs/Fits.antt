@@ -7,6 +7,7 @@ use Rattle.sm_history.specs.declared.event.Event.{Event}
 use Rattle.sm_history.specs.declared.event.Event.TheVariants.{Die}
 use Rattle.sm_history.specs.declared.outcome.Outcome.{Outcome}
 use Rattle.sm_history.specs.declared.reply.Reply.TheVariants.{Done}
+use Rattle.sm_history.specs.Effects.{Dies}
 use Rattle.sm_history.specs.Clients.{live_clients, is_live}
 use Rattle.sm_history.specs.Histories.{History, effects_of, entered, client_of, turn_of}
 use Rattle.sm_history.specs.declared.refusal.Refusal.TheVariants.{JournalFull}
@@ -23,16 +24,17 @@ use Rattle.sm_history.proofs.Lists.{filter_fewer}
 use Rattle.sm_history.proofs.Balanced.{turned}
 use Rattle.std.proofs.lemmas.List.Elements.{filter_agree}
 
-pub fewer : (c : ℕ) (xs : List ℕ) → list_any (λ x. x == c) xs ≡ true
+fewer : (c : ℕ) (xs : List ℕ) → list_any (λ x. x == c) xs ≡ true
     → length (filter (λ k. not (c == k)) xs) + 1 ≤ length xs
 fewer c xs h = subst (λ (ks : List ℕ). length ks + 1 ≤ length xs)
     (filter_agree (λ k. not (k == c)) (λ k. not (c == k)) (λ k. ap not (turned k c)) xs)
     (filter_fewer (λ x. x == c) xs h)
 
-pub fits_any : (places : ℕ) (h : History) (by : By) (turn : ℕ) (event : Event) (outcome : Outcome)
-    → Sound (effects_of h) → FitsPlaces places h → verdict places h by turn event ≡ Done outcome
-    → FitsPlaces places (entered (record { by = by; turn = turn; event = event; outcome = outcome }) h)
-fits_any places h by turn Die outcome s fits done =
+-- After a death there is a live client less.
+pub fewer_live : (places : ℕ) (h : History) (by : By) (turn : ℕ) (outcome : Outcome)
+    → verdict places h by turn Die ≡ Done outcome
+    → length (live_clients (Dies (client_of by) ∷ effects_of h)) + 1 ≤ length (live_clients (effects_of h))
+fewer_live places h by turn outcome done =
     let d = effects_of h in
     let c = client_of by in
     let live : is_live d c ≡ true =
@@ -40,6 +42,12 @@ fits_any places h by turn Die outcome s fits done =
     done).acts in
     let one = fewer c (live_clients d) (any_live d c ∙ live) in
     let now = ap (length {A = ℕ}) (list_dies d c) in
-    omega (arith, one, now, fits)
+    omega (arith, one, now)
+
+pub fits_any : (places : ℕ) (h : History) (by : By) (turn : ℕ) (event : Event) (outcome : Outcome)
+    → Sound (effects_of h) → FitsPlaces places h → verdict places h by turn event ≡ Done outcome
+    → FitsPlaces places (entered (record { by = by; turn = turn; event = event; outcome = outcome }) h)
+fits_any places h by turn Die outcome s fits done =
+    let one = fewer_live places h by turn outcome done in omega (arith, one, fits)
 fits_any places h by turn event outcome s fits done =
     fits_more places h (record { by = by; turn = turn; event = event; outcome = outcome }) s refl done

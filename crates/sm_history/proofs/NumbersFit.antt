@@ -13,30 +13,25 @@ use Rattle.sm_history.specs.declared.entry.Entry.{Entry}
 use Rattle.sm_history.specs.declared.limits.TheConstants.{GREATEST}
 use Rattle.sm_history.specs.declared.outcome.Outcome.{Outcome}
 use Rattle.sm_history.specs.declared.reply.Reply.TheVariants.{Done}
-use Rattle.sm_history.specs.declared.refusal.Refusal.TheVariants.{JournalFull}
-use Rattle.sm_history.specs.declared.failed_check.EarlyAnswer.TheVariants.{Refused}
 use Rattle.sm_history.specs.Effects.{Effects, Dies, same_node}
 use Rattle.sm_history.specs.Clients.{is_live, live_clients}
 use Rattle.sm_history.specs.Holdings.{refs_at, is_held, held_nodes, counts_fit}
 use Rattle.sm_history.specs.Rows.{rows_at, resumed}
 use Rattle.sm_history.specs.Openings.{Opening}
-use Rattle.sm_history.specs.Histories.{History, whole, entered, effects_of, client_of, turn_of}
-use Rattle.sm_history.specs.Checks.{Wants}
-use Rattle.sm_history.specs.Verdict.{verdict, has_place, is_die}
+use Rattle.sm_history.specs.Histories.{History, whole, entered, effects_of, client_of}
+use Rattle.sm_history.specs.Verdict.{verdict, is_die}
 use Rattle.sm_history.specs.Segments.{sealed}
 use Rattle.sm_history.specs.Lawful.{IsOpening, AreLawful, IsLawful, FitsNumbers, FitsPlaces}
 use Rattle.sm_history.specs.Sound.{Sound}
 use Rattle.sm_history.proofs.Balanced.{number_same, node_same}
 use Rattle.sm_history.proofs.HeldAlike.{held_among}
-use Rattle.sm_history.proofs.AfterClients.{list_dies}
 use Rattle.sm_history.proofs.AfterHoldings.{refs_dies}
 use Rattle.sm_history.proofs.Living.{any_live}
 use Rattle.sm_history.proofs.RowsBack.{list_back, refs_back, held_live}
-use Rattle.sm_history.proofs.SoundHistory.{met}
 use Rattle.sm_history.proofs.Induction.{sound_lawful}
 use Rattle.sm_history.proofs.Sealing.{sealed_left}
 use Rattle.sm_history.proofs.Fitting.{room_done, lives_after}
-use Rattle.sm_history.proofs.Fits.{fewer}
+use Rattle.sm_history.proofs.Fits.{fewer_live}
 
 -- ---- counts that fit, one by one
 
@@ -102,17 +97,10 @@ numbers_die : (places : ℕ) (h : History) (by : By) (turn : ℕ) (outcome : Out
     → verdict places h by turn Die ≡ Done outcome
     → FitsNumbers (entered (record { by = by; turn = turn; event = Die; outcome = outcome }) h)
 numbers_die places h by turn outcome fits done =
-    let d = effects_of h in
-    let c = client_of by in
-    let live : is_live d c ≡ true =
-    (met d (turn_of h by) by turn Die (Wants (has_place places h c Die) (Refused JournalFull) ∷ []) outcome
-    done).acts in
-    let one = fewer c (live_clients d) (any_live d c ∙ live) in
-    let now = ap (length {A = ℕ}) (list_dies d c) in
-    let e : Entry = record { by = by; turn = turn; event = Die; outcome = outcome } in
+    let one = fewer_live places h by turn outcome done in
     record {
-      lengths = let lt = fits.lengths in omega (arith, one, now, lt);
-      counts = counts_die d c fits.counts;
+      lengths = let lt = fits.lengths in omega (arith, one, lt);
+      counts = counts_die (effects_of h) (client_of by) fits.counts;
     }
 
 -- A death, or another event.

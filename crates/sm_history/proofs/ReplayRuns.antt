@@ -248,18 +248,23 @@ pub all_chunks : (places number : ℕ) (o : Opening) (cs : List (List Entry)) (i
 all_chunks places number o cs i r le come =
     subst (λ (v : List (List Entry)). HasCome places number o (reverse (joined v)) r) (take_all i cs le) come
 
--- Both parts of a segment, from its beginning.
-pub run : (places number : ℕ) (o : Opening) (cs : List (List Entry)) (es : List Entry) (a b c : Replay)
-    → IsLawful places (segment number o (joined cs ++ es)) → StartsFrom o a
-    → (IsLawful places (segment number o (joined cs ++ es)) → HasCome places number o [] a
-    → HasCome places number o (reverse (joined cs)) b)
-    → EntersChunk es b c → TracksHistory (segment number o (joined cs ++ es)) c
-run places number o cs es a b c l s chunks last =
+-- What entering chunks promises.
+abbrev EntersChunks : List (List Entry) → Replay → Replay → Type 0
+EntersChunks cs r r' = (places number : ℕ) (o : Opening) (rest : List Entry)
+    → IsLawful places (segment number o (joined cs ++ rest)) → HasCome places number o [] r
+    → HasCome places number o (reverse (joined cs)) r'
+
+-- Both parts of a segment, from its beginning, as the code takes them.
+pub run : (places number : ℕ) (o : Opening) (cs full : List (List Entry)) (es last : List Entry) (a b c : Replay)
+    → IsLawful places (segment number o (joined cs ++ es)) → StartsFrom o a → full ≡ cs → last ≡ es
+    → EntersChunks full a b → EntersChunk last b c → TracksHistory (segment number o (joined cs ++ es)) c
+run places number o cs full es last a b c l s is_full is_last chunks chunk =
     let all = joined cs ++ es in
     has_ended places number o (reverse all) c l
-    (last places number o (joined cs) []
+    (subst (λ (v : List Entry). EntersChunk v b c) is_last chunk places number o (joined cs) []
     (subst (λ (v : List Entry). IsLawful places (segment number o (joined cs ++ v))) (sym (append-nil es)) l)
-    (chunks l (has_begun places number o (reverse all) a l s)))
+    (subst (λ (v : List (List Entry)). EntersChunks v a b) is_full chunks places number o es l
+    (has_begun places number o (reverse all) a l s)))
 
 -- The length of a lawful history is a number.
 pub length_fits : (places number : ℕ) (o : Opening) (cs : List (List Entry)) (es : List Entry) (a b k : ℕ)
