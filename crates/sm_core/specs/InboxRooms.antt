@@ -1,7 +1,7 @@
 -- The room left in the inboxes of notified clients.
 use Rattle.std.specs.Prelude.{ℕ, ◌==◌, ◌≡◌, true, List, Option, map, nat_le, option_map}
 use Rattle.std.specs.List.{find, list_all}
-use Rattle.sm_inbox.specs.Rows.{is_once}
+use Rattle.sm_history.specs.Once.{is_once}
 use Rattle.sm_core.specs.declared.inbox_rooms.InboxRoom.{InboxRoom}
 
 -- By a client's row, this many deliveries still fit into its inbox.

@@ -1,30 +1,17 @@
 -- Rows of which no two are one client's.
-use Rattle.std.proofs.Common.{◌≡◌, ℕ, zero, suc, ◌+◌, ◌<◌, Bool, true, false, ◌&&◌, ◌||◌, ◌==◌, List, [], ◌∷◌, refl, ap, sym, ◌∙◌}
-use Rattle.std.proofs.Common.{length, get_or, set, map, Option, Some, None, if◌then◌else◌, arith}
-use Rattle.std.specs.Prelude.{not}
+use Rattle.std.proofs.Common.{◌≡◌, ℕ, zero, suc, ◌+◌, ◌<◌, true, false, ◌==◌, List, [], ◌∷◌, refl, ap, ◌∙◌}
+use Rattle.std.proofs.Common.{length, get_or, set, map, Some, None, arith}
 use Rattle.std.specs.List.{insert, list_any, remove}
-use Rattle.std.proofs.lemmas.Bool.{or_from, or_parts}
+use Rattle.std.proofs.lemmas.Bool.{or_parts}
 use Rattle.std.proofs.lemmas.Bool.Decides.{nat_tests}
+use Rattle.sm_history.specs.Once.{is_once}
 use Rattle.sm_history.specs.Sound.{IsOnce}
 use Rattle.sm_history.proofs.ClientRows.{self_same}
+use Rattle.sm_history.proofs.Once.{to_once, from_once}
 use Rattle.sm_grants.specs.declared.rows.ClientHandles.{ClientHandles}
-use Rattle.sm_grants.specs.Once.{is_once, AreOnce}
+use Rattle.sm_grants.specs.Once.{AreOnce}
 use Rattle.sm_grants.specs.Rows.{table_of, index_from}
 use Rattle.sm_grants.proofs.ClientRows.{fewer_among, not_among, once_inserted as inserted_once}
-
--- ---- lists in which each number is once
-
-split_once : (b t : Bool) → (not b && t) ≡ true → (b ≡ false) × (t ≡ true)
-split_once true t e = cc
-split_once false t e = (refl, e)
-
-pub to_once : (xs : List ℕ) → is_once xs ≡ true → IsOnce xs
-to_once [] e = tt
-to_once (x ∷ xs) e = let p = split_once (list_any (λ y. y == x) xs) (is_once xs) e in (p.0, to_once xs p.1)
-
-pub from_once : (xs : List ℕ) → IsOnce xs → is_once xs ≡ true
-from_once [] h = refl
-from_once (x ∷ xs) h = rw (h.0, from_once xs h.1) refl
 
 -- This is the client of a row.
 abbrev pub client : ClientHandles → ℕ

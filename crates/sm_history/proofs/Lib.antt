@@ -15,6 +15,7 @@ pub mod AfterInboxes
 pub mod HeldAlike
 pub mod Rising
 pub mod Sound
+pub mod Once
 pub mod AgreeEffects
 pub mod AgreeNotices
 pub mod AgreeChecks

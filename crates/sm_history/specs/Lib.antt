@@ -20,6 +20,7 @@ pub mod Rows
 pub mod Openings
 pub mod Following
 pub mod Sound
+pub mod Once
 pub mod Beginning
 pub mod Books
 pub mod Segments

@@ -1,29 +1,16 @@
 -- Rows of which no two are one client's.
-use Rattle.std.proofs.Common.{◌≡◌, ℕ, zero, suc, ◌<◌, Bool, true, false, ◌==◌, ◌&&◌, List, [], ◌∷◌, ◌++◌, refl, ap, sym, ◌∙◌}
-use Rattle.std.proofs.Common.{◌||◌, subst, length, get_or, set, map, cond, Some, None, if◌then◌else◌, arith}
-use Rattle.std.specs.Prelude.{nat_lt, not, filter, position}
+use Rattle.std.proofs.Common.{◌≡◌, ℕ, zero, suc, ◌<◌, Bool, true, false, ◌==◌, List, [], ◌∷◌, ◌++◌, refl, ap, ◌∙◌}
+use Rattle.std.proofs.Common.{◌||◌, length, get_or, set, map, cond, Some, None, if◌then◌else◌, arith}
+use Rattle.std.specs.Prelude.{filter}
 use Rattle.std.specs.List.{find, list_any, position_or_len}
-use Rattle.std.proofs.lemmas.Bool.{or_from, or_parts}
+use Rattle.std.proofs.lemmas.Bool.{or_parts}
 use Rattle.std.proofs.lemmas.Bool.Decides.{nat_tests}
+use Rattle.sm_history.specs.Once.{is_once}
 use Rattle.sm_history.specs.Sound.{IsOnce}
 use Rattle.sm_history.specs.Tables.{IsPlace}
-use Rattle.sm_inbox.specs.Rows.{is_once}
 use Rattle.sm_history.proofs.Sound.{once_filter, once_more}
 use Rattle.sm_history.proofs.ClientRows.{is_place, self_same}
-
--- ---- lists in which each number is once
-
-split_once : (b t : Bool) → (not b && t) ≡ true → (b ≡ false) × (t ≡ true)
-split_once true t e = cc
-split_once false t e = (refl, e)
-
-pub to_once : (xs : List ℕ) → is_once xs ≡ true → IsOnce xs
-to_once [] e = tt
-to_once (x ∷ xs) e = let p = split_once (list_any (λ y. y == x) xs) (is_once xs) e in (p.0, to_once xs p.1)
-
-pub from_once : (xs : List ℕ) → IsOnce xs → is_once xs ≡ true
-from_once [] h = refl
-from_once (x ∷ xs) h = rw (h.0, from_once xs h.1) refl
+use Rattle.sm_history.proofs.Once.{to_once, from_once}
 
 -- ---- rows
 

@@ -1,18 +1,14 @@
 -- The rows of a table of inboxes.
-use Rattle.std.specs.Prelude.{ℕ, ◌-◌, ◌≡◌, ◌==◌, ◌&&◌, Bool, true, not, List, [], ◌∷◌, Option, Some, None, length, map}
-use Rattle.std.specs.List.{find, list_any}
+use Rattle.std.specs.Prelude.{ℕ, ◌-◌, ◌≡◌, ◌==◌, true, List, [], Option, Some, None, length, map}
+use Rattle.std.specs.List.{find}
 use Rattle.sm_history.specs.declared.delivery.Delivery.{Delivery}
 use Rattle.sm_history.specs.declared.limits.TheConstants.{MOST_DELIVERIES}
+use Rattle.sm_history.specs.Once.{is_once}
 use Rattle.sm_inbox.specs.declared.inbox.Inbox.{Inbox}
 
 -- This is the first row of a client.
 abbrev pub inbox_of : List Inbox → ℕ → Option Inbox
 inbox_of rows c = find (λ r. r.client == c) rows
-
--- Each number is in the list once.
-abbrev pub is_once : List ℕ → Bool
-is_once [] = true
-is_once (x ∷ xs) = not (list_any (λ y. y == x) xs) && is_once xs
 
 -- No two rows are one client's.
 abbrev pub AreOnce : List Inbox → Type 0
