@@ -1,8 +1,7 @@
 -- Sets that are kept as a single number or as a row.
 use Rattle.std.specs.Prelude.{ℕ, ◌/◌, ◌%◌, ◌^◌, List, replicate, slice_set}
 use Rattle.std.specs.Arc.{arc_value}
-use Rattle.sm_bits.specs.declared.shared_set.Shape.{Shape}
-use Rattle.sm_bits.specs.declared.shared_set.Shape.TheVariants.{One, Many}
+use Rattle.sm_bits.specs.declared.shared_set.Shape.{Shape, TheVariants.One, TheVariants.Many}
 
 -- This is the row of `words` words with the number i alone; it is empty if i is past its end.
 unfoldable pub one_row : ℕ → ℕ → List ℕ

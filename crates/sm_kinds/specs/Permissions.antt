@@ -1,8 +1,7 @@
 -- Classes and permissions, and their words.
 use Rattle.std.specs.Prelude.{ℕ, Bool, List, Option, Some, None, ◌==◌, if◌then◌else◌, codes, is_some}
 use Rattle.std.specs.Str.{bytes_eq}
-use Rattle.sm_kinds.specs.declared.class.Class.{Class}
-use Rattle.sm_kinds.specs.declared.class.Class.TheVariants.{ServiceManager, Binder}
+use Rattle.sm_kinds.specs.declared.class.Class.{Class, TheVariants.ServiceManager, TheVariants.Binder}
 use Rattle.sm_kinds.specs.declared.perms.Perms.{Perms}
 
 -- This is the word of a class.

@@ -4,8 +4,7 @@ use Rattle.sm_ruletext.specs.declared.statement.Statement.{Statement}
 use Rattle.sm_rules.specs.Access.{written, forbidden, IsConsistent}
 use Rattle.sm_policy.specs.Preparing.{rules_of}
 use Rattle.sm_policy.specs.declared.violation.Violation.{Violation}
-use Rattle.sm_policy.specs.declared.fault.PolicyFault.{PolicyFault}
-use Rattle.sm_policy.specs.declared.fault.PolicyFault.TheVariants.{Neverallow}
+use Rattle.sm_policy.specs.declared.fault.PolicyFault.{PolicyFault, TheVariants.Neverallow}
 
 -- A claim on the violation, if the fault is a broken neverallow rule.
 abbrev pub IfNeverallow : PolicyFault → (Violation → Type 0) → Type 0

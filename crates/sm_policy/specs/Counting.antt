@@ -2,8 +2,7 @@
 use Rattle.std.specs.Prelude.{ℕ, Bool, true, false, List, length, count_by}
 use Rattle.sm_ruletext.specs.declared.statement.Statement.{Statement}
 use Rattle.sm_ruletext.specs.declared.statement.RuleKind.TheVariants.{Allow, Neverallow}
-use Rattle.sm_ruletext.specs.declared.statement.What.{What}
-use Rattle.sm_ruletext.specs.declared.statement.What.TheVariants.{Rule}
+use Rattle.sm_ruletext.specs.declared.statement.What.{What, TheVariants.Rule}
 use Rattle.sm_types.specs.Denoting.{types, attributes}
 use Rattle.sm_contexts.specs.Reading.{Entry}
 use Rattle.sm_policy.specs.declared.counts.Counts.{Counts}

@@ -1,8 +1,7 @@
 -- Lines that are written through a buffer.
 use Rattle.std.specs.Prelude.{◌≡◌, ◌<◌, ◌⊎◌, ℕ, List, ◌++◌, Option}
 use Rattle.std.specs.Io.KnownBytes.{Appends}
-use Rattle.sm_engine.specs.declared.fault.Fault.{Fault}
-use Rattle.sm_engine.specs.declared.fault.Fault.TheVariants.{WriteFault, Memory}
+use Rattle.sm_engine.specs.declared.fault.Fault.{Fault, TheVariants.WriteFault, TheVariants.Memory}
 
 -- A prefix of what was held and of the lines was written, and the rest is held.
 pub record Passes (old new : Option (List ℕ)) (held rest lines : List ℕ) : Type 0 where

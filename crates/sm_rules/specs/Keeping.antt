@@ -5,8 +5,7 @@ use Rattle.std.specs.Prelude.{None, All, option_and_then}
 use Rattle.std.specs.List.{list_any, filter_map}
 use Rattle.sm_bits.specs.Bits.{has, has_bit}
 use Rattle.sm_kinds.specs.Permissions.{bit}
-use Rattle.sm_kinds.specs.declared.class.Class.{Class}
-use Rattle.sm_kinds.specs.declared.class.Class.TheVariants.{ServiceManager, Binder}
+use Rattle.sm_kinds.specs.declared.class.Class.{Class, TheVariants.ServiceManager, TheVariants.Binder}
 use Rattle.sm_kinds.specs.declared.perms.Perms.{Perms}
 use Rattle.sm_ruletext.specs.Kept.{is_kept}
 use Rattle.sm_ruletext.specs.declared.rule.Rule.{Rule}

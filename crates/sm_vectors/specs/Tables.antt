@@ -2,8 +2,7 @@
 use Rattle.std.specs.Prelude.{◌≡◌, ℕ, true, false, not, ◌<◌, if◌then◌else◌, List, length}
 use Rattle.std.proofs.Common.{get_or}
 use Rattle.sm_bits.specs.Bits.{row, has, has_bit}
-use Rattle.sm_ruletext.specs.declared.statement.RuleKind.{RuleKind}
-use Rattle.sm_ruletext.specs.declared.statement.RuleKind.TheVariants.{Allow, Dontaudit}
+use Rattle.sm_ruletext.specs.declared.statement.RuleKind.{RuleKind, TheVariants.Allow, TheVariants.Dontaudit}
 use Rattle.sm_types.specs.Names.{Name, at}
 use Rattle.sm_types.specs.Denoting.{Policy, declares}
 use Rattle.sm_rules.specs.Access.{some_covers}
