@@ -131,49 +131,28 @@ before_gives d e n k b live other =
           ] refl;
     }
 
+-- What has no say in handles, and leaves the rules, puts nothing in the way.
 pub before_delivers : (d e : Effects) (n : Node) (k : ℕ) (x : Delivery) → AsBefore d e n → is_live d k ≡ true
     → AsBefore d (Delivers k x ∷ e) n
 before_delivers d e n k x b live =
     let s' = sound_delivers e k x (b.lives k ∙ live) b.sound in
-    record {
-      sound = s';
-      policy = b.policy;
-      manager = b.manager;
-      who = b.who;
-      lives = b.lives;
-      numbers = b.numbers;
-      fits = λ c l. ap (λ a. nat_le a MOST_HANDLES)
-          (count_handed (Delivers k x ∷ e) c n s' (b.lives c ∙ l)
-          ∙ sym (count_handed e c n b.sound (b.lives c ∙ l))) ∙ b.fits c l;
-    }
+    let fits = λ (c : ℕ) (l : is_live d c ≡ true).
+    ap (λ a. nat_le a MOST_HANDLES) (count_handed (Delivers k x ∷ e) c n s' (b.lives c ∙ l)
+    ∙ sym (count_handed e c n b.sound (b.lives c ∙ l))) ∙ b.fits c l in
+    assumption
 
--- What has no say in handles, and leaves the rules, puts nothing in the way.
 pub before_adds : (d : Effects) (n : Node) (name : List ℕ) (t : Service) → Sound d → is_live d t.node.owner.0 ≡ true
     → AsBefore d (Adds name t ∷ d) n
 before_adds d n name t s live =
     let s' = sound_adds d name t live s in
-    record {
-      sound = s';
-      policy = refl;
-      manager = refl;
-      who = λ c. refl;
-      lives = λ c. refl;
-      numbers = λ c l. refl;
-      fits = λ c l. ap (λ a. nat_le a MOST_HANDLES)
-          (count_handed (Adds name t ∷ d) c n s' l ∙ sym (count_handed d c n s l));
-    }
+    let fits = λ (c : ℕ) (l : is_live d c ≡ true).
+    ap (λ a. nat_le a MOST_HANDLES) (count_handed (Adds name t ∷ d) c n s' l ∙ sym (count_handed d c n s l)) in
+    assumption
 
 pub before_watches : (d : Effects) (n : Node) (w : Watch) → Sound d → is_live d w.client ≡ true
     → AsBefore d (Watches w ∷ d) n
 before_watches d n w s live =
     let s' = sound_watches d w live s in
-    record {
-      sound = s';
-      policy = refl;
-      manager = refl;
-      who = λ c. refl;
-      lives = λ c. refl;
-      numbers = λ c l. refl;
-      fits = λ c l. ap (λ a. nat_le a MOST_HANDLES)
-          (count_handed (Watches w ∷ d) c n s' l ∙ sym (count_handed d c n s l));
-    }
+    let fits = λ (c : ℕ) (l : is_live d c ≡ true).
+    ap (λ a. nat_le a MOST_HANDLES) (count_handed (Watches w ∷ d) c n s' l ∙ sym (count_handed d c n s l)) in
+    assumption

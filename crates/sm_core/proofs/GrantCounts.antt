@@ -19,6 +19,7 @@ use Rattle.sm_history.specs.Clients.{is_live, live_clients, next_client}
 use Rattle.sm_history.specs.Holdings.{refs_at, node_at, counts_fit}
 use Rattle.sm_history.specs.Following.{MayFollow, MayFollowApart, MayAll, MayAllApart, followed}
 use Rattle.sm_history.specs.Histories.{History, effects_of, after_event, client_of, found, length_of}
+use Rattle.sm_history.specs.Lawful.{IsLawful}
 use Rattle.sm_history.specs.Sound.{Sound}
 use Rattle.sm_history.specs.Verdict.{verdict, has_place, is_die, places_needed}
 use Rattle.sm_history.proofs.AfterHoldings.{refs_connects, refs_gives, refs_releases}
@@ -26,7 +27,8 @@ use Rattle.sm_history.proofs.Balanced.{number_same, node_same}
 use Rattle.sm_history.proofs.Counted.{apart_sound, gives_back, may_all}
 use Rattle.sm_history.proofs.Fitting.{room_done}
 use Rattle.sm_history.proofs.Keeps.{Lasts, LeftToKeep, event_keeps}
-use Rattle.sm_history.proofs.NumbersFit.{counts_all, counts_each, is_below}
+use Rattle.sm_history.proofs.Induction.{sound_lawful}
+use Rattle.sm_history.proofs.NumbersFit.{counts_all, counts_each, is_below, numbers_fit}
 use Rattle.sm_history.proofs.Sound.{is_new}
 use Rattle.sm_core.specs.Stands.{is_grant_of, given_in, fits_among}
 use Rattle.sm_core.proofs.Numbers.{one_first}
@@ -319,18 +321,20 @@ exact_fits k m xs count refs times is most all =
 
 -- ---- places
 
-pub place_is : (places : ℕ) (h : History) (c : ℕ) (event : Event) (needed : ℕ) (room counts : Bool) (xs : List Effect)
-    → let d = effects_of h in Sound d → MayAllApart d xs → followed d xs ≡ after_event d c event
-    → is_die event ≡ false → counts_fit d ≡ true
+pub place_is : (places : ℕ) (h : History) (c : ℕ) (event : Event) (needed : ℕ) (room counts dies : Bool)
+    (xs : List Effect) → let d = effects_of h in IsLawful places h → followed d xs ≡ after_event d c event
+    → MayAllApart d xs → dies ≡ is_die event → dies ≡ false
     → room ≡ (nat_le (length h.entries + length (live_clients d) + needed) places
     && nat_lt (length_of h + length (live_clients d) + needed) GREATEST)
     → needed ≡ places_needed event → counts ≡ list_all (fits_among d xs) xs
     → (room && counts) ≡ has_place places h c event
-place_is places h c event needed room counts xs s may is alive fit er en ec =
+place_is places h c event needed room counts dies xs lawful is may ed none er en ec =
     let d = effects_of h in
     let live = length (live_clients d) in
     let test : ℕ → Bool = λ n.
     nat_le (length h.entries + live + n) places && nat_lt (length_of h + live + n) GREATEST in
+    let alive = sym ed ∙ none in
     ap (λ (t : Bool). t && counts) (er ∙ ap test en)
-    ∙ ap (λ (t : Bool). test (places_needed event) && t) (ec ∙ counts_are d c event xs s may is alive fit)
+    ∙ ap (λ (t : Bool). test (places_needed event) && t)
+    (ec ∙ counts_are d c event xs (sound_lawful places h lawful) may is alive (numbers_fit places h lawful).counts)
     ∙ sym (ap (λ (t : Bool). t || (test (places_needed event) && counts_fit (after_event d c event))) alive)

@@ -1,6 +1,6 @@
 -- What effects in order do to versions, to the number of clients and to counts of grants.
 use Rattle.std.proofs.Common.{inr, ◌≡◌, ℕ, ◌+◌, ◌<◌, Bool, true, false, List, [], ◌∷◌, ap, sym, ◌∙◌}
-use Rattle.std.proofs.Common.{if◌then◌else◌, arith}
+use Rattle.std.proofs.Common.{if◌then◌else◌, length, drop, get_or, arith}
 use Rattle.std.specs.Prelude.{nat_lt}
 use Rattle.std.proofs.lemmas.Bool.Decides.{nat_tests}
 use Rattle.sm_history.specs.declared.entry.Entry.{Entry}
@@ -19,6 +19,7 @@ use Rattle.sm_history.proofs.NumbersFit.{numbers_fit}
 use Rattle.sm_history.proofs.Versions.{version_small}
 use Rattle.sm_core.specs.declared.state.State.{State}
 use Rattle.sm_core.specs.Stands.{Stands, is_set, sets_in, is_connect, connects_in}
+use Rattle.sm_core.proofs.ListSteps.{rest_from}
 
 pub count_grows : (n : ℕ) → nat_lt (n + 1) GREATEST ≡ true → n < 18446744073709551615
 count_grows n h = let less : n + 1 < GREATEST = grind (arith, nat_tests) in omega (arith, less)
@@ -31,6 +32,11 @@ one_first false n = omega arith
 
 pub sets_first : (x : Effect) (xs : List Effect) → sets_in (x ∷ xs) ≡ sets_in xs + sets_in (x ∷ [])
 sets_first x xs = one_first (is_set x) (sets_in xs)
+
+-- The same, from an index on.
+pub sets_from : (xs : List Effect) (i : ℕ) (x : Effect) → x ≡ get_or xs i x → i < length xs
+    → sets_in (drop i xs) ≡ sets_in (drop (i + 1) xs) + sets_in (x ∷ [])
+sets_from xs i x is lt = ap sets_in (rest_from xs i x is lt) ∙ sets_first x (drop (i + 1) xs)
 
 pub connects_first : (x : Effect) (xs : List Effect) → connects_in (x ∷ xs) ≡ connects_in xs + connects_in (x ∷ [])
 connects_first x xs = one_first (is_connect x) (connects_in xs)
