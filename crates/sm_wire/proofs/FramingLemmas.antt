@@ -264,17 +264,6 @@ module _ (kind : Kind) where
       let l = never_leads m [] (drop start bytes) (λ h. refl) ends in
       (rw (← far.rest) l.scan, rw (← far.whole, l.items) is)
 
-  -- The loop ends with the bytes.
-  pub far_all : (m first : FrameState) (bytes : List ℕ) (start : ℕ) (old new : List Item) → drop start bytes ≡ []
-      → Far kind m first bytes start old new
-      → (scan_after (record { kind = kind; mode = first; held = [] }) bytes ≡ record {
-        kind = kind;
-        mode = m;
-        held = drop start bytes;
-      }) × (new ≡ old ++ items_after (record { kind = kind; mode = first; held = [] }) bytes)
-  far_all m first bytes start old new none far =
-      (rw (← far.rest, none) refl, rw (← far.whole, none, append-nil new) refl)
-
   -- A piece that ends what is held, and what the rest of it leads to.
   pub piece_ends : (m n last : FrameState) (held piece : List ℕ) (k start : ℕ) (old mid new : List Item)
       → EndsAs m (length held) piece (At k) → Makes (whole_step kind m (held ++ take k piece)) kind n [] old mid

@@ -66,21 +66,6 @@ pub fn cut(
     Ok(Remainder { mode, start })
 }
 
-/// Appends the item that is these bytes, and says what is read next.
-pub fn lone_item(
-    kind: Kind,
-    mode: FrameState,
-    bytes: &[u8],
-    recent: &mut RecentNames,
-    items: &mut VecDeque<Item>,
-) -> Result<FrameState, AllocError>
-    requires { IsWhole mode bytes.now }
-    ensures item { IfOk result (λ m. Makes (whole_step kind mode bytes.now) kind m [] items.old.items items.new.items) }
-    ensures err { OnErr result (items.new.items ≡ items.old.items) }
-{
-    whole_item(kind, mode, bytes, recent, items)
-}
-
 /// Reports a line that is too long, once.
 pub fn end_stream(mode: FrameState, items: &mut VecDeque<Item>) -> Result<(), AllocError>
     ensures item { OnOk result (items.new.items ≡ items.old.items ++ never_items mode) }
@@ -95,9 +80,9 @@ pub fn end_stream(mode: FrameState, items: &mut VecDeque<Item>) -> Result<(), Al
     }
 }
 
-// Returns the item that is these bytes.
+/// Appends the item that is these bytes, and says what is read next.
 #[tactic(auto, unfolding(crate::specs::Ends::whole_step))]
-fn whole_item(
+pub fn whole_item(
     kind: Kind,
     mode: FrameState,
     bytes: &[u8],

@@ -8,7 +8,7 @@ ghost use Rattle.sm_wire.specs.declared.ends.End.TheVariants.{At};
 
 use crate::ends::{End, item_end};
 use crate::frame_state::FrameState;
-use crate::framing::{Remainder, cut, end_stream, lone_item};
+use crate::framing::{Remainder, cut, end_stream, whole_item};
 use crate::item::Item;
 use crate::kind::Kind;
 use crate::recent_names::RecentNames;
@@ -172,7 +172,7 @@ impl LineReader {
         let held = self.held.len();
         self.held.extend_from_slice(&piece[..n])?;
         let recent = &mut self.recent;
-        let mode = lone_item(self.kind, self.mode, &self.held, recent, items)?;
+        let mode = whole_item(self.kind, self.mode, &self.held, recent, items)?;
         let Remainder { mode, start } = cut(self.kind, mode, &piece[n..], recent, items)?;
         self.held.extend_from_slice(&piece[n + start..])?;
         drop_front(&mut self.held, held + n);
