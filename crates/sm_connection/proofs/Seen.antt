@@ -5,7 +5,7 @@ use Rattle.sm_wire.specs.declared.item.Item.{Item}
 use Rattle.sm_wire.specs.declared.kind.Kind.{Kind}
 use Rattle.sm_engine.specs.declared.fault.Fault.{Fault}
 use Rattle.sm_engine.specs.declared.fault.Fault.TheVariants.{ReadFault, WriteFault, TooManyReads, LineTooLong, Memory}
-use Rattle.sm_engine.specs.Running.{Runs, Wrote, CaughtUp, Stopped, Ended, AnswersAll, StopsEarly, Fronts}
+use Rattle.sm_engine.specs.Running.{Runs, Wrote, CaughtUp, Stopped, LastRead, Ended, AnswersAll, Fronts}
 use Rattle.sm_engine.specs.Running.{ByResult}
 use Rattle.sm_wire.specs.declared.item.Item.TheVariants as items
 use Rattle.sm_session.specs.declared.response.Response.{Response}
@@ -104,34 +104,30 @@ module _ {D S : Type 0} (f : D → S) (under : D → Item → Response → D →
     audited = p.audited;
   }
 
+  -- What holds of the items of the last read is seen by what is seen of them.
+  last_read_seen : (kind : Kind) (reads : ℕ) (old : SessionState D) (bytes : List ℕ) (w a : Option (List ℕ))
+      (P : SessionState D → List Item → Option (List ℕ) → Option (List ℕ) → Type 0)
+      (Q : SessionState S → List Item → Option (List ℕ) → Option (List ℕ) → Type 0)
+      → ((middle : SessionState D) (items : List Item) (u v : Option (List ℕ)) → P middle items u v
+      → Q (shown middle) items u v)
+      → LastRead kind (AnswersItem under) is_over reads old bytes w a P
+      → LastRead kind (AnswersItem answers) is_over reads (shown old) bytes w a Q
+  last_read_seen kind reads old bytes w a P Q seen p = record {
+    earlier = p.earlier;
+    piece = p.piece;
+    joined = p.joined;
+    middle = shown p.middle;
+    w_middle = p.w_middle;
+    a_middle = p.a_middle;
+    before = caught_up_seen kind (reads - 1) old p.earlier w p.w_middle a p.a_middle p.middle p.before;
+    takes = seen p.middle _ p.w_middle p.a_middle p.takes;
+  }
+
   all_seen : (kind : Kind) (reads : ℕ) (old : SessionState D) (bytes : List ℕ) (w w_new a a_new : Option (List ℕ))
       (new : SessionState D) → AnswersAll kind (AnswersItem under) is_over reads old bytes w w_new a a_new new
       → AnswersAll kind (AnswersItem answers) is_over reads (shown old) bytes w w_new a a_new (shown new)
-  all_seen kind reads old bytes w w_new a a_new new p = record {
-    earlier = p.earlier;
-    piece = p.piece;
-    joined = p.joined;
-    middle = shown p.middle;
-    w_middle = p.w_middle;
-    a_middle = p.a_middle;
-    before = caught_up_seen kind (reads - 1) old p.earlier w p.w_middle a p.a_middle p.middle p.before;
-    takes = wrote_seen p.middle _ p.w_middle w_new p.a_middle a_new new p.takes;
-  }
-
-  early_seen : (kind : Kind) (limit reads : ℕ) (old : SessionState D) (bytes : List ℕ)
-      (w w_new a a_new : Option (List ℕ)) (new : SessionState D)
-      → StopsEarly kind (AnswersItem under) is_over limit reads old bytes w w_new a a_new new
-      → StopsEarly kind (AnswersItem answers) is_over limit reads (shown old) bytes w w_new a a_new (shown new)
-  early_seen kind limit reads old bytes w w_new a a_new new p = record {
-    earlier = p.earlier;
-    piece = p.piece;
-    joined = p.joined;
-    middle = shown p.middle;
-    w_middle = p.w_middle;
-    a_middle = p.a_middle;
-    before = caught_up_seen kind (reads - 1) old p.earlier w p.w_middle a p.a_middle p.middle p.before;
-    takes = stopped_seen limit p.middle _ p.w_middle w_new p.a_middle a_new new p.takes;
-  }
+  all_seen kind reads old bytes w w_new a a_new new =
+      last_read_seen kind reads old bytes w a _ _ (λ middle items u v. wrote_seen middle items u w_new v a_new new)
 
   ended_seen : (kind : Kind) (reads : ℕ) (old : SessionState D) (bytes : List ℕ) (w w_new a a_new : Option (List ℕ))
       (ending : List ℕ) (new : SessionState D)
@@ -148,7 +144,8 @@ module _ {D S : Type 0} (f : D → S) (under : D → Item → Response → D →
       → Fronts kind (AnswersItem under) is_over limit reads old bytes w w_new a a_new new
       → Fronts kind (AnswersItem answers) is_over limit reads (shown old) bytes w w_new a a_new (shown new)
   fronts_seen kind limit reads old bytes w w_new a a_new new (inl p) =
-      inl (early_seen kind limit reads old bytes w w_new a a_new new p)
+      inl (last_read_seen kind reads old bytes w a _ _
+      (λ middle items u v. stopped_seen limit middle items u w_new v a_new new) p)
   fronts_seen kind limit reads old bytes w w_new a a_new new (inr p) =
       inr (p.0, ended_seen kind reads old bytes w w_new a a_new _ new p.1)
 
