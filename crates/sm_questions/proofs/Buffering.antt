@@ -143,5 +143,9 @@ passes_front {a} {b} {held} {lines} c n p q =
     front a c (p.written ++ take n held) (drop n held) lines (Appends-trans a b c _ _ p.appended q)
     (rw (append_assoc, take-append-drop n held) p.joined)
 
+pub passes_whole : {a b : Option (List ℕ)} {held lines : List ℕ} (c : Option (List ℕ)) → Passes a b [] held lines
+    → Appends b c held → Appends a c lines
+passes_whole {a} {b} {held} {lines} c p q = rw p.joined (Appends-trans a b c p.written held p.appended q)
+
 pub stops_end : {a b : Option (List ℕ)} {lines : List ℕ} → Stops a b [] lines → (n : ℕ) × Appends a b (take n lines)
 stops_end {a} {b} {lines} p = front a b p.written p.missing lines p.appended p.joined

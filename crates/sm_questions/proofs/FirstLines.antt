@@ -1,19 +1,22 @@
 -- The lines of the first rules in a table.
-use Rattle.std.proofs.Common.{◌≡◌, ℕ, ◌+◌, ◌*◌, ◌<◌, ◌≤◌, Bool, true, false, List, [], ◌∷◌, ◌++◌, length, take}
-use Rattle.std.proofs.Common.{get_or, refl, sym, ap, ◌∙◌, Option, Some, None, All, slice_get}
+use Rattle.std.proofs.Common.{◌≡◌, ℕ, ◌+◌, ◌<◌, ◌≤◌, Bool, true, false, List, [], ◌∷◌, ◌++◌, length, take}
+use Rattle.std.proofs.Common.{get_or, refl, sym, ap, ◌∙◌, Option, Some, None, All, slice_get, arith}
 use Rattle.std.specs.Prelude.{find, option_map, if◌then◌else◌}
 use Rattle.std.specs.Option.{option_or}
+use Rattle.std.proofs.lemmas.Bool.{ne_eqb}
 use Rattle.std.proofs.lemmas.List.{take_all, take_more}
 use Rattle.std.proofs.lemmas.List.Elements.{All-push, filter_map-append}
 use Rattle.std.proofs.lemmas.List.Folds.{find-append}
 use Rattle.std.proofs.lemmas.Option.{slice_get_read}
 use Rattle.sm_bits.specs.Bits.{has}
 use Rattle.sm_types.specs.Denoting.{types}
-use Rattle.sm_rules.specs.Keeping.{KeptRules, RulesOf, covered_line, covers, class_at, perm_at}
+use Rattle.sm_rules.specs.Keeping.{covered_line, covers, class_at, perm_at}
 use Rattle.sm_rules.proofs.Lines.{written_is}
 use Rattle.sm_rules.specs.declared.kept.Kept.{Kept}
 use Rattle.sm_policy.specs.Policy.{Policy, written_at}
-use Rattle.sm_questions.specs.FirstLines.{AreNear, HasLines, kept_line, line_in, rules_at}
+use Rattle.sm_questions.specs.declared.filtering.Filter.{Filter}
+use Rattle.sm_questions.specs.declared.first_lines.LineTable.{LineTable}
+use Rattle.sm_questions.specs.FirstLines.{AreNear, HasFound, HasPair, IsAsked, IsTable, kept_line, line_in, rules_at}
 
 map_or : (found : Option Kept) (p : Bool) (r : Kept)
     → option_map (λ k. k.line) (option_or found (if p then Some r else None))
@@ -93,15 +96,63 @@ near_all rules k from to near all first = record {
   line = λ b s t low high. first.line b s t low high ∙ ap (λ l. covered_line l b s t) (take_all k rules all);
 }
 
+first_any : (xs : List ℕ) (d : ℕ) → length xs ≡ 1 → get_or xs 0 d ≡ get_or xs 0 0
+first_any [] d one = cc
+first_any (x ∷ xs) d one = refl
+
+-- The lines of all sources for a single target.
+pub single_found : (lines : List (Option ℕ)) (rules : List Kept) (targets : List ℕ) → length targets ≡ 1
+    → ((b s : ℕ) → b < 7 → line_in lines b s ≡ covered_line rules b s (get_or targets 0 0))
+    → (s : ℕ) → HasFound lines rules targets s
+single_found lines rules targets one found s k d inside b low =
+    let first : k ≡ 0 = omega (arith, one, inside) in
+    rw (one, first, first_any targets d one) (found b s low)
+
+-- The lines of a source for several targets.
+pub others_found : (lines : List (Option ℕ)) (rules : List Kept) (targets : List ℕ) (s : ℕ) → (length targets ≡ 1 → ⊥)
+    → ((b t : ℕ) → b < 7 → line_in lines b t ≡ covered_line rules b s t) → HasFound lines rules targets s
+others_found lines rules targets s several found k d inside b low =
+    rw (ne_eqb (length targets) 1 several) (found b (get_or targets k d) low)
+
+pub none_near : (rules : List Kept) (near : List ℕ) → near ≡ [] → AreNear rules 0 0 near
+none_near rules near none = record {
+  inside = rw none (λ k d lt. absurd (omega (arith, lt)));
+  line = λ b s t low high. absurd (omega (arith, high));
+}
+
+-- The table of several targets holds other lines.
+pub table_again : (old new : LineTable) → IsTable old → (length old.targets.now ≡ 1 → ⊥)
+    → new.rules.now ≡ old.rules.now → new.targets.now ≡ old.targets.now
+    → length new.lines.items ≡ length old.lines.items
+    → AreNear old.rules.now.allows new.from new.to new.near.items → IsTable new
+table_again old new is several rules targets room near = record {
+  room = rw rules (room ∙ is.room);
+  inside = rw (rules, targets) is.inside;
+  near = rw rules near;
+  single = λ one. absurd (several (rw targets at one));
+}
+
 -- What is found for the kept rules are the lines of the policy's rules.
-pub has_lines : (policy : Policy) (rules : KeptRules) (s : ℕ) (lines : List (Option ℕ))
-    → RulesOf policy.statements (types policy.statements) rules → s < length (types policy.statements)
-    → length lines ≡ 7 * rules.count
-    → ((b t : ℕ) → b < 7 → line_in lines b t ≡ covered_line rules.allows b s t) → HasLines policy s lines
+pub has_pairs : (policy : Policy) (filter : Filter) (table : LineTable) (s : ℕ) → IsAsked policy filter table
+    → s < length (types policy.statements)
+    → HasFound table.lines.items table.rules.now.allows table.targets.now s
+    → All (HasPair policy table s) table.targets.now
 unfolding written_at
-has_lines policy rules s lines of lt room found = record {
-  room = room ∙ ap (λ n. 7 * n) of.count;
-  line = λ b t low inside. found b t low
-      ∙ written_is policy.statements (types policy.statements) rules b s t (class_at b) (perm_at b) of lt inside
-      (low, refl, refl);
+has_pairs policy filter table s asked lt found k d inside = record {
+  source = lt;
+  target = asked.targets.inside k d inside;
+  room = asked.is.room;
+  count = asked.rules.count;
+  line = λ b low. found k d inside b low
+      ∙ written_is policy.statements (types policy.statements) table.rules.now b s (get_or table.targets.now k d) (class_at b)
+      (perm_at b) asked.rules lt (asked.targets.inside k d inside) (low, refl, refl);
+}
+
+-- It stays a table for the targets that are asked for.
+pub asked_again : (policy : Policy) (filter : Filter) (old new : LineTable) → IsAsked policy filter old
+    → new.rules.now ≡ old.rules.now → new.targets.now ≡ old.targets.now → IsTable new → IsAsked policy filter new
+asked_again policy filter old new asked rules targets is = record {
+  rules = rw rules asked.rules;
+  targets = rw targets asked.targets;
+  is = is;
 }

@@ -1,5 +1,5 @@
 -- Two types without a permission have no lines.
-use Rattle.std.proofs.Common.{◌≡◌, ◌∙◌, ℕ, ◌<◌, List, [], Option, Some, None, IfSome, true, false, nat_eq, get_or, length}
+use Rattle.std.proofs.Common.{◌≡◌, ◌∙◌, ◌&&◌, ℕ, ◌<◌, List, [], Option, Some, None, IfSome, true, false, nat_eq, get_or, length}
 use Rattle.std.proofs.Common.{map, refl, sym, inl, inr, arith}
 use Rattle.std.specs.List.{flat_map}
 use Rattle.std.proofs.lemmas.List.{get_or-map}
@@ -11,7 +11,7 @@ use Rattle.sm_policy.specs.Policy.{Policy, allowed, type_index}
 use Rattle.sm_policy.proofs.Looking.{named}
 use Rattle.sm_types.specs.Names.{at}
 use Rattle.sm_types.specs.Denoting.{types}
-use Rattle.sm_questions.specs.Accesses.{perm_lines, pair_lines, perm_numbers}
+use Rattle.sm_questions.specs.Accesses.{access_line, perm_lines, pair_lines, perm_numbers}
 use Rattle.sm_questions.specs.Differences.{is_lost, lost_pair, lost_perm}
 use Rattle.sm_questions.specs.Granted.{IsGranted, IsRow, byte_for, is_kept}
 
@@ -35,6 +35,17 @@ no_lines f none =
       none 5 (omega arith),
       none 6 (omega arith),
     ) refl
+
+-- A permission that is asked for and granted has a line.
+pub listed : (policy : Policy) (granted wanted : ℕ) (s t : List ℕ) (b : ℕ) → b < 7 → IsGranted policy granted s t
+    → (has_bit wanted b && has_bit granted b) ≡ true → perm_lines policy wanted s t b ≡ access_line policy s t b
+unfolding perm_lines
+listed policy granted wanted s t b lt is both = rw (← is b lt, both) refl
+
+pub unlisted : (policy : Policy) (granted wanted : ℕ) (s t : List ℕ) (b : ℕ) → b < 7 → IsGranted policy granted s t
+    → (has_bit wanted b && has_bit granted b) ≡ false → perm_lines policy wanted s t b ≡ []
+unfolding perm_lines
+unlisted policy granted wanted s t b lt is other = rw (← is b lt, other) refl
 
 pub no_pair : (policy : Policy) (granted wanted : ℕ) (s t : List ℕ) → granted ≡ 0 → IsGranted policy granted s t
     → pair_lines policy wanted s t ≡ []

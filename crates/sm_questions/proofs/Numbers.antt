@@ -8,7 +8,7 @@ use Rattle.std.proofs.lemmas.List.Elements.{All-push, filter_more}
 use Rattle.std.proofs.lemmas.List.Folds.{flat_map-map}
 use Rattle.sm_types.specs.Names.{Name, at}
 use Rattle.sm_questions.specs.Accesses.{is_left}
-use Rattle.sm_questions.specs.Numbers.{AreAsked}
+use Rattle.sm_questions.specs.FirstLines.{AreAsked}
 
 flat_one : {A : Type 0} (b : Bool) (x : A) (f : A → List ℕ) (rest : List ℕ) (zs : List A) → rest ≡ flat_map f zs
     → (if b then f x else []) ++ rest ≡ flat_map f (cond b (x ∷ zs) zs)

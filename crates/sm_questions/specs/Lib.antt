@@ -7,7 +7,6 @@ pub mod FirstLines
 pub mod Granted
 pub mod Keys
 pub mod Labels
-pub mod Numbers
 pub mod Parts
 pub mod Relabelled
 pub mod Runs

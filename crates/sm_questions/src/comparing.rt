@@ -55,31 +55,6 @@ fn put_part<W: Write>(
     Ok(any)
 }
 
-/// Writes the lines of all parts, and holds the last ones. Returns whether there are any.
-fn put_parts<W: Write>(
-    alloc: Global,
-    old: &PolicyTables,
-    new: &PolicyTables,
-    writer: &mut Counted<W>,
-    held: &mut Vec<u8>,
-) -> Result<bool, Fault>
-    requires { failures_of writer.old < greatest_count }
-    ensures ok { OnOk result (Passes (W.contents (inner_of writer.old)) (W.contents (inner_of writer.new))
-        held.old.items held.new.items (spec.differences old.now new.now)) }
-    ensures any { IfOk result (λ any. any ≡ is_any (spec.differences old.now new.now)) }
-    ensures count { OnOk result (failures_of writer.new ≡ failures_of writer.old) }
-    ensures stopped { OnErr result (Stops (W.contents (inner_of writer.old)) (W.contents (inner_of writer.new))
-        held.old.items (spec.differences old.now new.now)) }
-    ensures fault { IfErr result (λ e. Fails e (failures_of writer.old) (failures_of writer.new)) }
-{
-    let mut any = false;
-    for part in &PARTS {
-        let more = put_part(alloc, *part, old, new, writer, held)?;
-        any = either(any, more);
-    }
-    Ok(any)
-}
-
 /// Writes what differs between two policies, and returns whether nothing does. Types are compared by their names.
 ///
 /// Accesses come first: `- SOURCE TARGET CLASS PERM` if only the old policy allows it, and the same with `+` if only the
@@ -107,7 +82,11 @@ pub fn diff<W: Write>(
     ensures write_told { failures_of writer.old < failures_of writer.new → result ≡ Err Fault.WriteFault }
 {
     let mut held = Vec::new(alloc);
-    let any = put_parts(alloc, old, new, writer, &mut held)?;
+    let mut any = false;
+    for part in &PARTS {
+        let more = put_part(alloc, *part, old, new, writer, &mut held)?;
+        any = either(any, more);
+    }
     write_whole(writer, &held)?;
     Ok(!any)
 }

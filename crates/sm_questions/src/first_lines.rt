@@ -1,12 +1,12 @@
-//! For one source, the line of the first allow rule that grants it each permission on each target.
+//! The line of the first allow rule that grants a source each permission on each target.
 
 ghost use Rattle.std.proofs.Common.{get_or};
-ghost use Rattle.std.specs.Prelude.{◌≡◌, ◌<◌, ◌≤◌, ◌+◌, ◌*◌, ◌&&◌, ℕ, All, IfOk, None, OnOk, false, length, nat_eq};
+ghost use Rattle.std.specs.Prelude.{◌≡◌, ◌<◌, ◌≤◌, ◌+◌, ◌*◌, ◌/◌, ◌&&◌, ℕ, All, IfOk, None, OnOk, false, length, nat_eq};
 ghost use Rattle.sm_bits.specs.Bits.{has, has_bit};
 ghost use Rattle.sm_rules.specs.Keeping.{FitsRule, covered_line, covers};
-ghost use Rattle.sm_questions.specs.FirstLines.{AreNear, IsTable, kept_line, line_in, rules_at};
+ghost use Rattle.sm_questions.specs.FirstLines.{AreNear, HasFound, IsTable, kept_line, line_in, place_in, rules_at};
 
-use sm_bits::has_bit;
+use sm_bits::{SharedSet, has_bit};
 use sm_rules::{Kept, PERM_COUNT, Rules};
 use sm_types::TypeCount;
 use std::alloc::{AllocError, Global};
@@ -25,37 +25,38 @@ fn keep_line(lines: &mut [Option<u32>], i: usize, line: u32)
     }
 }
 
-/// Keeps the line of a rule at each permission that it grants on a target, unless an earlier rule grants it.
-fn keep_target(lines: &mut [Option<u32>], rule: &Kept, target: usize)
-    requires { 7 * target + 7 ≤ length lines.old }
+/// Keeps the line of a rule at each permission that it grants, for one type, unless an earlier rule grants it.
+fn keep_type(lines: &mut [Option<u32>], rule: &Kept, number: usize)
+    requires { 7 * number + 7 ≤ length lines.old }
     ensures room { length lines.new ≡ length lines.old }
     ensures kept { (b t : ℕ) → b < 7 → line_in lines.new b t
-        ≡ kept_line (nat_eq t target && has_bit rule.now.perms.0 b) rule.now.line (line_in lines.old b t) }
+        ≡ kept_line (nat_eq t number && has_bit rule.now.perms.0 b) rule.now.line (line_in lines.old b t) }
 {
     for bit in 0..PERM_COUNT {
         if has_bit(rule.perms.0, bit) {
-            keep_line(lines, 7 * target + bit as usize, rule.line);
+            keep_line(lines, 7 * number + bit as usize, rule.line);
         }
     }
 }
 
-/// Keeps the line of a rule for all targets that it names.
-fn keep_targets(lines: &mut [Option<u32>], rule: &Kept, count: TypeCount)
+/// Keeps the line of a rule for all types of a set.
+fn keep_types(lines: &mut [Option<u32>], rule: &Kept, set: &SharedSet, count: TypeCount)
     requires room { length lines.old ≡ 7 * count }
-    requires fits { FitsRule count rule.now }
+    requires set { length set.now ≡ count / 64 + 1 }
+    requires past { (i : ℕ) → count ≤ i → has set.now i ≡ false }
     ensures room { length lines.new ≡ length lines.old }
     ensures kept { (b t : ℕ) → b < 7 → line_in lines.new b t
-        ≡ kept_line (has rule.now.targets t && has_bit rule.now.perms.0 b) rule.now.line (line_in lines.old b t) }
+        ≡ kept_line (has set.now t && has_bit rule.now.perms.0 b) rule.now.line (line_in lines.old b t) }
 {
     let mut from = 0;
-    while let Some(target) = rule.targets.next(from) {
-        keep_target(lines, rule, target);
-        from = target + 1;
+    while let Some(number) = set.next(from) {
+        keep_type(lines, rule, number);
+        from = number + 1;
     }
 }
 
 /// Keeps the line of a rule for all targets on which it grants the source a permission.
-fn keep_rule(lines: &mut [Option<u32>], rule: &Kept, count: TypeCount, source: usize)
+fn keep_of_source(lines: &mut [Option<u32>], rule: &Kept, count: TypeCount, source: usize)
     requires room { length lines.old ≡ 7 * count }
     requires fits { FitsRule count rule.now }
     requires source { source < count }
@@ -66,9 +67,25 @@ fn keep_rule(lines: &mut [Option<u32>], rule: &Kept, count: TypeCount, source: u
     if !rule.sources.has(source) {
         return;
     }
-    keep_targets(lines, rule, count);
+    keep_types(lines, rule, &rule.targets, count);
     if rule.to_self {
-        keep_target(lines, rule, source);
+        keep_type(lines, rule, source);
+    }
+}
+
+/// Keeps the line of a rule for all sources that it grants a permission on the target.
+fn keep_of_target(lines: &mut [Option<u32>], rule: &Kept, count: TypeCount, target: usize)
+    requires room { length lines.old ≡ 7 * count }
+    requires fits { FitsRule count rule.now }
+    requires target { target < count }
+    ensures room { length lines.new ≡ length lines.old }
+    ensures kept { (b s : ℕ) → b < 7 → line_in lines.new b s
+        ≡ kept_line (covers b s target rule.now) rule.now.line (line_in lines.old b s) }
+{
+    if rule.targets.has(target) {
+        keep_types(lines, rule, &rule.sources, count);
+    } else if rule.to_self && rule.sources.has(target) {
+        keep_type(lines, rule, target);
     }
 }
 
@@ -99,8 +116,42 @@ fn find_lines(
 {
     clear(lines);
     for index in near {
-        keep_rule(lines, &rules[*index], count, source);
+        keep_of_source(lines, &rules[*index], count, source);
     }
+}
+
+/// Finds the lines of all sources for one target.
+fn find_sources(lines: &mut [Option<u32>], rules: &[Kept], count: TypeCount, target: usize)
+    requires room { length lines.old ≡ 7 * count }
+    requires fits { All (FitsRule count) rules.now }
+    requires target { target < count }
+    ensures room { length lines.new ≡ length lines.old }
+    ensures found { (b s : ℕ) → b < 7 → line_in lines.new b s ≡ covered_line rules.now b s target }
+{
+    clear(lines);
+    for rule in rules {
+        keep_of_target(lines, rule, count, target);
+    }
+}
+
+/// Returns the lines that a table begins with: of all sources for a single target, otherwise none.
+fn first_lines(
+    alloc: Global,
+    rules: &Rules,
+    targets: &[u16],
+) -> Result<Vec<Option<u32>>, AllocError>
+    requires { All (λ t. t < rules.now.count) targets.now }
+    ensures room { IfOk result (λ l. length l.items ≡ 7 * rules.now.count) }
+    ensures found { IfOk result (λ l. length targets.now ≡ 1 → (b s : ℕ) → b < 7
+        → line_in l.items b s ≡ covered_line rules.now.allows b s (get_or targets.now 0 0)) }
+{
+    let count = rules.type_count();
+    let mut lines = vec![in alloc; None; 7 * count.get()]?;
+    if targets.len() != 1 {
+        return Ok(lines);
+    }
+    find_sources(&mut lines, rules.allows(), count, usize::from(targets[0]));
+    Ok(lines)
 }
 
 /// Returns whether a rule may have a source of the block.
@@ -134,10 +185,14 @@ fn gather(
     Ok(())
 }
 
-/// Lines of the first allow rules, seven for each target, one for each permission.
+/// Lines of the first allow rules, seven for each type, one for each permission.
 ///
-/// The sources are taken in blocks, and of all rules only those are looked at that have a source of the block.
-pub struct LineTable {
+/// If there is only one target, they are those of all sources for it. Otherwise they are those of one source for all
+/// targets: the sources are then taken in blocks, and of all rules only those are looked at that have a source of the
+/// block.
+pub struct LineTable<'a> {
+    rules: &'a Rules,
+    targets: &'a [u16],
     /// The indexes of the rules that have a source of the block.
     near: Vec<usize>,
     /// The number of the first source of the block.
@@ -147,9 +202,11 @@ pub struct LineTable {
     lines: Vec<Option<u32>>,
 }
 
-impl Drop for LineTable {
+impl<'a> Drop for LineTable<'a> {
     fn drop(self) {
         let LineTable {
+            rules: _,
+            targets: _,
             near: _,
             from: _,
             to: _,
@@ -158,13 +215,22 @@ impl Drop for LineTable {
     }
 }
 
-impl LineTable {
-    /// Returns a table without lines.
-    pub fn new(alloc: Global, rules: &Rules) -> Result<LineTable, AllocError>
-        ensures { IfOk result (IsTable rules.now) }
+impl<'a> LineTable<'a> {
+    /// Returns a table for the targets of these numbers.
+    pub fn new(
+        alloc: Global,
+        rules: &'a Rules,
+        targets: &'a [u16],
+    ) -> Result<LineTable<'a>, AllocError>
+        requires { All (λ t. t < rules.now.count) targets.now }
+        ensures table { IfOk result (λ t. IsTable t) }
+        ensures rules { IfOk result (λ t. t.rules.now ≡ rules.now) }
+        ensures targets { IfOk result (λ t. t.targets.now ≡ targets.now) }
     {
-        let lines = vec![in alloc; None; 7 * rules.type_count().get()]?;
+        let lines = first_lines(alloc, rules, targets)?;
         Ok(LineTable {
+            rules,
+            targets,
             near: Vec::new(alloc),
             from: 0,
             to: 0,
@@ -173,46 +239,81 @@ impl LineTable {
     }
 
     /// Makes the block that of the source.
-    fn come_near(
-        &mut self,
-        rules: &[Kept],
-        count: TypeCount,
-        source: usize,
-    ) -> Result<(), AllocError>
-        requires fits { All (FitsRule count) rules.now }
-        requires source { source < count }
-        requires near { AreNear rules.now self.old.from self.old.to self.old.near.items }
-        ensures near { OnOk result (AreNear rules.now self.new.from self.new.to self.new.near.items) }
+    fn come_near(&mut self, source: usize) -> Result<(), AllocError>
+        requires source { source < self.old.rules.now.count }
+        requires near { AreNear self.old.rules.now.allows self.old.from self.old.to self.old.near.items }
+        ensures near { OnOk result (AreNear self.old.rules.now.allows self.new.from self.new.to self.new.near.items) }
         ensures there { OnOk result ((self.new.from ≤ source) × (source < self.new.to)) }
-        ensures lines { OnOk result (self.new.lines.items ≡ self.old.lines.items) }
+        ensures rules { self.new.rules.now ≡ self.old.rules.now }
+        ensures targets { self.new.targets.now ≡ self.old.targets.now }
+        ensures lines { self.new.lines.items ≡ self.old.lines.items }
     {
         if self.from <= source && source < self.to {
             return Ok(());
         }
+        let count = self.rules.type_count();
+        let allows = self.rules.allows();
         self.from = source - source % BLOCK;
         self.to = self.from + BLOCK;
-        gather(&mut self.near, rules, count, self.from, self.to)
+        gather(&mut self.near, allows, count, self.from, self.to)
     }
 
-    /// Finds the lines of a source.
-    pub fn find(&mut self, rules: &Rules, source: usize) -> Result<(), AllocError>
-        requires table { IsTable rules.now self.old }
-        requires source { source < rules.now.count }
-        ensures table { OnOk result (IsTable rules.now self.new) }
+    /// Finds the lines of a source for all types.
+    fn find_all(&mut self, source: usize) -> Result<(), AllocError>
+        requires source { source < self.old.rules.now.count }
+        requires room { length self.old.lines.items ≡ 7 * self.old.rules.now.count }
+        requires near { AreNear self.old.rules.now.allows self.old.from self.old.to self.old.near.items }
+        ensures near { OnOk result (AreNear self.old.rules.now.allows self.new.from self.new.to self.new.near.items) }
+        ensures room { OnOk result (length self.new.lines.items ≡ length self.old.lines.items) }
         ensures found { OnOk result ((b t : ℕ) → b < 7
-            → line_in self.new.lines.items b t ≡ covered_line rules.now.allows b source t) }
+            → line_in self.new.lines.items b t ≡ covered_line self.old.rules.now.allows b source t) }
+        ensures rules { self.new.rules.now ≡ self.old.rules.now }
+        ensures targets { self.new.targets.now ≡ self.old.targets.now }
     {
-        let count = rules.type_count();
-        let allows = rules.allows();
-        self.come_near(allows, count, source)?;
+        let count = self.rules.type_count();
+        let allows = self.rules.allows();
+        self.come_near(source)?;
         find_lines(&mut self.lines, allows, &self.near, count, source);
         Ok(())
     }
 
-    /// Returns the lines.
-    pub fn lines(&self) -> &[Option<u32>]
-        ensures { result.now ≡ self.now.lines.items }
+    /// Finds the lines of a source.
+    pub fn find(&mut self, source: usize) -> Result<(), AllocError>
+        requires table { IsTable self.old }
+        requires source { source < self.old.rules.now.count }
+        ensures table { OnOk result (IsTable self.new) }
+        ensures found { OnOk result
+            (HasFound self.new.lines.items self.old.rules.now.allows self.old.targets.now source) }
+        ensures rules { self.new.rules.now ≡ self.old.rules.now }
+        ensures targets { self.new.targets.now ≡ self.old.targets.now }
     {
-        &self.lines
+        if self.targets.len() == 1 {
+            return Ok(());
+        }
+        self.find_all(source)?;
+        Ok(())
+    }
+
+    /// Returns the numbers of the targets.
+    pub fn targets(&self) -> &'a [u16]
+        ensures { result.now ≡ self.now.targets.now }
+    {
+        self.targets
+    }
+
+    /// Returns the line of permission `bit` on two types, of which the source's lines have been found.
+    pub fn line(&self, source: u16, target: u16, bit: u32) -> Option<u32>
+        requires room { length self.now.lines.items ≡ 7 * self.now.rules.now.count }
+        requires bit { bit < 7 }
+        requires source { source < self.now.rules.now.count }
+        requires target { target < self.now.rules.now.count }
+        ensures { result ≡ line_in self.now.lines.items bit (place_in self.now.targets.now source target) }
+    {
+        let place = if self.targets.len() == 1 {
+            source
+        } else {
+            target
+        };
+        self.lines[7 * usize::from(place) + bit as usize]
     }
 }

@@ -1,18 +1,15 @@
 //! The answer to `svcmgr access`.
 
-ghost use Rattle.std.specs.Prelude.{◌≡◌, ◌⊎◌, ◌<◌, ◌++◌, ℕ, IfErr, IfOk, IfSome, OnOk, OnErr, length, take};
+ghost use Rattle.std.specs.Prelude.{◌≡◌, ◌⊎◌, ◌<◌, ◌++◌, ◌&&◌, ℕ, All, IfErr, IfOk, OnOk, OnErr, length, take};
 ghost use Rattle.std.specs.Io.KnownBytes.{Appends};
 ghost use Rattle.sm_engine.specs.Counts.{failures_of, inner_of, greatest_count};
 ghost use Rattle.sm_types.specs.Names.{at};
 ghost use Rattle.sm_types.specs.Denoting.{types};
 ghost use Rattle.sm_bits.specs.Bits.{has_bit};
-ghost use Rattle.sm_rules.specs.Keeping.{RulesOf, class_at, perm_at};
-ghost use Rattle.sm_policy.specs.Policy.{allowed, written_at};
 ghost use Rattle.sm_questions.specs.Accesses as spec;
 ghost use Rattle.sm_questions.specs.Granted.{IsGranted};
 ghost use Rattle.sm_questions.specs.Buffered.{Fails, Passes, Stops};
-ghost use Rattle.sm_questions.specs.FirstLines.{HasLines, IsTable};
-ghost use Rattle.sm_questions.specs.Numbers.{AreAsked};
+ghost use Rattle.sm_questions.specs.FirstLines.{AreAsked, HasPair, IsAsked};
 
 use crate::buffer::write_full;
 use crate::first_lines::LineTable;
@@ -21,7 +18,7 @@ use crate::{Filter, PolicyTables};
 use sm_bits::has_bit;
 use sm_engine::{Counted, Fault, write_whole};
 use sm_kinds::{Perms, Word, push_access, push_numbered, spells};
-use sm_rules::{PERM_COUNT, Rules, class_at, perm_at};
+use sm_rules::{PERM_COUNT, class_at, perm_at};
 use std::alloc::{AllocError, Global};
 use std::io::Write;
 
@@ -61,46 +58,22 @@ fn push_grant(held: &mut Vec<u8>, line: Option<u32>) -> Result<(), AllocError>
     }
 }
 
-/// Returns the line of the first allow rule that grants an access: the one that was found for its source, or else the
-/// one that is found now. `None` if no rule does.
-fn line_of(
-    policy: &PolicyTables,
-    lines: Option<&[Option<u32>]>,
-    source: u16,
-    target: u16,
-    bit: u32,
-) -> Option<u32>
-    requires bit { bit < 7 }
-    requires source { source < length (types policy.now.statements) }
-    requires target { target < length (types policy.now.statements) }
-    requires lines { IfSome lines (λ l. HasLines policy.now source l.now) }
-    ensures { result ≡ written_at policy.now (at (types policy.now.statements) source)
-        (at (types policy.now.statements) target) (class_at bit) (perm_at bit) }
-{
-    match lines {
-        Some(lines) => lines[7 * usize::from(target) + bit as usize],
-        None => policy.written(source, target, bit),
-    }
-}
-
 /// Appends `SOURCE TARGET CLASS PERM LINE`.
 #[tactic(auto, unfolding(crate::specs::Accesses::access_line))]
 fn push_line(
     policy: &PolicyTables,
-    lines: Option<&[Option<u32>]>,
+    table: &LineTable<'_>,
     source: u16,
     target: u16,
     bit: u32,
     held: &mut Vec<u8>,
 ) -> Result<(), AllocError>
     requires bit { bit < 7 }
-    requires source { source < length (types policy.now.statements) }
-    requires target { target < length (types policy.now.statements) }
-    requires lines { IfSome lines (λ l. HasLines policy.now source l.now) }
+    requires table { HasPair policy.now table.now source target }
     ensures { OnOk result (held.new.items ≡ held.old.items ++ spec.access_line policy.now
         (at (types policy.now.statements) source) (at (types policy.now.statements) target) bit) }
 {
-    let line = line_of(policy, lines, source, target, bit);
+    let line = table.line(source, target, bit);
     let from = policy.type_name(source);
     let to = policy.type_name(target);
     push_access(held, from, to, class_at(bit), perm_at(bit))?;
@@ -108,39 +81,18 @@ fn push_line(
     held.extend_from_slice(b"\n")
 }
 
-/// Appends the line for a permission, if it is asked for and granted.
-#[tactic(auto, unfolding(crate::specs::Accesses::perm_lines))]
-fn push_perm(
-    policy: &PolicyTables,
-    lines: Option<&[Option<u32>]>,
-    wanted: Perms,
-    granted: u8,
-    source: u16,
-    target: u16,
-    bit: u32,
-    held: &mut Vec<u8>,
-) -> Result<(), AllocError>
-    requires bit { bit < 7 }
-    requires granted { has_bit granted bit ≡ allowed policy.now (at (types policy.now.statements) source)
-        (at (types policy.now.statements) target) (class_at bit) (perm_at bit) }
-    requires source { source < length (types policy.now.statements) }
-    requires target { target < length (types policy.now.statements) }
-    requires lines { IfSome lines (λ l. HasLines policy.now source l.now) }
-    ensures { OnOk result (held.new.items ≡ held.old.items ++ spec.perm_lines policy.now wanted.0
-        (at (types policy.now.statements) source) (at (types policy.now.statements) target) bit) }
+fn is_listed(wanted: Perms, granted: u8, bit: u32) -> bool
+    requires { bit < 7 }
+    ensures { result ≡ (has_bit wanted.0 bit && has_bit granted bit) }
 {
-    if has_bit(wanted.0, bit) && has_bit(granted, bit) {
-        push_line(policy, lines, source, target, bit, held)
-    } else {
-        Ok(())
-    }
+    has_bit(wanted.0, bit) && has_bit(granted, bit)
 }
 
 /// Appends the lines for two types.
 #[tactic(auto, unfolding(crate::specs::Accesses::pair_lines))]
 fn push_pair(
     policy: &PolicyTables,
-    lines: Option<&[Option<u32>]>,
+    table: &LineTable<'_>,
     wanted: Perms,
     granted: u8,
     source: u16,
@@ -149,40 +101,19 @@ fn push_pair(
 ) -> Result<(), AllocError>
     requires granted { IsGranted policy.now granted (at (types policy.now.statements) source)
         (at (types policy.now.statements) target) }
-    requires source { source < length (types policy.now.statements) }
-    requires target { target < length (types policy.now.statements) }
-    requires lines { IfSome lines (λ l. HasLines policy.now source l.now) }
-    ensures { OnOk result (held.new.items ≡ held.old.items ++ spec.pair_lines policy.now wanted.0
-        (at (types policy.now.statements) source) (at (types policy.now.statements) target)) }
-{
-    for bit in 0..PERM_COUNT {
-        push_perm(policy, lines, wanted, granted, source, target, bit, held)?;
-    }
-    Ok(())
-}
-
-/// Appends the lines for two types, of which the target is asked for.
-fn push_target(
-    policy: &PolicyTables,
-    lines: Option<&[Option<u32>]>,
-    wanted: Perms,
-    granted: u8,
-    source: u16,
-    target: u16,
-    held: &mut Vec<u8>,
-) -> Result<(), AllocError>
-    requires granted { IsGranted policy.now granted (at (types policy.now.statements) source)
-        (at (types policy.now.statements) target) }
-    requires source { source < length (types policy.now.statements) }
-    requires target { target < length (types policy.now.statements) }
-    requires lines { IfSome lines (λ l. HasLines policy.now source l.now) }
+    requires table { HasPair policy.now table.now source target }
     ensures { OnOk result (held.new.items ≡ held.old.items ++ spec.pair_lines policy.now wanted.0
         (at (types policy.now.statements) source) (at (types policy.now.statements) target)) }
 {
     if granted == 0 {
         return Ok(());
     }
-    push_pair(policy, lines, wanted, granted, source, target, held)
+    for bit in 0..PERM_COUNT {
+        if is_listed(wanted, granted, bit) {
+            push_line(policy, table, source, target, bit, held)?;
+        }
+    }
+    Ok(())
 }
 
 /// Appends the lines for a source, with all targets that are asked for.
@@ -190,53 +121,44 @@ fn push_target(
 fn push_targets(
     policy: &PolicyTables,
     filter: &Filter<'_>,
-    targets: &[u16],
-    lines: Option<&[Option<u32>]>,
+    table: &LineTable<'_>,
     source: u16,
     held: &mut Vec<u8>,
 ) -> Result<(), AllocError>
-    requires targets { AreAsked (types policy.now.statements) filter.now.target targets.now }
+    requires targets { AreAsked (types policy.now.statements) filter.now.target table.now.targets.now }
     requires source { source < length (types policy.now.statements) }
-    requires lines { IfSome lines (λ l. HasLines policy.now source l.now) }
+    requires lines { All (HasPair policy.now table.now source) table.now.targets.now }
     ensures { OnOk result (held.new.items ≡ held.old.items ++ spec.targets_lines policy.now filter.now
         (at (types policy.now.statements) source)) }
 {
     let row = policy.granted_row(source);
-    for target in targets {
+    for target in table.targets() {
         let granted = byte_at(row, *target);
-        push_target(policy, lines, filter.perms, granted, source, *target, held)?;
+        push_pair(policy, table, filter.perms, granted, source, *target, held)?;
     }
     Ok(())
 }
 
-/// Appends the lines for a source, if it is asked for. The lines of its rules are found in the table, unless only one
-/// target is asked for.
+/// Appends the lines for a source, if it is asked for.
 #[tactic(auto, unfolding(crate::specs::Accesses::source_lines))]
 fn push_source(
     policy: &PolicyTables,
     filter: &Filter<'_>,
-    targets: &[u16],
-    rules: &Rules,
-    table: &mut LineTable,
+    table: &mut LineTable<'_>,
     source: u16,
     held: &mut Vec<u8>,
 ) -> Result<(), AllocError>
-    requires targets { AreAsked (types policy.now.statements) filter.now.target targets.now }
-    requires rules { RulesOf policy.now.statements (types policy.now.statements) rules.now }
-    requires table { IsTable rules.now table.old }
+    requires table { IsAsked policy.now filter.now table.old }
     requires source { source < length (types policy.now.statements) }
-    ensures table { OnOk result (IsTable rules.now table.new) }
+    ensures table { OnOk result (IsAsked policy.now filter.now table.new) }
     ensures lines { OnOk result (held.new.items ≡ held.old.items ++ spec.source_lines policy.now filter.now
         (at (types policy.now.statements) source)) }
 {
     if !is_left(&filter.source, policy.type_name(source)) {
         return Ok(());
     }
-    if filter.target.is_some() {
-        return push_targets(policy, filter, targets, None, source, held);
-    }
-    table.find(rules, usize::from(source))?;
-    push_targets(policy, filter, targets, Some(table.lines()), source, held)
+    table.find(usize::from(source))?;
+    push_targets(policy, filter, table, source, held)
 }
 
 /// Writes the lines for all sources, and holds the last ones.
@@ -244,16 +166,12 @@ fn push_source(
 fn put_sources<W: Write>(
     policy: &PolicyTables,
     filter: &Filter<'_>,
-    targets: &[u16],
-    rules: &Rules,
-    table: &mut LineTable,
+    table: &mut LineTable<'_>,
     writer: &mut Counted<W>,
     held: &mut Vec<u8>,
 ) -> Result<(), Fault>
     requires count { failures_of writer.old < greatest_count }
-    requires targets { AreAsked (types policy.now.statements) filter.now.target targets.now }
-    requires rules { RulesOf policy.now.statements (types policy.now.statements) rules.now }
-    requires table { IsTable rules.now table.old }
+    requires table { IsAsked policy.now filter.now table.old }
     ensures ok { OnOk result (Passes (W.contents (inner_of writer.old)) (W.contents (inner_of writer.new))
         held.old.items held.new.items (spec.access_lines policy.now filter.now)) }
     ensures count { OnOk result (failures_of writer.new ≡ failures_of writer.old) }
@@ -262,7 +180,7 @@ fn put_sources<W: Write>(
     ensures fault { IfErr result (λ e. Fails e (failures_of writer.old) (failures_of writer.new)) }
 {
     for source in 0..policy.type_count() {
-        push_source(policy, filter, targets, rules, table, source, held)?;
+        push_source(policy, filter, table, source, held)?;
         write_full(writer, held)?;
     }
     Ok(())
@@ -294,10 +212,7 @@ pub fn access<W: Write>(
 {
     let mut held = Vec::new(alloc);
     let targets = numbers_left(alloc, policy, &filter.target)?;
-    let rules = policy.rules();
-    let mut table = LineTable::new(alloc, rules)?;
-    put_sources(
-        policy, filter, &targets, rules, &mut table, writer, &mut held,
-    )?;
+    let mut table = LineTable::new(alloc, policy.rules(), &targets)?;
+    put_sources(policy, filter, &mut table, writer, &mut held)?;
     write_whole(writer, &held)
 }

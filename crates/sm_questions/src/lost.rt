@@ -55,32 +55,6 @@ fn push_lost(
     held.extend_from_slice(b"\n")
 }
 
-/// Appends the line for a permission, if only the first policy allows it.
-#[tactic(auto, unfolding(crate::specs::Differences::lost_perm))]
-fn push_perm(
-    sign: u8,
-    one: &PolicyTables,
-    other: &PolicyTables,
-    numbers: &[Option<u16>],
-    source: u16,
-    target: u16,
-    bit: u32,
-    held: &mut Vec<u8>,
-) -> Result<(), AllocError>
-    requires source { source < length (types one.now.statements) }
-    requires target { target < length (types one.now.statements) }
-    requires numbers { numbers.now ≡ map (type_index other.now) (types one.now.statements) }
-    ensures { OnOk result (held.new.items ≡ held.old.items ++ spec.lost_perm sign one.now other.now
-        (at (types one.now.statements) source) (at (types one.now.statements) target) bit) }
-{
-    if !is_lost(one, other, numbers, source, target, bit) {
-        return Ok(());
-    }
-    let from = one.type_name(source);
-    let to = one.type_name(target);
-    push_lost(sign, from, to, bit, held)
-}
-
 /// Appends the lines for two types.
 #[tactic(auto, unfolding(crate::specs::Differences::lost_pair))]
 fn push_pair(
@@ -98,8 +72,12 @@ fn push_pair(
     ensures { OnOk result (held.new.items ≡ held.old.items ++ spec.lost_pair sign one.now other.now
         (at (types one.now.statements) source) (at (types one.now.statements) target)) }
 {
+    let from = one.type_name(source);
+    let to = one.type_name(target);
     for bit in 0..PERM_COUNT {
-        push_perm(sign, one, other, numbers, source, target, bit, held)?;
+        if is_lost(one, other, numbers, source, target, bit) {
+            push_lost(sign, from, to, bit, held)?;
+        }
     }
     Ok(())
 }

@@ -167,19 +167,6 @@ impl PolicyTables {
         self.prepared.rules()
     }
 
-    /// Returns the line of the first allow rule that grants permission `bit` on the two types, by their numbers. `None`
-    /// if no rule does.
-    #[tactic(auto, unfolding(sm_policy::specs::Policy::written_at))]
-    pub(crate) fn written(&self, source: u16, target: u16, bit: u32) -> Option<u32>
-        requires source { source < length (types self.now.statements) }
-        requires target { target < length (types self.now.statements) }
-        ensures { result ≡ written_at self.now (at (types self.now.statements) source)
-            (at (types self.now.statements) target) (class_at bit) (perm_at bit) }
-    {
-        let rules = self.prepared.rules();
-        rules.written(source, target, class_at(bit), perm_at(bit))
-    }
-
     /// Returns the number of a type by its name, or `None` if it isn't declared.
     pub(crate) fn type_index(&self, name: &[u8]) -> Option<u16>
         ensures { result ≡ type_index self.now name.now }

@@ -169,6 +169,26 @@ fn accesses_with_a_permission(rt: HostRuntime) {
 }
 
 #[test]
+fn accesses_of_a_type_by_self(rt: HostRuntime) {
+    let policy = tables(&rt, rt.alloc(), RULES, CONTEXTS);
+    let options = FilterOptions {
+        source: None,
+        target: Target::Type(Word::new(b"init")),
+        class: Some(Word::new(b"binder")),
+        perm: Some(Word::new(b"call")),
+    };
+    assert!(rt;
+        lists(
+            &rt,
+            rt.alloc(),
+            &policy,
+            &options,
+            b"init init binder call 7\n"
+        )
+    );
+}
+
+#[test]
 fn accesses_of_a_name(rt: HostRuntime) {
     let policy = tables(&rt, rt.alloc(), RULES, CONTEXTS);
     let options = FilterOptions {

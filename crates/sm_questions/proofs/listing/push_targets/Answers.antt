@@ -10,15 +10,16 @@ pub loop-target-preserved : goal.loop-target-preserved
 loop-target-preserved c =
     let names = types c.args.policy.now.statements in
     let f = numbered names (pair_lines c.args.policy.now c.args.filter.now.perms.0 (at names c.args.source)) in
-    held_step f c.args.targets.now c.loop-target.target-index 0 c.args.held.now.items c.loop-target-test.true
-    c.loop-target.invariant c.in_ok-push_target.ensures
+    held_step f c.args.table.now.targets.now c.loop-target.target-index 0 c.args.held.now.items
+    (rw c.targets-target-items.ensures at c.loop-target-test.true) c.loop-target.invariant
+    (rw c.targets-target-items.ensures at c.in_ok-push_pair.ensures)
 
 pub returns : goal.returns
 unfolding target_lines targets_lines
 returns c =
     let names = types c.args.policy.now.statements in
     let f = pair_lines c.args.policy.now c.args.filter.now.perms.0 (at names c.args.source) in
-    let numbers = c.args.targets.now in
-    let le : length numbers ≤ c.loop-target.target-index = omega (arith, c.loop-target-test.false) in
+    let numbers = c.args.table.now.targets.now in
+    let le : length numbers ≤ c.loop-target.target-index = omega (arith, rw c.targets-target-items.ensures at c.loop-target-test.false) in
     held_list (numbered names f) numbers c.loop-target.target-index c.args.held.now.items le c.loop-target.invariant
     ∙ ap (λ l. c.args.held.now.items ++ l) (numbered_lines names c.args.filter.now.target f numbers c.requires.targets)

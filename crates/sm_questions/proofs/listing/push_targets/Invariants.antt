@@ -9,4 +9,4 @@ use Rattle.sm_questions.proofs.listing.push_targets.Given as goal
 abbrev pub invariant-loop-target : goal.invariant-loop-target
 invariant-loop-target l = l.held.items ≡ l.initial.held.items
     ++ flat_map (numbered (types l.policy.statements) (pair_lines l.policy l.filter.perms.0
-    (at (types l.policy.statements) l.source))) (take l.target-index l.targets)
+    (at (types l.policy.statements) l.source))) (take l.target-index l.table.targets.now)
