@@ -357,43 +357,62 @@ fn replies_to_requests(rt: HostRuntime) {
     }
 }
 
+// Adds an item in words, on a line of its own.
+fn push_item(out: &mut Vec<u8>, item: &Item) -> Result<(), AllocError> {
+    match item {
+        Item::Asked(request) => push_request(out, request)?,
+        Item::Policy(texts) => {
+            push_numbered(out, b"policy for ", texts.expected())?;
+            out.extend_from_slice(b" of ")?;
+            out.extend_from_slice(texts.rules())?;
+            out.extend_from_slice(b" and ")?;
+            out.extend_from_slice(texts.contexts())?;
+        }
+        Item::Malformed => out.extend_from_slice(b"malformed")?,
+        Item::LineTooLong => out.extend_from_slice(b"too long")?,
+    }
+    out.extend_from_slice(b"\n")
+}
+
+// The items that a piece completes, in words.
+fn fed(
+    rt: &impl Abort,
+    alloc: Global,
+    lines: &mut LineReader,
+    piece: &[u8],
+) -> Result<Vec<u8>, AllocError> {
+    let mut out = Vec::new(alloc);
+    let items = lines.feed(piece).expect(rt, "items");
+    for item in &items {
+        push_item(&mut out, item)?;
+    }
+    Ok(out)
+}
+
 #[test]
 fn lines_in_pieces(rt: HostRuntime) {
     let alloc = rt.alloc();
     let mut lines = LineReader::new(alloc, Kind::Script);
     assert!(rt; !lines.rest() && !lines.is_dead());
-    assert_eq!(rt; lines.feed(b"2 get act").expect(&rt, "items").len(), 0);
-    assert!(rt; lines.rest());
-    let items = lines.feed(b"ivity\nreload 1 2 1\na").expect(&rt, "items");
-    assert!(rt;
-        matches!(
-            items.as_slice(),
-            [Item::Asked(Request::Change(_, Event::Get { .. }))]
-        )
-    );
-    let items = lines.feed(b"bc\n").expect(&rt, "items");
-    assert!(rt; matches!(items.as_slice(), [Item::Policy(_), Item::Malformed]));
-    if let [Item::Policy(texts), _] = items.as_slice() {
-        assert!(rt; texts.expected() == 1);
-        assert_eq!(rt; texts.rules(), b"ab".as_slice());
-        assert_eq!(rt; texts.contexts(), b"c".as_slice());
+    // Each with the items that it completes, and whether an item has begun.
+    let pieces = [
+        ("2 get act", "", true),
+        ("ivity\nreload 1 2 1\na", "2 gets activity\n", true),
+        ("bc\n", "policy for 1 of ab and c\nmalformed\n", false),
+    ];
+    for (piece, wanted, has_begun) in pieces {
+        let words = fed(&rt, alloc, &mut lines, piece.as_bytes()).expect(&rt, "memory");
+        assert_eq!(rt;
+            (words.as_slice(), lines.rest()),
+            (wanted.as_bytes(), has_begun)
+        );
     }
-    assert!(rt; !lines.rest());
 }
 
-// The requests of a client's stream, in words, one on each line.
+// The items of a client's stream, in words, one on each line.
 fn streamed(rt: &impl Abort, alloc: Global, stream: &[u8]) -> Result<Vec<u8>, AllocError> {
     let mut lines = LineReader::new(alloc, Kind::Client);
-    let mut out = Vec::new(alloc);
-    let items = lines.feed(stream).expect(rt, "items");
-    for item in &items {
-        match item {
-            Item::Asked(request) => push_request(&mut out, request)?,
-            _ => out.extend_from_slice(b"malformed")?,
-        }
-        out.extend_from_slice(b"\n")?;
-    }
-    Ok(out)
+    fed(rt, alloc, &mut lines, stream)
 }
 
 // Among the names that a stream caches, `Aa` and `BB` have the same slot.
