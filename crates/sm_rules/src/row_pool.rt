@@ -29,10 +29,18 @@ fn only_number(row: &BitRow) -> Option<usize>
 /// is used for the other.
 ///
 /// Contracts see the sets of the attributes.
-#[derive(Drop)]
 pub struct RowPool {
     members: Vec<SharedSet>,
     rows: IndexMap<u64, Arc<BitRow, Global>>,
+}
+
+impl Drop for RowPool {
+    fn drop(self) {
+        let RowPool {
+            members: _,
+            rows: _,
+        } = self;
+    }
 }
 
 impl Model for RowPool {
