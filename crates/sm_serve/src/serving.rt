@@ -1,7 +1,5 @@
 //! The server's threads.
 
-ghost use denote.Param.Send.{IsSend, IsSync};
-
 use crate::admitting::admit;
 use crate::arriving::arrival;
 use crate::attending::{attend_administrator, attend_client};
@@ -13,17 +11,13 @@ use crate::queue::{Arrivals, Queue, next, queue_of};
 use crate::shared_admin::SharedAdmin;
 use crate::visitor::Lobby;
 use sm_connection::{FreeSeats, Gauge, Monitor, SealAt, Supervisor};
-use sm_core::View;
-use sm_door::{
-    Actor, Admin, Door, HistoryId, LockedManager, Naming, Published, Registry, Seat, Session,
-    SharedView, ViewReader, ViewWriter,
-};
+use sm_door::{Admin, Door, Naming};
 use sm_engine::ServeFault;
 use sm_history::Gate;
 use std::alloc::Global;
 use std::os::unix::net::UnixStream;
 use std::rt::Clock;
-use std::sync::{Arc, Wait};
+use std::sync::Wait;
 use std::thread;
 use std::thread::Threads;
 
@@ -66,23 +60,65 @@ pub fn serve<
     sealer: Admin<J>,
     numbers: Numbers,
 ) -> Result<(), ServeFault> {
-    let Ok((to, queue)) = queue_of(alloc) else {
-        return Err(ServeFault::Memory);
-    };
-    let Ok(dying) = DyingClients::new(alloc) else {
-        return Err(ServeFault::Memory);
-    };
-    let faults = Faults::new(alloc);
-    let sealer = SharedAdmin::new(sealer);
-    let Ok(gauge) = Gauge::new(alloc, numbers.slots, numbers.seal_at) else {
-        return Err(ServeFault::Memory);
-    };
-    run_threads(
-        rt, alloc, host, clients, admins, door, seats, admin, numbers, to, &queue, &dying, &sealer,
-        &gauge, &faults,
-    );
-    dying.retry(rt, door, seats, &Monitor::new(host, &gauge));
+    let (common, to) = Common::new(alloc, host, door, seats, sealer, &numbers)?;
+    run_threads(rt, &common, clients, admins, admin, numbers, to);
+    common.dying.retry(rt, door, seats, &common.monitor());
+    let Common { faults, .. } = common;
     faults.into_result()
+}
+
+/// What all threads of a server share.
+#[derive(Drop)]
+struct Common<'a, J: Naming, G: Gate, H> {
+    alloc: Global,
+    host: &'a H,
+    door: &'a Door<J, G>,
+    seats: &'a FreeSeats<J>,
+    patience: Patience,
+    queue: Queue,
+    dying: DyingClients<J>,
+    sealer: SharedAdmin<J>,
+    gauge: Gauge,
+    faults: Faults,
+}
+
+impl<'a, J: Naming, G: Gate + Drop, H: Supervisor> Common<'a, J, G, H> {
+    /// Returns it, and the end of the queue at which connections arrive.
+    fn new(
+        alloc: Global,
+        host: &'a H,
+        door: &'a Door<J, G>,
+        seats: &'a FreeSeats<J>,
+        sealer: Admin<J>,
+        numbers: &Numbers,
+    ) -> Result<(Common<'a, J, G, H>, Arrivals), ServeFault> {
+        let Ok((to, queue)) = queue_of(alloc) else {
+            return Err(ServeFault::Memory);
+        };
+        let Ok(dying) = DyingClients::new(alloc) else {
+            return Err(ServeFault::Memory);
+        };
+        let Ok(gauge) = Gauge::new(alloc, numbers.slots, numbers.seal_at) else {
+            return Err(ServeFault::Memory);
+        };
+        let common = Common {
+            alloc,
+            host,
+            door,
+            seats,
+            patience: numbers.patience,
+            queue,
+            dying,
+            sealer: SharedAdmin::new(sealer),
+            gauge,
+            faults: Faults::new(alloc),
+        };
+        Ok((common, to))
+    }
+
+    fn monitor(&self) -> Monitor<'_, H> {
+        Monitor::new(self.host, &self.gauge)
+    }
 }
 
 /// Runs the threads to their ends. Clients' connections are accepted by this one.
@@ -95,143 +131,98 @@ fn run_threads<
     R: Threads + Wait + Clock + Sync,
 >(
     rt: &R,
-    alloc: Global,
-    host: &H,
+    common: &Common<'_, J, G, H>,
     clients: &mut C,
     admins: A,
-    door: &Door<J, G>,
-    seats: &FreeSeats<J>,
     admin: Admin<J>,
     numbers: Numbers,
     to: Arrivals,
-    queue: &Queue,
-    dying: &DyingClients<J>,
-    sealer: &SharedAdmin<J>,
-    gauge: &Gauge,
-    faults: &Faults,
 ) {
-    let patience = numbers.patience;
     let number = numbers.admins;
+    let faults = &common.faults;
     thread::scope(thread::scope_env(), rt, |scope| {
-        crosses::<View>();
-        crosses::<HistoryId<J>>();
-        crosses::<SharedView<J>>();
-        crosses::<Arc<SharedView<J>>>();
-        crosses::<Published<J>>();
-        sends::<ViewReader<J>>();
-        sends::<Option<ViewReader<J>>>();
-        sends::<Actor<J>>();
-        sends::<Admin<J>>();
-        sends::<Seat<J>>();
-        sends::<ViewWriter<J>>();
-        sends::<Option<ViewWriter<J>>>();
-        sends::<Registry<J>>();
-        sends::<LockedManager<J>>();
-        shares::<Door<J, G>>();
-        sends::<Session<J>>();
-        shares::<FreeSeats<J>>();
-        shares::<DyingClients<J>>();
-        shares::<Queue>();
-        shares::<SharedAdmin<J>>();
-        shares::<Faults>();
-        shares::<Gauge>();
         for _ in 0..numbers.workers {
             faults.live().begin_thread();
-            let started = scope.spawn(move || {
-                work(
-                    rt, alloc, host, gauge, door, seats, dying, sealer, patience, queue, faults,
-                );
-            });
+            let started = scope.spawn(move || work(rt, common));
             if started.is_err() {
-                faults.miss_thread(rt, host);
+                faults.miss_thread(rt, common.host);
             }
         }
         faults.live().begin_thread();
-        let started = scope.spawn(move || {
-            administer(
-                rt,
-                alloc,
-                host,
-                gauge,
-                door,
-                admin,
-                sealer,
-                admins,
-                faults,
-                number,
-                patience.admin,
-            );
-        });
+        let started = scope.spawn(move || administer(rt, common, admin, admins, number));
         if started.is_err() {
-            faults.miss_thread(rt, host);
+            faults.miss_thread(rt, common.host);
         }
-        admit(rt, clients, to, host, faults, numbers.clients);
-        faults.end_connections(rt, patience.end);
+        admit(rt, clients, to, common.host, faults, numbers.clients);
+        faults.end_connections(rt, common.patience.end);
     });
 }
 
 /// Serves connections from the queue, until no more come.
 fn work<J: Naming, G: Gate + Drop, H: Supervisor, R: Wait + Clock>(
     rt: &R,
-    alloc: Global,
-    host: &H,
-    gauge: &Gauge,
-    door: &Door<J, G>,
-    seats: &FreeSeats<J>,
-    dying: &DyingClients<J>,
-    sealer: &SharedAdmin<J>,
-    patience: Patience,
-    queue: &Queue,
-    faults: &Faults,
+    common: &Common<'_, J, G, H>,
 ) {
-    let monitor = Monitor::new(host, gauge);
+    let monitor = common.monitor();
+    let live = common.faults.live();
     for _ in rt.forever() {
-        let Some(stream) = next(rt, queue) else {
+        let Some(stream) = next(rt, &common.queue) else {
             break;
         };
-        let Ok((number, stream)) = faults.live().enter(rt, stream) else {
+        let Ok((number, stream)) = live.enter(rt, stream) else {
             monitor.run_short();
             continue;
         };
         attend_client(
-            rt, alloc, door, seats, dying, sealer, &monitor, patience, &stream,
+            rt,
+            common.alloc,
+            common.door,
+            common.seats,
+            &common.dying,
+            &common.sealer,
+            &monitor,
+            common.patience,
+            &stream,
         );
-        faults.live().leave(rt, number);
+        live.leave(rt, number);
     }
-    faults.live().end_thread();
+    live.end_thread();
 }
 
 /// Serves administrators' connections, one after another.
 fn administer<J: Naming, G: Gate + Drop, A: Entrance + Drop, H: Supervisor, R: Wait + Clock>(
     rt: &R,
-    alloc: Global,
-    host: &H,
-    gauge: &Gauge,
-    door: &Door<J, G>,
+    common: &Common<'_, J, G, H>,
     admin: Admin<J>,
-    sealer: &SharedAdmin<J>,
     entrance: A,
-    faults: &Faults,
     number: u64,
-    seconds: u64,
 ) {
-    let monitor = Monitor::new(host, gauge);
+    let monitor = common.monitor();
+    let live = common.faults.live();
     let mut token = admin;
     let mut lobby = Lobby::new(entrance);
     for _ in 0..number {
-        let Some(stream) = next_administrator(rt, &mut lobby, host, faults) else {
+        let Some(stream) = next_administrator(rt, &mut lobby, common.host, &common.faults) else {
             break;
         };
-        let Ok((place, stream)) = faults.live().enter(rt, stream) else {
+        let Ok((place, stream)) = live.enter(rt, stream) else {
             monitor.run_short();
             continue;
         };
         token = attend_administrator(
-            rt, alloc, door, token, sealer, &monitor, seconds, &stream, &mut lobby,
+            rt,
+            common.alloc,
+            common.door,
+            token,
+            &common.sealer,
+            &monitor,
+            common.patience.admin,
+            &stream,
+            &mut lobby,
         );
-        faults.live().leave(rt, place);
+        live.leave(rt, place);
     }
-    faults.live().end_thread();
+    live.end_thread();
 }
 
 /// Returns the administrator's connection that waits, or waits for one.
@@ -246,16 +237,3 @@ fn next_administrator<A: Entrance, H: Supervisor, R: Wait + Clock>(
     }
     arrival(rt, lobby.entrance(), host, faults)
 }
-
-fn shares<X: Sync>()
-    ensures { IsSync X.row }
-{}
-
-fn crosses<X: Send + Sync>()
-    ensures { IsSend X.row × IsSync X.row }
-{}
-
-/// Shows that values of the type may be sent to another thread.
-fn sends<X: Send>()
-    ensures { IsSend X.row }
-{}

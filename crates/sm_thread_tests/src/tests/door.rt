@@ -7,11 +7,7 @@ ghost use denote.Param.Send.{IsSend, IsSync};
 use super::connection::serves;
 use super::exchanges::{Exchange, converse};
 use crossbeam_utils::Backoff;
-use sm_core::View;
-use sm_door::{
-    Actor, Admin, Door, Gate, HistoryId, LockedManager, Naming, Published, Registry, Seat, Session,
-    SharedView, UnnamedRegistry, ViewReader, ViewWriter,
-};
+use sm_door::{Admin, Door, Gate, Naming, Seat, Session, UnnamedRegistry};
 use sm_history::{Answer, Event, NameList, NoGate, Outcome, Refusal, Reply, Segment};
 use sm_kinds::{Class, Context, Identity, Name, ObjRef, Perms, Places};
 use sm_policy::Prepared;
@@ -20,7 +16,7 @@ use std::alloc::Global;
 use std::marker::Brand;
 use std::process::Abort;
 use std::sync::atomic::{AtomicU64, Ordering};
-use std::sync::{Arc, Mutex, Wait};
+use std::sync::{Mutex, Wait};
 use std::thread;
 use std::thread::Threads;
 
@@ -389,19 +385,7 @@ fn all_at_once<J: Naming + Send + Sync, R: Threads + Wait + Abort + Sync>(
     let mut started = true;
     let mut done = false;
     thread::scope(thread::scope_env(), rt, |scope| {
-        crosses::<View>();
-        crosses::<HistoryId<J>>();
-        crosses::<SharedView<J>>();
-        crosses::<Arc<SharedView<J>>>();
-        crosses::<Published<J>>();
-        sends::<ViewReader<J>>();
-        sends::<Option<ViewReader<J>>>();
-        sends::<Actor<J>>();
         sends::<Admin<J>>();
-        sends::<ViewWriter<J>>();
-        sends::<Option<ViewWriter<J>>>();
-        sends::<Registry<J>>();
-        sends::<LockedManager<J>>();
         shares::<Door<J, NoGate>>();
         shares::<Mutex<Vec<Admin<J>>>>();
         shares::<Overlap>();
@@ -550,19 +534,7 @@ fn both_install<J: Naming + Send + Sync, R: Threads + Wait + Abort + Sync>(
     let mut second = second;
     let mut started = false;
     thread::scope(thread::scope_env(), rt, |scope| {
-        crosses::<View>();
-        crosses::<HistoryId<J>>();
-        crosses::<SharedView<J>>();
-        crosses::<Arc<SharedView<J>>>();
-        crosses::<Published<J>>();
-        sends::<ViewReader<J>>();
-        sends::<Option<ViewReader<J>>>();
-        sends::<Actor<J>>();
         sends::<Admin<J>>();
-        sends::<ViewWriter<J>>();
-        sends::<Option<ViewWriter<J>>>();
-        sends::<Registry<J>>();
-        sends::<LockedManager<J>>();
         shares::<Door<J, NoGate>>();
         shares::<Race>();
         started = scope
@@ -606,12 +578,9 @@ fn install_over_first<J: Naming, R: Wait + Abort>(
     }
 }
 
+/// Shows that threads may share values of the type.
 fn shares<X: Sync>()
     ensures { IsSync X.row }
-{}
-
-fn crosses<X: Send + Sync>()
-    ensures { IsSend X.row × IsSync X.row }
 {}
 
 /// Shows that values of the type may be sent to another thread.

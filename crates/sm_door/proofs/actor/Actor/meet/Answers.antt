@@ -1,8 +1,6 @@
-use Rattle.std.proofs.Common.{◌≡◌, ◌∙◌, sym}
+use Rattle.std.proofs.Common.{◌∙◌, sym}
 use Rattle.std.specs.Prelude.{nat_eq}
-use Rattle.sm_history.specs.Books.{Book}
 use Rattle.sm_history.specs.Histories.{turn_of}
-use Rattle.sm_history.specs.declared.by.By.{By}
 use Rattle.sm_history.specs.Tokens.{turn}
 use Rattle.sm_door.proofs.actor.Actor.meet.Goals as goal
 
