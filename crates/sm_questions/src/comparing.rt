@@ -8,10 +8,10 @@ ghost use Rattle.sm_questions.specs.Differences.{is_any};
 ghost use Rattle.sm_questions.specs.Parts.{part_lines};
 ghost use Rattle.sm_questions.specs.Buffered.{Fails, Passes, Stops};
 
-use crate::PolicyTables;
 use crate::buffer::{either, write_full};
 use crate::part::Part;
 use sm_engine::{Counted, Fault, write_whole};
+use sm_policy::Prepared;
 use std::alloc::Global;
 use std::io::Write;
 
@@ -30,8 +30,8 @@ const PARTS: [Part; 6] = [
 fn put_part<W: Write>(
     alloc: Global,
     part: Part,
-    old: &PolicyTables,
-    new: &PolicyTables,
+    old: &Prepared,
+    new: &Prepared,
     writer: &mut Counted<W>,
     held: &mut Vec<u8>,
 ) -> Result<bool, Fault>
@@ -66,8 +66,8 @@ fn put_part<W: Write>(
 /// `WriteFault` if a write fails, `Memory` if an allocation fails; a prefix of the lines is then written.
 pub fn diff<W: Write>(
     alloc: Global,
-    old: &PolicyTables,
-    new: &PolicyTables,
+    old: &Prepared,
+    new: &Prepared,
     writer: &mut Counted<W>,
 ) -> Result<bool, Fault>
     requires { failures_of writer.old < greatest_count }

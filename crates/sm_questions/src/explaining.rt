@@ -5,9 +5,10 @@ ghost use Rattle.std.specs.Io.KnownBytes.{Appends};
 ghost use Rattle.sm_engine.specs.Counts.{failures_of, inner_of, greatest_count};
 ghost use Rattle.sm_questions.specs.Explanations as spec;
 
-use crate::PolicyTables;
+use crate::tables::is_permissive;
 use sm_engine::{Counted, Fault, write_whole};
 use sm_kinds::{Class, Perms, push_numbered};
+use sm_policy::Prepared;
 use std::alloc::{AllocError, Global};
 use std::io::Write;
 
@@ -23,7 +24,7 @@ use std::io::Write;
 /// then written.
 pub fn explain<W: Write>(
     alloc: Global,
-    policy: &PolicyTables,
+    policy: &Prepared,
     source: &[u8],
     target: &[u8],
     class: Class,
@@ -58,7 +59,7 @@ struct Answer {
 #[tactic(auto, using(crate::proofs::Written::written_if))]
 fn answer_to(
     alloc: Global,
-    policy: &PolicyTables,
+    policy: &Prepared,
     source: &[u8],
     target: &[u8],
     class: Class,
@@ -69,7 +70,7 @@ fn answer_to(
     ensures passes { IfOk result (λ a. a.passes ≡ spec.passes policy.now source.now target.now class perm) }
 {
     let line = policy.why(source, target, class, perm);
-    let permissive = policy.is_permissive(source);
+    let permissive = is_permissive(policy, source);
     let mut lines = Vec::new(alloc);
     push_reason(&mut lines, line)?;
     if permissive {

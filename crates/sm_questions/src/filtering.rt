@@ -3,8 +3,10 @@
 ghost use Rattle.std.specs.Prelude.{◌≡◌};
 ghost use Rattle.sm_questions.specs.Filters as spec;
 
-use crate::{PolicyTables, Unknown};
+use crate::Unknown;
+use crate::tables::is_declared;
 use sm_kinds::{Class, Perms, Word};
+use sm_policy::Prepared;
 
 /// The permissions of `service_manager`.
 const OF_SERVICE_MANAGER: Perms = Perms(Perms::ADD.0 | Perms::FIND.0 | Perms::LIST.0);
@@ -45,10 +47,10 @@ pub struct Filter<'a> {
     pub perms: Perms,
 }
 
-fn declared<'a>(policy: &PolicyTables, word: &'a [u8]) -> Result<Option<Word<'a>>, Unknown<'a>>
+fn declared<'a>(policy: &Prepared, word: &'a [u8]) -> Result<Option<Word<'a>>, Unknown<'a>>
     ensures { result ≡ spec.declared policy.now word.now }
 {
-    if policy.declares(word) {
+    if is_declared(policy, word) {
         Ok(Some(Word::new(word)))
     } else {
         Err(Unknown::Type(Word::new(word)))
@@ -56,7 +58,7 @@ fn declared<'a>(policy: &PolicyTables, word: &'a [u8]) -> Result<Option<Word<'a>
 }
 
 fn source_of<'a>(
-    policy: &PolicyTables,
+    policy: &Prepared,
     source: &Option<Word<'a>>,
 ) -> Result<Option<Word<'a>>, Unknown<'a>>
     ensures { result ≡ spec.source_of policy.now source.now }
@@ -67,16 +69,13 @@ fn source_of<'a>(
     }
 }
 
-fn target_of<'a>(
-    policy: &'a PolicyTables,
-    target: &Target<'a>,
-) -> Result<Option<Word<'a>>, Unknown<'a>>
+fn target_of<'a>(policy: &'a Prepared, target: &Target<'a>) -> Result<Option<Word<'a>>, Unknown<'a>>
     ensures { result ≡ spec.target_of policy.now target.now }
 {
     match target {
         Target::Any => Ok(None),
         Target::Type(word) => declared(policy, word.bytes()),
-        Target::Name(name) => Ok(Some(Word::new(policy.label_type(name.bytes())))),
+        Target::Name(name) => Ok(Some(Word::new(policy.label(name.bytes()).type_name()))),
     }
 }
 
@@ -145,7 +144,7 @@ fn perms_in<'a>(class: &Option<Word<'a>>, perm: &Option<Word<'a>>) -> Result<Per
 /// The first word that names nothing: the source, then the target, the class and the permission. A permission must be
 /// one of the class, if that is given. A service's name is never unknown.
 pub fn read_filter<'a>(
-    policy: &'a PolicyTables,
+    policy: &'a Prepared,
     options: &FilterOptions<'a>,
 ) -> Result<Filter<'a>, Unknown<'a>>
     ensures { result ≡ spec.filter_of policy.now options.now }

@@ -5,9 +5,10 @@ ghost use Rattle.std.specs.Io.KnownBytes.{Appends};
 ghost use Rattle.sm_engine.specs.Counts.{failures_of, inner_of, greatest_count};
 ghost use Rattle.sm_questions.specs.Labels as spec;
 
-use crate::PolicyTables;
+use crate::tables::label_entry;
 use sm_engine::{Counted, Fault, write_whole};
 use sm_kinds::push_numbered;
+use sm_policy::Prepared;
 use std::alloc::{AllocError, Global};
 use std::io::Write;
 
@@ -19,7 +20,7 @@ use std::io::Write;
 /// then written.
 pub fn label<W: Write>(
     alloc: Global,
-    policy: &PolicyTables,
+    policy: &Prepared,
     name: &[u8],
     writer: &mut Counted<W>,
 ) -> Result<(), Fault>
@@ -39,10 +40,10 @@ pub fn label<W: Write>(
 }
 
 /// Returns `CONTEXT LINE`, the label of a name.
-fn label_line(alloc: Global, policy: &PolicyTables, name: &[u8]) -> Result<Vec<u8>, AllocError>
+fn label_line(alloc: Global, policy: &Prepared, name: &[u8]) -> Result<Vec<u8>, AllocError>
     ensures { IfOk result (λ line. line.items ≡ spec.label_line policy.now name.now) }
 {
-    let (number, context) = policy.label_entry(name);
+    let (number, context) = label_entry(policy, name);
     let mut line = Vec::from_slice(alloc, context.text())?;
     push_numbered(&mut line, b" ", u64::from(number))?;
     line.extend_from_slice(b"\n")?;

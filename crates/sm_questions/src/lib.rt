@@ -25,5 +25,4 @@ pub use filtering::{Filter, FilterOptions, Target, read_filter};
 pub use labelling::label;
 pub use listing::access;
 pub use showing::shown_lines;
-pub use tables::PolicyTables;
 pub use unknown::{Unknown, read_access, unknown_text};

@@ -11,13 +11,14 @@ ghost use Rattle.sm_questions.specs.Granted.{IsGranted};
 ghost use Rattle.sm_questions.specs.Buffered.{Fails, Passes, Stops};
 ghost use Rattle.sm_questions.specs.FirstLines.{AreAsked, HasPair, IsAsked};
 
+use crate::Filter;
 use crate::buffer::write_full;
 use crate::first_lines::LineTable;
-use crate::tables::byte_at;
-use crate::{Filter, PolicyTables};
+use crate::tables::{byte_at, granted_row, type_count, type_name};
 use sm_bits::has_bit;
 use sm_engine::{Counted, Fault, write_whole};
 use sm_kinds::{Perms, Word, push_access, push_numbered, spells};
+use sm_policy::Prepared;
 use sm_rules::{PERM_COUNT, class_at, perm_at};
 use std::alloc::{AllocError, Global};
 use std::io::Write;
@@ -34,14 +35,14 @@ fn is_left(wanted: &Option<Word<'_>>, name: &[u8]) -> bool
 /// Returns the numbers of the types that are asked for, in the order of their declaration.
 fn numbers_left(
     alloc: Global,
-    policy: &PolicyTables,
+    policy: &Prepared,
     wanted: &Option<Word<'_>>,
 ) -> Result<Vec<u16>, AllocError>
     ensures { IfOk result (λ numbers. AreAsked (types policy.now.statements) wanted.now numbers.items) }
 {
     let mut numbers = Vec::new(alloc);
-    for number in 0..policy.type_count() {
-        if is_left(wanted, policy.type_name(number)) {
+    for number in 0..type_count(policy) {
+        if is_left(wanted, type_name(policy, number)) {
             numbers.push(number)?;
         }
     }
@@ -61,7 +62,7 @@ fn push_grant(held: &mut Vec<u8>, line: Option<u32>) -> Result<(), AllocError>
 /// Appends `SOURCE TARGET CLASS PERM LINE`.
 #[tactic(auto, unfolding(crate::specs::Accesses::access_line))]
 fn push_line(
-    policy: &PolicyTables,
+    policy: &Prepared,
     table: &LineTable<'_>,
     source: u16,
     target: u16,
@@ -74,8 +75,8 @@ fn push_line(
         (at (types policy.now.statements) source) (at (types policy.now.statements) target) bit) }
 {
     let line = table.line(source, target, bit);
-    let from = policy.type_name(source);
-    let to = policy.type_name(target);
+    let from = type_name(policy, source);
+    let to = type_name(policy, target);
     push_access(held, from, to, class_at(bit), perm_at(bit))?;
     push_grant(held, line)?;
     held.extend_from_slice(b"\n")
@@ -91,7 +92,7 @@ fn is_listed(wanted: Perms, granted: u8, bit: u32) -> bool
 /// Appends the lines for two types.
 #[tactic(auto, unfolding(crate::specs::Accesses::pair_lines))]
 fn push_pair(
-    policy: &PolicyTables,
+    policy: &Prepared,
     table: &LineTable<'_>,
     wanted: Perms,
     granted: u8,
@@ -119,7 +120,7 @@ fn push_pair(
 /// Appends the lines for a source, with all targets that are asked for.
 #[tactic(auto, unfolding(crate::specs::Accesses::targets_lines))]
 fn push_targets(
-    policy: &PolicyTables,
+    policy: &Prepared,
     filter: &Filter<'_>,
     table: &LineTable<'_>,
     source: u16,
@@ -131,7 +132,7 @@ fn push_targets(
     ensures { OnOk result (held.new.items ≡ held.old.items ++ spec.targets_lines policy.now filter.now
         (at (types policy.now.statements) source)) }
 {
-    let row = policy.granted_row(source);
+    let row = granted_row(policy, source);
     for target in table.targets() {
         let granted = byte_at(row, *target);
         push_pair(policy, table, filter.perms, granted, source, *target, held)?;
@@ -142,7 +143,7 @@ fn push_targets(
 /// Appends the lines for a source, if it is asked for.
 #[tactic(auto, unfolding(crate::specs::Accesses::source_lines))]
 fn push_source(
-    policy: &PolicyTables,
+    policy: &Prepared,
     filter: &Filter<'_>,
     table: &mut LineTable<'_>,
     source: u16,
@@ -154,7 +155,7 @@ fn push_source(
     ensures lines { OnOk result (held.new.items ≡ held.old.items ++ spec.source_lines policy.now filter.now
         (at (types policy.now.statements) source)) }
 {
-    if !is_left(&filter.source, policy.type_name(source)) {
+    if !is_left(&filter.source, type_name(policy, source)) {
         return Ok(());
     }
     table.find(usize::from(source))?;
@@ -164,7 +165,7 @@ fn push_source(
 /// Writes the lines for all sources, and holds the last ones.
 #[tactic(auto, unfolding(crate::specs::Accesses::access_lines))]
 fn put_sources<W: Write>(
-    policy: &PolicyTables,
+    policy: &Prepared,
     filter: &Filter<'_>,
     table: &mut LineTable<'_>,
     writer: &mut Counted<W>,
@@ -179,7 +180,7 @@ fn put_sources<W: Write>(
         held.old.items (spec.access_lines policy.now filter.now)) }
     ensures fault { IfErr result (λ e. Fails e (failures_of writer.old) (failures_of writer.new)) }
 {
-    for source in 0..policy.type_count() {
+    for source in 0..type_count(policy) {
         push_source(policy, filter, table, source, held)?;
         write_full(writer, held)?;
     }
@@ -196,7 +197,7 @@ fn put_sources<W: Write>(
 /// `WriteFault` if a write fails, `Memory` if an allocation fails; a prefix of the lines is then written.
 pub fn access<W: Write>(
     alloc: Global,
-    policy: &PolicyTables,
+    policy: &Prepared,
     filter: &Filter<'_>,
     writer: &mut Counted<W>,
 ) -> Result<(), Fault>

@@ -11,18 +11,18 @@ ghost use Rattle.sm_questions.specs.Granted as granted;
 ghost use Rattle.sm_questions.specs.Granted.{IsRow, byte_for};
 ghost use Rattle.sm_questions.specs.Runs.{AreNumbersIn, run_lines};
 
-use crate::PolicyTables;
 use crate::runs::TypeNumbers;
-use crate::tables::byte_at;
+use crate::tables::{byte_at, granted_row, type_count, type_name};
 use sm_kinds::push_access;
+use sm_policy::Prepared;
 use sm_rules::{PERM_COUNT, class_at, perm_at};
 use std::alloc::AllocError;
 
 /// Returns whether only the first policy allows an access of two of its types.
 #[tactic(auto, unfolding(crate::specs::Differences::is_lost))]
 fn is_lost(
-    one: &PolicyTables,
-    other: &PolicyTables,
+    one: &Prepared,
+    other: &Prepared,
     numbers: &[Option<u16>],
     source: u16,
     target: u16,
@@ -36,7 +36,8 @@ fn is_lost(
 {
     let from = numbers[usize::from(source)];
     let to = numbers[usize::from(target)];
-    one.allows_at(source, target, bit) && !other.allows_by(from, to, bit)
+    let (class, perm) = (class_at(bit), perm_at(bit));
+    one.allows_at(source, target, class, perm) && !other.decide_at(from, to, class, perm).allowed
 }
 
 /// Appends an access behind a sign.
@@ -59,8 +60,8 @@ fn push_lost(
 #[tactic(auto, unfolding(crate::specs::Differences::lost_pair))]
 fn push_pair(
     sign: u8,
-    one: &PolicyTables,
-    other: &PolicyTables,
+    one: &Prepared,
+    other: &Prepared,
     numbers: &[Option<u16>],
     source: u16,
     target: u16,
@@ -72,8 +73,8 @@ fn push_pair(
     ensures { OnOk result (held.new.items ≡ held.old.items ++ spec.lost_pair sign one.now other.now
         (at (types one.now.statements) source) (at (types one.now.statements) target)) }
 {
-    let from = one.type_name(source);
-    let to = one.type_name(target);
+    let from = type_name(one, source);
+    let to = type_name(one, target);
     for bit in 0..PERM_COUNT {
         if is_lost(one, other, numbers, source, target, bit) {
             push_lost(sign, from, to, bit, held)?;
@@ -83,13 +84,13 @@ fn push_pair(
 }
 
 /// Returns the permissions of a source of the other policy, or nothing if it isn't declared there.
-fn row_there(other: &PolicyTables, source: Option<u16>) -> &[u8]
+fn row_there(other: &Prepared, source: Option<u16>) -> &[u8]
     requires { IfSome source (λ s. s < length (types other.now.statements)) }
     ensures some { IfSome source (λ s. IsRow other.now result.now s) }
     ensures none { source ≡ None → result.now ≡ [] }
 {
     match source {
-        Some(source) => other.granted_row(source),
+        Some(source) => granted_row(other, source),
         None => &[],
     }
 }
@@ -144,8 +145,8 @@ fn is_run_kept(here: &[u8], there: &[u8], from: u16, to: u16, number: Option<u16
 #[inline(never)]
 fn push_run(
     sign: u8,
-    one: &PolicyTables,
-    other: &PolicyTables,
+    one: &Prepared,
+    other: &Prepared,
     numbers: &[Option<u16>],
     source: u16,
     from: u16,
@@ -159,7 +160,7 @@ fn push_run(
     ensures { OnOk result (held.new.items ≡ held.old.items ++ run_lines sign one.now other.now
         (at (types one.now.statements) source) from to) }
 {
-    let here = one.granted_row(source);
+    let here = granted_row(one, source);
     let there = row_there(other, numbers[usize::from(source)]);
     for target in from..to {
         if !is_kept(here, there, target, numbers[usize::from(target)]) {
@@ -173,8 +174,8 @@ fn push_run(
 #[tactic(auto, unfolding(crate::specs::Differences::lost_source))]
 pub fn push_source(
     sign: u8,
-    one: &PolicyTables,
-    other: &PolicyTables,
+    one: &Prepared,
+    other: &Prepared,
     numbers: &TypeNumbers,
     source: u16,
     held: &mut Vec<u8>,
@@ -184,11 +185,11 @@ pub fn push_source(
     ensures { OnOk result (held.new.items ≡ held.old.items ++ spec.lost_source sign one.now other.now
         (at (types one.now.statements) source)) }
 {
-    let here = one.granted_row(source);
+    let here = granted_row(one, source);
     let ends = numbers.ends.as_slice();
     let numbers = numbers.numbers.as_slice();
     let there = row_there(other, numbers[usize::from(source)]);
-    let count = one.type_count();
+    let count = type_count(one);
     let mut from = 0;
     while from < count {
         let to = ends[usize::from(from)];

@@ -5,10 +5,11 @@ ghost use Rattle.sm_types.specs.Names.{at};
 ghost use Rattle.sm_questions.specs.Differences as spec;
 ghost use Rattle.sm_questions.specs.Parts.{AreNumbers, lines_of, names_in};
 
-use crate::PolicyTables;
 use crate::lost::push_source;
 use crate::relabelling::{push_added, push_changed};
 use crate::runs::TypeNumbers;
+use crate::tables::{is_permissive, key, type_at, type_count, type_name};
+use sm_policy::Prepared;
 use std::alloc::{AllocError, Global};
 
 /// All that differs in one way.
@@ -58,14 +59,14 @@ fn push_permissive(sign: u8, name: &[u8], held: &mut Vec<u8>) -> Result<(), Allo
 #[tactic(auto, unfolding(crate::specs::Differences::turned_type))]
 fn push_turned(
     sign: u8,
-    one: &PolicyTables,
-    other: &PolicyTables,
+    one: &Prepared,
+    other: &Prepared,
     name: &[u8],
     held: &mut Vec<u8>,
 ) -> Result<(), AllocError>
     ensures { OnOk result (held.new.items ≡ held.old.items ++ spec.turned_type sign one.now other.now name.now) }
 {
-    if !one.is_permissive(name) || other.is_permissive(name) {
+    if !is_permissive(one, name) || is_permissive(other, name) {
         return Ok(());
     }
     push_permissive(sign, name, held)
@@ -73,14 +74,14 @@ fn push_turned(
 
 impl Part {
     /// Returns the number of types or keys that this part goes through.
-    pub fn count(self, old: &PolicyTables, new: &PolicyTables) -> u32
+    pub fn count(self, old: &Prepared, new: &Prepared) -> u32
         ensures { result ≡ length (names_in self old.now new.now) }
     {
         match self {
-            Part::Lost | Part::Ceased => u32::from(old.type_count()),
-            Part::Gained | Part::Became => u32::from(new.type_count()),
-            Part::Relabelled => old.key_count(),
-            Part::Added => new.key_count(),
+            Part::Lost | Part::Ceased => u32::from(type_count(old)),
+            Part::Gained | Part::Became => u32::from(type_count(new)),
+            Part::Relabelled => old.contexts().count(),
+            Part::Added => new.contexts().count(),
         }
     }
 
@@ -88,8 +89,8 @@ impl Part {
     pub fn numbers(
         self,
         alloc: Global,
-        old: &PolicyTables,
-        new: &PolicyTables,
+        old: &Prepared,
+        new: &Prepared,
     ) -> Result<TypeNumbers, AllocError>
         ensures { IfOk result (λ numbers. AreNumbers self old.now new.now numbers) }
     {
@@ -103,8 +104,8 @@ impl Part {
     /// Appends the lines for a type or a key, given by its place in the order of the policy.
     pub fn push(
         self,
-        old: &PolicyTables,
-        new: &PolicyTables,
+        old: &Prepared,
+        new: &Prepared,
         numbers: &TypeNumbers,
         index: u32,
         held: &mut Vec<u8>,
@@ -115,12 +116,12 @@ impl Part {
             ++ lines_of self old.now new.now (at (names_in self old.now new.now) index)) }
     {
         match self {
-            Part::Lost => push_source(b'-', old, new, numbers, old.type_at(index), held),
-            Part::Gained => push_source(b'+', new, old, numbers, new.type_at(index), held),
-            Part::Relabelled => push_changed(old, new, old.key(index), held),
-            Part::Added => push_added(old, new, new.key(index), held),
-            Part::Ceased => push_turned(b'-', old, new, old.type_name(old.type_at(index)), held),
-            Part::Became => push_turned(b'+', new, old, new.type_name(new.type_at(index)), held),
+            Part::Lost => push_source(b'-', old, new, numbers, type_at(old, index), held),
+            Part::Gained => push_source(b'+', new, old, numbers, type_at(new, index), held),
+            Part::Relabelled => push_changed(old, new, key(old, index), held),
+            Part::Added => push_added(old, new, key(new, index), held),
+            Part::Ceased => push_turned(b'-', old, new, type_name(old, type_at(old, index)), held),
+            Part::Became => push_turned(b'+', new, old, type_name(new, type_at(new, index)), held),
         }
     }
 }

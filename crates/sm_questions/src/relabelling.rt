@@ -3,8 +3,9 @@
 ghost use Rattle.std.specs.Prelude.{◌≡◌, ◌++◌, OnOk};
 ghost use Rattle.sm_questions.specs.Relabelled as spec;
 
-use crate::PolicyTables;
+use crate::tables::has_key;
 use sm_kinds::spells;
+use sm_policy::Prepared;
 use std::alloc::AllocError;
 
 /// Appends `KEY OLD NEW`.
@@ -32,15 +33,15 @@ fn push_line(key: &[u8], before: &[u8], after: &[u8], held: &mut Vec<u8>) -> Res
 /// Appends the line for a key, if its label differs.
 #[tactic(auto, unfolding(crate::specs::Relabelled::changed))]
 pub fn push_changed(
-    old: &PolicyTables,
-    new: &PolicyTables,
+    old: &Prepared,
+    new: &Prepared,
     key: &[u8],
     held: &mut Vec<u8>,
 ) -> Result<(), AllocError>
     ensures { OnOk result (held.new.items ≡ held.old.items ++ spec.changed old.now new.now key.now) }
 {
-    let before = old.label_text(key);
-    let after = new.label_text(key);
+    let before = old.label(key).text();
+    let after = new.label(key).text();
     if spells(before, after) {
         return Ok(());
     }
@@ -50,14 +51,14 @@ pub fn push_changed(
 /// Appends the line for a key, if only the new policy has it and its label differs.
 #[tactic(auto, unfolding(crate::specs::Relabelled::added))]
 pub fn push_added(
-    old: &PolicyTables,
-    new: &PolicyTables,
+    old: &Prepared,
+    new: &Prepared,
     key: &[u8],
     held: &mut Vec<u8>,
 ) -> Result<(), AllocError>
     ensures { OnOk result (held.new.items ≡ held.old.items ++ spec.added old.now new.now key.now) }
 {
-    if old.has_key(key) {
+    if has_key(old, key) {
         return Ok(());
     }
     push_changed(old, new, key, held)

@@ -5,7 +5,8 @@ ghost use Rattle.sm_types.specs.Denoting.{types};
 ghost use Rattle.sm_policy.specs.Policy.{type_index};
 ghost use Rattle.sm_questions.specs.Runs.{AreEnds, IsRun, AreNumbersIn};
 
-use crate::PolicyTables;
+use crate::tables::{type_count, type_name};
+use sm_policy::Prepared;
 use std::alloc::{AllocError, Global};
 
 /// The numbers in the other policy of the types of one, and the end of the run that begins at each.
@@ -79,14 +80,14 @@ fn run_ends(alloc: Global, numbers: &[Option<u16>], count: u16) -> Result<Vec<u1
 /// Returns the number in the other policy of each type of one policy.
 fn numbers_in(
     alloc: Global,
-    one: &PolicyTables,
-    other: &PolicyTables,
+    one: &Prepared,
+    other: &Prepared,
 ) -> Result<Vec<Option<u16>>, AllocError>
     ensures { IfOk result (λ numbers. numbers.items ≡ map (type_index other.now) (types one.now.statements)) }
 {
     let mut numbers = Vec::new(alloc);
-    for index in 0..one.type_count() {
-        numbers.push(other.type_index(one.type_name(index)))?;
+    for index in 0..type_count(one) {
+        numbers.push(other.type_index(type_name(one, index)))?;
     }
     Ok(numbers)
 }
@@ -103,13 +104,13 @@ impl TypeNumbers {
     /// Returns the number in the other policy of each type of one policy, with the runs.
     pub(crate) fn between(
         alloc: Global,
-        one: &PolicyTables,
-        other: &PolicyTables,
+        one: &Prepared,
+        other: &Prepared,
     ) -> Result<TypeNumbers, AllocError>
         ensures { IfOk result (λ numbers. AreNumbersIn one.now other.now numbers) }
     {
         let numbers = numbers_in(alloc, one, other)?;
-        let ends = run_ends(alloc, &numbers, one.type_count())?;
+        let ends = run_ends(alloc, &numbers, type_count(one))?;
         Ok(TypeNumbers { numbers, ends })
     }
 }

@@ -1,11 +1,11 @@
 //! Answers to questions about small policies. Each is worked out by hand.
 
 use crate::{
-    FilterOptions, PolicyTables, Target, access, diff, explain, label, read_access, read_filter,
-    shown_lines,
+    FilterOptions, Target, access, diff, explain, label, read_access, read_filter, shown_lines,
 };
 use sm_engine::Counted;
 use sm_kinds::Word;
+use sm_policy::Prepared;
 use std::alloc::Global;
 use std::process::Abort;
 
@@ -24,13 +24,13 @@ media u:object_r:svc:s0
 * u:object_r:app:s0
 ";
 
-fn tables(rt: &impl Abort, alloc: Global, rules: &[u8], contexts: &[u8]) -> PolicyTables {
-    PolicyTables::from_texts(alloc, rules, contexts)
+fn tables(rt: &impl Abort, alloc: Global, rules: &[u8], contexts: &[u8]) -> Prepared {
+    Prepared::from_texts(alloc, rules, contexts)
         .ok()
         .expect(rt, "a policy")
 }
 
-fn labels(rt: &impl Abort, alloc: Global, policy: &PolicyTables, name: &[u8], line: &[u8]) -> bool {
+fn labels(rt: &impl Abort, alloc: Global, policy: &Prepared, name: &[u8], line: &[u8]) -> bool {
     let mut writer = Counted::new(Vec::new(alloc));
     label(alloc, policy, name, &mut writer)
         .ok()
@@ -52,7 +52,7 @@ struct Explained {
     passes: bool,
 }
 
-fn explains(rt: &impl Abort, alloc: Global, policy: &PolicyTables, expected: &Explained) -> bool {
+fn explains(rt: &impl Abort, alloc: Global, policy: &Prepared, expected: &Explained) -> bool {
     let [source, target, class, perm] = expected.words;
     let (class, perm) = read_access(policy, source, target, class, perm)
         .ok()
@@ -98,7 +98,7 @@ fn explanations(rt: HostRuntime) {
 fn lists(
     rt: &impl Abort,
     alloc: Global,
-    policy: &PolicyTables,
+    policy: &Prepared,
     options: &FilterOptions<'_>,
     lines: &[u8],
 ) -> bool {
@@ -375,7 +375,7 @@ const REFUSED: &[Refused] = &[
 
 fn shows(rt: &impl Abort, alloc: Global, refused: &Refused) -> bool {
     let (rules, contexts) = (refused.rules, refused.contexts);
-    let fault = PolicyTables::from_texts(alloc, rules, contexts)
+    let fault = Prepared::from_texts(alloc, rules, contexts)
         .err()
         .expect(rt, "a refusal");
     let shown = shown_lines(alloc, b"t.te", rules, b"labels", contexts, &fault);

@@ -3,8 +3,9 @@
 ghost use Rattle.std.specs.Prelude.{◌≡◌, IfOk};
 ghost use Rattle.sm_questions.specs.Words.{access_of, perm_in, unknown_words};
 
-use crate::PolicyTables;
+use crate::tables::is_declared;
 use sm_kinds::{Class, Perms, Word};
+use sm_policy::Prepared;
 use std::alloc::{AllocError, Global};
 
 /// A word of a question that names nothing.
@@ -24,7 +25,7 @@ pub enum Unknown<'a> {
 ///
 /// The first word that names nothing: the source, then the target, the class and the permission.
 pub fn read_access<'a>(
-    policy: &PolicyTables,
+    policy: &Prepared,
     source: &'a [u8],
     target: &'a [u8],
     class: &'a [u8],
@@ -32,10 +33,10 @@ pub fn read_access<'a>(
 ) -> Result<(Class, Perms), Unknown<'a>>
     ensures { result ≡ access_of policy.now source.now target.now class.now perm.now }
 {
-    if !policy.declares(source) {
+    if !is_declared(policy, source) {
         return Err(Unknown::Type(Word::new(source)));
     }
-    if !policy.declares(target) {
+    if !is_declared(policy, target) {
         return Err(Unknown::Type(Word::new(target)));
     }
     match Class::read(class) {

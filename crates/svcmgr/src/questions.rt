@@ -9,10 +9,9 @@ use sm_command::{
 };
 use sm_engine::{Counted, Fault, write_whole};
 use sm_kinds::Word;
-use sm_policy::PolicyFault;
+use sm_policy::{PolicyFault, Prepared};
 use sm_questions::{
-    FilterOptions, PolicyTables, Target, Unknown, access, diff, explain, label, read_access,
-    read_filter,
+    FilterOptions, Target, Unknown, access, diff, explain, label, read_access, read_filter,
 };
 use std::process::ExitCode;
 
@@ -24,7 +23,7 @@ pub fn ask<'a>(
 ) -> Result<ExitCode, Ending<'a>> {
     let rules = text_of(rt, options.rules)?;
     let contexts = text_of(rt, options.contexts)?;
-    match PolicyTables::from_texts(rt.alloc(), &rules, &contexts) {
+    match Prepared::from_texts(rt.alloc(), &rules, &contexts) {
         Ok(policy) => answer(rt, &policy, question),
         Err(fault) => refuse(rt, &fault),
     }
@@ -32,7 +31,7 @@ pub fn ask<'a>(
 
 fn answer<'a>(
     rt: &HostRuntime,
-    policy: &PolicyTables,
+    policy: &Prepared,
     question: Question<'a>,
 ) -> Result<ExitCode, Ending<'a>> {
     match question {
@@ -93,11 +92,7 @@ fn decided<'a>(ended: Result<bool, Fault>, is_closed: bool) -> Result<ExitCode, 
     }
 }
 
-fn tell_label<'a>(
-    rt: &HostRuntime,
-    policy: &PolicyTables,
-    name: &str,
-) -> Result<ExitCode, Ending<'a>> {
+fn tell_label<'a>(rt: &HostRuntime, policy: &Prepared, name: &str) -> Result<ExitCode, Ending<'a>> {
     let mut writer = Counted::new(Pipe::new(rt.stdout()));
     let ended = label(rt.alloc(), policy, name.as_bytes(), &mut writer);
     listed(ended, writer.into_inner().is_closed())
@@ -105,7 +100,7 @@ fn tell_label<'a>(
 
 fn tell_rule<'a>(
     rt: &HostRuntime,
-    policy: &PolicyTables,
+    policy: &Prepared,
     words: AccessWords<'_>,
 ) -> Result<ExitCode, Ending<'a>> {
     let source = words.source.as_bytes();
@@ -126,16 +121,16 @@ fn tell_rule<'a>(
 }
 
 /// Returns the name of the target's type.
-fn target_type<'a>(policy: &'a PolicyTables, target: TargetWord<'a>) -> &'a [u8] {
+fn target_type<'a>(policy: &'a Prepared, target: TargetWord<'a>) -> &'a [u8] {
     match target {
         TargetWord::Type(name) => name.as_bytes(),
-        TargetWord::Name(name) => policy.label_type(name.as_bytes()),
+        TargetWord::Name(name) => policy.label(name.as_bytes()).type_name(),
     }
 }
 
 fn tell_accesses<'a>(
     rt: &HostRuntime,
-    policy: &PolicyTables,
+    policy: &Prepared,
     words: FilterWords<'_>,
 ) -> Result<ExitCode, Ending<'a>> {
     let options = filter_options(words);
@@ -168,22 +163,18 @@ fn word<'a>(text: &'a str) -> Word<'a> {
 /// Reads the new policy, and lists what differs from the old one.
 fn tell_differences<'a>(
     rt: &HostRuntime,
-    old: &PolicyTables,
+    old: &Prepared,
     files: NewFiles<'a>,
 ) -> Result<ExitCode, Ending<'a>> {
     let rules = text_of(rt, files.rules)?;
     let contexts = text_of(rt, files.contexts)?;
-    match PolicyTables::from_texts(rt.alloc(), &rules, &contexts) {
+    match Prepared::from_texts(rt.alloc(), &rules, &contexts) {
         Ok(new) => compare(rt, old, &new),
         Err(fault) => refuse(rt, &fault),
     }
 }
 
-fn compare<'a>(
-    rt: &HostRuntime,
-    old: &PolicyTables,
-    new: &PolicyTables,
-) -> Result<ExitCode, Ending<'a>> {
+fn compare<'a>(rt: &HostRuntime, old: &Prepared, new: &Prepared) -> Result<ExitCode, Ending<'a>> {
     let mut writer = Counted::new(Pipe::new(rt.stdout()));
     let ended = diff(rt.alloc(), old, new, &mut writer);
     decided(ended, writer.into_inner().is_closed())

@@ -3,19 +3,19 @@
 use super::outcome::same_text;
 use sm_engine::{Counted, Fault};
 use sm_kinds::{Class, Perms, Word};
-use sm_policy::PolicyFault;
+use sm_policy::{PolicyFault, Prepared};
 use sm_questions::{
-    FilterOptions, PolicyTables, Target, Unknown, access, diff, explain, label, read_filter,
-    shown_lines, unknown_text,
+    FilterOptions, Target, Unknown, access, diff, explain, label, read_filter, shown_lines,
+    unknown_text,
 };
 use sm_samples::{DEVICE_LABELS, DEVICE_RULES, STRICTER_RULES};
 use std::alloc::Global;
 use std::process::Abort;
 
-/// The tables of a policy. `None` if an allocation failed.
-fn tables(rt: &impl Abort, alloc: Global, rules: &[u8]) -> Option<PolicyTables> {
-    match PolicyTables::from_texts(alloc, rules, DEVICE_LABELS) {
-        Ok(tables) => Some(tables),
+/// A policy. `None` if an allocation failed.
+fn prepared(rt: &impl Abort, alloc: Global, rules: &[u8]) -> Option<Prepared> {
+    match Prepared::from_texts(alloc, rules, DEVICE_LABELS) {
+        Ok(policy) => Some(policy),
         Err(fault) => {
             assert!(rt; matches!(fault, PolicyFault::Memory));
             None
@@ -42,13 +42,13 @@ fn wrote(
     }
 }
 
-fn labels(rt: &impl Abort, alloc: Global, policy: &PolicyTables) -> Option<()> {
+fn labels(rt: &impl Abort, alloc: Global, policy: &Prepared) -> Option<()> {
     let mut writer = Counted::new(Vec::new(alloc));
     let fault = label(alloc, policy, b"activity", &mut writer).err();
     wrote(rt, fault, writer, b"u:object_r:activity_service:s0 2\n")
 }
 
-fn explains(rt: &impl Abort, alloc: Global, policy: &PolicyTables) -> Option<()> {
+fn explains(rt: &impl Abort, alloc: Global, policy: &Prepared) -> Option<()> {
     let mut writer = Counted::new(Vec::new(alloc));
     let fault = explain(
         alloc,
@@ -67,7 +67,7 @@ fn explains(rt: &impl Abort, alloc: Global, policy: &PolicyTables) -> Option<()>
 fn lists_one(
     rt: &impl Abort,
     alloc: Global,
-    policy: &PolicyTables,
+    policy: &Prepared,
     options: &FilterOptions<'_>,
 ) -> Option<()> {
     let filter = read_filter(policy, options).ok().expect(rt, "known words");
@@ -78,7 +78,7 @@ fn lists_one(
 }
 
 /// Lists the accesses to one target, and then those to any target, whose lines are found together.
-fn lists(rt: &impl Abort, alloc: Global, policy: &PolicyTables) -> Option<()> {
+fn lists(rt: &impl Abort, alloc: Global, policy: &Prepared) -> Option<()> {
     let mut options = FilterOptions {
         source: Some(Word::new(b"untrusted_app")),
         target: Target::Type(Word::new(b"activity_service")),
@@ -91,7 +91,7 @@ fn lists(rt: &impl Abort, alloc: Global, policy: &PolicyTables) -> Option<()> {
     lists_one(rt, alloc, policy, &options)
 }
 
-fn compares(rt: &impl Abort, alloc: Global, old: &PolicyTables, new: &PolicyTables) -> Option<()> {
+fn compares(rt: &impl Abort, alloc: Global, old: &Prepared, new: &Prepared) -> Option<()> {
     let mut writer = Counted::new(Vec::new(alloc));
     let fault = diff(alloc, old, new, &mut writer).err();
     let line = b"- untrusted_app activity_service service_manager find\n";
@@ -112,7 +112,7 @@ fn shows_a_line(rt: &impl Abort, alloc: Global) -> Option<()> {
     Some(())
 }
 
-fn answers(rt: &impl Abort, alloc: Global, old: &PolicyTables, new: &PolicyTables) -> Option<()> {
+fn answers(rt: &impl Abort, alloc: Global, old: &Prepared, new: &Prepared) -> Option<()> {
     labels(rt, alloc, old)?;
     explains(rt, alloc, old)?;
     lists(rt, alloc, old)?;
@@ -122,8 +122,8 @@ fn answers(rt: &impl Abort, alloc: Global, old: &PolicyTables, new: &PolicyTable
 }
 
 fn asks(rt: &impl Abort, alloc: Global) -> Option<()> {
-    let old = tables(rt, alloc, DEVICE_RULES)?;
-    let new = tables(rt, alloc, STRICTER_RULES)?;
+    let old = prepared(rt, alloc, DEVICE_RULES)?;
+    let new = prepared(rt, alloc, STRICTER_RULES)?;
     answers(rt, alloc, &old, &new)
 }
 

@@ -1,8 +1,8 @@
-use Rattle.std.proofs.Common.{◌<◌, ◌≤◌, [], length, ◌∙◌, arith}
+use Rattle.std.proofs.Common.{◌<◌, [], length, ◌∙◌, arith}
 use Rattle.sm_engine.proofs.Results.{on_err}
 use Rattle.sm_questions.specs.Parts.{lines_of, names_in, part_lines}
-use Rattle.sm_questions.proofs.Anything.{any_held, any_list, any_step}
-use Rattle.sm_questions.proofs.Buffering.{passes_list, passes_step, stops_lost, stops_step}
+use Rattle.sm_questions.proofs.Anything.{any_held, any_step}
+use Rattle.sm_questions.proofs.Buffering.{passes_step, stops_lost, stops_step}
 use Rattle.sm_questions.proofs.comparing.put_part.Goals as goal
 
 pub returns-in_err-push-clause-stopped : goal.returns-in_err-push-clause-stopped
@@ -34,19 +34,3 @@ loop-index-preserved g c =
           (rw (c.len-before.ensures, c.len.ensures, c.loop-index.held.ok.0, c.push.new.held.ok.0) at c.either-any.ensures);
       count = c.in_ok-write_full.ensures.count ∙ c.loop-index.invariant.count;
     }
-
-pub returns-clause-ok : goal.returns-clause-ok
-unfolding part_lines
-returns-clause-ok g c =
-    let names = names_in c.args.part c.args.old.now c.args.new.now in
-    let f = lines_of c.args.part c.args.old.now c.args.new.now in
-    let le : length names ≤ c.loop-index.index = omega (arith, c.count-index-end.ensures) in
-    passes_list f names c.loop-index.index le c.loop-index.invariant.so_far
-
-pub returns-clause-any : goal.returns-clause-any
-unfolding part_lines
-returns-clause-any g c =
-    let names = names_in c.args.part c.args.old.now c.args.new.now in
-    let f = lines_of c.args.part c.args.old.now c.args.new.now in
-    let le : length names ≤ c.loop-index.index = omega (arith, c.count-index-end.ensures) in
-    any_list f names c.loop-index.index le c.loop-index.invariant.any

@@ -2,17 +2,9 @@ use Rattle.std.proofs.Common.{◌≤◌, ◌∙◌, ◌++◌, length, ap, arith}
 use Rattle.sm_types.specs.Names.{at}
 use Rattle.sm_types.specs.Denoting.{types}
 use Rattle.sm_questions.specs.Accesses.{pair_lines, target_lines, targets_lines}
-use Rattle.sm_questions.proofs.Buffering.{held_step, held_list}
+use Rattle.sm_questions.proofs.Buffering.{held_list}
 use Rattle.sm_questions.proofs.Numbers.{numbered, numbered_lines}
 use Rattle.sm_questions.proofs.listing.push_targets.Goals as goal
-
-pub loop-target-preserved : goal.loop-target-preserved
-loop-target-preserved c =
-    let names = types c.args.policy.now.statements in
-    let f = numbered names (pair_lines c.args.policy.now c.args.filter.now.perms.0 (at names c.args.source)) in
-    held_step f c.args.table.now.targets.now c.loop-target.target-index 0 c.args.held.now.items
-    (rw c.targets-target-items.ensures at c.loop-target-test.true) c.loop-target.invariant
-    (rw c.targets-target-items.ensures at c.in_ok-push_pair.ensures)
 
 pub returns : goal.returns
 unfolding target_lines targets_lines

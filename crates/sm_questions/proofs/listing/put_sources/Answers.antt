@@ -1,8 +1,8 @@
-use Rattle.std.proofs.Common.{◌<◌, ◌≤◌, [], length, ◌∙◌, arith}
+use Rattle.std.proofs.Common.{◌<◌, [], length, ◌∙◌, arith}
 use Rattle.sm_engine.proofs.Results.{on_err}
 use Rattle.sm_types.specs.Denoting.{types}
 use Rattle.sm_questions.specs.Accesses.{access_lines, source_lines}
-use Rattle.sm_questions.proofs.Buffering.{passes_list, passes_step, stops_lost, stops_step}
+use Rattle.sm_questions.proofs.Buffering.{passes_step, stops_lost, stops_step}
 use Rattle.sm_questions.proofs.listing.put_sources.Goals as goal
 
 pub returns-in_err-push_source-clause-stopped : goal.returns-in_err-push_source-clause-stopped
@@ -32,11 +32,3 @@ loop-source-preserved g c =
           c.in_ok-push_source.ensures.lines c.in_ok-write_full.ensures.ok;
       count = c.in_ok-write_full.ensures.count ∙ c.loop-source.invariant.count;
     }
-
-pub returns-clause-ok : goal.returns-clause-ok
-unfolding access_lines
-returns-clause-ok g c =
-    let names = types c.args.policy.now.statements in
-    let f = source_lines c.args.policy.now c.args.filter.now in
-    let le : length names ≤ c.loop-source.source = omega (arith, c.type_count-source-end.ensures) in
-    passes_list f names c.loop-source.source le c.loop-source.invariant.so_far

@@ -1,4 +1,4 @@
-use Rattle.std.proofs.Common.{◌≡◌, ◌<◌, ◌≤◌, ◌∙◌, length, refl, sym, arith}
+use Rattle.std.proofs.Common.{◌<◌, ◌≤◌, ◌∙◌, length, refl, sym, arith}
 use Rattle.std.proofs.lemmas.List.{append-nil}
 use Rattle.sm_types.specs.Names.{at}
 use Rattle.sm_types.specs.Denoting.{types}
@@ -31,8 +31,3 @@ loop-target-preserved c =
           c.granted_row-here.ensures some none kept in
           rw (w.held-is, nothing, append-nil c.loop-target.held.items) refl
     ])
-
-pub returns : goal.returns
-returns c =
-    let end : c.loop-target.target ≡ c.args.to = omega (arith, c.requires.from) in
-    rw end at c.loop-target.invariant

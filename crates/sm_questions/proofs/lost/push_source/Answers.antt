@@ -4,9 +4,8 @@ use Rattle.std.proofs.lemmas.List.{append-nil}
 use Rattle.sm_types.specs.Names.{at}
 use Rattle.sm_types.specs.Denoting.{types}
 use Rattle.sm_policy.specs.Policy.{Policy, type_index}
-use Rattle.sm_questions.specs.Differences.{lost_pair, lost_source}
+use Rattle.sm_questions.specs.Differences.{lost_pair}
 use Rattle.sm_questions.specs.Runs.{IsRun, run_lines}
-use Rattle.sm_questions.proofs.Buffering.{held_list}
 use Rattle.sm_questions.proofs.Rising.{run_at, run_kept, run_then, run_within}
 use Rattle.sm_questions.proofs.lost.push_source.Goals as goal
 
@@ -19,14 +18,6 @@ preserved : (sign : ℕ) (one other : Policy) (s : List ℕ) {from to count : �
 preserved sign one other s {from} {to} {count} first {held} {next} run count_is so_far added =
     let within = run_within one other from to run in
     (omega (arith, within, count_is), run_then sign one other s from to first (omega (arith, run.some)) so_far added)
-
-pub loop-from-smaller : goal.loop-from-smaller
-loop-from-smaller c =
-    let to = get_or c.as_slice-ends.result.now c.from-in-loop-from.result 0 in
-    let run = run_at c.args.one.now c.args.other.now c.args.numbers.now c.loop-from.from to c.requires.numbers
-    (omega (arith, c.loop-from-test.true, c.type_count-count.ensures))
-    (rw (c.as_slice-ends.ensures.value, c.from-in-loop-from.ensures) refl) in
-    omega (arith, run.some, c.loop-from-test.true)
 
 pub loop-from-preserved-in_ok-push_run : goal.loop-from-preserved-in_ok-push_run
 loop-from-preserved-in_ok-push_run c =
@@ -58,11 +49,3 @@ loop-from-preserved c =
     let p = preserved c.args.sign c.args.one.now c.args.other.now (at (types c.args.one.now.statements) c.args.source)
     c.args.held.now.items run c.type_count-count.ensures c.loop-from.invariant.so_far same in
     record { within = p.0; so_far = p.1 }
-
-pub returns : goal.returns
-unfolding lost_source
-returns c =
-    let names = types c.args.one.now.statements in
-    let f = lost_pair c.args.sign c.args.one.now c.args.other.now (at names c.args.source) in
-    let le : length names ≤ c.loop-from.from = omega (arith, c.type_count-count.ensures) in
-    held_list f names c.loop-from.from c.args.held.now.items le c.loop-from.invariant.so_far
