@@ -1,12 +1,9 @@
 //! A client's connection at the door.
 
-ghost use Rattle.std.specs.Prelude.{◌≡◌, false, MatchBool, []};
-ghost use Rattle.sm_history.specs.declared.query.Query.TheVariants.{List as ListNames, Version as AskVersion};
-ghost use Rattle.sm_history.specs.Promises.{Submitted};
+ghost use Rattle.std.specs.Prelude.{◌≡◌, MatchBool, []};
 ghost use Rattle.sm_history.specs.Tokens.{Knows};
 ghost use Rattle.sm_history.specs.Verdict.{is_die};
 ghost use Rattle.sm_session.specs.declared.response.Response.TheVariants.{Replied};
-ghost use Rattle.sm_door.specs.Logged.{Logged};
 ghost use Rattle.sm_connection.specs.Connections.{ClientGives, GivesHello, GivesLine, GivesLook, GivesChange, GivesDeath};
 ghost use Rattle.sm_connection.specs.Connections.{GivesDeathAfterTries, Greets, DiesAtDoor, Reads, TakesSession};
 
@@ -121,24 +118,9 @@ impl<'a, J: Naming, G: Gate + Drop, R: Wait> Client<'a, J, G, R> {
         if is_death(&event) {
             return self.replied(self.die(held));
         }
-        match session_of(held) {
-            Some(session) => self.submit(held, session, event),
-            None => self.replied(not_connected()),
-        }
-    }
-
-    fn submit(
-        &self,
-        held: &mut Option<SeatOrSession<J>>,
-        session: Session<J>,
-        event: Event,
-    ) -> Answered
-        requires { is_die event ≡ false }
-        ensures { (reply : _) × (result.response ≡ Replied reply)
-            × ((token : Knows) × Submitted session token event reply
-            × Logged session token event reply result.records.items × (held.new ≡ Some token)) }
-    {
-        let mut session = session;
+        let Some(mut session) = session_of(held) else {
+            return self.replied(not_connected());
+        };
         let (reply, records) = self.door.submit_recorded(self.rt, &mut session, event);
         *held = Some(SeatOrSession::of_session(session));
         Answered::recorded(reply, records)
@@ -148,48 +130,27 @@ impl<'a, J: Naming, G: Gate + Drop, R: Wait> Client<'a, J, G, R> {
         ensures { (reply : _) × (result.response ≡ Replied reply)
             × GivesLook held.old query reply result.records.items held.new }
     {
-        match session_of(held) {
-            Some(session) => self.read(held, session, query),
-            None => self.replied(not_connected()),
-        }
+        let Some(mut session) = session_of(held) else {
+            return self.replied(not_connected());
+        };
+        let answered = self.read(&mut session, query);
+        *held = Some(SeatOrSession::of_session(session));
+        answered
     }
 
-    fn read(
-        &self,
-        held: &mut Option<SeatOrSession<J>>,
-        session: Session<J>,
-        query: Query,
-    ) -> Answered
+    fn read(&self, session: &mut Session<J>, query: Query) -> Answered
         ensures { (reply : _) × (result.response ≡ Replied reply)
-            × Reads session query reply result.records.items held.new }
+            × Reads session.old query reply result.records.items (Some session.new) }
     {
         match query {
-            Query::List(mask) => return self.list(held, session, mask),
-            Query::Version => return self.version(held, session),
+            Query::List(mask) => {
+                let (reply, records) = self.door.list_recorded(session, mask);
+                return Answered::recorded(reply, records);
+            }
+            Query::Version => return self.replied(self.door.version(session)),
             Query::Explain { .. } => {}
         }
-        *held = Some(SeatOrSession::of_session(session));
         self.replied(not_yours())
-    }
-
-    fn list(&self, held: &mut Option<SeatOrSession<J>>, session: Session<J>, mask: u32) -> Answered
-        ensures { (reply : _) × (result.response ≡ Replied reply)
-            × Reads session (ListNames mask) reply result.records.items held.new }
-    {
-        let mut session = session;
-        let (reply, records) = self.door.list_recorded(&mut session, mask);
-        *held = Some(SeatOrSession::of_session(session));
-        Answered::recorded(reply, records)
-    }
-
-    fn version(&self, held: &mut Option<SeatOrSession<J>>, session: Session<J>) -> Answered
-        ensures { (reply : _) × (result.response ≡ Replied reply)
-            × Reads session AskVersion reply result.records.items held.new }
-    {
-        let mut session = session;
-        let reply = self.door.version(&mut session);
-        *held = Some(SeatOrSession::of_session(session));
-        self.replied(reply)
     }
 
     fn die(&self, held: &mut Option<SeatOrSession<J>>) -> Reply

@@ -88,14 +88,11 @@ impl<'a, C: Connection<S>, S, B: FnMut(Occasion), H: Supervisor, L: AuditSink> D
         let Answered { response, records } = self.connection.answer(&mut self.held, command);
         self.monitor.see(asked, &response);
         self.sink.give(&records);
-        (self.tend)(occasion_of(&response));
+        let occasion = match &response {
+            Response::Replied(Reply::Done(Outcome::Connected(_))) => Occasion::Connected,
+            _ => Occasion::Answered,
+        };
+        (self.tend)(occasion);
         response
-    }
-}
-
-fn occasion_of(response: &Response) -> Occasion {
-    match response {
-        Response::Replied(Reply::Done(Outcome::Connected(_))) => Occasion::Connected,
-        _ => Occasion::Answered,
     }
 }

@@ -9,7 +9,7 @@ use Rattle.sm_wire.specs.declared.request.Request.{Request}
 use Rattle.sm_wire.specs.declared.request.Request.TheVariants.{Hello, Change, Look, Reload, Denials, Seal}
 use Rattle.sm_wire.specs.declared.item.Item.{Item}
 use Rattle.sm_wire.specs.declared.item.Item.TheVariants.{Asked, Policy, Malformed, LineTooLong}
-use Rattle.sm_wire.specs.declared.kind.Kind.{Kind, TheVariants.Client, TheVariants.Admin, TheVariants.Script}
+use Rattle.sm_wire.specs.declared.kind.Kind.{Kind, TheVariants.Client, TheVariants.Admin}
 use Rattle.sm_wire.specs.Replies.{visible_reply}
 use Rattle.sm_engine.specs.declared.counted.Counted.{Counted}
 use Rattle.sm_engine.specs.declared.fault.Fault.{Fault}
@@ -38,24 +38,12 @@ admin_may (Reload expected rules contexts) = false
 admin_may Denials = true
 admin_may Seal = true
 
--- This request is allowed in this state. A session is never a script's.
-unfoldable pub may_ask : Kind → Bool → Request → Bool
-may_ask Client connected request = client_may connected request
-may_ask Admin connected request = admin_may request
-may_ask Script connected request = false
-
--- Only an administrator replaces the policy.
-unfoldable pub may_reload : Kind → Bool
-may_reload Client = false
-may_reload Admin = true
-may_reload Script = false
-
--- An item is passed to the desk.
+-- An item is passed to the desk. Only an administrator replaces the policy, and a session is never a script's.
 abbrev pub is_asked : Kind → Bool → Item → Bool
-is_asked kind connected (Asked request) = may_ask kind connected request
-is_asked kind connected (Policy texts) = may_reload kind
-is_asked kind connected Malformed = false
-is_asked kind connected LineTooLong = false
+is_asked Client connected (Asked request) = client_may connected request
+is_asked Admin connected (Asked request) = admin_may request
+is_asked Admin connected (Policy texts) = true
+is_asked _ connected _ = false
 
 -- An item that isn't passed to the desk is answered so.
 abbrev pub said_to : Item → List ℕ

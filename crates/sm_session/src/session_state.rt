@@ -4,7 +4,7 @@ ghost use Rattle.std.specs.Prelude.{◌≡◌, ◌++◌, [], OnOk, OnErr, true, 
 ghost use Rattle.sm_wire.specs.declared.request.Request.TheVariants.{Hello, Change};
 ghost use Rattle.sm_wire.specs.declared.item.Item.TheVariants.{Asked, Policy};
 ghost use Rattle.sm_session.specs.Desks.{DeskAnswers};
-ghost use Rattle.sm_session.specs.Sessions.{client_may, admin_may, may_ask, may_reload, is_asked, is_connected};
+ghost use Rattle.sm_session.specs.Sessions.{client_may, admin_may, is_asked, is_connected};
 ghost use Rattle.sm_session.specs.Sessions.{is_died, Asks, AsksOnce, Appends, Loses, said_to};
 
 use crate::command::Command;
@@ -36,11 +36,11 @@ impl<D: Desk> SessionState<D> {
         if self.over {
             return false;
         }
-        match item {
-            Item::Asked(request) => may_ask(self.kind, self.connected, request),
-            Item::Policy(_) => may_reload(self.kind),
-            Item::Malformed => false,
-            Item::LineTooLong => false,
+        match (self.kind, item) {
+            (Kind::Client, Item::Asked(request)) => client_may(self.connected, request),
+            (Kind::Admin, Item::Asked(request)) => admin_may(request),
+            (Kind::Admin, Item::Policy(_)) => true,
+            _ => false,
         }
     }
 
@@ -59,8 +59,15 @@ impl<D: Desk> SessionState<D> {
         ensures err { OnErr result (Loses (AsksOnce (DeskAnswers D.answers) self.old item) self.old self.new) }
     {
         match item {
-            Item::Asked(request) => self.pass_request(alloc, request, replies),
-            Item::Policy(texts) => self.pass_policy(alloc, &texts, replies),
+            Item::Asked(request) => {
+                let telling = request.telling();
+                let response = self.ask(request);
+                push_response(alloc, replies, telling, &response)
+            }
+            Item::Policy(texts) => {
+                let response = self.reload(alloc, &texts);
+                push_response(alloc, replies, Telling::Whole, &response)
+            }
             Item::Malformed => unreachable!(),
             Item::LineTooLong => unreachable!(),
         }
@@ -77,39 +84,6 @@ impl<D: Desk> SessionState<D> {
             Item::LineTooLong => replies.extend_from_slice(b"fault long\n"),
             _ => replies.extend_from_slice(b"malformed\n"),
         }
-    }
-
-    fn pass_request(
-        &mut self,
-        alloc: Global,
-        request: Request,
-        replies: &mut Vec<u8>,
-    ) -> Result<(), AllocError>
-        requires can { D.can_answer self.old.desk }
-        ensures can { D.can_answer self.new.desk }
-        ensures ok { OnOk result (Appends (λ text. AsksOnce (DeskAnswers D.answers) self.old (Asked request) text self.new)
-            replies.old.items replies.new.items) }
-        ensures err { OnErr result (Loses (AsksOnce (DeskAnswers D.answers) self.old (Asked request)) self.old self.new) }
-    {
-        let telling = request.telling();
-        let response = self.ask(request);
-        push_response(alloc, replies, telling, &response)
-    }
-
-    fn pass_policy(
-        &mut self,
-        alloc: Global,
-        texts: &PolicyTexts,
-        replies: &mut Vec<u8>,
-    ) -> Result<(), AllocError>
-        requires can { D.can_answer self.old.desk }
-        ensures can { D.can_answer self.new.desk }
-        ensures ok { OnOk result (Appends (λ text. AsksOnce (DeskAnswers D.answers) self.old (Policy texts.now) text self.new)
-            replies.old.items replies.new.items) }
-        ensures err { OnErr result (Loses (AsksOnce (DeskAnswers D.answers) self.old (Policy texts.now)) self.old self.new) }
-    {
-        let response = self.reload(alloc, texts);
-        push_response(alloc, replies, Telling::Whole, &response)
     }
 
     // Asks the desk once.
@@ -166,17 +140,6 @@ impl<D: Desk> SessionState<D> {
     }
 }
 
-#[tactic(auto, unfolding(crate::specs::Sessions::may_ask))]
-fn may_ask(kind: Kind, connected: bool, request: &Request) -> bool
-    ensures { result ≡ may_ask kind connected request.now }
-{
-    match kind {
-        Kind::Client => client_may(connected, request),
-        Kind::Admin => admin_may(request),
-        Kind::Script => false,
-    }
-}
-
 #[tactic(auto, unfolding(crate::specs::Sessions::client_may))]
 fn client_may(connected: bool, request: &Request) -> bool
     ensures { result ≡ client_may connected request.now }
@@ -202,17 +165,6 @@ fn admin_may(request: &Request) -> bool
         Request::Reload { .. } => false,
         Request::Denials => true,
         Request::Seal => true,
-    }
-}
-
-#[tactic(auto, unfolding(crate::specs::Sessions::may_reload))]
-fn may_reload(kind: Kind) -> bool
-    ensures { result ≡ may_reload kind }
-{
-    match kind {
-        Kind::Client => false,
-        Kind::Admin => true,
-        Kind::Script => false,
     }
 }
 

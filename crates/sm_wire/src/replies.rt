@@ -5,7 +5,6 @@ ghost use Rattle.std.specs.Fmt.{decimal};
 ghost use Rattle.sm_kinds.specs.Messages.{numbered};
 ghost use Rattle.sm_wire.specs.Replies.{names_text, why_text, answer_text, outcome_text, sealed_text, answered_text};
 ghost use Rattle.sm_wire.specs.Replies.{told_text, told_in};
-ghost use Rattle.sm_history.specs.Told.{told_to_get};
 
 use crate::deliveries::push_delivery;
 use crate::names::push_names;
@@ -25,6 +24,7 @@ pub fn reply_line(alloc: Global, telling: Telling, reply: &Reply) -> Result<Vec<
 }
 
 /// Appends the line of the visible part of a reply, with its newline. On error a part may have been appended.
+#[tactic(auto, unfolding(crate::specs::Replies::told_text, crate::specs::Replies::answered_text))]
 pub fn push_reply(
     alloc: Global,
     out: &mut Vec<u8>,
@@ -34,29 +34,13 @@ pub fn push_reply(
     ensures { OnOk result (out.new.items ≡ out.old.items ++ told_text (told_in telling reply.now)) }
 {
     match telling {
-        Telling::Whole => push_told(alloc, out, reply),
-        Telling::ToGet => push_got(alloc, out, reply),
+        Telling::ToGet if is_hidden(reply) => out.extend_from_slice(b"null\n"),
+        _ => {
+            push_answered(alloc, out, reply)?;
+            out.push(b'\n')?;
+            Ok(())
+        }
     }
-}
-
-// Appends the line of a reply to a Get.
-fn push_got(alloc: Global, out: &mut Vec<u8>, reply: &Reply) -> Result<(), AllocError>
-    ensures { OnOk result (out.new.items ≡ out.old.items ++ told_text (told_to_get reply.now)) }
-{
-    if is_hidden(reply) {
-        return push_told(alloc, out, &Reply::GotNull);
-    }
-    push_told(alloc, out, reply)
-}
-
-// Appends the line of a reply, all of which is visible, with its newline.
-#[tactic(auto, unfolding(crate::specs::Replies::told_text))]
-fn push_told(alloc: Global, out: &mut Vec<u8>, reply: &Reply) -> Result<(), AllocError>
-    ensures { OnOk result (out.new.items ≡ out.old.items ++ told_text reply.now) }
-{
-    push_answered(alloc, out, reply)?;
-    out.push(b'\n')?;
-    Ok(())
 }
 
 #[tactic(auto, unfolding(crate::specs::Replies::answered_text))]

@@ -2,7 +2,6 @@
 
 ghost use Rattle.std.specs.Prelude.{◌≡◌};
 ghost use Rattle.sm_history.specs.declared.reply.Reply.{Reply};
-ghost use Rattle.sm_history.specs.Told.{told};
 ghost use Rattle.sm_wire.specs.Reading.{ReadsAs};
 ghost use Rattle.sm_wire.specs.Grammar.{request_of};
 ghost use Rattle.sm_wire.specs.Spelling.{ReadsSpelled};
@@ -52,18 +51,8 @@ impl Request {
         ensures { (reply : Reply) → visible_reply self.now reply ≡ told_in result reply }
     {
         match self {
-            Request::Change(_, event) => event_telling(event),
+            Request::Change(_, Event::Get { name: _ }) => Telling::ToGet,
             _ => Telling::Whole,
         }
-    }
-}
-
-// Returns how much of the reply is visible to the actor of an event.
-fn event_telling(event: &Event) -> Telling
-    ensures { (reply : Reply) → told event.now reply ≡ told_in result reply }
-{
-    match event {
-        Event::Get { name: _ } => Telling::ToGet,
-        _ => Telling::Whole,
     }
 }

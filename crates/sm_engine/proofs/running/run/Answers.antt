@@ -1,14 +1,14 @@
 use Rattle.std.proofs.Common.{◌≡◌, ◌≢◌, ◌≤◌, ◌<◌, ◌+◌, ◌-◌, ℕ, List, length, take, Err, arith, refl, sym, ◌∙◌}
 use Rattle.std.proofs.Common.{inl, inr, true, false, ap, ◌⊎◌, []}
 use Rattle.std.proofs.lemmas.List.{length-take-le}
-use Rattle.std.proofs.lemmas.Result.{IfErr-at_err, err_from_is_err_and}
+use Rattle.std.proofs.lemmas.Result.{err_from_is_err_and}
 use Rattle.std.specs.Io.KnownBytes.{Consumes}
 use Rattle.std.specs.Prelude.{min}
 use Rattle.sm_engine.specs.Counts.{greatest_count}
 use Rattle.sm_engine.specs.declared.fault.Fault.{Fault}
 use Rattle.sm_engine.specs.declared.fault.Fault.TheVariants.{WriteFault, ReadFault, Memory}
-use Rattle.sm_engine.proofs.ServeLemmas.{sofar_start, sofar_next, served_long, served_stop, served_read_fault}
-use Rattle.sm_engine.proofs.ServeLemmas.{served_enough, served_at_end, served_over}
+use Rattle.sm_engine.proofs.ServeLemmas.{sofar_next, served_long, served_stop, served_read_fault}
+use Rattle.sm_engine.proofs.ServeLemmas.{served_at_end, served_over}
 use Rattle.sm_engine.proofs.running.run.Goals as goal
 
 -- The number of reads.
@@ -16,26 +16,9 @@ few : (old before now n : ℕ) → before ≡ min (old + n) greatest_count → n
     → now - old ≤ n + 1
 few old before now n e f = omega arith
 
-enough : (old now n : ℕ) → now ≡ min (old + n) greatest_count → now - old ≤ n
-enough old now n e = omega arith
-
 -- A read that gave something.
 some : (n : ℕ) (buffer : List ℕ) → n ≤ length buffer → n ≢ 0 → 0 < length (take n buffer)
 some n buffer within ne = omega (arith, length-take-le n buffer within)
-
-pub loop-reads-init : goal.loop-reads-init
-loop-reads-init g c = record {
-  sofar = sofar_start _ _ _ _ _ _ _ _ c.new-lines.ensures c.requires.begins;
-  idle = c.new-buffers.ensures;
-  reads = omega arith;
-  reader_count = refl;
-  writer_count = refl;
-  audit_count = refl;
-  silent = λ _. refl;
-}
-
-pub read_piece-requires-clause-count : goal.read_piece-requires-clause-count
-read_piece-requires-clause-count g c = rw c.loop-reads.invariant.reader_count c.requires.reader
 
 pub returns-in_err-n-clause-served : goal.returns-in_err-n-clause-served
 returns-in_err-n-clause-served g c =
@@ -46,12 +29,6 @@ returns-in_err-n-clause-served g c =
     rw f (served_read_fault _ c.loop-reads.invariant.sofar
     (few _ _ _ _ c.loop-reads.invariant.reads c.in_err-n.ensures.calls) _ c.in_err-n.ensures.keeps)
 
-pub returns-in_err-n-clause-read_fault : goal.returns-in_err-n-clause-read_fault
-returns-in_err-n-clause-read_fault g c = λ h. rw (sym c.loop-reads.invariant.reader_count) c.in_err-n.ensures.failed
-
-pub write_ending-requires : goal.write_ending-requires
-write_ending-requires g c = rw c.loop-reads.invariant.writer_count c.requires.writer
-
 pub returns-then-n-eq0-clause-served : goal.returns-then-n-eq0-clause-served
 returns-then-n-eq0-clause-served g c =
     let none : Consumes _ _ [] = rw c.if-n-eq0.true at c.in_ok-n.ensures.bytes in
@@ -59,25 +36,6 @@ returns-then-n-eq0-clause-served g c =
     (few _ _ _ _ c.loop-reads.invariant.reads c.in_ok-n.ensures.calls) _ none _ c.write_ending.result
     c.write_ending.ensures.ok
     c.write_ending.ensures.front c.write_ending.ensures.fault
-
-pub returns-then-n-eq0-clause-write_fault : goal.returns-then-n-eq0-clause-write_fault
-returns-then-n-eq0-clause-write_fault g c = λ h.
-    let f = IfErr-at_err _ h c.write_ending.ensures.failed in
-    omega (arith, c.loop-reads.invariant.writer_count, c.loop-reads.invariant.audit_count)
-
-pub returns-then-n-eq0-clause-write_told : goal.returns-then-n-eq0-clause-write_told
-returns-then-n-eq0-clause-write_told g c = λ h. c.write_ending.ensures.told
-    (omega (arith, h, c.loop-reads.invariant.writer_count, c.loop-reads.invariant.audit_count))
-
-pub take_piece-requires-clause-alive : goal.take_piece-requires-clause-alive
-take_piece-requires-clause-alive g c = rw c.loop-reads.invariant.sofar.scanned
-    c.loop-reads.invariant.sofar.caught_up.alive
-
-pub take_piece-requires-clause-writer : goal.take_piece-requires-clause-writer
-take_piece-requires-clause-writer g c = rw c.loop-reads.invariant.writer_count c.requires.writer
-
-pub take_piece-requires-clause-audit : goal.take_piece-requires-clause-audit
-take_piece-requires-clause-audit g c = rw c.loop-reads.invariant.audit_count c.requires.audit
 
 pub returns-in_err-take_piece-clause-served : goal.returns-in_err-take_piece-clause-served
 returns-in_err-take_piece-clause-served g c =
@@ -87,22 +45,6 @@ returns-in_err-take_piece-clause-served g c =
     rw (p.1, p.2) (served_stop _ _ _ c.loop-reads.invariant.sofar
     (few _ _ _ _ c.loop-reads.invariant.reads c.in_ok-n.ensures.calls) c.in_ok-n.ensures.bytes
     c.in_err-take_piece.ensures.err _ which)
-
-pub take_piece-requires-clause-idle : goal.take_piece-requires-clause-idle
-take_piece-requires-clause-idle g c = c.loop-reads.invariant.idle
-
-pub returns-in_err-take_piece-clause-read_fault : goal.returns-in_err-take_piece-clause-read_fault
-returns-in_err-take_piece-clause-read_fault g c = λ h.
-    let p = err_from_is_err_and c.from_residual-in_err-take_piece.result c.from_residual-in_err-take_piece.ensures.1 in
-    let e : c.in_err-take_piece.field-0.0 ≡ ReadFault = cc (p.1, p.2, h) in
-    elim c.in_err-take_piece.ensures.fault [ inl w ↦ absurd (cc (w, e)) | inr w ↦ absurd (cc (w, e)) ]
-
-pub returns-in_err-take_piece-clause-write_fault : goal.returns-in_err-take_piece-clause-write_fault
-returns-in_err-take_piece-clause-write_fault g c = λ h.
-    let p = err_from_is_err_and c.from_residual-in_err-take_piece.result c.from_residual-in_err-take_piece.ensures.1 in
-    let e : c.in_err-take_piece.field-0.0 ≡ WriteFault = cc (p.1, p.2, h) in
-    let f = c.in_err-take_piece.ensures.failed (rw e refl) in
-    omega (arith, f, c.loop-reads.invariant.writer_count, c.loop-reads.invariant.audit_count)
 
 pub returns-then-is_over-clause-served : goal.returns-then-is_over-clause-served
 returns-then-is_over-clause-served g c = served_over _ _ _ c.loop-reads.invariant.sofar
@@ -126,7 +68,3 @@ loop-reads-preserved g c = record {
   audit_count = c.in_ok-take_piece.ensures.audit_count ∙ c.loop-reads.invariant.audit_count;
   silent = λ s. c.take_piece.ensures.unaudited s ∙ c.loop-reads.invariant.silent s;
 }
-
-pub returns-clause-served : goal.returns-clause-served
-returns-clause-served g c = served_enough _ c.loop-reads.invariant.sofar
-    (enough _ _ _ c.loop-reads.invariant.reads) (omega arith)
