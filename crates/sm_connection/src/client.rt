@@ -99,17 +99,6 @@ impl<'a, J: Naming, G: Gate + Drop, R: Wait> Client<'a, J, G, R> {
         }
     }
 
-    fn line(&self, held: &mut Option<SeatOrSession<J>>, request: Request) -> Answered
-        ensures { (reply : _) × (result.response ≡ Replied reply)
-            × GivesLine held.old request reply result.records.items held.new }
-    {
-        match request {
-            Request::Change(_, event) => self.change(held, event),
-            Request::Look(_, query) => self.look(held, query),
-            _ => self.replied(not_yours()),
-        }
-    }
-
     fn change(&self, held: &mut Option<SeatOrSession<J>>, event: Event) -> Answered
         ensures { (reply : _) × (result.response ≡ Replied reply)
             × MatchBool (is_die event) (GivesDeath held.old reply held.new × (result.records.items ≡ []))
@@ -208,7 +197,9 @@ impl<'a, J: Naming, G: Gate + Drop, R: Wait> Connection<Option<SeatOrSession<J>>
     fn answer(&self, held: &mut Option<SeatOrSession<J>>, command: Command) -> Answered {
         match command {
             Command::Hello(who) => self.replied(self.hello(held, who)),
-            Command::Line(request) => self.line(held, request),
+            Command::Line(Request::Change(_, event)) => self.change(held, event),
+            Command::Line(Request::Look(_, query)) => self.look(held, query),
+            Command::Line(_) => self.replied(not_yours()),
             Command::Install { .. } => self.replied(not_yours()),
             Command::Death => self.replied(self.die_after_tries(held)),
         }

@@ -104,27 +104,14 @@ impl Gauge {
     /// Returns whether the server is to seal the open segment by itself: it has the required number of entries or
     /// bytes, it was full before that, since slots are kept for the deaths of clients, or an allocation failed.
     pub fn is_due(&self) -> bool {
-        if self.seal_at.is_never() {
+        let SealAt { entries, bytes } = self.seal_at;
+        if entries.is_none() && bytes.is_none() {
             return false;
         }
-        self.has_entries()
-            || self.has_bytes()
+        entries.is_some_and(|entries| self.used() >= u64::from(entries))
+            || bytes.is_some_and(|bytes| self.bytes.load(Ordering::SeqCst) >= bytes)
             || self.reported.load(Ordering::SeqCst) == FULL
             || self.memory.load(Ordering::SeqCst) == SHORT
-    }
-
-    fn has_entries(&self) -> bool {
-        match self.seal_at.entries {
-            Some(entries) => self.used() >= u64::from(entries),
-            None => false,
-        }
-    }
-
-    fn has_bytes(&self) -> bool {
-        match self.seal_at.bytes {
-            Some(bytes) => self.bytes.load(Ordering::SeqCst) >= bytes,
-            None => false,
-        }
     }
 
     /// Prepares a seal: if an allocation failed since the last one, the reserve is freed for it.

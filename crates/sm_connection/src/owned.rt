@@ -191,15 +191,6 @@ pub fn outcome_bytes(outcome: &Outcome) -> u64
     }
 }
 
-fn request_bytes(request: &Request) -> u64
-    ensures { result ≡ spec.request_bytes request.now }
-{
-    match request {
-        Request::Change(_, event) => event_bytes(event).saturating_add(ENTRY),
-        _ => 0,
-    }
-}
-
 /// Returns the bytes of the entry that a command makes if it is accepted, without those of the outcome. A command that
 /// makes no change has none.
 pub fn command_bytes(command: &Command) -> u64
@@ -207,7 +198,8 @@ pub fn command_bytes(command: &Command) -> u64
 {
     match command {
         Command::Hello(who) => text_bytes(who.context.text()).saturating_add(ENTRY),
-        Command::Line(request) => request_bytes(request),
+        Command::Line(Request::Change(_, event)) => event_bytes(event).saturating_add(ENTRY),
+        Command::Line(_) => 0,
         Command::Install {
             expected: _,
             prepared,

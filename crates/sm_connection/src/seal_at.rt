@@ -9,10 +9,3 @@ pub struct SealAt {
     /// When its entries have this many bytes, by an upper bound.
     pub bytes: Option<u64>,
 }
-
-impl SealAt {
-    /// Returns whether only administrators seal.
-    pub fn is_never(&self) -> bool {
-        self.entries.is_none() && self.bytes.is_none()
-    }
-}

@@ -222,37 +222,11 @@ impl<'a> Access<'a> {
         self.needs(source, context, target.index, None, class, perm, notes)
     }
 
-    /// Checks that an allow rule grants a permission of the service manager from a process to the label of a name.
-    #[inline(always)]
-    pub fn to_label(
-        &self,
-        source: &Process,
-        name: &Name,
-        label: Label<'_>,
-        perm: Perms,
-        notes: &mut Notes,
-    ) -> Result<(), SmallFailedCheck>
-        requires source { source.now ≡ process_under self.now.policy source.now.who }
-        requires label { IsLabelUnder self.now.policy name.now label }
-        ensures { IsRuled self.now notes.old notes.new ServiceManager perm source.now.who
-            (label_of self.now.policy name.now) (Some name.now) result }
-    {
-        self.needs(
-            source,
-            label.context,
-            Some(label.index),
-            Some(name),
-            Class::ServiceManager,
-            perm,
-            notes,
-        )
-    }
-
     /// Checks that an allow rule grants a permission from a process to a context, whose type has this number; the name
     /// is there if the context is its label.
     #[inline(always)]
     #[tactic(auto, unfolding(crate::specs::Judging::noted))]
-    fn needs(
+    pub fn needs(
         &self,
         source: &Process,
         target: &Context,

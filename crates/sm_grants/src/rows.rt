@@ -15,23 +15,6 @@ pub struct ClientHandles {
     pub handles: Handles,
 }
 
-/// Returns the index of a client's row if it is the likely one: rows are in the order of their clients, whose numbers
-/// follow each other while none dies.
-fn likely_row(rows: &[ClientHandles], client: u32) -> Option<usize>
-    requires { AreOnce rows.now }
-    ensures at { IfSome result (λ i. index_from 0 rows.now client ≡ Some i) }
-    ensures inside { IfSome result (λ i. i < length rows.now) }
-{
-    if rows.is_empty() {
-        return None;
-    }
-    let place = (client.wrapping_sub(rows[0].client) as usize).min(rows.len() - 1);
-    if rows[place].client != client {
-        return None;
-    }
-    Some(place)
-}
-
 /// Returns the index of a client's first row.
 fn first_row(rows: &[ClientHandles], client: u32) -> Option<usize>
     ensures at { result ≡ index_from 0 rows.now client }
@@ -45,16 +28,20 @@ fn first_row(rows: &[ClientHandles], client: u32) -> Option<usize>
     None
 }
 
-/// Returns the index of a client's row.
+/// Returns the index of a client's row. Rows are in the order of their clients. While none dies, their numbers follow each
+/// other, so the row is at its number's distance from the first one.
 pub fn row_of(rows: &[ClientHandles], client: u32) -> Option<usize>
     requires { AreOnce rows.now }
     ensures at { result ≡ index_from 0 rows.now client }
     ensures inside { IfSome result (λ i. i < length rows.now) }
 {
-    match likely_row(rows, client) {
-        Some(place) => Some(place),
-        None => first_row(rows, client),
+    if !rows.is_empty() {
+        let place = (client.wrapping_sub(rows[0].client) as usize).min(rows.len() - 1);
+        if rows[place].client == client {
+            return Some(place);
+        }
     }
+    first_row(rows, client)
 }
 
 /// Returns a client's handles, if it has a row.

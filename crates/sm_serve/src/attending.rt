@@ -44,7 +44,7 @@ pub fn attend_client<J: Naming, G: Gate + Drop, H: Supervisor, R: Wait + Clock>(
     dying.retry(rt, door, seats, monitor);
 }
 
-// Serves a client's connection at this pace, and returns what it still holds.
+// Serves a client's connection at this pace, and returns what it still holds. A new client may idle once it is connected.
 fn attend_stream<J: Naming, G: Gate + Drop, H: Supervisor, R: Wait + Clock>(
     rt: &R,
     alloc: Global,
@@ -61,7 +61,12 @@ fn attend_stream<J: Naming, G: Gate + Drop, H: Supervisor, R: Wait + Clock>(
         alloc,
         door,
         seats,
-        |occasion| tend(rt, door, sealer, monitor, pace, occasion),
+        |occasion| {
+            if occasion == Occasion::Connected {
+                pace.connect();
+            }
+            seal_if_due(rt, door, sealer, monitor);
+        },
         monitor,
         monitor.sink(),
         &mut reader,
@@ -79,20 +84,6 @@ fn note_end<H: Supervisor>(monitor: &Monitor<H>, ended: Result<(), Fault>) {
     }
 }
 
-// After an answer to a client, seals the journal if it is due. A new client may idle from then on.
-fn tend<J: Naming, G: Gate + Drop, H: Supervisor, R: Wait + Clock>(
-    rt: &R,
-    door: &Door<J, G>,
-    sealer: &SharedAdmin<J>,
-    monitor: &Monitor<H>,
-    pace: &Pace<'_, R>,
-    occasion: Occasion,
-) {
-    if occasion == Occasion::Connected {
-        pace.connect();
-    }
-    seal_if_due(rt, door, sealer, monitor);
-}
 /// Serves an administrator's connection, which may take `seconds` for each line and each reply, and less for a line if
 /// another one waits in the lobby. After each answer the journal is sealed if it is due.
 pub fn attend_administrator<J: Naming, G: Gate + Drop, A: Entrance, H: Supervisor, R: Wait>(

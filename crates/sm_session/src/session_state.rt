@@ -1,18 +1,15 @@
 //! The state of a session.
 
 ghost use Rattle.std.specs.Prelude.{◌≡◌, ◌++◌, [], OnOk, OnErr, true, false, if◌then◌else◌};
-ghost use Rattle.sm_wire.specs.declared.request.Request.TheVariants.{Hello, Change};
 ghost use Rattle.sm_wire.specs.declared.item.Item.TheVariants.{Asked, Policy};
 ghost use Rattle.sm_session.specs.Desks.{DeskAnswers};
-ghost use Rattle.sm_session.specs.Sessions.{client_may, admin_may, is_asked, is_connected};
-ghost use Rattle.sm_session.specs.Sessions.{is_died, Asks, AsksOnce, Appends, Loses, said_to};
+ghost use Rattle.sm_session.specs.Sessions.{is_asked, Asks, AsksOnce, Appends, Loses, said_to};
 
 use crate::command::Command;
 use crate::desk::Desk;
 use crate::response::Response;
 use crate::responses::push_response;
-use sm_history::{Event, Outcome, Reply, is_death};
-use sm_kinds::{ClientId, Identity};
+use sm_history::{Outcome, Reply, is_death};
 use sm_policy::Prepared;
 use sm_wire::{Item, Kind, PolicyTexts, Request, Telling};
 use std::alloc::{AllocError, Global};
@@ -30,6 +27,7 @@ pub struct SessionState<D> {
 
 impl<D: Desk> SessionState<D> {
     /// Returns whether the desk will be asked this item.
+    #[tactic(auto, unfolding(crate::specs::Sessions::client_may, crate::specs::Sessions::admin_may))]
     pub fn will_ask(&self, item: &Item) -> bool
         ensures { result ≡ (if self.now.over then false else is_asked self.now.kind self.now.connected item.now) }
     {
@@ -37,8 +35,11 @@ impl<D: Desk> SessionState<D> {
             return false;
         }
         match (self.kind, item) {
-            (Kind::Client, Item::Asked(request)) => client_may(self.connected, request),
-            (Kind::Admin, Item::Asked(request)) => admin_may(request),
+            (Kind::Client, Item::Asked(Request::Hello(_))) => !self.connected,
+            (Kind::Client, Item::Asked(Request::Change(_, _) | Request::Look(_, _))) =>
+                self.connected,
+            (Kind::Admin, Item::Asked(Request::Look(_, _) | Request::Denials | Request::Seal)) =>
+                true,
             (Kind::Admin, Item::Policy(_)) => true,
             _ => false,
         }
@@ -86,42 +87,33 @@ impl<D: Desk> SessionState<D> {
         }
     }
 
-    // Asks the desk once.
+    // Asks the desk once, and records whether there is a client now, or its client has died.
+    #[tactic(auto, unfolding(crate::specs::Sessions::is_connected, crate::specs::Sessions::is_died))]
     fn ask(&mut self, request: Request) -> Response
         requires can { D.can_answer self.old.desk }
         ensures can { D.can_answer self.new.desk }
         ensures asks { Asks (DeskAnswers D.answers) self.old (Asked request) result self.new }
     {
         match request {
-            Request::Hello(who) => self.hello(who),
-            Request::Change(client, event) => self.change(client, event),
+            Request::Hello(who) => {
+                let response = self.desk.answer(Command::Hello(who));
+                let done = matches!(
+                    &response,
+                    Response::Replied(Reply::Done(Outcome::Connected(_)))
+                );
+                self.connected = done | self.connected;
+                response
+            }
+            Request::Change(client, event) => {
+                let dies = is_death(&event);
+                let request = Request::Change(client, event);
+                let response = self.desk.answer(Command::Line(request));
+                let died = matches!(&response, Response::Replied(Reply::Done(Outcome::Died)));
+                self.over = (dies & died) | self.over;
+                response
+            }
             _ => self.desk.answer(Command::Line(request)),
         }
-    }
-
-    // Asks for a client, and records whether there is one now.
-    fn hello(&mut self, who: Identity) -> Response
-        requires can { D.can_answer self.old.desk }
-        ensures can { D.can_answer self.new.desk }
-        ensures asks { Asks (DeskAnswers D.answers) self.old (Asked (Hello who)) result self.new }
-    {
-        let response = self.desk.answer(Command::Hello(who));
-        self.connected = is_connected(&response) | self.connected;
-        response
-    }
-
-    // Asks for a change, and records whether the client has died.
-    fn change(&mut self, client: Option<ClientId>, event: Event) -> Response
-        requires can { D.can_answer self.old.desk }
-        ensures can { D.can_answer self.new.desk }
-        ensures asks { Asks (DeskAnswers D.answers) self.old (Asked (Change client event)) result self.new }
-    {
-        let dies = is_death(&event);
-        let response = self
-            .desk
-            .answer(Command::Line(Request::Change(client, event)));
-        self.over = (dies & is_died(&response)) | self.over;
-        response
     }
 
     // Has the desk install the policy of these files, if it isn't refused.
@@ -138,49 +130,4 @@ impl<D: Desk> SessionState<D> {
             Err(fault) => Response::PolicyRefused(fault),
         }
     }
-}
-
-#[tactic(auto, unfolding(crate::specs::Sessions::client_may))]
-fn client_may(connected: bool, request: &Request) -> bool
-    ensures { result ≡ client_may connected request.now }
-{
-    match request {
-        Request::Hello(_) => !connected,
-        Request::Change(_, _) => connected,
-        Request::Look(_, _) => connected,
-        Request::Reload { .. } => false,
-        Request::Denials => false,
-        Request::Seal => false,
-    }
-}
-
-#[tactic(auto, unfolding(crate::specs::Sessions::admin_may))]
-fn admin_may(request: &Request) -> bool
-    ensures { result ≡ admin_may request.now }
-{
-    match request {
-        Request::Hello(_) => false,
-        Request::Change(_, _) => false,
-        Request::Look(_, _) => true,
-        Request::Reload { .. } => false,
-        Request::Denials => true,
-        Request::Seal => true,
-    }
-}
-
-#[tactic(auto, unfolding(crate::specs::Sessions::is_connected))]
-fn is_connected(response: &Response) -> bool
-    ensures { result ≡ is_connected response.now }
-{
-    matches!(
-        response,
-        Response::Replied(Reply::Done(Outcome::Connected(_)))
-    )
-}
-
-#[tactic(auto, unfolding(crate::specs::Sessions::is_died))]
-fn is_died(response: &Response) -> bool
-    ensures { result ≡ is_died response.now }
-{
-    matches!(response, Response::Replied(Reply::Done(Outcome::Died)))
 }

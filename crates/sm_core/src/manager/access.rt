@@ -111,6 +111,9 @@ impl Manager {
         ensures { IsRuled (moment_in self.now) notes.old notes.new ServiceManager perm who.now.who
             (label_at (effects_in self.now) name.now) (Some name.now) result }
     {
-        self.access().to_label(who, name, label, perm, notes)
+        let index = Some(label.index);
+        let class = Class::ServiceManager;
+        self.access()
+            .needs(who, label.context, index, Some(name), class, perm, notes)
     }
 }

@@ -1,4 +1,4 @@
-use Rattle.std.proofs.Common.{◌≡◌, Some, ap, sym, ◌∙◌}
+use Rattle.std.proofs.Common.{sym}
 use Rattle.sm_grants.proofs.ClientRows.{at_row, no_row}
 use Rattle.sm_grants.proofs.rows.handles_of.Goals as goal
 
