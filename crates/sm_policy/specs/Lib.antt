@@ -1,5 +1,6 @@
 pub mod Breaking
 pub mod Counting
+pub mod GrantedRow
 pub mod Labelling
 pub mod Parts
 pub mod Policy

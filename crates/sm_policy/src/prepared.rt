@@ -66,7 +66,6 @@ impl Drop for Prepared {
 
 impl Prepared {
     ghost use Rattle.std.specs.Prelude.{◌≡◌, ◌<◌, ◌≤◌, ℕ, List, [], Some, IfOk, IfErr, length};
-    ghost use Rattle.std.proofs.Common.{get_or};
     ghost use Rattle.sm_kinds.specs.Contexts.{type_of};
     ghost use Rattle.sm_policy.specs.Policy.{allowed, audits, decision, allowed_at, type_index, label_of, written_at};
     ghost use Rattle.sm_policy.specs.Policy.{IsConsistent};
@@ -75,10 +74,9 @@ impl Prepared {
     ghost use Rattle.sm_kinds.specs.Reading.{Gives};
     ghost use Rattle.sm_policy.specs.Preparing.{is_memory, prepared};
     ghost use Rattle.sm_policy.specs.Parts.{ArePartsOf};
-    ghost use Rattle.sm_bits.specs.Bits.{has_bit};
-    ghost use Rattle.sm_rules.specs.Keeping.{RulesOf, class_at, perm_at};
+    ghost use Rattle.sm_policy.specs.GrantedRow.{IsRow};
+    ghost use Rattle.sm_rules.specs.Keeping.{RulesOf};
     ghost use Rattle.sm_types.specs.Denoting.{types};
-    ghost use Rattle.sm_types.specs.Names.{at};
     ghost use Rattle.sm_types.specs.Members.{IsOf};
 
     /// Prepares the policy of a policy source and a contexts file.
@@ -161,10 +159,7 @@ impl Prepared {
     /// whose bit `b` is that of `class_at(b)` and `perm_at(b)` of `sm_rules`. Nothing if the source's number has no
     /// type.
     pub fn granted_row(&self, source: u16) -> &[u8]
-        ensures allowed { source < length (types self.now.statements)
-            → (t b : ℕ) → t < length (types self.now.statements) → b < 7
-            → has_bit (get_or result.now t 0) b ≡ allowed self.now (at (types self.now.statements) source)
-            (at (types self.now.statements) t) (class_at b) (perm_at b) }
+        ensures allowed { source < length (types self.now.statements) → IsRow self.now result.now source }
         ensures no_source { length (types self.now.statements) ≤ source → result.now ≡ [] }
     {
         self.parts().vectors.granted_row(source)

@@ -13,7 +13,8 @@ use Rattle.sm_types.specs.Names.{at}
 use Rattle.sm_types.specs.Denoting.{types}
 use Rattle.sm_questions.specs.Accesses.{access_line, perm_lines, pair_lines, perm_numbers}
 use Rattle.sm_questions.specs.Differences.{is_lost, lost_pair, lost_perm}
-use Rattle.sm_questions.specs.Granted.{IsGranted, IsRow, byte_for, is_kept}
+use Rattle.sm_policy.specs.GrantedRow.{IsGranted, IsRow}
+use Rattle.sm_questions.specs.Granted.{byte_for, is_kept}
 
 no_bit : (b : ℕ) → has_bit 0 b ≡ false
 unfolding has_bit

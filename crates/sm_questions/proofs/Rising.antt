@@ -13,7 +13,8 @@ use Rattle.sm_types.specs.Denoting.{types}
 use Rattle.sm_types.specs.Names.{at}
 use Rattle.sm_policy.specs.Policy.{Policy, type_index}
 use Rattle.sm_questions.specs.Differences.{lost_pair}
-use Rattle.sm_questions.specs.Granted.{IsRow, byte_for, is_kept}
+use Rattle.sm_policy.specs.GrantedRow.{IsRow}
+use Rattle.sm_questions.specs.Granted.{byte_for, is_kept}
 use Rattle.sm_questions.specs.Runs.{AreNumbersIn, IsRun, run_lines}
 use Rattle.sm_questions.specs.declared.runs.TypeNumbers.{TypeNumbers}
 use Rattle.sm_questions.proofs.Granted.{kept_lost}

@@ -1,20 +1,6 @@
--- The permissions of two types as the bits of a byte.
-use Rattle.std.specs.Prelude.{◌≡◌, ◌<◌, ℕ, Bool, ◌||◌, nat_eq, List, length, Option, Some, None}
+-- The permissions of two types as the bits of a byte, beside those of another policy.
+use Rattle.std.specs.Prelude.{ℕ, Bool, ◌||◌, nat_eq, List, Option, Some, None}
 use Rattle.std.proofs.Common.{get_or}
-use Rattle.sm_bits.specs.Bits.{has_bit}
-use Rattle.sm_rules.specs.Keeping.{class_at, perm_at}
-use Rattle.sm_types.specs.Denoting.{types}
-use Rattle.sm_types.specs.Names.{at}
-use Rattle.sm_policy.specs.Policy.{Policy, allowed}
-
--- The bits of the byte are the permissions that the policy allows the source on the target.
-abbrev pub IsGranted : Policy → ℕ → List ℕ → List ℕ → Type 0
-IsGranted policy granted s t = (b : ℕ) → b < 7 → has_bit granted b ≡ allowed policy s t (class_at b) (perm_at b)
-
--- The row has such a byte for each target, by its number. The source is given by its number.
-abbrev pub IsRow : Policy → List ℕ → ℕ → Type 0
-IsRow policy row s = (t : ℕ) → t < length (types policy.statements)
-    → IsGranted policy (get_or row t 0) (at (types policy.statements) s) (at (types policy.statements) t)
 
 -- This is the byte of a type that has a number, or 0.
 abbrev pub byte_for : List ℕ → Option ℕ → ℕ

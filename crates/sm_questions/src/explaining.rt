@@ -5,7 +5,7 @@ ghost use Rattle.std.specs.Io.KnownBytes.{Appends};
 ghost use Rattle.sm_engine.specs.Counts.{failures_of, inner_of, greatest_count};
 ghost use Rattle.sm_questions.specs.Explanations as spec;
 
-use crate::tables::is_permissive;
+use crate::lookups::is_permissive;
 use sm_engine::{Counted, Fault, write_whole};
 use sm_kinds::{Class, Perms, push_numbered};
 use sm_policy::Prepared;

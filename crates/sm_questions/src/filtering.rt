@@ -4,7 +4,7 @@ ghost use Rattle.std.specs.Prelude.{◌≡◌};
 ghost use Rattle.sm_questions.specs.Filters as spec;
 
 use crate::Unknown;
-use crate::tables::is_declared;
+use crate::lookups::is_declared;
 use sm_kinds::{Class, Perms, Word};
 use sm_policy::Prepared;
 

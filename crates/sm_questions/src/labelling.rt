@@ -5,7 +5,7 @@ ghost use Rattle.std.specs.Io.KnownBytes.{Appends};
 ghost use Rattle.sm_engine.specs.Counts.{failures_of, inner_of, greatest_count};
 ghost use Rattle.sm_questions.specs.Labels as spec;
 
-use crate::tables::label_entry;
+use crate::lookups::label_entry;
 use sm_engine::{Counted, Fault, write_whole};
 use sm_kinds::push_numbered;
 use sm_policy::Prepared;

@@ -9,12 +9,12 @@ mod filtering;
 mod first_lines;
 mod labelling;
 mod listing;
+mod lookups;
 mod lost;
 mod part;
 mod relabelling;
 mod runs;
 mod showing;
-mod tables;
 #[cfg(test)]
 mod tests;
 mod unknown;

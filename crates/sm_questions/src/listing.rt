@@ -7,14 +7,14 @@ ghost use Rattle.sm_types.specs.Names.{at};
 ghost use Rattle.sm_types.specs.Denoting.{types};
 ghost use Rattle.sm_bits.specs.Bits.{has_bit};
 ghost use Rattle.sm_questions.specs.Accesses as spec;
-ghost use Rattle.sm_questions.specs.Granted.{IsGranted};
+ghost use Rattle.sm_policy.specs.GrantedRow.{IsGranted};
 ghost use Rattle.sm_questions.specs.Buffered.{Fails, Passes, Stops};
 ghost use Rattle.sm_questions.specs.FirstLines.{AreAsked, HasPair, IsAsked};
 
 use crate::Filter;
 use crate::buffer::write_full;
 use crate::first_lines::LineTable;
-use crate::tables::{byte_at, granted_row, type_count, type_name};
+use crate::lookups::{byte_at, type_count, type_name};
 use sm_bits::has_bit;
 use sm_engine::{Counted, Fault, write_whole};
 use sm_kinds::{Perms, Word, push_access, push_numbered, spells};
@@ -132,7 +132,7 @@ fn push_targets(
     ensures { OnOk result (held.new.items ≡ held.old.items ++ spec.targets_lines policy.now filter.now
         (at (types policy.now.statements) source)) }
 {
-    let row = granted_row(policy, source);
+    let row = policy.granted_row(source);
     for target in table.targets() {
         let granted = byte_at(row, *target);
         push_pair(policy, table, filter.perms, granted, source, *target, held)?;

@@ -7,12 +7,13 @@ ghost use Rattle.sm_types.specs.Names.{at};
 ghost use Rattle.sm_types.specs.Denoting.{types};
 ghost use Rattle.sm_policy.specs.Policy.{type_index};
 ghost use Rattle.sm_questions.specs.Differences as spec;
+ghost use Rattle.sm_policy.specs.GrantedRow.{IsRow};
 ghost use Rattle.sm_questions.specs.Granted as granted;
-ghost use Rattle.sm_questions.specs.Granted.{IsRow, byte_for};
+ghost use Rattle.sm_questions.specs.Granted.{byte_for};
 ghost use Rattle.sm_questions.specs.Runs.{AreNumbersIn, run_lines};
 
+use crate::lookups::{byte_at, type_count, type_name};
 use crate::runs::TypeNumbers;
-use crate::tables::{byte_at, granted_row, type_count, type_name};
 use sm_kinds::push_access;
 use sm_policy::Prepared;
 use sm_rules::{PERM_COUNT, class_at, perm_at};
@@ -90,7 +91,7 @@ fn row_there(other: &Prepared, source: Option<u16>) -> &[u8]
     ensures none { source ≡ None → result.now ≡ [] }
 {
     match source {
-        Some(source) => granted_row(other, source),
+        Some(source) => other.granted_row(source),
         None => &[],
     }
 }
@@ -160,7 +161,7 @@ fn push_run(
     ensures { OnOk result (held.new.items ≡ held.old.items ++ run_lines sign one.now other.now
         (at (types one.now.statements) source) from to) }
 {
-    let here = granted_row(one, source);
+    let here = one.granted_row(source);
     let there = row_there(other, numbers[usize::from(source)]);
     for target in from..to {
         if !is_kept(here, there, target, numbers[usize::from(target)]) {
@@ -185,7 +186,7 @@ pub fn push_source(
     ensures { OnOk result (held.new.items ≡ held.old.items ++ spec.lost_source sign one.now other.now
         (at (types one.now.statements) source)) }
 {
-    let here = granted_row(one, source);
+    let here = one.granted_row(source);
     let ends = numbers.ends.as_slice();
     let numbers = numbers.numbers.as_slice();
     let there = row_there(other, numbers[usize::from(source)]);

@@ -5,10 +5,10 @@ ghost use Rattle.sm_types.specs.Names.{at};
 ghost use Rattle.sm_questions.specs.Differences as spec;
 ghost use Rattle.sm_questions.specs.Parts.{AreNumbers, lines_of, names_in};
 
+use crate::lookups::{is_permissive, key, type_at, type_count, type_name};
 use crate::lost::push_source;
 use crate::relabelling::{push_added, push_changed};
 use crate::runs::TypeNumbers;
-use crate::tables::{is_permissive, key, type_at, type_count, type_name};
 use sm_policy::Prepared;
 use std::alloc::{AllocError, Global};
 

@@ -3,7 +3,7 @@
 ghost use Rattle.std.specs.Prelude.{◌≡◌, ◌++◌, OnOk};
 ghost use Rattle.sm_questions.specs.Relabelled as spec;
 
-use crate::tables::has_key;
+use crate::lookups::has_key;
 use sm_kinds::spells;
 use sm_policy::Prepared;
 use std::alloc::AllocError;

@@ -5,7 +5,7 @@ ghost use Rattle.sm_types.specs.Denoting.{types};
 ghost use Rattle.sm_policy.specs.Policy.{type_index};
 ghost use Rattle.sm_questions.specs.Runs.{AreEnds, IsRun, AreNumbersIn};
 
-use crate::tables::{type_count, type_name};
+use crate::lookups::{type_count, type_name};
 use sm_policy::Prepared;
 use std::alloc::{AllocError, Global};
 

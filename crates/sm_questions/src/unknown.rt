@@ -3,7 +3,7 @@
 ghost use Rattle.std.specs.Prelude.{◌≡◌, IfOk};
 ghost use Rattle.sm_questions.specs.Words.{access_of, perm_in, unknown_words};
 
-use crate::tables::is_declared;
+use crate::lookups::is_declared;
 use sm_kinds::{Class, Perms, Word};
 use sm_policy::Prepared;
 use std::alloc::{AllocError, Global};

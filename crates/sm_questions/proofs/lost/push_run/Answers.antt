@@ -28,6 +28,6 @@ loop-target-preserved c =
           (sym c.is_kept.ensures ∙ w.if-not-is_kept.false) in
           let nothing = kept_lost c.args.sign c.args.one.now c.args.other.now c.granted_row-here.result.now
           c.row_there-there.result.now c.args.source c.loop-target.target c.requires.source lt
-          c.granted_row-here.ensures some none kept in
+          (c.granted_row-here.ensures.allowed c.requires.source) some none kept in
           rw (w.held-is, nothing, append-nil c.loop-target.held.items) refl
     ])

@@ -41,7 +41,7 @@ loop-from-preserved c =
     let none = rw (are, c.from.ensures) at c.row_there-there.ensures.none in
     let kept = rw (are, c.from-in-loop-from-2.ensures) at (c.if-not-is_run_kept.ensures refl) in
     let nothing = run_kept c.args.sign c.args.one.now c.args.other.now c.granted_row-here.result.now
-    c.row_there-there.result.now c.args.source c.loop-from.from to c.requires.source c.granted_row-here.ensures some none
+    c.row_there-there.result.now c.args.source c.loop-from.from to c.requires.source (c.granted_row-here.ensures.allowed c.requires.source) some none
     run kept in
     let same : c.loop-from.held.items ≡ c.loop-from.held.items ++ run_lines c.args.sign c.args.one.now c.args.other.now
     (at (types c.args.one.now.statements) c.args.source) c.loop-from.from to =

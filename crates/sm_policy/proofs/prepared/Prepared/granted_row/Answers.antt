@@ -5,7 +5,7 @@ use Rattle.sm_policy.proofs.prepared.Prepared.granted_row.Goals as goal
 
 pub returns-clause-allowed : goal.returns-clause-allowed
 unfolding allowed
-returns-clause-allowed c hs t b ht lt =
+returns-clause-allowed c hs t ht b lt =
     let policy = c.args.self.now.statements in
     let of = rw c.parts.ensures.typed.types at c.parts.ensures.tabled in
     c.granted_row.ensures.allowed policy (types policy) of hs t b ht lt

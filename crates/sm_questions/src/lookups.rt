@@ -1,4 +1,4 @@
-//! What questions read of a policy.
+//! Look-ups in a policy.
 
 ghost use Rattle.std.specs.Prelude.{◌≡◌, ◌<◌, Some, length, option_map};
 ghost use Rattle.std.proofs.Common.{get_or};
@@ -7,7 +7,6 @@ ghost use Rattle.sm_contexts.specs.Reading.{line_and_context, seen};
 ghost use Rattle.sm_types.specs.Denoting.{declares, types};
 ghost use Rattle.sm_types.specs.Names.{at};
 ghost use Rattle.sm_policy.specs.Policy as spec;
-ghost use Rattle.sm_questions.specs.Granted.{IsRow};
 ghost use Rattle.sm_questions.specs.Keys.{keys_of};
 ghost use Rattle.sm_questions.specs.Labels as labels;
 
@@ -79,15 +78,6 @@ pub fn type_name(policy: &Prepared, index: u16) -> &[u8]
     ensures { result.now ≡ at (types policy.now.statements) index }
 {
     policy.types().name(index).unwrap_or(b"")
-}
-
-/// Returns the permissions that a source is allowed, by the numbers of the types: for each target the bits of a byte.
-#[inline]
-pub fn granted_row(policy: &Prepared, source: u16) -> &[u8]
-    requires { source < length (types policy.now.statements) }
-    ensures { IsRow policy.now result.now source }
-{
-    policy.granted_row(source)
 }
 
 /// Returns a key by its place in the order of the keys' first lines, from 0. Nothing if there is no such key.
