@@ -1,6 +1,6 @@
 -- The rows of clients, and what effects make of them.
 use Rattle.std.proofs.Common.{◌≡◌, ℕ, zero, suc, ◌+◌, ◌-◌, ◌<◌, Bool, true, false, ◌&&◌, ◌||◌, ◌==◌, List, [], ◌∷◌}
-use Rattle.std.proofs.Common.{◌++◌, refl, ap, sym, ◌∙◌, subst, length, map, set, Option, Some, None, if◌then◌else◌}
+use Rattle.std.proofs.Common.{refl, ap, sym, ◌∙◌, subst, length, map, set, Option, Some, None, if◌then◌else◌}
 use Rattle.std.proofs.Common.{arith, get_or}
 use Rattle.std.specs.Prelude.{not, ◌≤◌}
 use Rattle.std.specs.List.{insert, list_any, remove}
@@ -15,7 +15,7 @@ use Rattle.sm_history.specs.Sound.{IsBalanced, IsOnce}
 use Rattle.sm_history.proofs.Balanced.{balanced_lasts, step, release, number_same}
 use Rattle.sm_history.proofs.AfterHoldings.{refs_gives, refs_releases, refs_dies, number_gives}
 use Rattle.sm_history.proofs.AfterClients.{list_dies}
-use Rattle.sm_history.proofs.Sound.{once_more, once_filter}
+use Rattle.sm_history.proofs.Sound.{once_filter}
 use Rattle.sm_history.specs.declared.replay.client_row.Held.{Held}
 use Rattle.sm_grants.specs.declared.rows.ClientHandles.{ClientHandles}
 use Rattle.sm_history.specs.Tables.{Slots, slot, IsPut, released_slot}

@@ -1,8 +1,5 @@
-use Rattle.sm_history.proofs.Beginnings.{begins_itself, begins_before, begins_sealed, begins_through}
+use Rattle.sm_history.proofs.Beginnings.{begins_before, begins_sealed, begins_through}
 use Rattle.sm_history.proofs.laws.beginnings.Goals as goal
-
-pub returns-clause-itself : goal.returns-clause-itself
-returns-clause-itself c = begins_itself
 
 pub returns-clause-before : goal.returns-clause-before
 returns-clause-before c = begins_before

@@ -1,10 +1,6 @@
-use Rattle.std.proofs.Common.{inr}
 use Rattle.sm_history.proofs.Fits.{fits_any}
 use Rattle.sm_history.proofs.Induction.{sound_lawful}
 use Rattle.sm_history.proofs.laws.going_on.Goals as goal
-
-pub returns-clause-lawful : goal.returns-clause-lawful
-returns-clause-lawful c = λ places h e l judged. inr (l, judged)
 
 pub returns-clause-fits : goal.returns-clause-fits
 returns-clause-fits c = λ places h e l fits done.

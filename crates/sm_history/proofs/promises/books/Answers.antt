@@ -1,10 +1,7 @@
-use Rattle.sm_history.proofs.BookOrder.{book_itself, book_before, book_behind, book_through, one_more, before_change}
+use Rattle.sm_history.proofs.BookOrder.{book_before, book_behind, book_through, before_change}
 use Rattle.sm_history.proofs.TokensGrow.{no_less, stays_lawful, goes_on, no_change}
 use Rattle.sm_history.proofs.Staying.{client_stays}
 use Rattle.sm_history.proofs.promises.books.Goals as goal
-
-pub returns-clause-itself : goal.returns-clause-itself
-returns-clause-itself c = book_itself
 
 pub returns-clause-before : goal.returns-clause-before
 returns-clause-before c = book_before
@@ -14,9 +11,6 @@ returns-clause-behind c = book_behind
 
 pub returns-clause-through : goal.returns-clause-through
 returns-clause-through c = book_through
-
-pub returns-clause-counts : goal.returns-clause-counts
-returns-clause-counts c = one_more
 
 pub returns-clause-cut : goal.returns-clause-cut
 returns-clause-cut c = before_change

@@ -1,13 +1,9 @@
 use Rattle.std.proofs.Common.{List, [], refl, sym, subst}
 use Rattle.sm_history.specs.declared.replay.client_row.ClientRow.{ClientRow}
 use Rattle.sm_history.specs.Rows.{NamedRow}
-use Rattle.sm_history.specs.Effects.{Effects}
 use Rattle.sm_history.specs.Tables.{TracksClients, TracksNames}
 use Rattle.sm_history.proofs.SoundHistory.{sound_none}
 use Rattle.sm_history.proofs.rows.no_tables.Goals as goal
-
-none : Effects
-none = []
 
 no_clients : TracksClients [] []
 no_clients = record { ids = refl; each = λ c. tt }

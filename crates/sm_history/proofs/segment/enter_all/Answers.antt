@@ -1,9 +1,5 @@
-use Rattle.sm_history.proofs.ReplayRuns.{none_yet, one_more, all_come}
+use Rattle.sm_history.proofs.ReplayRuns.{one_more, all_come}
 use Rattle.sm_history.proofs.segment.enter_all.Goals as goal
-
-pub loop-entry-init : goal.loop-entry-init
-loop-entry-init c places number o before rest l come =
-    none_yet places number o before c.args.entries.now c.args.replay.now come
 
 pub loop-entry-preserved : goal.loop-entry-preserved
 loop-entry-preserved c places number o before rest l come =

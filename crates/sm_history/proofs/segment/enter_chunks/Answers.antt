@@ -1,10 +1,7 @@
 use Rattle.std.proofs.Common.{List, subst}
 use Rattle.sm_history.specs.declared.entry.Entry.{Entry}
-use Rattle.sm_history.proofs.ReplayRuns.{EntersChunk, no_chunk, one_chunk, all_chunks}
+use Rattle.sm_history.proofs.ReplayRuns.{EntersChunk, one_chunk, all_chunks}
 use Rattle.sm_history.proofs.segment.enter_chunks.Goals as goal
-
-pub loop-chunk-init : goal.loop-chunk-init
-loop-chunk-init c places number o rest l come = no_chunk places number o c.args.chunks.now c.args.replay.now come
 
 pub loop-chunk-preserved : goal.loop-chunk-preserved
 loop-chunk-preserved c places number o rest l come =

@@ -1,4 +1,4 @@
-use Rattle.std.proofs.Common.{◌≡◌, ◌+◌, ◌-◌, ◌*◌, ◌≤◌, ◌/◌, length, refl, arith, rules}
+use Rattle.std.proofs.Common.{◌-◌, ◌*◌, length, arith}
 use Rattle.sm_names.proofs.SameWords.{same_more, same_all}
 use Rattle.sm_names.proofs.words.is_same.Goals as goal
 

@@ -1,8 +1,5 @@
-use Rattle.sm_neverallow.proofs.Rows.{ready_none, ready_more}
+use Rattle.sm_neverallow.proofs.Rows.{ready_more}
 use Rattle.sm_neverallow.proofs.hits.unions_of.Goals as goal
-
-pub loop-j-init : goal.loop-j-init
-loop-j-init c = rw c.new-all.ensures.items (ready_none c.args.matrix.now c.args.count c.args.first)
 
 pub loop-j-preserved : goal.loop-j-preserved
 loop-j-preserved c =

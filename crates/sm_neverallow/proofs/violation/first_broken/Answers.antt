@@ -1,21 +1,10 @@
 use Rattle.std.proofs.Common.{◌<◌, length, arith}
 use Rattle.std.proofs.lemmas.Option.{slice_get_within}
-use Rattle.sm_neverallow.proofs.Broken.{sought_none, sought_more, sought_all}
+use Rattle.sm_neverallow.proofs.Broken.{sought_none, sought_all}
 use Rattle.sm_neverallow.proofs.violation.first_broken.Goals as goal
 
 pub loop-set-init : goal.loop-set-init
 loop-set-init c = sought_none c.args.matrices.now c.args.neverallows.now c.args.count
-
-pub loop-set-preserved : goal.loop-set-preserved
-loop-set-preserved c =
-    let found = c.in_ok-place.ensures in
-    sought_more c.args.matrices.now c.args.neverallows.now c.args.count c.loop-set.set c.loop-set.place
-    c.in_ok-place.place found.end found.broken found.first c.loop-set.invariant
-
-pub returns-then-place-neverallows-clause-first : goal.returns-then-place-neverallows-clause-first
-returns-then-place-neverallows-clause-first c n never h found =
-    sought_all c.args.matrices.now c.args.neverallows.now c.args.count c.loop-set.set c.loop-set.place
-    c.loop-set-test.false c.loop-set.invariant n never h found
 
 pub returns-clause-none : goal.returns-clause-none
 returns-clause-none c n never found =

@@ -49,15 +49,6 @@ returns-clause-tracks c d tr =
           (rw here.0 c.release.ensures.put) tr,
     )
 
-pub returns-in_default-at-clause-spare : goal.returns-in_default-at-clause-spare
-returns-in_default-at-clause-spare c k =
-    let rows = c.args.self.now.rows.items in
-    let here = row_here c.args.client c.deref.ensures.value (sym c.in-Some.ensures.at) c.index_mut-row.ensures.value in
-    let was : spare_of rows c.args.client ≡ c.index_mut-row.result.now.handles.spare =
-    ap (λ (o : Option HandleTable). spare_in o) here.0 in
-    spare_kept rows _ c.args.client c.index_mut-row.result.now.handles (here.2 c.index_mut-row.result.now.handles)
-    (omega (arith, was)) k
-
 pub returns-clause-spare : goal.returns-clause-spare
 returns-clause-spare c k =
     let rows = c.args.self.now.rows.items in

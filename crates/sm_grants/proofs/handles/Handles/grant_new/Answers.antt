@@ -31,11 +31,3 @@ returns-clause-small c =
     let w = free_within c.self.inside.slots.items _ _ _ c.first_free-i.result c.self.invariant few
     c.first_free-i.ensures.free c.first_free-i.ensures.least in
     w.1
-
-pub overflow_cast-result : goal.overflow_cast-result
-overflow_cast-result c =
-    let few = rw (← c.self.view_is) at c.requires.fits in
-    let w = free_within c.self.inside.slots.items _ _ _ c.first_free-i.result c.self.invariant few
-    c.first_free-i.ensures.free c.first_free-i.ensures.least in
-    let lt = w.1 in
-    omega (arith, lt)

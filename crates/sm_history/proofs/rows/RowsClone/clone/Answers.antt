@@ -5,10 +5,6 @@ use Rattle.sm_history.specs.Tables.{tables_of}
 use Rattle.sm_history.proofs.TableRows.{tables_are}
 use Rattle.sm_history.proofs.rows.RowsClone.clone.Goals as goal
 
-pub invariant_of-result : goal.invariant_of-result
-invariant_of-result c =
-    let left = c.self.invariant in (left.0, left.1, c.in_ok-tables.ensures left.0 left.2)
-
 pub returns : goal.returns
 returns c =
     let s = c.self.inside in

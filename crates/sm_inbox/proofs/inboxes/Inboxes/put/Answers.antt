@@ -1,26 +1,10 @@
-use Rattle.std.proofs.Common.{◌≡◌, ◌++◌, ◌∷◌, [], None, ap, sym, ◌∙◌, arith, refl}
-use Rattle.sm_inbox.specs.Rows.{inbox_of, room_in, waiting_in}
+use Rattle.std.proofs.Common.{◌++◌, ◌∷◌, [], ap, sym, ◌∙◌, refl}
+use Rattle.sm_inbox.specs.Rows.{waiting_in}
 use Rattle.sm_history.proofs.ClientRows.{row_read, row_written}
-use Rattle.sm_inbox.proofs.RowLemmas.{room_read, room_others, one_more, open_written}
+use Rattle.sm_inbox.proofs.RowLemmas.{room_others, open_written}
 use Rattle.sm_inbox.proofs.Tracked.{tracks_delivers}
 use Rattle.sm_inbox.proofs.OnceRows.{once_written}
 use Rattle.sm_inbox.proofs.inboxes.Inboxes.put.Goals as goal
-
-pub unreachable-requires : goal.unreachable-requires
-unreachable-requires c =
-    let none : inbox_of c.args.self.now.rows.items c.args.client ≡ None =
-    rw (← c.deref.ensures.value) c.in_default.ensures in
-    let zero = ap room_in none in
-    absurd (omega (arith, c.requires, zero))
-
-pub push_back_reserved-requires : goal.push_back_reserved-requires
-push_back_reserved-requires c =
-    let at = rw c.deref.ensures.value at c.in-Some.ensures in
-    let there = row_read _ c.args.self.now.rows.items c.args.client c.in-Some.i c.index_mut-row.result.now at
-    c.index_mut-row.ensures.value in
-    let room = room_read _ c.index_mut-row.result.now there in
-    let places = c.index_mut-row.result.now.has_places in
-    omega (arith, room, places, c.requires)
 
 pub returns-clause-tracks : goal.returns-clause-tracks
 returns-clause-tracks c d tr live =
@@ -30,12 +14,6 @@ returns-clause-tracks c d tr live =
     tracks_delivers d rows _ c.args.client _ c.args.delivery
     (row_written _ rows c.args.client c.in-Some.i c.index_mut-row.result.now _ at c.index_mut-row.ensures.value refl)
     (c.push_back_reserved.ensures.items ∙ sym (ap (λ o. waiting_in o ++ c.args.delivery ∷ []) there)) live tr
-
-pub returns-clause-room : goal.returns-clause-room
-returns-clause-room c =
-    let at = rw c.deref.ensures.value at c.in-Some.ensures in
-    one_more c.args.self.now.rows.items c.args.client c.in-Some.i c.index_mut-row.result.now _ c.args.delivery at
-    c.index_mut-row.ensures.value refl c.push_back_reserved.ensures.items c.requires
 
 pub returns-clause-others : goal.returns-clause-others
 returns-clause-others c k f =

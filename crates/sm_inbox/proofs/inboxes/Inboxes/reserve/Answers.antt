@@ -1,6 +1,5 @@
 use Rattle.std.proofs.Common.{ap, sym, ◌∙◌}
 use Rattle.std.specs.Prelude.{is_some}
-use Rattle.std.proofs.lemmas.Bool.{true≢false}
 use Rattle.sm_history.proofs.ClientRows.{sought, none_sought, row_pushed}
 use Rattle.sm_inbox.proofs.RowLemmas.{room_open, room_others, open_pushed}
 use Rattle.sm_inbox.proofs.Tracked.{tracks_pushed}
@@ -13,18 +12,6 @@ returns-then-is_some-clause-room c =
     let there = sym (sought _ c.args.self.now.rows.items c.args.client c.inbox_index.result at) ∙ sym c.is_some.ensures ∙
     c.if-is_some.true in
     room_open _ there
-
-pub returns-in_err-reserve-clause-open : goal.returns-in_err-reserve-clause-open
-returns-in_err-reserve-clause-open c there =
-    let at = rw c.deref.ensures.value at c.inbox_index.ensures in
-    absurd (true≢false (sym there ∙ sym (sought _ c.args.self.now.rows.items c.args.client c.inbox_index.result at) ∙
-    sym c.is_some.ensures ∙ c.if-is_some.false))
-
-pub returns-in_err-waiting-clause-open : goal.returns-in_err-waiting-clause-open
-returns-in_err-waiting-clause-open c there =
-    let at = rw c.deref.ensures.value at c.inbox_index.ensures in
-    absurd (true≢false (sym there ∙ sym (sought _ c.args.self.now.rows.items c.args.client c.inbox_index.result at) ∙
-    sym c.is_some.ensures ∙ c.if-is_some.false))
 
 pub returns-clause-tracks : goal.returns-clause-tracks
 returns-clause-tracks c d tr =

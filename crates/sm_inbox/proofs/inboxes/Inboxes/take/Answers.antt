@@ -1,15 +1,8 @@
-use Rattle.std.proofs.Common.{◌≡◌, None, ap, sym, ◌∙◌, refl}
-use Rattle.sm_inbox.specs.Rows.{inbox_of, waiting_in}
+use Rattle.std.proofs.Common.{refl}
 use Rattle.sm_inbox.proofs.RowLemmas.{room_kept, popped, open_written}
 use Rattle.sm_inbox.proofs.Tracked.{tracks_popped}
 use Rattle.sm_inbox.proofs.OnceRows.{once_written}
 use Rattle.sm_inbox.proofs.inboxes.Inboxes.take.Goals as goal
-
-pub returns-in_err-i-clause-taken : goal.returns-in_err-i-clause-taken
-returns-in_err-i-clause-taken c d tr =
-    let none : inbox_of c.args.self.now.rows.items c.args.client ≡ None =
-    rw (← c.deref.ensures.value) c.in_err-i.ensures in
-    rw c.from_residual.ensures (sym (tr.queues c.args.client) ∙ ap waiting_in none, tr)
 
 pub returns-clause-taken : goal.returns-clause-taken
 returns-clause-taken c d tr =
