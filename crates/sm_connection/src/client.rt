@@ -4,7 +4,7 @@ ghost use Rattle.std.specs.Prelude.{◌≡◌, MatchBool, []};
 ghost use Rattle.sm_history.specs.Tokens.{Knows};
 ghost use Rattle.sm_history.specs.Verdict.{is_die};
 ghost use Rattle.sm_session.specs.declared.response.Response.TheVariants.{Replied};
-ghost use Rattle.sm_connection.specs.Connections.{ClientGives, GivesHello, GivesLine, GivesLook, GivesChange, GivesDeath};
+ghost use Rattle.sm_connection.specs.Connections.{ClientGives, GivesHello, GivesLook, GivesChange, GivesDeath};
 ghost use Rattle.sm_connection.specs.Connections.{GivesDeathAfterTries, Greets, DiesAtDoor, Reads, TakesSession};
 
 use crate::answered::Answered;

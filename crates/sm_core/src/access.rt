@@ -2,14 +2,13 @@
 
 ghost use Rattle.std.specs.Prelude.{◌≡◌, ◌⊎◌, [], ◌∷◌, ◌++◌, None, Some, option_map, IfOk, OnOk};
 ghost use Rattle.sm_kinds.specs.Contexts.{type_of};
-ghost use Rattle.sm_kinds.specs.declared.class.Class.TheVariants.{ServiceManager};
-ghost use Rattle.sm_policy.specs.Policy.{allowed, decision, label_of, type_index};
+ghost use Rattle.sm_policy.specs.Policy.{allowed, decision, type_index};
 ghost use Rattle.sm_history.specs.Checks.{rule_denial};
 ghost use Rattle.sm_history.specs.Records.{rule_record};
 ghost use Rattle.sm_history.specs.declared.failed_check.FailedCheck.TheVariants.{Unruled, Barred};
 ghost use Rattle.sm_history.specs.declared.refusal.Refusal.TheVariants.{Memory, Denied};
 ghost use Rattle.sm_core.specs.Judging.{IsRuled, noted, clause_noted};
-ghost use Rattle.sm_core.specs.Tables.{process_under, IsLabelUnder};
+ghost use Rattle.sm_core.specs.Tables.{process_under};
 
 use crate::notes::Notes;
 use crate::principals::Principals;
@@ -17,7 +16,7 @@ use crate::process::Process;
 use crate::small_failed_check::SmallFailedCheck;
 use sm_history::{Denial, FailedCheck, Record, Refusal};
 use sm_kinds::{Class, Context, Identity, Name, Perms};
-use sm_policy::{Decision, Label, Prepared};
+use sm_policy::{Decision, Prepared};
 use std::alloc::{AllocError, Global};
 use std::marker::Model;
 

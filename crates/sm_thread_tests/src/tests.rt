@@ -1,9 +1,4 @@
 mod connection;
 mod door;
 mod exchanges;
-mod held;
-mod hold;
-mod operations;
 mod registries;
-mod server;
-mod steps;

@@ -2,10 +2,10 @@
 //! requests.
 
 use super::door::{Scene, plays};
-use super::server::Ear;
 use sm_audit::push_lines;
 use sm_connection::{
-    AuditSink, FreeSeats, Gauge, Monitor, SealAt, serve_administrator, serve_client,
+    AuditSink, FreeSeats, Gauge, Monitor, SealAt, ServerEvent, Supervisor, serve_administrator,
+    serve_client,
 };
 use sm_door::{Admin, Door, Naming, Seat};
 use sm_engine::Counted;
@@ -39,6 +39,18 @@ impl<'a, R: Abort> AuditSink for Lines<'a, R> {
     }
 }
 
+/// A supervisor that takes no notice of anything.
+#[derive(Drop)]
+struct Quiet;
+
+impl Supervisor for Quiet {
+    fn tell(&self, _: ServerEvent) {}
+
+    fn audit(&self, _: &[Record]) {}
+
+    fn close_entrances(&self) {}
+}
+
 /// The most reads of a connection.
 const READS: u32 = 10;
 
@@ -48,7 +60,7 @@ fn client_told<'a, J: Naming, R: Wait + Abort>(
     alloc: Global,
     door: &Door<J, NoGate>,
     seats: &FreeSeats<J>,
-    monitor: &Monitor<Ear>,
+    monitor: &Monitor<Quiet>,
     sink: Lines<'a, R>,
     lines: &'static [u8],
 ) -> (Vec<u8>, Lines<'a, R>) {
@@ -76,7 +88,7 @@ fn administrator_told<'a, J: Naming, R: Wait + Abort>(
     alloc: Global,
     door: &Door<J, NoGate>,
     admin: Admin<J>,
-    monitor: &Monitor<Ear>,
+    monitor: &Monitor<Quiet>,
     sink: Lines<'a, R>,
     lines: &'static [u8],
 ) -> (Vec<u8>, Lines<'a, R>) {
@@ -146,13 +158,13 @@ pub fn serves<J: Naming, R: Wait + Abort>(
 ) {
     let seats = FreeSeats::new(seats);
     let admin = admins.pop().expect(rt, "an administrator");
-    let ear = Ear::new();
     let never = SealAt {
         entries: None,
         bytes: None,
     };
+    let host = Quiet;
     let gauge = Gauge::new(alloc, 1000, never).ok().expect(rt, "memory");
-    let monitor = Monitor::new(&ear, &gauge);
+    let monitor = Monitor::new(&host, &gauge);
     let sink = Lines {
         rt,
         alloc,

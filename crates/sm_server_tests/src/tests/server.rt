@@ -3,14 +3,13 @@
 ghost use Rattle.std.specs.Prelude.{◌≡◌};
 ghost use Rattle.sm_core.specs.Opening.{opened};
 
-use super::door::{manager, policy};
 use super::steps::Step::{self, Close, Over, Reload, Say, SayAll, Vanish};
 use super::steps::connected;
 use sm_connection::{FreeSeats, SealAt, ServerEvent, Supervisor};
 use sm_door::{Door, Naming, UnnamedRegistry};
 use sm_engine::ServeFault;
 use sm_history::{Gate, NoGate, Record};
-use sm_kinds::{Identity, Places};
+use sm_kinds::{Context, Identity, Places};
 use sm_policy::Prepared;
 use sm_samples::{DEVICE_LABELS, DEVICE_RULES, STRICTER_RULES};
 use sm_serve::{Entrance, Numbers, Patience, serve};
@@ -253,6 +252,21 @@ pub fn holds<R: Net + Threads + Wait + Clock + Abort + Sync>(
     assert!(rt; left == wanted);
 }
 
+/// A device's service manager and its policy.
+fn device(rt: &impl Abort, alloc: Global) -> (Identity, Prepared) {
+    let who = Identity {
+        pid: 1,
+        uid: 1000,
+        context: Context::read(alloc, b"u:r:servicemanager:s0")
+            .ok()
+            .expect(rt, "a context"),
+    };
+    let rules = Prepared::from_texts(alloc, DEVICE_RULES, DEVICE_LABELS)
+        .ok()
+        .expect(rt, "a policy");
+    (who, rules)
+}
+
 /// Serves these connections, at a door with a journal of `places` slots, during the exchange.
 pub fn at_a_door<
     T: Talk + Send + Drop,
@@ -261,8 +275,7 @@ pub fn at_a_door<
 >(rt: &R, alloc: Global, places: u32, gate: G, mut visits: Visits, talk: T) -> Left {
     visits.numbers.slots = places;
     let places = Places::new(places).expect(rt, "places");
-    let who = manager(rt, alloc);
-    let rules = policy(rt, alloc, DEVICE_RULES);
+    let (who, rules) = device(rt, alloc);
     serves::<Brand, T, G, R>(
         rt,
         alloc,

@@ -1,0 +1,5 @@
+mod held;
+mod hold;
+mod operations;
+mod server;
+mod steps;
