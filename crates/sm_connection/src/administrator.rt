@@ -13,6 +13,7 @@ use crate::refusals::not_yours;
 use crate::supervisor::Supervisor;
 use sm_door::{Admin, Door, Naming};
 use sm_history::{Gate, Outcome, Query, Reply};
+use sm_kinds::drop_fields;
 use sm_policy::Prepared;
 use sm_session::{Command, Response};
 use sm_wire::Request;
@@ -29,12 +30,7 @@ pub struct Administrator<'a, J: Naming, G: Gate, H, R> {
 
 impl<'a, J: Naming, G: Gate, H, R> Drop for Administrator<'a, J, G, H, R> {
     fn drop(self) {
-        let Administrator {
-            rt: _,
-            alloc: _,
-            door: _,
-            monitor: _,
-        } = self;
+        drop_fields!(self: rt, alloc, door, monitor);
     }
 }
 

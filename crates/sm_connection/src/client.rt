@@ -13,7 +13,7 @@ use crate::free_seats::FreeSeats;
 use crate::refusals::{not_connected, not_yours};
 use sm_door::{Door, Naming, Seat, SeatOrSession, Session};
 use sm_history::{Event, Gate, Outcome, Query, Refusal, Reply, is_death};
-use sm_kinds::Identity;
+use sm_kinds::{Identity, drop_fields};
 use sm_session::{Command, Response};
 use sm_wire::Request;
 use std::alloc::Global;
@@ -33,12 +33,7 @@ pub struct Client<'a, J: Naming, G: Gate, R> {
 
 impl<'a, J: Naming, G: Gate, R> Drop for Client<'a, J, G, R> {
     fn drop(self) {
-        let Client {
-            rt: _,
-            alloc: _,
-            door: _,
-            seats: _,
-        } = self;
+        drop_fields!(self: rt, alloc, door, seats);
     }
 }
 

@@ -3,7 +3,7 @@
 use crate::entries::Entries;
 use crate::fault::ContextsFault;
 use crate::reading::entries_of;
-use sm_kinds::Context;
+use sm_kinds::{Context, drop_fields};
 use std::alloc::Global;
 use std::marker::Model;
 
@@ -16,10 +16,7 @@ pub struct Contexts {
 
 impl Drop for Contexts {
     fn drop(self) {
-        let Contexts {
-            entries: _,
-            default: _,
-        } = self;
+        drop_fields!(self: entries, default);
     }
 }
 

@@ -2,7 +2,7 @@
 
 use crate::fault::ContextsFault;
 use indexmap::IndexMap;
-use sm_kinds::Context;
+use sm_kinds::{Context, drop_fields};
 use std::alloc::Global;
 use std::marker::Model;
 
@@ -14,10 +14,7 @@ pub struct FirstLine {
 
 impl Drop for FirstLine {
     fn drop(self) {
-        let FirstLine {
-            line: _,
-            context: _,
-        } = self;
+        drop_fields!(self: line, context);
     }
 }
 

@@ -19,7 +19,7 @@ use crate::caller::Caller;
 use crate::client::{LiveClient, copies_of, drop_client, renumber, row_of};
 use crate::process::Process;
 use sm_history::{By, Effect};
-use sm_kinds::Identity;
+use sm_kinds::{Identity, drop_fields};
 use sm_policy::Prepared;
 use std::alloc::{AllocError, Global};
 
@@ -34,12 +34,7 @@ pub struct Principals {
 
 impl Drop for Principals {
     fn drop(self) {
-        let Principals {
-            manager: _,
-            policy: _,
-            version: _,
-            clients: _,
-        } = self;
+        drop_fields!(self: manager, policy, version, clients);
     }
 }
 

@@ -27,6 +27,7 @@ use crate::state::State;
 use crate::turn_counts::TurnCounts;
 use crate::turns::Turns;
 use sm_history::{By, Effect, Entry, Query, Record, Reply};
+use sm_kinds::drop_fields;
 use sm_names::Services;
 use std::alloc::{AllocError, Global};
 use std::marker::Model;
@@ -81,16 +82,7 @@ pub struct View {
 
 impl Drop for View {
     fn drop(self) {
-        let View {
-            alloc: _,
-            places: _,
-            length: _,
-            principals: _,
-            services: _,
-            turn_counts: _,
-            journal: _,
-            next: _,
-        } = self;
+        drop_fields!(self: alloc, places, length, principals, services, turn_counts, journal, next);
     }
 }
 

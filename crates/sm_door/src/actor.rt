@@ -13,6 +13,7 @@ use crate::locked_manager::LockedManager;
 use crate::published::{Sees, ViewReader};
 use crate::registry::Naming;
 use sm_history::{By, Query, Record, Refusal, Reply};
+use sm_kinds::drop_fields;
 use std::alloc::Global;
 use std::marker::Model;
 use std::sync::Wait;
@@ -29,12 +30,7 @@ pub struct Actor<J: Naming> {
 
 impl<J: Naming> Drop for Actor<J> {
     fn drop(self) {
-        let Actor {
-            alloc: _,
-            by: _,
-            turn: _,
-            reader: _,
-        } = self;
+        drop_fields!(self: alloc, by, turn, reader);
     }
 }
 

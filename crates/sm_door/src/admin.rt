@@ -5,7 +5,7 @@ ghost use Rattle.sm_history.specs.declared.by.By.TheVariants.{Admin as TheAdmin}
 
 use crate::actor::Actor;
 use crate::registry::Naming;
-use sm_kinds::AdminId;
+use sm_kinds::{AdminId, drop_fields};
 use std::marker::Model;
 
 /// An administrator's token. It can't be copied, and serves the door that made it.
@@ -17,10 +17,7 @@ pub struct Admin<J: Naming> {
 
 impl<J: Naming> Drop for Admin<J> {
     fn drop(self) {
-        let Admin {
-            number: _,
-            actor: _,
-        } = self;
+        drop_fields!(self: number, actor);
     }
 }
 

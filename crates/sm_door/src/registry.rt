@@ -5,6 +5,7 @@ ghost use Rattle.sm_door.specs.Registries.{head_of};
 
 use crate::registry_rule::{Add, Asks, Law, Nothing, Registered, Shows};
 use logbook::{Offer, Seen, Start, Word};
+use sm_kinds::drop_fields;
 use std::marker::{Brand, Model, PhantomData};
 use std::sync::Wait;
 
@@ -71,12 +72,7 @@ pub struct Registry<J: Naming> {
 
 impl<J: Naming> Drop for Registry<J> {
     fn drop(self) {
-        let Registry {
-            head: _,
-            count: _,
-            seen: _,
-            of: _,
-        } = self;
+        drop_fields!(self: head, count, seen, of);
     }
 }
 
@@ -102,11 +98,7 @@ pub struct HistoryId<J: Naming> {
 
 impl<J: Naming> Drop for HistoryId<J> {
     fn drop(self) {
-        let HistoryId {
-            number: _,
-            seen: _,
-            of: _,
-        } = self;
+        drop_fields!(self: number, seen, of);
     }
 }
 

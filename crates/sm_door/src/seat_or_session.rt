@@ -8,7 +8,7 @@ use crate::actor::Actor;
 use crate::registry::Naming;
 use crate::seat::Seat;
 use crate::session::Session;
-use sm_kinds::ClientId;
+use sm_kinds::{ClientId, drop_fields};
 use std::marker::Model;
 
 /// A client's slot at the door, with or without a client: what a server keeps for a connection that may have sent
@@ -20,10 +20,7 @@ pub struct SeatOrSession<J: Naming> {
 
 impl<J: Naming> Drop for SeatOrSession<J> {
     fn drop(self) {
-        let SeatOrSession {
-            client: _,
-            actor: _,
-        } = self;
+        drop_fields!(self: client, actor);
     }
 }
 

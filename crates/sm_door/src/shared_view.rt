@@ -10,6 +10,7 @@ use crate::published::ShowsView;
 use crate::registry::{HistoryId, Naming, Registry};
 use sm_core::View;
 use sm_history::{By, Failure, Query, Record, Refusal, Reply};
+use sm_kinds::drop_fields;
 use std::alloc::{AllocError, Global};
 use std::marker::Model;
 use std::sync::{Arc, Wait};
@@ -22,10 +23,7 @@ pub struct SharedView<J: Naming> {
 
 impl<J: Naming> Drop for SharedView<J> {
     fn drop(self) {
-        let SharedView {
-            view: _,
-            history_id: _,
-        } = self;
+        drop_fields!(self: view, history_id);
     }
 }
 

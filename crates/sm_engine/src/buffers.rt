@@ -3,6 +3,7 @@
 ghost use Rattle.std.specs.Prelude.{◌≡◌, []};
 ghost use Rattle.sm_engine.specs.Buffers.{IsIdle};
 
+use sm_kinds::drop_fields;
 use sm_wire::Item;
 use std::alloc::Global;
 use std::collections::VecDeque;
@@ -23,11 +24,7 @@ pub struct Buffers {
 
 impl Drop for Buffers {
     fn drop(self) {
-        let Buffers {
-            items: _,
-            replies: _,
-            lines: _,
-        } = self;
+        drop_fields!(self: items, replies, lines);
     }
 }
 

@@ -21,7 +21,7 @@ use crate::handles::Handles;
 use crate::place::node_index;
 use crate::rows::{ClientHandles, handles_of, holders_in, place_for, row_of};
 use sm_history::{Held, MOST_HANDLES};
-use sm_kinds::{ClientId, Node, ObjRef};
+use sm_kinds::{ClientId, Node, ObjRef, drop_fields};
 use std::alloc::{AllocError, Global};
 
 /// The handles of all clients: who holds which object, under which number, and how often.
@@ -36,11 +36,7 @@ pub struct Grants {
 
 impl Drop for Grants {
     fn drop(self) {
-        let Grants {
-            alloc: _,
-            rows: _,
-            bound: _,
-        } = self;
+        drop_fields!(self: alloc, rows, bound);
     }
 }
 

@@ -1,5 +1,6 @@
 //! Handles of one client.
 
+use sm_kinds::drop_fields;
 use std::marker::Model;
 
 /// A client's handles: by number, by object, and the numbers in use.
@@ -14,11 +15,7 @@ pub struct Handles {
 
 impl Drop for Handles {
     fn drop(self) {
-        let Handles {
-            slots: _,
-            numbers: _,
-            taken: _,
-        } = self;
+        drop_fields!(self: slots, numbers, taken);
     }
 }
 

@@ -3,7 +3,7 @@
 ghost use Rattle.std.specs.Prelude.{◌≡◌};
 
 use crate::denial::Denial;
-use sm_kinds::{Context, Identity, Name};
+use sm_kinds::{Context, Identity, Name, drop_fields};
 use std::alloc::AllocError;
 
 /// A record of a check that no allow rule passed, or of a clause on the user number that refused a request, as
@@ -26,15 +26,7 @@ pub struct Record {
 
 impl Drop for Record {
     fn drop(self) {
-        let Record {
-            length: _,
-            version: _,
-            denial: _,
-            permissive: _,
-            who: _,
-            target: _,
-            name: _,
-        } = self;
+        drop_fields!(self: length, version, denial, permissive, who, target, name);
     }
 }
 

@@ -1,5 +1,6 @@
 //! What changes left, as plain rows.
 
+use sm_kinds::drop_fields;
 use std::marker::Model;
 
 /// Everything that a verdict reads of the changes so far: the manager and the policy in force, once it was opened, each
@@ -13,11 +14,7 @@ pub struct Rows {
 
 impl Drop for Rows {
     fn drop(self) {
-        let Rows {
-            tables: _,
-            turns: _,
-            length: _,
-        } = self;
+        drop_fields!(self: tables, turns, length);
     }
 }
 

@@ -1,5 +1,6 @@
 //! Segments of a journal.
 
+use sm_kinds::drop_fields;
 use std::marker::Model;
 
 /// A segment of a journal: its number from 1, the rows that it begins with, and its changes, oldest first, in the
@@ -13,12 +14,7 @@ pub struct Segment {
 
 impl Drop for Segment {
     fn drop(self) {
-        let Segment {
-            number: _,
-            opening: _,
-            full: _,
-            last: _,
-        } = self;
+        drop_fields!(self: number, opening, full, last);
     }
 }
 

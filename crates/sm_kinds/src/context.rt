@@ -4,6 +4,7 @@ ghost use Rattle.std.specs.Prelude.{◌≡◌, ◌≢◌, ◌≤◌, ◌<◌, le
 ghost use Rattle.std.specs.List.{prefix_len, list_all};
 ghost use Rattle.sm_kinds.specs.Contexts as spec;
 
+use crate::drop_fields;
 use crate::lines::behind;
 use std::alloc::{AllocError, Global};
 use std::marker::Model;
@@ -41,11 +42,7 @@ impl Model for Context {
 
 impl Drop for Context {
     fn drop(self) {
-        let Context {
-            text: _,
-            kind_start: _,
-            kind_len: _,
-        } = self;
+        drop_fields!(self: text, kind_start, kind_len);
     }
 }
 

@@ -3,6 +3,7 @@
 ghost use Rattle.std.specs.Prelude.{◌≡◌};
 
 use crate::context::Context;
+use crate::drop_fields;
 use std::alloc::AllocError;
 
 /// The identity of a process: its process number, its user number and its security context, as the kernel reports them.
@@ -14,11 +15,7 @@ pub struct Identity {
 
 impl Drop for Identity {
     fn drop(self) {
-        let Identity {
-            pid: _,
-            uid: _,
-            context: _,
-        } = self;
+        drop_fields!(self: pid, uid, context);
     }
 }
 

@@ -5,6 +5,7 @@
 
 mod class;
 mod context;
+mod drops;
 mod identity;
 mod limits;
 mod lines;

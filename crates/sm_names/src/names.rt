@@ -16,7 +16,7 @@ use crate::services::Services;
 use crate::watch_list::WatchList;
 use crate::watch_order::WatchOrder;
 use sm_history::{MOST_NAMES, MOST_WATCHES, NameList, Service, Watch, WatchPair};
-use sm_kinds::Name;
+use sm_kinds::{Name, drop_fields};
 use std::alloc::{AllocError, Global};
 
 /// The table of services under their names, and of watches.
@@ -28,11 +28,7 @@ pub struct NameTable {
 
 impl Drop for NameTable {
     fn drop(self) {
-        let NameTable {
-            services: _,
-            watches: _,
-            order: _,
-        } = self;
+        drop_fields!(self: services, watches, order);
     }
 }
 

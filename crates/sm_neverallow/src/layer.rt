@@ -6,7 +6,7 @@ ghost use Rattle.sm_neverallow.specs.Matrices.{Square};
 
 use crate::matrix::Matrix;
 use sm_bits::BitRow;
-use sm_kinds::Perms;
+use sm_kinds::{Perms, drop_fields};
 use sm_rules::has_perm;
 use sm_types::TypeCount;
 use std::alloc::{AllocError, Global};
@@ -22,11 +22,7 @@ pub struct Layer {
 
 impl Drop for Layer {
     fn drop(self) {
-        let Layer {
-            matrix: _,
-            count: _,
-            nothing: _,
-        } = self;
+        drop_fields!(self: matrix, count, nothing);
     }
 }
 

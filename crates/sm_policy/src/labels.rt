@@ -13,7 +13,7 @@ ghost use Rattle.sm_policy.specs.Undeclared.{first_undeclared, undeclared_line};
 
 use crate::PolicyFault;
 use sm_contexts::Contexts;
-use sm_kinds::Context;
+use sm_kinds::{Context, drop_fields};
 use sm_types::Types;
 use std::alloc::Global;
 
@@ -35,10 +35,7 @@ pub struct Labels {
 
 impl Drop for Labels {
     fn drop(self) {
-        let Labels {
-            contexts: _,
-            indexes: _,
-        } = self;
+        drop_fields!(self: contexts, indexes);
     }
 }
 

@@ -5,7 +5,7 @@ use crate::labels::{Labels, labels_of};
 use crate::preparing::{refuse_violation, rules_of};
 use crate::{Decision, Label, PolicyFault};
 use sm_contexts::Contexts;
-use sm_kinds::{Class, Context, Perms};
+use sm_kinds::{Class, Context, Perms, drop_fields};
 use sm_neverallow::Matrices;
 use sm_rules::Rules;
 use sm_ruletext::Statement;
@@ -29,14 +29,7 @@ struct Parts {
 
 impl Drop for Parts {
     fn drop(self) {
-        let Parts {
-            statements: _,
-            counts: _,
-            types: _,
-            rules: _,
-            vectors: _,
-            labels: _,
-        } = self;
+        drop_fields!(self: statements, counts, types, rules, vectors, labels);
     }
 }
 

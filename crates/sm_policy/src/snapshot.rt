@@ -1,7 +1,7 @@
 //! Policies with their versions.
 
 use crate::Prepared;
-use sm_kinds::{Class, Context, Perms};
+use sm_kinds::{Class, Context, Perms, drop_fields};
 use std::marker::Model;
 
 /// A policy with its version: the number of the `Open` and `Reload` entries up to the one that put it into force.
@@ -12,10 +12,7 @@ pub struct Snapshot {
 
 impl Drop for Snapshot {
     fn drop(self) {
-        let Snapshot {
-            prepared: _,
-            version: _,
-        } = self;
+        drop_fields!(self: prepared, version);
     }
 }
 

@@ -1,6 +1,6 @@
 //! A neverallow rule that an allow rule breaks.
 
-use sm_kinds::{Class, Name, Perms};
+use sm_kinds::{Class, Name, Perms, drop_fields};
 
 /// The first thing that a neverallow rule forbids and an allow rule allows, with the names of its types.
 pub struct Violation {
@@ -17,13 +17,6 @@ pub struct Violation {
 
 impl Drop for Violation {
     fn drop(self) {
-        let Violation {
-            never_line: _,
-            allow_line: _,
-            source: _,
-            target: _,
-            class: _,
-            perm: _,
-        } = self;
+        drop_fields!(self: never_line, allow_line, source, target, class, perm);
     }
 }

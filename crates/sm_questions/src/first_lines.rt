@@ -7,6 +7,7 @@ ghost use Rattle.sm_rules.specs.Keeping.{FitsRule, covered_line, covers};
 ghost use Rattle.sm_questions.specs.FirstLines.{AreNear, HasFound, IsTable, kept_line, line_in, place_in, rules_at};
 
 use sm_bits::{SharedSet, has_bit};
+use sm_kinds::drop_fields;
 use sm_rules::{Kept, PERM_COUNT, Rules};
 use sm_types::TypeCount;
 use std::alloc::{AllocError, Global};
@@ -204,14 +205,7 @@ pub struct LineTable<'a> {
 
 impl<'a> Drop for LineTable<'a> {
     fn drop(self) {
-        let LineTable {
-            rules: _,
-            targets: _,
-            near: _,
-            from: _,
-            to: _,
-            lines: _,
-        } = self;
+        drop_fields!(self: rules, targets, near, from, to, lines);
     }
 }
 

@@ -6,6 +6,7 @@ ghost use Rattle.sm_policy.specs.Policy.{type_index};
 ghost use Rattle.sm_questions.specs.Runs.{AreEnds, IsRun, AreNumbersIn};
 
 use crate::lookups::{type_count, type_name};
+use sm_kinds::drop_fields;
 use sm_policy::Prepared;
 use std::alloc::{AllocError, Global};
 
@@ -22,10 +23,7 @@ pub struct TypeNumbers {
 
 impl Drop for TypeNumbers {
     fn drop(self) {
-        let TypeNumbers {
-            numbers: _,
-            ends: _,
-        } = self;
+        drop_fields!(self: numbers, ends);
     }
 }
 

@@ -20,7 +20,7 @@ use crate::memo::Memo;
 use crate::perm_bits::{has_perm, perms_of};
 use crate::row_pool::RowPool;
 use sm_bits::SharedSet;
-use sm_kinds::{Class, Names, Perms};
+use sm_kinds::{Class, Names, Perms, drop_fields};
 use sm_ruletext::{Rule, Set};
 use sm_types::{Types, TypesFault};
 use std::alloc::{AllocError, Global};
@@ -39,13 +39,7 @@ pub struct Kept {
 
 impl Drop for Kept {
     fn drop(self) {
-        let Kept {
-            line: _,
-            sources: _,
-            targets: _,
-            to_self: _,
-            perms: _,
-        } = self;
+        drop_fields!(self: line, sources, targets, to_self, perms);
     }
 }
 

@@ -5,7 +5,7 @@ ghost use Rattle.sm_types.specs.declared.table.Table.{Table as TheTable};
 ghost use Rattle.sm_rules.specs.Memoed.{Denotes, Grants, IsRight};
 
 use sm_bits::SharedSet;
-use sm_kinds::Perms;
+use sm_kinds::{Perms, drop_fields};
 use sm_ruletext::{Rule, Set};
 use std::alloc::{AllocError, Global};
 use std::marker::Model;
@@ -54,12 +54,7 @@ impl Model for Memo {
 
 impl Drop for Memo {
     fn drop(self) {
-        let Memo {
-            sets: _,
-            places: _,
-            grants: _,
-            slots: _,
-        } = self;
+        drop_fields!(self: sets, places, grants, slots);
     }
 }
 

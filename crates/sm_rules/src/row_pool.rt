@@ -7,6 +7,7 @@ ghost use Rattle.sm_rules.specs.Pooling.{HasMembersBefore, HasMembers};
 
 use indexmap::IndexMap;
 use sm_bits::{BitRow, SharedSet};
+use sm_kinds::drop_fields;
 use sm_types::Types;
 use std::alloc::{AllocError, Global};
 use std::marker::Model;
@@ -36,10 +37,7 @@ pub struct RowPool {
 
 impl Drop for RowPool {
     fn drop(self) {
-        let RowPool {
-            members: _,
-            rows: _,
-        } = self;
+        drop_fields!(self: members, rows);
     }
 }
 

@@ -15,7 +15,7 @@ use crate::draft::{Draft, all_rules};
 use crate::kept::Kept;
 use crate::perm_bits::number_of;
 use sm_bits::BitRow;
-use sm_kinds::{Class, Perms};
+use sm_kinds::{Class, Perms, drop_fields};
 use sm_ruletext::Statement;
 use sm_types::{TypeCount, Types};
 use std::alloc::Global;
@@ -51,13 +51,7 @@ impl Model for Rules {
 
 impl Drop for Rules {
     fn drop(self) {
-        let Rules {
-            count: _,
-            allows: _,
-            neverallows: _,
-            silences: _,
-            permissive: _,
-        } = self;
+        drop_fields!(self: count, allows, neverallows, silences, permissive);
     }
 }
 

@@ -4,6 +4,7 @@ ghost use Rattle.std.specs.Prelude.{◌≡◌};
 ghost use Rattle.sm_ruletext.specs.Kept as spec;
 
 use crate::Set;
+use sm_kinds::drop_fields;
 
 /// What follows `allow`, `neverallow` or `dontaudit`: `SOURCE TARGET : CLASS PERM`.
 pub struct Rule {
@@ -17,13 +18,7 @@ pub struct Rule {
 
 impl Drop for Rule {
     fn drop(self) {
-        let Rule {
-            source: _,
-            target: _,
-            class: _,
-            perm: _,
-            to_self: _,
-        } = self;
+        drop_fields!(self: source, target, class, perm, to_self);
     }
 }
 

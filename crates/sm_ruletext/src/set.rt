@@ -6,7 +6,7 @@ ghost use Rattle.sm_ruletext.specs.Items.{SameItems, parts_of, set_with};
 ghost use Rattle.sm_ruletext.specs.Sets as spec;
 
 use crate::items::Items;
-use sm_kinds::{Names, spells};
+use sm_kinds::{Names, drop_fields, spells};
 use std::alloc::{AllocError, Global};
 use std::marker::Model;
 use std::sync::Arc;
@@ -63,14 +63,7 @@ impl Model for SetParts {
 
 impl Drop for SetParts {
     fn drop(self) {
-        let SetParts {
-            number: _,
-            all: _,
-            complement: _,
-            plus: _,
-            minus: _,
-            has_kept: _,
-        } = self;
+        drop_fields!(self: number, all, complement, plus, minus, has_kept);
     }
 }
 

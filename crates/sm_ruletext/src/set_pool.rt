@@ -9,7 +9,7 @@ use crate::Set;
 use crate::items::Items;
 use crate::set::SetParts;
 use crate::words::{Words, digest};
-use sm_kinds::Names;
+use sm_kinds::{Names, drop_fields};
 use std::alloc::{AllocError, Global};
 use std::marker::Model;
 use std::mem;
@@ -32,11 +32,7 @@ pub struct SetPool {
 
 impl Drop for SetPool {
     fn drop(self) {
-        let SetPool {
-            sets: _,
-            slots: _,
-            spare: _,
-        } = self;
+        drop_fields!(self: sets, slots, spare);
     }
 }
 

@@ -12,6 +12,7 @@ use crate::judging::{
 };
 use sm_core::Manager;
 use sm_engine::Machine;
+use sm_kinds::drop_fields;
 use sm_policy::Prepared;
 use sm_wire::{Item, PolicyTexts, Request, push_policy_refused};
 use std::alloc::{AllocError, Global};
@@ -28,10 +29,7 @@ pub struct Script {
 
 impl Drop for Script {
     fn drop(self) {
-        let Script {
-            alloc: _,
-            manager: _,
-        } = self;
+        drop_fields!(self: alloc, manager);
     }
 }
 

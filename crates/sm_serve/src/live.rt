@@ -1,5 +1,6 @@
 //! The connections that a server serves.
 
+use sm_kinds::drop_fields;
 use std::alloc::{AllocError, Global};
 use std::net::Shutdown;
 use std::os::unix::net::UnixStream;
@@ -19,11 +20,7 @@ pub struct Live {
 
 impl Drop for Live {
     fn drop(self) {
-        let Live {
-            alloc: _,
-            open: _,
-            threads: _,
-        } = self;
+        drop_fields!(self: alloc, open, threads);
     }
 }
 
@@ -37,11 +34,7 @@ struct Open {
 
 impl Drop for Open {
     fn drop(self) {
-        let Open {
-            is_over: _,
-            next: _,
-            connections: _,
-        } = self;
+        drop_fields!(self: is_over, next, connections);
     }
 }
 
@@ -53,10 +46,7 @@ struct Connected {
 
 impl Drop for Connected {
     fn drop(self) {
-        let Connected {
-            number: _,
-            stream: _,
-        } = self;
+        drop_fields!(self: number, stream);
     }
 }
 

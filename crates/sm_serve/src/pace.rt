@@ -1,6 +1,7 @@
 //! The time that a client's connection takes.
 
 use crate::patience::Patience;
+use sm_kinds::drop_fields;
 use std::cell::Cell;
 use std::io::{self, ErrorKind, Read, Write};
 use std::os::unix::net::UnixStream;
@@ -26,15 +27,7 @@ pub struct Pace<'a, R> {
 
 impl<'a, R> Drop for Pace<'a, R> {
     fn drop(self) {
-        let Pace {
-            rt: _,
-            stream: _,
-            patience: _,
-            begun: _,
-            is_connected: _,
-            replying: _,
-            is_short: _,
-        } = self;
+        drop_fields!(self: rt, stream, patience, begun, is_connected, replying, is_short);
     }
 }
 

@@ -9,6 +9,7 @@ use crate::log_lines::LogLines;
 use crossbeam_channel::{Receiver, Sender, bounded};
 use sm_audit::push_lines;
 use sm_history::Record;
+use sm_kinds::drop_fields;
 use std::alloc::{AllocError, Global};
 use std::sync::Wait;
 use std::sync::atomic::{AtomicBool, AtomicU64, Ordering};
@@ -32,13 +33,7 @@ pub struct ServerLog {
 
 impl Drop for ServerLog {
     fn drop(self) {
-        let ServerLog {
-            alloc: _,
-            to: _,
-            waiting: _,
-            lost: _,
-            is_over: _,
-        } = self;
+        drop_fields!(self: alloc, to, waiting, lost, is_over);
     }
 }
 

@@ -1,6 +1,7 @@
 //! The connection of an administrator, beside others that may wait.
 
 use crate::entrance::Entrance;
+use sm_kinds::drop_fields;
 use std::io::{self, Error, ErrorKind, Read};
 use std::os::unix::net::UnixStream;
 
@@ -15,10 +16,7 @@ pub struct Lobby<A> {
 
 impl<A: Drop> Drop for Lobby<A> {
     fn drop(self) {
-        let Lobby {
-            entrance: _,
-            next: _,
-        } = self;
+        drop_fields!(self: entrance, next);
     }
 }
 
@@ -62,11 +60,7 @@ pub struct Visitor<'a, A> {
 
 impl<'a, A> Drop for Visitor<'a, A> {
     fn drop(self) {
-        let Visitor {
-            stream: _,
-            lobby: _,
-            looks: _,
-        } = self;
+        drop_fields!(self: stream, lobby, looks);
     }
 }
 

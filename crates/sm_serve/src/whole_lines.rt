@@ -5,6 +5,7 @@ ghost use Rattle.std.specs.Io.KnownBytes.{Appends};
 ghost use Rattle.sm_serve.specs.Lines.{BreaksAt, WritesLines, bytes_of};
 
 use crate::log_lines::{LogLines, count_lines};
+use sm_kinds::drop_fields;
 use std::io::Write;
 
 /// A writer of whole lines. If a write fails in the middle of a line, the rest of it is written before anything else;
@@ -19,11 +20,7 @@ pub struct WholeLines<W> {
 
 impl<W: Drop> Drop for WholeLines<W> {
     fn drop(self) {
-        let WholeLines {
-            writer: _,
-            cut: _,
-            written: _,
-        } = self;
+        drop_fields!(self: writer, cut, written);
     }
 }
 

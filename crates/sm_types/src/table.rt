@@ -18,7 +18,7 @@ use crate::TypesFault;
 use crate::members::members_of;
 use crate::symbols::{Symbols, symbols_of};
 use sm_bits::BitRow;
-use sm_kinds::Names;
+use sm_kinds::{Names, drop_fields};
 use sm_ruletext::{Set, Statement};
 use std::alloc::{AllocError, Global};
 
@@ -32,11 +32,7 @@ pub struct Table {
 
 impl Drop for Table {
     fn drop(self) {
-        let Table {
-            symbols: _,
-            members: _,
-            all: _,
-        } = self;
+        drop_fields!(self: symbols, members, all);
     }
 }
 

@@ -10,7 +10,7 @@ ghost use Rattle.sm_vectors.specs.Tables.{SaysCovered};
 use crate::Decision;
 use crate::byte_table::ByteTable;
 use sm_bits::{BitRow, has_bit};
-use sm_kinds::{Class, Perms};
+use sm_kinds::{Class, Perms, drop_fields};
 use sm_neverallow::Matrices;
 use sm_rules::{Rules, number_of};
 use sm_types::TypeCount;
@@ -72,13 +72,7 @@ impl Model for Vectors {
 
 impl Drop for Vectors {
     fn drop(self) {
-        let Vectors {
-            count: _,
-            written: _,
-            silenced: _,
-            permissive: _,
-            everything: _,
-        } = self;
+        drop_fields!(self: count, written, silenced, permissive, everything);
     }
 }
 

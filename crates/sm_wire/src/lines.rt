@@ -12,6 +12,7 @@ use crate::framing::{Remainder, cut, end_stream, whole_item};
 use crate::item::Item;
 use crate::kind::Kind;
 use crate::recent_names::RecentNames;
+use sm_kinds::drop_fields;
 use std::alloc::{AllocError, Global};
 use std::collections::VecDeque;
 use std::marker::Model;
@@ -46,12 +47,7 @@ pub struct LineReader {
 
 impl Drop for LineReader {
     fn drop(self) {
-        let LineReader {
-            kind: _,
-            mode: _,
-            held: _,
-            recent: _,
-        } = self;
+        drop_fields!(self: kind, mode, held, recent);
     }
 }
 

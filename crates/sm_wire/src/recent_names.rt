@@ -7,7 +7,7 @@ ghost use Rattle.sm_wire.specs.Reading.{ReadsAs};
 ghost use Rattle.sm_wire.specs.Values.{plain_name_of};
 
 use crate::read_error::ReadError;
-use sm_kinds::{MOST_NAME_BYTES, Name, all_graphic, spells};
+use sm_kinds::{MOST_NAME_BYTES, Name, all_graphic, drop_fields, spells};
 use std::alloc::{AllocError, Global};
 use std::marker::Model;
 
@@ -39,11 +39,7 @@ pub struct RecentNames {
 
 impl Drop for RecentNames {
     fn drop(self) {
-        let RecentNames {
-            alloc: _,
-            count: _,
-            places: _,
-        } = self;
+        drop_fields!(self: alloc, count, places);
     }
 }
 

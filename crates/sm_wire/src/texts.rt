@@ -1,5 +1,6 @@
 //! The files after a `reload` line.
 
+use sm_kinds::drop_fields;
 use std::marker::Model;
 
 /// A `reload` line with the files that follow it.
@@ -11,11 +12,7 @@ pub struct PolicyTexts {
 
 impl Drop for PolicyTexts {
     fn drop(self) {
-        let PolicyTexts {
-            expected: _,
-            rules: _,
-            contexts: _,
-        } = self;
+        drop_fields!(self: expected, rules, contexts);
     }
 }
 

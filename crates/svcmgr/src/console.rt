@@ -4,6 +4,7 @@ use crate::standard_error::StandardError;
 use sm_command::Sockets;
 use sm_connection::{ServerEvent, Supervisor};
 use sm_history::Record;
+use sm_kinds::drop_fields;
 use sm_serve::{LogLines, ServerLog, WaitingLines, write_log};
 use std::alloc::AllocError;
 use std::io;
@@ -36,15 +37,7 @@ pub struct Console<'a, R> {
 
 impl<'a, R> Drop for Console<'a, R> {
     fn drop(self) {
-        let Console {
-            host: _,
-            rt: _,
-            listening: _,
-            clients: _,
-            admins: _,
-            log: _,
-            audits: _,
-        } = self;
+        drop_fields!(self: host, rt, listening, clients, admins, log, audits);
     }
 }
 

@@ -3,6 +3,7 @@
 use libc::STDERR_FILENO;
 use libc::net::{POLLOUT, poll};
 use libc::types::pollfd;
+use sm_kinds::drop_fields;
 use sm_serve::ServerLog;
 use std::io::{self, ErrorKind, Write};
 use std::sync::Wait;
@@ -28,12 +29,7 @@ pub struct StandardError<'a, R> {
 
 impl<'a, R> Drop for StandardError<'a, R> {
     fn drop(self) {
-        let StandardError {
-            host: _,
-            rt: _,
-            log: _,
-            pauses: _,
-        } = self;
+        drop_fields!(self: host, rt, log, pauses);
     }
 }
 

@@ -4,7 +4,7 @@ ghost use Rattle.std.specs.Prelude.{◌≡◌, ◌==◌, None, position, MatchOp
 ghost use Rattle.sm_history.specs.Tables.{slot, IsPut, given_slot, released_slot, client_row_of, IsPlace};
 
 use crate::delivery::BoxedDelivery;
-use sm_kinds::{Identity, Node};
+use sm_kinds::{Identity, Node, drop_fields};
 use std::alloc::AllocError;
 
 /// An object that a client holds, and the number of grants that it hasn't released.
@@ -24,12 +24,7 @@ pub struct ClientRow {
 
 impl Drop for ClientRow {
     fn drop(self) {
-        let ClientRow {
-            client: _,
-            who: _,
-            held: _,
-            waiting: _,
-        } = self;
+        drop_fields!(self: client, who, held, waiting);
     }
 }
 

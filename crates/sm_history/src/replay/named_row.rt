@@ -10,7 +10,7 @@ ghost use Rattle.sm_history.specs.Rising.{IsRising};
 ghost use Rattle.sm_history.specs.Tables.{names_of, IsNamePlace, IsNameGap, TracksNames};
 
 use crate::service::Service;
-use sm_kinds::Name;
+use sm_kinds::{Name, drop_fields};
 use std::alloc::AllocError;
 
 /// A name and its service.
@@ -21,10 +21,7 @@ pub struct NamedRow {
 
 impl Drop for NamedRow {
     fn drop(self) {
-        let NamedRow {
-            name: _,
-            service: _,
-        } = self;
+        drop_fields!(self: name, service);
     }
 }
 

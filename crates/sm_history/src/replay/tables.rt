@@ -21,7 +21,7 @@ use crate::replay::client_row::ClientRow;
 use crate::replay::live::{connect, deliver_to, give_to, release_of, remove_client, take_from};
 use crate::replay::named_row::{NamedRow, put_name, remove_name, remove_names};
 use crate::service::Service;
-use sm_kinds::{Identity, Name, Node};
+use sm_kinds::{Identity, Name, Node, drop_fields};
 use sm_policy::Prepared;
 use std::alloc::{AllocError, Global};
 
@@ -39,16 +39,7 @@ pub struct Tables {
 
 impl Drop for Tables {
     fn drop(self) {
-        let Tables {
-            alloc: _,
-            manager: _,
-            policy: _,
-            version: _,
-            clients: _,
-            live: _,
-            names: _,
-            watches: _,
-        } = self;
+        drop_fields!(self: alloc, manager, policy, version, clients, live, names, watches);
     }
 }
 

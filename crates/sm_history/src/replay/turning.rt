@@ -13,7 +13,7 @@ ghost use Rattle.sm_history.specs.Turning.{with_order};
 use crate::by::By;
 use crate::replay::client_row::ClientRow;
 use crate::turn::TurnRow;
-use sm_kinds::{AdminId, ClientId};
+use sm_kinds::{AdminId, ClientId, drop_fields};
 use std::alloc::{AllocError, Global};
 use std::collections::HashMap;
 
@@ -28,13 +28,7 @@ pub struct Turning {
 
 impl Drop for Turning {
     fn drop(self) {
-        let Turning {
-            alloc: _,
-            manager: _,
-            clients: _,
-            admins: _,
-            order: _,
-        } = self;
+        drop_fields!(self: alloc, manager, clients, admins, order);
     }
 }
 

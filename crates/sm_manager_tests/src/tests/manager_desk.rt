@@ -3,7 +3,7 @@
 use super::acts::{ADMIN, Act, event, opened_under};
 use sm_core::Manager;
 use sm_history::{By, Event, Failure, Outcome, Refusal, Reply};
-use sm_kinds::{ClientId, Identity};
+use sm_kinds::{ClientId, Identity, drop_fields};
 use sm_policy::Prepared;
 use sm_session::{Command, Desk, Response};
 use sm_wire::Request;
@@ -24,13 +24,7 @@ pub struct ManagerDesk {
 
 impl Drop for ManagerDesk {
     fn drop(self) {
-        let ManagerDesk {
-            alloc: _,
-            manager: _,
-            client: _,
-            asked: _,
-            deaths: _,
-        } = self;
+        drop_fields!(self: alloc, manager, client, asked, deaths);
     }
 }
 

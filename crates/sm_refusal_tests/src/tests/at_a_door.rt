@@ -7,7 +7,7 @@ use super::manager::{activity, is_memory, lists_activity, policy, process};
 use super::outcome::same;
 use sm_door::{Admin, Door, Naming, Seat, Session, UnnamedRegistry};
 use sm_history::{NoGate, Outcome, Record, Refusal, Reply};
-use sm_kinds::{Identity, Places};
+use sm_kinds::{Identity, Places, drop_fields};
 use sm_policy::Prepared;
 use std::alloc::Global;
 use std::marker::Brand;
@@ -23,11 +23,7 @@ struct Caller<'a, J: Naming, R> {
 
 impl<'a, J: Naming, R> Drop for Caller<'a, J, R> {
     fn drop(self) {
-        let Caller {
-            rt: _,
-            alloc: _,
-            door: _,
-        } = self;
+        drop_fields!(self: rt, alloc, door);
     }
 }
 

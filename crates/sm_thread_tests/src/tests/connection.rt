@@ -10,6 +10,7 @@ use sm_connection::{
 use sm_door::{Admin, Door, Naming, Seat};
 use sm_engine::Counted;
 use sm_history::{NoGate, Record};
+use sm_kinds::drop_fields;
 use std::alloc::Global;
 use std::process::Abort;
 use std::sync::Wait;
@@ -23,11 +24,7 @@ struct Lines<'a, R> {
 
 impl<'a, R> Drop for Lines<'a, R> {
     fn drop(self) {
-        let Lines {
-            rt: _,
-            alloc: _,
-            text: _,
-        } = self;
+        drop_fields!(self: rt, alloc, text);
     }
 }
 
