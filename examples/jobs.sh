@@ -22,5 +22,18 @@ svcmgr() (
         exec rt try --data policy.rules="$2" --data policy.contexts="$3" -- "$1" policy.rules policy.contexts
     fi
     say_jobs "65 to 100 minutes of processor time"
+    prove_libraries >&2
     rt run ${jobs:+--jobs "$jobs"} -- "$@"
 )
+
+# Proves each library that isn't built yet, lowest first. `rt run` would read all of them at once before it proves the
+# first one, which takes two minutes.
+prove_libraries() {
+    local libraries library
+    libraries="$(sed '/^svcmgr/,$d; /^#/d; s/[ :].*//' ../../crates.txt)"
+    for library in $libraries; do
+        if [ ! -e "../$library/out/rlib/stamp" ]; then
+            (cd "../$library" && rt lib ${jobs:+--jobs "$jobs"})
+        fi
+    done
+}
