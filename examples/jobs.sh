@@ -21,7 +21,7 @@ svcmgr() (
     if [ -n "${unproved:-}" ]; then
         exec rt try --data policy.rules="$2" --data policy.contexts="$3" -- "$1" policy.rules policy.contexts
     fi
-    say_jobs "65 to 100 minutes of processor time"
+    say_jobs "45 minutes on four cores (92 minutes of processors), on some machines half as much again"
     prove_libraries >&2
     rt run ${jobs:+--jobs "$jobs"} -- "$@"
 )
