@@ -6,7 +6,7 @@ use std::marker::Model;
 
 /// A set of numbers, kept as a row of 64-bit words: number i is bit i % 64 of word i / 64.
 ///
-/// Contracts see the row as its words, and ask by `has`, which is false past the end.
+/// Contracts see the words of the row. `has` is false past the end.
 pub struct BitRow {
     words: Vec<u64>,
 }
@@ -160,11 +160,7 @@ impl BitRow {
     ghost use Rattle.std.specs.List.{sum_by};
     ghost use Rattle.sm_bits.specs.Bits.{has, has_bit};
 
-    /// Returns the set of no number, with room for those below 64 times `words`.
-    ///
-    /// # Errors
-    ///
-    /// An error where the memory for the words was refused.
+    /// Returns the empty set, with room for the numbers below 64 times `words`.
     pub fn empty(alloc: Global, words: usize) -> Result<BitRow, AllocError>
         ensures room { IfOk result (λ row. length row ≡ words) }
         ensures none { IfOk result (λ row. (j : ℕ) → has row j ≡ false) }
@@ -216,7 +212,7 @@ impl BitRow {
         self.words == other.words
     }
 
-    /// A number for the set, by which rows are found that may be the same. It says nothing else.
+    /// Returns a digest of the words, which is the same for equal rows.
     pub fn digest(&self) -> u64 {
         let mut digest = 0u64;
         for word in &self.words {
@@ -234,7 +230,7 @@ impl BitRow {
         self.words[i / 64] |= 1 << (i % 64);
     }
 
-    /// Takes number `i` away.
+    /// Removes number `i`.
     pub fn remove(&mut self, i: usize)
         requires { i < 64 * length self.old }
         ensures room { length self.new ≡ length self.old }
@@ -243,7 +239,7 @@ impl BitRow {
         self.words[i / 64] &= !(1 << (i % 64));
     }
 
-    /// Returns the least number from `from` on that isn't in the set, or `end` where all before it are.
+    /// Returns the least number from `from` on that isn't in the set, or `end` if all below it are.
     fn first_free_before(&self, from: usize, end: usize) -> usize
         requires { (from ≤ end) × (end ≤ 64 * length self.now) }
         ensures between { (from ≤ result) × (result ≤ end) }
@@ -258,9 +254,8 @@ impl BitRow {
         end
     }
 
-    /// Returns the least number from `from` on that isn't in the set; it may lie past the row's room.
-    ///
-    /// It reads the words from that of `from` on, 64 numbers at a step.
+    /// Returns the least number from `from` on that isn't in the set, which may be past the row's room. It reads 64
+    /// numbers at a time.
     pub fn first_free_from(&self, from: usize) -> usize
         requires { length self.now < 2 ^ 32 }
         ensures behind { from ≤ result }
@@ -296,7 +291,7 @@ impl BitRow {
         union_words(&mut self.words, &other.words);
     }
 
-    /// Takes away every number of `other`.
+    /// Removes every number of `other`.
     pub fn subtract(&mut self, other: &BitRow)
         requires { length self.old ≡ length other.now }
         ensures room { length self.new ≡ length self.old }

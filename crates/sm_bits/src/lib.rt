@@ -1,6 +1,7 @@
-//! Sets of small numbers, a bit for each: the form in which a policy's sets of types
-//! are made, joined, taken from one another and compared, a word of 64 types at a time; and the
-//! bits of a byte.
+//! Sets of small numbers, with a bit for each, and the bits of a byte. A policy's sets of types are joined, subtracted
+//! and compared in this form, a word of 64 types at a time.
+//!
+//! An `AllocError` says that an allocation failed, and nothing else.
 #![tactic(auto)]
 
 mod bit_row;

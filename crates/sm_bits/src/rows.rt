@@ -1,4 +1,4 @@
-//! Several rows of the same room.
+//! Rows of the same length.
 
 ghost use Rattle.std.specs.Prelude.{◌≡◌, ◌<◌, ℕ, length, false, IfOk};
 ghost use Rattle.sm_bits.specs.Bits.{has, row};
@@ -6,11 +6,7 @@ ghost use Rattle.sm_bits.specs.Bits.{has, row};
 use crate::BitRow;
 use std::alloc::{AllocError, Global};
 
-/// `count` sets of no number, each with room for those below 64 times `words`.
-///
-/// # Errors
-///
-/// An error where the memory for the rows was refused.
+/// Returns `count` empty sets, each with room for the numbers below 64 times `words`.
 pub fn empty_rows(alloc: Global, count: usize, words: usize) -> Result<Vec<BitRow>, AllocError>
     ensures count { IfOk result (λ rows. length rows.items ≡ count) }
     ensures room { IfOk result (λ rows. (i : ℕ) → i < count → length (row rows.items i) ≡ words) }

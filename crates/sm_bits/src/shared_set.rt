@@ -1,11 +1,11 @@
-//! Sets that many keep.
+//! Shared sets.
 
 use crate::BitRow;
 use std::alloc::{AllocError, Global};
 use std::marker::Model;
 use std::sync::Arc;
 
-/// How a set is kept.
+/// How a set is stored.
 #[derive(Drop)]
 pub enum Shape {
     /// A single number. If the row has no bit for it, the set is empty.
@@ -14,8 +14,7 @@ pub enum Shape {
     Many(Arc<BitRow, Global>),
 }
 
-/// A set of numbers that doesn't change: a single number takes no row, and an equal set that is kept
-/// elsewhere may have the same one.
+/// An immutable set of numbers. A single number takes no row, and equal sets may share one.
 ///
 /// Contracts see the words of its row, as of a [`BitRow`].
 pub struct SharedSet {
@@ -32,7 +31,6 @@ impl Model for SharedSet {
     ghost view = { λ s. row_of s.words s.shape };
 }
 
-// Written by hand, as that of a row is.
 impl Drop for SharedSet {
     fn drop(self) {
         let SharedSet { words: _, shape: _ } = self;

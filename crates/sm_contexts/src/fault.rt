@@ -6,7 +6,7 @@ ghost use Rattle.sm_contexts.specs.declared.fault.ContextsFault.TheVariants.{Mem
 use std::alloc::{AllocError, AllocFailed};
 
 /// The first fault of a contexts file. Lines are numbered from 1.
-#[derive(Clone, Copy, Debug, PartialEq, Eq)]
+#[derive(Clone, Copy, PartialEq, Eq)]
 pub enum ContextsFault {
     /// The file has more than `MOST_TEXT_BYTES` bytes, or more than `MOST_ENTRY_LINES` entry lines.
     TooLarge,

@@ -20,7 +20,7 @@ pub struct Context {
 }
 
 /// Why bytes are no context.
-#[derive(Clone, Copy, Debug, PartialEq, Eq)]
+#[derive(Clone, Copy, PartialEq, Eq)]
 pub enum ContextError {
     /// They aren't `user:role:type` or `user:role:type:range`.
     BadContext,

@@ -4,7 +4,7 @@ ghost use Rattle.std.specs.Prelude.{◌≡◌, ◌≤◌, ◌<◌, length, IfOk,
 
 use crate::limits::MOST_PAYLOAD_BYTES;
 use bytes::Bytes;
-use std::alloc::{AllocError, Global};
+use std::alloc::AllocError;
 use std::marker::Model;
 
 /// The payload of a call, at most `MOST_PAYLOAD_BYTES`.
@@ -13,7 +13,7 @@ pub struct Payload {
 }
 
 /// Why bytes are no payload.
-#[derive(Clone, Copy, Debug, PartialEq, Eq)]
+#[derive(Clone, Copy, PartialEq, Eq)]
 pub enum PayloadError {
     /// There are more bytes than `MOST_PAYLOAD_BYTES`.
     TooLong,
@@ -61,26 +61,8 @@ impl Payload {
         if bytes.len() > MOST_PAYLOAD_BYTES {
             return Err(PayloadError::TooLong);
         }
-        match Bytes::from_vec(bytes) {
-            Ok(bytes) => Ok(Payload { bytes }),
-            Err(_) => Err(PayloadError::Memory),
-        }
-    }
-
-    /// Makes a payload of a copy of these bytes.
-    pub fn new(alloc: Global, bytes: &[u8]) -> Result<Payload, PayloadError>
-        ensures value { IfOk result (λ p. p ≡ bytes.now) }
-        ensures fits { OnOk result (length bytes.now ≤ MOST_PAYLOAD_BYTES) }
-        ensures long { MOST_PAYLOAD_BYTES < length bytes.now → result ≡ Err TooLong }
-        ensures only_long { result ≡ Err TooLong → MOST_PAYLOAD_BYTES < length bytes.now }
-    {
-        if bytes.len() > MOST_PAYLOAD_BYTES {
-            return Err(PayloadError::TooLong);
-        }
-        match Bytes::copy_from_slice(alloc, bytes) {
-            Ok(bytes) => Ok(Payload { bytes }),
-            Err(_) => Err(PayloadError::Memory),
-        }
+        let bytes = Bytes::from_vec(bytes).ok().ok_or(PayloadError::Memory)?;
+        Ok(Payload { bytes })
     }
 
     /// Returns the bytes of the payload.

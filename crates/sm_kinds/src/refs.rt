@@ -1,24 +1,14 @@
 //! The references of a call.
 
-ghost use Rattle.std.specs.Prelude.{◌≡◌, ◌≤◌, ◌<◌, length, nat_le, if◌then◌else◌, Some, None, IfOk, OnOk};
+ghost use Rattle.std.specs.Prelude.{◌≡◌, ◌≤◌, length, nat_le, if◌then◌else◌, Some, None};
 
 use crate::limits::MOST_REFS;
 use crate::number::ObjRef;
-use std::alloc::{AllocError, Global};
 use std::marker::Model;
 
 /// The references of a call, in order, at most `MOST_REFS`.
 pub struct Refs {
     list: Vec<ObjRef>,
-}
-
-/// Why references can't be passed in one call.
-#[derive(Clone, Copy, Debug, PartialEq, Eq)]
-pub enum RefsError {
-    /// There are more references than `MOST_REFS`.
-    TooLong,
-    /// An allocation failed.
-    Memory,
 }
 
 impl Model for Refs {
@@ -40,8 +30,6 @@ impl Drop for Refs {
 }
 
 impl Refs {
-    ghost use Rattle.sm_kinds.specs.declared.refs.RefsError.TheVariants.{TooLong};
-
     /// Makes a list of these references, whose memory it keeps, or returns `None` if there are more than `MOST_REFS`.
     pub fn from_vec(list: Vec<ObjRef>) -> Option<Refs>
         ensures { result ≡ (if nat_le (length list.items) MOST_REFS then Some list.items else None) }
@@ -50,22 +38,6 @@ impl Refs {
             return None;
         }
         Some(Refs { list })
-    }
-
-    /// Makes a list of a copy of these references.
-    pub fn new(alloc: Global, list: &[ObjRef]) -> Result<Refs, RefsError>
-        ensures value { IfOk result (λ r. r ≡ list.now) }
-        ensures fits { OnOk result (length list.now ≤ MOST_REFS) }
-        ensures long { MOST_REFS < length list.now → result ≡ Err TooLong }
-        ensures only_long { result ≡ Err TooLong → MOST_REFS < length list.now }
-    {
-        if list.len() > MOST_REFS {
-            return Err(RefsError::TooLong);
-        }
-        match Vec::from_slice(alloc, list) {
-            Ok(list) => Ok(Refs { list }),
-            Err(_) => Err(RefsError::Memory),
-        }
     }
 
     /// Returns the references in their order.

@@ -27,8 +27,8 @@ impl Model for Matrices {
 }
 
 impl Matrices {
-    ghost use Rattle.std.specs.Prelude.{◌≡◌, ◌<◌, ℕ, List, length, IfOk};
-    ghost use Rattle.sm_bits.specs.Bits.{row};
+    ghost use Rattle.std.specs.Prelude.{◌≡◌, ◌<◌, ◌*◌, ℕ, List, length, IfOk};
+    ghost use Rattle.sm_bits.specs.Bits.{has, row};
     ghost use Rattle.sm_ruletext.specs.declared.statement.RuleKind.TheVariants as kind;
     ghost use Rattle.sm_ruletext.specs.declared.statement.Statement.{Statement as TheStatement};
     ghost use Rattle.sm_rules.specs.Keeping.{RulesOf};
@@ -65,6 +65,17 @@ impl Matrices {
         ensures { result.now ≡ row (matrix self.now bit) source }
     {
         self.list[bit as usize].targets(source)
+    }
+
+    /// Returns whether a source has a target for permission `bit`.
+    #[inline]
+    pub fn has(&self, bit: u32, source: usize, target: usize) -> bool
+        requires bit { bit < length self.now }
+        requires source { source < length (matrix self.now bit) }
+        requires target { target < 64 * length (row (matrix self.now bit) source) }
+        ensures { result ≡ has (row (matrix self.now bit) source) target }
+    {
+        self.targets(bit, source).has(target)
     }
 
     /// Returns the matrices, in the order of bits.

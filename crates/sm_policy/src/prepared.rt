@@ -96,7 +96,7 @@ impl Prepared {
         drop(statements);
         let matrices = Matrices::compile(alloc, &rules)?;
         refuse_violation(alloc, &types, &rules, &matrices)?;
-        let vectors = Vectors::compile(alloc, &rules, &matrices)?;
+        let vectors = Vectors::compile(alloc, &rules, matrices)?;
         let parts = Parts {
             statements: seen,
             counts,
@@ -105,7 +105,7 @@ impl Prepared {
             vectors,
             labels,
         };
-        let parts = Arc::new(alloc, parts)?;
+        let parts = Arc::new(alloc, parts).ok().ok_or(PolicyFault::Memory)?;
         Ok(Prepared { parts })
     }
 
@@ -145,17 +145,21 @@ impl Prepared {
     pub fn allows_at(&self, source: u16, target: u16, class: Class, perm: Perms) -> bool
         ensures { result ≡ allowed_at self.now source target class perm }
     {
-        self.parts().vectors.allows(source, target, class, perm)
+        self.parts()
+            .vectors
+            .decide(source, target, class, perm)
+            .allowed
     }
 
     /// Returns the permissions that a source is allowed, by the numbers of the types: for each target a byte,
     /// whose bit `b` is that of `class_at(b)` and `perm_at(b)` of `sm_rules`. Nothing if the source's number has no
     /// type.
-    pub fn granted_row(&self, source: u16) -> &[u8]
-        ensures allowed { source < length (types self.now.statements) → IsRow self.now result.now source }
-        ensures no_source { length (types self.now.statements) ≤ source → result.now ≡ [] }
+    pub fn granted_row(&self, alloc: Global, source: u16) -> Result<Vec<u8>, AllocError>
+        ensures allowed { source < length (types self.now.statements)
+            → IfOk result (λ row. IsRow self.now row.items source) }
+        ensures no_source { length (types self.now.statements) ≤ source → IfOk result (λ row. row.items ≡ []) }
     {
-        self.parts().vectors.granted_row(source)
+        self.parts().vectors.granted_row(alloc, source)
     }
 
     /// Returns the decision on two types whose `type_index` is `source` and `target`: whether the access is allowed,

@@ -48,7 +48,7 @@ fn put_part<W: Write>(
     let mut any = false;
     for index in 0..part.count(old, new) {
         let before = held.len();
-        part.push(old, new, &numbers, index, held)?;
+        part.push(alloc, old, new, &numbers, index, held)?;
         any = either(any, held.len() > before);
         write_full(writer, held)?;
     }

@@ -15,7 +15,7 @@ use crate::Filter;
 use crate::buffer::write_full;
 use crate::first_lines::LineTable;
 use crate::lookups::{byte_at, type_count, type_name};
-use sm_bits::has_bit;
+use sm_bits::{has_bit, with_bit};
 use sm_engine::{Counted, Fault, write_whole};
 use sm_kinds::{Perms, Word, push_access, push_numbered, spells};
 use sm_policy::Prepared;
@@ -89,6 +89,22 @@ fn is_listed(wanted: Perms, granted: u8, bit: u32) -> bool
     has_bit(wanted.0, bit) && has_bit(granted, bit)
 }
 
+/// Returns the permissions that a source is allowed on a target, as the bits of a byte.
+fn granted_at(policy: &Prepared, source: u16, target: u16) -> u8
+    requires source { source < length (types policy.now.statements) }
+    requires target { target < length (types policy.now.statements) }
+    ensures { IsGranted policy.now result (at (types policy.now.statements) source)
+        (at (types policy.now.statements) target) }
+{
+    let mut granted = 0;
+    for bit in 0..PERM_COUNT {
+        if policy.allows_at(source, target, class_at(bit), perm_at(bit)) {
+            granted = with_bit(granted, bit);
+        }
+    }
+    granted
+}
+
 /// Appends the lines for two types.
 #[tactic(auto, unfolding(crate::specs::Accesses::pair_lines))]
 fn push_pair(
@@ -117,9 +133,10 @@ fn push_pair(
     Ok(())
 }
 
-/// Appends the lines for a source, with all targets that are asked for.
+/// Appends the lines for a source, with several targets.
 #[tactic(auto, unfolding(crate::specs::Accesses::targets_lines))]
-fn push_targets(
+fn push_several(
+    alloc: Global,
     policy: &Prepared,
     filter: &Filter<'_>,
     table: &LineTable<'_>,
@@ -132,17 +149,49 @@ fn push_targets(
     ensures { OnOk result (held.new.items ≡ held.old.items ++ spec.targets_lines policy.now filter.now
         (at (types policy.now.statements) source)) }
 {
-    let row = policy.granted_row(source);
+    let row = policy.granted_row(alloc, source)?;
     for target in table.targets() {
-        let granted = byte_at(row, *target);
+        let granted = byte_at(&row, *target);
         push_pair(policy, table, filter.perms, granted, source, *target, held)?;
     }
     Ok(())
 }
 
+/// Appends the lines for a source, with all targets that are asked for.
+fn push_targets(
+    alloc: Global,
+    policy: &Prepared,
+    filter: &Filter<'_>,
+    table: &LineTable<'_>,
+    source: u16,
+    held: &mut Vec<u8>,
+) -> Result<(), AllocError>
+    requires targets { AreAsked (types policy.now.statements) filter.now.target table.now.targets.now }
+    requires source { source < length (types policy.now.statements) }
+    requires lines { All (HasPair policy.now table.now source) table.now.targets.now }
+    ensures { OnOk result (held.new.items ≡ held.old.items ++ spec.targets_lines policy.now filter.now
+        (at (types policy.now.statements) source)) }
+{
+    let targets = table.targets();
+    if targets.len() != 1 {
+        return push_several(alloc, policy, filter, table, source, held);
+    }
+    let granted = granted_at(policy, source, targets[0]);
+    push_pair(
+        policy,
+        table,
+        filter.perms,
+        granted,
+        source,
+        targets[0],
+        held,
+    )
+}
+
 /// Appends the lines for a source, if it is asked for.
 #[tactic(auto, unfolding(crate::specs::Accesses::source_lines))]
 fn push_source(
+    alloc: Global,
     policy: &Prepared,
     filter: &Filter<'_>,
     table: &mut LineTable<'_>,
@@ -159,12 +208,13 @@ fn push_source(
         return Ok(());
     }
     table.find(usize::from(source))?;
-    push_targets(policy, filter, table, source, held)
+    push_targets(alloc, policy, filter, table, source, held)
 }
 
 /// Writes the lines for all sources, and holds the last ones.
 #[tactic(auto, unfolding(crate::specs::Accesses::access_lines))]
 fn put_sources<W: Write>(
+    alloc: Global,
     policy: &Prepared,
     filter: &Filter<'_>,
     table: &mut LineTable<'_>,
@@ -181,7 +231,7 @@ fn put_sources<W: Write>(
     ensures fault { IfErr result (λ e. Fails e (failures_of writer.old) (failures_of writer.new)) }
 {
     for source in 0..type_count(policy) {
-        push_source(policy, filter, table, source, held)?;
+        push_source(alloc, policy, filter, table, source, held)?;
         write_full(writer, held)?;
     }
     Ok(())
@@ -214,6 +264,6 @@ pub fn access<W: Write>(
     let mut held = Vec::new(alloc);
     let targets = numbers_left(alloc, policy, &filter.target)?;
     let mut table = LineTable::new(alloc, policy.rules(), &targets)?;
-    put_sources(policy, filter, &mut table, writer, &mut held)?;
+    put_sources(alloc, policy, filter, &mut table, writer, &mut held)?;
     write_whole(writer, &held)
 }

@@ -9,7 +9,7 @@ ghost use Rattle.sm_policy.specs.Policy.{type_index};
 ghost use Rattle.sm_questions.specs.Differences as spec;
 ghost use Rattle.sm_policy.specs.GrantedRow.{IsRow};
 ghost use Rattle.sm_questions.specs.Granted as granted;
-ghost use Rattle.sm_questions.specs.Granted.{byte_for};
+ghost use Rattle.sm_questions.specs.Granted.{byte_for, IsRowThere};
 ghost use Rattle.sm_questions.specs.Runs.{AreNumbersIn, run_lines};
 
 use crate::lookups::{byte_at, type_count, type_name};
@@ -17,7 +17,7 @@ use crate::runs::TypeNumbers;
 use sm_kinds::push_access;
 use sm_policy::Prepared;
 use sm_rules::{PERM_COUNT, class_at, perm_at};
-use std::alloc::AllocError;
+use std::alloc::{AllocError, Global};
 
 /// Returns whether only the first policy allows an access of two of its types.
 #[tactic(auto, unfolding(crate::specs::Differences::is_lost))]
@@ -85,14 +85,13 @@ fn push_pair(
 }
 
 /// Returns the permissions of a source of the other policy, or nothing if it isn't declared there.
-fn row_there(other: &Prepared, source: Option<u16>) -> &[u8]
+fn row_there(alloc: Global, other: &Prepared, source: Option<u16>) -> Result<Vec<u8>, AllocError>
     requires { IfSome source (λ s. s < length (types other.now.statements)) }
-    ensures some { IfSome source (λ s. IsRow other.now result.now s) }
-    ensures none { source ≡ None → result.now ≡ [] }
+    ensures { IfOk result (λ row. IsRowThere other.now row.items source) }
 {
     match source {
-        Some(source) => other.granted_row(source),
-        None => &[],
+        Some(source) => other.granted_row(alloc, source),
+        None => Ok(Vec::new(alloc)),
     }
 }
 
@@ -150,19 +149,21 @@ fn push_run(
     other: &Prepared,
     numbers: &[Option<u16>],
     source: u16,
+    here: &[u8],
+    there: &[u8],
     from: u16,
     to: u16,
     held: &mut Vec<u8>,
 ) -> Result<(), AllocError>
     requires source { source < length (types one.now.statements) }
+    requires here { IsRow one.now here.now source }
+    requires there { IsRowThere other.now there.now (type_index other.now (at (types one.now.statements) source)) }
     requires from { from ≤ to }
     requires to { to ≤ length (types one.now.statements) }
     requires numbers { numbers.now ≡ map (type_index other.now) (types one.now.statements) }
     ensures { OnOk result (held.new.items ≡ held.old.items ++ run_lines sign one.now other.now
         (at (types one.now.statements) source) from to) }
 {
-    let here = one.granted_row(source);
-    let there = row_there(other, numbers[usize::from(source)]);
     for target in from..to {
         if !is_kept(here, there, target, numbers[usize::from(target)]) {
             push_pair(sign, one, other, numbers, source, target, held)?;
@@ -174,6 +175,7 @@ fn push_run(
 /// Appends the lines for a source, with all targets.
 #[tactic(auto, unfolding(crate::specs::Differences::lost_source))]
 pub fn push_source(
+    alloc: Global,
     sign: u8,
     one: &Prepared,
     other: &Prepared,
@@ -186,16 +188,18 @@ pub fn push_source(
     ensures { OnOk result (held.new.items ≡ held.old.items ++ spec.lost_source sign one.now other.now
         (at (types one.now.statements) source)) }
 {
-    let here = one.granted_row(source);
+    let here = one.granted_row(alloc, source)?;
     let ends = numbers.ends.as_slice();
     let numbers = numbers.numbers.as_slice();
-    let there = row_there(other, numbers[usize::from(source)]);
+    let there = row_there(alloc, other, numbers[usize::from(source)])?;
     let count = type_count(one);
     let mut from = 0;
     while from < count {
         let to = ends[usize::from(from)];
-        if !is_run_kept(here, there, from, to, numbers[usize::from(from)]) {
-            push_run(sign, one, other, numbers, source, from, to, held)?;
+        if !is_run_kept(&here, &there, from, to, numbers[usize::from(from)]) {
+            push_run(
+                sign, one, other, numbers, source, &here, &there, from, to, held,
+            )?;
         }
         from = to;
     }

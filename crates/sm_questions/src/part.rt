@@ -104,6 +104,7 @@ impl Part {
     /// Appends the lines for a type or a key, given by its place in the order of the policy.
     pub fn push(
         self,
+        alloc: Global,
         old: &Prepared,
         new: &Prepared,
         numbers: &TypeNumbers,
@@ -116,8 +117,8 @@ impl Part {
             ++ lines_of self old.now new.now (at (names_in self old.now new.now) index)) }
     {
         match self {
-            Part::Lost => push_source(b'-', old, new, numbers, type_at(old, index), held),
-            Part::Gained => push_source(b'+', new, old, numbers, type_at(new, index), held),
+            Part::Lost => push_source(alloc, b'-', old, new, numbers, type_at(old, index), held),
+            Part::Gained => push_source(alloc, b'+', new, old, numbers, type_at(new, index), held),
             Part::Relabelled => push_changed(old, new, key(old, index), held),
             Part::Added => push_added(old, new, key(new, index), held),
             Part::Ceased => push_turned(b'-', old, new, type_name(old, type_at(old, index)), held),

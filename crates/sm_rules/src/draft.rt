@@ -91,9 +91,9 @@ fn add_statement(
         What::Rule(kind, rule) if rule.is_kept() => {
             let kept = keep(alloc, types, pool, memo, line, rule)?;
             match kind {
-                RuleKind::Allow => Ok(draft.allows.push(kept)?),
-                RuleKind::Neverallow => Ok(draft.neverallows.push(kept)?),
-                RuleKind::Dontaudit => Ok(draft.silences.push(kept)?),
+                RuleKind::Allow => draft.allows.push(kept).ok().ok_or(RulesFault::Memory),
+                RuleKind::Neverallow => draft.neverallows.push(kept).ok().ok_or(RulesFault::Memory),
+                RuleKind::Dontaudit => draft.silences.push(kept).ok().ok_or(RulesFault::Memory),
             }
         }
         What::Permissive(name) => permit(types, &mut draft.permissive, line, name),

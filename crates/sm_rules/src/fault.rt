@@ -3,7 +3,7 @@
 ghost use Rattle.std.specs.Prelude.{◌≡◌};
 ghost use Rattle.sm_rules.specs.declared.fault.RulesFault.TheVariants.{Memory};
 
-use std::alloc::{AllocError, AllocFailed};
+use std::alloc::AllocError;
 
 /// The first fault of the rules.
 #[derive(Clone, Copy, PartialEq, Eq)]
@@ -21,14 +21,6 @@ impl From<AllocError> for RulesFault {
     ghost from_gives = { λ _ e. e ≡ Memory };
 
     fn from(_e: AllocError) -> RulesFault {
-        RulesFault::Memory
-    }
-}
-
-impl<T: Drop> From<AllocFailed<T>> for RulesFault {
-    ghost from_gives = { λ _ e. e ≡ Memory };
-
-    fn from(_e: AllocFailed<T>) -> RulesFault {
         RulesFault::Memory
     }
 }

@@ -113,14 +113,7 @@ fn expand_new(
 ) -> Result<SharedSet, RulesFault>
     requires { HasMembers types.now pool.old }
     ensures pool { pool.new ≡ pool.old }
-    ensures room { IfOk result (λ row. length row ≡ length types.now.symbols.types / 64 + 1) }
-    ensures denoted { IfOk result (λ row. (policy : List TheStatement) → IsOf policy types.now
-        → (i : ℕ) → i < length types.now.symbols.types
-        → has row i ≡ in_set policy set.now (at types.now.symbols.types i)) }
-    ensures past { IfOk result (λ row. (i : ℕ) → length types.now.symbols.types ≤ i
-        → has row i ≡ false) }
-    ensures known { IfOk result (λ row. (policy : List TheStatement) → IsOf policy types.now
-        → all_known policy set.now ≡ true) }
+    ensures denoted { IfOk result (λ row. Denotes types.now set.now row) }
     ensures unknown { IfErr result (λ e. UnlessMemory e ((e ≡ Unknown line)
         × ((policy : List TheStatement) → IsOf policy types.now
         → all_known policy set.now ≡ false))) }

@@ -57,7 +57,8 @@ impl Statements {
         if is_rule && self.rules == MOST_RULES {
             return Err(RuleTextFault::TooMany);
         }
-        self.list.push(Statement { line, what })?;
+        let statement = Statement { line, what };
+        self.list.push(statement).ok().ok_or(RuleTextFault::Memory)?;
         if is_rule {
             self.rules += 1;
         }

@@ -3,7 +3,7 @@
 ghost use Rattle.std.specs.Prelude.{◌≡◌};
 ghost use Rattle.sm_types.specs.declared.fault.TypesFault.TheVariants.{Memory};
 
-use std::alloc::{AllocError, AllocFailed};
+use std::alloc::AllocError;
 
 /// The first fault of the declarations, or of a set.
 #[derive(Clone, Copy, PartialEq, Eq)]
@@ -23,14 +23,6 @@ impl From<AllocError> for TypesFault {
     ghost from_gives = { λ _ e. e ≡ Memory };
 
     fn from(_e: AllocError) -> TypesFault {
-        TypesFault::Memory
-    }
-}
-
-impl<T: Drop> From<AllocFailed<T>> for TypesFault {
-    ghost from_gives = { λ _ e. e ≡ Memory };
-
-    fn from(_e: AllocFailed<T>) -> TypesFault {
         TypesFault::Memory
     }
 }

@@ -1,7 +1,7 @@
 -- The decisions of the tables are those of the policy.
 use Rattle.std.proofs.Common.{◌≡◌, ◌∙◌, ℕ, ◌<◌, Bool, true, false, not, ◌&&◌, ◌||◌, cond, List, length, None, is_some, refl}
 use Rattle.std.proofs.Common.{sym, arith, suc, zero}
-use Rattle.sm_bits.specs.Bits.{has, has_bit}
+use Rattle.sm_bits.specs.Bits.{has, has_bit, row}
 use Rattle.sm_kinds.specs.Permissions.{perm_of}
 use Rattle.sm_kinds.specs.declared.class.Class.{Class}
 use Rattle.sm_kinds.specs.declared.perms.Perms.{Perms}
@@ -12,7 +12,8 @@ use Rattle.sm_rules.specs.Access.{is_permissive, allowed, audits}
 use Rattle.sm_rules.specs.Keeping.{class_at, perm_at}
 use Rattle.sm_rules.proofs.Consistent.{no_single}
 use Rattle.sm_vectors.specs.declared.decision.Decision.{Decision}
-use Rattle.sm_vectors.specs.Tables.{Tables, TablesOf, byte_at, decision}
+use Rattle.sm_neverallow.specs.Matrices.{matrix}
+use Rattle.sm_vectors.specs.Tables.{Tables, TablesOf, decision}
 
 -- Permission b of the class.
 abbrev pub IsNumber : ℕ → Class → Perms → Type 0
@@ -45,8 +46,8 @@ decided_allowed policy names tables b s t class perm of hs ht number single =
       ← number.2,
       ← of.written.says b s t number.0 hs ht,
       ← of.permissive.says s hs,
-    ) (passes (has_bit (byte_at tables.written s t) b) (has tables.permissive s)
-    (has_bit (byte_at tables.silenced s t) b))
+    ) (passes (has (row (matrix tables.written b) s) t) (has tables.permissive s)
+    (has (row (matrix tables.silenced b) s) t))
 
 pub decided_audited : (policy : Policy) (names : List Name) (tables : Tables) (b s t : ℕ) (class : Class) (perm : Perms)
     → TablesOf policy names tables → s < length names → t < length names → IsNumber b class perm
@@ -57,8 +58,8 @@ decided_audited policy names tables b s t class perm of hs ht number =
       ← number.2,
       ← of.written.says b s t number.0 hs ht,
       ← of.silenced.says b s t number.0 hs ht,
-    ) (records (has_bit (byte_at tables.written s t) b) (has tables.permissive s)
-    (has_bit (byte_at tables.silenced s t) b))
+    ) (records (has (row (matrix tables.written b) s) t) (has tables.permissive s)
+    (has (row (matrix tables.silenced b) s) t))
 
 -- What is no single permission of the class passes nowhere, and is audited.
 
@@ -106,6 +107,6 @@ pub permissive_granted : (policy : Policy) (names : List Name) (tables : Tables)
     → has_bit 127 b ≡ allowed policy (at names s) (at names t) (class_at b) (perm_at b)
 permissive_granted policy names tables b s t of hs ht lt p =
     all_bits b lt
-    ∙ (sym (anyway (has_bit (byte_at tables.written s t) b) (has tables.permissive s)
-    (has_bit (byte_at tables.silenced s t) b) p)
+    ∙ (sym (anyway (has (row (matrix tables.written b) s) t) (has tables.permissive s)
+    (has (row (matrix tables.silenced b) s) t) p)
     ∙ decided_allowed policy names tables b s t (class_at b) (perm_at b) of hs ht (lt, refl, refl) (single b lt))

@@ -1,3 +1,1 @@
 pub mod Deciding
-pub mod Tabled
-pub mod Reading

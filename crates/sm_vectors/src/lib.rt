@@ -1,11 +1,11 @@
-//! Compiled decisions of a policy: one byte for each pair of types, so that a decision reads one or two of them.
+//! Compiled decisions of a policy: for each permission a bit for each pair of types, so that a decision reads one or
+//! two bits.
 //!
 //! An `AllocError` says that an allocation failed, and nothing else.
 #![tactic(auto)]
 
-mod byte_rows;
-mod byte_table;
 mod decision;
+mod source_row;
 mod vectors;
 
 pub use decision::Decision;

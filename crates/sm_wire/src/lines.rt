@@ -18,7 +18,7 @@ use std::collections::VecDeque;
 use std::marker::Model;
 
 /// Why a piece gave no items.
-#[derive(Clone, Copy, Debug, PartialEq, Eq)]
+#[derive(Clone, Copy, PartialEq, Eq)]
 pub enum FeedError {
     /// An earlier piece gave `Item::LineTooLong`.
     LineTooLong,

@@ -3,7 +3,7 @@
 use std::alloc::AllocError;
 
 /// Why a field or a line was not read.
-#[derive(Clone, Copy, Debug, PartialEq, Eq)]
+#[derive(Clone, Copy, PartialEq, Eq)]
 pub enum ReadError {
     /// It isn't in the grammar of request lines.
     Malformed,

@@ -94,7 +94,7 @@ fn vectors_of(rt: &impl Abort, alloc: Global, text: &[u8]) -> Vectors {
     let Ok(matrices) = Matrices::compile(alloc, &rules) else {
         panic!(rt; "memory");
     };
-    let vectors = Vectors::compile(alloc, &rules, &matrices);
+    let vectors = Vectors::compile(alloc, &rules, matrices);
     vectors.ok().expect(rt, "vectors")
 }
 
@@ -107,10 +107,8 @@ fn permissive_and_silenced_vectors(rt: HostRuntime) {
         (0, 2, (false, true)),
         (2, 0, (false, true)),
     ] {
-        let found = (
-            vectors.allows(source, target, Class::Binder, Perms::CALL),
-            vectors.audits(source, target, Class::Binder, Perms::CALL),
-        );
+        let decision = vectors.decide(source, target, Class::Binder, Perms::CALL);
+        let found = (decision.allowed, decision.audited);
         assert_eq!(rt; (source, target, found), (source, target, wanted));
     }
 }

@@ -66,11 +66,11 @@ fn vectors(rt: &impl Abort, alloc: Global, rules: &Rules) -> Option<()> {
         return None;
     };
     assert!(rt; violation.is_none());
-    let Ok(vectors) = Vectors::compile(alloc, rules, &matrices) else {
+    let Ok(vectors) = Vectors::compile(alloc, rules, matrices) else {
         return None;
     };
-    assert!(rt; vectors.allows(1, 1, Class::Binder, Perms::CALL));
-    assert!(rt; !vectors.allows(0, 1, Class::Binder, Perms::CALL));
+    assert!(rt; vectors.decide(1, 1, Class::Binder, Perms::CALL).allowed);
+    assert!(rt; !vectors.decide(0, 1, Class::Binder, Perms::CALL).allowed);
     Some(())
 }
 

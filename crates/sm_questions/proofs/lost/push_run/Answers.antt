@@ -22,12 +22,13 @@ loop-target-preserved c =
     elim c.if-not-is_kept.branch [
       | then-not-is_kept+in_ok-push_pair w ↦ rw w.held-is w.in_ok-push_pair.ensures
       | else-not-is_kept w ↦
-          let some = rw (c.requires.numbers, c.from.ensures) at c.row_there-there.ensures.some in
-          let none = rw (c.requires.numbers, c.from.ensures) at c.row_there-there.ensures.none in
+          let number = is_number c.args.other.now names c.args.source c.requires.source in
+          let some = rw (← number) at c.requires.there.some in
+          let none = rw (← number) at c.requires.there.none in
           let kept = rw (c.requires.numbers, c.from-in-loop-target.ensures) at
           (sym c.is_kept.ensures ∙ w.if-not-is_kept.false) in
-          let nothing = kept_lost c.args.sign c.args.one.now c.args.other.now c.granted_row-here.result.now
-          c.row_there-there.result.now c.args.source c.loop-target.target c.requires.source lt
-          (c.granted_row-here.ensures.allowed c.requires.source) some none kept in
+          let nothing = kept_lost c.args.sign c.args.one.now c.args.other.now c.args.here.now
+          c.args.there.now c.args.source c.loop-target.target c.requires.source lt
+          c.requires.here some none kept in
           rw (w.held-is, nothing, append-nil c.loop-target.held.items) refl
     ])

@@ -4,7 +4,7 @@ use Rattle.sm_types.specs.Denoting.{types}
 use Rattle.sm_questions.specs.Accesses.{pair_lines, target_lines, targets_lines}
 use Rattle.sm_questions.proofs.Buffering.{held_list}
 use Rattle.sm_questions.proofs.Numbers.{numbered, numbered_lines}
-use Rattle.sm_questions.proofs.listing.push_targets.Goals as goal
+use Rattle.sm_questions.proofs.listing.push_several.Goals as goal
 
 pub returns : goal.returns
 unfolding target_lines targets_lines
