@@ -188,31 +188,8 @@ fn first_of_groups(
     Ok(first_in_groups(&all, rules, places, count, first, end))
 }
 
-/// Returns the first of the indexes whose rule joins a pair of the matrix, found by groups of sources, or the number of
-/// indexes if there is none.
-fn first_by_groups(
-    alloc: Global,
-    matrix: &Matrix,
-    rules: &[Kept],
-    places: &[usize],
-    count: TypeCount,
-) -> Result<usize, AllocError>
-    requires square { Square matrix.now count }
-    requires fits { All (FitsRule count) rules.now }
-    requires places { ArePlaces rules.now places.now }
-    ensures { IfOk result (λ found. FindsFirst rules.now places.now (length places.now) found
-        (Hits matrix.now count) (Misses matrix.now count)) }
-{
-    let own = matrix.own_sources(alloc, count)?;
-    let mut found = first_own(&own, rules, places, count);
-    // A word of a row has 64 sources, and so eight groups.
-    for step in 0..2 * count.words() {
-        found = first_of_groups(alloc, matrix, rules, places, count, GROUPS * step, found)?;
-    }
-    Ok(found)
-}
-
-/// Returns the same, found rule by rule.
+/// Returns the first of the indexes whose rule joins a pair of the matrix, found rule by rule, or their number if there
+/// is none.
 fn first_by_rules(matrix: &Matrix, rules: &[Kept], places: &[usize], count: TypeCount) -> usize
     requires square { Square matrix.now count }
     requires fits { All (FitsRule count) rules.now }
@@ -306,7 +283,13 @@ fn first_of_places(
     if !have_many_sources(rules, places, count) {
         return Ok(first_by_rules(matrix, rules, places, count));
     }
-    first_by_groups(alloc, matrix, rules, places, count)
+    let own = matrix.own_sources(alloc, count)?;
+    let mut found = first_own(&own, rules, places, count);
+    // A word of a row has 64 sources, and so eight groups.
+    for step in 0..2 * count.words() {
+        found = first_of_groups(alloc, matrix, rules, places, count, GROUPS * step, found)?;
+    }
+    Ok(found)
 }
 
 /// Returns the index of the first rule below `end` that has exactly the permissions `set` and joins a pair of the

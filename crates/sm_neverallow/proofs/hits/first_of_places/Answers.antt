@@ -1,6 +1,6 @@
 use Rattle.std.proofs.Common.{◌+◌, ◌*◌, arith}
 use Rattle.sm_neverallow.proofs.Sifting.{sifted_none, sifted_more, sifted_all}
-use Rattle.sm_neverallow.proofs.hits.first_by_groups.Goals as goal
+use Rattle.sm_neverallow.proofs.hits.first_of_places.Goals as goal
 
 pub loop-step-init : goal.loop-step-init
 loop-step-init c =
