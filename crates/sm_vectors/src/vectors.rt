@@ -155,7 +155,8 @@ impl Vectors {
             return Ok(Vec::new(alloc));
         }
         if self.permissive.has(s) {
-            return vec![in alloc; EACH_PERM; self.count.get()];
+            let row = vec![in alloc; EACH_PERM; self.count.get()]?;
+            return Ok(row);
         }
         source_row(alloc, &self.written, self.count, s)
     }
