@@ -9,7 +9,7 @@ use sm_contexts::ContextsFault;
 use sm_rules::RulesFault;
 use sm_ruletext::RuleTextFault;
 use sm_types::TypesFault;
-use std::alloc::AllocError;
+use std::alloc::{AllocError, AllocFailed};
 
 /// The first refusal of a policy. A failed allocation is `Memory`, wherever it happened.
 #[derive(Drop)]
@@ -78,6 +78,14 @@ impl From<AllocError> for PolicyFault {
     ghost from_gives = { λ _ fault. fault ≡ Memory };
 
     fn from(_e: AllocError) -> PolicyFault {
+        PolicyFault::Memory
+    }
+}
+
+impl<T: Drop> From<AllocFailed<T>> for PolicyFault {
+    ghost from_gives = { λ _ fault. fault ≡ Memory };
+
+    fn from(_e: AllocFailed<T>) -> PolicyFault {
         PolicyFault::Memory
     }
 }

@@ -105,7 +105,7 @@ impl Prepared {
             vectors,
             labels,
         };
-        let parts = Arc::new(alloc, parts).ok().ok_or(PolicyFault::Memory)?;
+        let parts = Arc::new(alloc, parts)?;
         Ok(Prepared { parts })
     }
 
@@ -159,7 +159,8 @@ impl Prepared {
             → IfOk result (λ row. IsRow self.now row.items source) }
         ensures no_source { length (types self.now.statements) ≤ source → IfOk result (λ row. row.items ≡ []) }
     {
-        self.parts().vectors.granted_row(alloc, source)
+        let row = self.parts().vectors.granted_row(alloc, source)?;
+        Ok(row)
     }
 
     /// Returns the decision on two types whose `type_index` is `source` and `target`: whether the access is allowed,
