@@ -6,6 +6,7 @@
 
 ghost use Rattle.std.specs.Prelude.{◌≡◌, ◌<◌, ◌≤◌, ◌+◌, ◌*◌, ◌/◌, ℕ, length, nat_eq, ◌&&◌, ◌||◌, All, IfOk, IsTrue};
 ghost use Rattle.std.specs.Prelude.{false, []};
+ghost use Rattle.std.specs.Arc.{arc_value};
 ghost use Rattle.sm_bits.specs.Bits.{has, row, has_bit};
 ghost use Rattle.sm_rules.specs.Keeping.{joins, FitsRule};
 ghost use Rattle.sm_neverallow.specs.Matrices.{Square, AllSquare, AllCompiled, AreSetsOf, Grouped, Joined, IsUnion};
@@ -23,6 +24,7 @@ use sm_rules::{Kept, PERM_COUNT, has_perm};
 use sm_types::TypeCount;
 use std::alloc::{AllocError, Global};
 use std::marker::Model;
+use std::sync::Arc;
 
 /// The number of sources that are tested together, by the unions of their rows.
 pub const GROUP: usize = 8;
@@ -320,15 +322,15 @@ fn empty_matrices(alloc: Global, count: TypeCount) -> Result<Vec<Layer>, AllocEr
 fn join_group(
     alloc: Global,
     matrices: &mut Vec<Layer>,
-    group: &Matrix,
+    group: &Arc<Matrix, Global>,
     count: TypeCount,
     set: Perms,
 ) -> Result<(), AllocError>
     requires number { length matrices.old.items ≡ 7 }
     requires square { AllSquare matrices.old.items count }
-    requires group { Square group.now count }
+    requires group { Square (arc_value group.now) count }
     ensures { IfOk result (λ done. Joined matrices.old.items matrices.new.items count set.0
-        (λ s t. has (row group.now s) t)) }
+        (λ s t. has (row (arc_value group.now) s) t)) }
 {
     for bit in 0..PERM_COUNT {
         let matrix = &mut matrices[bit as usize];
@@ -357,7 +359,7 @@ fn add_set(
     if !sets.has(usize::from(set.0)) {
         return Ok(());
     }
-    let group = Matrix::compile(alloc, rules, count, set)?;
+    let group = Arc::new(alloc, Matrix::compile(alloc, rules, count, set)?)?;
     join_group(alloc, matrices, &group, count, set)
 }
 
