@@ -1,4 +1,3 @@
-use Rattle.std.proofs.Common.{length}
 use Rattle.sm_types.specs.Denoting.{types}
 use Rattle.sm_policy.specs.Policy.{allowed}
 use Rattle.sm_policy.proofs.prepared.Prepared.granted_row.Goals as goal
