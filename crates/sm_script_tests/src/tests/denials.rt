@@ -4,7 +4,7 @@ use super::fixture::{DEVICE, Files, Fixture};
 use super::parts::Part::{Bytes, Lines, Repeat};
 use super::parts::{Parts, said_of};
 use Step::{Hear, Replace};
-use sm_samples::{STRICTER_RULES, Said};
+use sm_samples::{FIND_RULE, STRICTER_FIND_RULE, Said};
 use std::alloc::{AllocError, Global};
 use std::process::Abort;
 
@@ -163,7 +163,8 @@ const A_WATCHER_WHO_MAY_NOT_FIND: Heard = &[
 ];
 
 const STRICTER: Files = Files {
-    rules: STRICTER_RULES,
+    without: FIND_RULE,
+    more: STRICTER_FIND_RULE,
     ..DEVICE
 };
 

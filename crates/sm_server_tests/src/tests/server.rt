@@ -3,7 +3,7 @@
 ghost use Rattle.std.specs.Prelude.{◌≡◌};
 ghost use Rattle.sm_core.specs.Opening.{opened};
 
-use super::steps::Step::{self, Close, Over, Reload, Say, SayAll, Vanish};
+use super::steps::Step::{self, Close, Over, ReloadStricter, Say, SayAll, Vanish};
 use super::steps::connected;
 use sm_connection::{FreeSeats, SealAt, ServerEvent, Supervisor};
 use sm_door::{Door, Naming, UnnamedRegistry};
@@ -11,7 +11,7 @@ use sm_engine::ServeFault;
 use sm_history::{Gate, NoGate, Record};
 use sm_kinds::{Context, Identity, Places};
 use sm_policy::Prepared;
-use sm_samples::{DEVICE_LABELS, DEVICE_RULES, STRICTER_RULES};
+use sm_samples::{DEVICE_LABELS, DEVICE_RULES};
 use sm_serve::{Entrance, Numbers, Patience, serve};
 use std::alloc::Global;
 use std::io::ErrorKind;
@@ -451,7 +451,7 @@ const A_POLICY_IS_REPLACED: &[Step] = &[
         b"explain untrusted_app activity_service service_manager find\n",
         b"allowed 1 13\n",
     ),
-    Reload(2, 1, STRICTER_RULES, DEVICE_LABELS, b"reloaded 2\n"),
+    ReloadStricter(2, 1, b"reloaded 2\n"),
     Say(1, b"get activity\n", b"null\n"),
     Say(2, b"version\n", b"version 2 6\n"),
     Close(2),
