@@ -83,6 +83,15 @@ pub const LISTENING: Heard = Heard {
     closed: 0,
 };
 
+/// What is heard of a server whose journal was almost full this often, and then full.
+pub fn filled(almost_full: u64) -> Heard {
+    Heard {
+        almost_full,
+        full: 1,
+        ..LISTENING
+    }
+}
+
 /// Counts the notices of a server.
 #[derive(Drop)]
 pub struct Ear {
@@ -395,12 +404,7 @@ const A_CONNECTION_THAT_IS_CUT: &[Step] = &[
 #[test]
 fn a_connection_that_is_cut_ends_its_client(rt: HostRuntime) {
     let steps = A_CONNECTION_THAT_IS_CUT;
-    let heard = Heard {
-        almost_full: 1,
-        full: 1,
-        ..LISTENING
-    };
-    holds(&rt, rt.alloc(), 4, numbers(1, 2, 1), steps, heard);
+    holds(&rt, rt.alloc(), 4, numbers(1, 2, 1), steps, filled(1));
 }
 
 /// A connection that vanishes inside a line, and one after it.
