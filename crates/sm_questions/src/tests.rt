@@ -46,14 +46,10 @@ fn a_label_has_the_line_of_its_key(rt: HostRuntime) {
 }
 
 /// The words of an access, the lines of its explanation, and whether it passes.
-struct Explained {
-    words: [&'static [u8]; 4],
-    lines: &'static [u8],
-    passes: bool,
-}
+type Explained = ([&'static [u8]; 4], &'static [u8], bool);
 
-fn explains(rt: &impl Abort, alloc: Global, policy: &Prepared, expected: &Explained) -> bool {
-    let [source, target, class, perm] = expected.words;
+fn explains(rt: &impl Abort, alloc: Global, policy: &Prepared, expected: Explained) -> bool {
+    let ([source, target, class, perm], lines, wanted) = expected;
     let (class, perm) = read_access(policy, source, target, class, perm)
         .ok()
         .expect(rt, "words of the policy");
@@ -61,30 +57,30 @@ fn explains(rt: &impl Abort, alloc: Global, policy: &Prepared, expected: &Explai
     let passes = explain(alloc, policy, source, target, class, perm, &mut writer)
         .ok()
         .expect(rt, "an explanation");
-    writer.into_inner().as_slice() == expected.lines && passes == expected.passes
+    writer.into_inner().as_slice() == lines && passes == wanted
 }
 
-const EXPLAINED: &[Explained] = &[
-    Explained {
-        words: [b"app", b"svc", b"service_manager", b"find"],
-        lines: b"allowed 5\n",
-        passes: true,
-    },
-    Explained {
-        words: [b"svc", b"svc", b"service_manager", b"find"],
-        lines: b"unwritten\n",
-        passes: false,
-    },
-    Explained {
-        words: [b"init", b"init", b"binder", b"call"],
-        lines: b"allowed 7\npermissive\n",
-        passes: true,
-    },
-    Explained {
-        words: [b"init", b"svc", b"service_manager", b"add"],
-        lines: b"unwritten\npermissive\n",
-        passes: true,
-    },
+const EXPLAINED: [Explained; 4] = [
+    (
+        [b"app", b"svc", b"service_manager", b"find"],
+        b"allowed 5\n",
+        true,
+    ),
+    (
+        [b"svc", b"svc", b"service_manager", b"find"],
+        b"unwritten\n",
+        false,
+    ),
+    (
+        [b"init", b"init", b"binder", b"call"],
+        b"allowed 7\npermissive\n",
+        true,
+    ),
+    (
+        [b"init", b"svc", b"service_manager", b"add"],
+        b"unwritten\npermissive\n",
+        true,
+    ),
 ];
 
 #[test]

@@ -8,6 +8,6 @@ mod texts;
 pub use failing::{FailAt, OneByte, Pieces};
 pub use talk::{Said, Talk, push_reload};
 pub use texts::{
-    BROKEN_RULE, DEVICE_LABELS, DEVICE_RULES, ONE_LABEL, PLAIN_RULES, RULE_FOR_DEFAULTS,
-    STRICTER_RULES, device_rules_with,
+    BROKEN_RULE, DEVICE_LABELS, DEVICE_RULES, FIND_RULE, ONE_LABEL, PLAIN_RULES, RULE_FOR_DEFAULTS,
+    STRICTER_FIND_RULE, device_rules_with, stricter_rules,
 };

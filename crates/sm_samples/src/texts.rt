@@ -43,24 +43,26 @@ allow untrusted_app system_server:binder { call transfer };
 neverallow untrusted_app *:service_manager add;
 ";
 
-/// A device's rules, but untrusted applications may not find `activity`, which line 13 of a device's own gives them.
-pub const STRICTER_RULES: &[u8] = b"attribute domain;
-attribute binderuser;
-type servicemanager, domain;
-type system_server, domain, binderuser;
-type untrusted_app, domain, binderuser;
-type isolated_app, domain, binderuser;
-type activity_service;
-type default_android_service;
-allow servicemanager self:binder set_context_mgr;
-allow binderuser servicemanager:binder { call transfer };
-allow servicemanager binderuser:binder { call transfer };
-allow system_server activity_service:service_manager add;
-allow { binderuser -untrusted_app } activity_service:service_manager find;
-allow system_server servicemanager:service_manager list;
-allow untrusted_app system_server:binder { call transfer };
-neverallow untrusted_app *:service_manager add;
-";
+/// The rule of a device that lets applications find `activity`.
+pub const FIND_RULE: &[u8] = b"allow binderuser activity_service:service_manager find;\n";
+
+/// A rule in its place, by which untrusted applications may not find `activity`.
+pub const STRICTER_FIND_RULE: &[u8] =
+    b"allow { binderuser -untrusted_app } activity_service:service_manager find;\n";
+
+/// A device's rules, but untrusted applications may not find `activity`. Returns an error if an allocation fails.
+pub fn stricter_rules(alloc: Global) -> Result<Vec<u8>, AllocError> {
+    let mut rules = Vec::new(alloc);
+    for line in DEVICE_RULES.split_inclusive(|byte| *byte == b'\n') {
+        let kept = if line == FIND_RULE {
+            STRICTER_FIND_RULE
+        } else {
+            line
+        };
+        rules.extend_from_slice(kept)?;
+    }
+    Ok(rules)
+}
 
 /// A further rule: system_server may add and find names without a label of their own.
 pub const RULE_FOR_DEFAULTS: &[u8] =

@@ -6,7 +6,7 @@ use sm_history::{
 };
 use sm_kinds::{AdminId, ClientId, Context, Identity, Name, ObjRef, Payload, Places, Refs};
 use sm_policy::Prepared;
-use sm_samples::{DEVICE_LABELS, DEVICE_RULES, STRICTER_RULES};
+use sm_samples::{DEVICE_LABELS, DEVICE_RULES, stricter_rules};
 use std::alloc::Global;
 use std::process::Abort;
 
@@ -229,7 +229,10 @@ pub fn event(rt: &impl Abort, alloc: Global, act: Act) -> Event {
         Act::ConnectServer => Event::Connect(server(rt, alloc)),
         Act::ConnectApplication => Event::Connect(application(rt, alloc)),
         Act::Reload(expected) => reload(rt, alloc, expected, DEVICE_RULES),
-        Act::ReloadStricter(expected) => reload(rt, alloc, expected, STRICTER_RULES),
+        Act::ReloadStricter(expected) => {
+            let rules = stricter_rules(alloc).ok().expect(rt, "memory");
+            reload(rt, alloc, expected, &rules)
+        }
         _ => client_event(rt, alloc, act),
     }
 }

@@ -25,6 +25,13 @@ fn device_desk(rt: &impl Abort, alloc: Global) -> ManagerDesk {
     ManagerDesk::open(rt, alloc, &policy(rt, alloc, DEVICE_RULES))
 }
 
+/// Attends to a connection at a device's desk. Asserts that it ends well, and that this many clients have died then.
+fn ends_with(rt: &impl Abort, alloc: Global, kind: Kind, said: &Said, deaths: u32) {
+    let desk = device_desk(rt, alloc);
+    let desk = ends_at(rt, alloc, kind, desk, said, None);
+    assert!(rt; desk.deaths == deaths);
+}
+
 // After `bye` nothing is answered.
 #[test]
 fn a_client_says_bye(rt: HostRuntime) {
@@ -34,9 +41,7 @@ fn a_client_says_bye(rt: HostRuntime) {
         .extend_from_slice(b"list 15\nlis")
         .ok()
         .expect(&rt, "memory");
-    let desk = device_desk(&rt, alloc);
-    let desk = ends_at(&rt, alloc, Kind::Client, desk, &said, None);
-    assert!(rt; desk.deaths == 1);
+    ends_with(&rt, alloc, Kind::Client, &said, 1);
 }
 
 const AN_APPLICATION: Talk = &[
@@ -100,9 +105,7 @@ pub fn an_administrator(alloc: Global) -> Result<Said, AllocError> {
 fn an_administrator_reloads(rt: HostRuntime) {
     let alloc = rt.alloc();
     let said = an_administrator(alloc).ok().expect(&rt, "memory");
-    let desk = device_desk(&rt, alloc);
-    let desk = ends_at(&rt, alloc, Kind::Admin, desk, &said, None);
-    assert!(rt; desk.deaths == 0);
+    ends_with(&rt, alloc, Kind::Admin, &said, 0);
 }
 
 // Before a client is made all else is malformed.

@@ -30,7 +30,7 @@ fn what_is_no_context(rt: HostRuntime) {
     ];
     for text in bad {
         let fault = Context::read(rt.alloc(), text).err();
-        assert_eq!(rt; (text, fault), (text, Some(ContextError::BadContext)));
+        assert!(rt; fault == Some(ContextError::BadContext), "at {text:?}");
     }
 }
 
@@ -149,10 +149,7 @@ fn a_payload_has_1024_bytes_at_most(rt: HostRuntime) {
     }
     let copied = Payload::new(rt.alloc(), &long).err();
     let kept = Payload::from_vec(list(&rt, rt.alloc(), &long)).err();
-    assert_eq!(rt;
-        (copied, kept),
-        (Some(PayloadError::TooLong), Some(PayloadError::TooLong))
-    );
+    assert!(rt; copied == Some(PayloadError::TooLong) && kept == Some(PayloadError::TooLong));
 }
 
 fn length_of(refs: Option<Refs>) -> Option<usize> {
@@ -169,7 +166,7 @@ fn a_call_has_16_references_at_most(rt: HostRuntime) {
         assert_eq!(rt; (copied, kept), (length, length));
     }
     let fault = Refs::new(rt.alloc(), &refs).err();
-    assert_eq!(rt; fault, Some(RefsError::TooLong));
+    assert!(rt; fault == Some(RefsError::TooLong));
 }
 
 #[test]

@@ -58,7 +58,7 @@ fn faults(rt: HostRuntime) {
         ),
     ];
     for (text, expected) in cases {
-        assert_eq!(rt; fault(rt.alloc(), text), expected);
+        assert!(rt; fault(rt.alloc(), text) == expected, "at {text:?}");
     }
 }
 
@@ -83,7 +83,7 @@ fn each_front_of_a_text(rt: HostRuntime) {
     for (to, expected) in FRONTS {
         for end in from..=to {
             let front = DEVICE_LABELS.get(..end).expect(&rt, "a front");
-            assert_eq!(rt; fault(rt.alloc(), front), expected);
+            assert!(rt; fault(rt.alloc(), front) == expected, "at {end}");
         }
         from = to.saturating_add(1);
     }
@@ -158,7 +158,7 @@ fn keys(rt: &impl Abort, alloc: Global, count: u32) -> Result<u32, ContextsFault
 #[test]
 fn most_entries(rt: HostRuntime) {
     for (lines, wanted) in [(16_384, Ok(16_384)), (16_385, Err(ContextsFault::TooLarge))] {
-        assert_eq!(rt; keys(&rt, rt.alloc(), lines), wanted);
+        assert!(rt; keys(&rt, rt.alloc(), lines) == wanted, "at {lines}");
     }
 }
 
@@ -170,6 +170,6 @@ fn longest_text(rt: HostRuntime) {
     ] {
         let comment = vec![in rt.alloc(); b'#'; length];
         let comment = comment.ok().expect(&rt, "memory");
-        assert_eq!(rt; fault(rt.alloc(), &comment), Some(wanted));
+        assert!(rt; fault(rt.alloc(), &comment) == Some(wanted), "at {length}");
     }
 }

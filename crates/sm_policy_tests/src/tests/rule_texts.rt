@@ -222,9 +222,6 @@ fn a_permission_of_none_of_the_classes_writes_nothing(rt: HostRuntime) {
 /// A source, a target, a class and a permission, after a letter for them.
 type Lettered = (u8, &'static [u8], &'static [u8], Class, u8);
 
-/// A set, and the letters of the accesses that a rule with it grants.
-type Grants = (&'static [u8], &'static [u8]);
-
 /// Adds declarations, and a rule of three parts.
 fn add_rule(
     text: &mut Vec<u8>,
@@ -238,18 +235,18 @@ fn add_rule(
     text.extend_from_slice(behind)
 }
 
-/// Asserts that a text with a set grants just the accesses with these letters.
+/// Asserts that a text grants just the accesses with these letters.
 fn assert_grants(
     rt: &impl Abort,
     alloc: Global,
     text: &[u8],
-    (set, letters): Grants,
+    letters: &str,
     accesses: &[Lettered],
 ) {
     for (letter, source, target, class, perm) in accesses {
         let found = line(rt, alloc, text, (source, target), *class, Perms(*perm));
-        let wanted = letters.contains(letter);
-        assert_eq!(rt; (set, *letter, found.is_some()), (set, *letter, wanted));
+        let wanted = letters.as_bytes().contains(letter);
+        assert_eq!(rt; (text, *letter, found.is_some()), (text, *letter, wanted));
     }
 }
 
@@ -277,77 +274,76 @@ const OF_PERMISSIONS: [Lettered; 4] = [
     (b't', b"a", b"b", Class::Binder, 64),
 ];
 
-/// Sets of types, and the types that they denote.
-const TYPE_SETS: [Grants; 13] = [
-    (b"*", b"abc"),
-    (b"a", b"a"),
-    (b"d", b"ab"),
-    (b"~a", b"bc"),
-    (b"~d", b"c"),
-    (b"~{ a b }", b"c"),
-    (b"~{ d -a }", b"ac"),
-    (b"~{ -a }", b"abc"),
-    (b"{ a c }", b"ac"),
-    (b"{ d -a }", b"b"),
-    (b"{ * -d }", b"c"),
-    (b"{ a { d -b } }", b"a"),
-    (b"{ -a }", b""),
-];
+/// Sets of types. Each line has a set, behind the types that it denotes.
+const TYPE_SETS: &str = "abc: *
+a: a
+ab: d
+bc: ~a
+c: ~d
+c: ~{ a b }
+ac: ~{ d -a }
+abc: ~{ -a }
+ac: { a c }
+b: { d -a }
+c: { * -d }
+a: { a { d -b } }
+: { -a }
+";
 
 /// Sets of targets with `self`, where the source is `c`.
-const OWN_SETS: [Grants; 4] = [
-    (b"self", b"c"),
-    (b"{ self -c }", b"c"),
-    (b"{ a { self } }", b"ac"),
-    (b"{ * -b -c self }", b"ac"),
-];
+const OWN_SETS: &str = "c: self
+c: { self -c }
+ac: { a { self } }
+ac: { * -b -c self }
+";
 
-const CLASS_SETS: [Grants; 8] = [
-    (b"*", b"sb"),
-    (b"binder", b"b"),
-    (b"~binder", b"s"),
-    (b"~{ binder file }", b"s"),
-    (b"{ binder service_manager }", b"sb"),
-    (b"{ * -binder }", b"s"),
-    (b"{ binder { service_manager -binder } }", b"s"),
-    (b"{ binder -file }", b"b"),
-];
+/// Sets of classes, each behind the letters of the accesses that a rule with it grants.
+const CLASS_SETS: &str = "sb: *
+b: binder
+s: ~binder
+s: ~{ binder file }
+sb: { binder service_manager }
+s: { * -binder }
+s: { binder { service_manager -binder } }
+b: { binder -file }
+";
 
-const PERMISSION_SETS: [Grants; 8] = [
-    (b"*", b"icst"),
-    (b"call", b"c"),
-    (b"~call", b"ist"),
-    (b"~{ call transfer }", b"is"),
-    (b"{ call transfer }", b"ct"),
-    (b"{ * -call }", b"ist"),
-    (b"{ call { transfer -call } }", b"t"),
-    (b"{ -call }", b""),
-];
+/// Sets of permissions, in the same way.
+const PERMISSION_SETS: &str = "icst: *
+c: call
+ist: ~call
+is: ~{ call transfer }
+ct: { call transfer }
+ist: { * -call }
+t: { call { transfer -call } }
+: { -call }
+";
 
 #[test]
 fn what_sets_denote(rt: HostRuntime) {
     for (before, sets, behind, accesses) in [
         (
             b"allow ".as_slice(),
-            TYPE_SETS.as_slice(),
+            TYPE_SETS,
             b" c:binder call;\n".as_slice(),
             OF_SOURCES.as_slice(),
         ),
-        (b"allow c ", &TYPE_SETS, b":binder call;\n", &OF_TARGETS),
-        (b"allow c ", &OWN_SETS, b":binder call;\n", &OF_TARGETS),
-        (b"allow a b:", &CLASS_SETS, b" *;\n", &OF_CLASSES),
+        (b"allow c ", TYPE_SETS, b":binder call;\n", &OF_TARGETS),
+        (b"allow c ", OWN_SETS, b":binder call;\n", &OF_TARGETS),
+        (b"allow a b:", CLASS_SETS, b" *;\n", &OF_CLASSES),
         (
             b"allow a b:binder ",
-            &PERMISSION_SETS,
+            PERMISSION_SETS,
             b";\n",
             &OF_PERMISSIONS,
         ),
     ] {
-        for set in sets {
+        for line in sets.lines() {
+            let (letters, set) = line.split_once(": ").expect(&rt, "letters and a set");
             let mut text = Vec::new(rt.alloc());
-            let added = add_rule(&mut text, before, set.0, behind);
+            let added = add_rule(&mut text, before, set.as_bytes(), behind);
             added.ok().expect(&rt, "memory");
-            assert_grants(&rt, rt.alloc(), &text, *set, accesses);
+            assert_grants(&rt, rt.alloc(), &text, letters, accesses);
         }
     }
 }
@@ -440,79 +436,64 @@ fn add_nevers(
     Ok(())
 }
 
-const BY_NAME: &[u8] = b"allow t69 t0:binder call;\nallow t2 t0:binder call;\n";
+/// Allow rules, and the neverallow rule that most of the neverallow rules are.
+type AllowsAndNever = (&'static [u8], &'static [u8]);
 
-const BUT_NAMES: &[u8] = b"neverallow { * -t69 -t2 } *:binder call;\n";
+const BY_NAME: AllowsAndNever = (
+    b"allow t69 t0:binder call;\nallow t2 t0:binder call;\n",
+    b"neverallow { * -t69 -t2 } *:binder call;\n",
+);
+
+const BY_SELF: AllowsAndNever = (
+    b"allow t66 self:binder call;\nallow t2 t0:binder call;\n",
+    b"neverallow { * -t66 -t2 } { self t66 }:binder call;\n",
+);
+
+const KEPT: AllowsAndNever = (b"allow * t4:binder call;\n", OWN);
 
 const LAST_GROUP: &[u8] = b"neverallow t69 t0:binder call;\n";
 
 const FIRST_GROUP: &[u8] = b"neverallow t2 t0:binder call;\n";
 
-const BY_SELF: &[u8] = b"allow t66 self:binder call;\nallow t2 t0:binder call;\n";
-
-const BUT_SELF: &[u8] = b"neverallow { * -t66 -t2 } { self t66 }:binder call;\n";
-
 const OWN: &[u8] = b"neverallow { t66 t3 } self:binder call;\n";
 
-/// Allow rules, neverallow rules that are the same, the two others among them, and the violation.
+/// Rules, the two other neverallow rules among them, and the line of the allow rule that breaks the first of the two,
+/// with the source and the target.
 type Nevers = (
+    AllowsAndNever,
     &'static [u8],
     &'static [u8],
-    &'static [u8],
-    &'static [u8],
-    Option<Broken>,
+    Option<(u32, u16, u16)>,
 );
 
 const MANY_NEVERS: [Nevers; 6] = [
     // The later rule of the text is hit by an earlier group of sources, and the other way round.
-    (
-        BY_NAME,
-        BUT_NAMES,
-        LAST_GROUP,
-        FIRST_GROUP,
-        Some(((123, 71), (69, 0), CALL)),
-    ),
-    (
-        BY_NAME,
-        BUT_NAMES,
-        FIRST_GROUP,
-        LAST_GROUP,
-        Some(((123, 72), (2, 0), CALL)),
-    ),
+    (BY_NAME, LAST_GROUP, FIRST_GROUP, Some((71, 69, 0))),
+    (BY_NAME, FIRST_GROUP, LAST_GROUP, Some((72, 2, 0))),
     // By `self` alone, on either side, and the first of the two ways.
-    (
-        BY_SELF,
-        BUT_SELF,
-        FIRST_GROUP,
-        OWN,
-        Some(((123, 72), (2, 0), CALL)),
-    ),
-    (
-        BY_SELF,
-        BUT_SELF,
-        OWN,
-        FIRST_GROUP,
-        Some(((123, 71), (66, 66), CALL)),
-    ),
-    (
-        BY_SELF,
-        BUT_SELF,
-        OWN,
-        OWN,
-        Some(((123, 71), (66, 66), CALL)),
-    ),
-    (b"allow * t4:binder call;\n", OWN, OWN, OWN, None),
+    (BY_SELF, FIRST_GROUP, OWN, Some((72, 2, 0))),
+    (BY_SELF, OWN, FIRST_GROUP, Some((71, 66, 66))),
+    (BY_SELF, OWN, OWN, Some((71, 66, 66))),
+    (KEPT, OWN, OWN, None),
 ];
+
+/// The line of the first of the two, behind two allow rules.
+const NEVER_LINE: u32 = 123;
 
 #[test]
 fn first_of_many_neverallow_rules(rt: HostRuntime) {
-    for (allows, same, first, second, wanted) in MANY_NEVERS {
+    for ((allows, same), first, second, breach) in MANY_NEVERS {
         let mut text = Vec::new(rt.alloc());
         add_types(&mut text).ok().expect(&rt, "memory");
         let added = text.extend_from_slice(allows);
         added.ok().expect(&rt, "memory");
         let added = add_nevers(&mut text, same, first, second);
         added.ok().expect(&rt, "memory");
+        let wanted = breach.map(|(allow, source, target)| (
+            (NEVER_LINE, allow),
+            (source, target),
+            CALL,
+        ));
         assert!(rt; violation(&rt, rt.alloc(), &text) == wanted);
     }
 }

@@ -8,7 +8,7 @@ use sm_questions::{
     FilterOptions, Target, Unknown, access, diff, explain, label, read_filter, shown_lines,
     unknown_text,
 };
-use sm_samples::{DEVICE_LABELS, DEVICE_RULES, STRICTER_RULES};
+use sm_samples::{DEVICE_LABELS, DEVICE_RULES, stricter_rules};
 use std::alloc::Global;
 use std::process::Abort;
 
@@ -123,7 +123,8 @@ fn answers(rt: &impl Abort, alloc: Global, old: &Prepared, new: &Prepared) -> Op
 
 fn asks(rt: &impl Abort, alloc: Global) -> Option<()> {
     let old = prepared(rt, alloc, DEVICE_RULES)?;
-    let new = prepared(rt, alloc, STRICTER_RULES)?;
+    let stricter = stricter_rules(alloc).ok()?;
+    let new = prepared(rt, alloc, &stricter)?;
     answers(rt, alloc, &old, &new)
 }
 

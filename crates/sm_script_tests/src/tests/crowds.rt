@@ -3,45 +3,39 @@
 use super::fixture::{Fixture, hold};
 use super::parts::Part::{Lines, Repeat};
 use super::parts::{ONE_CLIENT, Parts, repeat};
-use sm_samples::{Said, Talk};
+use sm_samples::Said;
 use std::alloc::{AllocError, Global};
-
-const TWO_CLIENTS: Talk = &[
-    ("hello 100 1000 u:r:system_server:s0", "client 1"),
-    ("hello 200 10007 u:r:untrusted_app:s0", "client 2"),
-];
-
-const ONE_HANDLE_TOO_MANY: Talk = &[
-    ("1 add activity o70000 0 8", "ok"),
-    ("2 get activity", "failed target-full"),
-    ("2 release 40001", "ok"),
-    ("2 release 30001", "ok"),
-    ("2 get activity", "handle 30001"),
-    ("2 get activity", "handle 30001"),
-];
 
 // The service becomes another object each time, and an application gets it.
 const A_FULL_TABLE_OF_HANDLES: Parts = &[
-    Lines(TWO_CLIENTS),
+    Lines(&[
+        ("hello 100 1000 u:r:system_server:s0", "client 1"),
+        ("hello 200 10007 u:r:untrusted_app:s0", "client 2"),
+    ]),
     Repeat(
         65_536,
         b"1 add activity o# 0 8\n2 get activity\n",
         b"ok\nhandle #\n",
     ),
-    Lines(ONE_HANDLE_TOO_MANY),
-];
-
-const ONE_WATCH_TOO_MANY: Talk = &[
-    ("1 watch activity o4", "exception -5 table-full"),
-    ("1 unwatch activity o3", "ok"),
-    ("1 watch activity o4", "ok"),
+    Lines(&[
+        ("1 add activity o70000 0 8", "ok"),
+        ("2 get activity", "failed target-full"),
+        ("2 release 40001", "ok"),
+        ("2 release 30001", "ok"),
+        ("2 get activity", "handle 30001"),
+        ("2 get activity", "handle 30001"),
+    ]),
 ];
 
 // All 4,096 watches are equal; one `unwatch` removes them all.
 const A_FULL_TABLE_OF_WATCHES: Parts = &[
     Lines(ONE_CLIENT),
     Repeat(4096, b"1 watch activity o3\n", b"ok\n"),
-    Lines(ONE_WATCH_TOO_MANY),
+    Lines(&[
+        ("1 watch activity o4", "exception -5 table-full"),
+        ("1 unwatch activity o3", "ok"),
+        ("1 watch activity o4", "ok"),
+    ]),
 ];
 
 #[test]

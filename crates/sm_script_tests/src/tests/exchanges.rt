@@ -2,65 +2,61 @@
 
 use super::fixture::{DEVICE, Files, Fixture, hold};
 use super::parts::Part::{Lines, Reload, Repeat};
-use super::parts::Parts;
+use super::parts::{A_HANDLE, Parts};
 use sm_samples::Talk;
 
-const A_HANDLE_COUNTS: Parts = &[Lines(&[
-    ("hello 100 1000 u:r:system_server:s0", "client 1"),
-    ("1 add activity o1 0 8", "ok"),
-    ("hello 200 10007 u:r:untrusted_app:s0", "client 2"),
-    ("2 get activity", "handle 1"),
-    ("2 get activity", "handle 1"),
-    ("2 release 1", "ok"),
-    ("2 call 1 00", "ok"),
-    ("2 release 1", "ok"),
-    ("2 call 1 00", "failed bad-handle"),
-    ("1 take", "call o1 200 10007 00"),
-])];
+const A_HANDLE_COUNTS: Parts = &[
+    Lines(A_HANDLE),
+    Lines(&[
+        ("2 get activity", "handle 1"),
+        ("2 release 1", "ok"),
+        ("2 call 1 00", "ok"),
+        ("2 release 1", "ok"),
+        ("2 call 1 00", "failed bad-handle"),
+        ("1 take", "call o1 200 10007 00"),
+    ]),
+];
 
 // A reference that names nothing refuses the whole call, and nothing is granted.
-pub const REFERENCES_OF_A_CALL: Parts = &[Lines(&[
-    ("hello 100 1000 u:r:system_server:s0", "client 1"),
-    ("1 add activity o1 0 8", "ok"),
-    ("hello 200 10007 u:r:untrusted_app:s0", "client 2"),
-    ("2 get activity", "handle 1"),
-    ("2 call 1 00 o5 h9", "failed bad-handle"),
-    ("1 take", "empty"),
-    ("2 call 1 00 o5 o5", "ok"),
-    ("1 take", "call o1 200 10007 00 h1 h1"),
-    ("1 release 1", "ok"),
-    ("1 release 1", "ok"),
-    ("1 release 1", "failed bad-handle"),
-])];
+pub const REFERENCES_OF_A_CALL: Parts = &[
+    Lines(A_HANDLE),
+    Lines(&[
+        ("2 call 1 00 o5 h9", "failed bad-handle"),
+        ("1 take", "empty"),
+        ("2 call 1 00 o5 o5", "ok"),
+        ("1 take", "call o1 200 10007 00 h1 h1"),
+        ("1 release 1", "ok"),
+        ("1 release 1", "ok"),
+        ("1 release 1", "failed bad-handle"),
+    ]),
+];
 
 // The number of a released handle is that of the next new object.
-const NUMBERS_ARE_USED_AGAIN: Parts = &[Lines(&[
-    ("hello 100 1000 u:r:system_server:s0", "client 1"),
-    ("1 add activity o1 0 8", "ok"),
-    ("hello 200 10007 u:r:untrusted_app:s0", "client 2"),
-    ("2 get activity", "handle 1"),
-    ("2 get activity", "handle 1"),
-    ("2 release 1", "ok"),
-    ("2 release 1", "ok"),
-    ("1 add activity o2 0 8", "ok"),
-    ("2 get activity", "handle 1"),
-    ("2 call 1 - h1", "ok"),
-    ("1 take", "call o2 200 10007 - o2"),
-    ("2 call 1 - h0", "failed bad-handle"),
-    ("2 call 0 -", "failed bad-handle"),
-    ("1 take", "empty"),
-])];
+const NUMBERS_ARE_USED_AGAIN: Parts = &[
+    Lines(A_HANDLE),
+    Lines(&[
+        ("2 get activity", "handle 1"),
+        ("2 release 1", "ok"),
+        ("2 release 1", "ok"),
+        ("1 add activity o2 0 8", "ok"),
+        ("2 get activity", "handle 1"),
+        ("2 call 1 - h1", "ok"),
+        ("1 take", "call o2 200 10007 - o2"),
+        ("2 call 1 - h0", "failed bad-handle"),
+        ("2 call 0 -", "failed bad-handle"),
+        ("1 take", "empty"),
+    ]),
+];
 
-const UNREGISTERING: Parts = &[Lines(&[
-    ("hello 100 1000 u:r:system_server:s0", "client 1"),
-    ("1 add activity o1 0 8", "ok"),
-    ("hello 200 10007 u:r:untrusted_app:s0", "client 2"),
-    ("2 get activity", "handle 1"),
-    ("1 unregister activity o1", "exception -5 in-use"),
-    ("2 release 1", "ok"),
-    ("1 unregister activity o1", "ok"),
-    ("1 unregister activity o1", "exception -5 not-registered"),
-])];
+const UNREGISTERING: Parts = &[
+    Lines(A_HANDLE),
+    Lines(&[
+        ("1 unregister activity o1", "exception -5 in-use"),
+        ("2 release 1", "ok"),
+        ("1 unregister activity o1", "ok"),
+        ("1 unregister activity o1", "exception -5 not-registered"),
+    ]),
+];
 
 const WHO_MAY_UNREGISTER: Parts = &[Lines(&[
     ("hello 100 1000 u:r:system_server:s0", "client 1"),
@@ -111,24 +107,23 @@ const A_WATCH_MADE_TWICE: Parts = &[Lines(&[
     ("2 release 1", "failed bad-handle"),
 ])];
 
-const SIXTEEN_REFERENCES: Parts = &[Lines(&[
-    ("hello 100 1000 u:r:system_server:s0", "client 1"),
-    ("1 add activity o1 0 8", "ok"),
-    ("hello 200 10007 u:r:untrusted_app:s0", "client 2"),
-    ("2 get activity", "handle 1"),
-    (
-        "2 call 1 - null null null null null null null null null null null null null null null null",
-        "ok",
-    ),
-    (
-        "1 take",
-        "call o1 200 10007 - null null null null null null null null null null null null null null null null",
-    ),
-    (
-        "2 call 1 - null null null null null null null null null null null null null null null null null",
-        "malformed",
-    ),
-])];
+const SIXTEEN_REFERENCES: Parts = &[
+    Lines(A_HANDLE),
+    Lines(&[
+        (
+            "2 call 1 - null null null null null null null null null null null null null null null null",
+            "ok",
+        ),
+        (
+            "1 take",
+            "call o1 200 10007 - null null null null null null null null null null null null null null null null",
+        ),
+        (
+            "2 call 1 - null null null null null null null null null null null null null null null null null",
+            "malformed",
+        ),
+    ]),
+];
 
 // Client 2 dies holding a handle, watching, owning the service, and with a full inbox.
 const A_DEATH_OF_ONE_THAT_HAS_ALL: Parts = &[
@@ -209,12 +204,7 @@ pub const WITHOUT_CALLS: Files = Files {
 
 // A watcher isn't notified of a service, either, while its inbox is full.
 const A_FULL_INBOX: Parts = &[
-    Lines(&[
-        ("hello 100 1000 u:r:system_server:s0", "client 1"),
-        ("1 add activity o1 0 8", "ok"),
-        ("hello 200 10007 u:r:untrusted_app:s0", "client 2"),
-        ("2 get activity", "handle 1"),
-    ]),
+    Lines(A_HANDLE),
     Repeat(256, b"2 call 1 -\n", b"ok\n"),
     Lines(&[
         ("2 call 1 -", "failed target-full"),

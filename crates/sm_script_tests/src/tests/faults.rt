@@ -5,7 +5,7 @@ use super::exchanges::{
 };
 use super::fixture::Fixture;
 use super::parts::Part::{Bytes, Lines, Reload};
-use super::parts::{Parts, said_of};
+use super::parts::{A_SERVICE, Parts, said_of};
 use sm_engine::Fault;
 use sm_samples::{FailAt, OneByte, Pieces, Said};
 use std::alloc::{AllocError, Global};
@@ -27,10 +27,7 @@ fn device() -> Fixture {
     Fixture::device().with_reads(MANY)
 }
 
-const A_SERVICE: Parts = &[Lines(&[
-    ("hello 100 1000 u:r:system_server:s0", "client 1"),
-    ("1 add activity o1 0 8", "ok"),
-])];
+const ONE_SERVICE: Parts = &[Lines(A_SERVICE)];
 
 // Runs a script that is read in pieces of `most` bytes. Writers that take one byte a call are in `each_write_fails`.
 fn hears_pieces(rt: &impl Abort, alloc: Global, said: &Said, most: usize) {
@@ -48,7 +45,7 @@ fn hears_pieces(rt: &impl Abort, alloc: Global, said: &Said, most: usize) {
 #[test]
 fn pieces_of_each_length(rt: HostRuntime) {
     for parts in [
-        A_SERVICE,
+        ONE_SERVICE,
         REFERENCES_OF_A_CALL,
         A_SERVER_THAT_DIES,
         CUT_SCRIPT,

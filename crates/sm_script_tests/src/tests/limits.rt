@@ -2,7 +2,7 @@
 
 use super::fixture::{DEVICE, DEVICE_WITH_DEFAULTS, Files, Fixture, LONGEST, PLAIN, hold};
 use super::parts::Part::{Bytes, Lines, Repeat};
-use super::parts::{ONE_CLIENT, Parts, said_of};
+use super::parts::{A_HANDLE, ONE_CLIENT, Parts, said_of};
 use sm_engine::{Counted, Fault};
 use sm_history::{Denial, Refusal};
 use sm_kinds::{Class, Perms, Places};
@@ -71,39 +71,31 @@ const NO_PLACE_FOR_A_HANDLE: Parts = &[Lines(&[
     ("1 version", "version 1 4"),
 ])];
 
-const A_PLACE_FOR_ONE_HANDLE: Parts = &[Lines(&[
-    ("hello 100 1000 u:r:system_server:s0", "client 1"),
-    ("1 add activity o1 0 8", "ok"),
-    ("hello 200 10007 u:r:untrusted_app:s0", "client 2"),
-    ("2 get activity", "handle 1"),
-    ("2 get activity", "failed journal-full"),
-    ("1 get activity", "own 1"),
-    ("2 get foo", "null"),
-    ("1 version", "version 1 5"),
-])];
+const A_PLACE_FOR_ONE_HANDLE: Parts = &[
+    Lines(A_HANDLE),
+    Lines(&[
+        ("2 get activity", "failed journal-full"),
+        ("1 get activity", "own 1"),
+        ("2 get foo", "null"),
+        ("1 version", "version 1 5"),
+    ]),
+];
 
 #[test]
 fn limits(rt: HostRuntime) {
     let device = Fixture::device();
-    hold(
-        &rt,
-        rt.alloc(),
-        device,
-        &[
-            INPUT_THAT_ENDS_INSIDE_A_LINE,
-            THE_LONGEST_LINE_BUT_ITS_END,
-            THE_LONGEST_LINE,
-            ONE_CLIENT_TOO_MANY,
-        ],
-    );
-    hold(
-        &rt,
-        rt.alloc(),
-        Fixture::new(DEVICE_WITH_DEFAULTS),
-        &[NAMES_OF_THE_GREATEST_LENGTH, ONE_NAME_TOO_MANY],
-    );
-    for (places, parts) in [(6, NO_PLACE_FOR_A_HANDLE), (7, A_PLACE_FOR_ONE_HANDLE)] {
-        hold(&rt, rt.alloc(), device.with_places(places), &[parts]);
+    let with_defaults = Fixture::new(DEVICE_WITH_DEFAULTS);
+    for (fixture, parts) in [
+        (device, INPUT_THAT_ENDS_INSIDE_A_LINE),
+        (device, THE_LONGEST_LINE_BUT_ITS_END),
+        (device, THE_LONGEST_LINE),
+        (device, ONE_CLIENT_TOO_MANY),
+        (with_defaults, NAMES_OF_THE_GREATEST_LENGTH),
+        (with_defaults, ONE_NAME_TOO_MANY),
+        (device.with_places(6), NO_PLACE_FOR_A_HANDLE),
+        (device.with_places(7), A_PLACE_FOR_ONE_HANDLE),
+    ] {
+        hold(&rt, rt.alloc(), fixture, &[parts]);
     }
 }
 

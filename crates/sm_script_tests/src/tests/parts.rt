@@ -25,6 +25,20 @@ pub type Parts = &'static [Part];
 /// The first client connects.
 pub const ONE_CLIENT: Talk = &[("hello 100 1000 u:r:system_server:s0", "client 1")];
 
+/// A system server adds `activity`.
+pub const A_SERVICE: Talk = &[
+    ("hello 100 1000 u:r:system_server:s0", "client 1"),
+    ("1 add activity o1 0 8", "ok"),
+];
+
+/// The same, and an application gets it.
+pub const A_HANDLE: Talk = &[
+    ("hello 100 1000 u:r:system_server:s0", "client 1"),
+    ("1 add activity o1 0 8", "ok"),
+    ("hello 200 10007 u:r:untrusted_app:s0", "client 2"),
+    ("2 get activity", "handle 1"),
+];
+
 /// What a script of these parts says, and what it is to be answered.
 pub fn said_of(rt: &impl Abort, alloc: Global, parts: Parts) -> Said {
     let mut said = Said::new(alloc);
@@ -34,7 +48,8 @@ pub fn said_of(rt: &impl Abort, alloc: Global, parts: Parts) -> Said {
     said
 }
 
-fn push(rt: &impl Abort, alloc: Global, said: &mut Said, part: Part) -> Result<(), AllocError> {
+/// Appends a part.
+pub fn push(rt: &impl Abort, alloc: Global, said: &mut Said, part: Part) -> Result<(), AllocError> {
     match part {
         Part::Lines(talk) => said.talk(talk),
         Part::Bytes(script, answers) => {

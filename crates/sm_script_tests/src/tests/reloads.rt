@@ -2,78 +2,17 @@
 
 use super::fixture::{DEVICE, Files, Fixture, PLAIN, hold};
 use super::parts::Part::{Lines, Reload};
-use super::parts::{ONE_CLIENT, Parts, said_of};
+use super::parts::{A_HANDLE, ONE_CLIENT, Parts, said_of};
 use sm_samples::{BROKEN_RULE, Talk};
 use std::alloc::Global;
 use std::process::Abort;
 
-// Two clients: a service is added, and an application gets it twice.
-const ONE_SERVICE: Talk = &[
-    ("hello 100 1000 u:r:system_server:s0", "client 1"),
-    ("1 add activity o1 0 8", "ok"),
-    ("hello 200 10007 u:r:untrusted_app:s0", "client 2"),
-    ("2 get activity", "handle 1"),
-    ("2 get activity", "handle 1"),
-];
-
-const ANOTHER_POLICY: Parts = &[
-    Lines(ONE_SERVICE),
-    Reload(1, PLAIN, b"reloaded 2\n"),
-    Lines(&[
-        (
-            "2 get activity",
-            "failed denied untrusted_app servicemanager binder call",
-        ),
-        ("2 version", "version 2 7"),
-    ]),
-];
+const A_SECOND_GET: Talk = &[("2 get activity", "handle 1")];
 
 const BROKEN: Files = Files {
     more: BROKEN_RULE,
     ..DEVICE
 };
-
-const A_REFUSED_POLICY: Parts = &[
-    Lines(ONE_SERVICE),
-    Reload(
-        1,
-        BROKEN,
-        b"refused neverallow at line 16 by allow at line 17: untrusted_app activity_service service_manager add\n",
-    ),
-    Lines(&[("2 version", "version 1 6"), ("2 get activity", "handle 1")]),
-];
-
-const A_VERSION_THAT_MOVED: Parts = &[
-    Reload(1, DEVICE, b"reloaded 2\n"),
-    Reload(1, DEVICE, b"moved 2\n"),
-];
-
-const THE_GREATEST_VERSION: Parts = &[
-    Reload(u64::MAX, DEVICE, b"moved 1\n"),
-    Lines(&[("reload 18446744073709551616 0 0", "malformed")]),
-    Reload(1, DEVICE, b"reloaded 2\n"),
-];
-
-// Where the line is malformed, what was meant as texts is read as lines.
-const TEXTS_READ_AS_LINES: Parts = &[Lines(&[
-    ("reload 18446744073709551616 8 65", "malformed"),
-    ("type a;", "malformed"),
-    ("# labels", "malformed"),
-    (
-        "explain untrusted_app system_server binder call",
-        "allowed 1 15",
-    ),
-    ("* u:r:a", "malformed"),
-    ("reload 1 08 8", "malformed"),
-    ("type a;", "malformed"),
-    ("* u:r:a", "malformed"),
-    ("reload 1 8", "malformed"),
-    ("reload 1 8 4294967296", "malformed"),
-    ("reload 1 8 8 8", "malformed"),
-    ("reload  1 8 8", "malformed"),
-    ("1 reload 1 0 0", "malformed"),
-    ("", "malformed"),
-])];
 
 // The version is checked before the slot, and the files before either.
 const WITHOUT_A_PLACE_FOR_A_THIRD: Parts = &[
@@ -101,63 +40,109 @@ const WITH_A_PLACE: Parts = &[
     Lines(&[("1 version", "version 2 3")]),
 ];
 
-const EXPLANATIONS: Parts = &[Lines(&[
-    (
-        "explain untrusted_app system_server binder call",
-        "allowed 1 15",
-    ),
-    (
-        "explain system_server untrusted_app binder call",
-        "unwritten 1",
-    ),
-    (
-        "explain untrusted_app servicemanager binder call",
-        "allowed 1 10",
-    ),
-    (
-        "explain untrusted_app activity_service service_manager add",
-        "unwritten 1",
-    ),
-    (
-        "explain untrusted_app servicemanager binder find",
-        "unwritten 1",
-    ),
-    ("explain nobody servicemanager binder call", "unwritten 1"),
-    (
-        "explain untrusted_app servicemanager file call",
-        "malformed",
-    ),
-    (
-        "explain untrusted_app servicemanager binder read",
-        "malformed",
-    ),
-])];
-
-const NO_TEXTS: Parts = &[Lines(&[("reload 1 0 0", "refused contexts: no default")])];
-
 const WHOLE_TEXTS: Parts = &[
     Lines(&[("1 list 15", "failed not-connected")]),
     Reload(1, DEVICE, b"reloaded 2\n"),
 ];
 
+// Scripts under a device's policy.
+const RELOADS: &[Parts] = &[
+    // Another policy is in force at once.
+    &[
+        Lines(A_HANDLE),
+        Lines(A_SECOND_GET),
+        Reload(1, PLAIN, b"reloaded 2\n"),
+        Lines(&[
+            (
+                "2 get activity",
+                "failed denied untrusted_app servicemanager binder call",
+            ),
+            ("2 version", "version 2 7"),
+        ]),
+    ],
+    // A refused policy changes nothing.
+    &[
+        Lines(A_HANDLE),
+        Lines(A_SECOND_GET),
+        Reload(
+            1,
+            BROKEN,
+            b"refused neverallow at line 16 by allow at line 17: untrusted_app activity_service service_manager add\n",
+        ),
+        Lines(&[("2 version", "version 1 6"), ("2 get activity", "handle 1")]),
+    ],
+    // The version has moved.
+    &[
+        Reload(1, DEVICE, b"reloaded 2\n"),
+        Reload(1, DEVICE, b"moved 2\n"),
+    ],
+    // The greatest version, and one more.
+    &[
+        Reload(u64::MAX, DEVICE, b"moved 1\n"),
+        Lines(&[("reload 18446744073709551616 0 0", "malformed")]),
+        Reload(1, DEVICE, b"reloaded 2\n"),
+    ],
+    // Where the line is malformed, what was meant as texts is read as lines.
+    &[Lines(&[
+        ("reload 18446744073709551616 8 65", "malformed"),
+        ("type a;", "malformed"),
+        ("# labels", "malformed"),
+        (
+            "explain untrusted_app system_server binder call",
+            "allowed 1 15",
+        ),
+        ("* u:r:a", "malformed"),
+        ("reload 1 08 8", "malformed"),
+        ("type a;", "malformed"),
+        ("* u:r:a", "malformed"),
+        ("reload 1 8", "malformed"),
+        ("reload 1 8 4294967296", "malformed"),
+        ("reload 1 8 8 8", "malformed"),
+        ("reload  1 8 8", "malformed"),
+        ("1 reload 1 0 0", "malformed"),
+        ("", "malformed"),
+    ])],
+    // Rules that allow an access, and accesses that none allows.
+    &[Lines(&[
+        (
+            "explain untrusted_app system_server binder call",
+            "allowed 1 15",
+        ),
+        (
+            "explain system_server untrusted_app binder call",
+            "unwritten 1",
+        ),
+        (
+            "explain untrusted_app servicemanager binder call",
+            "allowed 1 10",
+        ),
+        (
+            "explain untrusted_app activity_service service_manager add",
+            "unwritten 1",
+        ),
+        (
+            "explain untrusted_app servicemanager binder find",
+            "unwritten 1",
+        ),
+        ("explain nobody servicemanager binder call", "unwritten 1"),
+        (
+            "explain untrusted_app servicemanager file call",
+            "malformed",
+        ),
+        (
+            "explain untrusted_app servicemanager binder read",
+            "malformed",
+        ),
+    ])],
+    // Texts that are empty.
+    &[Lines(&[("reload 1 0 0", "refused contexts: no default")])],
+    WHOLE_TEXTS,
+];
+
 #[test]
 fn reloads(rt: HostRuntime) {
     let device = Fixture::device();
-    hold(
-        &rt,
-        rt.alloc(),
-        device,
-        &[
-            ANOTHER_POLICY,
-            A_REFUSED_POLICY,
-            A_VERSION_THAT_MOVED,
-            THE_GREATEST_VERSION,
-            TEXTS_READ_AS_LINES,
-            EXPLANATIONS,
-            NO_TEXTS,
-            WHOLE_TEXTS,
-        ],
-    );
+    hold(&rt, rt.alloc(), device, RELOADS);
     // One slot is for the opening. A reload takes one, and a client two.
     for (places, parts) in [
         (2, WITHOUT_A_PLACE_FOR_A_THIRD),

@@ -2,7 +2,7 @@
 
 use super::fixture::{DEVICE_WITH_DEFAULTS, Fixture, PLAIN, hold};
 use super::parts::Part::Lines;
-use super::parts::Parts;
+use super::parts::{A_HANDLE, A_SERVICE, Parts};
 
 const FIRST_PATH: Parts = &[Lines(&[
     ("hello 100 1000 u:r:system_server:s0", "client 1"),
@@ -25,19 +25,18 @@ const MISSING_RULES: Parts = &[Lines(&[
     ("2 list 15", "names 1 3 0"),
 ])];
 
-const ONE_HANDLE_FOR_AN_OBJECT: Parts = &[Lines(&[
-    ("hello 100 1000 u:r:system_server:s0", "client 1"),
-    ("1 add activity o1 0 8", "ok"),
-    ("hello 200 10007 u:r:untrusted_app:s0", "client 2"),
-    ("2 get activity", "handle 1"),
-    ("2 get activity", "handle 1"),
-    ("2 add activity o1 0 8", "exception -1 app 10007"),
-    (
-        "2 list 15",
-        "exception -1 denied untrusted_app servicemanager service_manager list",
-    ),
-    ("2 get foo", "null"),
-])];
+const ONE_HANDLE_FOR_AN_OBJECT: Parts = &[
+    Lines(A_HANDLE),
+    Lines(&[
+        ("2 get activity", "handle 1"),
+        ("2 add activity o1 0 8", "exception -1 app 10007"),
+        (
+            "2 list 15",
+            "exception -1 denied untrusted_app servicemanager service_manager list",
+        ),
+        ("2 get foo", "null"),
+    ]),
+];
 
 // `check` means what `get` means: each one that is answered by a handle is an entry, and no other.
 const CHECKS: Parts = &[Lines(&[
@@ -59,23 +58,25 @@ const APPLICATIONS_OF_ANY_USER: Parts = &[Lines(&[
     ("2 add activity o1 0 8", "ok"),
 ])];
 
-const ISOLATED_CALLERS: Parts = &[Lines(&[
-    ("hello 100 1000 u:r:system_server:s0", "client 1"),
-    ("1 add activity o1 0 8", "ok"),
-    ("hello 300 99001 u:r:isolated_app:s0", "client 2"),
-    ("2 get activity", "null"),
-    ("1 add activity o1 1 8", "ok"),
-    ("2 get activity", "handle 1"),
-])];
+const ISOLATED_CALLERS: Parts = &[
+    Lines(A_SERVICE),
+    Lines(&[
+        ("hello 300 99001 u:r:isolated_app:s0", "client 2"),
+        ("2 get activity", "null"),
+        ("1 add activity o1 1 8", "ok"),
+        ("2 get activity", "handle 1"),
+    ]),
+];
 
-const DUMP_FLAGS: Parts = &[Lines(&[
-    ("hello 100 1000 u:r:system_server:s0", "client 1"),
-    ("1 add activity o1 0 8", "ok"),
-    ("1 list 15", "names 1 3 1 activity"),
-    ("1 list 0", "names 1 3 0"),
-    ("1 list 16", "names 1 3 0"),
-    ("1 list 24", "names 1 3 1 activity"),
-])];
+const DUMP_FLAGS: Parts = &[
+    Lines(A_SERVICE),
+    Lines(&[
+        ("1 list 15", "names 1 3 1 activity"),
+        ("1 list 0", "names 1 3 0"),
+        ("1 list 16", "names 1 3 0"),
+        ("1 list 24", "names 1 3 1 activity"),
+    ]),
+];
 
 // The label is checked before the object and the name, and after the handle.
 const NAMES_WITHOUT_LABELS: Parts = &[Lines(&[
@@ -152,23 +153,22 @@ const MALFORMED: Parts = &[Lines(&[
 ])];
 
 // A handle is held until it was released as often as it was given; an owner's death takes its services along.
-const HANDLES_AND_DEATHS: Parts = &[Lines(&[
-    ("hello 100 1000 u:r:system_server:s0", "client 1"),
-    ("1 add activity o1 0 8", "ok"),
-    ("hello 200 10007 u:r:untrusted_app:s0", "client 2"),
-    ("2 get activity", "handle 1"),
-    ("2 check activity", "handle 1"),
-    ("2 release 1", "ok"),
-    ("2 release 1", "ok"),
-    ("2 release 1", "failed bad-handle"),
-    ("2 take", "empty"),
-    ("2 get activity", "handle 1"),
-    ("1 bye", "bye"),
-    ("1 bye", "failed not-connected"),
-    ("2 get activity", "null"),
-    ("2 release 1", "ok"),
-    ("2 version", "version 1 11"),
-])];
+const HANDLES_AND_DEATHS: Parts = &[
+    Lines(A_HANDLE),
+    Lines(&[
+        ("2 check activity", "handle 1"),
+        ("2 release 1", "ok"),
+        ("2 release 1", "ok"),
+        ("2 release 1", "failed bad-handle"),
+        ("2 take", "empty"),
+        ("2 get activity", "handle 1"),
+        ("1 bye", "bye"),
+        ("1 bye", "failed not-connected"),
+        ("2 get activity", "null"),
+        ("2 release 1", "ok"),
+        ("2 version", "version 1 11"),
+    ]),
+];
 
 #[test]
 fn scripts(rt: HostRuntime) {

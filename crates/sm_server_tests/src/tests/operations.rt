@@ -1,11 +1,11 @@
 //! A server whose listener fails, connections that take too long, and a journal that fills up.
 
 use super::server::{
-    ALL_IS_WELL, ENDED_BY_ITS_LISTENER, HELLO, Heard, LISTENING, Left, at_a_door, holds, numbers,
+    ALL_IS_WELL, ENDED_BY_ITS_LISTENER, HELLO, Heard, LISTENING, Left, at_a_door, filled, holds,
+    numbers,
 };
 use super::steps::Step::{self, Close, Flood, Over, Repeat, Say};
 use super::steps::connected;
-use sm_connection::SealAt;
 use sm_history::NoGate;
 use sm_serve::{Numbers, Patience};
 use std::test::Fail;
@@ -139,54 +139,40 @@ const A_JOURNAL_THAT_FILLS_UP: &[Step] = &[
 #[test]
 fn a_journal_that_fills_up_is_told(rt: HostRuntime) {
     let steps = A_JOURNAL_THAT_FILLS_UP;
-    let heard = Heard {
-        almost_full: 2,
-        full: 1,
-        ..LISTENING
-    };
-    holds(&rt, rt.alloc(), 12, numbers(1, 1, 1), steps, heard);
+    holds(&rt, rt.alloc(), 12, numbers(1, 1, 1), steps, filled(2));
 }
 
-/// A client that makes more changes than the journal has room for, and an administrator.
-const A_JOURNAL_THAT_IS_SEALED: &[Step] = &[
-    Say(0, HELLO, b"client 1\n"),
-    Repeat(35, 0, b"watch activity o1\n", b"ok\n"),
-    Say(1, b"seal\n", b"sealed 5 37\n"),
-    Close(0),
-    Close(1),
-];
+/// A client that makes more changes than the journal has room for, and an administrator, whose `seal` is answered by
+/// this.
+macro_rules! many_changes {
+    ($sealed:literal) => {
+        &[
+            Say(0, HELLO, b"client 1\n"),
+            Repeat(35, 0, b"watch activity o1\n", b"ok\n"),
+            Say(1, b"seal\n", $sealed),
+            Close(0),
+            Close(1),
+        ]
+    };
+}
+
+const A_JOURNAL_THAT_IS_SEALED: &[Step] = many_changes!(b"sealed 5 37\n");
 
 #[test]
 fn a_server_seals_by_itself(rt: HostRuntime) {
-    let numbers = Numbers {
-        seal_at: SealAt {
-            entries: Some(8),
-            bytes: None,
-        },
-        ..numbers(1, 1, 1)
-    };
+    let mut numbers = numbers(1, 1, 1);
+    numbers.seal_at.entries = Some(8);
     let steps = A_JOURNAL_THAT_IS_SEALED;
     holds(&rt, rt.alloc(), 12, numbers, steps, LISTENING);
 }
 
-/// A client whose `hello` counts for 276 bytes and whose watches for 200 each, and an administrator.
-const A_JOURNAL_THAT_IS_SEALED_BY_ITS_BYTES: &[Step] = &[
-    Say(0, HELLO, b"client 1\n"),
-    Repeat(35, 0, b"watch activity o1\n", b"ok\n"),
-    Say(1, b"seal\n", b"sealed 4 37\n"),
-    Close(0),
-    Close(1),
-];
+// The client's `hello` counts for 276 bytes and its watches for 200 each.
+const A_JOURNAL_THAT_IS_SEALED_BY_ITS_BYTES: &[Step] = many_changes!(b"sealed 4 37\n");
 
 #[test]
 fn a_server_seals_by_bytes(rt: HostRuntime) {
-    let numbers = Numbers {
-        seal_at: SealAt {
-            entries: None,
-            bytes: Some(2_000),
-        },
-        ..numbers(1, 1, 1)
-    };
+    let mut numbers = numbers(1, 1, 1);
+    numbers.seal_at.bytes = Some(2_000);
     let steps = A_JOURNAL_THAT_IS_SEALED_BY_ITS_BYTES;
     holds(&rt, rt.alloc(), 100, numbers, steps, LISTENING);
 }

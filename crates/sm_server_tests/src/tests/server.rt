@@ -3,7 +3,7 @@
 ghost use Rattle.std.specs.Prelude.{◌≡◌};
 ghost use Rattle.sm_core.specs.Opening.{opened};
 
-use super::steps::Step::{self, Close, Over, Reload, Say, SayAll, Vanish};
+use super::steps::Step::{self, Close, Over, ReloadStricter, Say, SayAll, Vanish};
 use super::steps::connected;
 use sm_connection::{FreeSeats, SealAt, ServerEvent, Supervisor};
 use sm_door::{Door, Naming, UnnamedRegistry};
@@ -11,7 +11,7 @@ use sm_engine::ServeFault;
 use sm_history::{Gate, NoGate, Record};
 use sm_kinds::{Context, Identity, Places};
 use sm_policy::Prepared;
-use sm_samples::{DEVICE_LABELS, DEVICE_RULES, STRICTER_RULES};
+use sm_samples::{DEVICE_LABELS, DEVICE_RULES};
 use sm_serve::{Entrance, Numbers, Patience, serve};
 use std::alloc::Global;
 use std::io::ErrorKind;
@@ -82,6 +82,15 @@ pub const LISTENING: Heard = Heard {
     records: 0,
     closed: 0,
 };
+
+/// What is heard of a server whose journal was almost full this often, and then full.
+pub fn filled(almost_full: u64) -> Heard {
+    Heard {
+        almost_full,
+        full: 1,
+        ..LISTENING
+    }
+}
 
 /// Counts the notices of a server.
 #[derive(Drop)]
@@ -395,12 +404,7 @@ const A_CONNECTION_THAT_IS_CUT: &[Step] = &[
 #[test]
 fn a_connection_that_is_cut_ends_its_client(rt: HostRuntime) {
     let steps = A_CONNECTION_THAT_IS_CUT;
-    let heard = Heard {
-        almost_full: 1,
-        full: 1,
-        ..LISTENING
-    };
-    holds(&rt, rt.alloc(), 4, numbers(1, 2, 1), steps, heard);
+    holds(&rt, rt.alloc(), 4, numbers(1, 2, 1), steps, filled(1));
 }
 
 /// A connection that vanishes inside a line, and one after it.
@@ -451,7 +455,7 @@ const A_POLICY_IS_REPLACED: &[Step] = &[
         b"explain untrusted_app activity_service service_manager find\n",
         b"allowed 1 13\n",
     ),
-    Reload(2, 1, STRICTER_RULES, DEVICE_LABELS, b"reloaded 2\n"),
+    ReloadStricter(2, 1, b"reloaded 2\n"),
     Say(1, b"get activity\n", b"null\n"),
     Say(2, b"version\n", b"version 2 6\n"),
     Close(2),

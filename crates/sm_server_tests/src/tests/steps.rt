@@ -1,8 +1,8 @@
 //! Exchanges over connections to a server, as tables of steps.
 
 use super::server::{Talk, Visits, Waiting};
-use Step::{Close, Flood, Over, Reload, Repeat, Say, SayAll, Vanish};
-use sm_samples::push_reload;
+use Step::{Close, Flood, Over, ReloadStricter, Repeat, Say, SayAll, Vanish};
+use sm_samples::{DEVICE_LABELS, push_reload, stricter_rules};
 use sm_serve::Numbers;
 use std::alloc::{AllocError, Global};
 use std::io::{Read, Write};
@@ -20,8 +20,9 @@ pub enum Step {
     Repeat(u32, usize, &'static [u8], &'static [u8]),
     /// Runs a `Say` at each of the first n connections.
     SayAll(usize, &'static [u8], &'static [u8]),
-    /// Sends a reload that expects this version, in three writes: its line, the rules, the labels. Reads this answer.
-    Reload(usize, u64, &'static [u8], &'static [u8], &'static [u8]),
+    /// Sends a reload of the stricter rules that expects this version, in three writes: its line, the rules, the
+    /// labels. Reads this answer.
+    ReloadStricter(usize, u64, &'static [u8]),
     /// Sends these bytes repeatedly until a write fails.
     Flood(usize, &'static [u8]),
     /// Shuts down the sending side.
@@ -66,9 +67,7 @@ impl Exchange {
             Say(at, sent, wanted) => self.says(at, sent, wanted),
             Repeat(count, at, sent, wanted) => (0..count).all(|_| self.says(at, sent, wanted)),
             SayAll(count, sent, wanted) => (0..count).all(|at| self.says(at, sent, wanted)),
-            Reload(at, expected, rules, labels, wanted) => {
-                self.reloads(at, expected, rules, labels, wanted)
-            }
+            ReloadStricter(at, expected, wanted) => self.reloads_stricter(at, expected, wanted),
             Flood(at, sent) => self.end(at).is_some_and(|end| refuses(end, sent)),
             Close(at) => self
                 .end(at)
@@ -86,25 +85,23 @@ impl Exchange {
         self.end(at).is_some_and(|end| answers(end, sent, wanted))
     }
 
-    fn reloads(
-        &self,
-        at: usize,
-        expected: u64,
-        rules: &[u8],
-        labels: &[u8],
-        wanted: &[u8],
-    ) -> bool {
+    fn reloads_stricter(&self, at: usize, expected: u64, wanted: &[u8]) -> bool {
+        let Ok(rules) = stricter_rules(self.alloc) else {
+            return false;
+        };
         let mut text = Vec::new(self.alloc);
-        if push_reload(&mut text, expected, rules, labels).is_err() {
+        if push_reload(&mut text, expected, &rules, DEVICE_LABELS).is_err() {
             return false;
         }
-        let Some(text) = text.as_slice().strip_suffix(labels) else {
+        let Some(text) = text.as_slice().strip_suffix(DEVICE_LABELS) else {
             return false;
         };
-        let Some(line) = text.strip_suffix(rules) else {
+        let Some(line) = text.strip_suffix(rules.as_slice()) else {
             return false;
         };
-        self.says(at, line, b"") && self.says(at, rules, b"") && self.says(at, labels, wanted)
+        self.says(at, line, b"")
+            && self.says(at, &rules, b"")
+            && self.says(at, DEVICE_LABELS, wanted)
     }
 
     fn vanishes(&mut self, at: usize) -> bool {

@@ -11,7 +11,7 @@ use sm_door::{Admin, Door, Gate, Naming, Seat, Session, UnnamedRegistry};
 use sm_history::{Answer, Event, NameList, NoGate, Outcome, Refusal, Reply, Segment};
 use sm_kinds::{Class, Context, Identity, Name, ObjRef, Perms, Places};
 use sm_policy::Prepared;
-use sm_samples::{DEVICE_LABELS, DEVICE_RULES, STRICTER_RULES};
+use sm_samples::{DEVICE_LABELS, DEVICE_RULES, stricter_rules};
 use std::alloc::Global;
 use std::marker::Brand;
 use std::process::Abort;
@@ -30,6 +30,11 @@ pub fn policy(rt: &impl Abort, alloc: Global, rules: &[u8]) -> Prepared {
     Prepared::from_texts(alloc, rules, DEVICE_LABELS)
         .ok()
         .expect(rt, "a policy")
+}
+
+fn stricter_policy(rt: &impl Abort, alloc: Global) -> Prepared {
+    let rules = stricter_rules(alloc).ok().expect(rt, "memory");
+    policy(rt, alloc, &rules)
 }
 
 fn process(rt: &impl Abort, alloc: Global, pid: u32, context: &[u8]) -> Identity {
@@ -196,7 +201,7 @@ fn an_administrator_meets<J: Naming, R: Wait + Abort>(
 ) {
     assert!(rt; door.meet_admin(rt, admin, a));
     has_version(rt, &door.version(admin), 1, 5);
-    let stricter = policy(rt, alloc, STRICTER_RULES);
+    let stricter = stricter_policy(rt, alloc);
     assert!(rt; matches!(door.install(rt, admin, 1, stricter), Ok(2)));
     assert!(rt; door.meet_admin(rt, admin, a));
     has_version(rt, &door.version(a), 2, 6);
@@ -411,7 +416,7 @@ fn installs<J: Naming, R: Wait + Abort>(
     me: &mut Admin<J>,
     overlap: &Overlap,
 ) -> bool {
-    let stricter = policy(rt, alloc, STRICTER_RULES);
+    let stricter = stricter_policy(rt, alloc);
     let device = policy(rt, alloc, DEVICE_RULES);
     for version in 1..INSTALLS + 1 {
         let next = if version % 2 == 1 { &stricter } else { &device };
@@ -540,26 +545,27 @@ fn both_install<J: Naming + Send + Sync, R: Threads + Wait + Abort + Sync>(
         started = scope
             .spawn(move || {
                 let mut first = first;
-                install_over_first(rt, alloc, door, &mut first, STRICTER_RULES, false, installs);
+                let stricter = stricter_policy(rt, alloc);
+                install_over_first(rt, door, &mut first, stricter, false, installs);
             })
             .is_ok();
-        install_over_first(rt, alloc, door, &mut second, DEVICE_RULES, true, installs);
+        let device = policy(rt, alloc, DEVICE_RULES);
+        install_over_first(rt, door, &mut second, device, true, installs);
     });
     started
 }
 
-/// Installs the policy of these rules over version 1, as another administrator does. A policy that is returned decides
+/// Installs this policy over version 1, as another administrator does. A policy that is returned decides
 /// whether an untrusted application may find `activity` as the one that was passed.
-fn install_over_first<J: Naming, R: Wait + Abort>(
+fn install_over_first<J: Naming, R: Wait>(
     rt: &R,
-    alloc: Global,
     door: &Door<J, NoGate>,
     me: &mut Admin<J>,
-    rules: &[u8],
+    policy: Prepared,
     finds: bool,
     installs: &Race,
 ) {
-    match door.install(rt, me, 1, policy(rt, alloc, rules)) {
+    match door.install(rt, me, 1, policy) {
         Ok(2) => {
             installs.done.fetch_add(1, Ordering::SeqCst);
         }

@@ -6,8 +6,9 @@ use sm_audit::push_lines;
 use sm_door::{Admin, Door, Naming, Seat, Session};
 use sm_history::{Event, Failure, NoGate, Outcome, Query, Record, Refusal, Reply, is_death};
 use sm_kinds::Identity;
+use sm_samples::Talk;
 use sm_wire::{Kind, Request, Telling, push_denials, reply_line};
-use std::alloc::Global;
+use std::alloc::{AllocError, Global};
 use std::process::Abort;
 use std::sync::Wait;
 
@@ -19,10 +20,23 @@ pub enum Sender {
     Admin,
 }
 
-use Sender::{Admin as Administrator, Application, Service};
+/// What one of them says.
+#[derive(Clone, Copy)]
+pub enum Turn {
+    /// Lines of the service, each with the line that answers it.
+    Service(Talk),
+    /// Lines of the application.
+    Application(Talk),
+    /// Lines of the administrator.
+    Administrator(Talk),
+    /// A line, the line that answers it, and the audit lines behind that.
+    Audited(Sender, &'static str, &'static str, &'static [&'static str]),
+}
 
-/// Lines, each with who sends it, and the line that answers it with the audit lines behind it.
-pub type Exchange = &'static [(Sender, &'static str, &'static str)];
+use Turn::{Administrator, Application, Audited, Service};
+
+/// What is said, in turn.
+pub type Exchange = &'static [Turn];
 
 /// The connections at a door.
 #[derive(Drop)]
@@ -120,15 +134,16 @@ fn look<J: Naming>(
     }
 }
 
-/// The line that answers a client's line, with its audit lines, and its session, if that goes on.
+/// The line that answers a client's line, with its audit lines. Keeps the client's session, if that goes on.
 fn client_line<J: Naming, R: Wait + Abort>(
     rt: &R,
     alloc: Global,
     door: &Door<J, NoGate>,
     seats: &mut Vec<Seat<J>>,
-    session: Option<Session<J>>,
+    place: &mut Option<Session<J>>,
     line: &str,
-) -> (Vec<u8>, Option<Session<J>>) {
+) -> Vec<u8> {
+    let session = place.take();
     let request = Request::read(alloc, Kind::Client, line.as_bytes()).ok();
     let request = request.expect(rt, "a request");
     let telling = request.telling();
@@ -141,7 +156,8 @@ fn client_line<J: Naming, R: Wait + Abort>(
     let told = reply_line(alloc, telling, &heard.reply).ok();
     let mut told = told.expect(rt, "a line");
     assert!(rt; push_lines(alloc, &mut told, &heard.records).is_ok());
-    (told, heard.session)
+    *place = heard.session;
+    told
 }
 
 fn whole_line(rt: &impl Abort, alloc: Global, reply: &Reply) -> Vec<u8> {
@@ -215,21 +231,62 @@ impl<J: Naming> Parties<J> {
         line: &str,
     ) -> Vec<u8> {
         match sender {
-            Service => {
-                let session = self.service.take();
-                let (told, session) = client_line(rt, alloc, door, &mut self.seats, session, line);
-                self.service = session;
-                told
+            Sender::Admin => admin_line(rt, alloc, door, &mut self.admin, line),
+            Sender::Service => {
+                client_line(rt, alloc, door, &mut self.seats, &mut self.service, line)
             }
-            Application => {
-                let session = self.application.take();
-                let (told, session) = client_line(rt, alloc, door, &mut self.seats, session, line);
-                self.application = session;
-                told
+            Sender::Application => {
+                client_line(
+                    rt,
+                    alloc,
+                    door,
+                    &mut self.seats,
+                    &mut self.application,
+                    line,
+                )
             }
-            Administrator => admin_line(rt, alloc, door, &mut self.admin, line),
         }
     }
+
+    /// Sends these lines. Asserts that they are answered as they should be, without audit lines.
+    fn talk<R: Wait + Abort>(
+        &mut self,
+        rt: &R,
+        alloc: Global,
+        door: &Door<J, NoGate>,
+        sender: Sender,
+        talk: Talk,
+    ) {
+        for (line, answer) in talk {
+            self.hears(rt, alloc, door, sender, (line, answer), &[]);
+        }
+    }
+
+    /// Sends a line. Asserts that it is answered by this line and these audit lines.
+    fn hears<R: Wait + Abort>(
+        &mut self,
+        rt: &R,
+        alloc: Global,
+        door: &Door<J, NoGate>,
+        sender: Sender,
+        (line, answer): (&str, &str),
+        audit: &[&str],
+    ) {
+        let told = self.answered(rt, alloc, door, sender, line);
+        let wanted = answer_with(alloc, answer, audit).ok();
+        assert_eq!(rt; told, wanted.expect(rt, "memory"));
+    }
+}
+
+/// An answer's lines, each with its newline.
+fn answer_with(alloc: Global, answer: &str, audit: &[&str]) -> Result<Vec<u8>, AllocError> {
+    let mut lines = Vec::from_slice(alloc, answer.as_bytes())?;
+    for line in audit {
+        lines.push(b'\n')?;
+        lines.extend_from_slice(line.as_bytes())?;
+    }
+    lines.push(b'\n')?;
+    Ok(lines)
 }
 
 /// Sends the lines of an exchange. Asserts that each is answered as the exchange says.
@@ -247,36 +304,47 @@ pub fn converse<J: Naming, R: Wait + Abort>(
         application: None,
         admin: admins.pop().expect(rt, "an administrator"),
     };
-    for (sender, line, wanted) in exchange {
-        let told = parties.answered(rt, alloc, door, *sender, line);
-        assert_eq!(rt; told.strip_suffix(b"\n"), Some(wanted.as_bytes()));
+    for turn in exchange {
+        match turn {
+            Service(talk) => parties.talk(rt, alloc, door, Sender::Service, talk),
+            Application(talk) => parties.talk(rt, alloc, door, Sender::Application, talk),
+            Administrator(talk) => parties.talk(rt, alloc, door, Sender::Admin, talk),
+            Audited(sender, line, answer, audit) => {
+                parties.hears(rt, alloc, door, *sender, (line, answer), audit);
+            }
+        }
     }
 }
 
 const A_FULL_JOURNAL_IS_SEALED: Exchange = &[
-    (Service, "hello 100 1000 u:r:system_server:s0", "client 1"),
-    (Service, "add activity o1 0 8", "ok"),
-    (Service, "add activity o1 0 8", "failed journal-full"),
-    (Service, "list 15", "names 1 3 1 activity"),
-    (Administrator, "seal", "sealed 1 3"),
-    (Service, "add activity o1 0 8", "ok"),
-    (Service, "list 15", "names 1 4 1 activity"),
-    (
-        Application,
-        "hello 200 10007 u:r:untrusted_app:s0",
-        "client 2",
-    ),
-    (Application, "get activity", "failed journal-full"),
-    (Administrator, "seal", "sealed 2 5"),
-    (Application, "get activity", "handle 1"),
-    (Application, "get activity", "handle 1"),
-    (Administrator, "seal", "sealed 3 7"),
-    (Application, "release 1", "ok"),
-    (Application, "release 1", "ok"),
-    (Application, "release 1", "failed bad-handle"),
-    (Administrator, "seal", "sealed 4 9"),
-    (Administrator, "seal", "empty"),
-    (Administrator, "version", "version 1 9"),
+    Service(&[
+        ("hello 100 1000 u:r:system_server:s0", "client 1"),
+        ("add activity o1 0 8", "ok"),
+        ("add activity o1 0 8", "failed journal-full"),
+        ("list 15", "names 1 3 1 activity"),
+    ]),
+    Administrator(&[("seal", "sealed 1 3")]),
+    Service(&[
+        ("add activity o1 0 8", "ok"),
+        ("list 15", "names 1 4 1 activity"),
+    ]),
+    Application(&[
+        ("hello 200 10007 u:r:untrusted_app:s0", "client 2"),
+        ("get activity", "failed journal-full"),
+    ]),
+    Administrator(&[("seal", "sealed 2 5")]),
+    Application(&[("get activity", "handle 1"), ("get activity", "handle 1")]),
+    Administrator(&[("seal", "sealed 3 7")]),
+    Application(&[
+        ("release 1", "ok"),
+        ("release 1", "ok"),
+        ("release 1", "failed bad-handle"),
+    ]),
+    Administrator(&[
+        ("seal", "sealed 4 9"),
+        ("seal", "empty"),
+        ("version", "version 1 9"),
+    ]),
 ];
 
 #[test]
@@ -285,45 +353,41 @@ fn a_full_journal_is_sealed(rt: HostRuntime) {
 }
 
 const CHANGES_OF_EACH_KIND: Exchange = &[
-    (Service, "hello 100 1000 u:r:system_server:s0", "client 1"),
-    (Service, "watch activity o3", "ok"),
-    (Service, "add activity o1 0 8", "ok"),
-    (Service, "take", "registered o3 activity o1"),
-    (
-        Application,
-        "hello 200 10007 u:r:untrusted_app:s0",
-        "client 2",
-    ),
-    (Application, "get activity", "handle 1"),
-    (Application, "call 1 00 o5 h9", "failed bad-handle"),
-    (Service, "take", "empty"),
-    (Application, "call 1 00 o5 o5", "ok"),
-    (Service, "take", "call o1 200 10007 00 h1 h1"),
-    (Service, "release 1", "ok"),
-    (Service, "release 1", "ok"),
-    (Service, "release 1", "failed bad-handle"),
-    (Service, "unregister activity o1", "exception -5 in-use"),
-    (Service, "unwatch activity o3", "ok"),
-    (
-        Service,
-        "unwatch activity o3",
-        "exception -5 nothing-to-unregister",
-    ),
-    (Service, "bye", "bye"),
-    (Service, "take", "failed not-connected"),
-    (Application, "get activity", "null"),
-    (Application, "call 1 00", "dead"),
-    (Service, "hello 103 1000 u:r:system_server:s0", "client 3"),
-    (Service, "add activity o1 0 8", "ok"),
-    (Application, "get activity", "handle 2"),
-    (Application, "release 2", "ok"),
-    (Service, "unregister activity o1", "ok"),
-    (
-        Service,
-        "unregister activity o1",
-        "exception -5 not-registered",
-    ),
-    (Application, "bye", "bye"),
+    Service(&[
+        ("hello 100 1000 u:r:system_server:s0", "client 1"),
+        ("watch activity o3", "ok"),
+        ("add activity o1 0 8", "ok"),
+        ("take", "registered o3 activity o1"),
+    ]),
+    Application(&[
+        ("hello 200 10007 u:r:untrusted_app:s0", "client 2"),
+        ("get activity", "handle 1"),
+        ("call 1 00 o5 h9", "failed bad-handle"),
+    ]),
+    Service(&[("take", "empty")]),
+    Application(&[("call 1 00 o5 o5", "ok")]),
+    Service(&[
+        ("take", "call o1 200 10007 00 h1 h1"),
+        ("release 1", "ok"),
+        ("release 1", "ok"),
+        ("release 1", "failed bad-handle"),
+        ("unregister activity o1", "exception -5 in-use"),
+        ("unwatch activity o3", "ok"),
+        ("unwatch activity o3", "exception -5 nothing-to-unregister"),
+        ("bye", "bye"),
+        ("take", "failed not-connected"),
+    ]),
+    Application(&[("get activity", "null"), ("call 1 00", "dead")]),
+    Service(&[
+        ("hello 103 1000 u:r:system_server:s0", "client 3"),
+        ("add activity o1 0 8", "ok"),
+    ]),
+    Application(&[("get activity", "handle 2"), ("release 2", "ok")]),
+    Service(&[
+        ("unregister activity o1", "ok"),
+        ("unregister activity o1", "exception -5 not-registered"),
+    ]),
+    Application(&[("bye", "bye")]),
 ];
 
 #[test]
@@ -331,58 +395,57 @@ fn changes_of_each_kind(rt: HostRuntime) {
     plays(&rt, rt.alloc(), 1000, Scene::Lines(CHANGES_OF_EACH_KIND));
 }
 
+const BARRED: &str =
+    "journal=6 version=1 clause: denied app for pid=200 uid=10007 name=activity scontext=u:r:untrusted_app:s0";
+
+const FIND_DENIED: &str =
+    "journal=6 version=1 avc: denied { find } for pid=200 uid=10007 name=foo scontext=u:r:untrusted_app:s0 tcontext=u:object_r:default_android_service:s0 tclass=service_manager permissive=0";
+
 const EXPLANATIONS_AND_DENIALS: Exchange = &[
-    (
-        Administrator,
-        "explain untrusted_app system_server binder call",
-        "allowed 1 15",
-    ),
-    (
-        Administrator,
-        "explain system_server untrusted_app binder call",
-        "unwritten 1",
-    ),
-    (Administrator, "denials", "denials 0"),
-    (Service, "hello 100 1000 u:r:system_server:s0", "client 1"),
-    (Service, "add activity o1 0 8", "ok"),
-    (
-        Application,
-        "hello 200 10007 u:r:untrusted_app:s0",
-        "client 2",
-    ),
-    (Application, "get activity", "handle 1"),
-    (Application, "get activity", "handle 1"),
-    (
-        Application,
+    Administrator(&[
+        (
+            "explain untrusted_app system_server binder call",
+            "allowed 1 15",
+        ),
+        (
+            "explain system_server untrusted_app binder call",
+            "unwritten 1",
+        ),
+        ("denials", "denials 0"),
+    ]),
+    Service(&[
+        ("hello 100 1000 u:r:system_server:s0", "client 1"),
+        ("add activity o1 0 8", "ok"),
+    ]),
+    Application(&[
+        ("hello 200 10007 u:r:untrusted_app:s0", "client 2"),
+        ("get activity", "handle 1"),
+        ("get activity", "handle 1"),
+    ]),
+    Audited(
+        Sender::Application,
         "add activity o1 0 8",
-        "exception -1 app 10007\njournal=6 version=1 clause: denied app for pid=200 uid=10007 name=activity scontext=u:r:untrusted_app:s0",
+        "exception -1 app 10007",
+        &[BARRED],
     ),
-    (
-        Administrator,
-        "denials",
-        "denials 1\njournal=6 version=1 clause: denied app for pid=200 uid=10007 name=activity scontext=u:r:untrusted_app:s0",
-    ),
-    (
-        Application,
+    Audited(Sender::Admin, "denials", "denials 1", &[BARRED]),
+    Audited(
+        Sender::Application,
         "list 15",
-        "exception -1 denied untrusted_app servicemanager service_manager list\njournal=6 version=1 avc: denied { list } for pid=200 uid=10007 scontext=u:r:untrusted_app:s0 tcontext=u:r:servicemanager:s0 tclass=service_manager permissive=0",
+        "exception -1 denied untrusted_app servicemanager service_manager list",
+        &[
+            "journal=6 version=1 avc: denied { list } for pid=200 uid=10007 scontext=u:r:untrusted_app:s0 tcontext=u:r:servicemanager:s0 tclass=service_manager permissive=0",
+        ],
     ),
-    (
-        Application,
-        "get foo",
-        "null\njournal=6 version=1 avc: denied { find } for pid=200 uid=10007 name=foo scontext=u:r:untrusted_app:s0 tcontext=u:object_r:default_android_service:s0 tclass=service_manager permissive=0",
-    ),
-    (
-        Administrator,
+    Audited(Sender::Application, "get foo", "null", &[FIND_DENIED]),
+    Audited(
+        Sender::Admin,
         "denials",
-        "denials 2\njournal=6 version=1 clause: denied app for pid=200 uid=10007 name=activity scontext=u:r:untrusted_app:s0\njournal=6 version=1 avc: denied { find } for pid=200 uid=10007 name=foo scontext=u:r:untrusted_app:s0 tcontext=u:object_r:default_android_service:s0 tclass=service_manager permissive=0",
+        "denials 2",
+        &[BARRED, FIND_DENIED],
     ),
-    (Administrator, "seal", "sealed 1 6"),
-    (
-        Application,
-        "get foo",
-        "null\njournal=6 version=1 avc: denied { find } for pid=200 uid=10007 name=foo scontext=u:r:untrusted_app:s0 tcontext=u:object_r:default_android_service:s0 tclass=service_manager permissive=0",
-    ),
+    Administrator(&[("seal", "sealed 1 6")]),
+    Audited(Sender::Application, "get foo", "null", &[FIND_DENIED]),
 ];
 
 #[test]

@@ -331,7 +331,9 @@ fn longest_calls(rt: HostRuntime) -> Result<(), Fail> {
 
 // The reply to a line, if it is a request.
 fn answered(rt: &impl Abort, alloc: Global, line: &[u8], reply: &Reply) -> Vec<u8> {
-    let asked = Request::read(alloc, Kind::Script, line).expect(rt, "a request");
+    let asked = Request::read(alloc, Kind::Script, line)
+        .ok()
+        .expect(rt, "a request");
     reply_line(alloc, asked.telling(), reply).expect(rt, "memory")
 }
 
@@ -382,7 +384,7 @@ fn fed(
     piece: &[u8],
 ) -> Result<Vec<u8>, AllocError> {
     let mut out = Vec::new(alloc);
-    let items = lines.feed(piece).expect(rt, "items");
+    let items = lines.feed(piece).ok().expect(rt, "items");
     for item in &items {
         push_item(&mut out, item)?;
     }
@@ -432,7 +434,7 @@ fn no_line_behind_one_that_is_too_long(rt: HostRuntime) -> Result<(), Fail> {
     let alloc = rt.alloc();
     let mut lines = LineReader::new(alloc, Kind::Script);
     let long = vec![in alloc; b'a'; 4097]?;
-    let items = lines.feed(&long).expect(&rt, "items");
+    let items = lines.feed(&long).ok().expect(&rt, "items");
     assert!(rt; matches!(items.as_slice(), [Item::LineTooLong]));
     assert!(rt; lines.is_dead());
     assert!(rt; matches!(lines.feed(b"\n"), Err(FeedError::LineTooLong)));

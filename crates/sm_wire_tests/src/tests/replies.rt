@@ -7,6 +7,10 @@ use sm_wire::*;
 use std::alloc::Global;
 use std::test::*;
 
+fn context(alloc: Global, text: &[u8]) -> Result<Context, Fail> {
+    Ok(Context::read(alloc, text).ok().ok_or("a context")?)
+}
+
 /// What is kept of an application that may not do something, at length 6 and version 1.
 fn barred(
     alloc: Global,
@@ -14,7 +18,7 @@ fn barred(
     target: Option<Context>,
     name: &[u8],
 ) -> Result<Record, Fail> {
-    let context = Context::read(alloc, b"u:r:untrusted_app:s0")?;
+    let context = context(alloc, b"u:r:untrusted_app:s0")?;
     let name = Some(Name::new(alloc, name)?);
     Ok(Record {
         length: 6,
@@ -33,7 +37,7 @@ fn barred(
 
 /// That `find` is missing for a name.
 fn find_missing(alloc: Global, name: &[u8]) -> Result<Record, Fail> {
-    let target = Context::read(alloc, b"u:object_r:default_android_service:s0")?;
+    let target = context(alloc, b"u:object_r:default_android_service:s0")?;
     let denial = Denial::Rule {
         source: Name::new(alloc, b"untrusted_app")?,
         target: Name::new(alloc, b"default_android_service")?,
@@ -43,6 +47,9 @@ fn find_missing(alloc: Global, name: &[u8]) -> Result<Record, Fail> {
     barred(alloc, denial, Some(target), name)
 }
 
+const TWO_DENIALS: &[u8] =
+    b"null\ndenials 2\njournal=6 version=1 clause: denied app for pid=200 uid=10007 name=activity scontext=u:r:untrusted_app:s0\njournal=6 version=1 avc: denied { find } for pid=200 uid=10007 name=foo scontext=u:r:untrusted_app:s0 tcontext=u:object_r:default_android_service:s0 tclass=service_manager permissive=0\n";
+
 #[test]
 fn denials_are_counted_and_come_in_their_order(rt: HostRuntime) -> Result<(), Fail> {
     let alloc = rt.alloc();
@@ -51,10 +58,7 @@ fn denials_are_counted_and_come_in_their_order(rt: HostRuntime) -> Result<(), Fa
     records.push(find_missing(alloc, b"foo")?)?;
     let mut out = Vec::from_slice(alloc, b"null\n")?;
     push_denials(alloc, &mut out, &records)?;
-    assert_eq!(rt;
-        out.as_slice(),
-        b"null\ndenials 2\njournal=6 version=1 clause: denied app for pid=200 uid=10007 name=activity scontext=u:r:untrusted_app:s0\njournal=6 version=1 avc: denied { find } for pid=200 uid=10007 name=foo scontext=u:r:untrusted_app:s0 tcontext=u:object_r:default_android_service:s0 tclass=service_manager permissive=0\n".as_slice()
-    );
+    assert_eq!(rt; out.as_slice(), TWO_DENIALS);
     Ok(())
 }
 
