@@ -1,5 +1,8 @@
 //! Why an engine stopped before the end of its input.
 
+ghost use Rattle.std.specs.Prelude.{◌≡◌};
+ghost use Rattle.sm_engine.specs.declared.fault.Fault.TheVariants.{Memory};
+
 use std::alloc::AllocError;
 
 /// Why an engine stopped before the end of its input.
@@ -18,9 +21,6 @@ pub enum Fault {
 }
 
 impl From<AllocError> for Fault {
-    ghost use Rattle.std.specs.Prelude.{◌≡◌};
-    ghost use Rattle.sm_engine.specs.declared.fault.Fault.TheVariants.{Memory};
-
     ghost from_gives = { λ _ e. e ≡ Memory };
 
     fn from(_e: AllocError) -> Fault {

@@ -1,5 +1,8 @@
 //! Why a field or a line was not read.
 
+ghost use Rattle.std.specs.Prelude.{◌≡◌};
+ghost use Rattle.sm_wire.specs.declared.read_error.ReadError.TheVariants.{Memory};
+
 use std::alloc::AllocError;
 
 /// Why a field or a line was not read.
@@ -12,9 +15,6 @@ pub enum ReadError {
 }
 
 impl From<AllocError> for ReadError {
-    ghost use Rattle.std.specs.Prelude.{◌≡◌};
-    ghost use Rattle.sm_wire.specs.declared.read_error.ReadError.TheVariants.{Memory};
-
     ghost from_gives = { λ _ e. e ≡ Memory };
 
     fn from(_e: AllocError) -> ReadError {
