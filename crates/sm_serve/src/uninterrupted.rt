@@ -1,6 +1,6 @@
 //! Readers and writers that go on after a signal.
 
-ghost use Rattle.std.specs.Prelude.{◌≡◌, ◌≢◌, ◌↔◌, IfErr, IsTrue};
+ghost use Rattle.std.specs.Prelude.{◌≡◌, ◌≢◌, IfErr, IsErr, MatchOption};
 ghost use Rattle.std.specs.IoError.{error_kind};
 ghost use Rattle.std.specs.Io.{ReadsAtMost, WritesAtMost};
 ghost use Rattle.std.specs.Io.KnownBytes.{ReadConsumes, WriteAppends, Keeps};
@@ -32,13 +32,8 @@ impl<R: Read> Read for Uninterrupted<R> {
         ensures repeated { IfErr result (λ e. error_kind e ≢ ErrorKind.Interrupted) }
     {
         for _ in 0..u64::MAX {
-            match self.inner.read(buf) {
-                Ok(n) => return Ok(n),
-                Err(error) => {
-                    if !is_interruption(&error) {
-                        return Err(error);
-                    }
-                }
+            if let Some(outcome) = unless_interrupted(self.inner.read(buf)) {
+                return outcome;
             }
         }
         Err(too_many_interruptions())
@@ -54,13 +49,8 @@ impl<W: Write> Write for Uninterrupted<W> {
         ensures repeated { IfErr result (λ e. error_kind e ≢ ErrorKind.Interrupted) }
     {
         for _ in 0..u64::MAX {
-            match self.inner.write(buf) {
-                Ok(n) => return Ok(n),
-                Err(error) => {
-                    if !is_interruption(&error) {
-                        return Err(error);
-                    }
-                }
+            if let Some(outcome) = unless_interrupted(self.inner.write(buf)) {
+                return outcome;
             }
         }
         Err(too_many_interruptions())
@@ -73,10 +63,15 @@ impl<W: Write> Write for Uninterrupted<W> {
     }
 }
 
-fn is_interruption(error: &Error) -> bool
-    ensures { IsTrue result ↔ (error_kind error.now ≡ ErrorKind.Interrupted) }
+/// Returns the result of a call, unless a signal interrupted the call.
+fn unless_interrupted(outcome: io::Result<usize>) -> Option<io::Result<usize>>
+    ensures { MatchOption result (IsErr outcome)
+        (λ r. (r ≡ outcome) × IfErr r (λ e. error_kind e ≢ ErrorKind.Interrupted)) }
 {
-    error.kind() == ErrorKind::Interrupted
+    match outcome {
+        Err(error) if error.kind() == ErrorKind::Interrupted => None,
+        _ => Some(outcome),
+    }
 }
 
 fn too_many_interruptions() -> Error
