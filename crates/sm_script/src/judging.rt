@@ -2,7 +2,7 @@
 //! lines of its records to another.
 
 ghost use Rattle.std.specs.Prelude.{◌≡◌, ◌⊎◌, ◌++◌, List, OnOk, OnErr, codes};
-ghost use Rattle.sm_history.specs.declared.by.By.TheVariants.{Admin, Manager as ByManager, Client as ByClient};
+ghost use Rattle.sm_history.specs.declared.by.By.TheVariants.{Admin, Manager as ByManager};
 ghost use Rattle.sm_history.specs.declared.event.Event.TheVariants.{Connect, Reload};
 ghost use Rattle.sm_history.specs.declared.records.Record.{Record};
 ghost use Rattle.sm_history.specs.declared.refusal.Refusal.TheVariants.{Memory};
@@ -51,34 +51,6 @@ pub fn answer_hello(
     )
 }
 
-/// Makes a client's change, and answers with the visible part of the reply.
-#[inline(always)]
-pub fn answer_change(
-    alloc: Global,
-    manager: &mut Manager,
-    client: ClientId,
-    event: Event,
-    telling: Telling,
-    replies: &mut Vec<u8>,
-    audit: &mut Vec<u8>,
-) -> Result<(), AllocError>
-    ensures ok { OnOk result ((reply : Reply) × (noted : List Record)
-        × AnswersNow (recorded manager.old) (ByClient client) event reply noted (recorded manager.new)
-        × Told telling reply noted replies.old.items replies.new.items audit.old.items audit.new.items) }
-    ensures err { OnErr result ((reply : Reply) × (noted : List Record)
-        × AnswersNow (recorded manager.old) (ByClient client) event reply noted (recorded manager.new)) }
-{
-    answer_event(
-        alloc,
-        manager,
-        By::Client(client),
-        event,
-        telling,
-        replies,
-        audit,
-    )
-}
-
 /// Replaces the policy.
 #[inline(never)]
 pub fn answer_prepared(
@@ -103,9 +75,9 @@ pub fn answer_prepared(
     answer_event(alloc, manager, by, event, Telling::Whole, replies, audit)
 }
 
-// Makes an actor's event, at the actor's turn, and answers with the visible part of the reply.
+/// Makes an actor's event, at the actor's turn, and answers with the visible part of the reply.
 #[inline(never)]
-fn answer_event(
+pub fn answer_event(
     alloc: Global,
     manager: &mut Manager,
     by: By,

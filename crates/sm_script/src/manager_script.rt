@@ -7,11 +7,12 @@ ghost use Rattle.sm_script.specs.Answering.{ScriptAnswers, script_held_limit, re
 ghost use Rattle.sm_engine.specs.Running.{Answered, GaveUp, never};
 
 use crate::judging::{
-    answer_change, answer_denials, answer_hello, answer_nobody, answer_prepared, answer_query,
+    answer_denials, answer_event, answer_hello, answer_nobody, answer_prepared, answer_query,
     answer_seal, answer_unasked,
 };
 use sm_core::Manager;
 use sm_engine::Machine;
+use sm_history::By;
 use sm_kinds::drop_fields;
 use sm_policy::Prepared;
 use sm_wire::{Item, PolicyTexts, Request, push_policy_refused};
@@ -97,7 +98,8 @@ impl Script {
         match request {
             Request::Hello(who) => answer_hello(alloc, manager, who, replies, audit),
             Request::Change(Some(client), event) => {
-                answer_change(alloc, manager, client, event, telling, replies, audit)
+                let by = By::Client(client);
+                answer_event(alloc, manager, by, event, telling, replies, audit)
             }
             Request::Change(None, event) => answer_nobody(event, replies),
             Request::Look(client, query) => {

@@ -25,8 +25,8 @@ returns-clause-ok c = elim c.match-request.branch [
     w.in-Change-Some-default.is,
     w.in-Change-Some-default.field-0-is,
     ← c.self.view_is,
-  ) (told_request w.answer_change.result _ _ _ c.telling-telling.result _ _ _ _
-      (λ r. rw w.in-Change-Some-default.is at (c.telling-telling.ensures r)) w.answer_change.ensures.ok)
+  ) (told_request w.answer_event.result _ _ _ c.telling-telling.result _ _ _ _
+      (λ r. rw w.in-Change-Some-default.is at (c.telling-telling.ensures r)) w.answer_event.ensures.ok)
   | in-Change-None-default w ↦ rw (
     w.result-is,
     w.replies-is,
@@ -61,11 +61,11 @@ returns-clause-err c =
           let request = Hello w.in-Hello.who in
           carried _ w.answer_hello.result _ old _ new _ request w.result-is same (rw w.self-inside-is refl)
           w.in-Hello.is (lost_request w.answer_hello.result old new request w.answer_hello.ensures.err)
-      | in-Change-Some-default w ↦ let new = recorded w.answer_change.new.manager in
+      | in-Change-Some-default w ↦ let new = recorded w.answer_event.new.manager in
           let i = w.in-Change-Some-default in
           let request = Change (Some i.client) i.event in
-          carried _ w.answer_change.result _ old _ new _ request w.result-is same (rw w.self-inside-is refl)
-          (rw i.field-0-is at i.is) (lost_request w.answer_change.result old new request w.answer_change.ensures.err)
+          carried _ w.answer_event.result _ old _ new _ request w.result-is same (rw w.self-inside-is refl)
+          (rw i.field-0-is at i.is) (lost_request w.answer_event.result old new request w.answer_event.ensures.err)
       | in-Change-None-default w ↦ carried _ w.answer_nobody.result _ old _ old _ _ w.result-is same
           (rw w.self-inside-is refl) refl (kept_request w.answer_nobody.result old c.args.request)
       | in-Look w ↦ let request = Look w.in-Look.client w.in-Look.query in
