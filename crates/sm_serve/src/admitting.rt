@@ -50,22 +50,11 @@ fn pass<H: Supervisor, R: Wait + Clock>(
     stream: UnixStream,
     told: bool,
 ) -> Option<bool> {
-    match offer(rt, to, stream, AT_ONCE) {
-        Offered::Taken => Some(false),
-        Offered::Refused(stream) => wait_for_worker(rt, to, host, faults, stream, told),
-        Offered::Closed => close(rt, host, faults),
-    }
-}
-
-fn wait_for_worker<H: Supervisor, R: Wait + Clock>(
-    rt: &R,
-    to: &Arrivals,
-    host: &H,
-    faults: &Faults,
-    stream: UnixStream,
-    told: bool,
-) -> Option<bool> {
-    let mut waiting = stream;
+    let mut waiting = match offer(rt, to, stream, AT_ONCE) {
+        Offered::Taken => return Some(false),
+        Offered::Refused(stream) => stream,
+        Offered::Closed => return close(rt, host, faults),
+    };
     let mut told = told;
     for _ in rt.forever() {
         if faults.is_noted(rt) {
