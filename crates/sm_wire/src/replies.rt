@@ -1,9 +1,10 @@
 //! Reply lines.
 
-ghost use Rattle.std.specs.Prelude.{◌≡◌, ◌++◌, OnOk, IfOk, codes};
+ghost use Rattle.std.specs.Prelude.{◌≡◌, ◌++◌, OnOk, IfOk, codes, length};
 ghost use Rattle.std.specs.Fmt.{decimal};
+ghost use Rattle.std.specs.List.{flat_map};
 ghost use Rattle.sm_kinds.specs.Messages.{numbered};
-ghost use Rattle.sm_wire.specs.Replies.{names_text, why_text, answer_text, outcome_text, sealed_text, answered_text};
+ghost use Rattle.sm_wire.specs.Replies.{spaced_name, why_text, answer_text, outcome_text, answered_text};
 ghost use Rattle.sm_wire.specs.Replies.{told_text, told_in};
 
 use crate::deliveries::push_delivery;
@@ -43,7 +44,7 @@ pub fn push_reply(
     }
 }
 
-#[tactic(auto, unfolding(crate::specs::Replies::answered_text))]
+#[tactic(auto, unfolding(crate::specs::Replies::answered_text, crate::specs::Replies::sealed_text))]
 fn push_answered(alloc: Global, out: &mut Vec<u8>, reply: &Reply) -> Result<(), AllocError>
     ensures { OnOk result (out.new.items ≡ out.old.items ++ answered_text reply.now) }
 {
@@ -56,18 +57,9 @@ fn push_answered(alloc: Global, out: &mut Vec<u8>, reply: &Reply) -> Result<(), 
             length,
             answer,
         } => push_answer(alloc, out, *version, *length, answer),
-        Reply::Sealed { number, length } => push_sealed(out, *number, *length),
+        Reply::Sealed { number, length } => push_two(out, b"sealed ", *number, *length),
         Reply::Refused(refusal) => push_refusal(out, refusal),
     }
-}
-
-// Appends `sealed NUMBER LENGTH`.
-#[tactic(auto, unfolding(crate::specs::Replies::sealed_text))]
-fn push_sealed(out: &mut Vec<u8>, number: u64, count: u64) -> Result<(), AllocError>
-    ensures { OnOk result (out.new.items ≡ out.old.items ++ sealed_text number count) }
-{
-    push_numbered(out, b"sealed ", number)?;
-    push_numbered(out, b" ", count)
 }
 
 #[tactic(auto, unfolding(crate::specs::Replies::outcome_text))]
@@ -90,7 +82,7 @@ fn push_outcome(alloc: Global, out: &mut Vec<u8>, outcome: &Outcome) -> Result<(
     }
 }
 
-#[tactic(auto, unfolding(crate::specs::Replies::answer_text))]
+#[tactic(auto, unfolding(crate::specs::Replies::answer_text, crate::specs::Replies::names_text))]
 fn push_answer(
     alloc: Global,
     out: &mut Vec<u8>,
@@ -101,21 +93,24 @@ fn push_answer(
     ensures { OnOk result (out.new.items ≡ out.old.items ++ answer_text version count answer.now) }
 {
     match answer {
-        Answer::Names(names) => push_listing(alloc, out, version, count, names.names()),
-        Answer::Version => push_version(out, version, count),
+        Answer::Names(names) => {
+            push_two(out, b"names ", version, count)?;
+            push_listing(alloc, out, names.names())
+        }
+        Answer::Version => push_two(out, b"version ", version, count),
         Answer::Why(line) => push_why(out, version, *line),
     }
 }
 
-// Appends `version VERSION LENGTH`.
-fn push_version(out: &mut Vec<u8>, version: u64, count: u64) -> Result<(), AllocError>
+// Appends a word and two numbers.
+fn push_two(out: &mut Vec<u8>, word: &[u8], first: u64, second: u64) -> Result<(), AllocError>
     ensures { OnOk result (out.new.items
-        ≡ out.old.items ++ numbered (codes "version ") version ++ numbered (codes " ") count) }
+        ≡ out.old.items ++ numbered word.now first ++ numbered (codes " ") second) }
 {
-    out.extend_from_slice(b"version ")?;
-    push_decimal(out, version)?;
+    out.extend_from_slice(word)?;
+    push_decimal(out, first)?;
     out.push(b' ')?;
-    push_decimal(out, count)
+    push_decimal(out, second)
 }
 
 // Appends a number in decimal digits. A single digit needs no buffer.
@@ -130,18 +125,11 @@ fn push_decimal(out: &mut Vec<u8>, n: u64) -> Result<(), AllocError>
     push_numbered(out, b"", n)
 }
 
-#[tactic(auto, unfolding(crate::specs::Replies::names_text))]
-fn push_listing(
-    alloc: Global,
-    out: &mut Vec<u8>,
-    version: u64,
-    count: u64,
-    names: &NameList,
-) -> Result<(), AllocError>
-    ensures { OnOk result (out.new.items ≡ out.old.items ++ names_text version count names.now) }
+// Appends the number of names, and the names.
+fn push_listing(alloc: Global, out: &mut Vec<u8>, names: &NameList) -> Result<(), AllocError>
+    ensures { OnOk result (out.new.items
+        ≡ out.old.items ++ numbered (codes " ") (length names.now) ++ flat_map spaced_name names.now) }
 {
-    push_numbered(out, b"names ", version)?;
-    push_numbered(out, b" ", count)?;
     push_numbered(out, b" ", names.len() as u64)?;
     push_names(alloc, out, names)
 }
