@@ -16,7 +16,7 @@ const PLACES: usize = 1024;
 
 /// A kept name. Its bytes were tested when it was kept, so they aren't tested again.
 #[derive(Drop)]
-struct Kept {
+struct RecentName {
     name: Name,
     ghost graphic: { IsTrue (list_all is_graphic name) },
 }
@@ -24,8 +24,8 @@ struct Kept {
 /// The last two names that selected a place.
 #[derive(Drop)]
 struct Place {
-    last: Option<Kept>,
-    before: Option<Kept>,
+    last: Option<RecentName>,
+    before: Option<RecentName>,
 }
 
 /// Recently read names, each in the place that its bytes select. The cache changes no name that is returned, so
@@ -114,7 +114,7 @@ impl RecentNames {
         self.make_places();
         if let Some(place) = self.places.get_mut(slot_of(name.bytes())) {
             let name = name.clone()?;
-            place.before = place.last.replace(Kept { name });
+            place.before = place.last.replace(RecentName { name });
         }
         Ok(())
     }
