@@ -4,9 +4,8 @@ ghost use Rattle.std.specs.Prelude.{◌<◌, ◌∷◌};
 ghost use Rattle.std.specs.VecDeque.{deque_len, deque_capacity};
 ghost use Rattle.sm_wire.specs.Giving.{Gives};
 ghost use Rattle.sm_wire.specs.Reading.{ReadsAs};
-ghost use Rattle.sm_wire.specs.LineTable.{hello_line, explain_line, connection_lines, policy_lines, admin_lines};
-ghost use Rattle.sm_wire.specs.LineTable.{unnumbered_lines};
-ghost use Rattle.sm_wire.specs.Grammar.{line_of, lines_of, script_fields_of, fields_request_of, request_of};
+ghost use Rattle.sm_wire.specs.LineTable.{hello_line, explain_line, policy_lines};
+ghost use Rattle.sm_wire.specs.Grammar.{line_of, lines_of, fields_request_of, request_of};
 
 use crate::client_requests::client_request;
 use crate::fields::Fields;
@@ -41,8 +40,8 @@ pub fn request(alloc: Global, kind: Kind, line: &[u8]) -> Result<Request, ReadEr
     }
 }
 
-/// Parses a line of this kind from its fields.
-#[tactic(auto, unfolding(crate::specs::Grammar::fields_request_of))]
+/// Parses a line of this kind from its fields. The first field of a script's line may be a client's number.
+#[tactic(auto, unfolding(crate::specs::Grammar::fields_request_of, crate::specs::Grammar::script_fields_of, crate::specs::Grammar::lines_of, crate::specs::Grammar::parsed_by))]
 pub fn fields_request(
     recent: &mut RecentNames,
     kind: Kind,
@@ -53,80 +52,33 @@ pub fn fields_request(
     ensures { Gives result items.old.items items.new.items (fields_request_of kind fields.old) }
 {
     match kind {
-        Kind::Client => connection_fields(recent, fields, items),
-        Kind::Admin => admin_fields(recent.alloc, fields, items),
-        Kind::Script => script_fields(recent, fields, items),
+        Kind::Client => {
+            let word = fields.field()?;
+            if spells(word, b"hello") {
+                return hello(recent.alloc, fields, items);
+            }
+            client_request(recent, None, word, fields, items)
+        }
+        Kind::Admin => {
+            let word = fields.field()?;
+            if spells(word, b"version") {
+                fields.end()?;
+                return give(items, Request::Look(None, Query::Version));
+            }
+            policy_request(recent.alloc, word, fields, items)
+        }
+        Kind::Script => {
+            let word = fields.field()?;
+            let Some(n) = number(word, 0xffff_ffff) else {
+                if spells(word, b"hello") {
+                    return hello(recent.alloc, fields, items);
+                }
+                return policy_request(recent.alloc, word, fields, items);
+            };
+            let word = fields.field()?;
+            client_request(recent, Some(ClientId(n as u32)), word, fields, items)
+        }
     }
-}
-
-// Parses a line of a client's connection.
-#[tactic(auto, unfolding(crate::specs::Grammar::lines_of, crate::specs::Grammar::parsed_by))]
-fn connection_fields(
-    recent: &mut RecentNames,
-    fields: &mut Fields<'_>,
-    items: &mut VecDeque<Item>,
-) -> Result<(), ReadError>
-    requires { deque_len items.old < deque_capacity items.old }
-    ensures { Gives result items.old.items items.new.items (lines_of connection_lines fields.old) }
-{
-    let word = fields.field()?;
-    if spells(word, b"hello") {
-        return hello(recent.alloc, fields, items);
-    }
-    client_request(recent, None, word, fields, items)
-}
-
-// Parses a line of an administrator's connection.
-#[tactic(auto, unfolding(crate::specs::Grammar::lines_of, crate::specs::Grammar::parsed_by))]
-fn admin_fields(
-    alloc: Global,
-    fields: &mut Fields<'_>,
-    items: &mut VecDeque<Item>,
-) -> Result<(), ReadError>
-    requires { deque_len items.old < deque_capacity items.old }
-    ensures { Gives result items.old.items items.new.items (lines_of admin_lines fields.old) }
-{
-    let word = fields.field()?;
-    if spells(word, b"version") {
-        fields.end()?;
-        return give(items, Request::Look(None, Query::Version));
-    }
-    policy_request(alloc, word, fields, items)
-}
-
-// Parses a line of a script: a client's behind its number, or one without.
-#[tactic(auto, unfolding(crate::specs::Grammar::script_fields_of, crate::specs::Grammar::lines_of))]
-fn script_fields(
-    recent: &mut RecentNames,
-    fields: &mut Fields<'_>,
-    items: &mut VecDeque<Item>,
-) -> Result<(), ReadError>
-    requires { deque_len items.old < deque_capacity items.old }
-    ensures { Gives result items.old.items items.new.items (script_fields_of fields.old) }
-{
-    let word = fields.field()?;
-    let Some(n) = number(word, 0xffff_ffff) else {
-        return unnumbered(recent.alloc, word, fields, items);
-    };
-    let word = fields.field()?;
-    client_request(recent, Some(ClientId(n as u32)), word, fields, items)
-}
-
-// Parses a line of a script that doesn't begin with a client's number.
-#[tactic(auto, unfolding(crate::specs::Grammar::lines_of, crate::specs::Grammar::parsed_by))]
-fn unnumbered(
-    alloc: Global,
-    word: &[u8],
-    fields: &mut Fields<'_>,
-    items: &mut VecDeque<Item>,
-) -> Result<(), ReadError>
-    requires { deque_len items.old < deque_capacity items.old }
-    ensures { Gives result items.old.items items.new.items (lines_of unnumbered_lines (word.now ∷ fields.old)) }
-{
-    if spells(word, b"hello") {
-        return hello(alloc, fields, items);
-    }
-    policy_request(alloc, word, fields, items)
 }
 
 // Parses an administrator's line that a script has, too.
@@ -142,9 +94,9 @@ fn policy_request(
     ensures { Gives result items.old.items items.new.items (lines_of policy_lines (word.now ∷ fields.old)) }
 {
     if spells(word, b"reload") {
-        reload(fields, items)
+        give(items, reload(fields)?)
     } else if spells(word, b"explain") {
-        explain(alloc, fields, items)
+        give(items, explain(alloc, fields)?)
     } else if spells(word, b"denials") {
         fields.end()?;
         give(items, Request::Denials)
@@ -180,13 +132,8 @@ fn hello(
 // Parses `explain SOURCE TARGET CLASS PERM`.
 #[inline(never)]
 #[tactic(auto, unfolding(crate::specs::Grammar::parsed_by))]
-fn explain(
-    alloc: Global,
-    fields: &mut Fields<'_>,
-    items: &mut VecDeque<Item>,
-) -> Result<(), ReadError>
-    requires { deque_len items.old < deque_capacity items.old }
-    ensures { Gives result items.old.items items.new.items (line_of explain_line fields.old) }
+fn explain(alloc: Global, fields: &mut Fields<'_>) -> Result<Request, ReadError>
+    ensures { ReadsAs result (line_of explain_line fields.old) }
 {
     let source = fields.field()?;
     let target = fields.field()?;
@@ -199,5 +146,5 @@ fn explain(
         class: class_field(class)?,
         perm: perm_field(perm)?,
     };
-    give(items, Request::Look(None, query))
+    Ok(Request::Look(None, query))
 }

@@ -1,17 +1,14 @@
 //! Headers of `reload` lines.
 
-ghost use Rattle.std.specs.Prelude.{◌≡◌, ◌<◌, ◌+◌};
-ghost use Rattle.std.specs.VecDeque.{deque_len, deque_capacity};
-ghost use Rattle.sm_wire.specs.Giving.{Gives};
+ghost use Rattle.std.specs.Prelude.{◌≡◌, ◌+◌};
+ghost use Rattle.sm_wire.specs.Reading.{ReadsAs};
 ghost use Rattle.sm_wire.specs.LineTable.{reload_line};
 ghost use Rattle.sm_wire.specs.Grammar.{line_of};
 
 use crate::fields::Fields;
-use crate::item::{Item, give};
 use crate::numbers::{u32_field, u64_field};
 use crate::read_error::ReadError;
 use crate::request::Request;
-use std::collections::VecDeque;
 
 /// The header of a `reload` line: the expected version of the policy in force, and the sizes of the policy source and
 /// of the contexts file that follow the line, in bytes.
@@ -33,9 +30,8 @@ impl ReloadHeader {
 
 /// Reads the fields of `reload EXPECTED R C`.
 #[tactic(auto, unfolding(crate::specs::Grammar::parsed_by))]
-pub fn reload(fields: &mut Fields<'_>, items: &mut VecDeque<Item>) -> Result<(), ReadError>
-    requires { deque_len items.old < deque_capacity items.old }
-    ensures { Gives result items.old.items items.new.items (line_of reload_line fields.old) }
+pub fn reload(fields: &mut Fields<'_>) -> Result<Request, ReadError>
+    ensures { ReadsAs result (line_of reload_line fields.old) }
 {
     let expected = fields.field()?;
     let rules = fields.field()?;
@@ -44,12 +40,9 @@ pub fn reload(fields: &mut Fields<'_>, items: &mut VecDeque<Item>) -> Result<(),
     let expected = u64_field(expected)?;
     let rules = u32_field(rules)?;
     let contexts = u32_field(contexts)?;
-    give(
-        items,
-        Request::Reload {
-            expected,
-            rules,
-            contexts,
-        },
-    )
+    Ok(Request::Reload {
+        expected,
+        rules,
+        contexts,
+    })
 }
