@@ -37,17 +37,13 @@ pub(crate) fn writer_of<J: Naming>(
 {
     let first = Arc::try_clone(shared_view)?;
     let second = Arc::try_clone(shared_view)?;
-    match ViewWriter::new(
-        alloc,
-        Published { shared_view: first },
-        Published {
-            shared_view: second,
-        },
-        PLACES,
-    ) {
-        Ok(writer) => Ok(writer),
-        Err(_) => Err(AllocError),
-    }
+    let first = Published { shared_view: first };
+    let second = Published {
+        shared_view: second,
+    };
+    ViewWriter::new(alloc, first, second, PLACES)
+        .ok()
+        .ok_or(AllocError)
 }
 
 /// Makes a seat for each client and a token for each administrator, which have seen the opening. `NoSeat` if a slot was
@@ -140,10 +136,9 @@ fn enlist<J: Naming>(
     ensures refused { IfErr result (λ r. r ≡ WantsPlace) }
 {
     manager.lawful();
-    match writer.factory().reader() {
-        Ok(reader) => Ok(Actor::new(alloc, by, manager.turn(by), reader)),
-        Err(_) => Err(Refusal::NoSeat),
-    }
+    let turn = manager.turn(by);
+    let reader = writer.factory().reader().ok().ok_or(Refusal::NoSeat)?;
+    Ok(Actor::new(alloc, by, turn, reader))
 }
 
 fn keep<X: Drop>(list: &mut Vec<X>, x: X) -> Result<(), Refusal>
