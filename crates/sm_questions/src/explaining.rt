@@ -43,28 +43,28 @@ pub fn explain<W: Write>(
     ensures write_fault { result ≡ Err Fault.WriteFault → failures_of writer.old < failures_of writer.new }
     ensures write_told { failures_of writer.old < failures_of writer.new → result ≡ Err Fault.WriteFault }
 {
-    let answer = answer_to(alloc, policy, source, target, class, perm)?;
-    write_whole(writer, &answer.lines)?;
-    Ok(answer.passes)
+    let explanation = explanation_of(alloc, policy, source, target, class, perm)?;
+    write_whole(writer, &explanation.lines)?;
+    Ok(explanation.passes)
 }
 
 /// The lines of an explanation, and whether the access passes.
 #[derive(Drop)]
-struct Answer {
+struct Explanation {
     lines: Vec<u8>,
     passes: bool,
 }
 
 /// Returns the explanation of an access.
 #[tactic(auto, using(crate::proofs::Written::written_if))]
-fn answer_to(
+fn explanation_of(
     alloc: Global,
     policy: &Prepared,
     source: &[u8],
     target: &[u8],
     class: Class,
     perm: Perms,
-) -> Result<Answer, AllocError>
+) -> Result<Explanation, AllocError>
     ensures lines { IfOk result
         (λ a. a.lines.items ≡ spec.explanation policy.now source.now target.now class perm) }
     ensures passes { IfOk result (λ a. a.passes ≡ spec.passes policy.now source.now target.now class perm) }
@@ -76,7 +76,7 @@ fn answer_to(
     if permissive {
         lines.extend_from_slice(b"permissive\n")?;
     }
-    Ok(Answer {
+    Ok(Explanation {
         lines,
         passes: line.is_some() || permissive,
     })
