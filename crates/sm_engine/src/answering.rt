@@ -1,6 +1,6 @@
 //! Answers the items of one piece.
 
-ghost use Rattle.std.specs.Prelude.{◌≡◌, ◌<◌, ◌≤◌, ◌+◌, ◌-◌, ℕ, [], length, OnOk, OnErr, take, ◌⊎◌};
+ghost use Rattle.std.specs.Prelude.{◌≡◌, ◌<◌, ◌≤◌, ◌+◌, ◌-◌, ℕ, [], length, OnOk, OnErr, take, ◌⊎◌, ◌↔◌};
 ghost use Rattle.std.specs.Io.KnownBytes.{Appends};
 ghost use Rattle.sm_engine.specs.Counts.{failures_of, inner_of, greatest_count};
 ghost use Rattle.sm_engine.specs.Running.{IsSilent, Wrote, Stopped, Spilled};
@@ -32,10 +32,8 @@ pub fn answer_items<M: Machine, W: Write, A: Write>(
         (W.contents (inner_of writer.old)) (W.contents (inner_of writer.new))
         (A.contents (inner_of audit.old)) (A.contents (inner_of audit.new)) machine.new) }
     ensures fault { OnErr result ((result ≡ Err Fault.WriteFault) ⊎ (result ≡ Err Fault.Memory)) }
-    ensures failed { result ≡ Err Fault.WriteFault → failures_of writer.old + failures_of audit.old
-        < failures_of writer.new + failures_of audit.new }
-    ensures told { failures_of writer.old + failures_of audit.old < failures_of writer.new + failures_of audit.new
-        → result ≡ Err Fault.WriteFault }
+    ensures told { (result ≡ Err Fault.WriteFault) ↔ (failures_of writer.old + failures_of audit.old
+        < failures_of writer.new + failures_of audit.new) }
     ensures unaudited { IsSilent M.answers → audit.new ≡ audit.old }
 {
     while let Some(item) = buffers.items.pop_front() {

@@ -1,7 +1,7 @@
 //! Reads lines, answers them, and writes the answers, until the input ends or the machine is over.
 
 ghost use Rattle.std.specs.Prelude.{◌≡◌, false, MatchBool, ◌<◌, ◌≤◌, ◌+◌, ◌-◌, IfOk, OnOk, OnErr, take, length, min, ℕ};
-ghost use Rattle.std.specs.Prelude.{codes, [], ◌⊎◌, if◌then◌else◌};
+ghost use Rattle.std.specs.Prelude.{codes, [], ◌⊎◌, ◌↔◌, if◌then◌else◌};
 ghost use Rattle.std.specs.Io.KnownBytes.{Appends, Consumes, Keeps, IsAtEnd};
 ghost use Rattle.sm_wire.specs.Items.{IsAlive, scan_after, items_after};
 ghost use Rattle.sm_engine.specs.Buffers.{IsIdle};
@@ -121,10 +121,8 @@ fn take_piece<M: Machine, W: Write, A: Write>(
         (W.contents (inner_of writer.old)) (W.contents (inner_of writer.new))
         (A.contents (inner_of audit.old)) (A.contents (inner_of audit.new)) machine.new) }
     ensures fault { OnErr result ((result ≡ Err Fault.WriteFault) ⊎ (result ≡ Err Fault.Memory)) }
-    ensures failed { result ≡ Err Fault.WriteFault → failures_of writer.old + failures_of audit.old
-        < failures_of writer.new + failures_of audit.new }
-    ensures told { failures_of writer.old + failures_of audit.old < failures_of writer.new + failures_of audit.new
-        → result ≡ Err Fault.WriteFault }
+    ensures told { (result ≡ Err Fault.WriteFault) ↔ (failures_of writer.old + failures_of audit.old
+        < failures_of writer.new + failures_of audit.new) }
     ensures unaudited { IsSilent M.answers → audit.new ≡ audit.old }
 {
     match lines.feed_into(piece, &mut buffers.items) {
