@@ -1,8 +1,8 @@
 //! The verdict of `svcmgr check`.
 
-ghost use Rattle.std.specs.Prelude.{◌≡◌, ◌⊎◌, ◌<◌, ℕ, IfOk, OnOk, OnErr, take};
+ghost use Rattle.std.specs.Prelude.{◌≡◌, ◌<◌, ℕ, IfOk, OnOk, take};
 ghost use Rattle.std.specs.Io.KnownBytes.{Appends};
-ghost use Rattle.sm_engine.specs.Counts.{failures_of, inner_of, greatest_count};
+ghost use Rattle.sm_engine.specs.Counts.{Reports, failures_of, inner_of, greatest_count};
 ghost use Rattle.sm_policy.specs.Preparing.{prepared};
 ghost use Rattle.sm_check.specs.Checking as spec;
 
@@ -33,9 +33,7 @@ pub fn check<W: Write>(
         × Appends (W.contents (inner_of writer.old)) (W.contents (inner_of writer.new))
         (take n (spec.checked_line (prepared rules.now contexts.now))) }
     ensures unwritten { result ≡ Err Fault.Memory → writer.new ≡ writer.old }
-    ensures fault { OnErr result ((result ≡ Err Fault.WriteFault) ⊎ (result ≡ Err Fault.Memory)) }
-    ensures write_fault { result ≡ Err Fault.WriteFault → failures_of writer.old < failures_of writer.new }
-    ensures write_told { failures_of writer.old < failures_of writer.new → result ≡ Err Fault.WriteFault }
+    ensures reports { Reports result writer.old writer.new }
 {
     let verdict = judge(alloc, rules, contexts)?;
     write_whole(writer, &verdict.line)?;

@@ -1,8 +1,8 @@
 //! The answer to `svcmgr diff`.
 
-ghost use Rattle.std.specs.Prelude.{◌≡◌, ◌⊎◌, ◌<◌, not, ℕ, IfErr, IfOk, OnOk, OnErr, take};
+ghost use Rattle.std.specs.Prelude.{◌≡◌, ◌<◌, not, ℕ, IfErr, IfOk, OnOk, OnErr, take};
 ghost use Rattle.std.specs.Io.KnownBytes.{Appends};
-ghost use Rattle.sm_engine.specs.Counts.{failures_of, inner_of, greatest_count};
+ghost use Rattle.sm_engine.specs.Counts.{Reports, failures_of, inner_of, greatest_count};
 ghost use Rattle.sm_questions.specs.Differences as spec;
 ghost use Rattle.sm_questions.specs.Differences.{is_any};
 ghost use Rattle.sm_questions.specs.Parts.{part_lines};
@@ -77,9 +77,7 @@ pub fn diff<W: Write>(
     ensures front { OnErr result ((n : ℕ)
         × Appends (W.contents (inner_of writer.old)) (W.contents (inner_of writer.new))
         (take n (spec.differences old.now new.now))) }
-    ensures fault { OnErr result ((result ≡ Err Fault.WriteFault) ⊎ (result ≡ Err Fault.Memory)) }
-    ensures write_fault { result ≡ Err Fault.WriteFault → failures_of writer.old < failures_of writer.new }
-    ensures write_told { failures_of writer.old < failures_of writer.new → result ≡ Err Fault.WriteFault }
+    ensures reports { Reports result writer.old writer.new }
 {
     let mut held = Vec::new(alloc);
     let mut any = false;

@@ -1,8 +1,8 @@
 //! The answer to `svcmgr label`.
 
-ghost use Rattle.std.specs.Prelude.{◌≡◌, ◌⊎◌, ◌<◌, ℕ, IfOk, OnOk, OnErr, take};
+ghost use Rattle.std.specs.Prelude.{◌≡◌, ◌<◌, ℕ, IfOk, OnOk, take};
 ghost use Rattle.std.specs.Io.KnownBytes.{Appends};
-ghost use Rattle.sm_engine.specs.Counts.{failures_of, inner_of, greatest_count};
+ghost use Rattle.sm_engine.specs.Counts.{Reports, failures_of, inner_of, greatest_count};
 ghost use Rattle.sm_questions.specs.Labels as spec;
 
 use crate::lookups::label_entry;
@@ -31,9 +31,7 @@ pub fn label<W: Write>(
         × Appends (W.contents (inner_of writer.old)) (W.contents (inner_of writer.new))
         (take n (spec.label_line policy.now name.now)) }
     ensures unwritten { result ≡ Err Fault.Memory → writer.new ≡ writer.old }
-    ensures fault { OnErr result ((result ≡ Err Fault.WriteFault) ⊎ (result ≡ Err Fault.Memory)) }
-    ensures write_fault { result ≡ Err Fault.WriteFault → failures_of writer.old < failures_of writer.new }
-    ensures write_told { failures_of writer.old < failures_of writer.new → result ≡ Err Fault.WriteFault }
+    ensures reports { Reports result writer.old writer.new }
 {
     let line = label_line(alloc, policy, name)?;
     write_whole(writer, &line)

@@ -1,8 +1,8 @@
 //! The answer to `svcmgr access`.
 
-ghost use Rattle.std.specs.Prelude.{◌≡◌, ◌⊎◌, ◌<◌, ◌++◌, ◌&&◌, ℕ, All, IfErr, IfOk, OnOk, OnErr, length, take};
+ghost use Rattle.std.specs.Prelude.{◌≡◌, ◌<◌, ◌++◌, ◌&&◌, ℕ, All, IfErr, IfOk, OnOk, OnErr, length, take};
 ghost use Rattle.std.specs.Io.KnownBytes.{Appends};
-ghost use Rattle.sm_engine.specs.Counts.{failures_of, inner_of, greatest_count};
+ghost use Rattle.sm_engine.specs.Counts.{Reports, failures_of, inner_of, greatest_count};
 ghost use Rattle.sm_types.specs.Names.{at};
 ghost use Rattle.sm_types.specs.Denoting.{types};
 ghost use Rattle.sm_bits.specs.Bits.{has_bit};
@@ -257,9 +257,7 @@ pub fn access<W: Write>(
     ensures front { OnErr result ((n : ℕ)
         × Appends (W.contents (inner_of writer.old)) (W.contents (inner_of writer.new))
         (take n (spec.access_lines policy.now filter.now))) }
-    ensures fault { OnErr result ((result ≡ Err Fault.WriteFault) ⊎ (result ≡ Err Fault.Memory)) }
-    ensures write_fault { result ≡ Err Fault.WriteFault → failures_of writer.old < failures_of writer.new }
-    ensures write_told { failures_of writer.old < failures_of writer.new → result ≡ Err Fault.WriteFault }
+    ensures reports { Reports result writer.old writer.new }
 {
     let mut held = Vec::new(alloc);
     let targets = numbers_left(alloc, policy, &filter.target)?;
