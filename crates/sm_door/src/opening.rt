@@ -58,26 +58,17 @@ pub(crate) fn tokens_of<J: Naming>(
     ensures tokens { IfOk result (λ r. (r.0.items ≡ new_seats J.opening MOST_CLIENTS)
         × (r.1.items ≡ new_admins J.opening ADMINS)) }
 {
-    let seats = seats_of(alloc, manager, writer)?;
-    let admins = admins_of(alloc, manager, writer)?;
-    Ok((seats, admins))
-}
-
-fn seats_of<J: Naming>(
-    alloc: Global,
-    manager: &Manager,
-    writer: &ViewWriter<J>,
-) -> Result<Vec<Seat<J>>, Refusal>
-    requires { manager.now.book ≡ J.opening }
-    ensures seats { IfOk result (λ v. v.items ≡ new_seats J.opening MOST_CLIENTS) }
-    ensures refused { IfErr result (λ r. (r ≡ Memory) ⊎ (r ≡ WantsPlace)) }
-{
     let mut seats = Vec::new(alloc);
     for _seat in 0..MOST_CLIENTS {
         let seat = seat_of(alloc, manager, writer)?;
         keep(&mut seats, seat)?;
     }
-    Ok(seats)
+    let mut admins = Vec::new(alloc);
+    for number in 0..ADMINS {
+        let admin = admin_of(alloc, manager, writer, number)?;
+        keep(&mut admins, admin)?;
+    }
+    Ok((seats, admins))
 }
 
 fn seat_of<J: Naming>(
@@ -91,23 +82,6 @@ fn seat_of<J: Naming>(
 {
     let actor = enlist(alloc, manager, writer, By::Manager)?;
     Ok(Seat { actor })
-}
-
-fn admins_of<J: Naming>(
-    alloc: Global,
-    manager: &Manager,
-    writer: &ViewWriter<J>,
-) -> Result<Vec<Admin<J>>, Refusal>
-    requires { manager.now.book ≡ J.opening }
-    ensures admins { IfOk result (λ v. v.items ≡ new_admins J.opening ADMINS) }
-    ensures refused { IfErr result (λ r. (r ≡ Memory) ⊎ (r ≡ WantsPlace)) }
-{
-    let mut admins = Vec::new(alloc);
-    for number in 0..ADMINS {
-        let admin = admin_of(alloc, manager, writer, number)?;
-        keep(&mut admins, admin)?;
-    }
-    Ok(admins)
 }
 
 fn admin_of<J: Naming>(
