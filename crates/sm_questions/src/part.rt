@@ -5,9 +5,9 @@ ghost use Rattle.sm_types.specs.Names.{at};
 ghost use Rattle.sm_questions.specs.Differences as spec;
 ghost use Rattle.sm_questions.specs.Parts.{AreNumbers, lines_of, names_in};
 
-use crate::lookups::{is_permissive, key, type_at, type_count, type_name};
+use crate::lookups::{has_key, is_permissive, key, type_at, type_count, type_name};
 use crate::lost::push_source;
-use crate::relabelling::{push_added, push_changed};
+use crate::relabelling::push_changed;
 use crate::runs::TypeNumbers;
 use sm_policy::Prepared;
 use std::alloc::{AllocError, Global};
@@ -102,6 +102,7 @@ impl Part {
     }
 
     /// Appends the lines for a type or a key, given by its place in the order of the policy.
+    #[tactic(auto, unfolding(crate::specs::Relabelled::added))]
     pub fn push(
         self,
         alloc: Global,
@@ -120,7 +121,13 @@ impl Part {
             Part::Lost => push_source(alloc, b'-', old, new, numbers, type_at(old, index), held),
             Part::Gained => push_source(alloc, b'+', new, old, numbers, type_at(new, index), held),
             Part::Relabelled => push_changed(old, new, key(old, index), held),
-            Part::Added => push_added(old, new, key(new, index), held),
+            Part::Added => {
+                let key = key(new, index);
+                if has_key(old, key) {
+                    return Ok(());
+                }
+                push_changed(old, new, key, held)
+            }
             Part::Ceased => push_turned(b'-', old, new, type_name(old, type_at(old, index)), held),
             Part::Became => push_turned(b'+', new, old, type_name(new, type_at(new, index)), held),
         }

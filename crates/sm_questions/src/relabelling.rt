@@ -3,7 +3,6 @@
 ghost use Rattle.std.specs.Prelude.{◌≡◌, ◌++◌, OnOk};
 ghost use Rattle.sm_questions.specs.Relabelled as spec;
 
-use crate::lookups::has_key;
 use sm_kinds::spells;
 use sm_policy::Prepared;
 use std::alloc::AllocError;
@@ -46,20 +45,4 @@ pub fn push_changed(
         return Ok(());
     }
     push_line(key, before, after, held)
-}
-
-/// Appends the line for a key, if only the new policy has it and its label differs.
-#[tactic(auto, unfolding(crate::specs::Relabelled::added))]
-pub fn push_added(
-    old: &Prepared,
-    new: &Prepared,
-    key: &[u8],
-    held: &mut Vec<u8>,
-) -> Result<(), AllocError>
-    ensures { OnOk result (held.new.items ≡ held.old.items ++ spec.added old.now new.now key.now) }
-{
-    if has_key(old, key) {
-        return Ok(());
-    }
-    push_changed(old, new, key, held)
 }
