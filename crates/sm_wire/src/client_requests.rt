@@ -7,7 +7,7 @@ ghost use Rattle.std.specs.Prelude.{◌<◌, ◌∷◌};
 ghost use Rattle.std.specs.VecDeque.{deque_len, deque_capacity};
 ghost use Rattle.sm_wire.specs.Giving.{Gives};
 ghost use Rattle.sm_wire.specs.LineTable.{get_line, list_line, add_line, watch_line, unwatch_line, unregister_line};
-ghost use Rattle.sm_wire.specs.LineTable.{call_line, release_line, registering_lines, client_lines};
+ghost use Rattle.sm_wire.specs.LineTable.{version_line, call_line, release_line, registering_lines, client_lines};
 ghost use Rattle.sm_wire.specs.Grammar.{line_of, lines_of};
 
 use crate::fields::Fields;
@@ -45,8 +45,7 @@ pub fn client_request(
         return list(client, fields, items);
     }
     if spells(word, b"version") {
-        fields.end()?;
-        return give(items, Request::Look(client, Query::Version));
+        return version(client, fields, items);
     }
     if spells(word, b"call") {
         return call(recent, client, fields, items);
@@ -125,6 +124,21 @@ fn list(
     fields.end()?;
     let mask = u32_field(mask)?;
     give(items, Request::Look(client, Query::List(mask)))
+}
+
+/// Reads `version`.
+#[inline(always)]
+#[tactic(auto, unfolding(crate::specs::Grammar::parsed_by))]
+pub fn version(
+    client: Option<ClientId>,
+    fields: &mut Fields<'_>,
+    items: &mut VecDeque<Item>,
+) -> Result<(), ReadError>
+    requires { deque_len items.old < deque_capacity items.old }
+    ensures { Gives result items.old.items items.new.items (line_of (version_line client) fields.old) }
+{
+    fields.end()?;
+    give(items, Request::Look(client, Query::Version))
 }
 
 // Reads `add NAME REF ALLOW DUMP`.

@@ -7,7 +7,7 @@ ghost use Rattle.sm_wire.specs.Reading.{ReadsAs};
 ghost use Rattle.sm_wire.specs.LineTable.{hello_line, explain_line, policy_lines};
 ghost use Rattle.sm_wire.specs.Grammar.{line_of, lines_of, fields_request_of, request_of};
 
-use crate::client_requests::client_request;
+use crate::client_requests::{client_request, version};
 use crate::fields::Fields;
 use crate::item::{Item, give};
 use crate::kind::Kind;
@@ -62,8 +62,7 @@ pub fn fields_request(
         Kind::Admin => {
             let word = fields.field()?;
             if spells(word, b"version") {
-                fields.end()?;
-                return give(items, Request::Look(None, Query::Version));
+                return version(None, fields, items);
             }
             policy_request(recent.alloc, word, fields, items)
         }
