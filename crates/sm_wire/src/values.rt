@@ -137,7 +137,7 @@ pub fn payload_field(alloc: Global, field: &[u8]) -> Result<Payload, ReadError>
 {
     match field {
         [] => Err(ReadError::Malformed),
-        b"-" => payload(Vec::new(alloc)),
+        b"-" => payload(alloc, Vec::new(alloc)),
         _ => hex_payload(alloc, field),
     }
 }
@@ -146,13 +146,13 @@ pub fn payload_field(alloc: Global, field: &[u8]) -> Result<Payload, ReadError>
 fn hex_payload(alloc: Global, digits: &[u8]) -> Result<Payload, ReadError>
     ensures { ReadsAs result (hex_payload_of digits.now) }
 {
-    payload(hex_bytes(alloc, digits)?)
+    payload(alloc, hex_bytes(alloc, digits)?)
 }
 
-fn payload(bytes: Vec<u8>) -> Result<Payload, ReadError>
+fn payload(alloc: Global, bytes: Vec<u8>) -> Result<Payload, ReadError>
     ensures { ReadsAs result (fitting_payload bytes.items) }
 {
-    match Payload::from_vec(bytes) {
+    match Payload::from_vec(alloc, bytes) {
         Ok(payload) => Ok(payload),
         Err(PayloadError::TooLong) => Err(ReadError::Malformed),
         Err(PayloadError::Memory) => Err(ReadError::Memory),

@@ -186,10 +186,12 @@ fn add(rt: &impl Abort, alloc: Global) -> Event {
 }
 
 fn call(rt: &impl Abort, alloc: Global, refs: &[ObjRef]) -> Event {
+    let payload = Payload::from_vec(alloc, Vec::new(alloc));
+    let refs = Vec::from_slice(alloc, refs).ok().expect(rt, "memory");
     Event::Call {
         handle: 1,
-        payload: Payload::new(alloc, b"").ok().expect(rt, "a payload"),
-        refs: Refs::new(alloc, refs).ok().expect(rt, "references"),
+        payload: payload.ok().expect(rt, "a payload"),
+        refs: Refs::from_vec(refs).expect(rt, "references"),
     }
 }
 

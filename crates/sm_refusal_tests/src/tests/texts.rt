@@ -2,7 +2,7 @@
 
 use super::outcome::{same_text, value};
 use sm_history::{Event, Outcome, Reply};
-use sm_kinds::{Context, ContextError, Name, ObjRef, Payload, PayloadError, Refs, RefsError};
+use sm_kinds::{Context, ContextError, Name, ObjRef, Payload, PayloadError, Refs};
 use sm_wire::{FeedError, Item, Kind, LineReader, ReadError, Request, Telling, reply_line};
 use std::alloc::Global;
 use std::collections::VecDeque;
@@ -25,21 +25,15 @@ fn name(rt: &impl Abort, alloc: Global) -> Option<()> {
 }
 
 fn payload(rt: &impl Abort, alloc: Global) -> Option<()> {
-    let payload = value(rt, Payload::new(alloc, b"data"), PayloadError::Memory)?;
-    same_text(rt, payload.bytes(), b"data");
-    Some(())
-}
-
-fn payload_of_bytes(rt: &impl Abort, alloc: Global) -> Option<()> {
     let bytes = Vec::from_slice(alloc, b"data").ok()?;
-    let payload = value(rt, Payload::from_vec(bytes), PayloadError::Memory)?;
+    let payload = value(rt, Payload::from_vec(alloc, bytes), PayloadError::Memory)?;
     same_text(rt, payload.bytes(), b"data");
     Some(())
 }
 
 fn refs(rt: &impl Abort, alloc: Global) -> Option<()> {
     let list = [ObjRef::Own(5), ObjRef::Handle(9)];
-    let refs = value(rt, Refs::new(alloc, &list), RefsError::Memory)?;
+    let refs = Refs::from_vec(Vec::from_slice(alloc, &list).ok()?)?;
     assert!(rt; refs.list() == list.as_slice());
     Some(())
 }
@@ -48,7 +42,6 @@ fn values(rt: &impl Abort, alloc: Global) -> Option<()> {
     context(rt, alloc)?;
     name(rt, alloc)?;
     payload(rt, alloc)?;
-    payload_of_bytes(rt, alloc)?;
     refs(rt, alloc)
 }
 
