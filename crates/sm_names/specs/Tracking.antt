@@ -11,13 +11,13 @@ use Rattle.sm_names.specs.Watching.{TracksList}
 pub record TracksNames (d : Effects) (t : NameTable) : Type 0 where
   pub services : TracksRows d t.services.rows.items
   pub watches : TracksList d t.watches.list.items
-  pub order : t.order.list.items ≡ watches_at d
+  pub order : t.order.items ≡ watches_at d
 
 -- n more names and watches need no allocation.
 pub record HasRoom (n : ℕ) (t : NameTable) : Type 0 where
   pub services : length t.services.rows.items + n ≤ vec_capacity t.services.rows
   pub watches : length t.watches.list.items + n ≤ vec_capacity t.watches.list
-  pub order : length t.order.list.items + n ≤ vec_capacity t.order.list
+  pub order : length t.order.items + n ≤ vec_capacity t.order
 
 -- This is the number of watches of the table.
 abbrev pub watch_count : NameTable → ℕ

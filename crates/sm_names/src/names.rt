@@ -14,16 +14,17 @@ ghost use Rattle.sm_names.specs.Tracking.{TracksNames, HasRoom, watch_count};
 
 use crate::services::Services;
 use crate::watch_list::WatchList;
-use crate::watch_order::WatchOrder;
-use sm_history::{MOST_NAMES, MOST_WATCHES, NameList, Service, Watch, WatchPair};
+use crate::watch_order::{append_watch, remove_watch, remove_watches};
+use sm_history::{MOST_NAMES, MOST_WATCHES, NameList, Service, Watch, WatchPair, watches_of};
 use sm_kinds::{Name, drop_fields};
 use std::alloc::{AllocError, Global};
 
-/// The table of services under their names, and of watches.
+/// The table of services under their names, and of watches: by name, and in `order` oldest first. A segment begins with
+/// them in this order, which the list by name doesn't have.
 pub struct NameTable {
     services: Services,
     watches: WatchList,
-    order: WatchOrder,
+    order: Vec<Watch>,
 }
 
 impl Drop for NameTable {
@@ -40,7 +41,7 @@ impl NameTable {
         NameTable {
             services: Services::new(alloc),
             watches: WatchList::new(alloc),
-            order: WatchOrder::new(alloc),
+            order: Vec::new(alloc),
         }
     }
 
@@ -115,7 +116,7 @@ impl NameTable {
     pub fn listed_watches(&self, alloc: Global) -> Result<Vec<Watch>, AllocError>
         ensures { IfOk result (λ v. (d : Effects) → TracksNames d self.now → v.items ≡ watches_at d) }
     {
-        self.order.listed(alloc)
+        watches_of(alloc, &self.order)
     }
 
     /// Returns the watches of a name, oldest first.
@@ -129,7 +130,9 @@ impl NameTable {
     pub fn is_ready(&self) -> bool
         ensures { IsTrue result ↔ HasRoom 1 self.now }
     {
-        self.services.is_ready() && self.watches.is_ready() && self.order.is_ready()
+        self.services.is_ready()
+            && self.watches.is_ready()
+            && self.order.len() < self.order.capacity()
     }
 
     /// Puts a service under a name, replacing any earlier one. Allocates nothing.
@@ -165,7 +168,7 @@ impl NameTable {
     {
         let (by_name, newest) = watch.apart();
         self.watches.add(by_name);
-        self.order.add(newest);
+        append_watch(&mut self.order, newest);
     }
 
     /// Removes every watch of a name by a client's object, and returns their number.
@@ -177,7 +180,7 @@ impl NameTable {
         ensures left { (n : ℕ) → HasRoom n self.old → HasRoom n self.new }
         ensures fewer { watch_count self.new ≤ watch_count self.old }
     {
-        self.order.remove(client, name, object);
+        remove_watch(&mut self.order, client, name, object);
         self.watches.remove(client, name, object)
     }
 
@@ -190,6 +193,6 @@ impl NameTable {
     {
         self.services.remove_client(client);
         self.watches.remove_client(client);
-        self.order.remove_client(client);
+        remove_watches(&mut self.order, client);
     }
 }

@@ -9,6 +9,6 @@ returns-clause-tracks c d tr = record {
   services = same_rows (Unwatches
       (make_watch c.args.client c.args.name.now c.args.object)) d c.args.self.now.services.rows.items
       (λ name. refl) tr.services;
-  watches = c.remove-2.ensures.tracks d tr.watches;
-  order = c.remove.ensures.tracks d tr.order;
+  watches = c.remove.ensures.tracks d tr.watches;
+  order = c.remove_watch.ensures.tracks d tr.order;
 }

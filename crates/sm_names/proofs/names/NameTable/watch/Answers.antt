@@ -7,5 +7,5 @@ pub returns-clause-tracks : goal.returns-clause-tracks
 returns-clause-tracks c d tr live = record {
   services = same_rows (Watches c.args.watch) d c.args.self.now.services.rows.items (λ name. refl) tr.services;
   watches = (rw c.apart-by_name.ensures.0 at c.add.ensures.tracks d tr.watches) live;
-  order = (rw c.apart-by_name.ensures.1 at c.add-2.ensures.tracks d tr.order) live;
+  order = (rw c.apart-by_name.ensures.1 at c.append_watch.ensures.tracks d tr.order) live;
 }

@@ -3,7 +3,7 @@ use Rattle.std.specs.Prelude.{not, ◌==◌, filter}
 use Rattle.std.proofs.lemmas.Fn.{filter_same}
 use Rattle.sm_history.specs.declared.effect.Watch.{Watch}
 use Rattle.sm_history.proofs.AfterWatches.{watches_dies}
-use Rattle.sm_names.proofs.watch_order.WatchOrder.remove_client.Goals as goal
+use Rattle.sm_names.proofs.watch_order.remove_watches.Goals as goal
 
 pub returns-clause-tracks : goal.returns-clause-tracks
 returns-clause-tracks c d tr =

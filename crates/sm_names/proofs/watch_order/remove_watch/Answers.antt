@@ -5,7 +5,7 @@ use Rattle.sm_history.specs.declared.effect.Watch.{Watch}
 use Rattle.sm_history.specs.Services.{same_watch}
 use Rattle.sm_history.specs.Histories.{watch as make_watch}
 use Rattle.sm_history.proofs.AfterWatches.{watches_unwatches}
-use Rattle.sm_names.proofs.watch_order.WatchOrder.remove.Goals as goal
+use Rattle.sm_names.proofs.watch_order.remove_watch.Goals as goal
 
 pub returns-clause-tracks : goal.returns-clause-tracks
 returns-clause-tracks c d tr =
