@@ -98,7 +98,7 @@ fn told_bytes(told: &Told) -> u64
     ensures { result ≡ spec.told_bytes told.now }
 {
     match told {
-        Told::Told(delivery) => delivery_bytes(delivery.delivery()),
+        Told::Told(delivery) => delivery_bytes(delivery.get()),
         Told::NotTold(reason) => reason_bytes(reason),
     }
 }
@@ -184,9 +184,9 @@ pub fn outcome_bytes(outcome: &Outcome) -> u64
     match outcome {
         Outcome::Connected(_) => TURNS,
         Outcome::Added(notices) => notices_bytes(notices),
-        Outcome::Watched(Some(notice)) => notice_bytes(notice.notice()),
-        Outcome::Sent(delivery) => delivery_bytes(delivery.delivery()),
-        Outcome::Taken(delivery) => delivery_bytes(delivery.delivery()),
+        Outcome::Watched(Some(notice)) => notice_bytes(notice.get()),
+        Outcome::Sent(delivery) => delivery_bytes(delivery.get()),
+        Outcome::Taken(delivery) => delivery_bytes(delivery.get()),
         _ => 0,
     }
 }

@@ -16,7 +16,7 @@ ghost use Rattle.sm_names.specs.Tracking.{TracksNames, HasRoom};
 ghost use Rattle.sm_core.specs.Stands.{gives_to};
 
 use sm_grants::Grants;
-use sm_history::{BoxedDelivery, Effect, MOST_WATCHES, WatchPair};
+use sm_history::{Delivery, Effect, MOST_WATCHES, Shared, WatchPair};
 use sm_inbox::Inboxes;
 use sm_kinds::Node;
 use sm_names::NameTable;
@@ -46,7 +46,7 @@ pub fn give_back(grants: &mut Grants, client: u32, node: Node)
 }
 
 /// Appends a delivery.
-pub fn deliver(inboxes: &mut Inboxes, client: u32, delivery: BoxedDelivery)
+pub fn deliver(inboxes: &mut Inboxes, client: u32, delivery: Shared<Delivery>)
     ensures tracks { (d : Effects) → TracksInboxes d inboxes.old → is_live d client ≡ true
         → has_inbox_room d client ≡ true
         → is_open inboxes.old client ≡ true → TracksInboxes (Delivers client delivery ∷ d) inboxes.new }

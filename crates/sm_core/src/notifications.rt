@@ -8,9 +8,7 @@ ghost use Rattle.sm_core.specs.Notifications.{gives_of, told_to, left_in, MayPre
 
 use crate::inbox_rooms::InboxRooms;
 use crate::notes::Notes;
-use sm_history::{
-    BoxedDelivery, BoxedNotice, Delivery, Effect, Given, Message, Notice, Notices, Watch,
-};
+use sm_history::{Delivery, Effect, Given, Message, Notice, Notices, Shared, Watch};
 use sm_kinds::Node;
 use std::alloc::{AllocError, Global};
 
@@ -24,7 +22,7 @@ pub struct Notifications {
 }
 
 /// Returns the delivery to a watcher, with the object as it reaches it.
-fn registration(alloc: Global, watch: &Watch, given: Given) -> Result<BoxedDelivery, AllocError>
+fn registration(alloc: Global, watch: &Watch, given: Given) -> Result<Shared<Delivery>, AllocError>
     ensures { IfOk result (λ x. x ≡ told_to watch.now given) }
 {
     let name = watch.name.clone()?;
@@ -32,17 +30,17 @@ fn registration(alloc: Global, watch: &Watch, given: Given) -> Result<BoxedDeliv
         object: watch.object,
         what: Message::Registered { name, given },
     };
-    BoxedDelivery::new(alloc, delivery)
+    Shared::new(alloc, delivery)
 }
 
 /// Shares a notice between two owners.
 pub fn shared_notice(
     alloc: Global,
     notice: Notice,
-) -> Result<(BoxedNotice, BoxedNotice), AllocError>
+) -> Result<(Shared<Notice>, Shared<Notice>), AllocError>
     ensures { IfOk result (λ both. (both.0 ≡ notice) × (both.1 ≡ notice)) }
 {
-    let first = BoxedNotice::new(alloc, notice)?;
+    let first = Shared::new(alloc, notice)?;
     let second = first.clone()?;
     Ok((first, second))
 }
@@ -92,7 +90,7 @@ impl Notifications {
         node: Node,
         given: Given,
         left: usize,
-    ) -> Result<BoxedDelivery, AllocError>
+    ) -> Result<Shared<Delivery>, AllocError>
         requires { 0 < left }
         ensures told { IfOk result (λ x. x ≡ told_to watch.now given) }
         ensures records { self.new.records ≡ self.old.records }

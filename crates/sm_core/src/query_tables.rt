@@ -21,7 +21,7 @@ use crate::manager::replying::{answer, is_memory};
 use crate::notes::Notes;
 use crate::principals::Principals;
 use crate::small_failed_check::{ShortAnswer, SmallFailedCheck};
-use sm_history::{Answer, BoxedNames, By, Entry, Failure, Query, Record, Reply};
+use sm_history::{Answer, By, Entry, Failure, NameList, Query, Record, Reply, Shared};
 use sm_kinds::{Class, Perms};
 use sm_names::Services;
 use std::alloc::{AllocError, Global};
@@ -162,10 +162,10 @@ impl<'a> QueryTables<'a> {
     }
 
     /// Returns the names whose dump flags share a bit with a mask, in rising byte order.
-    fn names(&self, mask: u32) -> Result<BoxedNames, AllocError>
+    fn names(&self, mask: u32) -> Result<Shared<NameList>, AllocError>
         ensures { IfOk result (λ names. names ≡ names_by_mask (effects_of self.now.history) mask) }
     {
         let names = self.services.by_mask(self.alloc, mask)?;
-        BoxedNames::new(self.alloc, names)
+        Shared::new(self.alloc, names)
     }
 }

@@ -37,12 +37,13 @@ mod results;
 mod rows;
 mod segment;
 mod service;
+mod shared;
 mod told;
 mod turn;
 
 pub use by::By;
 pub use chunk::Chunk;
-pub use delivery::{BoxedDelivery, Delivery, Given, GivenRefs, Message};
+pub use delivery::{Delivery, Given, GivenRefs, Message};
 pub use denial::Denial;
 pub use effect::{Effect, Watch, WatchPair};
 pub use entry::Entry;
@@ -52,8 +53,8 @@ pub use gate::{Gate, NoGate};
 pub use limits::{
     GREATEST, LAST_CLIENT, MOST_CLIENTS, MOST_DELIVERIES, MOST_HANDLES, MOST_NAMES, MOST_WATCHES,
 };
-pub use name_list::{BoxedNames, NameList};
-pub use notice::{BoxedNotice, Notice, Notices, Reason, Told};
+pub use name_list::NameList;
+pub use notice::{Notice, Notices, Reason, Told};
 pub use outcome::Outcome;
 pub use query::Query;
 pub use records::Record;
@@ -67,5 +68,6 @@ pub use results::{connected, died, installed, is_death, moves};
 pub use rows::Rows;
 pub use segment::Segment;
 pub use service::Service;
+pub use shared::Shared;
 pub use told::is_hidden;
 pub use turn::TurnRow;

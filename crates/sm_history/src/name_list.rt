@@ -84,39 +84,3 @@ impl NameList {
         &rest[..span.len]
     }
 }
-
-/// A boxed list of names, so that a reply stays small. Contracts see the list.
-pub struct BoxedNames {
-    names: Box<NameList>,
-}
-
-impl Model for BoxedNames {
-    ghost use Rattle.std.specs.Prelude.{List, ℕ};
-
-    ghost Value = { List (List ℕ) };
-
-    ghost view = { λ b. b.names.value };
-}
-
-impl Drop for BoxedNames {
-    fn drop(self) {
-        let BoxedNames { names: _ } = self;
-    }
-}
-
-impl BoxedNames {
-    /// Boxes a list.
-    pub fn new(alloc: Global, names: NameList) -> Result<BoxedNames, AllocError>
-        ensures { IfOk result (λ b. b ≡ names) }
-    {
-        let names = Box::new(alloc, names)?;
-        Ok(BoxedNames { names })
-    }
-
-    /// Returns the list.
-    pub fn names(&self) -> &NameList
-        ensures { result.now ≡ self.now }
-    {
-        &self.names
-    }
-}

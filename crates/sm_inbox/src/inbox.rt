@@ -4,13 +4,13 @@ ghost use Rattle.std.specs.Prelude.{◌≤◌};
 ghost use Rattle.std.specs.VecDeque.{deque_capacity};
 ghost use Rattle.sm_history.specs.declared.limits.TheConstants.{MOST_DELIVERIES};
 
-use sm_history::BoxedDelivery;
+use sm_history::{Delivery, Shared};
 use std::collections::VecDeque;
 
 /// A client's deliveries, oldest first.
 #[derive(Drop)]
 pub struct Inbox {
     pub client: u32,
-    pub waiting: VecDeque<BoxedDelivery>,
+    pub waiting: VecDeque<Shared<Delivery>>,
     ghost has_places: { MOST_DELIVERIES ≤ deque_capacity waiting },
 }

@@ -11,7 +11,7 @@ ghost use Rattle.sm_inbox.specs.Rows.{AreOnce};
 
 use crate::inbox::Inbox;
 use crate::places::inbox_index;
-use sm_history::{BoxedDelivery, MOST_DELIVERIES};
+use sm_history::{Delivery, MOST_DELIVERIES, Shared};
 use std::alloc::{AllocError, Global};
 use std::collections::VecDeque;
 
@@ -31,8 +31,8 @@ impl Drop for Inboxes {
 /// Copies deliveries, which are shared. Returns an error if an allocation fails.
 fn copies_of(
     alloc: Global,
-    waiting: &VecDeque<BoxedDelivery>,
-) -> Result<Vec<BoxedDelivery>, AllocError>
+    waiting: &VecDeque<Shared<Delivery>>,
+) -> Result<Vec<Shared<Delivery>>, AllocError>
     ensures { IfOk result (λ v. v.items ≡ waiting.now.items) }
 {
     let mut copies = Vec::with_capacity(alloc, waiting.len())?;
@@ -81,7 +81,7 @@ impl Inboxes {
     }
 
     /// Returns a client's deliveries, oldest first.
-    pub fn listed(&self, alloc: Global, client: u32) -> Result<Vec<BoxedDelivery>, AllocError>
+    pub fn listed(&self, alloc: Global, client: u32) -> Result<Vec<Shared<Delivery>>, AllocError>
         ensures { IfOk result (λ v. (d : Effects) → TracksInboxes d self.now → v.items ≡ inbox_at d client) }
     {
         match inbox_index(&self.rows, client) {
@@ -127,7 +127,7 @@ impl Inboxes {
     }
 
     /// Appends a delivery to a client's inbox. Allocates nothing.
-    pub fn put(&mut self, client: u32, delivery: BoxedDelivery)
+    pub fn put(&mut self, client: u32, delivery: Shared<Delivery>)
         requires { 0 < room_of self.old client }
         ensures tracks { (d : Effects) → TracksInboxes d self.old → is_live d client ≡ true
             → TracksInboxes (Delivers client delivery ∷ d) self.new }
@@ -143,7 +143,7 @@ impl Inboxes {
     }
 
     /// Returns a client's oldest delivery.
-    pub fn first(&self, client: u32) -> Option<&BoxedDelivery>
+    pub fn first(&self, client: u32) -> Option<&Shared<Delivery>>
         ensures { (d : Effects) → TracksInboxes d self.now → MatchOption result (inbox_at d client ≡ [])
             (λ x. inbox_at d client ≡ x.now ∷ drop 1 (inbox_at d client)) }
     {
@@ -152,7 +152,7 @@ impl Inboxes {
     }
 
     /// Takes a client's oldest delivery.
-    pub fn take(&mut self, client: u32) -> Option<BoxedDelivery>
+    pub fn take(&mut self, client: u32) -> Option<Shared<Delivery>>
         ensures taken { (d : Effects) → TracksInboxes d self.old → MatchOption result
             ((inbox_at d client ≡ []) × TracksInboxes d self.new)
             (λ x. (inbox_at d client ≡ x ∷ drop 1 (inbox_at d client)) × TracksInboxes (Takes client ∷ d) self.new) }

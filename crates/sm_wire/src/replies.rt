@@ -76,7 +76,7 @@ fn push_outcome(alloc: Global, out: &mut Vec<u8>, outcome: &Outcome) -> Result<(
         Outcome::Unregistered => out.extend_from_slice(b"ok"),
         Outcome::Sent(_) => out.extend_from_slice(b"ok"),
         Outcome::Released => out.extend_from_slice(b"ok"),
-        Outcome::Taken(delivery) => push_delivery(alloc, out, delivery.delivery()),
+        Outcome::Taken(delivery) => push_delivery(alloc, out, delivery.get()),
         Outcome::Died => out.extend_from_slice(b"bye"),
         Outcome::Reloaded(version) => push_numbered(out, b"reloaded ", *version),
     }
@@ -95,7 +95,7 @@ fn push_answer(
     match answer {
         Answer::Names(names) => {
             push_two(out, b"names ", version, count)?;
-            push_listing(alloc, out, names.names())
+            push_listing(alloc, out, names.get())
         }
         Answer::Version => push_two(out, b"version ", version, count),
         Answer::Why(line) => push_why(out, version, *line),

@@ -22,7 +22,7 @@ use crate::manager::Manager;
 use crate::notes::Notes;
 use crate::plan::Plan;
 use crate::small_failed_check::{ShortAnswer, SmallFailedCheck};
-use sm_history::{BoxedDelivery, Delivery, Effect, Failure, Given, GivenRefs, Message, Outcome};
+use sm_history::{Delivery, Effect, Failure, Given, GivenRefs, Message, Outcome, Shared};
 use sm_kinds::{Identity, Node, ObjRef, Payload, Perms, Refs};
 use std::alloc::{AllocError, Global};
 
@@ -96,7 +96,7 @@ fn delivery(
     object: u32,
     payload: &Payload,
     refs: Vec<Given>,
-) -> Result<BoxedDelivery, AllocError>
+) -> Result<Shared<Delivery>, AllocError>
     ensures { IfOk result
         (λ b. b ≡ record { object = object; what = Called who.now.pid who.now.uid payload.now refs.items }) }
 {
@@ -106,7 +106,7 @@ fn delivery(
         payload: payload.clone()?,
         refs: GivenRefs::new(refs),
     };
-    BoxedDelivery::new(alloc, Delivery { object, what })
+    Shared::new(alloc, Delivery { object, what })
 }
 
 impl Manager {

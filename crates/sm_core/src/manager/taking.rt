@@ -12,11 +12,11 @@ ghost use Rattle.sm_core.specs.Managed.{effects_in};
 use crate::manager::Manager;
 use crate::plan::Plan;
 use crate::small_failed_check::{ShortAnswer, SmallFailedCheck};
-use sm_history::{BoxedDelivery, Effect, Outcome};
+use sm_history::{Delivery, Effect, Outcome, Shared};
 
 impl Manager {
     /// Returns a client's oldest delivery.
-    fn oldest(&self, client: u32) -> Option<&BoxedDelivery>
+    fn oldest(&self, client: u32) -> Option<&Shared<Delivery>>
         ensures { MatchOption result (inbox_at (effects_in self.now) client ≡ [])
             (λ x. inbox_at (effects_in self.now) client
             ≡ x.now ∷ drop 1 (inbox_at (effects_in self.now) client)) }

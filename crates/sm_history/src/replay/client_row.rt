@@ -3,7 +3,8 @@
 ghost use Rattle.std.specs.Prelude.{◌≡◌, ◌==◌, None, position, MatchOption, OnOk};
 ghost use Rattle.sm_history.specs.Tables.{slot, IsPut, given_slot, released_slot, client_row_of, IsPlace};
 
-use crate::delivery::BoxedDelivery;
+use crate::delivery::Delivery;
+use crate::shared::Shared;
 use sm_kinds::{Identity, Node, drop_fields};
 use std::alloc::AllocError;
 
@@ -19,7 +20,7 @@ pub struct ClientRow {
     pub client: u32,
     pub who: Identity,
     pub held: Vec<Option<Held>>,
-    pub waiting: Vec<BoxedDelivery>,
+    pub waiting: Vec<Shared<Delivery>>,
 }
 
 impl Drop for ClientRow {

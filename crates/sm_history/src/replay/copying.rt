@@ -4,11 +4,12 @@ ghost use Rattle.std.specs.Prelude.{◌≡◌, IfOk};
 ghost use Rattle.sm_history.specs.Effects.{Effects};
 ghost use Rattle.sm_history.specs.Tables.{AreSameRows, TracksTables};
 
-use crate::delivery::BoxedDelivery;
+use crate::delivery::Delivery;
 use crate::effect::Watch;
 use crate::replay::client_row::{ClientRow, Held};
 use crate::replay::named_row::NamedRow;
 use crate::replay::tables::Tables;
+use crate::shared::Shared;
 use sm_kinds::Identity;
 use sm_policy::Prepared;
 use std::alloc::{AllocError, Global};
@@ -23,7 +24,10 @@ fn slots_of(alloc: Global, slots: &[Option<Held>]) -> Result<Vec<Option<Held>>, 
     Ok(copies)
 }
 
-fn deliveries_of(alloc: Global, waiting: &[BoxedDelivery]) -> Result<Vec<BoxedDelivery>, AllocError>
+fn deliveries_of(
+    alloc: Global,
+    waiting: &[Shared<Delivery>],
+) -> Result<Vec<Shared<Delivery>>, AllocError>
     ensures { IfOk result (λ v. v.items ≡ waiting.now) }
 {
     let mut copies = Vec::new(alloc);

@@ -20,7 +20,7 @@ ghost use Rattle.sm_history.specs.Entering.{AllFit, IsDone, given_of};
 
 use crate::delivery::{Delivery, Given, Message};
 use crate::event::Event;
-use crate::notice::{BoxedNotice, Notice, Told};
+use crate::notice::{Notice, Told};
 use crate::outcome::Outcome;
 use crate::replay::client_row::{client_index, held_under};
 use crate::replay::named_row::service_in;
@@ -112,7 +112,7 @@ impl Tables {
     {
         if let Told::Told(delivery) = &notice.result {
             let client = notice.client.0;
-            self.hand(client, node, given_in(delivery.delivery()))?;
+            self.hand(client, node, given_in(delivery.get()))?;
             self.deliver(client, delivery.clone()?)?;
         }
         Ok(())
@@ -276,7 +276,7 @@ impl Tables {
         let Some(notice) = told else {
             return Ok(());
         };
-        self.tell(service.node, notice.notice())?;
+        self.tell(service.node, notice.get())?;
         Ok(())
     }
 
@@ -295,7 +295,7 @@ impl Tables {
         let Outcome::Sent(sent) = outcome else {
             return Ok(());
         };
-        let Message::Called { refs: given, .. } = &sent.delivery().what else {
+        let Message::Called { refs: given, .. } = &sent.get().what else {
             return Ok(());
         };
         let to = found(self.node_under(client, handle)).owner.0;

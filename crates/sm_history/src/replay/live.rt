@@ -10,8 +10,9 @@ ghost use Rattle.sm_history.specs.Sound.{Sound};
 ghost use Rattle.sm_history.specs.Following.{MayFollow, MayGive};
 ghost use Rattle.sm_history.specs.Tables.{TracksClients};
 
-use crate::delivery::BoxedDelivery;
+use crate::delivery::Delivery;
 use crate::replay::client_row::{ClientRow, client_index, give, release};
+use crate::shared::Shared;
 use sm_kinds::{Identity, Node};
 use std::alloc::{AllocError, Global};
 
@@ -76,7 +77,7 @@ pub fn release_of(live: &mut Vec<ClientRow>, client: u32, number: u32) -> Result
 pub fn deliver_to(
     live: &mut Vec<ClientRow>,
     client: u32,
-    delivery: BoxedDelivery,
+    delivery: Shared<Delivery>,
 ) -> Result<(), AllocError>
     ensures { OnOk result ((d : Effects) → Sound d → TracksClients d live.old.items
         → is_live d client ≡ true → TracksClients (Delivers client delivery ∷ d) live.new.items) }
@@ -100,7 +101,7 @@ pub fn take_from(live: &mut Vec<ClientRow>, client: u32)
 }
 
 /// Removes the oldest delivery, if there is one.
-fn take_first(waiting: &mut Vec<BoxedDelivery>)
+fn take_first(waiting: &mut Vec<Shared<Delivery>>)
     ensures { waiting.new.items ≡ drop 1 waiting.old.items }
 {
     if waiting.len() > 0 {

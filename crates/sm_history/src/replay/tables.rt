@@ -15,12 +15,13 @@ ghost use Rattle.sm_history.specs.Sound.{Sound};
 ghost use Rattle.sm_history.specs.Following.{MayFollow, MayGive};
 ghost use Rattle.sm_history.specs.Tables.{TracksTables};
 
-use crate::delivery::BoxedDelivery;
+use crate::delivery::Delivery;
 use crate::effect::Watch;
 use crate::replay::client_row::ClientRow;
 use crate::replay::live::{connect, deliver_to, give_to, release_of, remove_client, take_from};
 use crate::replay::named_row::{NamedRow, put_name, remove_name, remove_names};
 use crate::service::Service;
+use crate::shared::Shared;
 use sm_kinds::{Identity, Name, Node, drop_fields};
 use sm_policy::Prepared;
 use std::alloc::{AllocError, Global};
@@ -157,7 +158,11 @@ impl Tables {
     }
 
     /// Appends a delivery to a client's inbox. Returns an error if an allocation fails.
-    pub(crate) fn deliver(&mut self, client: u32, delivery: BoxedDelivery) -> Result<(), AllocError>
+    pub(crate) fn deliver(
+        &mut self,
+        client: u32,
+        delivery: Shared<Delivery>,
+    ) -> Result<(), AllocError>
         ensures { OnOk result ((d : Effects) → Sound d → TracksTables d self.old
             → is_live d client ≡ true → TracksTables (Delivers client delivery ∷ d) self.new) }
     {

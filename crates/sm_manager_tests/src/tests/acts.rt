@@ -93,7 +93,7 @@ fn done(outcome: &Outcome) -> Seen {
             [notice, ..] => heard(notice),
         },
         Outcome::Watched(None) => Seen::Unheard,
-        Outcome::Watched(Some(boxed)) => heard(boxed.notice()),
+        Outcome::Watched(Some(shared)) => heard(shared.get()),
         Outcome::Reloaded(version) => Seen::Reloaded(*version),
         _ => Seen::Done,
     }
@@ -111,7 +111,7 @@ fn refused(refusal: &Refusal) -> Seen {
 
 fn looked(version: u64, length: u64, answer: &Answer) -> Seen {
     match answer {
-        Answer::Names(names) => Seen::Names(version, length, names.names().len()),
+        Answer::Names(names) => Seen::Names(version, length, names.get().len()),
         Answer::Version => Seen::Version(version, length),
         Answer::Why(_) => Seen::Another,
     }

@@ -1,13 +1,13 @@
 //! The table of inboxes.
 
-use sm_history::{BoxedDelivery, Delivery, Given, Message};
+use sm_history::{Delivery, Given, Message, Shared};
 use sm_inbox::Inboxes;
 use sm_kinds::Name;
 use std::alloc::Global;
 use std::process::Abort;
 use std::test::*;
 
-fn delivery(rt: &impl Abort, alloc: Global, object: u32) -> BoxedDelivery {
+fn delivery(rt: &impl Abort, alloc: Global, object: u32) -> Shared<Delivery> {
     let name = Name::new(alloc, b"power").ok().expect(rt, "a name");
     let delivery = Delivery {
         object,
@@ -16,7 +16,7 @@ fn delivery(rt: &impl Abort, alloc: Global, object: u32) -> BoxedDelivery {
             given: Given::Null,
         },
     };
-    let boxed = BoxedDelivery::new(alloc, delivery);
+    let boxed = Shared::new(alloc, delivery);
     boxed.ok().expect(rt, "memory")
 }
 
@@ -39,14 +39,14 @@ fn deliver(
 
 fn oldest(inboxes: &Inboxes, client: u32) -> u32 {
     match inboxes.first(client) {
-        Some(delivery) => delivery.delivery().object,
+        Some(delivery) => delivery.get().object,
         None => 0,
     }
 }
 
 fn taken(inboxes: &mut Inboxes, client: u32) -> u32 {
     match inboxes.take(client) {
-        Some(delivery) => delivery.delivery().object,
+        Some(delivery) => delivery.get().object,
         None => 0,
     }
 }

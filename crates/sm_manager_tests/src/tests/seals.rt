@@ -5,8 +5,8 @@ use super::acts::{
 };
 use sm_core::Manager;
 use sm_history::{
-    BoxedDelivery, By, ClientRow, Given, Held, Message, NamedRow, Refusal, Rows, Segment, TurnRow,
-    Watch,
+    By, ClientRow, Delivery, Given, Held, Message, NamedRow, Refusal, Rows, Segment, Shared,
+    TurnRow, Watch,
 };
 use sm_kinds::Identity;
 use std::alloc::Global;
@@ -61,12 +61,12 @@ fn is_notice(message: &Message, bytes: &[u8], wanted: Given) -> bool {
     }
 }
 
-fn same_delivery(one: &BoxedDelivery, other: &BoxedDelivery) -> bool {
-    let (a, b) = (one.delivery(), other.delivery());
+fn same_delivery(one: &Shared<Delivery>, other: &Shared<Delivery>) -> bool {
+    let (a, b) = (one.get(), other.get());
     a.object == b.object && same_message(&a.what, &b.what)
 }
 
-fn same_waiting(one: &[BoxedDelivery], other: &[BoxedDelivery]) -> bool {
+fn same_waiting(one: &[Shared<Delivery>], other: &[Shared<Delivery>]) -> bool {
     one.len() == other.len() && one.iter().zip(other).all(|(a, b)| same_delivery(a, b))
 }
 

@@ -66,7 +66,7 @@ pub fn lists_activity(rt: &impl Abort, reply: Reply, wanted: u64) -> Option<()> 
             answer: Answer::Names(names),
         } => {
             same(rt, *length, wanted);
-            assert!(rt; names.names().len() == 1);
+            assert!(rt; names.get().len() == 1);
             Some(())
         }
         _ => {

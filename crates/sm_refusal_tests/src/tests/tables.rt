@@ -4,7 +4,7 @@ use super::outcome::same_text;
 use sm_audit::{Ring, line, push_line, push_lines};
 use sm_grants::Grants;
 use sm_history::{
-    BoxedDelivery, Delivery, Denial, Given, MOST_WATCHES, Message, Record, Service, WatchPair,
+    Delivery, Denial, Given, MOST_WATCHES, Message, Record, Service, Shared, WatchPair,
 };
 use sm_inbox::Inboxes;
 use sm_kinds::{ClientId, Context, Identity, Name, Node};
@@ -171,7 +171,7 @@ fn names_are_found_with_hints_and_without(rt: HostRuntime) {
     assert!(rt; seven(&rt, rt.alloc()).is_some() || seven(&rt, rt.alloc()).is_some());
 }
 
-fn delivery(alloc: Global) -> Option<BoxedDelivery> {
+fn delivery(alloc: Global) -> Option<Shared<Delivery>> {
     let name = Name::new(alloc, b"power").ok()?;
     let delivery = Delivery {
         object: 3,
@@ -180,7 +180,7 @@ fn delivery(alloc: Global) -> Option<BoxedDelivery> {
             given: Given::Null,
         },
     };
-    BoxedDelivery::new(alloc, delivery).ok()
+    Shared::new(alloc, delivery).ok()
 }
 
 /// Makes room for a delivery. A refusal leaves the inbox as it was.
@@ -205,7 +205,7 @@ fn delivers(rt: &impl Abort, alloc: Global, inboxes: &mut Inboxes) -> Option<()>
 fn waits(rt: &impl Abort, alloc: Global, inboxes: &Inboxes) -> Option<()> {
     let waiting = inboxes.listed(alloc, 7).ok()?;
     assert!(rt; waiting.len() == 1);
-    assert!(rt; waiting[0].delivery().object == 3);
+    assert!(rt; waiting[0].get().object == 3);
     Some(())
 }
 

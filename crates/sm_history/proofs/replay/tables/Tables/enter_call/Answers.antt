@@ -13,5 +13,5 @@ returns c d s tr done =
     c.in-Called.pid c.in-Called.uid c.in-Called.payload c.in-Called.given c.args.outcome.now c.args.self.now
     c.hand_all.new.self c.deliver.new.self s tr done c.in-Sent.is
     (c.found-to.ensures ∙ ap (λ (o : Option Node). found o) (c.node_under.ensures d tr done.acts))
-    (sym (ap (λ (v : Delivery). v.what) c.delivery.ensures) ∙ c.in-Called.is) c.in_ok-clone.ensures.cases hand
+    (sym (ap (λ (v : Delivery). v.what) c.get.ensures) ∙ c.in-Called.is) c.in_ok-clone.ensures.cases hand
     c.in_ok-deliver.ensures

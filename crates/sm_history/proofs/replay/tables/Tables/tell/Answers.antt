@@ -7,5 +7,5 @@ pub returns-in_ok-deliver : goal.returns-in_ok-deliver
 returns-in_ok-deliver c d w s tr live is fits =
     tell_step d w c.args.node c.args.notice.now c.in-Told.delivery c.in_ok-clone.field-0 c.given_in.result
     c.args.self.now c.hand.new.self c.deliver.new.self s tr live is fits c.in-Told.is
-    (c.given_in.ensures ∙ ap given_of c.delivery.ensures) c.in_ok-clone.ensures.cases c.in_ok-hand.ensures
+    (c.given_in.ensures ∙ ap given_of c.get.ensures) c.in_ok-clone.ensures.cases c.in_ok-hand.ensures
     c.in_ok-deliver.ensures
