@@ -22,8 +22,8 @@ use Rattle.sm_audit.proofs.ring.Ring.TheSendSync as Ring
 use Rattle.sm_core.specs.contracts.client.LiveClient as LiveClient
 use Rattle.sm_core.proofs.process.Process.TheSendSync as Process
 use Rattle.sm_core.proofs.turns.Turns.TheSendSync as Turns
-use Rattle.sm_history.specs.contracts.chunk.Chunk as Chunk
-use Rattle.sm_history.specs.contracts.chunk.Chunk.TheInside as ChunkInside
+use Rattle.sm_history.specs.contracts.sequence.Sequence as Sequence
+use Rattle.sm_history.proofs.sequence.Sequence.TheSendSync as SequenceCrosses
 use Rattle.sm_core.specs.contracts.journal.Journal as Journal
 use Rattle.sm_core.specs.contracts.journal.Journal.TheInside as JournalInside
 use Rattle.std.specs.contracts.option.Option as Option
@@ -90,11 +90,8 @@ entry_send =
     recorded_send _ _ _ Entry.the_type.to_one
     (struct_send (struct.shape Entry.the_type) (by_send, (u64_send, (event_send, (Outcome.the_field_send, tt)))))
 
-chunk_send : IsSend Chunk.the_row
-chunk_send =
-    cross.view_send ChunkInside.the_row _ _ _ _
-    (recorded_send _ _ _ ChunkInside.the_type.to_one
-    (struct_send (struct.shape ChunkInside.the_type) (Vec-send Entry.the_row entry_send, tt)))
+chunk_send : IsSend (Sequence.the_row Entry.the_row)
+chunk_send = SequenceCrosses.the_send Entry.the_row entry_send
 
 rowed_send : IsSend Rowed.the_row
 rowed_send = recorded_send _ _ _ Rowed.the_type.to_one RowedCrosses.the_field_send
@@ -154,7 +151,7 @@ journal_send =
       global_send,
       (
         u64_send,
-        (rows_send, (Vec-send Chunk.the_row chunk_send, (Vec-send Entry.the_row entry_send, (usize_send, tt)))),
+        (rows_send, (Vec-send _ chunk_send, (Vec-send Entry.the_row entry_send, (usize_send, tt)))),
       ),
     )))
 

@@ -159,7 +159,7 @@ impl<'a> Access<'a> {
             (notes.new ≡ notes.old
             ++ rule_record self.now class perm who.now target.now (option_map (λ n. n.now) name.entry) ∷ []) }
     {
-        notes.note(Record {
+        notes.push(Record {
             length: self.length,
             version: self.version,
             denial: denial(self.alloc, class, perm, who, target)?,
@@ -185,7 +185,7 @@ impl<'a> Access<'a> {
             × (notes.new ≡ clause_noted self.now notes.old denial who.now name.now)) }
     {
         let noted = denial.clone()?;
-        notes.note(Record {
+        notes.push(Record {
             length: self.length,
             version: self.version,
             denial: noted,

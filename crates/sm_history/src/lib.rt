@@ -14,7 +14,6 @@
 #![tactic(auto)]
 
 mod by;
-mod chunk;
 mod delivery;
 mod denial;
 mod effect;
@@ -36,13 +35,13 @@ mod reply;
 mod results;
 mod rows;
 mod segment;
+mod sequence;
 mod service;
 mod shared;
 mod told;
 mod turn;
 
 pub use by::By;
-pub use chunk::Chunk;
 pub use delivery::{Delivery, Given, GivenRefs, Message};
 pub use denial::Denial;
 pub use effect::{Effect, Watch, WatchPair};
@@ -66,7 +65,8 @@ pub use replay::tables::Tables;
 pub use reply::{Answer, Reply};
 pub use results::{connected, died, installed, is_death, moves};
 pub use rows::Rows;
-pub use segment::Segment;
+pub use segment::{Chunk, Segment};
+pub use sequence::Sequence;
 pub use service::Service;
 pub use shared::Shared;
 pub use told::is_hidden;

@@ -3,6 +3,9 @@
 use sm_kinds::drop_fields;
 use std::marker::Model;
 
+/// Journal entries in one block of memory, oldest first.
+pub type Chunk = Sequence<Entry>;
+
 /// A segment of a journal: its number from 1, the rows that it begins with, and its changes, oldest first, in the
 /// journal's own chunks, so that closing a segment copies nothing. Contracts see the history, which a manager produced.
 pub struct Segment {
@@ -38,10 +41,10 @@ ghost use Rattle.sm_history.specs.Lawful.{IsLawful};
 ghost use Rattle.sm_history.specs.Segments.{rows_of};
 ghost use Rattle.sm_history.specs.Replaying.{ComesAbout, HasCome, joined, segment};
 
-use crate::chunk::Chunk;
 use crate::entry::Entry;
 use crate::replay::Replay;
 use crate::rows::Rows;
+use crate::sequence::Sequence;
 use std::alloc::AllocError;
 
 /// Applies entries in order. Returns an error if an allocation fails.
@@ -65,7 +68,7 @@ fn enter_chunks(replay: &mut Replay, chunks: &[Chunk]) -> Result<(), AllocError>
         → HasCome places number o (reverse (joined chunks.now)) replay.new) }
 {
     for chunk in chunks {
-        enter_all(replay, chunk.entries())?;
+        enter_all(replay, chunk.list())?;
     }
     Ok(())
 }
@@ -76,7 +79,7 @@ fn count_chunks(chunks: &[Chunk]) -> u64
 {
     let mut n = 0;
     for chunk in chunks {
-        n += chunk.entries().len() as u64;
+        n += chunk.list().len() as u64;
     }
     n
 }

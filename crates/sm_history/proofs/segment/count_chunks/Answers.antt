@@ -8,7 +8,7 @@ overflow_add-n c =
     let le = counted_below c.args.chunks.now c.chunk-item.result c.loop-chunk.chunk-index c.loop-chunk-test.true
     c.chunk-item.is in
     let n = c.loop-chunk.invariant in
-    let same = ap (length {A = Entry}) c.entries.ensures in
+    let same = ap (length {A = Entry}) c.list.ensures in
     let few = c.requires in
     omega (arith, le, n, same, few)
 
@@ -17,5 +17,5 @@ loop-chunk-preserved c =
     let more = counted_more c.args.chunks.now c.chunk-item.result c.loop-chunk.chunk-index c.loop-chunk-test.true
     c.chunk-item.is in
     let n = c.loop-chunk.invariant in
-    let same = ap (length {A = Entry}) c.entries.ensures in
+    let same = ap (length {A = Entry}) c.list.ensures in
     omega (arith, more, n, same)
