@@ -13,7 +13,7 @@ ghost use Rattle.sm_core.specs.Tables.{process_under};
 use crate::notes::Notes;
 use crate::principals::Principals;
 use crate::process::Process;
-use crate::small_failed_check::SmallFailedCheck;
+use crate::small_failed_check::{Checked, SmallFailedCheck};
 use sm_history::{Denial, FailedCheck, Record, Refusal};
 use sm_kinds::{Class, Context, Identity, Name, Perms};
 use sm_policy::{Decision, Prepared};
@@ -211,7 +211,7 @@ impl<'a> Access<'a> {
         class: Class,
         perm: Perms,
         notes: &mut Notes,
-    ) -> Result<(), SmallFailedCheck>
+    ) -> Checked<()>
         requires source { source.now ≡ process_under self.now.policy source.now.who }
         requires target { target.now ≡ process_under self.now.policy target.now.who }
         ensures { IsRuled self.now notes.old notes.new class perm source.now.who
@@ -234,7 +234,7 @@ impl<'a> Access<'a> {
         class: Class,
         perm: Perms,
         notes: &mut Notes,
-    ) -> Result<(), SmallFailedCheck>
+    ) -> Checked<()>
         requires source { source.now ≡ process_under self.now.policy source.now.who }
         requires target { index ≡ type_index self.now.policy (type_of target.now) }
         ensures { IsRuled self.now notes.old notes.new class perm source.now.who target.now
@@ -261,7 +261,7 @@ impl<'a> Access<'a> {
         class: Class,
         perm: Perms,
         notes: &mut Notes,
-    ) -> Result<(), SmallFailedCheck>
+    ) -> Checked<()>
         requires { made ≡ decision self.now.policy (type_of who.now.context) (type_of target.now) class perm }
         ensures { IsRuled self.now notes.old notes.new class perm who.now target.now
             (option_map (λ n. n.now) name.entry) result }

@@ -20,7 +20,7 @@ use crate::journal::Journal;
 use crate::manager::replying::{answer, is_memory};
 use crate::notes::Notes;
 use crate::principals::Principals;
-use crate::small_failed_check::{ShortAnswer, SmallFailedCheck};
+use crate::small_failed_check::{Checked, ShortAnswer, SmallFailedCheck};
 use sm_history::{Answer, By, Entry, Failure, NameList, Query, Record, Reply, Shared};
 use sm_kinds::{Class, Perms};
 use sm_names::Services;
@@ -100,12 +100,7 @@ impl<'a> QueryTables<'a> {
     }
 
     /// Returns why a query is refused, or its result.
-    fn judge_query(
-        &self,
-        by: By,
-        query: &Query,
-        notes: &mut Notes,
-    ) -> Result<Answer, SmallFailedCheck>
+    fn judge_query(&self, by: By, query: &Query, notes: &mut Notes) -> Checked<Answer>
         ensures judged { MatchResult result
             (λ found. AllPass (moment_of self.now.history) notes.old notes.new
             (checks_of_query self.now.history by query.now)
@@ -139,12 +134,7 @@ impl<'a> QueryTables<'a> {
     }
 
     /// Judges a list (`listServices`): `list` is checked against the manager's own context.
-    fn list(
-        &self,
-        row: &LiveClient,
-        mask: u32,
-        notes: &mut Notes,
-    ) -> Result<Answer, SmallFailedCheck>
+    fn list(&self, row: &LiveClient, mask: u32, notes: &mut Notes) -> Checked<Answer>
         requires { row.now ≡ client_row (effects_of self.now.history) row.now.id }
         ensures { MatchResult result
             (λ found. AllPass (moment_of self.now.history) notes.old notes.new

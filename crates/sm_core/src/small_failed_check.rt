@@ -54,6 +54,9 @@ pub struct SmallFailedCheck {
     held: Storage,
 }
 
+/// What a check or a judgement returns: its value, or why the request makes no change.
+pub type Checked<T> = Result<T, SmallFailedCheck>;
+
 impl Model for SmallFailedCheck {
     ghost use Rattle.sm_history.specs.declared.failed_check.FailedCheck.{FailedCheck};
     ghost use Rattle.sm_core.specs.SmallFailedChecks.{stored_check};

@@ -11,7 +11,7 @@ use crate::access::Access;
 use crate::manager::Manager;
 use crate::notes::Notes;
 use crate::process::Process;
-use crate::small_failed_check::SmallFailedCheck;
+use crate::small_failed_check::Checked;
 use sm_kinds::{Class, Name, Perms};
 use sm_policy::Label;
 
@@ -26,12 +26,7 @@ impl Manager {
 
     /// Checks a permission of Binder from a process to the manager.
     #[inline(always)]
-    pub fn check_to_manager(
-        &self,
-        who: &Process,
-        perm: Perms,
-        notes: &mut Notes,
-    ) -> Result<(), SmallFailedCheck>
+    pub fn check_to_manager(&self, who: &Process, perm: Perms, notes: &mut Notes) -> Checked<()>
         requires { who.now ≡ process_at (effects_in self.now) who.now.who }
         ensures { IsRuled (moment_in self.now) notes.old notes.new Binder perm who.now.who
             (manager_at (effects_in self.now)).context None result }
@@ -41,12 +36,7 @@ impl Manager {
 
     /// Checks a permission of Binder from the manager to a process.
     #[inline(always)]
-    pub fn check_from_manager(
-        &self,
-        who: &Process,
-        perm: Perms,
-        notes: &mut Notes,
-    ) -> Result<(), SmallFailedCheck>
+    pub fn check_from_manager(&self, who: &Process, perm: Perms, notes: &mut Notes) -> Checked<()>
         requires { who.now ≡ process_at (effects_in self.now) who.now.who }
         ensures { IsRuled (moment_in self.now) notes.old notes.new Binder perm
             (manager_at (effects_in self.now)) who.now.who.context None result }
@@ -62,7 +52,7 @@ impl Manager {
         other: &Process,
         perm: Perms,
         notes: &mut Notes,
-    ) -> Result<(), SmallFailedCheck>
+    ) -> Checked<()>
         requires who { who.now ≡ process_at (effects_in self.now) who.now.who }
         requires other { other.now ≡ process_at (effects_in self.now) other.now.who }
         ensures { IsRuled (moment_in self.now) notes.old notes.new Binder perm who.now.who
@@ -87,7 +77,7 @@ impl Manager {
         name: &Name,
         perm: Perms,
         notes: &mut Notes,
-    ) -> Result<(), SmallFailedCheck>
+    ) -> Checked<()>
         requires { who.now ≡ process_at (effects_in self.now) who.now.who }
         ensures { IsRuled (moment_in self.now) notes.old notes.new ServiceManager perm who.now.who
             (label_at (effects_in self.now) name.now) (Some name.now) result }
@@ -105,7 +95,7 @@ impl Manager {
         label: Label<'_>,
         perm: Perms,
         notes: &mut Notes,
-    ) -> Result<(), SmallFailedCheck>
+    ) -> Checked<()>
         requires who { who.now ≡ process_at (effects_in self.now) who.now.who }
         requires label { IsLabel (effects_in self.now) name.now label }
         ensures { IsRuled (moment_in self.now) notes.old notes.new ServiceManager perm who.now.who

@@ -21,7 +21,7 @@ use crate::effect_list::EffectList;
 use crate::manager::Manager;
 use crate::notes::Notes;
 use crate::plan::Plan;
-use crate::small_failed_check::{ShortAnswer, SmallFailedCheck};
+use crate::small_failed_check::{Checked, ShortAnswer, SmallFailedCheck};
 use sm_history::{Delivery, Effect, Failure, Given, GivenRefs, Message, Outcome, Shared};
 use sm_kinds::{Identity, Node, ObjRef, Payload, Perms, Refs};
 use std::alloc::{AllocError, Global};
@@ -119,7 +119,7 @@ impl Manager {
         payload: &Payload,
         refs: &Refs,
         notes: &mut Notes,
-    ) -> Result<Plan, SmallFailedCheck>
+    ) -> Checked<Plan>
         requires live { is_live (effects_in self.now) row.now.id ≡ true }
         requires row { row.now ≡ client_row (effects_in self.now) row.now.id }
         ensures { Judged self.now.book.history notes.old notes.new row.now.id
@@ -135,12 +135,7 @@ impl Manager {
     }
 
     /// Returns the called object, if its owner lives and the caller may call the owner.
-    fn judge_target(
-        &self,
-        row: &LiveClient,
-        handle: u32,
-        notes: &mut Notes,
-    ) -> Result<Node, SmallFailedCheck>
+    fn judge_target(&self, row: &LiveClient, handle: u32, notes: &mut Notes) -> Checked<Node>
         requires { row.now ≡ client_row (effects_in self.now) row.now.id }
         ensures { MatchResult result
             (λ n. AllPass (moment_in self.now) notes.old notes.new
@@ -167,7 +162,7 @@ impl Manager {
         receiver: u32,
         refs: &[ObjRef],
         notes: &mut Notes,
-    ) -> Result<Vec<Option<Node>>, SmallFailedCheck>
+    ) -> Checked<Vec<Option<Node>>>
         requires row { row.now ≡ client_row (effects_in self.now) row.now.id }
         requires live { is_live (effects_in self.now) receiver ≡ true }
         ensures { MatchResult result
@@ -192,7 +187,7 @@ impl Manager {
         receiver: u32,
         obj: ObjRef,
         notes: &mut Notes,
-    ) -> Result<Option<Node>, SmallFailedCheck>
+    ) -> Checked<Option<Node>>
         requires row { row.now ≡ client_row (effects_in self.now) row.now.id }
         requires live { is_live (effects_in self.now) receiver ≡ true }
         ensures { MatchResult result
@@ -215,7 +210,7 @@ impl Manager {
         receiver: u32,
         node: Option<Node>,
         notes: &mut Notes,
-    ) -> Result<Option<Node>, SmallFailedCheck>
+    ) -> Checked<Option<Node>>
         requires row { row.now ≡ client_row (effects_in self.now) row.now.id }
         requires live { is_live (effects_in self.now) receiver ≡ true }
         ensures { MatchResult result
@@ -261,7 +256,7 @@ impl Manager {
         payload: &Payload,
         named: &[Option<Node>],
         nodes: &[Node],
-    ) -> Result<Plan, SmallFailedCheck>
+    ) -> Checked<Plan>
         requires row { row.now ≡ client_row (effects_in self.now) row.now.id }
         requires live { is_live (effects_in self.now) target.owner.0 ≡ true }
         requires few { length nodes.now ≤ MOST_REFS }

@@ -22,7 +22,7 @@ use crate::manager::replying::reason;
 use crate::notes::Notes;
 use crate::notifications::{Notifications, shared_notice, shared_notices};
 use crate::plan::Plan;
-use crate::small_failed_check::{ShortAnswer, SmallFailedCheck};
+use crate::small_failed_check::{Checked, ShortAnswer, SmallFailedCheck};
 use sm_history::{Effect, Failure, Given, Notice, Outcome, Told, Watch};
 use sm_kinds::{ClientId, Name, Node, Perms};
 use sm_policy::Label;
@@ -77,7 +77,7 @@ impl Manager {
         label: Label<'_>,
         left: usize,
         notes: &mut Notes,
-    ) -> Result<Given, SmallFailedCheck>
+    ) -> Checked<Given>
         requires live { is_live (effects_in self.now) watch.now.client ≡ true }
         requires label { IsLabel (effects_in self.now) watch.now.name label }
         ensures { MatchResult result
@@ -105,7 +105,7 @@ impl Manager {
         node: Node,
         label: Label<'_>,
         notifications: &mut Notifications,
-    ) -> Result<Told, SmallFailedCheck>
+    ) -> Checked<Told>
         requires live { is_live (effects_in self.now) watch.now.client ≡ true }
         requires label { IsLabel (effects_in self.now) watch.now.name label }
         requires notifications { AreNotifications (effects_in self.now) node notifications.old }
@@ -133,7 +133,7 @@ impl Manager {
         node: Node,
         label: Label<'_>,
         notifications: &mut Notifications,
-    ) -> Result<Notice, SmallFailedCheck>
+    ) -> Checked<Notice>
         requires live { is_live (effects_in self.now) watch.now.client ≡ true }
         requires label { IsLabel (effects_in self.now) watch.now.name label }
         requires notifications { AreNotifications (effects_in self.now) node notifications.old }
@@ -158,7 +158,7 @@ impl Manager {
         node: Node,
         label: Label<'_>,
         notifications: &mut Notifications,
-    ) -> Result<Vec<Notice>, SmallFailedCheck>
+    ) -> Checked<Vec<Notice>>
         requires live { list_all (λ w. is_live (effects_in self.now) w.client) watches.now ≡ true }
         requires label { All (λ w. IsLabel (effects_in self.now) w.name label) watches.now }
         requires notifications { AreNotifications (effects_in self.now) node notifications.old }
@@ -184,12 +184,7 @@ impl Manager {
     }
 
     /// Returns the plan of an accepted Watch after these effects, if the name has an object.
-    pub fn plan_watched(
-        &self,
-        watch: &Watch,
-        node: Node,
-        effects: Vec<Effect>,
-    ) -> Result<Plan, SmallFailedCheck>
+    pub fn plan_watched(&self, watch: &Watch, node: Node, effects: Vec<Effect>) -> Checked<Plan>
         requires live { is_live (effects_in self.now) watch.now.client ≡ true }
         requires before { MayPrecede (effects_in self.now) node effects.items }
         ensures { MatchResult result
@@ -221,7 +216,7 @@ impl Manager {
         node: Node,
         label: Label<'_>,
         effects: Vec<Effect>,
-    ) -> Result<Plan, SmallFailedCheck>
+    ) -> Checked<Plan>
         requires label { IsLabel (effects_in self.now) name.now label }
         requires before { MayPrecede (effects_in self.now) node effects.items }
         ensures { MatchResult result

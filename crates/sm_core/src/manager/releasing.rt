@@ -10,13 +10,13 @@ ghost use Rattle.sm_core.specs.Managed.{effects_in};
 
 use crate::manager::Manager;
 use crate::plan::Plan;
-use crate::small_failed_check::{ShortAnswer, SmallFailedCheck};
+use crate::small_failed_check::{Checked, ShortAnswer, SmallFailedCheck};
 use sm_history::{Effect, Failure, Outcome};
 use sm_kinds::ObjRef;
 
 impl Manager {
     /// Judges a release of one grant of a handle. The last release frees the number.
-    pub fn judge_release(&self, client: u32, handle: u32) -> Result<Plan, SmallFailedCheck>
+    pub fn judge_release(&self, client: u32, handle: u32) -> Checked<Plan>
         requires { is_live (effects_in self.now) client ≡ true }
         ensures { (old : List Record) → Judged self.now.book.history old old client (Release handle) result }
     {

@@ -11,7 +11,7 @@ ghost use Rattle.sm_core.specs.Managed.{effects_in};
 
 use crate::manager::Manager;
 use crate::plan::Plan;
-use crate::small_failed_check::{ShortAnswer, SmallFailedCheck};
+use crate::small_failed_check::{Checked, ShortAnswer, SmallFailedCheck};
 use sm_history::{Delivery, Effect, Outcome, Shared};
 
 impl Manager {
@@ -25,7 +25,7 @@ impl Manager {
     }
 
     /// Judges a take of the oldest delivery from a client's inbox.
-    pub fn judge_take(&self, client: u32) -> Result<Plan, SmallFailedCheck>
+    pub fn judge_take(&self, client: u32) -> Checked<Plan>
         requires { is_live (effects_in self.now) client ≡ true }
         ensures { (old : List Record) → Judged self.now.book.history old old client Take result }
     {

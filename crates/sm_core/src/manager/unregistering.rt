@@ -15,7 +15,7 @@ use crate::client::LiveClient;
 use crate::manager::Manager;
 use crate::notes::Notes;
 use crate::plan::Plan;
-use crate::small_failed_check::{ShortAnswer, SmallFailedCheck};
+use crate::small_failed_check::{Checked, ShortAnswer, SmallFailedCheck};
 use sm_history::{Effect, Exception, Outcome};
 use sm_kinds::{Name, Node, ObjRef, Perms};
 
@@ -34,7 +34,7 @@ impl Manager {
         name: &Name,
         obj: ObjRef,
         notes: &mut Notes,
-    ) -> Result<Plan, SmallFailedCheck>
+    ) -> Checked<Plan>
         requires live { is_live (effects_in self.now) row.now.id ≡ true }
         requires row { row.now ≡ client_row (effects_in self.now) row.now.id }
         ensures { Judged self.now.book.history notes.old notes.new row.now.id (Unregister name.now obj) result }
@@ -56,7 +56,7 @@ impl Manager {
         name: &Name,
         node: Option<Node>,
         notes: &mut Notes,
-    ) -> Result<(), SmallFailedCheck>
+    ) -> Checked<()>
         requires { row.now ≡ client_row (effects_in self.now) row.now.id }
         ensures { MatchResult result
             (λ done. AllPass (moment_in self.now) notes.old notes.new

@@ -16,7 +16,7 @@ use crate::client::LiveClient;
 use crate::manager::Manager;
 use crate::notes::Notes;
 use crate::plan::Plan;
-use crate::small_failed_check::{ShortAnswer, SmallFailedCheck};
+use crate::small_failed_check::{Checked, ShortAnswer, SmallFailedCheck};
 use sm_history::{Denial, Effect, Exception, MOST_WATCHES, Outcome, Watch, WatchPair};
 use sm_kinds::{Name, Perms, is_isolated, valid_name};
 use std::alloc::AllocError;
@@ -41,7 +41,7 @@ impl Manager {
         name: &Name,
         object: u32,
         notes: &mut Notes,
-    ) -> Result<Plan, SmallFailedCheck>
+    ) -> Checked<Plan>
         requires live { is_live (effects_in self.now) row.now.id ≡ true }
         requires row { row.now ≡ client_row (effects_in self.now) row.now.id }
         ensures { Judged self.now.book.history notes.old notes.new row.now.id (WatchName name.now object) result }
@@ -59,12 +59,7 @@ impl Manager {
     }
 
     /// Checks that a client may watch a name.
-    fn judge_watching(
-        &self,
-        row: &LiveClient,
-        name: &Name,
-        notes: &mut Notes,
-    ) -> Result<(), SmallFailedCheck>
+    fn judge_watching(&self, row: &LiveClient, name: &Name, notes: &mut Notes) -> Checked<()>
         requires { row.now ≡ client_row (effects_in self.now) row.now.id }
         ensures { MatchResult result
             (λ done. AllPass (moment_in self.now) notes.old notes.new
@@ -103,7 +98,7 @@ impl Manager {
         name: &Name,
         object: u32,
         notes: &mut Notes,
-    ) -> Result<Plan, SmallFailedCheck>
+    ) -> Checked<Plan>
         requires live { is_live (effects_in self.now) row.now.id ≡ true }
         requires row { row.now ≡ client_row (effects_in self.now) row.now.id }
         ensures { Judged self.now.book.history notes.old notes.new row.now.id (Unwatch name.now object) result }
