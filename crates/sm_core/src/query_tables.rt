@@ -1,6 +1,6 @@
 //! The answers to queries, which change nothing.
 
-ghost use Rattle.std.specs.Prelude.{◌≡◌, false, IfErr, IfOk, MatchResult};
+ghost use Rattle.std.specs.Prelude.{◌≡◌, false, IfErr, IfOk};
 ghost use Rattle.sm_history.specs.Clients.{version_at};
 ghost use Rattle.sm_history.specs.Histories.{effects_of, length_of};
 ghost use Rattle.sm_history.specs.PossibleReplies.{takes_memory};
@@ -9,7 +9,7 @@ ghost use Rattle.sm_history.specs.Queries.{is_their_query, list_checks, checks_o
 ghost use Rattle.sm_history.specs.Records.{moment_of};
 ghost use Rattle.sm_history.specs.declared.query.Query.TheVariants.{List as ListNames};
 ghost use Rattle.sm_history.specs.declared.reply.Reply.TheVariants.{Looked};
-ghost use Rattle.sm_core.specs.Judging.{AllPass, Halts, IsAskerStop};
+ghost use Rattle.sm_core.specs.Judging.{IsAskerStop, PassesWith};
 ghost use Rattle.sm_core.specs.Managed.{look_leaves};
 ghost use Rattle.sm_core.specs.Tables.{client_row};
 
@@ -101,11 +101,9 @@ impl<'a> QueryTables<'a> {
 
     /// Returns why a query is refused, or its result.
     fn judge_query(&self, by: By, query: &Query, notes: &mut Notes) -> Checked<Answer>
-        ensures judged { MatchResult result
-            (λ found. AllPass (moment_of self.now.history) notes.old notes.new
+        ensures judged { PassesWith (moment_of self.now.history) notes.old notes.new
             (checks_of_query self.now.history by query.now)
-            × (found ≡ found_out (effects_of self.now.history) query.now))
-            (Halts (moment_of self.now.history) notes.old notes.new (checks_of_query self.now.history by query.now)) }
+            (λ found. found ≡ found_out (effects_of self.now.history) query.now) result }
         ensures asker { takes_memory query.now ≡ false → IfErr result IsAskerStop }
     {
         if !may_ask(by, query) {
@@ -136,12 +134,9 @@ impl<'a> QueryTables<'a> {
     /// Judges a list (`listServices`): `list` is checked against the manager's own context.
     fn list(&self, row: &LiveClient, mask: u32, notes: &mut Notes) -> Checked<Answer>
         requires { row.now ≡ client_row (effects_of self.now.history) row.now.id }
-        ensures { MatchResult result
-            (λ found. AllPass (moment_of self.now.history) notes.old notes.new
+        ensures { PassesWith (moment_of self.now.history) notes.old notes.new
             (list_checks (effects_of self.now.history) row.now.id)
-            × (found ≡ found_out (effects_of self.now.history) (ListNames mask)))
-            (Halts (moment_of self.now.history) notes.old notes.new
-            (list_checks (effects_of self.now.history) row.now.id)) }
+            (λ found. found ≡ found_out (effects_of self.now.history) (ListNames mask)) result }
     {
         let access = Access::new(self.alloc, self.length, self.principals);
         let who = &row.process;

@@ -11,7 +11,7 @@ ghost use Rattle.sm_history.specs.Verdict.{all_pass_to_client, passes_to_client,
 ghost use Rattle.sm_grants.specs.Several.{after_grants, numbers_for};
 ghost use Rattle.sm_grants.specs.Handing.{AreNamed, others, given_as};
 ghost use Rattle.sm_core.specs.Tables.{client_row};
-ghost use Rattle.sm_core.specs.Judging.{AllPass, Halts, Judged};
+ghost use Rattle.sm_core.specs.Judging.{Judged, PassesWith};
 ghost use Rattle.sm_core.specs.Judging as spec;
 ghost use Rattle.sm_core.specs.Calling.{Sends, gives_of, passing_checks, target_checks};
 ghost use Rattle.sm_core.specs.Managed.{effects_in, moment_in};
@@ -137,13 +137,10 @@ impl Manager {
     /// Returns the called object, if its owner lives and the caller may call the owner.
     fn judge_target(&self, row: &LiveClient, handle: u32, notes: &mut Notes) -> Checked<Node>
         requires { row.now ≡ client_row (effects_in self.now) row.now.id }
-        ensures { MatchResult result
-            (λ n. AllPass (moment_in self.now) notes.old notes.new
+        ensures { PassesWith (moment_in self.now) notes.old notes.new
             (target_checks (effects_in self.now) row.now.id (node_at (effects_in self.now) row.now.id handle))
-            × (node_at (effects_in self.now) row.now.id handle ≡ Some n)
-            × (is_live (effects_in self.now) n.owner.0 ≡ true))
-            (Halts (moment_in self.now) notes.old notes.new
-            (target_checks (effects_in self.now) row.now.id (node_at (effects_in self.now) row.now.id handle))) }
+            (λ n. (node_at (effects_in self.now) row.now.id handle ≡ Some n)
+            × (is_live (effects_in self.now) n.owner.0 ≡ true)) result }
     {
         let Some(node) = self.resolved(row.id, ObjRef::Handle(handle)) else {
             return Err(SmallFailedCheck::unmet(ShortAnswer::Failed(Failure::BadHandle)));
@@ -165,12 +162,9 @@ impl Manager {
     ) -> Checked<Vec<Option<Node>>>
         requires row { row.now ≡ client_row (effects_in self.now) row.now.id }
         requires live { is_live (effects_in self.now) receiver ≡ true }
-        ensures { MatchResult result
-            (λ v. AllPass (moment_in self.now) notes.old notes.new
+        ensures { PassesWith (moment_in self.now) notes.old notes.new
             (all_pass_to_client (effects_in self.now) row.now.id receiver refs.now)
-            × AreNamed (effects_in self.now) row.now.id refs.now v.items)
-            (Halts (moment_in self.now) notes.old notes.new
-            (all_pass_to_client (effects_in self.now) row.now.id receiver refs.now)) }
+            (λ v. AreNamed (effects_in self.now) row.now.id refs.now v.items) result }
     {
         let mut named = Vec::new(self.alloc);
         for obj in refs {
@@ -190,12 +184,10 @@ impl Manager {
     ) -> Checked<Option<Node>>
         requires row { row.now ≡ client_row (effects_in self.now) row.now.id }
         requires live { is_live (effects_in self.now) receiver ≡ true }
-        ensures { MatchResult result
-            (λ o. AllPass (moment_in self.now) notes.old notes.new
+        ensures { PassesWith (moment_in self.now) notes.old notes.new
             (passes_to_client (effects_in self.now) row.now.id receiver obj)
-            × (resolve_at (effects_in self.now) row.now.id obj ≡ o) × (is_null obj ≡ false → is_some o ≡ true))
-            (Halts (moment_in self.now) notes.old notes.new
-            (passes_to_client (effects_in self.now) row.now.id receiver obj)) }
+            (λ o. (resolve_at (effects_in self.now) row.now.id obj ≡ o)
+            × (is_null obj ≡ false → is_some o ≡ true)) result }
     {
         match obj {
             ObjRef::Null => Ok(None),
@@ -213,12 +205,9 @@ impl Manager {
     ) -> Checked<Option<Node>>
         requires row { row.now ≡ client_row (effects_in self.now) row.now.id }
         requires live { is_live (effects_in self.now) receiver ≡ true }
-        ensures { MatchResult result
-            (λ o. AllPass (moment_in self.now) notes.old notes.new
+        ensures { PassesWith (moment_in self.now) notes.old notes.new
             (passing_checks (effects_in self.now) row.now.id receiver node)
-            × (o ≡ node) × (is_some node ≡ true))
-            (Halts (moment_in self.now) notes.old notes.new
-            (passing_checks (effects_in self.now) row.now.id receiver node)) }
+            (λ o. (o ≡ node) × (is_some node ≡ true)) result }
     {
         if node.is_none() {
             return Err(SmallFailedCheck::unmet(ShortAnswer::Failed(Failure::BadHandle)));

@@ -9,7 +9,7 @@ ghost use Rattle.sm_history.specs.declared.outcome.Outcome.TheVariants.{Added, W
 ghost use Rattle.sm_history.specs.Following.{followed};
 ghost use Rattle.sm_history.specs.Notices.{notice_at, told_of, first_missing, after_notice, notices_at, after_notices};
 ghost use Rattle.sm_history.specs.Records.{left_by_notices};
-ghost use Rattle.sm_core.specs.Judging.{AllPass, Halts};
+ghost use Rattle.sm_core.specs.Judging.{PassesWith};
 ghost use Rattle.sm_core.specs.Judging as spec;
 ghost use Rattle.sm_core.specs.Notifications.{told_checks, left_at, AreNotifications, GoesOn, GoesFar, MayPrecede};
 ghost use Rattle.sm_core.specs.Notifications.{Tells};
@@ -80,11 +80,9 @@ impl Manager {
     ) -> Checked<Given>
         requires live { is_live (effects_in self.now) watch.now.client ≡ true }
         requires label { IsLabel (effects_in self.now) watch.now.name label }
-        ensures { MatchResult result
-            (λ g. AllPass (moment_in self.now) notes.old notes.new
+        ensures { PassesWith (moment_in self.now) notes.old notes.new
             (told_checks (effects_in self.now) node watch.now left)
-            × (g ≡ given_to (effects_in self.now) watch.now.client node))
-            (Halts (moment_in self.now) notes.old notes.new (told_checks (effects_in self.now) node watch.now left)) }
+            (λ g. g ≡ given_to (effects_in self.now) watch.now.client node) result }
     {
         let Some(row) = self.client_row(watch.client) else {
             unreachable!();

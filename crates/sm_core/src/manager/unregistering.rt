@@ -1,6 +1,6 @@
 //! Unregistering of names.
 
-ghost use Rattle.std.specs.Prelude.{◌≡◌, true, MatchResult};
+ghost use Rattle.std.specs.Prelude.{◌≡◌, true};
 ghost use Rattle.sm_history.specs.declared.event.Event.TheVariants.{Unregister};
 ghost use Rattle.sm_history.specs.declared.failed_check.FailedCheck.TheVariants.{Unmet};
 ghost use Rattle.sm_history.specs.declared.failed_check.EarlyAnswer.TheVariants.{Refused};
@@ -8,7 +8,7 @@ ghost use Rattle.sm_history.specs.declared.refusal.Refusal.TheVariants.{Exceptio
 ghost use Rattle.sm_history.specs.Clients.{is_live};
 ghost use Rattle.sm_history.specs.Holdings.{is_in_use};
 ghost use Rattle.sm_core.specs.Tables.{client_row};
-ghost use Rattle.sm_core.specs.Judging.{AllPass, Halts, Judged, removal_checks};
+ghost use Rattle.sm_core.specs.Judging.{Judged, removal_checks, Passes};
 ghost use Rattle.sm_core.specs.Managed.{effects_in, moment_in};
 
 use crate::client::LiveClient;
@@ -58,11 +58,8 @@ impl Manager {
         notes: &mut Notes,
     ) -> Checked<()>
         requires { row.now ≡ client_row (effects_in self.now) row.now.id }
-        ensures { MatchResult result
-            (λ done. AllPass (moment_in self.now) notes.old notes.new
-            (removal_checks (effects_in self.now) row.now.id name.now node))
-            (Halts (moment_in self.now) notes.old notes.new
-            (removal_checks (effects_in self.now) row.now.id name.now node)) }
+        ensures { Passes (moment_in self.now) notes.old notes.new
+            (removal_checks (effects_in self.now) row.now.id name.now node) result }
     {
         let Some(node) = node else {
             return Err(failed(Exception::NullBinder));

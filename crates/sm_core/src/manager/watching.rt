@@ -1,6 +1,6 @@
 //! Watches of names.
 
-ghost use Rattle.std.specs.Prelude.{◌≡◌, ◌≤◌, true, length, count_by, nat_lt, IfOk, MatchResult};
+ghost use Rattle.std.specs.Prelude.{◌≡◌, ◌≤◌, true, length, count_by, nat_lt, IfOk};
 ghost use Rattle.std.specs.List.{list_any};
 ghost use Rattle.sm_history.specs.declared.event.Event.TheVariants.{Unwatch, Watch as WatchName};
 ghost use Rattle.sm_history.specs.Clients.{is_live};
@@ -9,7 +9,7 @@ ghost use Rattle.sm_history.specs.Services.{same_watch, watches_at};
 ghost use Rattle.sm_history.specs.declared.limits.TheConstants.{MOST_WATCHES};
 ghost use Rattle.sm_history.specs.Verdict.{watch_checks};
 ghost use Rattle.sm_core.specs.Tables.{client_row};
-ghost use Rattle.sm_core.specs.Judging.{AllPass, Halts, Judged};
+ghost use Rattle.sm_core.specs.Judging.{Judged, PassesWith};
 ghost use Rattle.sm_core.specs.Managed.{effects_in, moment_in};
 
 use crate::client::LiveClient;
@@ -61,11 +61,9 @@ impl Manager {
     /// Checks that a client may watch a name.
     fn judge_watching(&self, row: &LiveClient, name: &Name, notes: &mut Notes) -> Checked<()>
         requires { row.now ≡ client_row (effects_in self.now) row.now.id }
-        ensures { MatchResult result
-            (λ done. AllPass (moment_in self.now) notes.old notes.new
+        ensures { PassesWith (moment_in self.now) notes.old notes.new
             (watch_checks (effects_in self.now) row.now.id name.now)
-            × (nat_lt (length (watches_at (effects_in self.now))) MOST_WATCHES ≡ true))
-            (Halts (moment_in self.now) notes.old notes.new (watch_checks (effects_in self.now) row.now.id name.now)) }
+            (λ done. nat_lt (length (watches_at (effects_in self.now))) MOST_WATCHES ≡ true) result }
     {
         self.check_to_manager(&row.process, Perms::CALL, notes)?;
         self.check_to_manager(&row.process, Perms::TRANSFER, notes)?;

@@ -14,7 +14,7 @@ returns-in_err-named c =
     let d = effects_of c.args.self.now.book.history in
     let p = err_from_is_err_and c.from_residual-in_err-named.result c.from_residual-in_err-named.ensures.1 in
     rw (p.1, p.2) (references_halt m _ _ _ d c.args.row.now.id c.args.handle c.in_ok-target.target c.args.refs.now
-    c.in_err-named.field-0.0 target.0 target.1
+    c.in_err-named.field-0.0 target.0 target.1.0
     (rw c.list.ensures.value at c.in_err-named.ensures))
 
 pub returns-then-not-has_room : goal.returns-then-not-has_room
@@ -28,7 +28,7 @@ returns-then-not-has_room c =
     at (sym c.has_room.ensures ∙ c.if-not-has_room.true) in
     rw c.unmet.ensures
     (room_halts m _ _ _ d c.args.row.now.id c.args.handle c.in_ok-target.target c.args.refs.now
-    c.in_ok-named.named.items target.0 target.1 sound target.2 refs.1 refs.0 full)
+    c.in_ok-named.named.items target.0 target.1.0 sound target.1.1 refs.1 refs.0 full)
 
 pub plan_call-requires-clause-few : goal.plan_call-requires-clause-few
 plan_call-requires-clause-few c =
@@ -48,5 +48,5 @@ returns c =
     let room = rw (c.as_slice-2.ensures.value, c.in_ok-nodes.ensures, c.as_slice.ensures.value)
     at (sym c.has_room.ensures ∙ c.if-not-has_room.false) in
     call_judged c.args.self.now.book.history _ _ _ c.args.row.now.id c.args.handle c.in_ok-target.target
-    c.args.payload.now c.args.refs.now c.in_ok-named.named.items c.plan_call.result target.0 target.1 sound target.2
-    refs.1 refs.0 room (rw c.as_slice-3.ensures.value at c.plan_call.ensures)
+    c.args.payload.now c.args.refs.now c.in_ok-named.named.items c.plan_call.result target.0 target.1.0 sound
+    target.1.1 refs.1 refs.0 room (rw c.as_slice-3.ensures.value at c.plan_call.ensures)

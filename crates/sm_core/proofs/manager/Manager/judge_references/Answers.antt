@@ -32,7 +32,8 @@ loop-obj-preserved c =
       passed = left_behind m _ _ _ d k c.args.receiver rs (drop i rs) (drop (i + 1) rs) r
           c.loop-obj.invariant.passed left c.in_ok-node.ensures.0;
       names = names_on d k rs (drop i rs) (drop (i + 1) rs) r c.in_ok-node.node c.loop-obj.named.items
-          c.push.new.self.items c.loop-obj.invariant.names left more c.in_ok-node.ensures.1 c.in_ok-node.ensures.2;
+          c.push.new.self.items c.loop-obj.invariant.names left more c.in_ok-node.ensures.1.0
+          c.in_ok-node.ensures.1.1;
     }
 
 pub returns : goal.returns
