@@ -3,9 +3,7 @@
 ghost use Rattle.std.specs.Prelude.{◌≡◌, true};
 ghost use Rattle.sm_history.specs.declared.event.Event.TheVariants.{Release};
 ghost use Rattle.sm_history.specs.Clients.{is_live};
-ghost use Rattle.std.specs.Prelude.{List};
-ghost use Rattle.sm_history.specs.declared.records.Record.{Record};
-ghost use Rattle.sm_core.specs.Judging.{Judged};
+ghost use Rattle.sm_core.specs.Judging.{JudgedQuietly};
 ghost use Rattle.sm_core.specs.Managed.{effects_in};
 
 use crate::manager::Manager;
@@ -18,7 +16,7 @@ impl Manager {
     /// Judges a release of one grant of a handle. The last release frees the number.
     pub fn judge_release(&self, client: u32, handle: u32) -> Checked<Plan>
         requires { is_live (effects_in self.now) client ≡ true }
-        ensures { (old : List Record) → Judged self.now.book.history old old client (Release handle) result }
+        ensures { JudgedQuietly self.now.book.history client (Release handle) result }
     {
         let Some(node) = self.resolved(client, ObjRef::Handle(handle)) else {
             return Err(SmallFailedCheck::unmet(ShortAnswer::Failed(Failure::BadHandle)));

@@ -4,9 +4,7 @@ ghost use Rattle.std.specs.Prelude.{◌≡◌, ◌∷◌, true, [], drop, MatchO
 ghost use Rattle.sm_history.specs.declared.event.Event.TheVariants.{Take};
 ghost use Rattle.sm_history.specs.Clients.{is_live};
 ghost use Rattle.sm_history.specs.Inboxes.{inbox_at};
-ghost use Rattle.std.specs.Prelude.{List};
-ghost use Rattle.sm_history.specs.declared.records.Record.{Record};
-ghost use Rattle.sm_core.specs.Judging.{Judged};
+ghost use Rattle.sm_core.specs.Judging.{JudgedQuietly};
 ghost use Rattle.sm_core.specs.Managed.{effects_in};
 
 use crate::manager::Manager;
@@ -27,7 +25,7 @@ impl Manager {
     /// Judges a take of the oldest delivery from a client's inbox.
     pub fn judge_take(&self, client: u32) -> Checked<Plan>
         requires { is_live (effects_in self.now) client ≡ true }
-        ensures { (old : List Record) → Judged self.now.book.history old old client Take result }
+        ensures { JudgedQuietly self.now.book.history client Take result }
     {
         let Some(oldest) = self.oldest(client) else {
             return Err(SmallFailedCheck::unmet(ShortAnswer::Empty));
