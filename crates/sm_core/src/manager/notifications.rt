@@ -7,7 +7,7 @@ ghost use Rattle.sm_history.specs.Holdings.{fits_handles, given_to, handed};
 ghost use Rattle.sm_history.specs.Services.{watchers_at};
 ghost use Rattle.sm_history.specs.declared.outcome.Outcome.TheVariants.{Added, Watched};
 ghost use Rattle.sm_history.specs.Following.{followed};
-ghost use Rattle.sm_history.specs.Notices.{notice_at, told_of, first_missing, after_notice, notices_at, after_notices};
+ghost use Rattle.sm_history.specs.Notices.{notice as spec_notice, notice_at, after_notice, notices_at, after_notices};
 ghost use Rattle.sm_history.specs.Records.{left_by_notices};
 ghost use Rattle.sm_core.specs.Judging.{PassesWith};
 ghost use Rattle.sm_core.specs.Judging as spec;
@@ -32,6 +32,17 @@ fn full() -> SmallFailedCheck
     ensures { result ≡ spec.full }
 {
     SmallFailedCheck::unmet(ShortAnswer::Failed(Failure::TargetFull))
+}
+
+/// Makes the notice for a watch.
+fn notice(watch: &Watch, told: Told) -> Notice
+    ensures { result ≡ spec_notice watch.now told }
+{
+    Notice {
+        client: ClientId(watch.client),
+        object: watch.object,
+        result: told,
+    }
 }
 
 impl Manager {
@@ -96,33 +107,6 @@ impl Manager {
         self.given_to(watch.client, node).ok_or_else(full)
     }
 
-    /// Notifies a watcher, or finds why it may not be notified.
-    fn tell(
-        &self,
-        watch: &Watch,
-        node: Node,
-        label: Label<'_>,
-        notifications: &mut Notifications,
-    ) -> Checked<Told>
-        requires live { is_live (effects_in self.now) watch.now.client ≡ true }
-        requires label { IsLabel (effects_in self.now) watch.now.name label }
-        requires notifications { AreNotifications (effects_in self.now) node notifications.old }
-        ensures { MatchResult result
-            (λ t. (t ≡ told_of (followed (effects_in self.now) notifications.old.effects.items) node watch.now
-            (first_missing (followed (effects_in self.now) notifications.old.effects.items) node watch.now))
-            × GoesOn (moment_in self.now) (effects_in self.now) node watch.now notifications.old notifications.new)
-            (λ s. s ≡ spec.out_of_memory) }
-    {
-        let left = self.left(notifications, watch.client);
-        match self.judge_told(watch, node, label, left, &mut notifications.records) {
-            Ok(given) => {
-                let told = notifications.tell(self.alloc, watch, node, given, left)?;
-                Ok(Told::Told(told))
-            }
-            Err(stop) => Ok(Told::NotTold(reason(self.alloc, stop)?)),
-        }
-    }
-
     /// Notifies a watcher that an object was registered under the name, which has this label, and gives it the object;
     /// or returns why it may not be notified.
     pub fn notify(
@@ -140,12 +124,14 @@ impl Manager {
             × GoesOn (moment_in self.now) (effects_in self.now) node watch.now notifications.old notifications.new)
             (λ s. s ≡ spec.out_of_memory) }
     {
-        let result = self.tell(watch, node, label, notifications)?;
-        Ok(Notice {
-            client: ClientId(watch.client),
-            object: watch.object,
-            result,
-        })
+        let left = self.left(notifications, watch.client);
+        match self.judge_told(watch, node, label, left, &mut notifications.records) {
+            Ok(given) => {
+                let told = notifications.tell(self.alloc, watch, node, given, left)?;
+                Ok(notice(watch, Told::Told(told)))
+            }
+            Err(stop) => Ok(notice(watch, Told::NotTold(reason(self.alloc, stop)?))),
+        }
     }
 
     /// Notifies the watchers of a name in order that an object was registered under it, each on the state after the
