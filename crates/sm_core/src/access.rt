@@ -60,26 +60,29 @@ fn copied(name: Option<&Name>) -> Result<Option<Name>, AllocError>
     }
 }
 
-/// Returns the failed check of an access that no allow rule grants. Has the name if the target is its label.
-#[cold]
-#[inline(never)]
-fn unruled(
-    alloc: Global,
-    who: &Identity,
-    target: &Context,
-    name: Option<&Name>,
+/// An access by a process to a context. Has the name if the context is its label.
+#[derive(Clone, Copy)]
+struct Asked<'a> {
+    who: &'a Identity,
+    target: &'a Context,
+    name: Option<&'a Name>,
     class: Class,
     perm: Perms,
-) -> Result<SmallFailedCheck, AllocError>
-    ensures { IfOk result
-        (λ s. s ≡ Unruled class perm who.now target.now (option_map (λ n. n.now) name.entry)) }
+}
+
+/// Returns the failed check of an access that no allow rule grants.
+#[cold]
+#[inline(never)]
+fn unruled(alloc: Global, asked: &Asked) -> Result<SmallFailedCheck, AllocError>
+    ensures { IfOk result (λ s. s ≡ Unruled asked.now.class asked.now.perm asked.now.who.now asked.now.target.now
+        (option_map (λ n. n.now) asked.now.name)) }
 {
     let stop = FailedCheck::Unruled {
-        class,
-        perm,
-        who: who.clone()?,
-        target: target.clone()?,
-        name: copied(name)?,
+        class: asked.class,
+        perm: asked.perm,
+        who: asked.who.clone()?,
+        target: asked.target.clone()?,
+        name: copied(asked.name)?,
     };
     SmallFailedCheck::whole(alloc, stop)
 }
@@ -116,57 +119,27 @@ impl<'a> Access<'a> {
         }
     }
 
-    /// Appends the audit record of a decision, if there is one.
+    /// Appends the audit record of a decision, if there is one. Few have one, so this is out of line.
+    #[cold]
+    #[inline(never)]
     #[tactic(auto, unfolding(crate::specs::Judging::noted))]
-    fn audit(
-        &self,
-        made: Decision,
-        who: &Identity,
-        target: &Context,
-        name: Option<&Name>,
-        class: Class,
-        perm: Perms,
-        notes: &mut Notes,
-    ) -> Result<(), AllocError>
-        requires { made ≡ decision self.now.policy (type_of who.now.context)
-            (type_of target.now) class perm }
-        ensures { OnOk result
-            (notes.new ≡ noted self.now notes.old class perm who.now target.now
-            (option_map (λ n. n.now) name.entry)) }
+    fn audit(&self, made: Decision, asked: &Asked, notes: &mut Notes) -> Result<(), AllocError>
+        requires { made ≡ decision self.now.policy (type_of asked.now.who.now.context) (type_of asked.now.target.now)
+            asked.now.class asked.now.perm }
+        ensures { OnOk result (notes.new ≡ noted self.now notes.old asked.now.class asked.now.perm asked.now.who.now
+            asked.now.target.now (option_map (λ n. n.now) asked.now.name)) }
     {
         if !made.audited {
             return Ok(());
         }
-        self.record(made.allowed, who, target, name, class, perm, notes)
-    }
-
-    /// Appends the record of a missing rule. Few checks have one, so this is out of line.
-    #[cold]
-    #[inline(never)]
-    fn record(
-        &self,
-        permissive: bool,
-        who: &Identity,
-        target: &Context,
-        name: Option<&Name>,
-        class: Class,
-        perm: Perms,
-        notes: &mut Notes,
-    ) -> Result<(), AllocError>
-        requires { permissive
-            ≡ allowed self.now.policy (type_of who.now.context) (type_of target.now) class perm }
-        ensures { OnOk result
-            (notes.new ≡ notes.old
-            ++ rule_record self.now class perm who.now target.now (option_map (λ n. n.now) name.entry) ∷ []) }
-    {
         notes.push(Record {
             length: self.length,
             version: self.version,
-            denial: denial(self.alloc, class, perm, who, target)?,
-            permissive,
-            who: who.clone()?,
-            target: Some(target.clone()?),
-            name: copied(name)?,
+            denial: denial(self.alloc, asked.class, asked.perm, asked.who, asked.target)?,
+            permissive: made.allowed,
+            who: asked.who.clone()?,
+            target: Some(asked.target.clone()?),
+            name: copied(asked.name)?,
         })
     }
 
@@ -266,10 +239,17 @@ impl<'a> Access<'a> {
         ensures { IsRuled self.now notes.old notes.new class perm who.now target.now
             (option_map (λ n. n.now) name.entry) result }
     {
-        self.audit(made, who, target, name, class, perm, notes)?;
+        let asked = Asked {
+            who,
+            target,
+            name,
+            class,
+            perm,
+        };
+        self.audit(made, &asked, notes)?;
         if made.allowed {
             return Ok(());
         }
-        Err(unruled(self.alloc, who, target, name, class, perm)?)
+        Err(unruled(self.alloc, &asked)?)
     }
 }
