@@ -5,10 +5,10 @@ ghost use Rattle.sm_core.specs.Tables.{process_under};
 
 use sm_kinds::Identity;
 use sm_policy::Prepared;
-use std::alloc::AllocError;
 
 /// A process under a policy: its identity, and the number of its type there (`Prepared::type_index`), by which rules
 /// are looked up. `None` if the policy doesn't declare its type.
+#[derive(Clone)]
 pub struct Process {
     pub who: Identity,
     pub index: Option<u16>,
@@ -17,17 +17,6 @@ pub struct Process {
 impl Drop for Process {
     fn drop(self) {
         let Process { who: _, index: _ } = self;
-    }
-}
-
-impl Clone for Process {
-    ghost is_clone = { λ p copy. copy ≡ p };
-
-    /// Copies the process; its texts are shared.
-    fn clone(&self) -> Result<Process, AllocError> {
-        let who = self.who.clone()?;
-        let index = self.index;
-        Ok(Process { who, index })
     }
 }
 
