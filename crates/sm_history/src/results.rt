@@ -4,7 +4,7 @@ ghost use Rattle.std.specs.Prelude.{◌≡◌, MatchResult, MatchOption};
 ghost use Rattle.sm_history.specs.Verdict.{is_die};
 ghost use Rattle.sm_history.specs.declared.outcome.Outcome.TheVariants.{Connected, Died, Reloaded};
 ghost use Rattle.sm_history.specs.declared.reply.Reply.TheVariants.{Done, Refused};
-ghost use Rattle.sm_history.specs.PossibleReplies.{moves, refusal_moves, ConnectReply, DeathReply, InstallReply};
+ghost use Rattle.sm_history.specs.PossibleReplies.{moves, ConnectReply, DeathReply, InstallReply};
 ghost use Rattle.sm_history.specs.PossibleReplies.{OfConnect, OfDeath, OfInstall};
 
 use crate::{Event, Failure, Outcome, Refusal, Reply};
@@ -15,20 +15,10 @@ use sm_kinds::ClientId;
 pub fn moves(reply: &Reply) -> bool
     ensures { result ≡ moves reply.now }
 {
-    match reply {
-        Reply::Refused(refusal) => refusal_moves(refusal),
-        _ => true,
-    }
-}
-
-fn refusal_moves(refusal: &Refusal) -> bool
-    ensures { result ≡ refusal_moves refusal.now }
-{
-    match refusal {
-        Refusal::Memory => false,
-        Refusal::Failed(Failure::NotYours) => false,
-        _ => true,
-    }
+    !matches!(
+        reply,
+        Reply::Refused(Refusal::Memory | Refusal::Failed(Failure::NotYours))
+    )
 }
 
 /// Returns whether the event is a client's death, which ends its session.

@@ -1,7 +1,7 @@
 //! The visible part of a reply.
 
 ghost use Rattle.std.specs.Prelude.{◌≡◌};
-ghost use Rattle.sm_history.specs.Told.{is_hidden, is_hidden_refusal, is_hidden_denial};
+ghost use Rattle.sm_history.specs.Told.{is_hidden, is_hidden_denial};
 
 use crate::denial::Denial;
 use crate::refusal::Refusal;
@@ -14,16 +14,7 @@ pub fn is_hidden(reply: &Reply) -> bool
     ensures { result ≡ is_hidden reply.now }
 {
     match reply {
-        Reply::Refused(refusal) => is_hidden_refusal(refusal),
-        _ => false,
-    }
-}
-
-fn is_hidden_refusal(refusal: &Refusal) -> bool
-    ensures { result ≡ is_hidden_refusal refusal.now }
-{
-    match refusal {
-        Refusal::Denied(denial) => is_hidden_denial(denial),
+        Reply::Refused(Refusal::Denied(denial)) => is_hidden_denial(denial),
         _ => false,
     }
 }
