@@ -1,12 +1,11 @@
 //! The room left in the inboxes of clients while watchers are notified.
 
-ghost use Rattle.std.specs.Prelude.{◌≡◌, ◌==◌, ◌<◌, ℕ, None, Some, MatchOption, IfSome, OnOk, cond, nat_eq};
-ghost use Rattle.std.specs.Prelude.{position, length, slice_index_or};
+ghost use Rattle.std.specs.Prelude.{◌≡◌, ◌==◌, ℕ, None, Some, MatchOption, OnOk, cond, nat_eq};
 ghost use Rattle.std.specs.List.{find};
 ghost use Rattle.sm_history.specs.Tables.{IsPlace};
 ghost use Rattle.sm_core.specs.InboxRooms.{left_of, AreOnce, AreUpTo};
-ghost use Rattle.sm_core.specs.declared.inbox_rooms.InboxRoom.{InboxRoom as TheRoom};
 
+use sm_history::{OfClient, row_index};
 use std::alloc::{AllocError, Global};
 
 /// The number of deliveries for which a client's inbox still has room.
@@ -14,6 +13,14 @@ use std::alloc::{AllocError, Global};
 pub struct InboxRoom {
     pub client: u32,
     pub left: usize,
+}
+
+impl OfClient for InboxRoom {
+    ghost client_of = { λ r. r.client };
+
+    fn client(&self) -> u32 {
+        self.client
+    }
 }
 
 /// The room left in the inboxes of the clients that were notified so far: a row for each, of at most 64.
@@ -31,28 +38,6 @@ impl Drop for InboxRooms {
     }
 }
 
-fn first_of(rows: &[InboxRoom], client: u32) -> Option<usize>
-    ensures { result ≡ position (λ r. r.client == client) rows.now }
-{
-    rows.iter().position(|row| row.client == client)
-}
-
-/// Returns an index at which a client's row was found at once: watchers are often notified in the order of their numbers,
-/// which follow each other.
-fn guessed(rows: &[InboxRoom], client: u32) -> Option<usize>
-    ensures { IfSome result
-        (λ i. (i < length rows.now) × ((r : TheRoom) → (slice_index_or rows.now i r).client ≡ client)) }
-{
-    if rows.is_empty() {
-        return None;
-    }
-    let guess = (client.wrapping_sub(rows[0].client) as usize).min(rows.len() - 1);
-    if rows[guess].client != client {
-        return None;
-    }
-    Some(guess)
-}
-
 /// Returns the index of a client's row.
 fn room_index(rows: &[InboxRoom], newest: u32, client: u32) -> Option<usize>
     requires once { AreOnce rows.now }
@@ -63,10 +48,7 @@ fn room_index(rows: &[InboxRoom], newest: u32, client: u32) -> Option<usize>
     if newest < client {
         return None;
     }
-    match guessed(rows, client) {
-        Some(place) => Some(place),
-        None => first_of(rows, client),
-    }
+    row_index(rows, client)
 }
 
 impl InboxRooms {

@@ -1,11 +1,12 @@
 -- Rows of which no two are one client's.
-use Rattle.std.proofs.Common.{◌≡◌, ℕ, zero, suc, ◌+◌, ◌<◌, true, false, ◌==◌, List, [], ◌∷◌, refl, ap, ◌∙◌}
-use Rattle.std.proofs.Common.{length, get_or, set, map, Some, None, arith}
-use Rattle.std.specs.List.{insert, list_any, remove}
+use Rattle.std.proofs.Common.{◌≡◌, ℕ, zero, suc, ◌+◌, ◌<◌, true, false, ◌==◌, List, [], ◌∷◌, refl, ap, sym, ◌∙◌}
+use Rattle.std.proofs.Common.{length, get_or, set, map, cond, Option, Some, None, if◌then◌else◌, arith}
+use Rattle.std.specs.List.{find, insert, list_any, remove}
 use Rattle.std.proofs.lemmas.Bool.{or_parts}
 use Rattle.std.proofs.lemmas.Bool.Decides.{nat_tests}
 use Rattle.sm_history.specs.Once.{is_once}
 use Rattle.sm_history.specs.Sound.{IsOnce}
+use Rattle.sm_history.specs.Tables.{IsFound}
 use Rattle.sm_history.proofs.ClientRows.{self_same}
 use Rattle.sm_history.proofs.Once.{to_once, from_once}
 use Rattle.sm_grants.specs.declared.rows.ClientHandles.{ClientHandles}
@@ -40,11 +41,27 @@ index_once a (x ∷ xs) c (suc i) r once lt own =
     ∙ ap (λ (v : ℕ). Some v) there)
 
 -- A row that was found anywhere.
-pub place_once : (rows : List ClientHandles) (c i : ℕ) (r : ClientHandles) → is_once (map client rows) ≡ true
+place_once : (rows : List ClientHandles) (c i : ℕ) (r : ClientHandles) → is_once (map client rows) ≡ true
     → i < length rows → (get_or rows i r).client ≡ c → index_from 0 rows c ≡ Some i
 place_once rows c i r once lt own =
     let zero_more : 0 + i ≡ i = omega arith in
     index_once 0 rows c i r (to_once (map client rows) once) lt own ∙ ap (λ (v : ℕ). Some v) zero_more
+
+no_index : (a : ℕ) (rows : List ClientHandles) (c : ℕ) → find (λ r. r.client == c) rows ≡ None
+    → index_from a rows c ≡ None
+no_index a [] c none = refl
+no_index a (x ∷ xs) c none =
+    elim (x.client == c) as (λ b. cond b (Some x) (find (λ r. r.client == c) xs) ≡ None
+    → (let o : Option ℕ = if b then Some a else index_from (a + 1) xs c in o) ≡ None) [
+      | true ↦ λ f. cc
+      | false ↦ λ f. no_index (a + 1) xs c f
+    ] none
+
+pub indexed : (rows : List ClientHandles) (c : ℕ) (o : Option ℕ) → AreOnce rows → IsFound client rows c o
+    → o ≡ index_from 0 rows c
+indexed rows c None once none = sym (no_index 0 rows c none)
+indexed [] c (Some i) once at = let lt = at.0 in absurd (omega (arith, lt))
+indexed (x ∷ xs) c (Some i) once at = sym (place_once (x ∷ xs) c i x once at.0 (at.1 x))
 
 -- ---- the rows of a table that changes
 

@@ -6,42 +6,31 @@ ghost use Rattle.sm_grants.specs.Rows.{table_of, index_from};
 ghost use Rattle.sm_grants.specs.Once.{AreOnce};
 
 use crate::handles::Handles;
+use sm_history::{OfClient, row_index};
 use sm_kinds::Node;
 
-/// A client and its handles.
+/// A client and its handles. Rows are in the order of their clients.
 #[derive(Drop)]
 pub struct ClientHandles {
     pub client: u32,
     pub handles: Handles,
 }
 
-/// Returns the index of a client's first row.
-fn first_row(rows: &[ClientHandles], client: u32) -> Option<usize>
-    ensures at { result ≡ index_from 0 rows.now client }
-    ensures inside { IfSome result (λ i. i < length rows.now) }
-{
-    for (i, row) in rows.iter().enumerate() {
-        if row.client == client {
-            return Some(i);
-        }
+impl OfClient for ClientHandles {
+    ghost client_of = { λ r. r.client };
+
+    fn client(&self) -> u32 {
+        self.client
     }
-    None
 }
 
-/// Returns the index of a client's row. Rows are in the order of their clients. While none dies, their numbers follow each
-/// other, so the row is at its number's distance from the first one.
+/// Returns the index of a client's row.
 pub fn row_of(rows: &[ClientHandles], client: u32) -> Option<usize>
     requires { AreOnce rows.now }
     ensures at { result ≡ index_from 0 rows.now client }
     ensures inside { IfSome result (λ i. i < length rows.now) }
 {
-    if !rows.is_empty() {
-        let place = (client.wrapping_sub(rows[0].client) as usize).min(rows.len() - 1);
-        if rows[place].client == client {
-            return Some(place);
-        }
-    }
-    first_row(rows, client)
+    row_index(rows, client)
 }
 
 /// Returns a client's handles, if it has a row.

@@ -8,7 +8,7 @@ use Rattle.std.proofs.lemmas.Bool.{true≢false}
 use Rattle.std.proofs.lemmas.Bool.Decides.{nat_tests}
 use Rattle.std.proofs.lemmas.List.Folds.{find_at, find-set, find_past, find-append}
 use Rattle.std.proofs.lemmas.List.Quantifiers.{position-Some}
-use Rattle.sm_history.specs.Tables.{IsChanged, IsPlace}
+use Rattle.sm_history.specs.Tables.{IsChanged, IsFound, IsPlace}
 use Rattle.sm_history.proofs.Balanced.{number_same}
 use Rattle.std.proofs.lemmas.Option.{slice_get-get_or, slice_get_past}
 
@@ -78,6 +78,10 @@ module _ {R : Type 0} (key : R → ℕ) where
       → MatchOption o (first_of key rows c ≡ None) (IsPlace key rows c)
   by_position rows c None e = no_row rows c (sym e)
   by_position rows c (Some i) e = is_place rows c i (sym e)
+
+  pub found : (rows : List R) (c : ℕ) (o : Option ℕ) → o ≡ position (is_of key c) rows → IsFound key rows c o
+  found rows c None e = no_row rows c (sym e)
+  found rows c (Some i) e = let at = is_place rows c i (sym e) in (at.inside, at.own)
 
   -- What was read at a client's place is its row.
   pub row_read : (rows : List R) (c i : ℕ) (r : R) → IsPlace key rows c i → r ≡ get_or rows i r

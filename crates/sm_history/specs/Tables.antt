@@ -76,6 +76,11 @@ pub record IsPlace {R : Type 0} (key : R → ℕ) (rows : List R) (c i : ℕ) : 
   pub own : (r : R) → key (slice_index_or rows i r) ≡ c
   pub written : (r : R) → key r ≡ c → IsChanged key rows (slice_set rows i r) c (Some r)
 
+-- Client c has no row, or has one with index i.
+abbrev pub IsFound : {R : Type 0} → (R → ℕ) → List R → ℕ → Option ℕ → Type 0
+IsFound key rows c None = find (λ r. key r == c) rows ≡ None
+IsFound {R} key rows c (Some i) = (i < length rows) × ((r : R) → key (slice_index_or rows i r) ≡ c)
+
 -- Only the row of a name changed, to o, and the names still rise.
 pub record IsNameChanged (rows rows' : List NamedRow) (name : List ℕ) (o : Option NamedRow) : Type 0 where
   pub own : row_in rows' name ≡ o

@@ -14,6 +14,7 @@
 #![tactic(auto)]
 
 mod by;
+mod client_rows;
 mod delivery;
 mod denial;
 mod effect;
@@ -42,6 +43,7 @@ mod told;
 mod turn;
 
 pub use by::By;
+pub use client_rows::{OfClient, row_index};
 pub use delivery::{Delivery, Given, GivenRefs, Message};
 pub use denial::Denial;
 pub use effect::{Effect, Watch, WatchPair};

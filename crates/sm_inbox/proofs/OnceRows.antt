@@ -1,13 +1,13 @@
 -- Rows of which no two are one client's.
 use Rattle.std.proofs.Common.{◌≡◌, ℕ, zero, suc, ◌<◌, Bool, true, false, ◌==◌, List, [], ◌∷◌, ◌++◌, refl, ap, ◌∙◌}
-use Rattle.std.proofs.Common.{◌||◌, length, get_or, set, map, cond, Some, None, if◌then◌else◌, arith}
-use Rattle.std.specs.Prelude.{filter}
+use Rattle.std.proofs.Common.{◌||◌, length, get_or, set, map, cond, Option, Some, None, if◌then◌else◌, arith}
+use Rattle.std.specs.Prelude.{filter, MatchOption}
 use Rattle.std.specs.List.{find, list_any, position_or_len}
 use Rattle.std.proofs.lemmas.Bool.{or_parts}
 use Rattle.std.proofs.lemmas.Bool.Decides.{nat_tests}
 use Rattle.sm_history.specs.Once.{is_once}
 use Rattle.sm_history.specs.Sound.{IsOnce}
-use Rattle.sm_history.specs.Tables.{IsPlace}
+use Rattle.sm_history.specs.Tables.{IsFound, IsPlace}
 use Rattle.sm_history.proofs.Sound.{once_filter, once_more}
 use Rattle.sm_history.proofs.ClientRows.{is_place, self_same}
 use Rattle.sm_history.proofs.Once.{to_once, from_once}
@@ -35,12 +35,17 @@ module _ {R : Type 0} (key : R → ℕ) where
       rw (other_row xs c (key x) i r once.0 (omega arith) own) (omega (arith, rest))
 
   -- A row that was found anywhere.
-  pub place_once : (rows : List R) (c i : ℕ) → is_once (map key rows) ≡ true → i < length rows
+  place_once : (rows : List R) (c i : ℕ) → is_once (map key rows) ≡ true → i < length rows
       → ((r : R) → key (get_or rows i r) ≡ c) → IsPlace key rows c i
   place_once [] c i once lt own = absurd (omega arith)
   place_once (x ∷ xs) c i once lt own =
       let at = first_place (x ∷ xs) c i x (to_once (map key (x ∷ xs)) once) lt (own x) in
       is_place key (x ∷ xs) c i (rw at grind (arith, nat_tests))
+
+  pub placed : (rows : List R) (c : ℕ) (o : Option ℕ) → is_once (map key rows) ≡ true → IsFound key rows c o
+      → MatchOption o (find (λ r. key r == c) rows ≡ None) (IsPlace key rows c)
+  placed rows c None once none = none
+  placed rows c (Some i) once at = place_once rows c i once at.0 at.1
 
   -- ---- the rows of a table that changes
 
