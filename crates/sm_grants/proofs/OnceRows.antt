@@ -1,14 +1,13 @@
 -- Rows of which no two are one client's.
 use Rattle.std.proofs.Common.{◌≡◌, ℕ, zero, suc, ◌+◌, ◌<◌, true, false, ◌==◌, List, [], ◌∷◌, refl, ap, sym, ◌∙◌}
-use Rattle.std.proofs.Common.{length, get_or, set, map, cond, Option, Some, None, if◌then◌else◌, arith}
-use Rattle.std.specs.List.{find, insert, list_any, remove}
-use Rattle.std.proofs.lemmas.Bool.{or_parts}
-use Rattle.std.proofs.lemmas.Bool.Decides.{nat_tests}
+use Rattle.std.proofs.Common.{length, get_or, map, cond, Option, Some, None, if◌then◌else◌, arith}
+use Rattle.std.specs.List.{find, insert, remove}
 use Rattle.sm_history.specs.Once.{is_once}
 use Rattle.sm_history.specs.Sound.{IsOnce}
 use Rattle.sm_history.specs.Tables.{IsFound}
 use Rattle.sm_history.proofs.ClientRows.{self_same}
 use Rattle.sm_history.proofs.Once.{to_once, from_once}
+use Rattle.sm_history.proofs.OnceRows.{other_row}
 use Rattle.sm_grants.specs.declared.rows.ClientHandles.{ClientHandles}
 use Rattle.sm_grants.specs.Once.{AreOnce}
 use Rattle.sm_grants.specs.Rows.{table_of, index_from}
@@ -18,18 +17,6 @@ use Rattle.sm_grants.proofs.ClientRows.{fewer_among, not_among, once_inserted as
 abbrev pub client : ClientHandles → ℕ
 client r = r.client
 
--- What isn't among the clients is no row's.
-other_row : (rows : List ClientHandles) (c k i : ℕ) (r : ClientHandles)
-    → list_any (λ y. y == k) (map client rows) ≡ false → i < length rows → (get_or rows i r).client ≡ c
-    → (k == c) ≡ false
-other_row [] c k i r none lt own = absurd (omega arith)
-other_row (x ∷ xs) c k zero r none lt own =
-    let p = or_parts (x.client == k) (list_any (λ y. y == k) (map client xs)) none in
-    let f = p.0 in
-    grind (arith, nat_tests)
-other_row (x ∷ xs) c k (suc i) r none lt own =
-    other_row xs c k i r (or_parts (x.client == k) (list_any (λ y. y == k) (map client xs)) none).1 (omega arith) own
-
 index_once : (a : ℕ) (rows : List ClientHandles) (c i : ℕ) (r : ClientHandles) → IsOnce (map client rows)
     → i < length rows → (get_or rows i r).client ≡ c → index_from a rows c ≡ Some (a + i)
 index_once a [] c i r once lt own = absurd (omega arith)
@@ -37,8 +24,8 @@ index_once a (x ∷ xs) c zero r once lt own =
     let here : a ≡ a + 0 = omega arith in rw (own, self_same c) (ap (λ (v : ℕ). Some v) here)
 index_once a (x ∷ xs) c (suc i) r once lt own =
     let there : (a + 1) + i ≡ a + suc i = omega arith in
-    rw (other_row xs c x.client i r once.0 (omega arith) own) (index_once (a + 1) xs c i r once.1 (omega arith) own
-    ∙ ap (λ (v : ℕ). Some v) there)
+    rw (other_row client xs c x.client i r once.0 (omega arith) own)
+    (index_once (a + 1) xs c i r once.1 (omega arith) own ∙ ap (λ (v : ℕ). Some v) there)
 
 -- A row that was found anywhere.
 place_once : (rows : List ClientHandles) (c i : ℕ) (r : ClientHandles) → is_once (map client rows) ≡ true
@@ -70,16 +57,6 @@ pub once_inserted : (rows : List ClientHandles) (i : ℕ) (r : ClientHandles) �
 once_inserted rows i r none once =
     from_once (map client (insert rows i r)) (inserted_once rows i r (not_among rows r.client none)
     (to_once (map client rows) once))
-
-map_written : (rows : List ClientHandles) (i : ℕ) (r d : ClientHandles) → r.client ≡ (get_or rows i d).client
-    → map client (set rows i r) ≡ map client rows
-map_written [] i r d e = refl
-map_written (x ∷ xs) zero r d e = ap (λ v. v ∷ map client xs) e
-map_written (x ∷ xs) (suc i) r d e = ap (λ ys. x.client ∷ ys) (map_written xs i r d e)
-
-pub once_written : (rows : List ClientHandles) (i : ℕ) (r r' : ClientHandles) → r ≡ get_or rows i r
-    → r'.client ≡ r.client → AreOnce rows → AreOnce (set rows i r')
-once_written rows i r r' at same once = rw (map_written rows i r' r (same ∙ ap client at)) once
 
 removed_once : (rows : List ClientHandles) (i : ℕ) → IsOnce (map client rows) → IsOnce (map client (remove rows i))
 removed_once [] zero once = tt

@@ -16,6 +16,7 @@ pub mod HeldAlike
 pub mod Rising
 pub mod Sound
 pub mod Once
+pub mod OnceRows
 pub mod AgreeEffects
 pub mod AgreeNotices
 pub mod AgreeChecks

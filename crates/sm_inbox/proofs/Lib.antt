@@ -1,4 +1,3 @@
-pub mod OnceRows
 pub mod RowLemmas
 pub mod Tracked
 pub mod Others

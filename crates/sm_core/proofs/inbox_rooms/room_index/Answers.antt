@@ -1,4 +1,4 @@
-use Rattle.sm_inbox.proofs.OnceRows.{placed}
+use Rattle.sm_history.proofs.OnceRows.{placed}
 use Rattle.sm_core.proofs.RoomRows.{client, none_newer}
 use Rattle.sm_core.proofs.inbox_rooms.room_index.Goals as goal
 

@@ -1,4 +1,4 @@
-use Rattle.sm_inbox.proofs.OnceRows.{placed}
+use Rattle.sm_history.proofs.OnceRows.{placed}
 use Rattle.sm_inbox.proofs.places.inbox_index.Goals as goal
 
 pub returns : goal.returns

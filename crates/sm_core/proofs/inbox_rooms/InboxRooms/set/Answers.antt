@@ -2,7 +2,7 @@ use Rattle.std.proofs.Common.{◌≡◌, ◌∙◌, None, ap, sym}
 use Rattle.std.specs.List.{find}
 use Rattle.sm_history.specs.Tables.{IsPlace}
 use Rattle.sm_history.proofs.ClientRows.{row_pushed}
-use Rattle.sm_inbox.proofs.OnceRows.{once_pushed, once_written}
+use Rattle.sm_history.proofs.OnceRows.{once_pushed, once_written}
 use Rattle.sm_core.specs.declared.inbox_rooms.InboxRoom.{InboxRoom}
 use Rattle.sm_core.proofs.RoomRows.{client, is_of, left_changed, up_pushed, up_written}
 use Rattle.sm_core.proofs.inbox_rooms.InboxRooms.set.Goals as goal

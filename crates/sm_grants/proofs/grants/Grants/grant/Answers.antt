@@ -5,7 +5,7 @@ use Rattle.sm_grants.specs.Slots.{HandleTable}
 use Rattle.sm_grants.specs.Rows.{index_from, spare_in, slots_of}
 use Rattle.sm_grants.specs.Highest.{highest_in, highest}
 use Rattle.sm_grants.proofs.Bound.{client_bounded, set_bounded, granted_bounded}
-use Rattle.sm_grants.proofs.OnceRows.{once_written}
+use Rattle.sm_history.proofs.OnceRows.{once_written}
 use Rattle.sm_grants.proofs.ClientRows.{tracks_gives, row_here, no_row, cannot, changed_own, changed_other}
 use Rattle.sm_grants.proofs.Granting.{can_here, can_in}
 use Rattle.sm_grants.proofs.grants.Grants.grant.Goals as goal
@@ -44,7 +44,7 @@ invariant_of-self-2 c =
           (granted_bounded (slots_of rows c.args.client) c.grant.new.self.slots c.args.node c.in-Some-grant.number
           c.args.self.now.bound 18446744073709551615
           (rw r.0 c.in-Some-grant.ensures.granted) can.few own small (omega arith)));
-      once = once_written rows c.in-Some.i c.index_mut-row.result.now _ c.index_mut-row.ensures.value refl
+      once = once_written _ rows c.in-Some.i c.index_mut-row.result.now _ c.index_mut-row.ensures.value refl
           c.args.self.now.once;
     }
 

@@ -3,7 +3,7 @@ use Rattle.std.specs.Prelude.{Option}
 use Rattle.sm_history.specs.Tables.{slot}
 use Rattle.sm_grants.specs.Slots.{HandleTable}
 use Rattle.sm_grants.specs.Rows.{index_from, slots_in, spare_in, spare_of, slots_of}
-use Rattle.sm_grants.proofs.OnceRows.{once_written}
+use Rattle.sm_history.proofs.OnceRows.{once_written}
 use Rattle.sm_grants.proofs.ClientRows.{spare_kept, tracks_releases, tracks_room, row_here, no_row, node_found}
 use Rattle.sm_grants.proofs.ClientRows.{node_none, node_no_number}
 use Rattle.sm_grants.specs.Highest.{highest_in, highest}
@@ -70,6 +70,6 @@ invariant_of-self-2 c =
           (released_bounded (slots_of rows c.args.client) c.release.new.self.slots (c.args.number - 1)
           c.args.self.now.bound
           (rw here.0 c.release.ensures.put) own);
-      once = once_written rows c.in-Some.i c.index_mut-row.result.now _ c.index_mut-row.ensures.value refl
+      once = once_written _ rows c.in-Some.i c.index_mut-row.result.now _ c.index_mut-row.ensures.value refl
           c.args.self.now.once;
     }

@@ -4,7 +4,8 @@ use Rattle.std.specs.List.{insert}
 use Rattle.sm_grants.specs.declared.rows.ClientHandles.{ClientHandles}
 use Rattle.sm_grants.specs.Slots.{HandleTable}
 use Rattle.sm_grants.specs.Rows.{index_from, slots_in, spare_in, spare_of, slots_of}
-use Rattle.sm_grants.proofs.OnceRows.{once_written, once_inserted}
+use Rattle.sm_history.proofs.OnceRows.{once_written}
+use Rattle.sm_grants.proofs.OnceRows.{once_inserted}
 use Rattle.sm_grants.proofs.ClientRows.{tracks_room, row_here, no_row, tracks_pushed, changed_own, spare_pushed}
 use Rattle.sm_grants.proofs.ClientRows.{spare_kept, spare_more}
 use Rattle.sm_history.specs.Tables.{Slots}
@@ -104,7 +105,7 @@ invariant_of-self c =
     record {
       bounded = set_bounded rows c.in-Some.i c.args.self.now.bound _ all
           (subst (λ (s : Slots). highest_in s ≤ c.args.self.now.bound) same own);
-      once = once_written rows c.in-Some.i c.index_mut-row.result.now _ c.index_mut-row.ensures.value refl
+      once = once_written _ rows c.in-Some.i c.index_mut-row.result.now _ c.index_mut-row.ensures.value refl
           c.args.self.now.once;
     }
 

@@ -3,7 +3,7 @@ use Rattle.sm_inbox.specs.Rows.{waiting_in}
 use Rattle.sm_history.proofs.ClientRows.{row_read, row_written}
 use Rattle.sm_inbox.proofs.RowLemmas.{room_others, open_written}
 use Rattle.sm_inbox.proofs.Tracked.{tracks_delivers}
-use Rattle.sm_inbox.proofs.OnceRows.{once_written}
+use Rattle.sm_history.proofs.OnceRows.{once_written}
 use Rattle.sm_inbox.proofs.inboxes.Inboxes.put.Goals as goal
 
 pub returns-clause-tracks : goal.returns-clause-tracks

@@ -5,7 +5,7 @@ use Rattle.sm_inbox.specs.declared.inbox.Inbox.{Inbox}
 use Rattle.sm_history.proofs.ClientRows.{row_gone}
 use Rattle.sm_inbox.proofs.RowLemmas.{room_others}
 use Rattle.sm_inbox.proofs.Tracked.{tracks_dies}
-use Rattle.sm_inbox.proofs.OnceRows.{once_left}
+use Rattle.sm_history.proofs.OnceRows.{once_left}
 use Rattle.sm_inbox.proofs.inboxes.Inboxes.remove_client.Goals as goal
 
 pub returns-clause-tracks : goal.returns-clause-tracks

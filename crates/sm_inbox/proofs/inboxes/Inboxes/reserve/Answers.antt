@@ -3,7 +3,7 @@ use Rattle.std.specs.Prelude.{is_some}
 use Rattle.sm_history.proofs.ClientRows.{sought, none_sought, row_pushed}
 use Rattle.sm_inbox.proofs.RowLemmas.{room_open, room_others, open_pushed}
 use Rattle.sm_inbox.proofs.Tracked.{tracks_pushed}
-use Rattle.sm_inbox.proofs.OnceRows.{once_pushed}
+use Rattle.sm_history.proofs.OnceRows.{once_pushed}
 use Rattle.sm_inbox.proofs.inboxes.Inboxes.reserve.Goals as goal
 
 pub returns-then-is_some-clause-room : goal.returns-then-is_some-clause-room

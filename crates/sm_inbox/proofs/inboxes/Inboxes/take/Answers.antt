@@ -1,7 +1,7 @@
 use Rattle.std.proofs.Common.{refl}
 use Rattle.sm_inbox.proofs.RowLemmas.{room_kept, popped, open_written}
 use Rattle.sm_inbox.proofs.Tracked.{tracks_popped}
-use Rattle.sm_inbox.proofs.OnceRows.{once_written}
+use Rattle.sm_history.proofs.OnceRows.{once_written}
 use Rattle.sm_inbox.proofs.inboxes.Inboxes.take.Goals as goal
 
 pub returns-clause-taken : goal.returns-clause-taken

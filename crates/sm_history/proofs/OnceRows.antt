@@ -16,7 +16,7 @@ use Rattle.sm_history.proofs.Once.{to_once, from_once}
 
 module _ {R : Type 0} (key : R → ℕ) where
   -- What isn't among the clients is no row's.
-  other_row : (rows : List R) (c k i : ℕ) (r : R) → list_any (λ y. y == k) (map key rows) ≡ false → i < length rows
+  pub other_row : (rows : List R) (c k i : ℕ) (r : R) → list_any (λ y. y == k) (map key rows) ≡ false → i < length rows
       → key (get_or rows i r) ≡ c → (k == c) ≡ false
   other_row [] c k i r none lt own = absurd (omega arith)
   other_row (x ∷ xs) c k zero r none lt own =
