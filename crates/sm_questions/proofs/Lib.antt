@@ -9,3 +9,4 @@ pub mod Parting
 pub mod Permissions
 pub mod Rising
 pub mod Written
+pub mod Picked

@@ -1,6 +1,6 @@
 -- The types that are asked for, by their numbers.
 use Rattle.std.proofs.Common.{◌≡◌, ◌∙◌, ℕ, ◌+◌, cond, ◌<◌, ◌≤◌, Bool, true, false, List, [], ◌∷◌, ◌++◌, length, take, map}
-use Rattle.std.proofs.Common.{refl, sym, ap}
+use Rattle.std.proofs.Common.{refl, sym, ap, arith, get_or}
 use Rattle.std.specs.Prelude.{if◌then◌else◌, All, Option}
 use Rattle.std.specs.List.{filter, flat_map}
 use Rattle.std.proofs.lemmas.List.{append-nil, map-append, take_all}
@@ -70,3 +70,12 @@ pub numbered_lines : (names : List Name) (wanted : Option (List ℕ)) (f : Name 
     → flat_map (numbered names f) numbers ≡ flat_map (λ t. if is_left wanted t then f t else []) names
 numbered_lines names wanted f numbers are = sym (flat_map-map f (at names) numbers) ∙ ap (flat_map f) are.picked
     ∙ sym (flat_map-filter (is_left wanted) f names)
+
+-- A single number has the lines of all types that are asked for.
+pub one_number : (names : List Name) (wanted : Option (List ℕ)) (f : Name → List ℕ) (numbers : List ℕ)
+    → AreAsked names wanted numbers → length numbers ≡ 1
+    → f (at names (get_or numbers 0 0)) ≡ flat_map (λ t. if is_left wanted t then f t else []) names
+one_number names wanted f [] are one = absurd (omega (arith, one))
+one_number names wanted f (n ∷ []) are one = sym (append-nil (f (at names n)))
+    ∙ numbered_lines names wanted f (n ∷ []) are
+one_number names wanted f (n ∷ (m ∷ more)) are one = absurd (omega (arith, one))

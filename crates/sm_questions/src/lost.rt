@@ -1,6 +1,6 @@
 //! Accesses that only one of two policies allows.
 
-ghost use Rattle.std.specs.Prelude.{◌≡◌, ◌+◌, ◌<◌, ◌≤◌, ◌++◌, ℕ, [], IfSome, None, OnOk, length, map, option_map};
+ghost use Rattle.std.specs.Prelude.{◌≡◌, ◌+◌, ◌<◌, ◌≤◌, ◌++◌, ℕ, [], IfOk, IfSome, None, OnOk, length, map, option_map};
 ghost use Rattle.std.specs.Prelude.{true};
 ghost use Rattle.std.proofs.Common.{get_or};
 ghost use Rattle.sm_types.specs.Names.{at};
@@ -157,7 +157,7 @@ fn push_run(
 ) -> Result<(), AllocError>
     requires source { source < length (types one.now.statements) }
     requires here { IsRow one.now here.now source }
-    requires there { IsRowThere other.now there.now (type_index other.now (at (types one.now.statements) source)) }
+    requires there { IsRowThere other.now there.now (get_or numbers.now source None) }
     requires from { from ≤ to }
     requires to { to ≤ length (types one.now.statements) }
     requires numbers { numbers.now ≡ map (type_index other.now) (types one.now.statements) }

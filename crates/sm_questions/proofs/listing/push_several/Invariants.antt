@@ -4,7 +4,7 @@ use Rattle.sm_types.specs.Names.{at}
 use Rattle.sm_types.specs.Denoting.{types}
 use Rattle.sm_questions.specs.Accesses.{pair_lines}
 use Rattle.sm_questions.proofs.Numbers.{numbered}
-use Rattle.sm_questions.proofs.listing.push_targets.Given as goal
+use Rattle.sm_questions.proofs.listing.push_several.Given as goal
 
 abbrev pub invariant-loop-target : goal.invariant-loop-target
 invariant-loop-target l = l.held.items ≡ l.initial.held.items

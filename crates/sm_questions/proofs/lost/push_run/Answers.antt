@@ -22,10 +22,9 @@ loop-target-preserved c =
     elim c.if-not-is_kept.branch [
       | then-not-is_kept+in_ok-push_pair w ↦ rw w.held-is w.in_ok-push_pair.ensures
       | else-not-is_kept w ↦
-          let number = is_number c.args.other.now names c.args.source c.requires.source in
-          let some = rw (← number) at c.requires.there.some in
-          let none = rw (← number) at c.requires.there.none in
-          let kept = rw (c.requires.numbers, c.from-in-loop-target.ensures) at
+          let some = rw c.requires.numbers at c.requires.there.some in
+          let none = rw c.requires.numbers at c.requires.there.none in
+          let kept = rw (c.requires.numbers, c.from.ensures) at
           (sym c.is_kept.ensures ∙ w.if-not-is_kept.false) in
           let nothing = kept_lost c.args.sign c.args.one.now c.args.other.now c.args.here.now
           c.args.there.now c.args.source c.loop-target.target c.requires.source lt

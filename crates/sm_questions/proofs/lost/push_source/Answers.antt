@@ -37,11 +37,11 @@ loop-from-preserved c =
     (rw (c.as_slice-ends.ensures.value, c.from-in-loop-from.ensures) refl) in
     let are : c.as_slice-numbers.result.now ≡ map (type_index c.args.other.now) (types c.args.one.now.statements) =
     c.as_slice-numbers.ensures.value ∙ c.requires.numbers.numbers in
-    let some = rw (are, c.from.ensures) at c.row_there-there.ensures.some in
-    let none = rw (are, c.from.ensures) at c.row_there-there.ensures.none in
-    let kept = rw (are, c.from-in-loop-from-2.ensures) at (c.if-not-is_run_kept.ensures refl) in
-    let nothing = run_kept c.args.sign c.args.one.now c.args.other.now c.granted_row-here.result.now
-    c.row_there-there.result.now c.args.source c.loop-from.from to c.requires.source (c.granted_row-here.ensures.allowed c.requires.source) some none
+    let some = rw (are, c.from.ensures) at c.in_ok-there.ensures.some in
+    let none = rw (are, c.from.ensures) at c.in_ok-there.ensures.none in
+    let kept = rw (are, c.from-in-loop-from-2.ensures, c.deref.ensures.value, c.deref-in-loop-from.ensures.value) at (c.if-not-is_run_kept.ensures refl) in
+    let nothing = run_kept c.args.sign c.args.one.now c.args.other.now c.in_ok-here.here.items
+    c.in_ok-there.there.items c.args.source c.loop-from.from to c.requires.source (c.in_ok-here.ensures.allowed c.requires.source) some none
     run kept in
     let same : c.loop-from.held.items ≡ c.loop-from.held.items ++ run_lines c.args.sign c.args.one.now c.args.other.now
     (at (types c.args.one.now.statements) c.args.source) c.loop-from.from to =
