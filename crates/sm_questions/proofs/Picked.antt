@@ -1,10 +1,14 @@
 -- Bits that a test picks, one after another.
-use Rattle.std.proofs.Common.{inl, inr, ◌≡◌, ◌∙◌, ℕ, ◌+◌, Bool, true, false, ◌||◌, nat_eq, refl, sym, arith}
+use Rattle.std.proofs.Common.{inl, inr, ◌≡◌, ◌∙◌, ℕ, ◌+◌, ◌<◌, ◌≤◌, Bool, true, false, ◌||◌, nat_eq, refl, sym, arith}
 use Rattle.std.proofs.lemmas.Bool.Decides.{nat_tests}
 use Rattle.std.proofs.lemmas.Bool.{cases_lt}
 use Rattle.std.proofs.lemmas.Nat.Bits.{bit_at-zero}
 use Rattle.sm_bits.specs.Bits.{has_bit}
-use Rattle.sm_questions.specs.Granted.{ArePicked}
+
+-- Of its first n bits the byte has those that the test picks, and it has no others.
+pub record ArePicked (picks : ℕ → Bool) (n byte : ℕ) : Type 0 where
+  pub below : (b : ℕ) → b < n → has_bit byte b ≡ picks b
+  pub above : (b : ℕ) → n ≤ b → has_bit byte b ≡ false
 
 no_bit : (b : ℕ) → has_bit 0 b ≡ false
 unfolding has_bit

@@ -1,7 +1,6 @@
 -- The permissions of two types as the bits of a byte, beside those of another policy.
-use Rattle.std.specs.Prelude.{◌≡◌, ℕ, Bool, ◌<◌, ◌≤◌, ◌||◌, false, nat_eq, List, [], Option, Some, None, IfSome}
+use Rattle.std.specs.Prelude.{◌≡◌, ℕ, Bool, ◌||◌, nat_eq, List, [], Option, Some, None, IfSome}
 use Rattle.std.proofs.Common.{get_or}
-use Rattle.sm_bits.specs.Bits.{has_bit}
 use Rattle.sm_policy.specs.Policy.{Policy}
 use Rattle.sm_policy.specs.GrantedRow.{IsRow}
 
@@ -18,8 +17,3 @@ is_kept here there = nat_eq here 0 || nat_eq here there
 pub record IsRowThere (policy : Policy) (row : List ℕ) (source : Option ℕ) : Type 0 where
   pub some : IfSome source (IsRow policy row)
   pub none : source ≡ None → row ≡ []
-
--- Of its first n bits the byte has those that the test picks, and it has no others.
-pub record ArePicked (picks : ℕ → Bool) (n byte : ℕ) : Type 0 where
-  pub below : (b : ℕ) → b < n → has_bit byte b ≡ picks b
-  pub above : (b : ℕ) → n ≤ b → has_bit byte b ≡ false
