@@ -90,7 +90,7 @@ fn lists(reply: &Reply, entries: u64, names: &[&[u8]]) -> bool {
             version: 1,
             length,
             answer: Answer::Names(list),
-        } => *length == entries && are(list.names(), names),
+        } => *length == entries && are(list.get(), names),
         _ => false,
     }
 }
