@@ -102,7 +102,8 @@ fn push_answer(
     }
 }
 
-// Appends a word and two numbers.
+// Appends a word and two numbers. Inline, since each word is a constant.
+#[inline(always)]
 fn push_two(out: &mut Vec<u8>, word: &[u8], first: u64, second: u64) -> Result<(), AllocError>
     ensures { OnOk result (out.new.items
         ≡ out.old.items ++ numbered word.now first ++ numbered (codes " ") second) }
