@@ -103,7 +103,7 @@ turned_all f old new other none e g i end t j = elim (cases_lt (j / 64) (length 
       rw (has_past new j h, has_past old j p, has_past other j q, none) refl)
 ]
 
-bit_cases : (x b : ℕ) → (bit_at x b ≡ 0) ⊎ (bit_at x b ≡ 1)
+pub bit_cases : (x b : ℕ) → (bit_at x b ≡ 0) ⊎ (bit_at x b ≡ 1)
 bit_cases x b = let l : bit_at x b < 2 = bit_at-lt x b in
     elim (cases_eq (bit_at x b) 0) [ inl e ↦ inl e | inr e ↦ inr (omega arith) ]
 

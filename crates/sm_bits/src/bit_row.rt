@@ -112,6 +112,22 @@ fn next_in(words: &[u64], from: usize) -> Option<usize>
     None
 }
 
+/// Returns whether two rows have the same numbers below `end`.
+fn words_alike(words: &[u64], others: &[u64], end: usize) -> bool
+    requires room { (end ≤ 64 * length words.now) × (end ≤ 64 * length others.now) }
+    requires few { length words.now < 2 ^ 32 }
+    ensures same { result ≡ true → (j : ℕ) → j < end → has words.now j ≡ has others.now j }
+    ensures other { result ≡ false → (j : ℕ) × (j < end) × (has words.now j ≡ has others.now j → ⊥) }
+{
+    for i in 0..end.div_ceil(64) {
+        let differing = words[i] ^ others[i];
+        if differing != 0 {
+            return end <= 64 * i + differing.trailing_zeros() as usize;
+        }
+    }
+    true
+}
+
 /// Sets a bit in the byte of each number of one word.
 fn mark_word(bytes: &mut [u8], words: &[u64], place: usize, bit: u32)
     requires bit { bit < 8 }
@@ -210,6 +226,16 @@ impl BitRow {
         ensures other { result ≡ false → self.now ≡ other.now → ⊥ }
     {
         self.words == other.words
+    }
+
+    /// Returns whether both rows have the same numbers below `end`.
+    pub fn is_same_below(&self, other: &BitRow, end: usize) -> bool
+        requires room { (end ≤ 64 * length self.now) × (end ≤ 64 * length other.now) }
+        requires few { length self.now < 2 ^ 32 }
+        ensures same { result ≡ true → (j : ℕ) → j < end → has self.now j ≡ has other.now j }
+        ensures other { result ≡ false → (j : ℕ) × (j < end) × (has self.now j ≡ has other.now j → ⊥) }
+    {
+        words_alike(&self.words, &other.words, end)
     }
 
     /// Returns a digest of the words, which is the same for equal rows.

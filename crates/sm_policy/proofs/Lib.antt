@@ -2,6 +2,7 @@ pub mod Crossing
 pub mod Few
 pub mod Finding
 pub mod Firsts
+pub mod Granting
 pub mod Labelling
 pub mod Looking
 pub mod Others

@@ -58,19 +58,20 @@ impl Drop for Prepared {
 }
 
 impl Prepared {
-    ghost use Rattle.std.specs.Prelude.{◌≡◌, ◌<◌, ◌≤◌, ℕ, List, [], Some, IfOk, IfErr, length};
+    ghost use Rattle.std.specs.Prelude.{◌≡◌, ◌<◌, ◌≤◌, ◌⊎◌, ℕ, List, [], Some, IfOk, IfErr, length, true, false};
     ghost use Rattle.sm_kinds.specs.Contexts.{type_of};
     ghost use Rattle.sm_policy.specs.Policy.{allowed, audits, decision, allowed_at, type_index, label_of, written_at};
-    ghost use Rattle.sm_policy.specs.Policy.{IsConsistent};
+    ghost use Rattle.sm_policy.specs.Policy.{IsConsistent, is_permissive};
     ghost use Rattle.sm_policy.specs.Breaking.{IfNeverallow, IsBrokenText};
     ghost use Rattle.sm_policy.specs.Counting.{counts_of};
     ghost use Rattle.sm_kinds.specs.Reading.{Gives};
     ghost use Rattle.sm_policy.specs.Preparing.{is_memory, prepared};
     ghost use Rattle.sm_policy.specs.Parts.{ArePartsOf};
-    ghost use Rattle.sm_policy.specs.GrantedRow.{IsRow};
+    ghost use Rattle.sm_policy.specs.GrantedRow.{IsRow, granted};
     ghost use Rattle.sm_rules.specs.Keeping.{RulesOf};
     ghost use Rattle.sm_types.specs.Denoting.{types};
     ghost use Rattle.sm_types.specs.Members.{IsOf};
+    ghost use Rattle.sm_types.specs.Names.{at};
 
     /// Prepares the policy of a policy source and a contexts file.
     ///
@@ -161,6 +162,23 @@ impl Prepared {
     {
         let row = self.parts().vectors.granted_row(alloc, source)?;
         Ok(row)
+    }
+
+    /// Returns whether a source is allowed the same as one of another policy, on each type whose number is below `end`
+    /// in both. Types are given by their numbers. `false` also if only one of the sources is permissive.
+    pub fn grants_alike(&self, other: &Prepared, source: u16, theirs: u16, end: u16) -> bool
+        requires sources { (source < length (types self.now.statements))
+            × (theirs < length (types other.now.statements)) }
+        requires end { (end ≤ length (types self.now.statements)) × (end ≤ length (types other.now.statements)) }
+        ensures alike { result ≡ true → (t b : ℕ) → t < end → b < 7
+            → granted self.now source t b ≡ granted other.now theirs t b }
+        ensures differ { result ≡ false → (is_permissive self.now (at (types self.now.statements) source)
+            ≡ is_permissive other.now (at (types other.now.statements) theirs) → ⊥)
+            ⊎ ((t : ℕ) × (b : ℕ) × (t < end) × (b < 7)
+            × (granted self.now source t b ≡ granted other.now theirs t b → ⊥)) }
+    {
+        let vectors = &self.parts().vectors;
+        vectors.grants_alike(&other.parts().vectors, source, theirs, end)
     }
 
     /// Returns the decision on two types whose `type_index` is `source` and `target`: whether the access is allowed,

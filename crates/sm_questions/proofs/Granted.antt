@@ -1,10 +1,11 @@
 -- Two types without a permission have no lines.
-use Rattle.std.proofs.Common.{◌≡◌, ◌∙◌, ◌&&◌, ℕ, ◌<◌, List, [], Option, Some, None, IfSome, true, false, nat_eq, get_or, length}
-use Rattle.std.proofs.Common.{map, refl, sym, inl, inr, arith}
+use Rattle.std.proofs.Common.{◌≡◌, ◌∙◌, ◌&&◌, ℕ, suc, ◌+◌, ◌-◌, ◌<◌, ◌≤◌, List, [], ◌∷◌, ◌++◌, Option, Some, None, IfSome, true, false}
+use Rattle.std.proofs.Common.{nat_eq, get_or, length, take, map, refl, sym, ap, inl, inr, append_assoc, arith}
 use Rattle.std.specs.List.{flat_map}
-use Rattle.std.proofs.lemmas.List.{get_or-map}
+use Rattle.std.proofs.lemmas.List.{append-nil, get_or_default, get_or-map, get_or-take, length-map, length-take-le, take_more}
+use Rattle.std.proofs.lemmas.Grind.{flat_map-append}
 use Rattle.std.proofs.lemmas.Nat.Bits.{bit_at-zero}
-use Rattle.std.proofs.lemmas.Bool.{eqb-true, or_cases}
+use Rattle.std.proofs.lemmas.Bool.{cases_eq, eqb-true, or_cases}
 use Rattle.sm_bits.specs.Bits.{has_bit}
 use Rattle.sm_rules.specs.Keeping.{class_at, perm_at}
 use Rattle.sm_policy.specs.Policy.{Policy, allowed, type_index}
@@ -13,8 +14,10 @@ use Rattle.sm_types.specs.Names.{at}
 use Rattle.sm_types.specs.Denoting.{types}
 use Rattle.sm_questions.specs.Accesses.{access_line, perm_lines, pair_lines, perm_numbers}
 use Rattle.sm_questions.specs.Differences.{is_lost, lost_pair, lost_perm}
-use Rattle.sm_policy.specs.GrantedRow.{IsGranted, IsRow}
-use Rattle.sm_questions.specs.Granted.{byte_for, is_kept}
+use Rattle.sm_policy.specs.GrantedRow.{IsGranted, IsRow, granted}
+use Rattle.sm_questions.specs.Granted.{LosesNothing, byte_for, is_kept}
+use Rattle.sm_questions.specs.TypeNumbers.{AreNumbersIn}
+use Rattle.sm_questions.specs.declared.type_numbers.TypeNumbers.{TypeNumbers}
 
 no_bit : (b : ℕ) → has_bit 0 b ≡ false
 unfolding has_bit
@@ -126,3 +129,61 @@ kept_lost sign one other here there s t hs ht is row none kept =
       | inr equal ↦ equal_lost sign one other there byte s t (get_or numbers s None) (get_or numbers t None) hs ht
           (is t ht) refl refl row none (eqb-true byte same equal)
     ]
+
+none_of : {A : Type 0} (f : A → List ℕ) (xs : List A) (d : A)
+    → ((i : ℕ) → i < length xs → f (get_or xs i d) ≡ []) → flat_map f xs ≡ []
+none_of f [] d none = refl
+none_of f (x ∷ xs) d none =
+    let here : f x ≡ [] = none 0 (omega arith) in
+    let rest : flat_map f xs ≡ [] = none_of f xs d (λ i lt. none (suc i) (omega arith)) in
+    rw (here, rest) refl
+
+-- Types that have the same number in both policies, on which both grant the same.
+pub nothing_lost : (sign : ℕ) (one other : Policy) (s theirs end : ℕ)
+    → at (types other.statements) theirs ≡ at (types one.statements) s → end ≤ length (types one.statements)
+    → ((t : ℕ) → t < end → at (types other.statements) t ≡ at (types one.statements) t)
+    → ((t b : ℕ) → t < end → b < 7 → granted one s t b ≡ granted other theirs t b)
+    → LosesNothing sign one other s end
+nothing_lost sign one other s theirs end named within same alike =
+    let names = types one.statements in
+    none_of (lost_pair sign one other (at names s)) (take end names) [] (λ t lt.
+    let short : t < end = omega (arith, lt, length-take-le end names within) in
+    rw (get_or-take end names t [] short)
+    (same_lost sign one other (at names s) (at names t) (λ b small.
+    rw (named, same t short) at (alike t b short small))))
+
+-- The types that have the same number in both policies are types of both.
+pub same_types : (one other : Policy) (n : TypeNumbers) → AreNumbersIn one other n → (t : ℕ) → t < n.same
+    → (t < length (types other.statements)) × (at (types other.statements) t ≡ at (types one.statements) t)
+same_types one other n are t lt =
+    found_at one other t (omega (arith, lt, are.within)) (rw are.numbers at (are.same t lt))
+
+pub same_within : (one other : Policy) (n : TypeNumbers) → AreNumbersIn one other n
+    → n.same ≤ length (types other.statements)
+same_within one other n are = elim (cases_eq n.same 0) [
+  | inl none ↦ omega (arith, none)
+  | inr some ↦ (let last = same_types one other n are (n.same - 1) (omega (arith, some)) in omega (arith, last.0, some))
+]
+
+-- The lines of one more target are appended to what is held.
+pub lost_next : {held next : List ℕ} (f : List ℕ → List ℕ) (names : List (List ℕ)) (t : ℕ) (first : List ℕ)
+    → t < length names → held ≡ first ++ flat_map f (take t names) → next ≡ held ++ f (at names t)
+    → next ≡ first ++ flat_map f (take (t + 1) names)
+lost_next {held} {next} f names t first lt p q =
+    q ∙ rw (
+      p,
+      take_more names t [] lt,
+      flat_map-append f (take t names) (at names t ∷ []),
+      append-nil (f (at names t)),
+      append_assoc,
+    ) refl
+
+-- A number that was read is that of the same type.
+pub source_found : (one other : Policy) (n : TypeNumbers) → AreNumbersIn one other n → (s : ℕ) {read : Option ℕ}
+    {theirs : ℕ} → s < length (types one.statements) → read ≡ get_or n.numbers.items s read → read ≡ Some theirs
+    → (theirs < length (types other.statements)) × (at (types other.statements) theirs ≡ at (types one.statements) s)
+source_found one other n are s {read} {theirs} lt is some =
+    let names = types one.statements in
+    let inside : s < length n.numbers.items =
+    omega (arith, lt, ap length are.numbers, length-map names (type_index other)) in
+    found_at one other s lt (rw are.numbers at (sym (is ∙ get_or_default n.numbers.items s read None inside) ∙ some))

@@ -7,6 +7,5 @@ pub mod Keys
 pub mod Numbers
 pub mod Parting
 pub mod Permissions
-pub mod Rising
 pub mod Written
 pub mod Picked

@@ -9,6 +9,6 @@ pub mod Keys
 pub mod Labels
 pub mod Parts
 pub mod Relabelled
-pub mod Runs
+pub mod TypeNumbers
 pub mod Shown
 pub mod Words

@@ -8,8 +8,8 @@ use Rattle.sm_questions.specs.declared.part.Part.TheVariants.{Lost, Gained, Rela
 use Rattle.sm_questions.specs.Differences.{lost_source, turned_type}
 use Rattle.sm_questions.specs.Keys.{keys_of}
 use Rattle.sm_questions.specs.Relabelled.{changed, added}
-use Rattle.sm_questions.specs.Runs.{AreNumbersIn}
-use Rattle.sm_questions.specs.declared.runs.TypeNumbers.{TypeNumbers}
+use Rattle.sm_questions.specs.TypeNumbers.{AreNumbersIn}
+use Rattle.sm_questions.specs.declared.type_numbers.TypeNumbers.{TypeNumbers}
 
 -- These are the types or keys that a part goes through.
 abbrev pub names_in : Part → Policy → Policy → List (List ℕ)

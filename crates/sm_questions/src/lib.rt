@@ -13,10 +13,10 @@ mod lookups;
 mod lost;
 mod part;
 mod relabelling;
-mod runs;
 mod showing;
 #[cfg(test)]
 mod tests;
+mod type_numbers;
 mod unknown;
 
 pub use comparing::diff;

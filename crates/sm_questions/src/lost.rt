@@ -9,11 +9,11 @@ ghost use Rattle.sm_policy.specs.Policy.{type_index};
 ghost use Rattle.sm_questions.specs.Differences as spec;
 ghost use Rattle.sm_policy.specs.GrantedRow.{IsRow};
 ghost use Rattle.sm_questions.specs.Granted as granted;
-ghost use Rattle.sm_questions.specs.Granted.{byte_for, IsRowThere};
-ghost use Rattle.sm_questions.specs.Runs.{AreNumbersIn, run_lines};
+ghost use Rattle.sm_questions.specs.Granted.{byte_for, IsRowThere, LosesNothing};
+ghost use Rattle.sm_questions.specs.TypeNumbers.{AreNumbersIn};
 
 use crate::lookups::{byte_at, type_count, type_name};
-use crate::runs::TypeNumbers;
+use crate::type_numbers::TypeNumbers;
 use sm_kinds::push_access;
 use sm_policy::Prepared;
 use sm_rules::{PERM_COUNT, class_at, perm_at};
@@ -105,67 +105,44 @@ fn is_kept(here: &[u8], there: &[u8], target: u16, number: Option<u16>) -> bool
     byte == 0 || number.is_some_and(|n| byte == byte_at(there, n))
 }
 
-/// Returns whether both rows have the same bytes for the types of a run, of which the first one has this number in the
-/// other policy.
-#[inline(never)]
-fn is_same(here: &[u8], there: &[u8], from: u16, to: u16, number: u16) -> bool
-    requires { from < to }
-    ensures { result ≡ true → (k : ℕ) → from + k < to
-        → granted.is_kept (get_or here.now (from + k) 0) (get_or there.now (number + k) 0) ≡ true }
+/// Returns the end of the types, from the first one on, on which the rows of both policies show that a source loses
+/// nothing. 0 if they don't show it.
+fn kept_end(one: &Prepared, other: &Prepared, numbers: &TypeNumbers, source: u16) -> u16
+    requires source { source < length (types one.now.statements) }
+    requires numbers { AreNumbersIn one.now other.now numbers.now }
+    ensures within { result ≤ length (types one.now.statements) }
+    ensures nothing { (sign : ℕ) → LosesNothing sign one.now other.now source result }
 {
-    let (from, to, start) = (usize::from(from), usize::from(to), usize::from(number));
-    let end = start + (to - from);
-    if here.len() < to {
-        return false;
-    }
-    if there.len() < end {
-        return false;
-    }
-    here[from..to] == there[start..end]
-}
-
-/// Returns whether a source loses nothing on the types of a run, as far as the bytes of both rows show. The first type
-/// has this number in the other policy.
-#[inline]
-fn is_run_kept(here: &[u8], there: &[u8], from: u16, to: u16, number: Option<u16>) -> bool
-    requires { from < to }
-    ensures { result ≡ true → (k : ℕ) → from + k < to
-        → granted.is_kept (get_or here.now (from + k) 0) (byte_for there.now (option_map (λ n. n + k) number)) ≡ true }
-{
-    if to - from == 1 {
-        return is_kept(here, there, from, number);
-    }
-    match number {
-        Some(number) => is_same(here, there, from, to, number),
-        None => false,
+    match numbers.numbers[usize::from(source)] {
+        Some(theirs) if one.grants_alike(other, source, theirs, numbers.same) => numbers.same,
+        _ => 0,
     }
 }
 
-/// Appends the lines for a source, with the targets of a run.
+/// Appends the lines for a source, which loses nothing on the targets below `from`.
+#[tactic(auto, unfolding(crate::specs::Differences::lost_source))]
 #[inline(never)]
-fn push_run(
+fn push_rest(
+    alloc: Global,
     sign: u8,
     one: &Prepared,
     other: &Prepared,
     numbers: &[Option<u16>],
     source: u16,
-    here: &[u8],
-    there: &[u8],
     from: u16,
-    to: u16,
     held: &mut Vec<u8>,
 ) -> Result<(), AllocError>
     requires source { source < length (types one.now.statements) }
-    requires here { IsRow one.now here.now source }
-    requires there { IsRowThere other.now there.now (get_or numbers.now source None) }
-    requires from { from ≤ to }
-    requires to { to ≤ length (types one.now.statements) }
+    requires from { from ≤ length (types one.now.statements) }
+    requires nothing { LosesNothing sign one.now other.now source from }
     requires numbers { numbers.now ≡ map (type_index other.now) (types one.now.statements) }
-    ensures { OnOk result (held.new.items ≡ held.old.items ++ run_lines sign one.now other.now
-        (at (types one.now.statements) source) from to) }
+    ensures { OnOk result (held.new.items ≡ held.old.items ++ spec.lost_source sign one.now other.now
+        (at (types one.now.statements) source)) }
 {
-    for target in from..to {
-        if !is_kept(here, there, target, numbers[usize::from(target)]) {
+    let here = one.granted_row(alloc, source)?;
+    let there = row_there(alloc, other, numbers[usize::from(source)])?;
+    for target in from..type_count(one) {
+        if !is_kept(&here, &there, target, numbers[usize::from(target)]) {
             push_pair(sign, one, other, numbers, source, target, held)?;
         }
     }
@@ -188,20 +165,10 @@ pub fn push_source(
     ensures { OnOk result (held.new.items ≡ held.old.items ++ spec.lost_source sign one.now other.now
         (at (types one.now.statements) source)) }
 {
-    let here = one.granted_row(alloc, source)?;
-    let ends = numbers.ends.as_slice();
-    let numbers = numbers.numbers.as_slice();
-    let there = row_there(alloc, other, numbers[usize::from(source)])?;
-    let count = type_count(one);
-    let mut from = 0;
-    while from < count {
-        let to = ends[usize::from(from)];
-        if !is_run_kept(&here, &there, from, to, numbers[usize::from(from)]) {
-            push_run(
-                sign, one, other, numbers, source, &here, &there, from, to, held,
-            )?;
-        }
-        from = to;
+    let from = kept_end(one, other, numbers, source);
+    if from == type_count(one) {
+        return Ok(());
     }
-    Ok(())
+    let numbers = numbers.numbers.as_slice();
+    push_rest(alloc, sign, one, other, numbers, source, from, held)
 }

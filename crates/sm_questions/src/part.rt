@@ -8,7 +8,7 @@ ghost use Rattle.sm_questions.specs.Parts.{AreNumbers, lines_of, names_in};
 use crate::lookups::{has_key, is_permissive, key, type_at, type_count, type_name};
 use crate::lost::push_source;
 use crate::relabelling::push_changed;
-use crate::runs::TypeNumbers;
+use crate::type_numbers::TypeNumbers;
 use sm_policy::Prepared;
 use std::alloc::{AllocError, Global};
 

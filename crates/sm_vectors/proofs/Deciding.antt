@@ -91,7 +91,7 @@ all_bits (suc (suc (suc (suc (suc zero))))) lt = refl
 all_bits (suc (suc (suc (suc (suc (suc zero)))))) lt = refl
 all_bits (suc (suc (suc (suc (suc (suc (suc b))))))) lt = absurd (omega arith)
 
-single : (b : ℕ) → b < 7 → is_some (perm_of (class_at b) (perm_at b)) ≡ true
+pub single : (b : ℕ) → b < 7 → is_some (perm_of (class_at b) (perm_at b)) ≡ true
 single b lt = grind arith
 
 anyway : (w p z : Bool) → p ≡ true

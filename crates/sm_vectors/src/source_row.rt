@@ -1,6 +1,6 @@
-//! The permissions of a source on each target, as bytes.
+//! The permissions of a source on each target.
 
-ghost use Rattle.std.specs.Prelude.{◌≡◌, ◌<◌, ◌/◌, ◌+◌, ℕ, length, slice_index, IfOk, false};
+ghost use Rattle.std.specs.Prelude.{◌≡◌, ◌<◌, ◌≤◌, ◌/◌, ◌+◌, ℕ, length, slice_index, IfOk, true, false};
 ghost use Rattle.sm_bits.specs.Bits.{has, has_bit, row};
 ghost use Rattle.sm_types.specs.declared.TheConstants.{MOST_TYPES};
 ghost use Rattle.sm_neverallow.specs.Matrices.{matrix, AllSquare};
@@ -42,4 +42,33 @@ pub fn source_row(
     let mut bytes = vec![in alloc; 0u8; count.get()]?;
     mark_source(&mut bytes, matrices, count, source);
     Ok(bytes)
+}
+
+/// Returns whether two sources, one in each of some matrices, have the same permissions on each target below `end`.
+pub fn rows_alike(
+    one: &Matrices,
+    other: &Matrices,
+    count: TypeCount,
+    others: TypeCount,
+    source: usize,
+    theirs: usize,
+    end: usize,
+) -> bool
+    requires numbers { (length one.now ≡ 7) × (length other.now ≡ 7) }
+    requires square { AllSquare one.now count × AllSquare other.now others }
+    requires sources { (source < count) × (theirs < others) }
+    requires end { (end ≤ count) × (end ≤ others) }
+    ensures alike { result ≡ true → (t b : ℕ) → t < end → b < 7
+        → has (row (matrix one.now b) source) t ≡ has (row (matrix other.now b) theirs) t }
+    ensures differ { result ≡ false → (t : ℕ) × (b : ℕ) × (t < end) × (b < 7)
+        × (has (row (matrix one.now b) source) t ≡ has (row (matrix other.now b) theirs) t → ⊥) }
+{
+    prove!(count.words() < 1000);
+    for bit in 0..PERM_COUNT {
+        let row = one.targets(bit, source);
+        if !row.is_same_below(other.targets(bit, theirs), end) {
+            return false;
+        }
+    }
+    true
 }

@@ -4,7 +4,7 @@ ghost use Rattle.std.specs.Prelude.{◌≡◌, ◌+◌, ◌/◌, ℕ, IfOk, leng
 ghost use Rattle.sm_bits.specs.Bits.{has};
 
 use crate::Decision;
-use crate::source_row::source_row;
+use crate::source_row::{rows_alike, source_row};
 use sm_bits::BitRow;
 use sm_kinds::{Class, Perms, drop_fields};
 use sm_neverallow::Matrices;
@@ -62,7 +62,7 @@ impl Drop for Vectors {
 }
 
 impl Vectors {
-    ghost use Rattle.std.specs.Prelude.{◌≡◌, ◌<◌, ◌≤◌, ℕ, List, [], length, IfOk, true, false};
+    ghost use Rattle.std.specs.Prelude.{◌≡◌, ◌<◌, ◌≤◌, ◌⊎◌, ℕ, List, [], length, IfOk, true, false};
     ghost use Rattle.std.proofs.Common.{get_or};
     ghost use Rattle.sm_ruletext.specs.declared.statement.RuleKind.TheVariants as kind;
     ghost use Rattle.sm_ruletext.specs.declared.statement.Statement.{Statement as TheStatement};
@@ -159,5 +159,32 @@ impl Vectors {
             return Ok(row);
         }
         source_row(alloc, &self.written, self.count, s)
+    }
+    /// Returns whether a source is allowed the same as one of another policy, on each type whose number is below `end`
+    /// in both. Types are given by their numbers. `false` also if only one of the sources is permissive.
+    pub fn grants_alike(&self, other: &Vectors, source: u16, theirs: u16, end: u16) -> bool
+        requires sources { (source < self.now.count) × (theirs < other.now.count) }
+        requires end { (end ≤ self.now.count) × (end ≤ other.now.count) }
+        ensures alike { result ≡ true → (t b : ℕ) → t < end → b < 7
+            → (decision self.now b source t).allowed ≡ (decision other.now b theirs t).allowed }
+        ensures differ { result ≡ false → (has self.now.permissive source ≡ has other.now.permissive theirs → ⊥)
+            ⊎ ((t : ℕ) × (b : ℕ) × (t < end) × (b < 7)
+            × ((decision self.now b source t).allowed ≡ (decision other.now b theirs t).allowed → ⊥)) }
+    {
+        let (source, theirs) = (usize::from(source), usize::from(theirs));
+        let permissive = self.permissive.has(source);
+        if permissive != other.permissive.has(theirs) {
+            return false;
+        }
+        permissive
+            || rows_alike(
+                &self.written,
+                &other.written,
+                self.count,
+                other.count,
+                source,
+                theirs,
+                usize::from(end),
+            )
     }
 }

@@ -80,3 +80,19 @@ fn free_numbers(rt: HostRuntime) {
     row.remove(0);
     assert_eq!(rt; row.first_free(), 0);
 }
+
+// 63 and 64 are in different words.
+#[test]
+fn numbers_below_an_end(rt: HostRuntime) {
+    let row = row_of(&rt, rt.alloc(), 3, 64);
+    let same = row_of(&rt, rt.alloc(), 64, 3);
+    let other = row_of(&rt, rt.alloc(), 3, 63);
+    assert!(rt; row.is_same_below(&same, 128));
+    for (end, alike) in [(0, true), (63, true), (64, false), (128, false)] {
+        assert_eq!(rt; (end, row.is_same_below(&other, end)), (end, alike));
+    }
+    let longer = row_of(&rt, rt.alloc(), 3, 65);
+    for (end, alike) in [(64, true), (65, false), (128, false)] {
+        assert_eq!(rt; (end, row.is_same_below(&longer, end)), (end, alike));
+    }
+}

@@ -246,6 +246,44 @@ fn types_by_number(rt: HostRuntime) {
     }
 }
 
+const FEW_TYPES: &[u8] = b"type a;\ntype b;\ntype c;\nallow b a:binder call;\n";
+
+const MORE_TYPES: &[u8] = b"type a;\ntype b;\ntype c;\ntype d;\n\
+    allow b { a d }:binder call;\nallow c b:service_manager find;\npermissive a;\n";
+
+/// Whether two sources are allowed the same, if there are as many types as asked for.
+fn alike(one: &Prepared, other: &Prepared, source: u16, theirs: u16, end: u16) -> Option<bool> {
+    let (mine, others) = (one.counts().types, other.counts().types);
+    if u32::from(source) >= mine || u32::from(theirs) >= others {
+        return None;
+    }
+    if u32::from(end) > mine || u32::from(end) > others {
+        return None;
+    }
+    Some(one.grants_alike(other, source, theirs, end))
+}
+
+#[test]
+fn sources_of_two_policies(rt: HostRuntime) {
+    let few = prepared(&rt, rt.alloc(), FEW_TYPES, b"* u:r:a\n");
+    let more = prepared(&rt, rt.alloc(), MORE_TYPES, b"* u:r:a\n");
+    for (source, theirs, end, wanted) in [
+        (1, 1, 3, true),
+        // Only the second policy allows `c` to find `b`.
+        (2, 2, 1, true),
+        (2, 2, 2, false),
+        (1, 2, 3, false),
+        (0, 3, 3, true),
+        // Only the second policy has `a` permissive.
+        (0, 0, 0, false),
+    ] {
+        let found = alike(&few, &more, source, theirs, end);
+        assert_eq!(rt; (source, end, found), (source, end, Some(wanted)));
+    }
+    assert_eq!(rt; alike(&more, &more, 0, 0, 4), Some(true));
+    assert_eq!(rt; alike(&more, &more, 1, 1, 4), Some(true));
+}
+
 /// A rule whose source is nested this deep in braces.
 fn add_nested(text: &mut Vec<u8>, depth: u32) -> Result<(), AllocError> {
     text.extend_from_slice(b"type a;\nallow ")?;
