@@ -1,7 +1,7 @@
 -- Counts of grants behind an event: where they fit, each of its effects may come next.
 use Rattle.std.proofs.Common.{inl, inr, ◌⊎◌, ◌≡◌, ℕ, ◌+◌, ◌-◌, ◌≤◌, ◌<◌, Bool, true, false, ◌&&◌, ◌==◌, List, [], ◌∷◌}
 use Rattle.std.proofs.Common.{refl, ap, sym, subst, ◌∙◌, length, if◌then◌else◌, arith}
-use Rattle.std.specs.Prelude.{not, ◌||◌, nat_le, nat_lt, count_by, cond}
+use Rattle.std.specs.Prelude.{not, nat_lt, count_by, cond}
 use Rattle.std.specs.List.{list_all}
 use Rattle.std.proofs.lemmas.Bool.{true≢false, and_parts}
 use Rattle.std.proofs.lemmas.Bool.Decides.{nat_tests}
@@ -15,13 +15,13 @@ use Rattle.sm_history.specs.declared.effect.Effect.TheVariants.{Connects, Dies, 
 use Rattle.sm_history.specs.declared.limits.TheConstants.{GREATEST}
 use Rattle.sm_history.specs.declared.reply.Reply.TheVariants.{Done}
 use Rattle.sm_history.specs.Effects.{Effects, same_node}
-use Rattle.sm_history.specs.Clients.{is_live, live_clients, next_client}
+use Rattle.sm_history.specs.Clients.{is_live, next_client}
 use Rattle.sm_history.specs.Holdings.{refs_at, node_at, counts_fit}
 use Rattle.sm_history.specs.Following.{MayFollow, MayFollowApart, MayAll, MayAllApart, followed}
-use Rattle.sm_history.specs.Histories.{History, effects_of, after_event, client_of, found, length_of}
+use Rattle.sm_history.specs.Histories.{History, effects_of, after_event, client_of, found}
 use Rattle.sm_history.specs.Lawful.{IsLawful}
 use Rattle.sm_history.specs.Sound.{Sound}
-use Rattle.sm_history.specs.Verdict.{verdict, has_place, is_die, places_needed}
+use Rattle.sm_history.specs.Verdict.{verdict, is_die}
 use Rattle.sm_history.proofs.AfterHoldings.{refs_connects, refs_gives, refs_releases}
 use Rattle.sm_history.proofs.Balanced.{number_same, node_same}
 use Rattle.sm_history.proofs.Counted.{apart_sound, gives_back, may_all}
@@ -321,20 +321,11 @@ exact_fits k m xs count refs times is most all =
 
 -- ---- places
 
-pub place_is : (places : ℕ) (h : History) (c : ℕ) (event : Event) (needed : ℕ) (room counts dies : Bool)
-    (xs : List Effect) → let d = effects_of h in IsLawful places h → followed d xs ≡ after_event d c event
-    → MayAllApart d xs → dies ≡ is_die event → dies ≡ false
-    → room ≡ (nat_le (length h.entries + length (live_clients d) + needed) places
-    && nat_lt (length_of h + length (live_clients d) + needed) GREATEST)
-    → needed ≡ places_needed event → counts ≡ list_all (fits_among d xs) xs
-    → (room && counts) ≡ has_place places h c event
-place_is places h c event needed room counts dies xs lawful is may ed none er en ec =
-    let d = effects_of h in
-    let live = length (live_clients d) in
-    let test : ℕ → Bool = λ n.
-    nat_le (length h.entries + live + n) places && nat_lt (length_of h + live + n) GREATEST in
-    let alive = sym ed ∙ none in
-    ap (λ (t : Bool). t && counts) (er ∙ ap test en)
-    ∙ ap (λ (t : Bool). test (places_needed event) && t)
-    (ec ∙ counts_are d c event xs (sound_lawful places h lawful) may is alive (numbers_fit places h lawful).counts)
-    ∙ sym (ap (λ (t : Bool). t || (test (places_needed event) && counts_fit (after_event d c event))) alive)
+-- The counts that an event's effects raise fit where all counts after it do.
+pub counts_follow : (places : ℕ) (h : History) (c : ℕ) (event : Event) (dies counts : Bool) (xs : List Effect)
+    → let d = effects_of h in IsLawful places h → followed d xs ≡ after_event d c event → MayAllApart d xs
+    → dies ≡ is_die event → dies ≡ false → counts ≡ list_all (fits_among d xs) xs
+    → counts ≡ counts_fit (after_event d c event)
+counts_follow places h c event dies counts xs lawful is may ed none ec =
+    ec ∙ counts_are (effects_of h) c event xs (sound_lawful places h lawful) may is (sym ed ∙ none)
+    (numbers_fit places h lawful).counts

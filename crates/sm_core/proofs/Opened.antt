@@ -22,7 +22,7 @@ use Rattle.sm_names.specs.Tracking.{HasRoom as HasNameRoom}
 use Rattle.sm_core.specs.Stands.{gives_to, HasRoom}
 use Rattle.sm_core.proofs.Numbers.{sets_first, connects_first}
 
-number_same : (a b : ℕ) → (a == b) ≡ true → a ≡ b
+pub number_same : (a b : ℕ) → (a == b) ≡ true → a ≡ b
 number_same a b e = grind (arith, nat_tests)
 
 abbrev pub AreOpen : Effects → (ℕ → Bool) → Type 0

@@ -16,7 +16,7 @@ use crate::process::Process;
 use crate::small_failed_check::{Checked, SmallFailedCheck};
 use sm_history::{Denial, FailedCheck, Record, Refusal};
 use sm_kinds::{Class, Context, Identity, Name, Perms};
-use sm_policy::{Decision, Prepared};
+use sm_policy::Decision;
 use std::alloc::{AllocError, Global};
 use std::marker::Model;
 
@@ -91,10 +91,9 @@ fn unruled(alloc: Global, asked: &Asked) -> Result<SmallFailedCheck, AllocError>
 /// with its number.
 #[derive(Drop)]
 pub struct Access<'a> {
-    alloc: Global,
-    length: u64,
-    version: u64,
-    policy: &'a Prepared,
+    pub alloc: Global,
+    pub length: u64,
+    pub principals: &'a Principals,
 }
 
 impl<'a> Model for Access<'a> {
@@ -102,23 +101,14 @@ impl<'a> Model for Access<'a> {
 
     ghost Value = { Moment };
 
-    ghost view = { λ a. record { at = a.length; version = a.version; policy = a.policy.now } };
+    ghost view = { λ a. record {
+      at = a.length;
+      version = a.principals.now.version;
+      policy = a.principals.now.policy;
+    } };
 }
 
 impl<'a> Access<'a> {
-    /// Returns what checks read after `length` changes.
-    #[inline(always)]
-    pub fn new(alloc: Global, length: u64, principals: &'a Principals) -> Access<'a>
-        ensures { result ≡ record { at = length; version = principals.now.version; policy = principals.now.policy } }
-    {
-        Access {
-            alloc,
-            length,
-            version: principals.version,
-            policy: &principals.policy,
-        }
-    }
-
     /// Appends the audit record of a decision, if there is one. Few have one, so this is out of line.
     #[cold]
     #[inline(never)]
@@ -134,7 +124,7 @@ impl<'a> Access<'a> {
         }
         notes.push(Record {
             length: self.length,
-            version: self.version,
+            version: self.principals.version,
             denial: denial(self.alloc, asked.class, asked.perm, asked.who, asked.target)?,
             permissive: made.allowed,
             who: asked.who.clone()?,
@@ -160,7 +150,7 @@ impl<'a> Access<'a> {
         let noted = denial.clone()?;
         notes.push(Record {
             length: self.length,
-            version: self.version,
+            version: self.principals.version,
             denial: noted,
             permissive: false,
             who: who.clone()?,
@@ -213,7 +203,10 @@ impl<'a> Access<'a> {
         ensures { IsRuled self.now notes.old notes.new class perm source.now.who target.now
             (option_map (λ n. n.now) name.entry) result }
     {
-        let decision = self.policy.decide_at(source.index, index, class, perm);
+        let decision = self
+            .principals
+            .policy
+            .decide_at(source.index, index, class, perm);
         if decision.allowed {
             if !decision.audited {
                 return Ok(());

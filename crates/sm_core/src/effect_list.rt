@@ -17,8 +17,9 @@ pub enum StoredEffects {
 }
 
 /// The effects of a change, in order. Most changes have one, which takes no allocation. Contracts see the list.
+#[derive(Drop)]
 pub struct EffectList {
-    held: StoredEffects,
+    pub stored: StoredEffects,
 }
 
 impl Model for EffectList {
@@ -28,32 +29,16 @@ impl Model for EffectList {
 
     ghost Value = { List Effect };
 
-    ghost view = { λ e. stored_effects e.held };
-}
-
-impl Drop for EffectList {
-    fn drop(self) {
-        let EffectList { held: _ } = self;
-    }
+    ghost view = { λ e. stored_effects e.stored };
 }
 
 impl EffectList {
-    /// Makes a list of one effect.
-    #[inline]
-    pub fn one(effect: Effect) -> EffectList
-        ensures { result ≡ effect ∷ [] }
-    {
-        EffectList {
-            held: StoredEffects::One(effect),
-        }
-    }
-
     /// Makes a list of these effects.
     pub fn many(effects: Vec<Effect>) -> EffectList
         ensures { result ≡ effects.items }
     {
         EffectList {
-            held: StoredEffects::Many(effects),
+            stored: StoredEffects::Many(effects),
         }
     }
 
@@ -61,17 +46,9 @@ impl EffectList {
     pub fn as_slice(&self) -> &[Effect]
         ensures { result.now ≡ self.now }
     {
-        match &self.held {
+        match &self.stored {
             StoredEffects::One(effect) => slice::from_ref(effect),
             StoredEffects::Many(effects) => effects.as_slice(),
         }
-    }
-
-    /// Returns how the effects are stored.
-    pub fn into_stored(self) -> StoredEffects
-        ensures { stored_effects result ≡ self }
-    {
-        let EffectList { held } = self;
-        held
     }
 }

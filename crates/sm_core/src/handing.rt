@@ -22,19 +22,6 @@ use sm_kinds::Node;
 use sm_names::NameTable;
 use std::alloc::AllocError;
 
-/// Grants an object once more, which has this number.
-pub fn give(grants: &mut Grants, client: u32, node: Node, number: u32)
-    ensures tracks { (d : Effects) (r : ℕ) → Tracks d grants.old → is_live d client ≡ true
-        → r ≡ number_for d client node
-        → fits_handles (Gives client node r ∷ d) client ≡ true → 0 < spare_for grants.old client
-        → nat_lt (refs_at d client node + 1) GREATEST ≡ true
-        → Tracks (Gives client node r ∷ d) grants.new }
-    ensures spare { spare_for grants.old client ≤ spare_for grants.new client + 1 }
-    ensures others { (k : ℕ) → (client == k) ≡ false → spare_for grants.new k ≡ spare_for grants.old k }
-{
-    let _ = grants.grant(client, node, number);
-}
-
 /// Releases one grant of an object.
 pub fn give_back(grants: &mut Grants, client: u32, node: Node)
     ensures tracks { (d : Effects) → Tracks d grants.old → is_live d client ≡ true → is_held d client node ≡ true
@@ -76,44 +63,4 @@ pub fn watch(names: &mut NameTable, made: WatchPair)
     if names.watches() < MOST_WATCHES {
         names.watch(made);
     }
-}
-
-/// Makes room for the handles of every client to which effects give one.
-pub fn reserve_handles(grants: &mut Grants, effects: &[Effect]) -> Result<(), AllocError>
-    ensures same { (d : Effects) → Tracks d grants.old → Tracks d grants.new }
-    ensures room { OnOk result ((c : ℕ) → list_any (gives_to c) effects.now ≡ true
-        → length effects.now ≤ spare_for grants.new c) }
-{
-    let most = effects.len();
-    for effect in effects {
-        if let Effect::Gives { client, .. } = effect {
-            grants.reserve(*client, most)?;
-        }
-    }
-    Ok(())
-}
-
-/// Makes an inbox for a client that connects.
-fn reserve_inbox(inboxes: &mut Inboxes, effect: &Effect) -> Result<(), AllocError>
-    ensures same { (d : Effects) → TracksInboxes d inboxes.old → TracksInboxes d inboxes.new }
-    ensures still { (c : ℕ) → is_open inboxes.old c ≡ true → is_open inboxes.new c ≡ true }
-    ensures room { OnOk result ((c : ℕ) → is_connect_of c effect.now ≡ true → is_open inboxes.new c ≡ true) }
-{
-    match effect {
-        Effect::Connects { client, .. } => inboxes.reserve(*client),
-        _ => Ok(()),
-    }
-}
-
-/// Makes an inbox for every client that connects.
-pub fn reserve_inboxes(inboxes: &mut Inboxes, effects: &[Effect]) -> Result<(), AllocError>
-    ensures same { (d : Effects) → TracksInboxes d inboxes.old → TracksInboxes d inboxes.new }
-    ensures still { (c : ℕ) → is_open inboxes.old c ≡ true → is_open inboxes.new c ≡ true }
-    ensures room { OnOk result ((c : ℕ) → list_any (is_connect_of c) effects.now ≡ true
-        → is_open inboxes.new c ≡ true) }
-{
-    for effect in effects {
-        reserve_inbox(inboxes, effect)?;
-    }
-    Ok(())
 }

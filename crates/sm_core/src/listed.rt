@@ -13,23 +13,14 @@ use sm_history::Effect;
 use sm_names::Services;
 use std::alloc::{AllocError, Global};
 
-/// Returns whether an effect changes the services.
-fn moves_services(effect: &Effect) -> bool
-    ensures { result ≡ spec.moves_services effect.now }
-{
-    match effect {
-        Effect::Adds { .. } => true,
-        Effect::Removes { .. } => true,
-        Effect::Dies { .. } => true,
-        _ => false,
-    }
-}
-
 /// Returns whether one of some effects changes the services.
 pub fn moves_any_services(effects: &[Effect]) -> bool
     ensures { result ≡ list_any spec.moves_services effects.now }
 {
-    effects.iter().any(|effect| moves_services(effect))
+    effects.iter().any(|effect| matches!(
+        effect,
+        Effect::Adds { .. } | Effect::Removes { .. } | Effect::Dies { .. }
+    ))
 }
 
 /// Copies these services, and applies effects.

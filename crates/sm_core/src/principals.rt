@@ -16,7 +16,7 @@ ghost use Rattle.sm_core.specs.Tables.{client_row};
 ghost use Rattle.sm_core.specs.Viewing as spec;
 
 use crate::caller::Caller;
-use crate::client::{LiveClient, copies_of, drop_client, renumber, row_of};
+use crate::client::{LiveClient, copies_of, drop_client, first_row, renumber};
 use crate::process::Process;
 use sm_history::{By, Effect};
 use sm_kinds::{Identity, drop_fields};
@@ -38,25 +38,20 @@ impl Drop for Principals {
     }
 }
 
-/// Returns whether an effect changes the processes or the policy.
-fn moves_principals(effect: &Effect) -> bool
-    ensures { result ≡ spec.moves_principals effect.now }
-{
-    match effect {
-        Effect::Opens(_) => true,
-        Effect::Sets(_) => true,
-        Effect::Connects { .. } => true,
-        Effect::Dies { .. } => true,
-        Effect::Resumes { .. } => true,
-        _ => false,
-    }
-}
-
 /// Returns whether one of some effects changes the processes or the policy.
 pub fn moves_any_principals(effects: &[Effect]) -> bool
     ensures { result ≡ list_any spec.moves_principals effects.now }
 {
-    effects.iter().any(|effect| moves_principals(effect))
+    effects.iter().any(|effect| {
+        matches!(
+            effect,
+            Effect::Opens(_)
+                | Effect::Sets(_)
+                | Effect::Connects { .. }
+                | Effect::Dies { .. }
+                | Effect::Resumes { .. }
+        )
+    })
 }
 
 impl Principals {
@@ -154,12 +149,21 @@ impl Principals {
         drop_client(&mut self.clients, client);
     }
 
-    /// Returns the row of a live client.
+    /// Returns the row of a live client. While no client dies, their numbers follow each other, so the row is at its
+    /// number's distance from the first one.
     pub fn client(&self, id: u32) -> Option<&LiveClient>
         ensures { (d : Effects) → StandPrincipals d self.now → MatchOption result (is_live d id ≡ false)
             (λ r. (is_live d id ≡ true) × (r.now ≡ client_row d id)) }
     {
-        row_of(&self.clients, id)
+        let rows = self.clients.as_slice();
+        if !rows.is_empty() {
+            let place = (id.wrapping_sub(rows[0].id) as usize).min(rows.len() - 1);
+            let row = &rows[place];
+            if row.id == id {
+                return Some(row);
+            }
+        }
+        first_row(rows, id)
     }
 
     /// Returns an actor, if it may act: a client only while it is live.

@@ -138,7 +138,11 @@ impl<'a> QueryTables<'a> {
             (list_checks (effects_of self.now.history) row.now.id)
             (λ found. found ≡ found_out (effects_of self.now.history) (ListNames mask)) result }
     {
-        let access = Access::new(self.alloc, self.length, self.principals);
+        let access = Access {
+            alloc: self.alloc,
+            length: self.length,
+            principals: self.principals,
+        };
         let who = &row.process;
         let manager = &self.principals.manager;
         access.to_process(who, manager, Class::Binder, Perms::CALL, notes)?;

@@ -21,7 +21,11 @@ impl Manager {
     pub fn access(&self) -> Access<'_>
         ensures { result ≡ moment_in self.now }
     {
-        Access::new(self.alloc, self.history_length(), &self.state.principals)
+        Access {
+            alloc: self.alloc,
+            length: self.journal.history_length(),
+            principals: &self.state.principals,
+        }
     }
 
     /// Checks a permission of Binder from a process to the manager.
@@ -31,7 +35,9 @@ impl Manager {
         ensures { IsRuled (moment_in self.now) notes.old notes.new Binder perm who.now.who
             (manager_at (effects_in self.now)).context None result }
     {
-        self.check_to_client(who, &self.state.principals.manager, perm, notes)
+        let manager = &self.state.principals.manager;
+        self.access()
+            .to_process(who, manager, Class::Binder, perm, notes)
     }
 
     /// Checks a permission of Binder from the manager to a process.
@@ -41,25 +47,9 @@ impl Manager {
         ensures { IsRuled (moment_in self.now) notes.old notes.new Binder perm
             (manager_at (effects_in self.now)) who.now.who.context None result }
     {
-        self.check_to_client(&self.state.principals.manager, who, perm, notes)
-    }
-
-    /// Checks a permission of Binder from a process to another one.
-    #[inline(always)]
-    pub fn check_to_client(
-        &self,
-        who: &Process,
-        other: &Process,
-        perm: Perms,
-        notes: &mut Notes,
-    ) -> Checked<()>
-        requires who { who.now ≡ process_at (effects_in self.now) who.now.who }
-        requires other { other.now ≡ process_at (effects_in self.now) other.now.who }
-        ensures { IsRuled (moment_in self.now) notes.old notes.new Binder perm who.now.who
-            other.now.who.context None result }
-    {
+        let manager = &self.state.principals.manager;
         self.access()
-            .to_process(who, other, Class::Binder, perm, notes)
+            .to_process(manager, who, Class::Binder, perm, notes)
     }
 
     /// Returns the label of a name.

@@ -23,7 +23,7 @@ use crate::notes::Notes;
 use crate::plan::Plan;
 use crate::small_failed_check::{Checked, ShortAnswer, SmallFailedCheck};
 use sm_history::{Delivery, Effect, Failure, Given, GivenRefs, Message, Outcome, Shared};
-use sm_kinds::{Identity, Node, ObjRef, Payload, Perms, Refs};
+use sm_kinds::{Class, Identity, Node, ObjRef, Payload, Perms, Refs};
 use std::alloc::{AllocError, Global};
 
 /// Returns the objects that a receiver doesn't own, for which it needs handles.
@@ -148,7 +148,13 @@ impl Manager {
         let Some(owner) = self.client_row(node.owner.0) else {
             return Err(SmallFailedCheck::unmet(ShortAnswer::Dead));
         };
-        self.check_to_client(&row.process, &owner.process, Perms::CALL, notes)?;
+        self.access().to_process(
+            &row.process,
+            &owner.process,
+            Class::Binder,
+            Perms::CALL,
+            notes,
+        )?;
         Ok(node)
     }
 
@@ -215,7 +221,13 @@ impl Manager {
         let Some(other) = self.client_row(receiver) else {
             unreachable!();
         };
-        self.check_to_client(&row.process, &other.process, Perms::TRANSFER, notes)?;
+        self.access().to_process(
+            &row.process,
+            &other.process,
+            Class::Binder,
+            Perms::TRANSFER,
+            notes,
+        )?;
         Ok(node)
     }
 

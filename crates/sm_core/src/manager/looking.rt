@@ -48,7 +48,7 @@ impl Manager {
         let tables = QueryTables {
             alloc: self.alloc,
             places: self.places,
-            length: self.history_length(),
+            length: self.journal.history_length(),
             principals: &self.state.principals,
             services: self.state.names.services(),
             journal: &journal,

@@ -70,7 +70,7 @@ impl Manager {
         let alloc = self.alloc;
         let tables = tables_of(alloc, &self.state)?;
         let turns = self.turns.rows(alloc, &self.state.principals.clients)?;
-        let length = self.history_length();
+        let length = self.journal.history_length();
         Ok(Rows::new(tables, turns, length))
     }
 

@@ -1,22 +1,16 @@
-use Rattle.std.proofs.Common.{Bool, ◌&&◌, ap, sym, ◌∙◌}
-use Rattle.sm_core.proofs.GrantCounts.{place_is}
+use Rattle.std.proofs.Common.{arith}
+use Rattle.std.proofs.lemmas.Grind.{common_steps}
+use Rattle.sm_core.proofs.GrantCounts.{counts_follow}
+use Rattle.sm_core.proofs.Small.{small_length}
 use Rattle.sm_core.proofs.manager.Manager.has_place.Goals as goal
 
-pub returns-then-places : goal.returns-then-places
-returns-then-places c =
-    let k = c.self.invariant in
-    let r = rw (← c.self.view_is) at c.requires in
-    let room = rw (← c.self.view_is) at c.has_places-places.ensures in
-    rw (← c.self.view_is) (sym (ap (λ (t : Bool). t && c.counts_fit-counts.result) c.if-places.true)
-    ∙ place_is _ _ _ _ _ _ _ _ _ k.lawful r.effects r.may c.is_death.ensures c.if-is_death.false room
-    c.places_needed.ensures.is (c.counts_fit-counts.ensures _ k.stands.grants))
+pub history_length-length-requires : goal.history_length-length-requires
+history_length-length-requires c = small_length _ _ _ _ c.self.invariant
 
-pub returns-else-places : goal.returns-else-places
-returns-else-places c =
+pub returns-then-kept-length : goal.returns-then-kept-length
+returns-then-kept-length c =
     let k = c.self.invariant in
     let r = rw (← c.self.view_is) at c.requires in
-    let room = rw (← c.self.view_is) at c.has_places-places.ensures in
-    rw (← c.self.view_is)
-    (c.if-places.false ∙ sym (ap (λ (t : Bool). t && c.counts_fit-counts.result) c.if-places.false)
-    ∙ place_is _ _ _ _ _ _ _ _ _ k.lawful r.effects r.may c.is_death.ensures c.if-is_death.false room
-    c.places_needed.ensures.is (c.counts_fit-counts.ensures _ k.stands.grants))
+    let counts = counts_follow _ c.self.inside.journal.history _ c.args.event.now _ _ c.args.effects.now k.lawful
+    r.effects r.may c.is_death.ensures c.if-is_death.false (c.counts_fit.ensures _ k.stands.grants) in
+    rw (← c.self.view_is) (grind (arith, common_steps, counts))

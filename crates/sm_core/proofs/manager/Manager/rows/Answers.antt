@@ -1,4 +1,4 @@
-use Rattle.std.proofs.Common.{◌≡◌, ℕ, ◌∷◌, ◌++◌, List, ap, map, sym, ◌∙◌}
+use Rattle.std.proofs.Common.{◌≡◌, ℕ, ◌∷◌, ◌++◌, List, ap, map, ◌∙◌}
 use Rattle.sm_history.specs.declared.by.By.TheVariants.{Manager}
 use Rattle.sm_history.specs.declared.turn.TurnRow.{TurnRow}
 use Rattle.sm_history.specs.Histories.{effects_of, length_of}
@@ -9,6 +9,7 @@ use Rattle.sm_core.specs.declared.client.LiveClient.{LiveClient}
 use Rattle.sm_core.specs.Counting.{counted_admins, row_for}
 use Rattle.sm_core.specs.Managed.{Managed}
 use Rattle.sm_core.proofs.SealedTurns.{actor_rows, ids}
+use Rattle.sm_core.proofs.Small.{small_length}
 use Rattle.sm_core.proofs.manager.Manager.rows.Goals as goal
 
 pub new-requires : goal.new-requires
@@ -16,6 +17,9 @@ new-requires c =
     let d = effects_of c.self.inside.journal.history in
     let k = c.self.invariant in
     (d, k.stands.sound, c.in_ok-tables.ensures d k.stands)
+
+pub history_length-length-requires : goal.history_length-length-requires
+history_length-length-requires c = small_length _ _ _ _ c.self.invariant
 
 pub returns : goal.returns
 returns c =
@@ -30,7 +34,7 @@ returns c =
     ∙ actor_rows h c.self.inside.turns c.self.inside.state.principals.clients.items k.turns_are k.admins_are
     k.stands.principals.clients in
     let length : c.history_length-length.result ≡ length_of h =
-    c.history_length-length.ensures ∙ sym (ap (λ (m : Managed). length_of m.book.history) c.self.view_is) in
+    c.history_length-length.ensures in
     c.new.ensures
     ∙ ap (λ (t : Rows). record { tables = t; length = c.history_length-length.result; turns = c.in_ok-turns.turns.items })
     tables
