@@ -77,26 +77,25 @@ loop-effect-preserved c =
     let x = c.effect-item.result in
     let n = c.loop-effect.effect-index in
     let lt : n < length xs = search rules in
+    let step = λ (p : Effect → Bool) (Had Has : Type 0). stepped p Had Has xs n x c.effect-item.is lt in
     elim c.match-effect.branch [
       | in-Gives+in_ok-reserve-in-Gives w ↦ rw w.self-is (record {
         stands = λ d s. roomier d c.loop-effect.self w.reserve-in-Gives.new.self _ (w.reserve-in-Gives.ensures.same d)
             (λ t. t) (λ k o. o) (i.stands d s);
         others = i.others;
-        handles = λ k any. stepped (gives_to k) _ _ xs n x c.effect-item.is lt
+        handles = λ k any. step (gives_to k) _ _
             (λ le. let more = w.reserve-in-Gives.ensures.spare k in omega (arith, le, more))
             (λ e. subst (λ (j : ℕ). length xs ≤ spare_for w.reserve-in-Gives.new.self j)
             (number_same w.in-Gives.client k (rw w.in-Gives.is at e)) w.in_ok-reserve-in-Gives.ensures.room)
             (i.handles k any);
-        inboxes = λ k any. stepped (is_connect_of k) _ _ xs n x c.effect-item.is lt (λ o. o)
-            (grind (arith, common_steps)) (i.inboxes k any);
+        inboxes = λ k any. step (is_connect_of k) _ _ (λ o. o) (grind (arith, common_steps)) (i.inboxes k any);
       })
       | in-Connects+in_ok-reserve-in-Connects w ↦ rw w.self-is (record {
         stands = λ d s. roomier d c.loop-effect.self _ w.reserve-in-Connects.new.self (λ t. t)
             (w.reserve-in-Connects.ensures.tracks d) w.reserve-in-Connects.ensures.still (i.stands d s);
         others = i.others;
-        handles = λ k any. stepped (gives_to k) _ _ xs n x c.effect-item.is lt (λ o. o)
-            (grind (arith, common_steps)) (i.handles k any);
-        inboxes = λ k any. stepped (is_connect_of k) _ _ xs n x c.effect-item.is lt
+        handles = λ k any. step (gives_to k) _ _ (λ o. o) (grind (arith, common_steps)) (i.handles k any);
+        inboxes = λ k any. step (is_connect_of k) _ _
             (w.reserve-in-Connects.ensures.still k)
             (λ e. subst (λ (j : ℕ). is_open w.reserve-in-Connects.new.self j ≡ true)
             (number_same w.in-Connects.client k (rw w.in-Connects.is at e)) w.in_ok-reserve-in-Connects.ensures.opened)
@@ -105,8 +104,7 @@ loop-effect-preserved c =
       | in_default w ↦ rw w.self-is (record {
         stands = i.stands;
         others = i.others;
-        handles = λ k any. stepped (gives_to k) _ _ xs n x c.effect-item.is lt (λ o. o)
-            (grind (arith, common_steps)) (i.handles k any);
-        inboxes = λ k any. stepped (is_connect_of k) _ _ xs n x c.effect-item.is lt (λ o. o) (grind (arith, common_steps)) (i.inboxes k any);
+        handles = λ k any. step (gives_to k) _ _ (λ o. o) (grind (arith, common_steps)) (i.handles k any);
+        inboxes = λ k any. step (is_connect_of k) _ _ (λ o. o) (grind (arith, common_steps)) (i.inboxes k any);
       })
     ]
