@@ -52,13 +52,6 @@ impl Manager {
             .to_process(manager, who, Class::Binder, perm, notes)
     }
 
-    /// Returns the label of a name.
-    pub fn label(&self, name: &[u8]) -> Label<'_>
-        ensures { IsLabel (effects_in self.now) name.now result }
-    {
-        self.state.principals.policy.labelled(name)
-    }
-
     /// Checks a permission of the service manager from a process to the label of a name.
     #[inline(always)]
     pub fn check_to_label(
@@ -72,7 +65,7 @@ impl Manager {
         ensures { IsRuled (moment_in self.now) notes.old notes.new ServiceManager perm who.now.who
             (label_at (effects_in self.now) name.now) (Some name.now) result }
     {
-        let label = self.label(name.bytes());
+        let label = self.state.principals.policy.labelled(name.bytes());
         self.check_to_known_label(who, name, label, perm, notes)
     }
 

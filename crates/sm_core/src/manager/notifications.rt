@@ -67,7 +67,8 @@ impl Manager {
             }
             return Some(Given::Own(node.object));
         }
-        Some(Given::Handle(self.number_for(client, node)?))
+        let number = self.state.grants.number_if_room(client, node)?;
+        Some(Given::Handle(number))
     }
 
     /// Returns the number of deliveries for which a client's inbox still has room.
@@ -181,7 +182,7 @@ impl Manager {
             (λ s. s ≡ spec.out_of_memory) }
     {
         let mut notifications = Notifications::behind(self.alloc, effects);
-        let label = self.label(watch.name.bytes());
+        let label = self.state.principals.policy.labelled(watch.name.bytes());
         let notice = self.notify(watch, node, label, &mut notifications)?;
         let (outcome, reply_outcome) = shared_notice(self.alloc, notice)?;
         Ok(Plan {

@@ -65,7 +65,7 @@ impl Manager {
             return Err(failed(Exception::NullBinder));
         };
         self.check_to_label(&row.process, name, Perms::ADD, notes)?;
-        let Some(service) = self.service(name.bytes()) else {
+        let Some(service) = self.state.names.get(name.bytes()) else {
             return Err(failed(Exception::NotRegistered));
         };
         if service.adder != row.id {

@@ -49,7 +49,7 @@ impl Manager {
         self.judge_watching(row, name, notes)?;
         let made = WatchPair::new(row.id, name, object)?;
         let watches = Effect::Watches(made);
-        let Some(service) = self.service(name.bytes()) else {
+        let Some(service) = self.state.names.get(name.bytes()) else {
             let outcome = Outcome::Watched(None);
             return Ok(Plan::quiet(self.alloc, watches, outcome, Outcome::Watched(None)));
         };

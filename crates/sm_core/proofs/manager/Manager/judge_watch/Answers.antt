@@ -21,7 +21,8 @@ returns c =
     c.in-Some.service c.in_ok-watch.watch
     c.in_ok-made.made c.in_ok-effects.effects.items c.plan_watched.result
     c.in_ok-judge_watching.ensures.0
-    (c.in-Some.ensures ∙ ap (service_at d) c.bytes.ensures) c.in_ok-watch.ensures c.in_ok-made.ensures
+    (c.in-Some.ensures d (rw (← c.self.view_is) c.self.invariant.stands.names) ∙ ap (service_at d) c.bytes.ensures)
+    c.in_ok-watch.ensures c.in_ok-made.ensures
     c.in_ok-effects.ensures.items c.plan_watched.ensures
 
 pub returns-in_default : goal.returns-in_default
@@ -30,6 +31,7 @@ returns-in_default c =
       c.in_ok-judge_watching.ensures.0,
       watch_alone (moment_of c.args.self.now.book.history) d c.args.row.now.id c.args.name.now c.args.object
           c.in_ok-made.made _ c.quiet.ensures.records
-          (c.in_default.ensures ∙ ap (service_at d) c.bytes.ensures) c.in_ok-made.ensures c.requires.live
+          (c.in_default.ensures d (rw (← c.self.view_is) c.self.invariant.stands.names)
+          ∙ ap (service_at d) c.bytes.ensures) c.in_ok-made.ensures c.requires.live
           c.in_ok-judge_watching.ensures.1 c.quiet.ensures.effects c.quiet.ensures.outcome (search rules),
     )
