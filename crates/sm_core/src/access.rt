@@ -1,10 +1,9 @@
 //! Access checks: each check of an allow rule, as in AOSP's `Access.cpp`. All rule checks go through these functions.
 
-ghost use Rattle.std.specs.Prelude.{◌≡◌, ◌⊎◌, [], ◌∷◌, ◌++◌, None, Some, option_map, IfOk, OnOk};
+ghost use Rattle.std.specs.Prelude.{◌≡◌, ◌⊎◌, None, Some, option_map, IfOk, OnOk};
 ghost use Rattle.sm_kinds.specs.Contexts.{type_of};
 ghost use Rattle.sm_policy.specs.Policy.{allowed, decision, type_index};
 ghost use Rattle.sm_history.specs.Checks.{rule_denial};
-ghost use Rattle.sm_history.specs.Records.{rule_record};
 ghost use Rattle.sm_history.specs.declared.failed_check.FailedCheck.TheVariants.{Unruled, Barred};
 ghost use Rattle.sm_history.specs.declared.refusal.Refusal.TheVariants.{Memory, Denied};
 ghost use Rattle.sm_core.specs.Judging.{IsRuled, noted, clause_noted};

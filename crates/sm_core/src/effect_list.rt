@@ -1,6 +1,6 @@
 //! The effects of a change.
 
-ghost use Rattle.std.specs.Prelude.{◌≡◌, ◌∷◌, []};
+ghost use Rattle.std.specs.Prelude.{◌≡◌};
 ghost use Rattle.sm_core.specs.EffectLists.{stored_effects};
 
 use sm_history::Effect;

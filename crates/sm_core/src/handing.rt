@@ -1,26 +1,23 @@
 //! Table calls for judged events, which have made sure that the table can take them.
 
-ghost use Rattle.std.specs.Prelude.{◌≡◌, ◌≤◌, ◌<◌, ◌+◌, ◌-◌, ◌==◌, ℕ, true, false, nat_lt, ◌∷◌, length, OnOk};
-ghost use Rattle.std.specs.List.{list_any};
+ghost use Rattle.std.specs.Prelude.{◌≡◌, ◌≤◌, ◌<◌, ◌+◌, ℕ, true, nat_lt, ◌∷◌, length};
 ghost use Rattle.sm_history.specs.Effects.{Effects};
-ghost use Rattle.sm_history.specs.declared.effect.Effect.TheVariants.{Gives, Releases, Delivers, Takes, Watches};
-ghost use Rattle.sm_history.specs.declared.limits.TheConstants.{MOST_WATCHES, GREATEST};
+ghost use Rattle.sm_history.specs.declared.effect.Effect.TheVariants.{Releases, Delivers, Takes, Watches};
+ghost use Rattle.sm_history.specs.declared.limits.TheConstants.{MOST_WATCHES};
 ghost use Rattle.sm_history.specs.Services.{watches_at};
-ghost use Rattle.sm_history.specs.Clients.{is_live, is_connect_of};
-ghost use Rattle.sm_history.specs.Holdings.{refs_at, is_held, fits_handles, number_for};
+ghost use Rattle.sm_history.specs.Clients.{is_live};
+ghost use Rattle.sm_history.specs.Holdings.{is_held, number_for};
 ghost use Rattle.sm_history.specs.Inboxes.{inbox_at, has_inbox_room};
 ghost use Rattle.sm_history.specs.Sound.{HasOneEach};
 ghost use Rattle.sm_grants.specs.Rows.{Tracks, spare_for};
 ghost use Rattle.sm_inbox.specs.Tracking.{TracksInboxes, is_open};
 ghost use Rattle.sm_names.specs.Tracking.{TracksNames, HasRoom};
-ghost use Rattle.sm_core.specs.Stands.{gives_to};
 
 use sm_grants::Grants;
-use sm_history::{Delivery, Effect, MOST_WATCHES, Shared, WatchPair};
+use sm_history::{Delivery, MOST_WATCHES, Shared, WatchPair};
 use sm_inbox::Inboxes;
 use sm_kinds::Node;
 use sm_names::NameTable;
-use std::alloc::AllocError;
 
 /// Releases one grant of an object.
 pub fn give_back(grants: &mut Grants, client: u32, node: Node)
