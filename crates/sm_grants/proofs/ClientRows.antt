@@ -21,13 +21,18 @@ use Rattle.sm_grants.specs.declared.rows.ClientHandles.{ClientHandles}
 use Rattle.sm_history.specs.Tables.{Slots, slot, IsPut, released_slot}
 use Rattle.sm_grants.specs.Slots.{node_of, granted_slot, IsGranted, IsNumberFor, HandleTable}
 use Rattle.sm_grants.specs.Tracking.{TracksSlots}
-use Rattle.sm_grants.specs.Rows.{table_of, index_from, slots_in, slots_of, spare_in, spare_of, TracksRows, CanGrantRow}
+use Rattle.sm_grants.specs.Rows.{table_of, slots_in, slots_of, spare_in, spare_of, TracksRows, CanGrantRow}
 use Rattle.sm_grants.proofs.Tracked.{not_held, tracked_gives, tracked_releases, tracked_same, tracked_none}
 use Rattle.sm_grants.proofs.Tracked.{node_is_slot, node_zero, free_is}
 use Rattle.sm_grants.proofs.Small.{lt_test, zero_test}
 use Rattle.sm_history.proofs.ClientRows.{self_same}
 
 -- ---- rows
+
+-- This is the index of a client's first row, counted from a.
+abbrev pub index_from : ℕ → List ClientHandles → ℕ → Option ℕ
+index_from a [] c = None
+index_from a (r ∷ rs) c = if r.client == c then Some a else index_from (a + 1) rs c
 
 pub no_row : (a : ℕ) (rows : List ClientHandles) (c : ℕ) → index_from a rows c ≡ None → table_of rows c ≡ None
 no_row a [] c h = refl
@@ -270,16 +275,6 @@ pub number_none : (d : Effects) (rows : List ClientHandles) (c : ℕ) (n : Node)
 number_none d rows c n tr at =
     number_is d c [] n 1 (subst (λ (v : Option HandleTable). TracksSlots d c (slots_in v)) at (tr.slots c))
     (0, refl, (λ m h. cc), (λ e. ((λ i h. cc), (refl, (λ j lt. absurd (omega (arith, lt)))))))
-
--- A client's row that was read at its index, and what writing a table there changes.
-pub row_here : {rows seen : List ClientHandles} (c : ℕ) {i : ℕ} {r : ClientHandles} → seen ≡ rows
-    → index_from 0 seen c ≡ Some i → r ≡ get_or rows i r → (table_of rows c ≡ Some r.handles) × (r.client ≡ c)
-    × ((t : HandleTable) → IsChanged rows (set rows i (record { client = r.client; handles = t })) c t)
-row_here {rows} {seen} c {i} {r} same at is =
-    let h : index_from 0 rows c ≡ Some i = rw (← same) at in
-    let w = (at_row rows c i h).here r in
-    let own = ap (λ (x : ClientHandles). x.client) is ∙ w.1 in
-    (w.0 ∙ ap (λ (x : ClientHandles). Some x.handles) (sym is), own, λ t. row_set rows c i _ h own)
 
 pub cannot : (rows : List ClientHandles) (c : ℕ) (n : Node) → CanGrantRow rows c n → table_of rows c ≡ None → ⊥
 cannot rows c n can none =

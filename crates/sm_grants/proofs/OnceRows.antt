@@ -1,6 +1,6 @@
 -- Rows of which no two are one client's.
 use Rattle.std.proofs.Common.{◌≡◌, ℕ, zero, suc, ◌+◌, ◌<◌, true, false, ◌==◌, List, [], ◌∷◌, refl, ap, sym, ◌∙◌}
-use Rattle.std.proofs.Common.{length, get_or, map, cond, Option, Some, None, if◌then◌else◌, arith}
+use Rattle.std.proofs.Common.{length, get_or, map, set, subst, cond, Option, Some, None, if◌then◌else◌, arith}
 use Rattle.std.specs.List.{find, insert, remove}
 use Rattle.sm_history.specs.Once.{is_once}
 use Rattle.sm_history.specs.Sound.{IsOnce}
@@ -10,8 +10,10 @@ use Rattle.sm_history.proofs.Once.{to_once, from_once}
 use Rattle.sm_history.proofs.OnceRows.{other_row}
 use Rattle.sm_grants.specs.declared.rows.ClientHandles.{ClientHandles}
 use Rattle.sm_grants.specs.Once.{AreOnce}
-use Rattle.sm_grants.specs.Rows.{table_of, index_from}
+use Rattle.sm_grants.specs.Rows.{table_of}
+use Rattle.sm_grants.specs.Slots.{HandleTable}
 use Rattle.sm_grants.proofs.ClientRows.{fewer_among, not_among, once_inserted as inserted_once}
+use Rattle.sm_grants.proofs.ClientRows.{index_from, no_row, at_row, row_set, IsChanged}
 
 -- This is the client of a row.
 abbrev pub client : ClientHandles → ℕ
@@ -49,6 +51,26 @@ pub indexed : (rows : List ClientHandles) (c : ℕ) (o : Option ℕ) → AreOnce
 indexed rows c None once none = sym (no_index 0 rows c none)
 indexed [] c (Some i) once at = let lt = at.0 in absurd (omega (arith, lt))
 indexed (x ∷ xs) c (Some i) once at = sym (place_once (x ∷ xs) c i x once at.0 (at.1 x))
+
+-- What a search for a client's row says.
+pub sought : {rows seen : List ClientHandles} (c : ℕ) (o : Option ℕ) → seen ≡ rows → AreOnce rows
+    → IsFound client seen c o → index_from 0 rows c ≡ o
+sought {rows} {seen} c o same once found =
+    sym (indexed rows c o once (subst (λ (v : List ClientHandles). IsFound client v c o) same found))
+
+pub none_here : {rows seen : List ClientHandles} (c : ℕ) → seen ≡ rows → AreOnce rows → IsFound client seen c None
+    → table_of rows c ≡ None
+none_here {rows} {seen} c same once found = no_row 0 rows c (sought c None same once found)
+
+-- A client's row that was read at its index, and what writing a table there changes.
+pub row_here : {rows seen : List ClientHandles} {c i : ℕ} {r : ClientHandles} → seen ≡ rows → AreOnce rows
+    → IsFound client seen c (Some i) → r ≡ get_or rows i r → (table_of rows c ≡ Some r.handles) × (r.client ≡ c)
+    × ((t : HandleTable) → IsChanged rows (set rows i (record { client = r.client; handles = t })) c t)
+row_here {rows} {seen} {c} {i} {r} same once found is =
+    let h = sought c (Some i) same once found in
+    let w = (at_row rows c i h).here r in
+    let own = ap (λ (x : ClientHandles). x.client) is ∙ w.1 in
+    (w.0 ∙ ap (λ (x : ClientHandles). Some x.handles) (sym is), own, λ t. row_set rows c i _ h own)
 
 -- ---- the rows of a table that changes
 

@@ -1,5 +1,5 @@
 -- The handles of all clients.
-use Rattle.std.specs.Prelude.{ℕ, ◌+◌, ◌-◌, ◌≡◌, ◌<◌, ◌^◌, ◌==◌, List, [], ◌∷◌, Option, Some, None, if◌then◌else◌, map}
+use Rattle.std.specs.Prelude.{ℕ, ◌-◌, ◌≡◌, ◌<◌, ◌^◌, ◌==◌, List, [], ◌∷◌, Option, Some, None, if◌then◌else◌, map}
 use Rattle.sm_kinds.specs.declared.number.Node.{Node}
 use Rattle.sm_history.specs.Effects.{Effects}
 use Rattle.sm_history.specs.Sound.{IsBalanced, IsOnce}
@@ -15,11 +15,6 @@ use Rattle.sm_grants.specs.Tracking.{TracksSlots}
 abbrev pub table_of : List ClientHandles → ℕ → Option HandleTable
 table_of [] c = None
 table_of (r ∷ rs) c = if r.client == c then Some r.handles else table_of rs c
-
--- This is the index of that row, counted from a.
-abbrev pub index_from : ℕ → List ClientHandles → ℕ → Option ℕ
-index_from a [] c = None
-index_from a (r ∷ rs) c = if r.client == c then Some a else index_from (a + 1) rs c
 
 -- These are the slots of handles, if there are any.
 abbrev pub slots_in : Option HandleTable → Slots

@@ -19,8 +19,8 @@ ghost use Rattle.sm_grants.specs.Holders.{holders_at};
 
 use crate::handles::Handles;
 use crate::place::node_index;
-use crate::rows::{ClientHandles, handles_of, holders_in, place_for, row_of};
-use sm_history::{Held, MOST_HANDLES};
+use crate::rows::{ClientHandles, handles_of, holders_in, place_for};
+use sm_history::{Held, MOST_HANDLES, row_index};
 use sm_kinds::{ClientId, Node, ObjRef, drop_fields};
 use std::alloc::{AllocError, Global};
 
@@ -64,7 +64,7 @@ impl Grants {
         if n == 0 {
             return Ok(());
         }
-        match row_of(&self.rows, client) {
+        match row_index(&self.rows, client) {
             Some(i) => {
                 let row = &mut self.rows[i];
                 row.handles.reserve(n)
@@ -94,7 +94,7 @@ impl Grants {
         ensures spare { spare_for self.old client ≤ spare_for self.new client + 1 }
         ensures others { (k : ℕ) → (client == k) ≡ false → spare_for self.new k ≡ spare_for self.old k }
     {
-        let Some(i) = row_of(&self.rows, client) else {
+        let Some(i) = row_index(&self.rows, client) else {
             return None;
         };
         let row = &mut self.rows[i];
@@ -114,7 +114,7 @@ impl Grants {
         if number == 0 {
             return None;
         }
-        let Some(i) = row_of(&self.rows, client) else {
+        let Some(i) = row_index(&self.rows, client) else {
             return None;
         };
         let row = &mut self.rows[i];
@@ -130,7 +130,7 @@ impl Grants {
         ensures tracks { (d : Effects) → Tracks d self.old → Tracks (Dies client ∷ d) self.new }
         ensures others { (k : ℕ) → (client == k) ≡ false → spare_for self.new k ≡ spare_for self.old k }
     {
-        if let Some(i) = row_of(&self.rows, client) {
+        if let Some(i) = row_index(&self.rows, client) {
             let _ = self.rows.remove(i);
         }
     }

@@ -52,19 +52,6 @@ use sm_kinds::Node;
 use std::alloc::{AllocError, Global};
 use std::collections::HashMap;
 
-/// Returns whether an object is held under a number.
-fn has_number(slots: &[Option<Held>], number: u32, node: Node) -> bool
-    ensures { IsTrue result → (0 < number) × (node_of (slot slots.now (number - 1)) ≡ Some node) }
-{
-    if number == 0 {
-        return false;
-    }
-    match slots.get(number as usize - 1).copied().flatten() {
-        Some(held) => held.node.owner.0 == node.owner.0 && held.node.object == node.object,
-        None => false,
-    }
-}
-
 impl Handles {
     /// Makes an empty table.
     pub fn new(alloc: Global) -> Result<Handles, AllocError>
@@ -115,10 +102,14 @@ impl Handles {
         ensures alone { (i j : ℕ) → node_of (slot self.now.slots i) ≡ Some node
             → node_of (slot self.now.slots j) ≡ Some node → i ≡ j }
     {
-        if has_number(&self.slots, number, node) {
-            return Some(number - 1);
+        let i = number.wrapping_sub(1);
+        match self.slots.get(i as usize) {
+            Some(Some(held))
+                if held.node.owner.0 == node.owner.0 && held.node.object == node.object => {
+                Some(i)
+            }
+            _ => self.index_of(node),
         }
-        self.index_of(node)
     }
 
     /// Returns whether an object is held.
@@ -154,16 +145,6 @@ impl Handles {
         ensures most { result ≤ MOST_HANDLES }
     {
         self.numbers.len()
-    }
-
-    /// Grants a held object once more.
-    pub fn grant_again(&mut self, i: usize)
-        requires held { is_some (slot self.old.slots i) ≡ true }
-        requires few { count_of (slot self.old.slots i) < 2 ^ 64 - 1 }
-        ensures put { (n : Node) → IsPut self.old.slots self.new.slots i (granted_slot n (slot self.old.slots i)) }
-        ensures spare { self.new.spare ≡ self.old.spare }
-    {
-        add_one(&mut self.slots, i);
     }
 
     /// Grants an object for the first time, and returns its number.
@@ -226,17 +207,6 @@ impl Handles {
             && self.numbers.len() < self.numbers.capacity()
     }
 
-    /// Returns whether one more grant of what is in a slot can be counted.
-    fn can_count(&self, i: usize) -> bool
-        requires { is_some (slot self.now.slots i) ≡ true }
-        ensures { IsTrue result ↔ (count_of (slot self.now.slots i) < 2 ^ 64 - 1) }
-    {
-        match self.at(i) {
-            Some(held) => held.count < u64::MAX,
-            None => false,
-        }
-    }
-
     /// Grants an object once, and returns its number, or else the least free one. Returns `None` and changes nothing if
     /// there is no number or memory for it, or its count is at its greatest value. An object that has the number `near`
     /// is found without its hash.
@@ -253,13 +223,13 @@ impl Handles {
         ensures spare { self.old.spare ≤ self.new.spare + 1 }
     {
         match self.index_by(near, node) {
-            Some(i) => {
-                if !self.can_count(i as usize) {
-                    return None;
+            Some(i) => match self.at(i as usize) {
+                Some(held) if held.count < u64::MAX => {
+                    add_one(&mut self.slots, i as usize);
+                    Some(i + 1)
                 }
-                self.grant_again(i as usize);
-                Some(i + 1)
-            }
+                _ => None,
+            },
             None => {
                 if !self.has_room() {
                     return None;

@@ -1,8 +1,8 @@
 //! Rows of handles, one for each client that has any.
 
-ghost use Rattle.std.specs.Prelude.{◌≡◌, ◌<◌, ◌≤◌, ◌==◌, ◌&&◌, Some, not, option_map, count_by, IfSome, length};
+ghost use Rattle.std.specs.Prelude.{◌≡◌, ◌≤◌, ◌==◌, ◌&&◌, not, option_map, count_by, length};
 ghost use Rattle.sm_grants.specs.Slots.{is_in};
-ghost use Rattle.sm_grants.specs.Rows.{table_of, index_from};
+ghost use Rattle.sm_grants.specs.Rows.{table_of};
 ghost use Rattle.sm_grants.specs.Once.{AreOnce};
 
 use crate::handles::Handles;
@@ -24,21 +24,12 @@ impl OfClient for ClientHandles {
     }
 }
 
-/// Returns the index of a client's row.
-pub fn row_of(rows: &[ClientHandles], client: u32) -> Option<usize>
-    requires { AreOnce rows.now }
-    ensures at { result ≡ index_from 0 rows.now client }
-    ensures inside { IfSome result (λ i. i < length rows.now) }
-{
-    row_index(rows, client)
-}
-
 /// Returns a client's handles, if it has a row.
 pub fn handles_of(rows: &[ClientHandles], client: u32) -> Option<&Handles>
     requires { AreOnce rows.now }
     ensures { option_map (λ h. h.now) result ≡ table_of rows.now client }
 {
-    match row_of(rows, client) {
+    match row_index(rows, client) {
         Some(place) => Some(&rows[place].handles),
         None => None,
     }

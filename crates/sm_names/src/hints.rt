@@ -2,8 +2,10 @@
 //! a row that was found by a hint has the name that is sought, and otherwise the rows are searched. So contracts say
 //! nothing of hints, and hints that can't be allocated are just not there.
 
-ghost use Rattle.std.specs.Prelude.{◌≡◌, ◌<◌, ℕ, IfSome, length, slice_index_or};
-ghost use Rattle.sm_history.specs.declared.replay.named_row.NamedRow.{NamedRow as TheRow};
+ghost use Rattle.std.specs.Prelude.{length, MatchResult};
+ghost use Rattle.std.specs.List.Sorted.{IsSearchInRange};
+ghost use Rattle.sm_history.specs.Rising.{IsRising};
+ghost use Rattle.sm_history.specs.Tables.{names_of, IsNamePlace, IsNameGap};
 
 use crate::words::{digest, is_same};
 use sm_history::NamedRow;
@@ -44,20 +46,21 @@ impl Hints {
         digest(name) as usize & self.places.len().wrapping_sub(1)
     }
 
-    /// Returns the index of a name's row, if the hint in a slot leads there.
+    /// Returns the index of a name's row, or the index at which it would be inserted. The hint in the name's slot is
+    /// tried first.
     #[inline(always)]
-    pub fn hinted_index(&self, slot: usize, rows: &[NamedRow], name: &[u8]) -> Option<usize>
-        ensures { IfSome result
-            (λ i. (i < length rows.now) × ((r : TheRow) → (slice_index_or rows.now i r).name ≡ name.now)) }
+    pub fn search(&self, slot: usize, rows: &[NamedRow], name: &[u8]) -> Result<usize, usize>
+        ensures within { IsSearchInRange result (length rows.now) }
+        ensures place { IsRising (names_of rows.now)
+            → MatchResult result (IsNamePlace rows.now name.now) (IsNameGap rows.now name.now) }
     {
-        let Some(hint) = self.places.get(slot) else {
-            return None;
-        };
-        let place = usize::from(*hint);
-        if place >= rows.len() || !is_same(rows[place].name.bytes(), name) {
-            return None;
+        if let Some(hint) = self.places.get(slot) {
+            let place = usize::from(*hint);
+            if place < rows.len() && is_same(rows[place].name.bytes(), name) {
+                return Ok(place);
+            }
         }
-        Some(place)
+        rows.binary_search_by(|row| row.name.bytes().cmp(name))
     }
 
     /// Makes slots for this many rows, if there are too few and there is memory, and fills them.

@@ -54,7 +54,7 @@ impl NameTable {
         ensures same { watch_count self.new ≡ watch_count self.old }
     {
         self.services.reserve(n)?;
-        self.watches.reserve(n)?;
+        self.watches.list.reserve(n)?;
         self.order.reserve(n)
     }
 
@@ -131,7 +131,7 @@ impl NameTable {
         ensures { IsTrue result ↔ HasRoom 1 self.now }
     {
         self.services.is_ready()
-            && self.watches.is_ready()
+            && self.watches.list.len() < self.watches.list.capacity()
             && self.order.len() < self.order.capacity()
     }
 

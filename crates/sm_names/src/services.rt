@@ -1,15 +1,12 @@
 //! Services under their names.
 
-ghost use Rattle.std.specs.Prelude.{◌≡◌, ◌≤◌, ◌<◌, ◌+◌, true, [], ◌∷◌, length, nat_lt, IfOk, OnOk, MatchResult};
+ghost use Rattle.std.specs.Prelude.{◌≡◌, ◌≤◌, ◌<◌, ◌+◌, true, [], ◌∷◌, length, nat_lt, IfOk, OnOk};
 ghost use Rattle.std.specs.Vec.{vec_capacity};
-ghost use Rattle.std.specs.List.Sorted.{IsSearchInRange};
 ghost use Rattle.sm_history.specs.declared.effect.Effect.TheVariants.{Adds, Removes, Dies};
 ghost use Rattle.sm_history.specs.Effects.{Effects};
 ghost use Rattle.sm_history.specs.Clients.{is_live};
 ghost use Rattle.sm_history.specs.Services.{service_at, current_names};
 ghost use Rattle.sm_history.specs.Queries.{names_by_mask};
-ghost use Rattle.sm_history.specs.Rising.{IsRising};
-ghost use Rattle.sm_history.specs.Tables.{names_of, IsNamePlace, IsNameGap};
 ghost use Rattle.sm_names.specs.Rows.{TracksRows, matching_names};
 
 use crate::hints::Hints;
@@ -27,28 +24,6 @@ pub struct Services {
 impl Drop for Services {
     fn drop(self) {
         let Services { rows: _, hints: _ } = self;
-    }
-}
-
-/// Returns the index of a name's row, or the index at which it would be inserted.
-fn searched(rows: &[NamedRow], name: &[u8]) -> Result<usize, usize>
-    ensures within { IsSearchInRange result (length rows.now) }
-    ensures place { IsRising (names_of rows.now)
-        → MatchResult result (IsNamePlace rows.now name.now) (IsNameGap rows.now name.now) }
-{
-    rows.binary_search_by(|row| row.name.bytes().cmp(name))
-}
-
-/// As `searched`; the hint in the name's slot is tried first.
-#[inline(always)]
-fn service_index(rows: &[NamedRow], hints: &Hints, slot: usize, name: &[u8]) -> Result<usize, usize>
-    ensures within { IsSearchInRange result (length rows.now) }
-    ensures place { IsRising (names_of rows.now)
-        → MatchResult result (IsNamePlace rows.now name.now) (IsNameGap rows.now name.now) }
-{
-    match hints.hinted_index(slot, rows, name) {
-        Some(place) => Ok(place),
-        None => searched(rows, name),
     }
 }
 
@@ -140,7 +115,7 @@ impl Services {
             → result ≡ service_at d name.now }
     {
         let slot = self.hints.slot_of(name);
-        match service_index(&self.rows, &self.hints, slot, name) {
+        match self.hints.search(slot, &self.rows, name) {
             Ok(i) => Some(self.rows[i].service),
             Err(_) => None,
         }
@@ -164,7 +139,7 @@ impl Services {
             × (length self.new.rows.items ≤ length self.old.rows.items + 1) }
     {
         let slot = self.hints.slot_of(name.bytes());
-        match service_index(&self.rows, &self.hints, slot, name.bytes()) {
+        match self.hints.search(slot, &self.rows, name.bytes()) {
             Ok(i) => {
                 self.hints.set(slot, i);
                 self.rows[i].service = service;
@@ -188,7 +163,7 @@ impl Services {
             × (length self.new.rows.items ≤ length self.old.rows.items) }
     {
         let slot = self.hints.slot_of(name);
-        if let Ok(i) = service_index(&self.rows, &self.hints, slot, name) {
+        if let Ok(i) = self.hints.search(slot, &self.rows, name) {
             self.hints.removed(i);
             let _ = self.rows.remove(i);
         }

@@ -1,7 +1,7 @@
 //! Watches by name.
 
 ghost use Rattle.std.specs.Prelude.{◌≡◌, ◌≤◌, ◌<◌, ◌+◌, true, false, [], ◌∷◌, vec_len, length, filter};
-ghost use Rattle.std.specs.Prelude.{bytes_eq, count_by, nat_lt, OnOk};
+ghost use Rattle.std.specs.Prelude.{bytes_eq, count_by};
 ghost use Rattle.std.specs.List.{list_any};
 ghost use Rattle.std.specs.List.Sorted.{IsPartitionedBy, IsPartitionPoint};
 ghost use Rattle.std.specs.Ordering.{nat_cmp, is_lt, is_le, is_gt};
@@ -16,12 +16,12 @@ ghost use Rattle.sm_history.specs.Histories.{watch as make_watch};
 ghost use Rattle.sm_names.specs.Watching.{watchers_in, AreInOrder, TracksList};
 
 use sm_history::{MOST_WATCHES, Watch};
-use std::alloc::{AllocError, Global};
+use std::alloc::Global;
 use std::cmp::Ordering;
 
 /// The watches of live clients, in rising byte order of their names, and of one name oldest first.
 pub struct WatchList {
-    list: Vec<Watch>,
+    pub list: Vec<Watch>,
     ghost few: { vec_len list ≤ MOST_WATCHES },
 }
 
@@ -106,22 +106,6 @@ impl WatchList {
         WatchList {
             list: Vec::new(alloc),
         }
-    }
-
-    /// Makes room for `n` more watches.
-    pub fn reserve(&mut self, n: usize) -> Result<(), AllocError>
-        ensures same { self.new.list.items ≡ self.old.list.items }
-        ensures room { OnOk result (length self.new.list.items + n ≤ vec_capacity self.new.list) }
-        ensures kept { vec_capacity self.old.list ≤ vec_capacity self.new.list }
-    {
-        self.list.reserve(n)
-    }
-
-    /// Returns whether one more watch allocates nothing.
-    pub fn is_ready(&self) -> bool
-        ensures { result ≡ nat_lt (length self.now.list.items) (vec_capacity self.now.list) }
-    {
-        self.list.len() < self.list.capacity()
     }
 
     /// Returns the number of watches.

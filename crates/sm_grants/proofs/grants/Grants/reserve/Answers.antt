@@ -3,10 +3,10 @@ use Rattle.std.specs.Prelude.{Option, is_ok}
 use Rattle.std.specs.List.{insert}
 use Rattle.sm_grants.specs.declared.rows.ClientHandles.{ClientHandles}
 use Rattle.sm_grants.specs.Slots.{HandleTable}
-use Rattle.sm_grants.specs.Rows.{index_from, slots_in, spare_in, spare_of, slots_of}
+use Rattle.sm_grants.specs.Rows.{table_of, slots_in, spare_in, spare_of, slots_of}
 use Rattle.sm_history.proofs.OnceRows.{once_written}
-use Rattle.sm_grants.proofs.OnceRows.{once_inserted}
-use Rattle.sm_grants.proofs.ClientRows.{tracks_room, row_here, no_row, tracks_pushed, changed_own, spare_pushed}
+use Rattle.sm_grants.proofs.OnceRows.{once_inserted, row_here, none_here}
+use Rattle.sm_grants.proofs.ClientRows.{tracks_room, tracks_pushed, changed_own, spare_pushed}
 use Rattle.sm_grants.proofs.ClientRows.{spare_kept, spare_more}
 use Rattle.sm_history.specs.Tables.{Slots}
 use Rattle.sm_grants.specs.Once.{AreOnce}
@@ -17,42 +17,42 @@ use Rattle.sm_grants.proofs.grants.Grants.reserve.Goals as goal
 pub returns-in-Some-clause-same : goal.returns-in-Some-clause-same
 returns-in-Some-clause-same c d tr =
     let rows = c.args.self.now.rows.items in
-    let here = row_here c.args.client c.deref.ensures.value (sym c.in-Some.ensures.at) c.index_mut-row.ensures.value in
+    let here = row_here c.deref.ensures.value c.args.self.now.once c.in-Some.ensures c.index_mut-row.ensures.value in
     tracks_room d rows _ c.args.client c.reserve.new.self (here.2 c.reserve.new.self)
     (c.reserve.ensures.slots ∙ sym (ap (λ (o : Option HandleTable). slots_in o) here.0)) tr
 
 pub returns-in-Some-clause-room : goal.returns-in-Some-clause-room
 returns-in-Some-clause-room c =
     let rows = c.args.self.now.rows.items in
-    let here = row_here c.args.client c.deref.ensures.value (sym c.in-Some.ensures.at) c.index_mut-row.ensures.value in
+    let here = row_here c.deref.ensures.value c.args.self.now.once c.in-Some.ensures c.index_mut-row.ensures.value in
     let own = changed_own rows _ c.args.client c.reserve.new.self (here.2 c.reserve.new.self) in
     rw own c.reserve.ensures.room
 
 pub returns-in-Ok-clause-same : goal.returns-in-Ok-clause-same
 returns-in-Ok-clause-same c d tr =
     let rows = c.args.self.now.rows.items in
-    let none : index_from 0 rows c.args.client ≡ None = rw (← c.deref.ensures.value) (sym c.in-None.ensures.at) in
+    let none = none_here c.args.client c.deref.ensures.value c.args.self.now.once c.in-None.ensures in
     let r : ClientHandles = record { client = c.args.client; handles = c.reserve-in-None-2.new.self } in
     rw (c.insert.ensures.items, c.in-Ok.is, c.reserve-in-None.ensures.items)
-    (tracks_pushed d rows c.place_for-place.result r (no_row 0 rows c.args.client none)
+    (tracks_pushed d rows c.place_for-place.result r none
     (c.reserve-in-None-2.ensures.slots ∙ c.in_ok-handles-in-None.ensures) tr)
 
 pub returns-in-Ok-clause-room : goal.returns-in-Ok-clause-room
 returns-in-Ok-clause-room c =
     let rows = c.args.self.now.rows.items in
-    let none : index_from 0 rows c.args.client ≡ None = rw (← c.deref.ensures.value) (sym c.in-None.ensures.at) in
+    let none = none_here c.args.client c.deref.ensures.value c.args.self.now.once c.in-None.ensures in
     let r : ClientHandles = record { client = c.args.client; handles = c.reserve-in-None-2.new.self } in
     rw (
       c.insert.ensures.items,
       c.in-Ok.is,
       c.reserve-in-None.ensures.items,
-      spare_pushed rows c.place_for-place.result r (no_row 0 rows c.args.client none),
+      spare_pushed rows c.place_for-place.result r none,
     ) c.in_ok-reserve-in-None-2.ensures.room
 
 pub returns-in-Some-clause-spare : goal.returns-in-Some-clause-spare
 returns-in-Some-clause-spare c k =
     let rows = c.args.self.now.rows.items in
-    let here = row_here c.args.client c.deref.ensures.value (sym c.in-Some.ensures.at) c.index_mut-row.ensures.value in
+    let here = row_here c.deref.ensures.value c.args.self.now.once c.in-Some.ensures c.index_mut-row.ensures.value in
     let was : spare_of rows c.args.client ≡ c.index_mut-row.result.now.handles.spare =
     ap (λ (o : Option HandleTable). spare_in o) here.0 in
     spare_kept rows _ c.args.client c.reserve.new.self (here.2 c.reserve.new.self)
@@ -61,42 +61,42 @@ returns-in-Some-clause-spare c k =
 pub returns-in-Some-clause-succeeds : goal.returns-in-Some-clause-succeeds
 returns-in-Some-clause-succeeds c le =
     let rows = c.args.self.now.rows.items in
-    let here = row_here c.args.client c.deref.ensures.value (sym c.in-Some.ensures.at) c.index_mut-row.ensures.value in
+    let here = row_here c.deref.ensures.value c.args.self.now.once c.in-Some.ensures c.index_mut-row.ensures.value in
     c.reserve.ensures.succeeds (rw here.0 at le)
 
-no_spare : (rows : List ClientHandles) (client n : ℕ) → index_from 0 rows client ≡ None → 0 < n
+no_spare : (rows : List ClientHandles) (client n : ℕ) → table_of rows client ≡ None → 0 < n
     → n ≤ spare_of rows client → ⊥
 no_spare rows client n none some le =
-    let zero : spare_of rows client ≡ 0 = ap (λ (o : Option HandleTable). spare_in o) (no_row 0 rows client none) in
+    let zero : spare_of rows client ≡ 0 = ap (λ (o : Option HandleTable). spare_in o) none in
     omega (arith, some, le, zero)
 
 pub returns-in_err-reserve-in-None-clause-succeeds : goal.returns-in_err-reserve-in-None-clause-succeeds
 returns-in_err-reserve-in-None-clause-succeeds c le =
     absurd (no_spare c.args.self.now.rows.items c.args.client c.args.n
-    (rw (← c.deref.ensures.value) (sym c.in-None.ensures.at)) (omega (arith, c.if-n-eq0.false)) le)
+    (none_here c.args.client c.deref.ensures.value c.args.self.now.once c.in-None.ensures) (omega (arith, c.if-n-eq0.false)) le)
 
 pub returns-in_err-handles-in-None-clause-succeeds : goal.returns-in_err-handles-in-None-clause-succeeds
 returns-in_err-handles-in-None-clause-succeeds c le =
     absurd (no_spare c.args.self.now.rows.items c.args.client c.args.n
-    (rw (← c.deref.ensures.value) (sym c.in-None.ensures.at)) (omega (arith, c.if-n-eq0.false)) le)
+    (none_here c.args.client c.deref.ensures.value c.args.self.now.once c.in-None.ensures) (omega (arith, c.if-n-eq0.false)) le)
 
 pub returns-in_err-reserve-in-None-2-clause-succeeds : goal.returns-in_err-reserve-in-None-2-clause-succeeds
 returns-in_err-reserve-in-None-2-clause-succeeds c le =
     absurd (no_spare c.args.self.now.rows.items c.args.client c.args.n
-    (rw (← c.deref.ensures.value) (sym c.in-None.ensures.at)) (omega (arith, c.if-n-eq0.false)) le)
+    (none_here c.args.client c.deref.ensures.value c.args.self.now.once c.in-None.ensures) (omega (arith, c.if-n-eq0.false)) le)
 
 pub returns-in-Ok-clause-spare : goal.returns-in-Ok-clause-spare
 returns-in-Ok-clause-spare c k =
     let rows = c.args.self.now.rows.items in
-    let none : index_from 0 rows c.args.client ≡ None = rw (← c.deref.ensures.value) (sym c.in-None.ensures.at) in
+    let none = none_here c.args.client c.deref.ensures.value c.args.self.now.once c.in-None.ensures in
     let r : ClientHandles = record { client = c.args.client; handles = c.reserve-in-None-2.new.self } in
     rw (c.insert.ensures.items, c.in-Ok.is, c.reserve-in-None.ensures.items)
-    (spare_more rows c.place_for-place.result r (no_row 0 rows c.args.client none) k)
+    (spare_more rows c.place_for-place.result r none k)
 
 pub invariant_of-self : goal.invariant_of-self
 invariant_of-self c =
     let rows = c.args.self.now.rows.items in
-    let here = row_here c.args.client c.deref.ensures.value (sym c.in-Some.ensures.at) c.index_mut-row.ensures.value in
+    let here = row_here c.deref.ensures.value c.args.self.now.once c.in-Some.ensures c.index_mut-row.ensures.value in
     let same : slots_of rows c.args.client ≡ c.reserve.new.self.slots =
     ap (λ (o : Option HandleTable). slots_in o) here.0 ∙ sym c.reserve.ensures.slots in
     let all : highest rows ≤ c.args.self.now.bound = c.args.self.now.bounded in
@@ -117,7 +117,7 @@ either P false xs ys zs e p q = subst P (sym e) q
 pub invariant_of-self-in-None : goal.invariant_of-self-in-None
 invariant_of-self-in-None c =
     let rows = c.args.self.now.rows.items in
-    let none : index_from 0 rows c.args.client ≡ None = rw (← c.deref.ensures.value) (sym c.in-None.ensures.at) in
+    let none = none_here c.args.client c.deref.ensures.value c.args.self.now.once c.in-None.ensures in
     let r : ClientHandles = record { client = c.args.client; handles = c.reserve-in-None-2.new.self } in
     let items = rw c.reserve-in-None.ensures.items at c.insert.ensures.items in
     record {
@@ -127,6 +127,6 @@ invariant_of-self-in-None c =
           (c.reserve-in-None-2.ensures.slots ∙ c.in_ok-handles-in-None.ensures)) c.args.self.now.bounded;
       once = either AreOnce (is_ok c.insert.result) (insert rows c.place_for-place.result r) rows
           c.insert.new.self.items items
-          (once_inserted rows c.place_for-place.result r (no_row 0 rows c.args.client none) c.args.self.now.once)
+          (once_inserted rows c.place_for-place.result r none c.args.self.now.once)
           c.args.self.now.once;
     }
