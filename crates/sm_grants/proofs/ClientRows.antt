@@ -34,15 +34,6 @@ abbrev pub index_from : ℕ → List ClientHandles → ℕ → Option ℕ
 index_from a [] c = None
 index_from a (r ∷ rs) c = if r.client == c then Some a else index_from (a + 1) rs c
 
-pub no_row : (a : ℕ) (rows : List ClientHandles) (c : ℕ) → index_from a rows c ≡ None → table_of rows c ≡ None
-no_row a [] c h = refl
-no_row a (r ∷ rs) c h =
-    elim (r.client == c) as (λ b. (let o : Option ℕ = if b then Some a else index_from (a + 1) rs c in o ≡ None) →
-    (let o : Option HandleTable = if b then Some r.handles else table_of rs c in o ≡ None)) [
-      | true ↦ λ f. cc
-      | false ↦ λ f. no_row (a + 1) rs c f
-    ] h
-
 -- This is the content of a client's row.
 pub record AtRow (rows : List ClientHandles) (c i : ℕ) : Type 0 where
   pub inside : i < length rows
@@ -382,12 +373,12 @@ pub record IsRemoved (rows rows' : List ClientHandles) (c : ℕ) : Type 0 where
   pub tables : (k : ℕ) → table_of rows' k ≡ (let o : Option HandleTable = if c == k then None else table_of rows k in o)
   pub once : IsOnce (map (λ (x : ClientHandles). x.client) rows')
 
-pub none_removed : (rows : List ClientHandles) (c : ℕ) → index_from 0 rows c ≡ None
+pub none_removed : (rows : List ClientHandles) (c : ℕ) → table_of rows c ≡ None
     → IsOnce (map (λ (x : ClientHandles). x.client) rows) → IsRemoved rows rows c
 none_removed rows c h once = record {
   tables = λ k. elim (c == k) as (λ b. (c == k) ≡ b →
       table_of rows k ≡ (let o : Option HandleTable = if b then None else table_of rows k in o)) [
-        | true ↦ λ e. subst (λ (v : ℕ). table_of rows v ≡ None) (number_same c k e) (no_row 0 rows c h)
+        | true ↦ λ e. subst (λ (v : ℕ). table_of rows v ≡ None) (number_same c k e) h
         | false ↦ λ e. refl
       ] refl;
   once = once;

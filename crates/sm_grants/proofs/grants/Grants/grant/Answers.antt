@@ -13,7 +13,7 @@ use Rattle.sm_grants.proofs.grants.Grants.grant.Goals as goal
 
 pub returns-in_default-clause-ready : goal.returns-in_default-clause-ready
 returns-in_default-clause-ready c =
-    let none = none_here c.args.client c.deref.ensures.value c.args.self.now.once c.in_default.ensures in (
+    let none = none_here c.args.client c.deref.ensures.value c.in_default.ensures in (
       (λ some. absurd (true≢false (sym some))),
       (λ can. absurd (cannot c.args.self.now.rows.items c.args.client c.args.node can none)),
     )

@@ -17,7 +17,7 @@ returns-then-number-eq0-clause-tracks c d tr =
 
 pub returns-in_default-clause-tracks : goal.returns-in_default-clause-tracks
 returns-in_default-clause-tracks c d tr =
-    let none = none_here c.args.client c.deref.ensures.value c.args.self.now.once c.in_default.ensures in
+    let none = none_here c.args.client c.deref.ensures.value c.in_default.ensures in
     let some : 0 < c.args.number = omega (arith, c.if-number-eq0.false) in (
       sym (node_none d c.args.self.now.rows.items c.args.client c.args.number tr none some),
       tr,

@@ -31,7 +31,7 @@ returns-in-Some-clause-room c =
 pub returns-in-Ok-clause-same : goal.returns-in-Ok-clause-same
 returns-in-Ok-clause-same c d tr =
     let rows = c.args.self.now.rows.items in
-    let none = none_here c.args.client c.deref.ensures.value c.args.self.now.once c.in-None.ensures in
+    let none = none_here c.args.client c.deref.ensures.value c.in-None.ensures in
     let r : ClientHandles = record { client = c.args.client; handles = c.reserve-in-None-2.new.self } in
     rw (c.insert.ensures.items, c.in-Ok.is, c.reserve-in-None.ensures.items)
     (tracks_pushed d rows c.place_for-place.result r none
@@ -40,7 +40,7 @@ returns-in-Ok-clause-same c d tr =
 pub returns-in-Ok-clause-room : goal.returns-in-Ok-clause-room
 returns-in-Ok-clause-room c =
     let rows = c.args.self.now.rows.items in
-    let none = none_here c.args.client c.deref.ensures.value c.args.self.now.once c.in-None.ensures in
+    let none = none_here c.args.client c.deref.ensures.value c.in-None.ensures in
     let r : ClientHandles = record { client = c.args.client; handles = c.reserve-in-None-2.new.self } in
     rw (
       c.insert.ensures.items,
@@ -73,22 +73,22 @@ no_spare rows client n none some le =
 pub returns-in_err-reserve-in-None-clause-succeeds : goal.returns-in_err-reserve-in-None-clause-succeeds
 returns-in_err-reserve-in-None-clause-succeeds c le =
     absurd (no_spare c.args.self.now.rows.items c.args.client c.args.n
-    (none_here c.args.client c.deref.ensures.value c.args.self.now.once c.in-None.ensures) (omega (arith, c.if-n-eq0.false)) le)
+    (none_here c.args.client c.deref.ensures.value c.in-None.ensures) (omega (arith, c.if-n-eq0.false)) le)
 
 pub returns-in_err-handles-in-None-clause-succeeds : goal.returns-in_err-handles-in-None-clause-succeeds
 returns-in_err-handles-in-None-clause-succeeds c le =
     absurd (no_spare c.args.self.now.rows.items c.args.client c.args.n
-    (none_here c.args.client c.deref.ensures.value c.args.self.now.once c.in-None.ensures) (omega (arith, c.if-n-eq0.false)) le)
+    (none_here c.args.client c.deref.ensures.value c.in-None.ensures) (omega (arith, c.if-n-eq0.false)) le)
 
 pub returns-in_err-reserve-in-None-2-clause-succeeds : goal.returns-in_err-reserve-in-None-2-clause-succeeds
 returns-in_err-reserve-in-None-2-clause-succeeds c le =
     absurd (no_spare c.args.self.now.rows.items c.args.client c.args.n
-    (none_here c.args.client c.deref.ensures.value c.args.self.now.once c.in-None.ensures) (omega (arith, c.if-n-eq0.false)) le)
+    (none_here c.args.client c.deref.ensures.value c.in-None.ensures) (omega (arith, c.if-n-eq0.false)) le)
 
 pub returns-in-Ok-clause-spare : goal.returns-in-Ok-clause-spare
 returns-in-Ok-clause-spare c k =
     let rows = c.args.self.now.rows.items in
-    let none = none_here c.args.client c.deref.ensures.value c.args.self.now.once c.in-None.ensures in
+    let none = none_here c.args.client c.deref.ensures.value c.in-None.ensures in
     let r : ClientHandles = record { client = c.args.client; handles = c.reserve-in-None-2.new.self } in
     rw (c.insert.ensures.items, c.in-Ok.is, c.reserve-in-None.ensures.items)
     (spare_more rows c.place_for-place.result r none k)
@@ -117,7 +117,7 @@ either P false xs ys zs e p q = subst P (sym e) q
 pub invariant_of-self-in-None : goal.invariant_of-self-in-None
 invariant_of-self-in-None c =
     let rows = c.args.self.now.rows.items in
-    let none = none_here c.args.client c.deref.ensures.value c.args.self.now.once c.in-None.ensures in
+    let none = none_here c.args.client c.deref.ensures.value c.in-None.ensures in
     let r : ClientHandles = record { client = c.args.client; handles = c.reserve-in-None-2.new.self } in
     let items = rw c.reserve-in-None.ensures.items at c.insert.ensures.items in
     record {

@@ -1,4 +1,4 @@
-use Rattle.std.proofs.Common.{rules, ◌≡◌, ◌<◌, ◌∙◌, ap, length, sym}
+use Rattle.std.proofs.Common.{rules, ◌∙◌, ap, sym}
 use Rattle.std.specs.Ordering.{nat_cmp}
 use Rattle.std.specs.Cmp.Lexicographic.{slice_cmp}
 use Rattle.std.proofs.lemmas.Fn.{always_returns_same}
@@ -9,11 +9,10 @@ use Rattle.sm_names.proofs.hints.Hints.search.Goals as goal
 
 pub returns-then-is_same-clause-place : goal.returns-then-is_same-clause-place
 returns-then-is_same-clause-place c rises =
-    let inside : c.from-place.result < length c.args.rows.now = search rules in
-    let same : c.bytes.result.now ≡ c.args.name.now = search rules in
-    place_here c.args.rows.now c.args.name.now c.from-place.result rises inside
-    (λ r. ap (λ (x : NamedRow). x.name) (get_or_default _ _ r c.index-rows-place.result inside) ∙
-    sym c.bytes.ensures ∙ same)
+    place_here c.args.rows.now c.args.name.now c.from-place.result rises c.if-place-rows.true
+    (λ r. ap (λ (x : NamedRow). x.name)
+    (get_or_default c.args.rows.now _ r c.index-rows-place.result c.if-place-rows.true) ∙ sym c.bytes.ensures ∙
+    c.is_same.ensures (search rules))
 
 pub returns-clause-place : goal.returns-clause-place
 returns-clause-place c rises =
