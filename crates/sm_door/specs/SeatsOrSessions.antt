@@ -1,10 +1,8 @@
 -- What a client's slot knows, with or without a client.
-use Rattle.std.specs.Prelude.{Option, Some, None}
-use Rattle.sm_kinds.specs.declared.number.ClientId.{ClientId}
-use Rattle.sm_history.specs.declared.by.By.TheVariants.{Manager}
-use Rattle.sm_history.specs.Tokens.{Knows, token}
+use Rattle.std.specs.Prelude.{Result, Ok, Err}
+use Rattle.sm_history.specs.Tokens.{Knows}
 
--- Without a client the token is the manager's, which connects one.
-abbrev pub sits : Option ClientId → Knows → Knows
-sits None knows = token Manager knows.seen knows.reads
-sits (Some client) knows = knows
+-- Without a client it is what a free seat knows.
+abbrev pub sits : Result Knows Knows → Knows
+sits (Ok session) = session
+sits (Err seat) = seat

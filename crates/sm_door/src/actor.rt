@@ -21,7 +21,7 @@ use std::sync::Wait;
 /// An actor with its reader slot. Contracts see the actor, the history that it has seen, and the number of its reads.
 pub struct Actor<J: Naming> {
     alloc: Global,
-    by: By,
+    pub(crate) by: By,
     /// The number of its own changes that it has seen.
     turn: u64,
     /// Its reader slot, which is absent only within a call.
@@ -65,13 +65,6 @@ impl<J: Naming> Actor<J> {
             turn,
             reader: Some(reader),
         }
-    }
-
-    /// Returns the actor.
-    pub fn by(&self) -> By
-        ensures { result ≡ self.now.by }
-    {
-        self.by
     }
 
     /// Returns an empty list of records.
@@ -137,7 +130,7 @@ impl<J: Naming> Actor<J> {
     fn is_in_turn(&self, locked: &LockedManager<J>) -> bool
         ensures { result ≡ nat_eq (turn_of locked.now.book.history self.now.by) (turn self.now) }
     {
-        locked.turn(self.by()) == self.due()
+        locked.turn(self.by) == self.due()
     }
 
     /// Sees the whole history, under the lock. Returns whether it has as many changes of the actor as the token knew.
@@ -155,7 +148,7 @@ impl<J: Naming> Actor<J> {
         ensures { SeesNow self.old locked.now.book self.new }
     {
         let reader = self.reader.take().unwrap();
-        let reader = locked.inform(rt, reader);
+        let reader = locked.publisher.inform(rt, reader);
         self.turn = locked.turn(self.by);
         self.reader = Some(reader);
     }

@@ -1,8 +1,7 @@
 //! What is under the lock: the manager, and the publisher of its views.
 
-ghost use Rattle.std.specs.Prelude.{◌≡◌, ◌≤◌, ◌<◌, ◌&&◌, length, IfOk, MatchResult};
+ghost use Rattle.std.specs.Prelude.{◌≡◌, ◌≤◌, ◌&&◌, length, IfOk, MatchResult};
 ghost use Rattle.std.specs.List.{All};
-ghost use Rattle.left_right.specs.Sides.{view as place_view};
 ghost use Rattle.sm_audit.specs.declared.ring.TheConstants.{MOST_RECORDS};
 ghost use Rattle.sm_core.specs.Managed.{ring_after, step_leaves};
 ghost use Rattle.sm_core.specs.Readying.{IsReady};
@@ -11,7 +10,7 @@ ghost use Rattle.sm_history.specs.declared.outcome.Outcome.TheVariants.{Connecte
 ghost use Rattle.sm_history.specs.declared.reply.Reply.TheVariants.{Done, Refused};
 ghost use Rattle.sm_history.specs.Histories.{client_of, turn_of};
 ghost use Rattle.sm_history.specs.Records.{IsTrueOnce};
-ghost use Rattle.sm_history.specs.BookOrder.{Begins, IsLawfulBook, extended, sealed_book};
+ghost use Rattle.sm_history.specs.BookOrder.{IsLawfulBook, extended, sealed_book};
 ghost use Rattle.sm_history.specs.PossibleReplies.{OfConnect};
 ghost use Rattle.sm_history.specs.Promises.{Submitted, Joined, Turned, TellsRecords, NotTold, Closed, NotClosed};
 ghost use Rattle.sm_history.specs.Steps.{Steps, ClosesSegment, StaysOpen};
@@ -20,7 +19,7 @@ ghost use Rattle.sm_door.specs.Locked.{Connects};
 ghost use Rattle.sm_door.specs.Logged.{Logged};
 
 use crate::actor::Actor;
-use crate::published::{Published, ViewReader};
+use crate::published::Published;
 use crate::publisher::Publisher;
 use crate::registry::Naming;
 use crate::seat::Seat;
@@ -42,7 +41,7 @@ where
 {
     alloc: Global,
     manager: Manager,
-    publisher: Publisher<J>,
+    pub(crate) publisher: Publisher<J>,
 }
 
 impl<J: Naming> Model for LockedManager<J>
@@ -116,7 +115,7 @@ impl<J: Naming> LockedManager<J> {
         ensures logged { Logged me.old me.new event result.0 result.1.items }
         ensures by { me.new.by ≡ me.old.by }
     {
-        let (reply, records) = self.step_of(rt, me, event);
+        let (reply, records) = self.step(rt, me.by, me.due(), event);
         if !moves(&reply) {
             return (reply, records);
         }
@@ -204,16 +203,6 @@ impl<J: Naming> LockedManager<J> {
         first && second
     }
 
-    /// One step of the manager at an actor's turn, as `step`.
-    fn step_of<R: Wait>(&mut self, rt: &R, me: &Actor<J>, event: Event) -> (Reply, Vec<Record>)
-        ensures steps { Steps self.old.book me.now.by (turn me.now) event result.0 self.new.book }
-        ensures ring { self.new.ring
-            ≡ ring_after self.old.ring self.old.book me.now.by (turn me.now) event result.0 }
-        ensures records { result.1.items ≡ step_leaves self.old.book me.now.by (turn me.now) event result.0 }
-    {
-        self.step(rt, me.by(), me.due(), event)
-    }
-
     /// One step of the manager, with the audit records that it adds to the ring. A change is published before it is
     /// committed: if it can't be published, nothing is committed and the answer is `Memory`.
     fn step<R: Wait>(&mut self, rt: &R, by: By, turn: u64, event: Event) -> (Reply, Vec<Record>)
@@ -265,15 +254,6 @@ impl<J: Naming> LockedManager<J> {
     {
         self.manager.lawful();
         self.manager.records()
-    }
-
-    /// Shows a reader the whole history, which begins with all that the reader had seen.
-    pub fn inform<R: Wait>(&self, rt: &R, reader: ViewReader<J>) -> ViewReader<J>
-        ensures seen { (place_view result.place).seen ≡ self.now.book }
-        ensures begins { Begins self.now.book (place_view reader.place).seen }
-        ensures entered { (place_view reader.place).reads < (place_view result.place).reads }
-    {
-        self.publisher.inform(rt, reader)
     }
 
     /// Ends the publication. Waits for the readers that are inside.

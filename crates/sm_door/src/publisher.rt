@@ -1,6 +1,6 @@
 //! Publication: the shared view that readers find, and the writer that replaces it.
 
-ghost use Rattle.std.specs.Prelude.{◌≡◌, ◌<◌, None, Some, MatchResult};
+ghost use Rattle.std.specs.Prelude.{◌≡◌, ◌<◌, MatchResult};
 ghost use Rattle.std.specs.Arc.{arc_value};
 ghost use Rattle.left_right.specs.Sides.{view as place_view};
 ghost use Rattle.sm_history.specs.BookOrder.{Begins};
@@ -60,17 +60,6 @@ fn show<J: Naming, R: Wait>(
     }
 }
 
-/// Fills an empty place.
-fn put<J: Naming>(place: &mut Option<ViewWriter<J>>, writer: ViewWriter<J>)
-    requires { place.old ≡ None }
-    ensures { place.new ≡ Some writer }
-{
-    match place.replace(writer) {
-        None => (),
-        Some(_writer) => unreachable!(),
-    }
-}
-
 impl<J: Naming> Publisher<J> {
     /// The publisher whose writer shows this shared view.
     pub(crate) fn new(
@@ -93,7 +82,7 @@ impl<J: Naming> Publisher<J> {
     pub(crate) fn view(&self) -> &View
         ensures { result.now ≡ self.now }
     {
-        self.shared_view.view()
+        &self.shared_view.view
     }
 
     /// Replaces the published shared view with that of a view.
@@ -109,7 +98,10 @@ impl<J: Naming> Publisher<J> {
         let kept = Arc::try_clone(&shared_view)?;
         let writer = self.writer.take().unwrap();
         let (writer, shown) = show(rt, writer, shared_view);
-        put(&mut self.writer, writer);
+        match self.writer.replace(writer) {
+            None => (),
+            Some(_writer) => unreachable!(),
+        }
         match shown {
             Ok(()) => {
                 self.shared_view = kept;
@@ -129,7 +121,8 @@ impl<J: Naming> Publisher<J> {
         for _ in rt.forever() {
             match reader.enter_as::<Sees>() {
                 Ok(reading) => {
-                    let found = reading.get().shared_view.is(&self.shared_view);
+                    let shown = &reading.get().shared_view.history_id;
+                    let found = shown.is(&self.shared_view.history_id);
                     reader = reading.leave();
                     if found {
                         return reader;

@@ -34,19 +34,13 @@ impl<J: Naming> Model for Seat<J> {
 }
 
 impl<J: Naming> Seat<J> {
-    pub(crate) fn into_actor(self) -> Actor<J>
-        ensures { token Manager result.seen result.reads ≡ self }
-    {
-        let Seat { actor } = self;
-        actor
-    }
-
     /// Makes the session of a client that made `turn` changes.
     pub(crate) fn into_session(self, client: ClientId, turn: u64) -> Session<J>
         requires { turn ≡ turn_of self.seen.history (Client client) }
         ensures { result ≡ token (Client client) self.seen self.reads }
     {
         let Seat { actor } = self;
-        Session::new(client, actor.passed(By::Client(client), turn))
+        let actor = actor.passed(By::Client(client), turn);
+        Session { client, actor }
     }
 }

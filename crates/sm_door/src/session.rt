@@ -13,7 +13,7 @@ use std::marker::Model;
 /// A connected client's token. It can't be copied, and serves the door that made it. A session that is dropped without
 /// `Door::die` stays a live client until the door ends.
 pub struct Session<J: Naming> {
-    client: ClientId,
+    pub(crate) client: ClientId,
     pub(crate) actor: Actor<J>,
 }
 
@@ -36,25 +36,11 @@ impl<J: Naming> Model for Session<J> {
 }
 
 impl<J: Naming> Session<J> {
-    pub(crate) fn new(client: ClientId, actor: Actor<J>) -> Session<J>
-        requires { actor.by ≡ Client client }
-        ensures { result ≡ actor }
-    {
-        Session { client, actor }
-    }
-
     /// Returns the client's number.
     pub fn client(&self) -> ClientId
         ensures { self.now.by ≡ Client result }
     {
         self.client
-    }
-
-    pub(crate) fn into_actor(self) -> Actor<J>
-        ensures { result ≡ self }
-    {
-        let Session { client: _, actor } = self;
-        actor
     }
 
     /// Returns the free seat of a client that has died.

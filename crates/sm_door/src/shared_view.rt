@@ -1,6 +1,6 @@
 //! Shared views: views with the ids of their histories.
 
-ghost use Rattle.std.specs.Prelude.{◌≡◌, IfOk, IsTrue};
+ghost use Rattle.std.specs.Prelude.{◌≡◌, IfOk};
 ghost use Rattle.std.specs.Arc.{arc_value};
 ghost use Rattle.sm_history.specs.Histories.{turn_of};
 ghost use Rattle.sm_history.specs.BookOrder.{IsLawfulBook};
@@ -17,8 +17,8 @@ use std::sync::{Arc, Wait};
 
 /// A view with the id of its history. Contracts see that history with its slots.
 pub struct SharedView<J: Naming> {
-    view: View,
-    history_id: HistoryId<J>,
+    pub(crate) view: View,
+    pub(crate) history_id: HistoryId<J>,
 }
 
 impl<J: Naming> Drop for SharedView<J> {
@@ -52,19 +52,6 @@ impl<J: Naming> SharedView<J> {
             return Err(AllocError);
         };
         Ok(Arc::new(alloc, SharedView { view, history_id })?)
-    }
-
-    pub(crate) fn view(&self) -> &View
-        ensures { result.now ≡ self.now }
-    {
-        &self.view
-    }
-
-    /// Returns whether it is the other shared view, by their ids. Then both are of one history.
-    pub fn is(&self, other: &SharedView<J>) -> bool
-        ensures { IsTrue result → self.now ≡ other.now }
-    {
-        self.history_id.is(&other.history_id)
     }
 
     /// Returns the number of changes of an actor. The history is lawful.

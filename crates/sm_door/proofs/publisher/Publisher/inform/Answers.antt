@@ -1,4 +1,4 @@
-use Rattle.std.proofs.Common.{rules, ap, ◌∙◌, arith}
+use Rattle.std.proofs.Common.{rules, ◌≡◌, ap, ◌∙◌, sym, arith}
 use Rattle.std.specs.Arc.{arc_value}
 use Rattle.left_right.specs.Sides.{view as place_view}
 use Rattle.sm_history.specs.BookOrder.{Begins}
@@ -15,20 +15,11 @@ enter_as-requires g c x = enters g.J.Naming.opening (λ s. arc_value s.shared_vi
 
 pub returns-then-found-clause-begins : goal.returns-then-found-clause-begins
 returns-then-found-clause-begins g c =
+    let ids = c.is-found.ensures c.if-found.true in
+    let same : c.deref.result.now ≡ c.deref-in-Ok.result.now =
+    sym c.behind-get.view_is ∙ sym c.behind-get.invariant ∙ ids ∙ c.behind-self.invariant ∙ c.behind-self.view_is in
     let p : Begins c.args.self.now (place_view c.loop.reader.place).seen =
-    search (
-      rules,
-      c.leave-reader.ensures,
-      c.in-Ok.ensures,
-      c.get.ensures,
-      c.deref.ensures,
-      c.deref-in-Ok.ensures,
-      c.if-found.ensures,
-      c.if-found.true,
-      c.is-found.ensures,
-      c.self.invariant,
-      c.self.view_is,
-    ) in
+    search (rules, c.in-Ok.ensures, c.get.ensures, c.deref.ensures, c.deref-in-Ok.ensures, same, c.self.view_is) in
     book_through _ _ _ p c.loop.invariant.0
 
 pub returns-then-found-clause-entered : goal.returns-then-found-clause-entered
