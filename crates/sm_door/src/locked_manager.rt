@@ -70,7 +70,7 @@ fn show_ready<J: Naming, R: Wait>(
     ensures { MatchResult result (λ done. publisher.new ≡ extended manager.now.book ready.now.entry)
         (λ e. publisher.new ≡ publisher.old) }
 {
-    let view = manager.view_after(ready, publisher.view())?;
+    let view = manager.view_after(ready, &publisher.shared_view.view)?;
     publisher.publish(rt, view)
 }
 
@@ -86,7 +86,7 @@ fn show_sealed<J: Naming, R: Wait>(
     ensures { MatchResult result (λ done. publisher.new ≡ sealed_book manager.now.book)
         (λ e. publisher.new ≡ publisher.old) }
 {
-    let view = manager.view_sealed(ready, publisher.view())?;
+    let view = manager.view_sealed(ready, &publisher.shared_view.view)?;
     publisher.publish(rt, view)
 }
 

@@ -22,7 +22,7 @@ where
     alloc: Global,
     registry: Registry<J>,
     /// The shared view that is published.
-    shared_view: Arc<SharedView<J>>,
+    pub(crate) shared_view: Arc<SharedView<J>>,
     /// The writer. It is absent only within `publish`.
     writer: Option<ViewWriter<J>>,
 }
@@ -77,12 +77,6 @@ impl<J: Naming> Publisher<J> {
             shared_view,
             writer: Some(writer),
         }
-    }
-
-    pub(crate) fn view(&self) -> &View
-        ensures { result.now ≡ self.now }
-    {
-        &self.shared_view.view
     }
 
     /// Replaces the published shared view with that of a view.
