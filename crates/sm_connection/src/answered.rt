@@ -1,9 +1,8 @@
 //! Answers to a connection.
 
 ghost use Rattle.std.specs.Prelude.{◌≡◌, []};
-ghost use Rattle.sm_session.specs.declared.response.Response.TheVariants.{Replied};
 
-use sm_history::{Record, Reply};
+use sm_history::Record;
 use sm_session::Response;
 use std::alloc::Global;
 
@@ -24,17 +23,6 @@ impl Answered {
         Answered {
             response,
             records: Vec::new(alloc),
-        }
-    }
-
-    /// A reply with its records.
-    pub fn recorded(reply: Reply, records: Vec<Record>) -> Answered
-        ensures response { result.response ≡ Replied reply }
-        ensures records { result.records ≡ records }
-    {
-        Answered {
-            response: Response::Replied(reply),
-            records,
         }
     }
 }

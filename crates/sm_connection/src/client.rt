@@ -107,7 +107,8 @@ impl<'a, J: Naming, G: Gate + Drop, R: Wait> Client<'a, J, G, R> {
         };
         let (reply, records) = self.door.submit_recorded(self.rt, &mut session, event);
         *held = Some(SeatOrSession::of_session(session));
-        Answered::recorded(reply, records)
+        let response = Response::Replied(reply);
+        Answered { response, records }
     }
 
     fn look(&self, held: &mut Option<SeatOrSession<J>>, query: Query) -> Answered
@@ -129,7 +130,8 @@ impl<'a, J: Naming, G: Gate + Drop, R: Wait> Client<'a, J, G, R> {
         match query {
             Query::List(mask) => {
                 let (reply, records) = self.door.list_recorded(session, mask);
-                return Answered::recorded(reply, records);
+                let response = Response::Replied(reply);
+                return Answered { response, records };
             }
             Query::Version => return self.replied(self.door.version(session)),
             Query::Explain { .. } => {}

@@ -13,7 +13,7 @@ use sm_history::{Outcome, Reply};
 use sm_session::{Command, Desk, Response};
 
 /// When a connection's desk calls the function beside it.
-#[derive(Clone, Copy, PartialEq, Eq)]
+#[derive(Clone, Copy)]
 pub enum Occasion {
     /// A client was connected.
     Connected,

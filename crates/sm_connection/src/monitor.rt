@@ -1,12 +1,73 @@
-//! Tells the supervisor how full the journal is.
+//! The fill level of a server's journal, of which the supervisor is told.
 
 use crate::audit_sink::SupervisorSink;
-use crate::gauge::Gauge;
 use crate::owned::outcome_bytes;
+use crate::reserve::Reserve;
+use crate::seal_at::SealAt;
 use crate::supervisor::{ServerEvent, Supervisor};
 use sm_history::{Refusal, Reply};
 use sm_session::Response;
+use std::alloc::{AllocError, Global};
 use std::sync::Wait;
+use std::sync::atomic::{AtomicU64, Ordering};
+
+/// The fill level of the open segment of a server's journal, as its threads have counted it, and the memory that is
+/// kept for sealing it. A count may lag behind the journal by the changes that threads are answering.
+#[derive(Drop)]
+pub struct Gauge {
+    // The slots of a segment.
+    slots: u64,
+    seal_at: SealAt,
+    // The entries of all segments.
+    entries: AtomicU64,
+    // Those of sealed segments.
+    sealed: AtomicU64,
+    // The bytes of the entries of the open segment.
+    bytes: AtomicU64,
+    // What was reported of the open segment: `NOTHING`, `ALMOST_FULL` or `FULL`.
+    reported: AtomicU64,
+    // Whether an allocation failed since the last seal: `ENOUGH`, `SHORT` or `TRIED`.
+    memory: AtomicU64,
+    reserve: Reserve,
+}
+
+const NOTHING: u64 = 0;
+
+const ALMOST_FULL: u64 = 1;
+
+const FULL: u64 = 2;
+
+/// No allocation failed.
+const ENOUGH: u64 = 0;
+
+/// An allocation failed, and a seal is due.
+const SHORT: u64 = 1;
+
+/// An allocation failed, and none since a seal was tried, which failed.
+const TRIED: u64 = 2;
+
+/// The number of tenths of a journal from which on it is almost full.
+const MARK: u64 = 9;
+
+impl Gauge {
+    /// Makes a gauge with the entry of the opening.
+    ///
+    /// # Errors
+    ///
+    /// `AllocError` if an allocation failed.
+    pub fn new(alloc: Global, slots: u32, seal_at: SealAt) -> Result<Gauge, AllocError> {
+        Ok(Gauge {
+            slots: u64::from(slots),
+            seal_at,
+            entries: AtomicU64::new(1),
+            sealed: AtomicU64::new(0),
+            bytes: AtomicU64::new(0),
+            reported: AtomicU64::new(NOTHING),
+            memory: AtomicU64::new(ENOUGH),
+            reserve: Reserve::new(alloc)?,
+        })
+    }
+}
 
 /// Counts the changes that are answered, and tells the supervisor when the journal fills up.
 pub struct Monitor<'a, H> {
@@ -43,53 +104,82 @@ impl<'a, H: Supervisor> Monitor<'a, H> {
         }
     }
 
-    /// Counts a change whose entry has this many bytes.
+    /// Counts a change whose entry has this many bytes. That the open segment is almost full is told once until a seal.
     pub fn count(&self, bytes: u64) {
-        if self.gauge.count_change(bytes) {
-            self.host.tell(ServerEvent::AlmostFull {
-                used: self.gauge.used(),
-                slots: self.gauge.slots(),
-            });
+        self.gauge.bytes.fetch_add(bytes, Ordering::SeqCst);
+        self.gauge.entries.fetch_add(1, Ordering::SeqCst);
+        let (used, slots) = (self.used(), self.gauge.slots);
+        if used.saturating_mul(10) < slots.saturating_mul(MARK) {
+            return;
+        }
+        let (order, failed) = (Ordering::SeqCst, Ordering::SeqCst);
+        let reported = &self.gauge.reported;
+        if reported
+            .compare_exchange(NOTHING, ALMOST_FULL, order, failed)
+            .is_ok()
+        {
+            self.host.tell(ServerEvent::AlmostFull { used, slots });
         }
     }
 
+    // Returns the entries of the open segment.
+    fn used(&self) -> u64 {
+        let entries = self.gauge.entries.load(Ordering::SeqCst);
+        entries.saturating_sub(self.gauge.sealed.load(Ordering::SeqCst))
+    }
+
+    // Notes that a change was refused because no slot is left, which is told once until a seal.
     fn refuse(&self) {
-        if self.gauge.note_full() {
+        if self.gauge.reported.swap(FULL, Ordering::SeqCst) != FULL {
             self.host.tell(ServerEvent::Full);
         }
     }
 
-    /// Notes that an allocation failed.
+    /// Notes that an allocation failed, which is told once until a seal.
     pub fn run_short(&self) {
-        if self.gauge.note_short() {
+        if self.gauge.memory.swap(SHORT, Ordering::SeqCst) == ENOUGH {
             self.host.tell(ServerEvent::MemoryShort);
         }
     }
 
-    /// Returns whether the server is to seal the open segment by itself.
+    /// Returns whether the server is to seal the open segment by itself: it has the required number of entries or
+    /// bytes, it was full before that, since slots are kept for the deaths of clients, or an allocation failed.
     pub fn is_due(&self) -> bool {
-        self.gauge.is_due()
+        let SealAt { entries, bytes } = self.gauge.seal_at;
+        if entries.is_none() && bytes.is_none() {
+            return false;
+        }
+        entries.is_some_and(|entries| self.used() >= u64::from(entries))
+            || bytes.is_some_and(|bytes| self.gauge.bytes.load(Ordering::SeqCst) >= bytes)
+            || self.gauge.reported.load(Ordering::SeqCst) == FULL
+            || self.gauge.memory.load(Ordering::SeqCst) == SHORT
     }
 
-    /// Prepares a seal, which `end_seal` ends.
+    /// Prepares a seal, which `end_seal` ends: if an allocation failed since the last one, the reserve is freed for it.
     pub fn begin_seal<R: Wait>(&self, rt: &R) {
-        self.gauge.begin_seal(rt);
+        if self.gauge.memory.load(Ordering::SeqCst) != ENOUGH {
+            self.gauge.memory.store(TRIED, Ordering::SeqCst);
+            self.gauge.reserve.release(rt);
+        }
     }
 
     /// Notes that no memory was left for a seal.
     pub fn fail_to_seal(&self) {
-        if self.gauge.note_failed_seal() {
+        if self.gauge.memory.swap(TRIED, Ordering::SeqCst) == ENOUGH {
             self.host.tell(ServerEvent::MemoryShort);
         }
     }
 
-    /// Ends a seal, whether it was made or not.
+    /// Ends a seal, whether it was made or not: the reserve is kept again, if there is memory for it.
     pub fn end_seal<R: Wait>(&self, rt: &R) {
-        self.gauge.end_seal(rt);
+        self.gauge.reserve.refill(rt);
     }
 
     /// Notes that a segment was sealed, which ends with the entry of this number.
     pub fn sealed(&self, length: u64) {
-        self.gauge.seal(length);
+        self.gauge.sealed.store(length, Ordering::SeqCst);
+        self.gauge.bytes.store(0, Ordering::SeqCst);
+        self.gauge.reported.store(NOTHING, Ordering::SeqCst);
+        self.gauge.memory.store(ENOUGH, Ordering::SeqCst);
     }
 }

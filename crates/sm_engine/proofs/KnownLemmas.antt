@@ -1,5 +1,5 @@
 -- One read or write after another, on the bytes that are known.
-use Rattle.std.proofs.Common.{◌≡◌, ℕ, ◌+◌, ◌-◌, ◌≤◌, List, [], ◌++◌, length, take, drop, Option, Some, None, refl, sym}
+use Rattle.std.proofs.Common.{◌≡◌, ℕ, ◌+◌, ◌-◌, ◌≤◌, List, [], ◌∷◌, ◌++◌, length, take, drop, Option, Some, None, refl, sym}
 use Rattle.std.proofs.Common.{◌∙◌, ap, append_assoc, arith, length-append}
 use Rattle.std.proofs.lemmas.List.{append-nil, take-take, take-append-drop}
 use Rattle.std.proofs.Math.Seq.{take-add}
@@ -36,9 +36,6 @@ Appends-more a b c text at n le p q = rw (take-add at n text) (Appends-then a b 
 pub Spilled-none : (a : Option (List ℕ)) (held : List ℕ) → Spilled a a held held
 Spilled-none a held = record { written = []; appended = Appends-nothing a; joined = refl }
 
-pub Spilled-all : (a b : Option (List ℕ)) (held rest : List ℕ) → rest ≡ [] → Appends a b held → Spilled a b held rest
-Spilled-all a b held rest e p = record { written = held; appended = p; joined = rw e (sym (append-nil held)) }
-
 pub Spilled-front : (a b : Option (List ℕ)) (held : List ℕ) (n : ℕ) → Appends a b (take n held)
     → Spilled a b held (drop n held)
 Spilled-front a b held n p = record { written = take n held; appended = p; joined = sym (take-append-drop n held) }
@@ -63,9 +60,10 @@ Pending-more {a} {b} {held} {held'} {whole} more p e = record {
   joined = rw (p.joined, e, append_assoc) refl;
 }
 
-pub Appends-pending : {a b : Option (List ℕ)} (c : Option (List ℕ)) {held whole : List ℕ} → Pending a b held whole
-    → Appends b c held → Appends a c whole
-Appends-pending {a} {b} c {held} {whole} p q = rw p.joined (Appends-then a b c _ _ p.appended q)
+pub Pending-end : {a b : Option (List ℕ)} {held whole : List ℕ} → Pending a b held whole → length held ≤ 0
+    → Appends a b whole
+Pending-end {held = []} p le = rw (p.joined, append-nil p.written) p.appended
+Pending-end {held = x ∷ xs} p le = absurd (omega arith)
 
 pub Consumes-keeps : (a b c : Option (List ℕ)) (x : List ℕ) → Consumes a b x → Keeps b c → Consumes a c x
 Consumes-keeps None b c x p q = tt

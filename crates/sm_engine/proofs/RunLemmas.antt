@@ -2,11 +2,9 @@
 use Rattle.std.proofs.Common.{◌≡◌, ℕ, ◌-◌, ◌≤◌, List, [], ◌∷◌, ◌++◌, length, Option, refl, sym, append_assoc, inl, inr}
 use Rattle.std.proofs.Common.{arith}
 use Rattle.std.proofs.lemmas.List.{append-nil}
-use Rattle.std.specs.Io.KnownBytes.{Appends}
 use Rattle.sm_wire.specs.declared.item.Item.{Item}
 use Rattle.sm_engine.specs.Running.{Answers, Runs, Answered, GaveUp, Going, Stopped, Wrote, Spilled}
-use Rattle.sm_engine.proofs.KnownLemmas.{Pending-start, Pending-spill, Pending-more, Partly-spilled, Spilled-none}
-use Rattle.sm_engine.proofs.KnownLemmas.{Appends-pending}
+use Rattle.sm_engine.proofs.KnownLemmas.{Pending-start, Pending-spill, Pending-more, Pending-end, Partly-spilled, Spilled-none}
 
 pub Runs-append : {S : Type 0} (answers : Answers S) (s m t : S) (is js : List Item) (r r' a a' : List ℕ)
     → Runs answers s is r a m → Runs answers m js r' a' t → Runs answers s (is ++ js) (r ++ r') (a ++ a') t
@@ -129,16 +127,16 @@ going_lost {answers = answers} {m = m} {w' = w'} {a' = a'} {held = held} {held_l
     (Spilled-none a' (held_lines ++ n.1)) is
 
 -- All is written.
-pub going_end : {S : Type 0} {answers : Answers S} {old m : S} {items : List Item}
-    {w w' a a' : Option (List ℕ)} {held held_lines : List ℕ} → Going answers old items w w' a a' held held_lines m
-    → (w'' a'' : Option (List ℕ)) → Appends w' w'' held → Appends a' a'' held_lines → (all : List Item) → items ≡ all
-    → Wrote answers old all w w'' a a'' m
-going_end g w'' a'' p q all e = record {
+pub going_end : {S : Type 0} {answers : Answers S} {old m : S} {items : List Item} {w w' w'' a a' a'' : Option (List ℕ)}
+    {held rest held_lines rest_lines : List ℕ} → Going answers old items w w' a a' held held_lines m
+    → Spilled w' w'' held rest → length rest ≤ 0 → Spilled a' a'' held_lines rest_lines → length rest_lines ≤ 0
+    → (all : List Item) → items ≡ all → Wrote answers old all w w'' a a'' m
+going_end g s p t q all e = record {
   replies = g.replies;
   lines = g.lines;
   runs = rw (← e) g.runs;
-  wrote = Appends-pending w'' g.wrote p;
-  audited = Appends-pending a'' g.audited q;
+  wrote = Pending-end (Pending-spill g.wrote s) p;
+  audited = Pending-end (Pending-spill g.audited t) q;
 }
 
 -- Nothing was answered.

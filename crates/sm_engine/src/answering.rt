@@ -40,24 +40,17 @@ pub fn answer_items<M: Machine, W: Write, A: Write>(
         machine.answer(item, &mut buffers.replies, &mut buffers.lines)?;
         let limit = machine.hold_limit();
         spill(writer, limit, &mut buffers.replies)?;
+        if buffers.replies.is_empty() {
+            machine.written();
+        }
         spill(audit, limit, &mut buffers.lines)?;
-        tell_written(machine, &buffers.replies);
     }
-    write_held(writer, &mut buffers.replies)?;
+    spill(writer, 0, &mut buffers.replies)?;
     machine.written();
-    write_held(audit, &mut buffers.lines)
+    spill(audit, 0, &mut buffers.lines)
 }
 
-/// Tells the machine that its replies are written, if none is held back.
-fn tell_written<M: Machine>(machine: &mut M, held: &[u8])
-    ensures { machine.new ≡ machine.old }
-{
-    if held.is_empty() {
-        machine.written();
-    }
-}
-
-/// Writes what is held back, if it has at least `limit` bytes.
+/// Writes what is held back, if there is anything and it has at least `limit` bytes.
 fn spill<W: Write>(writer: &mut Counted<W>, limit: usize, held: &mut Vec<u8>) -> Result<(), Fault>
     requires { failures_of writer.old < greatest_count }
     ensures ok { OnOk result
@@ -71,27 +64,7 @@ fn spill<W: Write>(writer: &mut Counted<W>, limit: usize, held: &mut Vec<u8>) ->
     ensures failed { OnErr result (failures_of writer.old < failures_of writer.new) }
     ensures nothing { held.old.items ≡ [] → (writer.new ≡ writer.old) × (held.new.items ≡ []) }
 {
-    if held.len() < limit {
-        return Ok(());
-    }
-    write_held(writer, held)
-}
-
-/// Writes what is held back, if there is anything.
-fn write_held<W: Write>(writer: &mut Counted<W>, held: &mut Vec<u8>) -> Result<(), Fault>
-    requires { failures_of writer.old < greatest_count }
-    ensures ok { OnOk result
-        (Appends (W.contents (inner_of writer.old)) (W.contents (inner_of writer.new)) held.old.items) }
-    ensures held { OnOk result (held.new.items ≡ []) }
-    ensures count { OnOk result (failures_of writer.new ≡ failures_of writer.old) }
-    ensures front { OnErr result
-        ((n : ℕ) × Appends (W.contents (inner_of writer.old)) (W.contents (inner_of writer.new))
-        (take n held.old.items)) }
-    ensures fault { OnErr result (result ≡ Err Fault.WriteFault) }
-    ensures failed { OnErr result (failures_of writer.old < failures_of writer.new) }
-    ensures nothing { held.old.items ≡ [] → writer.new ≡ writer.old }
-{
-    if held.is_empty() {
+    if held.is_empty() || held.len() < limit {
         return Ok(());
     }
     write_whole(writer, held)?;

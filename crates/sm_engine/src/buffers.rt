@@ -1,6 +1,5 @@
 //! Buffers of an engine.
 
-ghost use Rattle.std.specs.Prelude.{◌≡◌, []};
 ghost use Rattle.sm_engine.specs.Buffers.{IsIdle};
 
 use sm_kinds::drop_fields;
@@ -46,14 +45,9 @@ impl Buffers {
     {
         self.items.clear();
         self.items.shrink_to(KEPT_ITEMS);
-        clear_text(&mut self.replies);
-        clear_text(&mut self.lines);
+        self.replies.clear();
+        self.replies.shrink_to(KEPT_BYTES);
+        self.lines.clear();
+        self.lines.shrink_to(KEPT_BYTES);
     }
-}
-
-fn clear_text(text: &mut Vec<u8>)
-    ensures { text.new.items ≡ [] }
-{
-    text.clear();
-    text.shrink_to(KEPT_BYTES);
 }

@@ -14,7 +14,7 @@ use crate::counted::Counted;
 use crate::fault::Fault;
 use crate::machine::Machine;
 use crate::writing::write_whole;
-use sm_wire::{FeedError, Kind, LineReader};
+use sm_wire::{Kind, LineReader};
 use std::alloc::Global;
 use std::io::{Read, Write};
 
@@ -57,18 +57,17 @@ pub fn run<M: Machine, R: Read, W: Write, A: Write>(
     let mut buffers = Buffers::new(alloc);
     let mut buffer = [0u8; PIECE];
     for reads in 0..bound {
-        let n = read_piece(reader, &mut buffer)?;
+        let Ok(n) = reader.read(&mut buffer) else {
+            return Err(Fault::ReadFault);
+        };
         if n == 0 {
             return write_ending(&lines, writer);
         }
-        take_piece(
-            machine,
-            &mut lines,
-            &buffer[..n],
-            &mut buffers,
-            writer,
-            audit,
-        )?;
+        // No line was too long yet, so only memory can fail.
+        let Ok(()) = lines.feed_into(&buffer[..n], &mut buffers.items) else {
+            return Err(Fault::Memory);
+        };
+        answer_items(machine, &mut buffers, writer, audit)?;
         buffers.clear();
         if machine.is_over() {
             return Ok(());
@@ -78,58 +77,6 @@ pub fn run<M: Machine, R: Read, W: Write, A: Write>(
         }
     }
     Err(Fault::TooManyReads)
-}
-
-fn read_piece<R: Read>(reader: &mut Counted<R>, buffer: &mut [u8]) -> Result<usize, Fault>
-    requires room { 0 < length buffer.old }
-    requires count { failures_of reader.old < greatest_count }
-    ensures within { IfOk result (λ n. n ≤ length buffer.new) }
-    ensures bytes { IfOk result
-        (λ n. Consumes (R.remaining (inner_of reader.old)) (R.remaining (inner_of reader.new)) (take n buffer.new)) }
-    ensures end { IfOk result (λ n. n ≡ 0 → IsAtEnd (R.remaining (inner_of reader.new))) }
-    ensures count { OnOk result (failures_of reader.new ≡ failures_of reader.old) }
-    ensures calls { calls_of reader.new ≡ one_more (calls_of reader.old) }
-    ensures fault { OnErr result (result ≡ Err Fault.ReadFault) }
-    ensures keeps { OnErr result (Keeps (R.remaining (inner_of reader.old)) (R.remaining (inner_of reader.new))) }
-    ensures failed { OnErr result (failures_of reader.old < failures_of reader.new) }
-{
-    match reader.read(buffer) {
-        Ok(n) => Ok(n),
-        Err(_) => Err(Fault::ReadFault),
-    }
-}
-
-fn take_piece<M: Machine, W: Write, A: Write>(
-    machine: &mut M,
-    lines: &mut LineReader,
-    piece: &[u8],
-    buffers: &mut Buffers,
-    writer: &mut Counted<W>,
-    audit: &mut Counted<A>,
-) -> Result<(), Fault>
-    requires alive { IsAlive lines.old }
-    requires idle { IsIdle buffers.old }
-    requires writer { failures_of writer.old < greatest_count }
-    requires audit { failures_of audit.old < greatest_count }
-    ensures ok { OnOk result (Wrote M.answers machine.old (items_after lines.old piece.now)
-        (W.contents (inner_of writer.old)) (W.contents (inner_of writer.new))
-        (A.contents (inner_of audit.old)) (A.contents (inner_of audit.new)) machine.new) }
-    ensures lines { OnOk result (lines.new ≡ scan_after lines.old piece.now) }
-    ensures writer_count { OnOk result (failures_of writer.new ≡ failures_of writer.old) }
-    ensures audit_count { OnOk result (failures_of audit.new ≡ failures_of audit.old) }
-    ensures err { OnErr result (Stopped M.hold_limit M.answers machine.old (items_after lines.old piece.now)
-        (W.contents (inner_of writer.old)) (W.contents (inner_of writer.new))
-        (A.contents (inner_of audit.old)) (A.contents (inner_of audit.new)) machine.new) }
-    ensures fault { OnErr result ((result ≡ Err Fault.WriteFault) ⊎ (result ≡ Err Fault.Memory)) }
-    ensures told { (result ≡ Err Fault.WriteFault) ↔ (failures_of writer.old + failures_of audit.old
-        < failures_of writer.new + failures_of audit.new) }
-    ensures unaudited { IsSilent M.answers → audit.new ≡ audit.old }
-{
-    match lines.feed_into(piece, &mut buffers.items) {
-        Ok(()) => answer_items(machine, buffers, writer, audit),
-        Err(FeedError::Memory) => Err(Fault::Memory),
-        Err(FeedError::LineTooLong) => unreachable!(),
-    }
 }
 
 // Reports the end of the input inside a line or a file.

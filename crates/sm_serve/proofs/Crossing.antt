@@ -21,7 +21,7 @@ use Rattle.sm_door.specs.contracts.session.Session as Session
 use Rattle.sm_door.specs.contracts.published.PublishedAbsorbArcSharedView.TheImpl as Absorb
 use Rattle.sm_door.proofs.Crossing.{admin_send, door_sync, seat_send, session_send}
 use Rattle.sm_connection.specs.contracts.free_seats.FreeSeats as FreeSeats
-use Rattle.sm_connection.proofs.gauge.Gauge.TheSendSync as GaugeCrosses
+use Rattle.sm_connection.proofs.monitor.Gauge.TheSendSync as GaugeCrosses
 use Rattle.sm_serve.specs.contracts.dying_clients.DyingClients as DyingClients
 use Rattle.sm_serve.specs.contracts.shared_admin.SharedAdmin as SharedAdmin
 use Rattle.sm_serve.specs.contracts.serving.Common as Common

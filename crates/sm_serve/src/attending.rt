@@ -62,7 +62,7 @@ fn attend_stream<J: Naming, G: Gate + Drop, H: Supervisor, R: Wait + Clock>(
         door,
         seats,
         |occasion| {
-            if occasion == Occasion::Connected {
+            if matches!(occasion, Occasion::Connected) {
                 pace.connect();
             }
             seal_if_due(rt, door, sealer, monitor);

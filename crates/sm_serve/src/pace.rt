@@ -53,33 +53,6 @@ impl<'a, R: Clock> Pace<'a, R> {
         let _ = self.stream.set_read_timeout(None);
     }
 
-    fn before_read(&self) -> io::Result<()> {
-        self.replying.set(None);
-        if self.is_connected.get() {
-            return Ok(());
-        }
-        let left = self.left(self.begun, self.patience.hello)?;
-        self.stream.set_read_timeout(Some(left))
-    }
-
-    fn before_write(&self) -> io::Result<()> {
-        let Some(begun) = self.replying.get() else {
-            return self.begin_replies();
-        };
-        let left = self.left(begun, self.patience.reply)?;
-        self.is_short.set(true);
-        self.stream.set_write_timeout(Some(left))
-    }
-
-    fn begin_replies(&self) -> io::Result<()> {
-        self.replying.set(Some(Instant::now(self.rt)?));
-        if !self.is_short.get() {
-            return Ok(());
-        }
-        self.is_short.set(false);
-        self.patience.limit_replies(self.stream)
-    }
-
     // Returns what is left of this number of seconds. An error if it is less than a millisecond.
     fn left(&self, begun: Instant, seconds: u64) -> io::Result<Duration> {
         let passed = begun.elapsed(self.rt)?;
@@ -111,16 +84,32 @@ impl<'a, R: Clock> Paced<'a, R> {
 
 impl<'a, R: Clock> Read for Paced<'a, R> {
     fn read(&mut self, buf: &mut [u8]) -> io::Result<usize> {
-        self.pace.before_read()?;
-        let mut stream = self.pace.stream;
+        let pace = self.pace;
+        let mut stream = pace.stream;
+        pace.replying.set(None);
+        if !pace.is_connected.get() {
+            let left = pace.left(pace.begun, pace.patience.hello)?;
+            stream.set_read_timeout(Some(left))?;
+        }
         stream.read(buf)
     }
 }
 
 impl<'a, R: Clock> Write for Paced<'a, R> {
     fn write(&mut self, buf: &[u8]) -> io::Result<usize> {
-        self.pace.before_write()?;
-        let mut stream = self.pace.stream;
+        let pace = self.pace;
+        let mut stream = pace.stream;
+        if let Some(begun) = pace.replying.get() {
+            let left = pace.left(begun, pace.patience.reply)?;
+            pace.is_short.set(true);
+            stream.set_write_timeout(Some(left))?;
+        } else {
+            pace.replying.set(Some(Instant::now(pace.rt)?));
+            if pace.is_short.get() {
+                pace.is_short.set(false);
+                pace.patience.limit_replies(stream)?;
+            }
+        }
         let most = buf.len().min(AT_ONCE);
         stream.write(&buf[..most])
     }

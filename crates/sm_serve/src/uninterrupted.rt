@@ -1,6 +1,6 @@
 //! Readers and writers that go on after a signal.
 
-ghost use Rattle.std.specs.Prelude.{◌≡◌, ◌≢◌, IfErr, IsErr, MatchOption};
+ghost use Rattle.std.specs.Prelude.{◌≡◌, ◌≢◌, IfErr};
 ghost use Rattle.std.specs.IoError.{error_kind};
 ghost use Rattle.std.specs.Io.{ReadsAtMost, WritesAtMost};
 ghost use Rattle.std.specs.Io.KnownBytes.{ReadConsumes, WriteAppends, Keeps};
@@ -32,8 +32,9 @@ impl<R: Read> Read for Uninterrupted<R> {
         ensures repeated { IfErr result (λ e. error_kind e ≢ ErrorKind.Interrupted) }
     {
         for _ in 0..u64::MAX {
-            if let Some(outcome) = unless_interrupted(self.inner.read(buf)) {
-                return outcome;
+            match self.inner.read(buf) {
+                Err(error) if error.kind() == ErrorKind::Interrupted => {}
+                outcome => return outcome,
             }
         }
         Err(too_many_interruptions())
@@ -49,8 +50,9 @@ impl<W: Write> Write for Uninterrupted<W> {
         ensures repeated { IfErr result (λ e. error_kind e ≢ ErrorKind.Interrupted) }
     {
         for _ in 0..u64::MAX {
-            if let Some(outcome) = unless_interrupted(self.inner.write(buf)) {
-                return outcome;
+            match self.inner.write(buf) {
+                Err(error) if error.kind() == ErrorKind::Interrupted => {}
+                outcome => return outcome,
             }
         }
         Err(too_many_interruptions())
@@ -60,17 +62,6 @@ impl<W: Write> Write for Uninterrupted<W> {
         ensures { Keeps (W.contents self.old.inner) (W.contents self.new.inner) }
     {
         self.inner.flush()
-    }
-}
-
-/// Returns the result of a call, unless a signal interrupted the call.
-fn unless_interrupted(outcome: io::Result<usize>) -> Option<io::Result<usize>>
-    ensures { MatchOption result (IsErr outcome)
-        (λ r. (r ≡ outcome) × IfErr r (λ e. error_kind e ≢ ErrorKind.Interrupted)) }
-{
-    match outcome {
-        Err(error) if error.kind() == ErrorKind::Interrupted => None,
-        _ => Some(outcome),
     }
 }
 

@@ -1,6 +1,6 @@
 -- What a session asks its desk, and what it writes.
-use Rattle.std.specs.Prelude.{◌≡◌, ◌<◌, ◌≤◌, ◌+◌, ◌⊎◌, ℕ, List, [], ◌++◌, Bool, true, false, ◌||◌, ◌&&◌, not, codes}
-use Rattle.std.specs.Prelude.{MatchBool, Option, Some, Result, Err, OnOk, min}
+use Rattle.std.specs.Prelude.{◌≡◌, ◌<◌, ◌≤◌, ◌+◌, ℕ, List, [], Bool, true, false, ◌||◌, ◌&&◌, not, codes}
+use Rattle.std.specs.Prelude.{MatchBool, Option, None, Result, Err, OnOk, min}
 use Rattle.std.specs.Io.KnownBytes.{IsAtEnd}
 use Rattle.sm_history.specs.declared.outcome.Outcome.TheVariants.{Connected, Died}
 use Rattle.sm_history.specs.declared.reply.Reply.{Reply, TheVariants.Done}
@@ -137,18 +137,10 @@ pub record Attends {D : Type 0} (kind : Kind) (answers : D → Item → Response
     : Type 0 where
   pub last : SessionState D
   pub served : Served kind (AnswersItem answers) is_over held_limit result bound reads (begins kind old) r r_new w
-      w_new (Some []) (Some []) last
+      w_new None None last
   -- An input that is answered whole is at its end, unless a `bye` was answered before.
   pub end : OnOk result (MatchBool last.over (Unit {0}) (IsAtEnd r_new))
   pub told : TellsDeath death last new
-
--- This text was appended to another.
-abbrev pub Appends : (List ℕ → Type 0) → List ℕ → List ℕ → Type 0
-Appends IsText old new = (text : List ℕ) × IsText text × (new ≡ old ++ text)
-
--- An item was answered and its text was lost because an allocation failed, or it wasn't answered.
-abbrev pub Loses : {S : Type 0} → (List ℕ → S → Type 0) → S → S → Type 0
-Loses answered old new = (new ≡ old) ⊎ ((text : List ℕ) × answered text new)
 
 -- At most `bound` reads were made. A session reports a failed read or write, and reports one only if there was one; it
 -- reports too many reads only after `bound` of them.

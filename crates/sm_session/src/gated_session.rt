@@ -6,10 +6,11 @@ ghost use Rattle.sm_session.specs.Sessions.{AnswersItem, TellsDeath, begins, hel
 
 use crate::command::Command;
 use crate::desk::Desk;
+use crate::responses::push_response;
 use crate::session_state::SessionState;
 use sm_engine::Machine;
 use sm_history::Gate;
-use sm_wire::{Item, Kind};
+use sm_wire::{Item, Kind, Telling};
 use std::alloc::{AllocError, Global};
 use std::marker::Model;
 
@@ -101,7 +102,19 @@ impl<'a, D: Desk, G: Gate> Machine for GatedSession<'a, D, G> {
         }
         self.unwritten.push(self.line)?;
         self.gate.enter(self.line);
-        self.session_state.pass(self.alloc, item, replies)
+        match item {
+            Item::Asked(request) => {
+                let telling = request.telling();
+                let response = self.session_state.ask(request);
+                push_response(self.alloc, replies, telling, &response)
+            }
+            Item::Policy(texts) => {
+                let response = self.session_state.reload(self.alloc, &texts);
+                push_response(self.alloc, replies, Telling::Whole, &response)
+            }
+            Item::Malformed => unreachable!(),
+            Item::LineTooLong => unreachable!(),
+        }
     }
 
     fn is_over(&self) -> bool {

@@ -1,17 +1,16 @@
 //! The state of a session.
 
-ghost use Rattle.std.specs.Prelude.{◌≡◌, ◌++◌, [], OnOk, OnErr, true, false, if◌then◌else◌};
+ghost use Rattle.std.specs.Prelude.{◌≡◌, ◌++◌, [], OnOk, false, if◌then◌else◌};
 ghost use Rattle.sm_wire.specs.declared.item.Item.TheVariants.{Asked, Policy};
 ghost use Rattle.sm_session.specs.Desks.{DeskAnswers};
-ghost use Rattle.sm_session.specs.Sessions.{is_asked, Asks, AsksOnce, Appends, Loses, said_to};
+ghost use Rattle.sm_session.specs.Sessions.{is_asked, Asks, said_to};
 
 use crate::command::Command;
 use crate::desk::Desk;
 use crate::response::Response;
-use crate::responses::push_response;
 use sm_history::{Outcome, Reply, is_death};
 use sm_policy::Prepared;
-use sm_wire::{Item, Kind, PolicyTexts, Request, Telling};
+use sm_wire::{Item, Kind, PolicyTexts, Request};
 use std::alloc::{AllocError, Global};
 
 /// A desk with the state of a session.
@@ -45,35 +44,6 @@ impl<D: Desk> SessionState<D> {
         }
     }
 
-    /// Passes an item to the desk, and appends the lines of its answer.
-    pub fn pass(
-        &mut self,
-        alloc: Global,
-        item: Item,
-        replies: &mut Vec<u8>,
-    ) -> Result<(), AllocError>
-        requires can { D.can_answer self.old.desk }
-        requires asked { is_asked self.old.kind self.old.connected item ≡ true }
-        ensures can { D.can_answer self.new.desk }
-        ensures ok { OnOk result (Appends (λ text. AsksOnce (DeskAnswers D.answers) self.old item text self.new)
-            replies.old.items replies.new.items) }
-        ensures err { OnErr result (Loses (AsksOnce (DeskAnswers D.answers) self.old item) self.old self.new) }
-    {
-        match item {
-            Item::Asked(request) => {
-                let telling = request.telling();
-                let response = self.ask(request);
-                push_response(alloc, replies, telling, &response)
-            }
-            Item::Policy(texts) => {
-                let response = self.reload(alloc, &texts);
-                push_response(alloc, replies, Telling::Whole, &response)
-            }
-            Item::Malformed => unreachable!(),
-            Item::LineTooLong => unreachable!(),
-        }
-    }
-
     /// Appends the answer to an item that isn't passed to the desk.
     pub fn turn_down(&self, item: &Item, replies: &mut Vec<u8>) -> Result<(), AllocError>
         ensures { OnOk result (replies.new.items ≡ replies.old.items ++ (if self.now.over then [] else said_to item.now)) }
@@ -87,9 +57,9 @@ impl<D: Desk> SessionState<D> {
         }
     }
 
-    // Asks the desk once, and records whether there is a client now, or its client has died.
+    /// Asks the desk once, and records whether there is a client now, or its client has died.
     #[tactic(auto, unfolding(crate::specs::Sessions::is_connected, crate::specs::Sessions::is_died))]
-    fn ask(&mut self, request: Request) -> Response
+    pub fn ask(&mut self, request: Request) -> Response
         requires can { D.can_answer self.old.desk }
         ensures can { D.can_answer self.new.desk }
         ensures asks { Asks (DeskAnswers D.answers) self.old (Asked request) result self.new }
@@ -116,8 +86,8 @@ impl<D: Desk> SessionState<D> {
         }
     }
 
-    // Has the desk install the policy of these files, if it isn't refused.
-    fn reload(&mut self, alloc: Global, texts: &PolicyTexts) -> Response
+    /// Has the desk install the policy of these files, if it isn't refused.
+    pub fn reload(&mut self, alloc: Global, texts: &PolicyTexts) -> Response
         requires can { D.can_answer self.old.desk }
         ensures can { D.can_answer self.new.desk }
         ensures asks { Asks (DeskAnswers D.answers) self.old (Policy texts.now) result self.new }

@@ -11,7 +11,7 @@ use sm_engine::{Counted, Fault, run};
 use sm_history::Gate;
 use sm_wire::Kind;
 use std::alloc::Global;
-use std::io::{Read, Write};
+use std::io::{Read, Write, sink};
 
 /// Serves one connection of a client or an administrator: passes its lines to the desk until they end, until a `bye` is
 /// answered by `bye`, until a fault, or until `bound` reads were made. Returns the desk, which was told of
@@ -35,8 +35,8 @@ pub fn session<D: Desk, G: Gate, R: Read, W: Write>(
     ensures counts { Counts result.1 bound reader.old reader.new writer.old writer.new }
 {
     let mut gated_session = GatedSession::new(alloc, kind, desk, gate);
-    // A session has no audit lines, so nothing is ever written to this.
-    let mut unaudited = Counted::new(Vec::new(alloc));
+    // A session's answers have no audit lines.
+    let mut unaudited = Counted::new(sink());
     let result = run(
         alloc,
         kind,

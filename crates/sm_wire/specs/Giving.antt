@@ -1,11 +1,9 @@
 -- The item of a request, appended where it lies.
 use Rattle.std.specs.Prelude.{◌≡◌, List, [], ◌∷◌, ◌++◌, Option, Some, None, Result, Ok, Err}
 use Rattle.sm_wire.specs.declared.item.Item.{Item}
-use Rattle.sm_wire.specs.declared.item.Item.TheVariants.{Asked, Policy, Malformed as MalformedItem, LineTooLong}
+use Rattle.sm_wire.specs.declared.item.Item.TheVariants.{Asked}
 use Rattle.sm_wire.specs.declared.read_error.ReadError.{ReadError, TheVariants.Malformed, TheVariants.Memory}
-use Rattle.sm_wire.specs.declared.reload_header.ReloadHeader.{ReloadHeader}
 use Rattle.sm_wire.specs.declared.request.Request.{Request}
-use Rattle.sm_wire.specs.Grammar.{header_by}
 
 -- The item of this request was appended.
 abbrev pub Appended : Option Request → List Item → List Item → Type 0
@@ -22,11 +20,3 @@ Gives (Err Memory) old new o = new ≡ old
 -- Some items may have been appended.
 abbrev pub Keeps : List Item → List Item → Type 0
 Keeps old new = (more : List Item) × (new ≡ old ++ more)
-
--- This is the header of an item's `reload` request, if the item has one.
-abbrev pub header_in : Option Item → Option ReloadHeader
-header_in (Some (Asked request)) = header_by (Some request)
-header_in (Some (Policy texts)) = None
-header_in (Some MalformedItem) = None
-header_in (Some LineTooLong) = None
-header_in None = None

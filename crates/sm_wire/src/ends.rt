@@ -1,6 +1,6 @@
 //! Finds the end of the next item of a stream.
 
-ghost use Rattle.sm_wire.specs.Ends.{EndsAs, LineEndsAs, TextsEndAs};
+ghost use Rattle.sm_wire.specs.Ends.{EndsAs, TextsEndAs};
 
 use crate::frame_state::FrameState;
 use memchr::memchr;
@@ -24,31 +24,16 @@ pub fn item_end(mode: FrameState, held: usize, bytes: &[u8]) -> End
     ensures { EndsAs mode held bytes.now result }
 {
     match mode {
-        FrameState::Line => newline_end(held, bytes),
+        FrameState::Line => {
+            let room = LINE_LIMIT.saturating_sub(held);
+            match memchr(b'\n', bytes) {
+                Some(i) if i <= room => End::At(i + 1),
+                None if bytes.len() <= room => End::Later,
+                _ => End::Never,
+            }
+        }
         FrameState::Texts(header) => texts_end(header.length(), held, bytes),
         FrameState::Dead => End::Never,
-    }
-}
-
-fn newline_end(held: usize, bytes: &[u8]) -> End
-    ensures { LineEndsAs held bytes.now result }
-{
-    let room = LINE_LIMIT.saturating_sub(held);
-    match memchr(b'\n', bytes) {
-        Some(i) => {
-            if i <= room {
-                End::At(i + 1)
-            } else {
-                End::Never
-            }
-        }
-        None => {
-            if bytes.len() <= room {
-                End::Later
-            } else {
-                End::Never
-            }
-        }
     }
 }
 

@@ -32,28 +32,23 @@ impl<'a> Fields<'a> {
         Fields { rest: Some(line) }
     }
 
-    /// Returns the next field, if there is one. Between two spaces there is an empty one.
-    pub fn next(&mut self) -> Option<&'a [u8]>
-        ensures { MatchOption result (self.old ≡ []) (λ f. self.old ≡ f.now ∷ self.new) }
-    {
-        let rest = self.rest?;
-        match first_space(rest) {
-            Some(i) => {
-                self.rest = Some(&rest[i + 1..]);
-                Some(&rest[..i])
-            }
-            None => {
-                self.rest = None;
-                Some(rest)
-            }
-        }
-    }
-
-    /// Returns the next field, which has to be there.
+    /// Returns the next field. Between two spaces there is an empty one. An error if no field is left.
     pub fn field(&mut self) -> Result<&'a [u8], ReadError>
         ensures { MatchResult result (λ f. self.old ≡ f.now ∷ self.new) (λ e. (e ≡ Malformed) × (self.old ≡ [])) }
     {
-        self.next().ok_or(ReadError::Malformed)
+        let Some(rest) = self.rest else {
+            return Err(ReadError::Malformed);
+        };
+        match rest.iter().position(|b| *b == b' ') {
+            Some(i) => {
+                self.rest = Some(&rest[i + 1..]);
+                Ok(&rest[..i])
+            }
+            None => {
+                self.rest = None;
+                Ok(rest)
+            }
+        }
     }
 
     /// Checks that no field follows.
@@ -66,13 +61,4 @@ impl<'a> Fields<'a> {
             None => Ok(()),
         }
     }
-}
-
-// Returns where the first space is.
-fn first_space(bytes: &[u8]) -> Option<usize>
-    ensures { MatchOption result ((k : ℕ) → k < length bytes.now → slice_index bytes.now k ≢ 32)
-        (λ i. (i < length bytes.now) × (slice_index bytes.now i ≡ 32)
-        × ((k : ℕ) → k < i → slice_index bytes.now k ≢ 32)) }
-{
-    bytes.iter().position(|b| *b == b' ')
 }

@@ -1,8 +1,8 @@
 //! Cuts bytes into items.
 
-ghost use Rattle.std.specs.Prelude.{◌≡◌, ◌≤◌, ◌+◌, ◌++◌, ◌∷◌, [], length, drop, slice_get, IfOk, OnOk, OnErr};
+ghost use Rattle.std.specs.Prelude.{◌≡◌, ◌≤◌, ◌+◌, ◌++◌, ◌∷◌, [], length, drop, IfOk, OnOk, OnErr};
 ghost use Rattle.sm_wire.specs.Items.{Makes, policy_item, scan_start, text_start, line_end, scan_after, items_after};
-ghost use Rattle.sm_wire.specs.Giving.{header_in, Keeps};
+ghost use Rattle.sm_wire.specs.Giving.{Keeps};
 ghost use Rattle.sm_wire.specs.Ends.{IsWhole, whole_step, never_items};
 
 use crate::ends::{End, item_end};
@@ -141,33 +141,25 @@ fn line(
         }
         Err(ReadError::Memory) => return Err(AllocError),
     }
-    let Some(header) = header_at(items, count) else {
+    let Some(
+        Item::Asked(
+            Request::Reload {
+                expected,
+                rules,
+                contexts,
+            },
+        ),
+    ) = items.get(count)
+    else {
         return Ok(FrameState::Line);
+    };
+    let header = ReloadHeader {
+        expected: *expected,
+        rules: *rules,
+        contexts: *contexts,
     };
     items.truncate(count);
     texts_begin(recent.alloc, kind, header, items)
-}
-
-// Returns the header of the `reload` line that is this item, if it is one.
-fn header_at(items: &VecDeque<Item>, i: usize) -> Option<ReloadHeader>
-    ensures { result ≡ header_in (slice_get items.now.items i) }
-{
-    match items.get(i) {
-        Some(
-            Item::Asked(
-                Request::Reload {
-                    expected,
-                    rules,
-                    contexts,
-                },
-            ),
-        ) => Some(ReloadHeader {
-            expected: *expected,
-            rules: *rules,
-            contexts: *contexts,
-        }),
-        _ => None,
-    }
 }
 
 // Handles the end of a `reload` line.

@@ -110,8 +110,8 @@ impl LineReader {
         }
     }
 
-    // Appends the items that end in the piece. After an error the held bytes and the items are still there, perhaps with
-    // more after them.
+    // Appends the items that end in the piece. If no bytes are held, items that are whole in the piece are read in place.
+    // After an error the held bytes and the items are still there, perhaps with more after them.
     #[tactic(auto, using(crate::proofs::GivingLemmas::keeps_same))]
     fn take_piece(&mut self, piece: &[u8], items: &mut VecDeque<Item>) -> Result<(), AllocError>
         requires { IsAlive self.old }
@@ -121,11 +121,23 @@ impl LineReader {
         ensures kept { OnErr result (Keeps items.old.items items.new.items) }
     {
         if self.held.is_empty() {
-            return self.take_fresh(piece, items);
+            let Remainder { mode, start } = cut(
+                self.kind,
+                self.mode,
+                piece,
+                &mut self.recent,
+                items,
+            )?;
+            self.held.extend_from_slice(&piece[start..])?;
+            self.mode = mode;
+            return Ok(());
         }
         match item_end(self.mode, self.held.len(), piece) {
             End::At(n) => self.take_end(piece, n, items),
-            End::Later => self.held.extend_from_slice(piece),
+            End::Later => {
+                self.held.extend_from_slice(piece)?;
+                Ok(())
+            }
             End::Never => {
                 end_stream(self.mode, items)?;
                 self.held.clear();
@@ -133,21 +145,6 @@ impl LineReader {
                 Ok(())
             }
         }
-    }
-
-    // The same, if no bytes are held. Items that are whole in the piece are read in place.
-    #[tactic(auto, using(crate::proofs::GivingLemmas::keeps_same))]
-    fn take_fresh(&mut self, piece: &[u8], items: &mut VecDeque<Item>) -> Result<(), AllocError>
-        requires { self.old.held ≡ [] }
-        ensures items { OnOk result (items.new.items ≡ items.old.items ++ items_after self.old piece.now) }
-        ensures scan { OnOk result (self.new ≡ scan_after self.old piece.now) }
-        ensures err { OnErr result (Overfull self.old self.new) }
-        ensures kept { OnErr result (Keeps items.old.items items.new.items) }
-    {
-        let Remainder { mode, start } = cut(self.kind, self.mode, piece, &mut self.recent, items)?;
-        self.held.extend_from_slice(&piece[start..])?;
-        self.mode = mode;
-        Ok(())
     }
 
     // The same, if the held item ends after the first `n` bytes of the piece. Items that are whole in the rest of the

@@ -4,7 +4,7 @@ ghost use Rattle.std.specs.Prelude.{◌≡◌, ◌++◌, OnOk, IfOk, codes, leng
 ghost use Rattle.std.specs.Fmt.{decimal};
 ghost use Rattle.std.specs.List.{flat_map};
 ghost use Rattle.sm_kinds.specs.Messages.{numbered};
-ghost use Rattle.sm_wire.specs.Replies.{spaced_name, why_text, answer_text, outcome_text, answered_text};
+ghost use Rattle.sm_wire.specs.Replies.{spaced_name, why_text, answer_text, answered_text};
 ghost use Rattle.sm_wire.specs.Replies.{told_text, told_in};
 
 use crate::deliveries::push_delivery;
@@ -44,12 +44,21 @@ pub fn push_reply(
     }
 }
 
-#[tactic(auto, unfolding(crate::specs::Replies::answered_text, crate::specs::Replies::sealed_text))]
+#[tactic(auto, unfolding(crate::specs::Replies::answered_text, crate::specs::Replies::outcome_text, crate::specs::Replies::sealed_text))]
 fn push_answered(alloc: Global, out: &mut Vec<u8>, reply: &Reply) -> Result<(), AllocError>
     ensures { OnOk result (out.new.items ≡ out.old.items ++ answered_text reply.now) }
 {
     match reply {
-        Reply::Done(outcome) => push_outcome(alloc, out, outcome),
+        Reply::Done(Outcome::Connected(client)) => {
+            push_numbered(out, b"client ", u64::from(client.0))
+        }
+        Reply::Done(Outcome::Granted(handle)) => {
+            push_numbered(out, b"handle ", u64::from(*handle))
+        }
+        Reply::Done(Outcome::Taken(delivery)) => push_delivery(alloc, out, delivery.get()),
+        Reply::Done(Outcome::Died) => out.extend_from_slice(b"bye"),
+        Reply::Done(Outcome::Reloaded(version)) => push_numbered(out, b"reloaded ", *version),
+        Reply::Done(_) => out.extend_from_slice(b"ok"),
         Reply::GotNull => out.extend_from_slice(b"null"),
         Reply::GotOwn(object) => push_numbered(out, b"own ", u64::from(*object)),
         Reply::Looked {
@@ -59,26 +68,6 @@ fn push_answered(alloc: Global, out: &mut Vec<u8>, reply: &Reply) -> Result<(), 
         } => push_answer(alloc, out, *version, *length, answer),
         Reply::Sealed { number, length } => push_two(out, b"sealed ", *number, *length),
         Reply::Refused(refusal) => push_refusal(out, refusal),
-    }
-}
-
-#[tactic(auto, unfolding(crate::specs::Replies::outcome_text))]
-fn push_outcome(alloc: Global, out: &mut Vec<u8>, outcome: &Outcome) -> Result<(), AllocError>
-    ensures { OnOk result (out.new.items ≡ out.old.items ++ outcome_text outcome.now) }
-{
-    match outcome {
-        Outcome::Opened => out.extend_from_slice(b"ok"),
-        Outcome::Connected(client) => push_numbered(out, b"client ", u64::from(client.0)),
-        Outcome::Added(_) => out.extend_from_slice(b"ok"),
-        Outcome::Granted(handle) => push_numbered(out, b"handle ", u64::from(*handle)),
-        Outcome::Watched(_) => out.extend_from_slice(b"ok"),
-        Outcome::Unwatched(_) => out.extend_from_slice(b"ok"),
-        Outcome::Unregistered => out.extend_from_slice(b"ok"),
-        Outcome::Sent(_) => out.extend_from_slice(b"ok"),
-        Outcome::Released => out.extend_from_slice(b"ok"),
-        Outcome::Taken(delivery) => push_delivery(alloc, out, delivery.get()),
-        Outcome::Died => out.extend_from_slice(b"bye"),
-        Outcome::Reloaded(version) => push_numbered(out, b"reloaded ", *version),
     }
 }
 

@@ -121,7 +121,7 @@ pub fn reference_fields(alloc: Global, fields: &mut Fields<'_>) -> Result<Refs, 
     ensures { ReadsAs result (call_references_of fields.old) }
 {
     let mut list = Vec::new(alloc);
-    while let Some(field) = fields.next() {
+    while let Ok(field) = fields.field() {
         let reference = reference_field(field)?;
         if list.push(reference).is_err() {
             return Err(ReadError::Memory);

@@ -1,11 +1,12 @@
-use Rattle.std.proofs.Common.{◌≡◌, ℕ, List, ◌++◌, ◌∷◌, [], sym, ◌∙◌, refl, arith, append_assoc}
+use Rattle.std.proofs.Common.{◌≡◌, ℕ, List, ◌++◌, ◌∷◌, [], sym, ◌∙◌, refl, arith, append_assoc, Result, Ok, Err, OnOk, rules, append-nil}
 use Rattle.std.proofs.lemmas.Result.{on_err_weaker}
 use Rattle.sm_wire.specs.declared.item.Item.{Item}
 use Rattle.sm_engine.specs.Running.{Answered, Answers, IsSilent}
 use Rattle.sm_engine.proofs.Results.{on_err}
-use Rattle.sm_engine.proofs.KnownLemmas.{Spilled-all, Spilled-front, Spilled-none}
-use Rattle.sm_engine.proofs.RunLemmas.{going_answer, going_lost, going_spill, going_fail, going_fail_end}
+use Rattle.sm_engine.proofs.KnownLemmas.{Spilled-front, Spilled-none}
+use Rattle.sm_engine.proofs.RunLemmas.{going_answer, going_lost, going_spill, going_fail, going_fail_end, going_end}
 use Rattle.sm_engine.proofs.answering.answer_items.Goals as goal
+use Rattle.sm_engine.proofs.answering.answer_items.Goals.{then-is_empty, else-is_empty}
 
 -- The items so far, the next one, and those that are left.
 next : {X : Type 0} (before after done all : List X) (x : X) → done ++ before ≡ all → before ≡ x ∷ after
@@ -21,6 +22,10 @@ joined before after done all x e s = rw append_assoc (next before after done all
 unspoken : {S : Type 0} {answers : Answers S} {old new : S} {item : Item} {replies replies_new audit audit_new : List ℕ}
     → IsSilent answers → Answered answers old item replies replies_new audit audit_new new → audit ≡ [] → audit_new ≡ []
 unspoken s a none = rw (s _ _ _ _ _ a.step, none) at a.audited
+
+on_ok_both : {T E P Q R : Type 0} (r : Result T E) → (P → Q → R) → OnOk r P → OnOk r Q → OnOk r R
+on_ok_both (Ok x) f p q = f p q
+on_ok_both (Err e) f p q = tt
 
 pub returns-in_err-answer-clause-err : goal.returns-in_err-answer-clause-err
 returns-in_err-answer-clause-err g c =
@@ -38,11 +43,13 @@ returns-in_err-spill-clause-err g c =
 
 pub loop-item-preserved : goal.loop-item-preserved
 loop-item-preserved g c =
-    let i = c.loop-item.invariant.1 in (
+    let i = c.loop-item.invariant.1 in
+    let same : c.if-is_empty.machine ≡ c.answer.new.self =
+    elim c.if-is_empty.branch [ then-is_empty w ↦ w.machine-is ∙ w.written.ensures | else-is_empty w ↦ w.machine-is ] in (
       c.loop-item.invariant.0 ++ c.in-Some.item ∷ [],
       record {
         left = sym (joined _ _ _ _ _ i.left c.in-Some.ensures.items);
-        going = rw c.tell_written.ensures (going_spill (going_answer i.going c.in_ok-answer.ensures.ok)
+        going = rw same (going_spill (going_answer i.going c.in_ok-answer.ensures.ok)
             c.in_ok-spill.ensures.ok c.in_ok-spill-2.ensures.ok);
         short = omega (arith, c.in_ok-spill.ensures.short, c.hold_limit-limit.ensures);
         short_lines = omega (arith, c.in_ok-spill-2.ensures.short, c.hold_limit-limit.ensures);
@@ -58,20 +65,30 @@ pub returns-in_err-spill-2-clause-err : goal.returns-in_err-spill-2-clause-err
 returns-in_err-spill-2-clause-err g c =
     let i = c.loop-item.invariant.1 in
     let f = c.in_err-spill-2.ensures.front in
-    on_err c.from_residual-in_err-spill-2.result (going_fail _ i.going i.short i.short_lines c.in-Some.item
+    let same : c.if-is_empty.machine ≡ c.answer.new.self =
+    elim c.if-is_empty.branch [ then-is_empty w ↦ w.machine-is ∙ w.written.ensures | else-is_empty w ↦ w.machine-is ] in
+    on_err c.from_residual-in_err-spill-2.result (rw same (going_fail _ i.going i.short i.short_lines c.in-Some.item
     c.in_ok-answer.ensures.ok c.in_ok-spill.ensures.ok (Spilled-front _ _ _ f.0 f.1) _ _
-    (next _ _ _ _ _ i.left c.in-Some.ensures.items))
+    (next _ _ _ _ _ i.left c.in-Some.ensures.items)))
 
-pub returns-in_err-write_held-clause-err : goal.returns-in_err-write_held-clause-err
-returns-in_err-write_held-clause-err g c =
+pub returns-in_err-spill-3-clause-err : goal.returns-in_err-spill-3-clause-err
+returns-in_err-spill-3-clause-err g c =
     let i = c.loop-item.invariant.1 in
-    let f = c.in_err-write_held.ensures.front in
-    on_err c.from_residual-in_err-write_held.result (going_fail_end _ i.going i.short i.short_lines
+    let f = c.in_err-spill-3.ensures.front in
+    on_err c.from_residual-in_err-spill-3.result (going_fail_end _ i.going i.short i.short_lines
     (Spilled-front _ _ _ f.0 f.1) (Spilled-none _ _) _ _ (sym i.left))
+
+pub returns-clause-ok : goal.returns-clause-ok
+returns-clause-ok g c =
+    let i = c.loop-item.invariant.1 in
+    let s = c.in_ok-spill-3.ensures in
+    let none : c.loop-item.buffers.items.items ≡ [] = search rules in
+    let all = rw (none, append-nil c.loop-item.invariant.0) at i.left in
+    rw c.written-2.ensures (on_ok_both c.spill-3.result (λ t short. going_end i.going s.ok s.short t short _ all)
+    c.spill-3.ensures.ok c.spill-3.ensures.short)
 
 pub returns-clause-err : goal.returns-clause-err
 returns-clause-err g c =
     let i = c.loop-item.invariant.1 in
-    rw c.written.ensures (on_err_weaker c.write_held-2.result (λ f. going_fail_end _ i.going i.short i.short_lines
-    (Spilled-all _ _ _ _ c.in_ok-write_held.ensures.held c.in_ok-write_held.ensures.ok) (Spilled-front _ _ _ f.0 f.1)
-    _ _ (sym i.left)) c.write_held-2.ensures.front)
+    rw c.written-2.ensures (on_err_weaker c.spill-3.result (λ f. going_fail_end _ i.going i.short i.short_lines
+    c.in_ok-spill-3.ensures.ok (Spilled-front _ _ _ f.0 f.1) _ _ (sym i.left)) c.spill-3.ensures.front)
