@@ -7,9 +7,9 @@ use crate::answered::Answered;
 use crate::audit_sink::AuditSink;
 use crate::connection::Connection;
 use crate::monitor::Monitor;
-use crate::owned::command_bytes;
+use crate::owned::{command_bytes, outcome_bytes};
 use crate::supervisor::Supervisor;
-use sm_history::{Outcome, Reply};
+use sm_history::{Outcome, Refusal, Reply};
 use sm_session::{Command, Desk, Response};
 
 /// When a connection's desk calls the function beside it.
@@ -86,7 +86,15 @@ impl<'a, C: Connection<S>, S, B: FnMut(Occasion), H: Supervisor, L: AuditSink> D
     fn answer(&mut self, command: Command) -> Response {
         let asked = command_bytes(&command);
         let Answered { response, records } = self.connection.answer(&mut self.held, command);
-        self.monitor.see(asked, &response);
+        match &response {
+            Response::Replied(Reply::Done(outcome)) => {
+                self.monitor
+                    .count(asked.saturating_add(outcome_bytes(outcome)));
+            }
+            Response::Replied(Reply::Refused(Refusal::JournalFull)) => self.monitor.refuse(),
+            Response::Replied(Reply::Refused(Refusal::Memory)) => self.monitor.run_short(),
+            _ => {}
+        }
         self.sink.give(&records);
         let occasion = match &response {
             Response::Replied(Reply::Done(Outcome::Connected(_))) => Occasion::Connected,

@@ -1,12 +1,9 @@
 //! The fill level of a server's journal, of which the supervisor is told.
 
 use crate::audit_sink::SupervisorSink;
-use crate::owned::outcome_bytes;
 use crate::reserve::Reserve;
 use crate::seal_at::SealAt;
 use crate::supervisor::{ServerEvent, Supervisor};
-use sm_history::{Refusal, Reply};
-use sm_session::Response;
 use std::alloc::{AllocError, Global};
 use std::sync::Wait;
 use std::sync::atomic::{AtomicU64, Ordering};
@@ -92,23 +89,13 @@ impl<'a, H: Supervisor> Monitor<'a, H> {
         SupervisorSink::new(self.host)
     }
 
-    /// Sees what was answered to a command whose entry has this many bytes without its outcome (`command_bytes`).
-    pub fn see(&self, asked: u64, response: &Response) {
-        match response {
-            Response::Replied(Reply::Done(outcome)) => {
-                self.count(asked.saturating_add(outcome_bytes(outcome)));
-            }
-            Response::Replied(Reply::Refused(Refusal::JournalFull)) => self.refuse(),
-            Response::Replied(Reply::Refused(Refusal::Memory)) => self.run_short(),
-            _ => {}
-        }
-    }
-
     /// Counts a change whose entry has this many bytes. That the open segment is almost full is told once until a seal.
     pub fn count(&self, bytes: u64) {
         self.gauge.bytes.fetch_add(bytes, Ordering::SeqCst);
-        self.gauge.entries.fetch_add(1, Ordering::SeqCst);
-        let (used, slots) = (self.used(), self.gauge.slots);
+        let before = self.gauge.entries.fetch_add(1, Ordering::SeqCst);
+        let sealed = self.gauge.sealed.load(Ordering::SeqCst);
+        let used = before.saturating_add(1).saturating_sub(sealed);
+        let slots = self.gauge.slots;
         if used.saturating_mul(10) < slots.saturating_mul(MARK) {
             return;
         }
@@ -122,14 +109,8 @@ impl<'a, H: Supervisor> Monitor<'a, H> {
         }
     }
 
-    // Returns the entries of the open segment.
-    fn used(&self) -> u64 {
-        let entries = self.gauge.entries.load(Ordering::SeqCst);
-        entries.saturating_sub(self.gauge.sealed.load(Ordering::SeqCst))
-    }
-
-    // Notes that a change was refused because no slot is left, which is told once until a seal.
-    fn refuse(&self) {
+    /// Notes that a change was refused because no slot is left, which is told once until a seal.
+    pub fn refuse(&self) {
         if self.gauge.reported.swap(FULL, Ordering::SeqCst) != FULL {
             self.host.tell(ServerEvent::Full);
         }
@@ -149,7 +130,9 @@ impl<'a, H: Supervisor> Monitor<'a, H> {
         if entries.is_none() && bytes.is_none() {
             return false;
         }
-        entries.is_some_and(|entries| self.used() >= u64::from(entries))
+        let made = self.gauge.entries.load(Ordering::SeqCst);
+        let used = made.saturating_sub(self.gauge.sealed.load(Ordering::SeqCst));
+        entries.is_some_and(|entries| used >= u64::from(entries))
             || bytes.is_some_and(|bytes| self.gauge.bytes.load(Ordering::SeqCst) >= bytes)
             || self.gauge.reported.load(Ordering::SeqCst) == FULL
             || self.gauge.memory.load(Ordering::SeqCst) == SHORT
