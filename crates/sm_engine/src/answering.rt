@@ -51,6 +51,7 @@ pub fn answer_items<M: Machine, W: Write, A: Write>(
 }
 
 /// Writes what is held back, if there is anything and it has at least `limit` bytes.
+#[inline(always)]
 fn spill<W: Write>(writer: &mut Counted<W>, limit: usize, held: &mut Vec<u8>) -> Result<(), Fault>
     requires { failures_of writer.old < greatest_count }
     ensures ok { OnOk result
