@@ -1,5 +1,5 @@
 use Rattle.sm_core.proofs.Keeping.{done_answers, done_leaves, done_ring, kept_answers}
-use Rattle.sm_core.proofs.manager.Manager.step_recorded.Goals as goal
+use Rattle.sm_core.proofs.manager.Manager.step_plan.Goals as goal
 
 pub returns-in-Ok-clause-answers : goal.returns-in-Ok-clause-answers
 returns-in-Ok-clause-answers c =
