@@ -4,6 +4,7 @@
 ghost use Rattle.std.specs.Prelude.{◌≡◌, ◌⊎◌, ◌++◌, List, OnOk, OnErr, codes};
 ghost use Rattle.sm_history.specs.declared.by.By.TheVariants.{Admin, Manager as ByManager};
 ghost use Rattle.sm_history.specs.declared.event.Event.TheVariants.{Connect, Reload};
+ghost use Rattle.sm_history.specs.declared.query.Query.TheVariants.{Version};
 ghost use Rattle.sm_history.specs.declared.records.Record.{Record};
 ghost use Rattle.sm_history.specs.declared.refusal.Refusal.TheVariants.{Memory};
 ghost use Rattle.sm_history.specs.declared.reply.Reply.{Reply};
@@ -15,7 +16,7 @@ ghost use Rattle.sm_script.specs.Answering.{the_administrator};
 
 use sm_audit::push_lines;
 use sm_core::Manager;
-use sm_history::{By, Event, Query, Record, Refusal, Reply};
+use sm_history::{Answer, By, Event, Query, Record, Refusal, Reply};
 use sm_kinds::{AdminId, ClientId, Identity};
 use sm_policy::Prepared;
 use sm_wire::{Telling, push_denials, push_reply};
@@ -118,6 +119,33 @@ pub fn answer_query(
     let told = tell(alloc, Telling::Whole, &reply, &records, replies, audit);
     let_go(reply, records);
     told
+}
+
+/// Answers a `version`, as `answer_query` does.
+#[inline(never)]
+pub fn answer_version(
+    alloc: Global,
+    manager: &Manager,
+    client: Option<ClientId>,
+    replies: &mut Vec<u8>,
+    audit: &mut Vec<u8>,
+) -> Result<(), AllocError>
+    ensures ok { OnOk result ((reply : Reply) × (noted : List Record)
+        × AnswersQuery (recorded manager.now) (asker_of client) Version reply noted (recorded manager.now)
+        × Told Whole reply noted replies.old.items replies.new.items audit.old.items audit.new.items) }
+    ensures err { OnErr result ((reply : Reply) × (noted : List Record)
+        × AnswersQuery (recorded manager.now) (asker_of client) Version reply noted (recorded manager.now)) }
+{
+    let Some((version, length)) = manager.version_seen(asker(client)) else {
+        return answer_query(alloc, manager, client, Query::Version, replies, audit);
+    };
+    let answer = Answer::Version;
+    let reply = Reply::Looked {
+        version,
+        length,
+        answer,
+    };
+    push_reply(alloc, replies, Telling::Whole, &reply)
 }
 
 // Makes an actor's event, at the actor's turn.

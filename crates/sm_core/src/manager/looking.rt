@@ -1,9 +1,14 @@
 //! Queries, which change nothing.
 
-ghost use Rattle.std.specs.Prelude.{◌≡◌, IfOk};
+ghost use Rattle.std.specs.Prelude.{◌≡◌, ◌&&◌, [], false, IfOk, IfSome, IfNone};
+ghost use Rattle.sm_history.specs.declared.query.Query.TheVariants.{Version};
+ghost use Rattle.sm_history.specs.declared.reply.Answer.TheVariants.{Version as VersionAnswer};
+ghost use Rattle.sm_history.specs.declared.reply.Reply.TheVariants.{Looked};
 ghost use Rattle.sm_history.specs.Promises.{Looks};
+ghost use Rattle.sm_history.specs.Queries.{is_their_query, query_verdict};
+ghost use Rattle.sm_history.specs.Verdict.{is_there};
 ghost use Rattle.sm_history.specs.Records.{query_records};
-ghost use Rattle.sm_core.specs.Managed.{look_leaves};
+ghost use Rattle.sm_core.specs.Managed.{effects_in, look_leaves};
 
 use crate::manager::Manager;
 use crate::manager::replying::is_memory;
@@ -26,6 +31,21 @@ impl Manager {
         ensures records { result.1.items ≡ look_leaves self.now.book by query result.0 }
     {
         self.answered(by, &query)
+    }
+
+    /// Returns what a `version` of an actor is answered with: the version of the policy in force, and the number of
+    /// changes so far. `None` if the actor may not ask it, or isn't connected. It leaves no records.
+    pub fn version_seen(&self, by: By) -> Option<(u64, u64)>
+        ensures seen { IfSome result
+            (λ v. Looked v.0 v.1 VersionAnswer ≡ query_verdict self.now.book.history by Version) }
+        ensures refused { IfNone result ((is_their_query by Version && is_there (effects_in self.now) by) ≡ false) }
+        ensures records { query_records self.now.book.history by Version ≡ [] }
+    {
+        if let By::Manager = by {
+            return None;
+        }
+        self.state.principals.caller(by)?;
+        Some((self.state.principals.version, self.journal.history_length()))
     }
 
     /// Returns the records of a query. Returns an error if an allocation fails.
