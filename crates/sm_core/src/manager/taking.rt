@@ -1,20 +1,21 @@
 //! Takes of deliveries.
 
-ghost use Rattle.std.specs.Prelude.{◌≡◌, ◌∷◌, true, [], drop, MatchOption};
+ghost use Rattle.std.specs.Prelude.{◌≡◌, ◌∷◌, true, List, [], drop, MatchOption};
 ghost use Rattle.sm_history.specs.declared.event.Event.TheVariants.{Take};
 ghost use Rattle.sm_history.specs.Clients.{is_live};
 ghost use Rattle.sm_history.specs.Inboxes.{inbox_at};
-ghost use Rattle.sm_core.specs.Judging.{JudgedQuietly};
+ghost use Rattle.sm_history.specs.declared.records.Record.{Record};
+ghost use Rattle.sm_core.specs.Judging.{JudgedSmall};
 ghost use Rattle.sm_core.specs.Managed.{effects_in};
 
 use crate::manager::Manager;
-use crate::plan::Plan;
+use crate::small_change::SmallChange;
 use crate::small_failed_check::{Checked, ShortAnswer, SmallFailedCheck};
-use sm_history::{Delivery, Effect, Outcome, Shared};
+use sm_history::{Delivery, Shared};
 
 impl Manager {
     /// Returns a client's oldest delivery.
-    fn oldest(&self, client: u32) -> Option<&Shared<Delivery>>
+    pub fn oldest(&self, client: u32) -> Option<&Shared<Delivery>>
         ensures { MatchOption result (inbox_at (effects_in self.now) client ≡ [])
             (λ x. inbox_at (effects_in self.now) client
             ≡ x.now ∷ drop 1 (inbox_at (effects_in self.now) client)) }
@@ -23,15 +24,13 @@ impl Manager {
     }
 
     /// Judges a take of the oldest delivery from a client's inbox.
-    pub fn judge_take(&self, client: u32) -> Checked<Plan>
+    pub fn judge_take(&self, client: u32) -> Checked<SmallChange>
         requires { is_live (effects_in self.now) client ≡ true }
-        ensures { JudgedQuietly self.now.book.history client Take result }
+        ensures { (old : List Record) → JudgedSmall self.now.book.history old old client Take result }
     {
-        let Some(oldest) = self.oldest(client) else {
+        if self.oldest(client).is_none() {
             return Err(SmallFailedCheck::unmet(ShortAnswer::Empty));
-        };
-        let outcome = Outcome::Taken(oldest.clone()?);
-        let reply_outcome = Outcome::Taken(oldest.clone()?);
-        Ok(Plan::quiet(self.alloc, Effect::Takes { client }, outcome, reply_outcome))
+        }
+        Ok(SmallChange::Take { client })
     }
 }

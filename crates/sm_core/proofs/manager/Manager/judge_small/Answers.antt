@@ -8,7 +8,7 @@ use Rattle.sm_history.specs.Verdict.{actor_checks, event_checks}
 use Rattle.sm_core.specs.Judging.{place_check}
 use Rattle.sm_core.specs.Managed.{Managed, moment_in}
 use Rattle.sm_core.proofs.Stopping.{halts_first, halts_then, pass_both}
-use Rattle.sm_core.proofs.manager.Manager.judge_handles.Goals as goal
+use Rattle.sm_core.proofs.manager.Manager.judge_small.Goals as goal
 
 -- These are the checks of an event: on its actor, its own, and on its place.
 abbrev parts : Managed → By → ℕ → Event → List Check × List Check × List Check
@@ -59,11 +59,11 @@ returns c =
       rw (c.in_ok-caller.ensures old).1.1 at c.in_ok-change.ensures.1,
     )
 
-pub judge_change-requires-clause-theirs : goal.judge_change-requires-clause-theirs
-judge_change-requires-clause-theirs c = let it = c.in_ok-caller.ensures [] in rw it.1.1 it.1.0
+pub judge_small_event-requires-clause-theirs : goal.judge_small_event-requires-clause-theirs
+judge_small_event-requires-clause-theirs c = let it = c.in_ok-caller.ensures [] in rw it.1.1 it.1.0
 
-pub judge_change-requires-clause-row : goal.judge_change-requires-clause-row
-judge_change-requires-clause-row c = (c.in_ok-caller.ensures []).1.2
+pub judge_small_event-requires-clause-row : goal.judge_small_event-requires-clause-row
+judge_small_event-requires-clause-row c = (c.in_ok-caller.ensures []).1.2
 
 pub has_place-requires-clause-effects : goal.has_place-requires-clause-effects
 has_place-requires-clause-effects c =

@@ -8,14 +8,15 @@ use Rattle.sm_grants.specs.declared.grants.Grants.{Grants}
 use Rattle.sm_grants.specs.Rows.{Tracks}
 use Rattle.sm_grants.proofs.Granting.{can_grant}
 use Rattle.sm_core.proofs.Numbers.{count_grows}
-use Rattle.sm_history.specs.declared.effect.Effect.TheVariants.{Gives, Releases}
+use Rattle.sm_history.specs.declared.effect.Effect.TheVariants.{Gives, Releases, Takes}
 use Rattle.sm_history.proofs.Followed.{sound_follows}
 use Rattle.sm_history.proofs.Sound.{held_releases}
 use Rattle.sm_names.proofs.Others.{tracks_other as names_other}
+use Rattle.sm_grants.proofs.OtherEffects.{tracks_other as grants_other}
 use Rattle.sm_inbox.proofs.Others.{tracks_other as inboxes_other}
 use Rattle.sm_core.proofs.Opened.{foreign_gives}
 use Rattle.sm_core.proofs.Viewing.{same_principals}
-use Rattle.sm_core.proofs.state.State.change_handles.Goals as goal
+use Rattle.sm_core.proofs.state.State.apply_small.Goals as goal
 
 -- A grant that was made is the one of the history.
 granted : (d : Effects) (g : Grants) (k : ℕ) (n : Node) (r number : ℕ) (o : Option ℕ) → IsSome o → r ≡ number
@@ -52,4 +53,16 @@ returns-in-Release-clause-stands c = rw c.in-Release.is (λ d s m. record {
   inboxes = inboxes_other (Releases c.in-Release.client c.in-Release.node) d c.args.self.now.inboxes refl s.inboxes;
   open_ = s.open_;
   foreign = λ k n h. s.foreign k n (held_releases d c.in-Release.client c.in-Release.node k n h);
+})
+
+pub returns-in-Take-clause-stands : goal.returns-in-Take-clause-stands
+returns-in-Take-clause-stands c = rw c.in-Take.is (λ d s m. record {
+  sound = sound_follows d (Takes c.in-Take.client) s.sound m;
+  principals = same_principals (Takes c.in-Take.client) d _ refl s.principals;
+  next = s.next;
+  names = names_other (Takes c.in-Take.client) d c.args.self.now.names refl s.names;
+  grants = grants_other (Takes c.in-Take.client) d c.args.self.now.grants.rows.items refl s.grants;
+  inboxes = c.take_oldest.ensures.tracks d s.inboxes m;
+  open_ = λ k l. c.take_oldest.ensures.still k ∙ s.open_ k l;
+  foreign = s.foreign;
 })
