@@ -1,7 +1,9 @@
 //! What a small change is answered with.
 
 ghost use Rattle.std.specs.Prelude.{◌≡◌, IfOk, MatchResult};
+ghost use Rattle.sm_history.specs.declared.effect.Effect.TheVariants.{Takes};
 ghost use Rattle.sm_history.specs.Following.{MayFollowApart};
+ghost use Rattle.sm_core.specs.declared.small_change.SmallChange.TheVariants.{Take};
 ghost use Rattle.sm_core.specs.Judging as spec;
 ghost use Rattle.sm_core.specs.Managed.{effects_in};
 ghost use Rattle.sm_core.specs.SmallChanges.{effect_by, outcome_by, plan_by};
@@ -16,20 +18,35 @@ use sm_history::Outcome;
 use std::alloc::AllocError;
 
 impl Manager {
-    /// Returns the outcome of a small change that may be made.
+    /// Returns the outcome of a small change that may be made, once for the journal and once for the reply.
     #[inline(always)]
-    pub fn small_outcome(&self, change: SmallChange) -> Result<Outcome, AllocError>
+    pub fn small_outcomes(&self, change: SmallChange) -> Result<(Outcome, Outcome), AllocError>
         requires { MayFollowApart (effects_in self.now) (effect_by change) }
-        ensures { IfOk result (λ outcome. outcome ≡ outcome_by (effects_in self.now) change) }
+        ensures { IfOk result (λ o. (o.0 ≡ outcome_by (effects_in self.now) change)
+            × (o.1 ≡ outcome_by (effects_in self.now) change)) }
     {
         match change {
-            SmallChange::Grant { number, .. } => Ok(Outcome::Granted(number)),
-            SmallChange::Release { .. } => Ok(Outcome::Released),
-            SmallChange::Take { client } => match self.oldest(client) {
-                Some(oldest) => Ok(Outcome::Taken(oldest.clone()?)),
-                None => unreachable!(),
-            },
+            SmallChange::Grant { number, .. } => {
+                Ok((Outcome::Granted(number), Outcome::Granted(number)))
+            }
+            SmallChange::Release { .. } => Ok((Outcome::Released, Outcome::Released)),
+            SmallChange::Take { client } => self.taken(client),
         }
+    }
+
+    /// Returns the outcome of a take from a client's inbox, which has a delivery, twice.
+    #[inline(never)]
+    fn taken(&self, client: u32) -> Result<(Outcome, Outcome), AllocError>
+        requires { MayFollowApart (effects_in self.now) (Takes client) }
+        ensures { IfOk result (λ o. (o.0 ≡ outcome_by (effects_in self.now) (Take client))
+            × (o.1 ≡ outcome_by (effects_in self.now) (Take client))) }
+    {
+        let Some(oldest) = self.oldest(client) else {
+            unreachable!();
+        };
+        let outcome = Outcome::Taken(oldest.clone()?);
+        let reply_outcome = Outcome::Taken(oldest.clone()?);
+        Ok((outcome, reply_outcome))
     }
 
     /// Returns the plan of a small change that may be made.
@@ -38,9 +55,10 @@ impl Manager {
         ensures { MatchResult result (λ plan. plan ≡ plan_by (effects_in self.now) change)
             (λ stop. stop ≡ spec.out_of_memory) }
     {
+        let (outcome, reply_outcome) = self.small_outcomes(change)?;
         Ok(Plan {
-            outcome: self.small_outcome(change)?,
-            reply_outcome: self.small_outcome(change)?,
+            outcome,
+            reply_outcome,
             effects: EffectList {
                 stored: StoredEffects::One(change.effect()),
             },
