@@ -115,15 +115,15 @@ pub fn answer_query(
     ensures err { OnErr result ((reply : Reply) × (noted : List Record)
         × AnswersQuery (recorded manager.now) (asker_of client) query reply noted (recorded manager.now)) }
 {
-    let (reply, records) = look(manager, asker(client), query);
-    let told = tell(alloc, Telling::Whole, &reply, &records, replies, audit);
-    let_go(reply, records);
-    told
+    match &query {
+        Query::Version => answer_version(alloc, manager, client, replies, audit),
+        _ => answer_look(alloc, manager, client, query, replies, audit),
+    }
 }
 
-/// Answers a `version`, as `answer_query` does.
-#[inline(never)]
-pub fn answer_version(
+// Answers a `version`. No records and no tables of a query are needed, unless it is refused.
+#[inline(always)]
+fn answer_version(
     alloc: Global,
     manager: &Manager,
     client: Option<ClientId>,
@@ -137,7 +137,7 @@ pub fn answer_version(
         × AnswersQuery (recorded manager.now) (asker_of client) Version reply noted (recorded manager.now)) }
 {
     let Some((version, length)) = manager.version_seen(asker(client)) else {
-        return answer_query(alloc, manager, client, Query::Version, replies, audit);
+        return answer_look(alloc, manager, client, Query::Version, replies, audit);
     };
     let answer = Answer::Version;
     let reply = Reply::Looked {
@@ -146,6 +146,28 @@ pub fn answer_version(
         answer,
     };
     push_reply(alloc, replies, Telling::Whole, &reply)
+}
+
+// Answers a query from the manager's tables.
+#[inline(never)]
+fn answer_look(
+    alloc: Global,
+    manager: &Manager,
+    client: Option<ClientId>,
+    query: Query,
+    replies: &mut Vec<u8>,
+    audit: &mut Vec<u8>,
+) -> Result<(), AllocError>
+    ensures ok { OnOk result ((reply : Reply) × (noted : List Record)
+        × AnswersQuery (recorded manager.now) (asker_of client) query reply noted (recorded manager.now)
+        × Told Whole reply noted replies.old.items replies.new.items audit.old.items audit.new.items) }
+    ensures err { OnErr result ((reply : Reply) × (noted : List Record)
+        × AnswersQuery (recorded manager.now) (asker_of client) query reply noted (recorded manager.now)) }
+{
+    let (reply, records) = look(manager, asker(client), query);
+    let told = tell(alloc, Telling::Whole, &reply, &records, replies, audit);
+    let_go(reply, records);
+    told
 }
 
 // Makes an actor's event, at the actor's turn.

@@ -8,11 +8,11 @@ ghost use Rattle.sm_engine.specs.Running.{Answered, GaveUp, never};
 
 use crate::judging::{
     answer_denials, answer_event, answer_hello, answer_nobody, answer_prepared, answer_query,
-    answer_seal, answer_unasked, answer_version,
+    answer_seal, answer_unasked,
 };
 use sm_core::Manager;
 use sm_engine::Machine;
-use sm_history::{By, Query};
+use sm_history::By;
 use sm_kinds::drop_fields;
 use sm_policy::Prepared;
 use sm_wire::{Item, PolicyTexts, Request, push_policy_refused};
@@ -103,9 +103,6 @@ impl Script {
             }
             Request::Change(None, event) => answer_nobody(event, replies),
             Request::Look(client, query) => {
-                if let Query::Version = &query {
-                    return answer_version(alloc, manager, client, replies, audit);
-                }
                 answer_query(alloc, manager, client, query, replies, audit)
             }
             Request::Reload { .. } => answer_unasked(replies),
