@@ -75,6 +75,17 @@ fn openings_connects_and_queries_of_others(rt: HostRuntime) {
 }
 
 #[test]
+fn versions_that_are_seen(rt: HostRuntime) {
+    let alloc = rt.alloc();
+    let mut manager = opened(&rt, alloc, 1000);
+    steps_at(&rt, alloc, &mut manager, OF_OTHERS);
+    assert!(rt; manager.version_seen(SERVER) == Some((1, 2)));
+    assert!(rt; manager.version_seen(ADMIN) == Some((1, 2)));
+    assert!(rt; manager.version_seen(APPLICATION).is_none());
+    assert!(rt; manager.version_seen(By::Manager).is_none());
+}
+
+#[test]
 fn a_journal_of_a_hundred_thousand(rt: HostRuntime) {
     let alloc = rt.alloc();
     let mut manager = opened(&rt, alloc, 1_048_576);
