@@ -11,7 +11,7 @@ ghost use Rattle.sm_wire.specs.LineTable.{version_line, call_line, release_line,
 ghost use Rattle.sm_wire.specs.Grammar.{line_of, lines_of};
 
 use crate::fields::Fields;
-use crate::item::{Item, give};
+use crate::item::{Follows, Item, give};
 use crate::numbers::u32_field;
 use crate::read_error::ReadError;
 use crate::recent_names::RecentNames;
@@ -31,7 +31,7 @@ pub fn client_request(
     word: &[u8],
     fields: &mut Fields<'_>,
     items: &mut VecDeque<Item>,
-) -> Result<(), ReadError>
+) -> Result<Follows, ReadError>
     requires { deque_len items.old < deque_capacity items.old }
     ensures { Gives result items.old.items items.new.items (lines_of (client_lines client) (word.now ∷ fields.old)) }
 {
@@ -68,7 +68,7 @@ fn registering_request(
     word: &[u8],
     fields: &mut Fields<'_>,
     items: &mut VecDeque<Item>,
-) -> Result<(), ReadError>
+) -> Result<Follows, ReadError>
     requires { deque_len items.old < deque_capacity items.old }
     ensures { Gives result items.old.items items.new.items (lines_of (registering_lines client) (word.now ∷ fields.old)) }
 {
@@ -99,7 +99,7 @@ fn get(
     client: Option<ClientId>,
     fields: &mut Fields<'_>,
     items: &mut VecDeque<Item>,
-) -> Result<(), ReadError>
+) -> Result<Follows, ReadError>
     requires { deque_len items.old < deque_capacity items.old }
     ensures { Gives result items.old.items items.new.items (line_of (get_line client) fields.old) }
 {
@@ -116,7 +116,7 @@ fn list(
     client: Option<ClientId>,
     fields: &mut Fields<'_>,
     items: &mut VecDeque<Item>,
-) -> Result<(), ReadError>
+) -> Result<Follows, ReadError>
     requires { deque_len items.old < deque_capacity items.old }
     ensures { Gives result items.old.items items.new.items (line_of (list_line client) fields.old) }
 {
@@ -133,7 +133,7 @@ pub fn version(
     client: Option<ClientId>,
     fields: &mut Fields<'_>,
     items: &mut VecDeque<Item>,
-) -> Result<(), ReadError>
+) -> Result<Follows, ReadError>
     requires { deque_len items.old < deque_capacity items.old }
     ensures { Gives result items.old.items items.new.items (line_of (version_line client) fields.old) }
 {
@@ -149,7 +149,7 @@ fn add(
     client: Option<ClientId>,
     fields: &mut Fields<'_>,
     items: &mut VecDeque<Item>,
-) -> Result<(), ReadError>
+) -> Result<Follows, ReadError>
     requires { deque_len items.old < deque_capacity items.old }
     ensures { Gives result items.old.items items.new.items (line_of (add_line client) fields.old) }
 {
@@ -175,7 +175,7 @@ fn watch(
     client: Option<ClientId>,
     fields: &mut Fields<'_>,
     items: &mut VecDeque<Item>,
-) -> Result<(), ReadError>
+) -> Result<Follows, ReadError>
     requires { deque_len items.old < deque_capacity items.old }
     ensures { Gives result items.old.items items.new.items (line_of (watch_line client) fields.old) }
 {
@@ -198,7 +198,7 @@ fn unwatch(
     client: Option<ClientId>,
     fields: &mut Fields<'_>,
     items: &mut VecDeque<Item>,
-) -> Result<(), ReadError>
+) -> Result<Follows, ReadError>
     requires { deque_len items.old < deque_capacity items.old }
     ensures { Gives result items.old.items items.new.items (line_of (unwatch_line client) fields.old) }
 {
@@ -221,7 +221,7 @@ fn unregister(
     client: Option<ClientId>,
     fields: &mut Fields<'_>,
     items: &mut VecDeque<Item>,
-) -> Result<(), ReadError>
+) -> Result<Follows, ReadError>
     requires { deque_len items.old < deque_capacity items.old }
     ensures { Gives result items.old.items items.new.items (line_of (unregister_line client) fields.old) }
 {
@@ -244,7 +244,7 @@ fn call(
     client: Option<ClientId>,
     fields: &mut Fields<'_>,
     items: &mut VecDeque<Item>,
-) -> Result<(), ReadError>
+) -> Result<Follows, ReadError>
     requires { deque_len items.old < deque_capacity items.old }
     ensures { Gives result items.old.items items.new.items (line_of (call_line client) fields.old) }
 {
@@ -265,7 +265,7 @@ fn release(
     client: Option<ClientId>,
     fields: &mut Fields<'_>,
     items: &mut VecDeque<Item>,
-) -> Result<(), ReadError>
+) -> Result<Follows, ReadError>
     requires { deque_len items.old < deque_capacity items.old }
     ensures { Gives result items.old.items items.new.items (line_of (release_line client) fields.old) }
 {

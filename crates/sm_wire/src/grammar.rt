@@ -9,7 +9,7 @@ ghost use Rattle.sm_wire.specs.Grammar.{line_of, lines_of, fields_request_of, re
 
 use crate::client_requests::{client_request, version};
 use crate::fields::Fields;
-use crate::item::{Item, give};
+use crate::item::{Follows, Item, give};
 use crate::kind::Kind;
 use crate::numbers::{number, u32_field};
 use crate::read_error::ReadError;
@@ -47,7 +47,7 @@ pub fn fields_request(
     kind: Kind,
     fields: &mut Fields<'_>,
     items: &mut VecDeque<Item>,
-) -> Result<(), ReadError>
+) -> Result<Follows, ReadError>
     requires { deque_len items.old < deque_capacity items.old }
     ensures { Gives result items.old.items items.new.items (fields_request_of kind fields.old) }
 {
@@ -88,14 +88,16 @@ fn policy_request(
     word: &[u8],
     fields: &mut Fields<'_>,
     items: &mut VecDeque<Item>,
-) -> Result<(), ReadError>
+) -> Result<Follows, ReadError>
     requires { deque_len items.old < deque_capacity items.old }
     ensures { Gives result items.old.items items.new.items (lines_of policy_lines (word.now ∷ fields.old)) }
 {
     if spells(word, b"reload") {
-        give(items, reload(fields)?)
+        let request = reload(fields)?;
+        items.push_back_reserved(Item::Asked(request));
+        Ok(Follows::Files)
     } else if spells(word, b"explain") {
-        give(items, explain(alloc, fields)?)
+        explain(alloc, fields, items)
     } else if spells(word, b"denials") {
         fields.end()?;
         give(items, Request::Denials)
@@ -114,7 +116,7 @@ fn hello(
     alloc: Global,
     fields: &mut Fields<'_>,
     items: &mut VecDeque<Item>,
-) -> Result<(), ReadError>
+) -> Result<Follows, ReadError>
     requires { deque_len items.old < deque_capacity items.old }
     ensures { Gives result items.old.items items.new.items (line_of hello_line fields.old) }
 {
@@ -131,8 +133,13 @@ fn hello(
 // Parses `explain SOURCE TARGET CLASS PERM`.
 #[inline(never)]
 #[tactic(auto, unfolding(crate::specs::Grammar::parsed_by))]
-fn explain(alloc: Global, fields: &mut Fields<'_>) -> Result<Request, ReadError>
-    ensures { ReadsAs result (line_of explain_line fields.old) }
+fn explain(
+    alloc: Global,
+    fields: &mut Fields<'_>,
+    items: &mut VecDeque<Item>,
+) -> Result<Follows, ReadError>
+    requires { deque_len items.old < deque_capacity items.old }
+    ensures { Gives result items.old.items items.new.items (line_of explain_line fields.old) }
 {
     let source = fields.field()?;
     let target = fields.field()?;
@@ -145,5 +152,5 @@ fn explain(alloc: Global, fields: &mut Fields<'_>) -> Result<Request, ReadError>
         class: class_field(class)?,
         perm: perm_field(perm)?,
     };
-    Ok(Request::Look(None, query))
+    give(items, Request::Look(None, query))
 }
