@@ -1,3 +1,4 @@
+pub mod DecimalLemmas
 pub mod FramingLemmas
 pub mod FieldLemmas
 pub mod GivingLemmas

@@ -2,12 +2,12 @@
 
 ghost use Rattle.std.specs.Prelude.{◌≡◌, ◌++◌, OnOk, codes};
 ghost use Rattle.std.specs.List.{flat_map};
-ghost use Rattle.sm_wire.specs.Replies.{given_text, spaced_given, payload_text, caller_text, registered_text};
+ghost use Rattle.sm_wire.specs.Replies.{spaced_given, payload_text, caller_text, registered_text};
 ghost use Rattle.sm_wire.specs.Replies.{message_text};
 
+use crate::decimals::push_numbered;
 use crate::names::push_spaced_name;
 use sm_history::{Delivery, Given, Message};
-use sm_kinds::push_numbered;
 use std::alloc::{AllocError, Global};
 
 /// Appends the words of a delivery.
@@ -96,20 +96,13 @@ fn push_refs(out: &mut Vec<u8>, refs: &[Given]) -> Result<(), AllocError>
     Ok(())
 }
 
+#[tactic(auto, unfolding(crate::specs::Replies::given_text))]
 fn push_spaced_given(out: &mut Vec<u8>, given: Given) -> Result<(), AllocError>
     ensures { OnOk result (out.new.items ≡ out.old.items ++ spaced_given given) }
 {
-    out.push(b' ')?;
-    push_given(out, given)
-}
-
-#[tactic(auto, unfolding(crate::specs::Replies::given_text))]
-fn push_given(out: &mut Vec<u8>, given: Given) -> Result<(), AllocError>
-    ensures { OnOk result (out.new.items ≡ out.old.items ++ given_text given) }
-{
     match given {
-        Given::Handle(n) => push_numbered(out, b"h", u64::from(n)),
-        Given::Own(n) => push_numbered(out, b"o", u64::from(n)),
-        Given::Null => out.extend_from_slice(b"null"),
+        Given::Handle(n) => push_numbered(out, b" h", u64::from(n)),
+        Given::Own(n) => push_numbered(out, b" o", u64::from(n)),
+        Given::Null => out.extend_from_slice(b" null"),
     }
 }

@@ -1,18 +1,17 @@
 //! Reply lines.
 
 ghost use Rattle.std.specs.Prelude.{◌≡◌, ◌++◌, OnOk, IfOk, codes, length};
-ghost use Rattle.std.specs.Fmt.{decimal};
 ghost use Rattle.std.specs.List.{flat_map};
 ghost use Rattle.sm_kinds.specs.Messages.{numbered};
 ghost use Rattle.sm_wire.specs.Replies.{spaced_name, why_text, answer_text, answered_text};
 ghost use Rattle.sm_wire.specs.Replies.{told_text, told_in};
 
+use crate::decimals::{push_numbered, push_small};
 use crate::deliveries::push_delivery;
 use crate::names::push_names;
 use crate::refusals::push_refusal;
 use crate::telling::Telling;
 use sm_history::{Answer, NameList, Outcome, Reply, is_hidden};
-use sm_kinds::push_numbered;
 use std::alloc::{AllocError, Global};
 
 /// Returns the line of the visible part of a reply, with its newline.
@@ -98,21 +97,9 @@ fn push_two(out: &mut Vec<u8>, word: &[u8], first: u64, second: u64) -> Result<(
         ≡ out.old.items ++ numbered word.now first ++ numbered (codes " ") second) }
 {
     out.extend_from_slice(word)?;
-    push_decimal(out, first)?;
+    push_small(out, first)?;
     out.push(b' ')?;
-    push_decimal(out, second)
-}
-
-// Appends a number in decimal digits. A single digit needs no buffer.
-#[tactic(auto, using(std::proofs::lemmas::Fmt::decimal_digit))]
-fn push_decimal(out: &mut Vec<u8>, n: u64) -> Result<(), AllocError>
-    ensures { OnOk result (out.new.items ≡ out.old.items ++ decimal n) }
-{
-    if n < 10 {
-        out.push(b'0' + n as u8)?;
-        return Ok(());
-    }
-    push_numbered(out, b"", n)
+    push_small(out, second)
 }
 
 // Appends the number of names, and the names.
