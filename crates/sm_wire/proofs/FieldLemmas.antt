@@ -3,8 +3,9 @@ use Rattle.std.proofs.Common.{◌≡◌, ◌≢◌, ℕ, zero, suc, ◌+◌, ◌
 use Rattle.std.proofs.Common.{true, false, add-one, length-drop, arith}
 use Rattle.std.proofs.Math.Seq.{take-length}
 use Rattle.std.proofs.lemmas.Bool.Decides.{nat_tests}
-use Rattle.std.specs.Prelude.{◌==◌, cond}
-use Rattle.std.specs.List.{onto_first}
+use Rattle.std.specs.Prelude.{◌==◌, cond, IsTrue}
+use Rattle.std.specs.List.{list_all, onto_first}
+use Rattle.sm_kinds.specs.Contexts.{is_graphic}
 use Rattle.sm_wire.specs.Fields.{fields_of}
 use Rattle.sm_wire.specs.Grammar.{has_fields}
 
@@ -52,3 +53,11 @@ pub next_field : (rest : List ℕ) (i : ℕ) → (i < length rest) × (get_or re
 next_field rest i h =
     let n : length rest - (i + 1) ≡ length (drop (i + 1) rest) = omega (arith, length-drop {A = ℕ}) in
     rw (n, take-length (drop (i + 1) rest), add-one i) (first_field rest i h.0 h.2 h.1)
+
+-- Graphic bytes are one field.
+pub graphic_field : (bytes : List ℕ) → IsTrue (list_all is_graphic bytes) → fields_of bytes ≡ bytes ∷ []
+graphic_field [] graphic = refl
+graphic_field (x ∷ xs) graphic =
+    let parts : IsTrue (is_graphic x) × IsTrue (list_all is_graphic xs) = grind (arith, nat_tests) in
+    let plain : x ≢ 32 = grind (arith, nat_tests) in
+    rw (fields_of-plain x xs plain, graphic_field xs parts.1) refl

@@ -91,10 +91,32 @@ fn registering_request(
     Err(ReadError::Malformed)
 }
 
-// Reads `get NAME` or `check NAME`, which means the same.
+// Reads `get NAME` or `check NAME`, which means the same. A name that was read lately is found by all the bytes that are
+// left, which are then one field.
 #[inline(never)]
 #[tactic(auto, unfolding(crate::specs::Grammar::parsed_by))]
 fn get(
+    recent: &mut RecentNames,
+    client: Option<ClientId>,
+    fields: &mut Fields<'_>,
+    items: &mut VecDeque<Item>,
+) -> Result<Follows, ReadError>
+    requires { deque_len items.old < deque_capacity items.old }
+    ensures { Gives result items.old.items items.new.items (line_of (get_line client) fields.old) }
+{
+    if let Some(bytes) = fields.rest() {
+        if let Some(name) = recent.kept(bytes) {
+            let name = name.clone()?;
+            return give(items, Request::Change(client, Event::Get { name }));
+        }
+    }
+    get_new(recent, client, fields, items)
+}
+
+// The same, field by field.
+#[inline(never)]
+#[tactic(auto, unfolding(crate::specs::Grammar::parsed_by))]
+fn get_new(
     recent: &mut RecentNames,
     client: Option<ClientId>,
     fields: &mut Fields<'_>,

@@ -1,10 +1,10 @@
 //! The fields of a line, one after another.
 
-ghost use Rattle.std.specs.Prelude.{◌≡◌, ◌≢◌, ◌<◌, ◌∷◌, [], ℕ, false, length, slice_index, MatchOption, MatchResult};
+ghost use Rattle.std.specs.Prelude.{◌≡◌, ◌<◌, ◌+◌, ◌^◌, ◌∷◌, [], false, length, IfSome, MatchOption, MatchResult};
 ghost use Rattle.sm_wire.specs.declared.read_error.ReadError.TheVariants.{Malformed};
 ghost use Rattle.sm_wire.specs.LineTable.{Field};
 ghost use Rattle.sm_wire.specs.Grammar.{has_fields};
-ghost use Rattle.sm_wire.specs.Fields.{fields_of};
+ghost use Rattle.sm_wire.specs.Fields.{fields_of, fields_left, HasNoSpace, IsFirstSpace};
 
 use crate::read_error::ReadError;
 use std::marker::Model;
@@ -39,7 +39,7 @@ impl<'a> Fields<'a> {
         let Some(rest) = self.rest else {
             return Err(ReadError::Malformed);
         };
-        match rest.iter().position(|b| *b == b' ') {
+        match space_in(rest) {
             Some(i) => {
                 self.rest = Some(&rest[i + 1..]);
                 Ok(&rest[..i])
@@ -49,6 +49,14 @@ impl<'a> Fields<'a> {
                 Ok(rest)
             }
         }
+    }
+
+    /// Returns the bytes of the fields that are left, if any are.
+    #[inline(always)]
+    pub fn rest(&self) -> Option<&'a [u8]>
+        ensures { self.now ≡ fields_left result }
+    {
+        self.rest
     }
 
     /// Checks that no field follows.
@@ -61,4 +69,35 @@ impl<'a> Fields<'a> {
             None => Ok(()),
         }
     }
+}
+
+// Returns the index of the first space. Each pass of the first loop compares four bytes.
+#[inline(always)]
+fn space_in(bytes: &[u8]) -> Option<usize>
+    ensures small { IfSome result (λ i. i + 1 < 2 ^ 64) }
+    ensures place { MatchOption result (HasNoSpace (length bytes.now) bytes.now) (λ i. IsFirstSpace bytes.now i) }
+{
+    let mut i = 0;
+    while bytes.len() - i >= 4 {
+        if bytes[i] == b' ' {
+            return Some(i);
+        }
+        if bytes[i + 1] == b' ' {
+            return Some(i + 1);
+        }
+        if bytes[i + 2] == b' ' {
+            return Some(i + 2);
+        }
+        if bytes[i + 3] == b' ' {
+            return Some(i + 3);
+        }
+        i += 4;
+    }
+    while i < bytes.len() {
+        if bytes[i] == b' ' {
+            return Some(i);
+        }
+        i += 1;
+    }
+    None
 }

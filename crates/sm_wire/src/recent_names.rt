@@ -1,10 +1,11 @@
 //! A cache of recently read names, so that a repeated name needs no allocation.
 
-ghost use Rattle.std.specs.Prelude.{◌≡◌, IfSome, IsTrue};
+ghost use Rattle.std.specs.Prelude.{◌≡◌, ◌∷◌, [], Some, IfSome, IsTrue};
 ghost use Rattle.std.specs.List.{list_all};
 ghost use Rattle.sm_kinds.specs.Contexts.{is_graphic};
 ghost use Rattle.sm_wire.specs.Reading.{ReadsAs};
-ghost use Rattle.sm_wire.specs.Values.{plain_name_of};
+ghost use Rattle.sm_wire.specs.Values.{name_of, plain_name_of};
+ghost use Rattle.sm_wire.specs.Fields.{fields_of};
 
 use crate::read_error::ReadError;
 use sm_kinds::{MOST_NAME_BYTES, Name, all_graphic, drop_fields, spells};
@@ -83,6 +84,20 @@ impl RecentNames {
         let name = Name::new(self.alloc, bytes)?;
         self.keep(&name)?;
         Ok(name)
+    }
+
+    /// Returns the kept name that these bytes spell. They are then a field of their own.
+    #[inline(always)]
+    #[tactic(auto, using(crate::proofs::FieldLemmas::graphic_field), unfolding(crate::specs::Values::name_of, crate::specs::Values::plain_name_of))]
+    pub fn kept(&self, bytes: &[u8]) -> Option<&Name>
+        ensures field { IfSome result (λ _. fields_of bytes.now ≡ bytes.now ∷ []) }
+        ensures name { IfSome result (λ n. name_of bytes.now ≡ Some n.now) }
+    {
+        match bytes {
+            [] => None,
+            [b'%', ..] => None,
+            [_, ..] => self.find(bytes),
+        }
     }
 
     // Returns the kept name of these bytes.
