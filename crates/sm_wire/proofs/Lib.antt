@@ -3,6 +3,7 @@ pub mod FramingLemmas
 pub mod FieldLemmas
 pub mod GivingLemmas
 pub mod ItemLemmas
+pub mod LineLemmas
 pub mod NumberLemmas
 pub mod SpellingLemmasContexts
 pub mod SpellingLemmasFields

@@ -7,7 +7,7 @@ ghost use Rattle.std.specs.Prelude.{◌<◌, ◌∷◌};
 ghost use Rattle.std.specs.VecDeque.{deque_len, deque_capacity};
 ghost use Rattle.sm_wire.specs.Giving.{Gives};
 ghost use Rattle.sm_wire.specs.LineTable.{get_line, list_line, add_line, watch_line, unwatch_line, unregister_line};
-ghost use Rattle.sm_wire.specs.LineTable.{version_line, call_line, release_line, registering_lines, client_lines};
+ghost use Rattle.sm_wire.specs.LineTable.{version_line, call_line, release_line, client_lines, rare_lines};
 ghost use Rattle.sm_wire.specs.Grammar.{line_of, lines_of};
 
 use crate::fields::Fields;
@@ -23,58 +23,49 @@ use sm_history::{Event, Query};
 use sm_kinds::{ClientId, spells};
 use std::collections::VecDeque;
 
-/// Reads a query or a change of a client.
-#[tactic(auto, unfolding(crate::specs::Grammar::lines_of, crate::specs::Grammar::parsed_by))]
+/// Reads a query or a change of a client. The words that come most often are compared first.
+#[tactic(auto, using(crate::proofs::LineLemmas::rare_lines_left), unfolding(crate::specs::Grammar::lines_of, crate::specs::Grammar::parsed_by))]
 pub fn client_request(
     recent: &mut RecentNames,
     client: Option<ClientId>,
-    word: &[u8],
     fields: &mut Fields<'_>,
     items: &mut VecDeque<Item>,
 ) -> Result<Follows, ReadError>
     requires { deque_len items.old < deque_capacity items.old }
-    ensures { Gives result items.old.items items.new.items (lines_of (client_lines client) (word.now ∷ fields.old)) }
+    ensures { Gives result items.old.items items.new.items (lines_of (client_lines client) fields.old) }
 {
-    if spells(word, b"get") {
+    if fields.takes(b"get") {
         return get(recent, client, fields, items);
     }
-    if spells(word, b"check") {
-        return get(recent, client, fields, items);
-    }
-    if spells(word, b"list") {
-        return list(client, fields, items);
-    }
-    if spells(word, b"version") {
+    if fields.takes(b"version") {
         return version(client, fields, items);
     }
-    if spells(word, b"call") {
-        return call(recent, client, fields, items);
-    }
-    if spells(word, b"release") {
-        return release(client, fields, items);
-    }
-    if spells(word, b"take") {
+    if fields.takes(b"take") {
         fields.end()?;
         return give(items, Request::Change(client, Event::Take));
     }
-    registering_request(recent, client, word, fields, items)
+    if fields.takes(b"call") {
+        return call(recent, client, fields, items);
+    }
+    if fields.takes(b"add") {
+        return add(recent, client, fields, items);
+    }
+    rare_request(recent, client, fields, items)
 }
 
-// Reads a change of what is registered, or a client's death.
+// Reads the other lines of a client.
+#[inline(never)]
 #[tactic(auto, unfolding(crate::specs::Grammar::lines_of, crate::specs::Grammar::parsed_by))]
-fn registering_request(
+fn rare_request(
     recent: &mut RecentNames,
     client: Option<ClientId>,
-    word: &[u8],
     fields: &mut Fields<'_>,
     items: &mut VecDeque<Item>,
 ) -> Result<Follows, ReadError>
     requires { deque_len items.old < deque_capacity items.old }
-    ensures { Gives result items.old.items items.new.items (lines_of (registering_lines client) (word.now ∷ fields.old)) }
+    ensures { Gives result items.old.items items.new.items (lines_of (rare_lines client) fields.old) }
 {
-    if spells(word, b"add") {
-        return add(recent, client, fields, items);
-    }
+    let word = fields.field()?;
     if spells(word, b"watch") {
         return watch(recent, client, fields, items);
     }
@@ -83,6 +74,15 @@ fn registering_request(
     }
     if spells(word, b"unregister") {
         return unregister(recent, client, fields, items);
+    }
+    if spells(word, b"release") {
+        return release(client, fields, items);
+    }
+    if spells(word, b"list") {
+        return list(client, fields, items);
+    }
+    if spells(word, b"check") {
+        return get(recent, client, fields, items);
     }
     if spells(word, b"bye") {
         fields.end()?;
