@@ -41,6 +41,7 @@ pub fn request(alloc: Global, kind: Kind, line: &[u8]) -> Result<Request, ReadEr
 }
 
 /// Parses a line of this kind from its fields. The first field of a script's line may be a client's number.
+#[inline(always)]
 #[tactic(auto, using(crate::proofs::LineLemmas::client_lines_left), unfolding(crate::specs::Grammar::fields_request_of, crate::specs::Grammar::script_fields_of, crate::specs::Grammar::lines_of, crate::specs::Grammar::parsed_by))]
 pub fn fields_request(
     recent: &mut RecentNames,

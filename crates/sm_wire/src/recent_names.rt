@@ -101,6 +101,7 @@ impl RecentNames {
     }
 
     // Returns the kept name of these bytes.
+    #[inline(always)]
     fn find(&self, bytes: &[u8]) -> Option<&Name>
         ensures spelled { IfSome result (λ n. n.now ≡ bytes.now) }
         ensures graphic { IfSome result (λ n. IsTrue (list_all is_graphic bytes.now)) }
