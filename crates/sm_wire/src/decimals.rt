@@ -38,21 +38,21 @@ pub fn push_decimal(out: &mut Vec<u8>, n: u64) -> Result<(), AllocError>
         return sm_kinds::push_numbered(out, b"", n);
     }
     let n = n as u32;
-    if n >= 1_000 {
-        return out.extend_from_slice(&[
-            digit(n / 1_000),
-            digit(n / 100 % 10),
-            digit(n / 10 % 10),
-            digit(n % 10),
-        ]);
+    if n < 10 {
+        return out.extend_from_slice(&[digit(n)]);
     }
-    if n >= 100 {
-        return out.extend_from_slice(&[digit(n / 100), digit(n / 10 % 10), digit(n % 10)]);
-    }
-    if n >= 10 {
+    if n < 100 {
         return out.extend_from_slice(&[digit(n / 10), digit(n % 10)]);
     }
-    out.extend_from_slice(&[digit(n)])
+    if n < 1_000 {
+        return out.extend_from_slice(&[digit(n / 100), digit(n / 10 % 10), digit(n % 10)]);
+    }
+    out.extend_from_slice(&[
+        digit(n / 1_000),
+        digit(n / 100 % 10),
+        digit(n / 10 % 10),
+        digit(n % 10),
+    ])
 }
 
 #[inline(always)]
