@@ -4,6 +4,7 @@ pub mod FieldLemmas
 pub mod GivingLemmas
 pub mod ItemLemmas
 pub mod LineLemmas
+pub mod NameLemmas
 pub mod NumberLemmas
 pub mod SpellingLemmasContexts
 pub mod SpellingLemmasFields
