@@ -33,7 +33,9 @@ pub enum Follows {
     Files,
 }
 
-/// Appends the item of a request, which announces no files, and for which there is room.
+/// Appends the item of a request, which announces no files, and for which there is room. Inline, so that the request is
+/// made where it lies.
+#[inline(always)]
 pub fn give(items: &mut VecDeque<Item>, request: Request) -> Result<Follows, ReadError>
     requires no_files { header_by (Some request) ≡ None }
     requires room { deque_len items.old < deque_capacity items.old }
