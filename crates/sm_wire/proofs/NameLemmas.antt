@@ -1,9 +1,9 @@
 -- Names of 8 to 16 bytes are the same if their ends are.
-use Rattle.std.proofs.Common.{◌≡◌, ◌∙◌, ℕ, ◌+◌, ◌-◌, ◌<◌, ◌≤◌, List, [], ◌∷◌, ◌++◌, zero, suc, length, take, drop, get_or, arith, sym, refl}
+use Rattle.std.proofs.Common.{◌≡◌, ◌∙◌, ℕ, ◌+◌, ◌-◌, ◌<◌, ◌≤◌, List, [], ◌∷◌, ◌++◌, zero, suc, length, take, drop, get_or, arith, sym}
 use Rattle.std.proofs.Common.{length-take-le, length-drop}
-use Rattle.std.proofs.lemmas.List.{drop-drop, take-append-drop, get_or-take, get_or-drop}
+use Rattle.std.proofs.lemmas.List.{drop-drop, take-append-drop, get_or-drop}
 use Rattle.std.proofs.lemmas.Nat.{le_bytes_8}
-use Rattle.std.specs.Int.{w64, from_le_bytes, to_le_bytes}
+use Rattle.std.specs.Int.{w64, from_le_bytes}
 use Rattle.sm_wire.specs.Names.{HasEnds}
 
 -- Each element is a byte.

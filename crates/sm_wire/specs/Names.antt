@@ -1,5 +1,5 @@
 -- Names by their ends.
-use Rattle.std.specs.Prelude.{◌≡◌, ◌≤◌, ◌-◌, ◌<◌, ℕ, List, length, take, drop, slice_index}
+use Rattle.std.specs.Prelude.{◌≡◌, ◌≤◌, ◌-◌, ℕ, List, length, take, drop}
 use Rattle.std.specs.Int.{w64, from_le_bytes}
 
 -- The bytes have these first and last eight, as numbers.
