@@ -1,7 +1,10 @@
+pub mod DecimalLemmas
 pub mod FramingLemmas
 pub mod FieldLemmas
 pub mod GivingLemmas
 pub mod ItemLemmas
+pub mod LineLemmas
+pub mod NameLemmas
 pub mod NumberLemmas
 pub mod SpellingLemmasContexts
 pub mod SpellingLemmasFields

@@ -1,3 +1,4 @@
+pub mod Names
 pub mod Number
 pub mod Fields
 pub mod Reading

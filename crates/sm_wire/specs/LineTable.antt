@@ -145,6 +145,12 @@ client_lines who =
     get_line who ∷ check_line who ∷ list_line who ∷ version_line who ∷ call_line who ∷ release_line who
     ∷ take_line who ∷ registering_lines who
 
+-- These are the lines of a client that come less often.
+abbrev pub rare_lines : Option ClientId → List Production
+rare_lines who =
+    check_line who ∷ list_line who ∷ release_line who ∷ watch_line who ∷ unwatch_line who ∷ unregister_line who
+    ∷ bye_line who ∷ []
+
 -- These are the lines of a client's connection.
 abbrev pub connection_lines : List Production
 connection_lines = hello_line ∷ client_lines None

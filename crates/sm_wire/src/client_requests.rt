@@ -7,11 +7,11 @@ ghost use Rattle.std.specs.Prelude.{◌<◌, ◌∷◌};
 ghost use Rattle.std.specs.VecDeque.{deque_len, deque_capacity};
 ghost use Rattle.sm_wire.specs.Giving.{Gives};
 ghost use Rattle.sm_wire.specs.LineTable.{get_line, list_line, add_line, watch_line, unwatch_line, unregister_line};
-ghost use Rattle.sm_wire.specs.LineTable.{version_line, call_line, release_line, registering_lines, client_lines};
+ghost use Rattle.sm_wire.specs.LineTable.{version_line, call_line, release_line, client_lines, rare_lines};
 ghost use Rattle.sm_wire.specs.Grammar.{line_of, lines_of};
 
 use crate::fields::Fields;
-use crate::item::{Item, give};
+use crate::item::{Follows, Item, give};
 use crate::numbers::u32_field;
 use crate::read_error::ReadError;
 use crate::recent_names::RecentNames;
@@ -23,58 +23,49 @@ use sm_history::{Event, Query};
 use sm_kinds::{ClientId, spells};
 use std::collections::VecDeque;
 
-/// Reads a query or a change of a client.
-#[tactic(auto, unfolding(crate::specs::Grammar::lines_of, crate::specs::Grammar::parsed_by))]
+/// Reads a query or a change of a client. The words that come most often are compared first.
+#[tactic(auto, using(crate::proofs::LineLemmas::rare_lines_left), unfolding(crate::specs::Grammar::lines_of, crate::specs::Grammar::parsed_by))]
 pub fn client_request(
     recent: &mut RecentNames,
     client: Option<ClientId>,
-    word: &[u8],
     fields: &mut Fields<'_>,
     items: &mut VecDeque<Item>,
-) -> Result<(), ReadError>
+) -> Result<Follows, ReadError>
     requires { deque_len items.old < deque_capacity items.old }
-    ensures { Gives result items.old.items items.new.items (lines_of (client_lines client) (word.now ∷ fields.old)) }
+    ensures { Gives result items.old.items items.new.items (lines_of (client_lines client) fields.old) }
 {
-    if spells(word, b"get") {
+    if fields.takes(b"get") {
         return get(recent, client, fields, items);
     }
-    if spells(word, b"check") {
-        return get(recent, client, fields, items);
-    }
-    if spells(word, b"list") {
-        return list(client, fields, items);
-    }
-    if spells(word, b"version") {
+    if fields.takes(b"version") {
         return version(client, fields, items);
     }
-    if spells(word, b"call") {
-        return call(recent, client, fields, items);
-    }
-    if spells(word, b"release") {
-        return release(client, fields, items);
-    }
-    if spells(word, b"take") {
+    if fields.takes(b"take") {
         fields.end()?;
         return give(items, Request::Change(client, Event::Take));
     }
-    registering_request(recent, client, word, fields, items)
-}
-
-// Reads a change of what is registered, or a client's death.
-#[tactic(auto, unfolding(crate::specs::Grammar::lines_of, crate::specs::Grammar::parsed_by))]
-fn registering_request(
-    recent: &mut RecentNames,
-    client: Option<ClientId>,
-    word: &[u8],
-    fields: &mut Fields<'_>,
-    items: &mut VecDeque<Item>,
-) -> Result<(), ReadError>
-    requires { deque_len items.old < deque_capacity items.old }
-    ensures { Gives result items.old.items items.new.items (lines_of (registering_lines client) (word.now ∷ fields.old)) }
-{
-    if spells(word, b"add") {
+    if fields.takes(b"call") {
+        return call(recent, client, fields, items);
+    }
+    if fields.takes(b"add") {
         return add(recent, client, fields, items);
     }
+    rare_request(recent, client, fields, items)
+}
+
+// Reads the other lines of a client.
+#[inline(never)]
+#[tactic(auto, unfolding(crate::specs::Grammar::lines_of, crate::specs::Grammar::parsed_by))]
+fn rare_request(
+    recent: &mut RecentNames,
+    client: Option<ClientId>,
+    fields: &mut Fields<'_>,
+    items: &mut VecDeque<Item>,
+) -> Result<Follows, ReadError>
+    requires { deque_len items.old < deque_capacity items.old }
+    ensures { Gives result items.old.items items.new.items (lines_of (rare_lines client) fields.old) }
+{
+    let word = fields.field()?;
     if spells(word, b"watch") {
         return watch(recent, client, fields, items);
     }
@@ -84,6 +75,15 @@ fn registering_request(
     if spells(word, b"unregister") {
         return unregister(recent, client, fields, items);
     }
+    if spells(word, b"release") {
+        return release(client, fields, items);
+    }
+    if spells(word, b"list") {
+        return list(client, fields, items);
+    }
+    if spells(word, b"check") {
+        return get(recent, client, fields, items);
+    }
     if spells(word, b"bye") {
         fields.end()?;
         return give(items, Request::Change(client, Event::Die));
@@ -91,7 +91,8 @@ fn registering_request(
     Err(ReadError::Malformed)
 }
 
-// Reads `get NAME` or `check NAME`, which means the same.
+// Reads `get NAME` or `check NAME`, which means the same. A name that was read lately is found by all the bytes that are
+// left, which are then one field.
 #[inline(never)]
 #[tactic(auto, unfolding(crate::specs::Grammar::parsed_by))]
 fn get(
@@ -99,7 +100,28 @@ fn get(
     client: Option<ClientId>,
     fields: &mut Fields<'_>,
     items: &mut VecDeque<Item>,
-) -> Result<(), ReadError>
+) -> Result<Follows, ReadError>
+    requires { deque_len items.old < deque_capacity items.old }
+    ensures { Gives result items.old.items items.new.items (line_of (get_line client) fields.old) }
+{
+    if let Some(bytes) = fields.rest() {
+        if let Some(name) = recent.kept(bytes) {
+            let name = name.clone()?;
+            return give(items, Request::Change(client, Event::Get { name }));
+        }
+    }
+    get_new(recent, client, fields, items)
+}
+
+// The same, field by field.
+#[inline(never)]
+#[tactic(auto, unfolding(crate::specs::Grammar::parsed_by))]
+fn get_new(
+    recent: &mut RecentNames,
+    client: Option<ClientId>,
+    fields: &mut Fields<'_>,
+    items: &mut VecDeque<Item>,
+) -> Result<Follows, ReadError>
     requires { deque_len items.old < deque_capacity items.old }
     ensures { Gives result items.old.items items.new.items (line_of (get_line client) fields.old) }
 {
@@ -116,7 +138,7 @@ fn list(
     client: Option<ClientId>,
     fields: &mut Fields<'_>,
     items: &mut VecDeque<Item>,
-) -> Result<(), ReadError>
+) -> Result<Follows, ReadError>
     requires { deque_len items.old < deque_capacity items.old }
     ensures { Gives result items.old.items items.new.items (line_of (list_line client) fields.old) }
 {
@@ -133,7 +155,7 @@ pub fn version(
     client: Option<ClientId>,
     fields: &mut Fields<'_>,
     items: &mut VecDeque<Item>,
-) -> Result<(), ReadError>
+) -> Result<Follows, ReadError>
     requires { deque_len items.old < deque_capacity items.old }
     ensures { Gives result items.old.items items.new.items (line_of (version_line client) fields.old) }
 {
@@ -149,7 +171,7 @@ fn add(
     client: Option<ClientId>,
     fields: &mut Fields<'_>,
     items: &mut VecDeque<Item>,
-) -> Result<(), ReadError>
+) -> Result<Follows, ReadError>
     requires { deque_len items.old < deque_capacity items.old }
     ensures { Gives result items.old.items items.new.items (line_of (add_line client) fields.old) }
 {
@@ -175,7 +197,7 @@ fn watch(
     client: Option<ClientId>,
     fields: &mut Fields<'_>,
     items: &mut VecDeque<Item>,
-) -> Result<(), ReadError>
+) -> Result<Follows, ReadError>
     requires { deque_len items.old < deque_capacity items.old }
     ensures { Gives result items.old.items items.new.items (line_of (watch_line client) fields.old) }
 {
@@ -198,7 +220,7 @@ fn unwatch(
     client: Option<ClientId>,
     fields: &mut Fields<'_>,
     items: &mut VecDeque<Item>,
-) -> Result<(), ReadError>
+) -> Result<Follows, ReadError>
     requires { deque_len items.old < deque_capacity items.old }
     ensures { Gives result items.old.items items.new.items (line_of (unwatch_line client) fields.old) }
 {
@@ -221,7 +243,7 @@ fn unregister(
     client: Option<ClientId>,
     fields: &mut Fields<'_>,
     items: &mut VecDeque<Item>,
-) -> Result<(), ReadError>
+) -> Result<Follows, ReadError>
     requires { deque_len items.old < deque_capacity items.old }
     ensures { Gives result items.old.items items.new.items (line_of (unregister_line client) fields.old) }
 {
@@ -244,7 +266,7 @@ fn call(
     client: Option<ClientId>,
     fields: &mut Fields<'_>,
     items: &mut VecDeque<Item>,
-) -> Result<(), ReadError>
+) -> Result<Follows, ReadError>
     requires { deque_len items.old < deque_capacity items.old }
     ensures { Gives result items.old.items items.new.items (line_of (call_line client) fields.old) }
 {
@@ -265,7 +287,7 @@ fn release(
     client: Option<ClientId>,
     fields: &mut Fields<'_>,
     items: &mut VecDeque<Item>,
-) -> Result<(), ReadError>
+) -> Result<Follows, ReadError>
     requires { deque_len items.old < deque_capacity items.old }
     ensures { Gives result items.old.items items.new.items (line_of (release_line client) fields.old) }
 {

@@ -1,13 +1,14 @@
 //! Deliveries in reply lines.
 
-ghost use Rattle.std.specs.Prelude.{◌≡◌, ◌++◌, OnOk, codes};
+ghost use Rattle.std.specs.Prelude.{◌≡◌, ◌++◌, ◌<◌, OnOk, codes, slice_index};
 ghost use Rattle.std.specs.List.{flat_map};
-ghost use Rattle.sm_wire.specs.Replies.{given_text, spaced_given, payload_text, caller_text, registered_text};
+ghost use Rattle.sm_wire.specs.Replies.{spaced_given, payload_text, caller_text, registered_text};
 ghost use Rattle.sm_wire.specs.Replies.{message_text};
+ghost use Rattle.hex.specs.Hex.{encode_lower, lower_digits};
 
+use crate::decimals::push_numbered;
 use crate::names::push_spaced_name;
 use sm_history::{Delivery, Given, Message};
-use sm_kinds::push_numbered;
 use std::alloc::{AllocError, Global};
 
 /// Appends the words of a delivery.
@@ -38,7 +39,7 @@ fn push_message(
             refs,
         } => {
             push_caller(out, object, *pid, *uid)?;
-            push_payload(alloc, out, payload.bytes())?;
+            push_payload(out, payload.bytes())?;
             push_refs(out, refs.list())
         }
         Message::Registered { name, given } => {
@@ -74,16 +75,32 @@ fn push_caller(out: &mut Vec<u8>, object: u32, pid: u32, uid: u32) -> Result<(),
 }
 
 #[tactic(auto, unfolding(crate::specs::Replies::payload_text))]
-fn push_payload(alloc: Global, out: &mut Vec<u8>, payload: &[u8]) -> Result<(), AllocError>
+fn push_payload(out: &mut Vec<u8>, payload: &[u8]) -> Result<(), AllocError>
     ensures { OnOk result (out.new.items ≡ out.old.items ++ payload_text payload.now) }
 {
     match payload {
         [] => out.extend_from_slice(b"-"),
-        [_, ..] => {
-            let digits = hex::encode(alloc, payload)?;
-            out.extend_from_slice(digits.as_bytes())
-        }
+        [_, ..] => push_hex(out, payload),
     }
+}
+
+// Appends two hexadecimal digits for each byte, without a text of their own.
+#[tactic(auto, unfolding(hex::specs::Hex::encode_with))]
+fn push_hex(out: &mut Vec<u8>, bytes: &[u8]) -> Result<(), AllocError>
+    ensures { OnOk result (out.new.items ≡ out.old.items ++ encode_lower bytes.now) }
+{
+    for byte in bytes {
+        out.extend_from_slice(&[hex_digit(*byte / 16), hex_digit(*byte % 16)])?;
+    }
+    Ok(())
+}
+
+#[inline(always)]
+fn hex_digit(digit: u8) -> u8
+    requires { digit < 16 }
+    ensures { result ≡ slice_index lower_digits digit }
+{
+    b"0123456789abcdef"[digit as usize]
 }
 
 // Appends each reference after a space.
@@ -96,20 +113,13 @@ fn push_refs(out: &mut Vec<u8>, refs: &[Given]) -> Result<(), AllocError>
     Ok(())
 }
 
+#[tactic(auto, unfolding(crate::specs::Replies::given_text))]
 fn push_spaced_given(out: &mut Vec<u8>, given: Given) -> Result<(), AllocError>
     ensures { OnOk result (out.new.items ≡ out.old.items ++ spaced_given given) }
 {
-    out.push(b' ')?;
-    push_given(out, given)
-}
-
-#[tactic(auto, unfolding(crate::specs::Replies::given_text))]
-fn push_given(out: &mut Vec<u8>, given: Given) -> Result<(), AllocError>
-    ensures { OnOk result (out.new.items ≡ out.old.items ++ given_text given) }
-{
     match given {
-        Given::Handle(n) => push_numbered(out, b"h", u64::from(n)),
-        Given::Own(n) => push_numbered(out, b"o", u64::from(n)),
-        Given::Null => out.extend_from_slice(b"null"),
+        Given::Handle(n) => push_numbered(out, b" h", u64::from(n)),
+        Given::Own(n) => push_numbered(out, b" o", u64::from(n)),
+        Given::Null => out.extend_from_slice(b" null"),
     }
 }

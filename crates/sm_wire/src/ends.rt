@@ -19,9 +19,10 @@ pub enum End {
     Never,
 }
 
-/// Returns where an item ends, of which `held` bytes have come before these.
-pub fn item_end(mode: FrameState, held: usize, bytes: &[u8]) -> End
-    ensures { EndsAs mode held bytes.now result }
+/// Returns where an item ends, of which `held` bytes have come before these. Inline, so that `mode` isn't copied.
+#[inline(always)]
+pub fn item_end(mode: &FrameState, held: usize, bytes: &[u8]) -> End
+    ensures { EndsAs mode.now held bytes.now result }
 {
     match mode {
         FrameState::Line => {
@@ -38,6 +39,8 @@ pub fn item_end(mode: FrameState, held: usize, bytes: &[u8]) -> End
 }
 
 // Returns where files of this length end.
+#[cold]
+#[inline(never)]
 fn texts_end(length: u64, held: usize, bytes: &[u8]) -> End
     ensures { TextsEndAs length held bytes.now result }
 {

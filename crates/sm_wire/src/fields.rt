@@ -1,10 +1,11 @@
 //! The fields of a line, one after another.
 
-ghost use Rattle.std.specs.Prelude.{◌≡◌, ◌≢◌, ◌<◌, ◌∷◌, [], ℕ, false, length, slice_index, MatchOption, MatchResult};
+ghost use Rattle.std.specs.Prelude.{◌≡◌, ◌≢◌, ◌<◌, ◌≤◌, ◌+◌, ◌^◌, ◌∷◌, [], true, false, length, take, IsTrue, IfSome};
+ghost use Rattle.std.specs.Prelude.{MatchOption, MatchResult};
 ghost use Rattle.sm_wire.specs.declared.read_error.ReadError.TheVariants.{Malformed};
 ghost use Rattle.sm_wire.specs.LineTable.{Field};
 ghost use Rattle.sm_wire.specs.Grammar.{has_fields};
-ghost use Rattle.sm_wire.specs.Fields.{fields_of};
+ghost use Rattle.sm_wire.specs.Fields.{fields_of, fields_left, first_is, is_spaceless, HasNoSpace, IsFirstSpace};
 
 use crate::read_error::ReadError;
 use std::marker::Model;
@@ -39,7 +40,7 @@ impl<'a> Fields<'a> {
         let Some(rest) = self.rest else {
             return Err(ReadError::Malformed);
         };
-        match rest.iter().position(|b| *b == b' ') {
+        match space_in(rest) {
             Some(i) => {
                 self.rest = Some(&rest[i + 1..]);
                 Ok(&rest[..i])
@@ -49,6 +50,40 @@ impl<'a> Fields<'a> {
                 Ok(rest)
             }
         }
+    }
+
+    /// Takes the next field if it is this word, which has no space. Otherwise nothing changes. The bytes are compared
+    /// without a look for the end of the field.
+    #[inline(always)]
+    pub fn takes(&mut self, word: &[u8]) -> bool
+        requires { IsTrue (is_spaceless word.now) }
+        ensures taken { result ≡ true → self.old ≡ word.now ∷ self.new }
+        ensures same { result ≡ false → self.new ≡ self.old }
+        ensures other { result ≡ false → first_is word.now self.old ≡ false }
+    {
+        let Some(bytes) = self.rest else {
+            return false;
+        };
+        if !begins_with(bytes, word) {
+            return false;
+        }
+        if bytes.len() == word.len() {
+            self.rest = None;
+            return true;
+        }
+        if bytes[word.len()] != b' ' {
+            return false;
+        }
+        self.rest = Some(&bytes[word.len() + 1..]);
+        true
+    }
+
+    /// Returns the bytes of the fields that are left, if any are.
+    #[inline(always)]
+    pub fn rest(&self) -> Option<&'a [u8]>
+        ensures { self.now ≡ fields_left result }
+    {
+        self.rest
     }
 
     /// Checks that no field follows.
@@ -61,4 +96,53 @@ impl<'a> Fields<'a> {
             None => Ok(()),
         }
     }
+}
+
+// Returns the index of the first space. Each pass of the first loop compares four bytes.
+#[inline(always)]
+fn space_in(bytes: &[u8]) -> Option<usize>
+    ensures small { IfSome result (λ i. i + 1 < 2 ^ 64) }
+    ensures place { MatchOption result (HasNoSpace (length bytes.now) bytes.now) (λ i. IsFirstSpace bytes.now i) }
+{
+    let mut i = 0;
+    while bytes.len() - i >= 4 {
+        if bytes[i] == b' ' {
+            return Some(i);
+        }
+        if bytes[i + 1] == b' ' {
+            return Some(i + 1);
+        }
+        if bytes[i + 2] == b' ' {
+            return Some(i + 2);
+        }
+        if bytes[i + 3] == b' ' {
+            return Some(i + 3);
+        }
+        i += 4;
+    }
+    while i < bytes.len() {
+        if bytes[i] == b' ' {
+            return Some(i);
+        }
+        i += 1;
+    }
+    None
+}
+
+// Returns whether the word is at the front. A loop, since a comparison of slices isn't inlined.
+#[inline(always)]
+fn begins_with(bytes: &[u8], word: &[u8]) -> bool
+    ensures same { result ≡ true → take (length word.now) bytes.now ≡ word.now }
+    ensures long { result ≡ true → length word.now ≤ length bytes.now }
+    ensures other { result ≡ false → take (length word.now) bytes.now ≢ word.now }
+{
+    if bytes.len() < word.len() {
+        return false;
+    }
+    for i in 0..word.len() {
+        if bytes[i] != word[i] {
+            return false;
+        }
+    }
+    true
 }

@@ -1,15 +1,17 @@
 //! Cuts bytes into items.
 
-ghost use Rattle.std.specs.Prelude.{◌≡◌, ◌≤◌, ◌+◌, ◌++◌, ◌∷◌, [], length, drop, IfOk, OnOk, OnErr};
-ghost use Rattle.sm_wire.specs.Items.{Makes, policy_item, scan_start, text_start, line_end, scan_after, items_after};
-ghost use Rattle.sm_wire.specs.Giving.{Keeps};
+ghost use Rattle.std.specs.Prelude.{◌≡◌, ◌≢◌, ◌≤◌, ◌+◌, ◌++◌, [], length, take, drop, IfOk, OnOk, OnErr};
+ghost use Rattle.sm_wire.specs.Items.{Makes, policy_item, text_start, line_end, scan_after, items_after};
+ghost use Rattle.sm_wire.specs.Giving.{Appended, Keeps};
+ghost use Rattle.sm_wire.specs.Grammar.{request_of};
 ghost use Rattle.sm_wire.specs.Ends.{IsWhole, whole_step, never_items};
+ghost use Rattle.sm_wire.specs.declared.frame_state.FrameState.TheVariants.{Line};
 
 use crate::ends::{End, item_end};
 use crate::fields::Fields;
 use crate::frame_state::FrameState;
 use crate::grammar::fields_request;
-use crate::item::Item;
+use crate::item::{Follows, Item};
 use crate::kind::Kind;
 use crate::read_error::ReadError;
 use crate::recent_names::RecentNames;
@@ -48,10 +50,10 @@ pub fn cut(
     let mut mode = mode;
     let mut start = 0;
     while start < bytes.len() {
-        match item_end(mode, 0, &bytes[start..]) {
+        match item_end(&mode, 0, &bytes[start..]) {
             End::At(n) => {
                 let item = &bytes[start..start + n];
-                mode = whole_item(kind, mode, item, recent, items)?;
+                whole_item(kind, &mut mode, item, recent, items)?;
                 start += n;
             }
             End::Later => return Ok(Remainder { mode, start }),
@@ -80,67 +82,104 @@ pub fn end_stream(mode: FrameState, items: &mut VecDeque<Item>) -> Result<(), Al
     }
 }
 
-/// Appends the item that is these bytes, and says what is read next.
+/// Appends the item that is these bytes, and sets what is read next. After an error nothing was appended.
+///
+/// Most items are lines with another line behind them. So the other items, and the ends of `reload` lines, are read by
+/// functions that aren't inlined, and `mode` is written only by these.
+#[inline(always)]
 #[tactic(auto, unfolding(crate::specs::Ends::whole_step))]
 pub fn whole_item(
     kind: Kind,
-    mode: FrameState,
+    mode: &mut FrameState,
     bytes: &[u8],
     recent: &mut RecentNames,
     items: &mut VecDeque<Item>,
-) -> Result<FrameState, AllocError>
-    requires { IsWhole mode bytes.now }
-    ensures item { IfOk result (λ m. Makes (whole_step kind mode bytes.now) kind m [] items.old.items items.new.items) }
+) -> Result<(), AllocError>
+    requires { IsWhole mode.old bytes.now }
+    ensures item { OnOk result
+        (Makes (whole_step kind mode.old bytes.now) kind mode.new [] items.old.items items.new.items) }
     ensures err { OnErr result (items.new.items ≡ items.old.items) }
 {
     match mode {
-        FrameState::Line => line(kind, &bytes[..bytes.len() - 1], recent, items),
-        FrameState::Texts(header) => texts(recent.alloc, kind, header, bytes, items),
-        FrameState::Dead => Ok(FrameState::Dead),
+        FrameState::Line => line(kind, mode, &bytes[..bytes.len() - 1], recent, items),
+        _ => texts(recent.alloc, kind, mode, bytes, items),
     }
 }
 
 // Reads the files after a `reload` line.
+#[cold]
 #[inline(never)]
+#[tactic(auto, unfolding(crate::specs::Ends::whole_step))]
 fn texts(
     alloc: Global,
     kind: Kind,
-    header: ReloadHeader,
+    mode: &mut FrameState,
     bytes: &[u8],
     items: &mut VecDeque<Item>,
-) -> Result<FrameState, AllocError>
-    requires { length bytes.now ≡ header.rules + header.contexts }
-    ensures item { IfOk result
-        (λ m. Makes (scan_start kind, policy_item header bytes.now ∷ []) kind m [] items.old.items items.new.items) }
+) -> Result<(), AllocError>
+    requires whole { IsWhole mode.old bytes.now }
+    requires no_line { mode.old ≢ Line }
+    ensures item { OnOk result
+        (Makes (whole_step kind mode.old bytes.now) kind mode.new [] items.old.items items.new.items) }
     ensures err { OnErr result (items.new.items ≡ items.old.items) }
 {
+    let FrameState::Texts(header) = *mode else {
+        return Ok(());
+    };
     let item = policy(alloc, header, bytes)?;
     items.push_back(item)?;
-    Ok(FrameState::Line)
+    *mode = FrameState::Line;
+    Ok(())
 }
 
 // Reads a line, without its newline.
-#[tactic(auto, unfolding(crate::specs::Items::line_end, crate::specs::Items::item_of, crate::specs::Grammar::header_of, crate::specs::Grammar::request_of))]
+#[inline(always)]
+#[tactic(auto, using(crate::proofs::GivingLemmas::appended_front), unfolding(crate::specs::Items::line_end, crate::specs::Items::item_of, crate::specs::Grammar::header_of, crate::specs::Grammar::request_of))]
 fn line(
     kind: Kind,
+    mode: &mut FrameState,
     line: &[u8],
     recent: &mut RecentNames,
     items: &mut VecDeque<Item>,
-) -> Result<FrameState, AllocError>
-    ensures item { IfOk result (λ m. Makes (line_end kind line.now) kind m [] items.old.items items.new.items) }
+) -> Result<(), AllocError>
+    requires { mode.old ≡ Line }
+    ensures item { OnOk result
+        (Makes (line_end kind line.now) kind mode.new [] items.old.items items.new.items) }
     ensures err { OnErr result (items.new.items ≡ items.old.items) }
 {
     items.reserve(1)?;
     let count = items.len();
     match fields_request(recent, kind, &mut Fields::new(line), items) {
-        Ok(()) => {}
+        Ok(Follows::Line) => Ok(()),
+        Ok(Follows::Files) => files_begin(recent.alloc, kind, line, count, mode, items),
         Err(ReadError::Malformed) => {
             items.reserve(1)?;
             items.push_back_reserved(Item::Malformed);
-            return Ok(FrameState::Line);
+            Ok(())
         }
-        Err(ReadError::Memory) => return Err(AllocError),
+        Err(ReadError::Memory) => Err(AllocError),
     }
+}
+
+// Handles the end of a line whose request may be a `reload`, which is the item behind the first `count`.
+#[cold]
+#[inline(never)]
+#[tactic(auto, unfolding(crate::specs::Items::line_end, crate::specs::Items::item_of, crate::specs::Grammar::header_of))]
+fn files_begin(
+    alloc: Global,
+    kind: Kind,
+    line: &[u8],
+    count: usize,
+    mode: &mut FrameState,
+    items: &mut VecDeque<Item>,
+) -> Result<(), AllocError>
+    requires line { mode.old ≡ Line }
+    requires count { count ≤ length items.old.items }
+    requires last { Appended (request_of kind line.now) (take count items.old.items) items.old.items }
+    ensures item { OnOk result
+        (Makes (line_end kind line.now) kind mode.new [] (take count items.old.items) items.new.items) }
+    ensures err { OnErr result (items.new.items ≡ take count items.old.items) }
+{
     let Some(
         Item::Asked(
             Request::Reload {
@@ -151,7 +190,7 @@ fn line(
         ),
     ) = items.get(count)
     else {
-        return Ok(FrameState::Line);
+        return Ok(());
     };
     let header = ReloadHeader {
         expected: *expected,
@@ -159,7 +198,7 @@ fn line(
         contexts: *contexts,
     };
     items.truncate(count);
-    texts_begin(recent.alloc, kind, header, items)
+    texts_begin(alloc, kind, header, mode, items)
 }
 
 // Handles the end of a `reload` line.
@@ -168,21 +207,26 @@ fn texts_begin(
     alloc: Global,
     kind: Kind,
     header: ReloadHeader,
+    mode: &mut FrameState,
     items: &mut VecDeque<Item>,
-) -> Result<FrameState, AllocError>
-    ensures item { IfOk result (λ m. Makes (text_start kind header) kind m [] items.old.items items.new.items) }
+) -> Result<(), AllocError>
+    requires { mode.old ≡ Line }
+    ensures item { OnOk result
+        (Makes (text_start kind header) kind mode.new [] items.old.items items.new.items) }
     ensures err { OnErr result (items.new.items ≡ items.old.items) }
 {
     if header.rules > TEXT_LIMIT || header.contexts > TEXT_LIMIT {
         items.push_back(Item::LineTooLong)?;
-        return Ok(FrameState::Dead);
+        *mode = FrameState::Dead;
+        return Ok(());
     }
     if header.length() > 0 {
-        return Ok(FrameState::Texts(header));
+        *mode = FrameState::Texts(header);
+        return Ok(());
     }
     let item = policy(alloc, header, b"")?;
     items.push_back(item)?;
-    Ok(FrameState::Line)
+    Ok(())
 }
 
 // Makes the item of a `reload` line and its files.

@@ -4,12 +4,12 @@ ghost use Rattle.std.specs.Prelude.{◌<◌, ◌∷◌};
 ghost use Rattle.std.specs.VecDeque.{deque_len, deque_capacity};
 ghost use Rattle.sm_wire.specs.Giving.{Gives};
 ghost use Rattle.sm_wire.specs.Reading.{ReadsAs};
-ghost use Rattle.sm_wire.specs.LineTable.{hello_line, explain_line, policy_lines};
+ghost use Rattle.sm_wire.specs.LineTable.{hello_line, explain_line, policy_lines, admin_lines, unnumbered_lines};
 ghost use Rattle.sm_wire.specs.Grammar.{line_of, lines_of, fields_request_of, request_of};
 
 use crate::client_requests::{client_request, version};
 use crate::fields::Fields;
-use crate::item::{Item, give};
+use crate::item::{Follows, Item, give};
 use crate::kind::Kind;
 use crate::numbers::{number, u32_field};
 use crate::read_error::ReadError;
@@ -41,43 +41,69 @@ pub fn request(alloc: Global, kind: Kind, line: &[u8]) -> Result<Request, ReadEr
 }
 
 /// Parses a line of this kind from its fields. The first field of a script's line may be a client's number.
-#[tactic(auto, unfolding(crate::specs::Grammar::fields_request_of, crate::specs::Grammar::script_fields_of, crate::specs::Grammar::lines_of, crate::specs::Grammar::parsed_by))]
+#[inline(always)]
+#[tactic(auto, using(crate::proofs::LineLemmas::client_lines_left), unfolding(crate::specs::Grammar::fields_request_of, crate::specs::Grammar::script_fields_of, crate::specs::Grammar::lines_of, crate::specs::Grammar::parsed_by))]
 pub fn fields_request(
     recent: &mut RecentNames,
     kind: Kind,
     fields: &mut Fields<'_>,
     items: &mut VecDeque<Item>,
-) -> Result<(), ReadError>
+) -> Result<Follows, ReadError>
     requires { deque_len items.old < deque_capacity items.old }
     ensures { Gives result items.old.items items.new.items (fields_request_of kind fields.old) }
 {
     match kind {
         Kind::Client => {
-            let word = fields.field()?;
-            if spells(word, b"hello") {
+            if fields.takes(b"hello") {
                 return hello(recent.alloc, fields, items);
             }
-            client_request(recent, None, word, fields, items)
+            client_request(recent, None, fields, items)
         }
-        Kind::Admin => {
-            let word = fields.field()?;
-            if spells(word, b"version") {
-                return version(None, fields, items);
-            }
-            policy_request(recent.alloc, word, fields, items)
-        }
+        Kind::Admin => admin_request(recent.alloc, fields, items),
         Kind::Script => {
             let word = fields.field()?;
             let Some(n) = number(word, 0xffff_ffff) else {
-                if spells(word, b"hello") {
-                    return hello(recent.alloc, fields, items);
-                }
-                return policy_request(recent.alloc, word, fields, items);
+                return unnumbered_request(recent.alloc, word, fields, items);
             };
-            let word = fields.field()?;
-            client_request(recent, Some(ClientId(n as u32)), word, fields, items)
+            client_request(recent, Some(ClientId(n as u32)), fields, items)
         }
     }
+}
+
+// Parses an administrator's line.
+#[inline(never)]
+#[tactic(auto, unfolding(crate::specs::Grammar::lines_of, crate::specs::Grammar::parsed_by))]
+fn admin_request(
+    alloc: Global,
+    fields: &mut Fields<'_>,
+    items: &mut VecDeque<Item>,
+) -> Result<Follows, ReadError>
+    requires { deque_len items.old < deque_capacity items.old }
+    ensures { Gives result items.old.items items.new.items (lines_of admin_lines fields.old) }
+{
+    let word = fields.field()?;
+    if spells(word, b"version") {
+        return version(None, fields, items);
+    }
+    policy_request(alloc, word, fields, items)
+}
+
+// Parses a script's line without a client's number.
+#[inline(never)]
+#[tactic(auto, unfolding(crate::specs::Grammar::lines_of, crate::specs::Grammar::parsed_by))]
+fn unnumbered_request(
+    alloc: Global,
+    word: &[u8],
+    fields: &mut Fields<'_>,
+    items: &mut VecDeque<Item>,
+) -> Result<Follows, ReadError>
+    requires { deque_len items.old < deque_capacity items.old }
+    ensures { Gives result items.old.items items.new.items (lines_of unnumbered_lines (word.now ∷ fields.old)) }
+{
+    if spells(word, b"hello") {
+        return hello(alloc, fields, items);
+    }
+    policy_request(alloc, word, fields, items)
 }
 
 // Parses an administrator's line that a script has, too.
@@ -88,14 +114,16 @@ fn policy_request(
     word: &[u8],
     fields: &mut Fields<'_>,
     items: &mut VecDeque<Item>,
-) -> Result<(), ReadError>
+) -> Result<Follows, ReadError>
     requires { deque_len items.old < deque_capacity items.old }
     ensures { Gives result items.old.items items.new.items (lines_of policy_lines (word.now ∷ fields.old)) }
 {
     if spells(word, b"reload") {
-        give(items, reload(fields)?)
+        let request = reload(fields)?;
+        items.push_back_reserved(Item::Asked(request));
+        Ok(Follows::Files)
     } else if spells(word, b"explain") {
-        give(items, explain(alloc, fields)?)
+        explain(alloc, fields, items)
     } else if spells(word, b"denials") {
         fields.end()?;
         give(items, Request::Denials)
@@ -114,7 +142,7 @@ fn hello(
     alloc: Global,
     fields: &mut Fields<'_>,
     items: &mut VecDeque<Item>,
-) -> Result<(), ReadError>
+) -> Result<Follows, ReadError>
     requires { deque_len items.old < deque_capacity items.old }
     ensures { Gives result items.old.items items.new.items (line_of hello_line fields.old) }
 {
@@ -131,8 +159,13 @@ fn hello(
 // Parses `explain SOURCE TARGET CLASS PERM`.
 #[inline(never)]
 #[tactic(auto, unfolding(crate::specs::Grammar::parsed_by))]
-fn explain(alloc: Global, fields: &mut Fields<'_>) -> Result<Request, ReadError>
-    ensures { ReadsAs result (line_of explain_line fields.old) }
+fn explain(
+    alloc: Global,
+    fields: &mut Fields<'_>,
+    items: &mut VecDeque<Item>,
+) -> Result<Follows, ReadError>
+    requires { deque_len items.old < deque_capacity items.old }
+    ensures { Gives result items.old.items items.new.items (line_of explain_line fields.old) }
 {
     let source = fields.field()?;
     let target = fields.field()?;
@@ -145,5 +178,5 @@ fn explain(alloc: Global, fields: &mut Fields<'_>) -> Result<Request, ReadError>
         class: class_field(class)?,
         perm: perm_field(perm)?,
     };
-    Ok(Request::Look(None, query))
+    give(items, Request::Look(None, query))
 }

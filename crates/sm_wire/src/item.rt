@@ -1,8 +1,9 @@
 //! Items of a stream of request lines.
 
-ghost use Rattle.std.specs.Prelude.{◌<◌, Some};
+ghost use Rattle.std.specs.Prelude.{◌≡◌, ◌<◌, Some, None};
 ghost use Rattle.std.specs.VecDeque.{deque_len, deque_capacity};
 ghost use Rattle.sm_wire.specs.Giving.{Gives};
+ghost use Rattle.sm_wire.specs.Grammar.{header_by};
 
 use crate::read_error::ReadError;
 use crate::request::Request;
@@ -23,11 +24,23 @@ pub enum Item {
     LineTooLong,
 }
 
-/// Appends the item of a request, for which there is room.
-pub fn give(items: &mut VecDeque<Item>, request: Request) -> Result<(), ReadError>
-    requires { deque_len items.old < deque_capacity items.old }
+/// What may follow a line.
+#[derive(Clone, Copy)]
+pub enum Follows {
+    /// Another line.
+    Line,
+    /// The files that the line announces, if it is a `reload` line.
+    Files,
+}
+
+/// Appends the item of a request, which announces no files, and for which there is room. Inline, so that the request is
+/// made where it lies.
+#[inline(always)]
+pub fn give(items: &mut VecDeque<Item>, request: Request) -> Result<Follows, ReadError>
+    requires no_files { header_by (Some request) ≡ None }
+    requires room { deque_len items.old < deque_capacity items.old }
     ensures { Gives result items.old.items items.new.items (Some request) }
 {
     items.push_back_reserved(Item::Asked(request));
-    Ok(())
+    Ok(Follows::Line)
 }

@@ -3,6 +3,7 @@
 #![tactic(auto)]
 
 mod client_requests;
+mod decimals;
 mod deliveries;
 mod denials;
 mod ends;

@@ -132,7 +132,7 @@ impl LineReader {
             self.mode = mode;
             return Ok(());
         }
-        match item_end(self.mode, self.held.len(), piece) {
+        match item_end(&self.mode, self.held.len(), piece) {
             End::At(n) => self.take_end(piece, n, items),
             End::Later => {
                 self.held.extend_from_slice(piece)?;
@@ -165,7 +165,8 @@ impl LineReader {
         let held = self.held.len();
         self.held.extend_from_slice(&piece[..n])?;
         let recent = &mut self.recent;
-        let mode = whole_item(self.kind, self.mode, &self.held, recent, items)?;
+        let mut mode = self.mode;
+        whole_item(self.kind, &mut mode, &self.held, recent, items)?;
         let Remainder { mode, start } = cut(self.kind, mode, &piece[n..], recent, items)?;
         self.held.extend_from_slice(&piece[n + start..])?;
         drop_front(&mut self.held, held + n);

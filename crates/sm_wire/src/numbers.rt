@@ -7,15 +7,17 @@ ghost use Rattle.sm_wire.specs.Reading.{ReadsAs};
 
 use crate::read_error::ReadError;
 
-/// Returns the number that the bytes spell, if it is at most `max`.
+/// Returns the number that the bytes spell, if it is at most `max`. Short numbers need no loop.
+#[inline]
 pub fn number(bytes: &[u8], max: u64) -> Option<u64>
     ensures value { result ≡ parsed_number max bytes.now }
     ensures bound { IfSome result (λ n. n ≤ max) }
 {
     match bytes {
         [] => None,
-        [b'0'] => Some(0),
+        [digit] => grown(0, *digit, max),
         [b'0', ..] => None,
+        [first, second] => grown(grown(0, *first, max)?, *second, max),
         _ => digits(bytes, max),
     }
 }

@@ -1,10 +1,12 @@
 //! A cache of recently read names, so that a repeated name needs no allocation.
 
-ghost use Rattle.std.specs.Prelude.{◌≡◌, IfSome, IsTrue};
+ghost use Rattle.std.specs.Prelude.{◌≡◌, ◌∷◌, [], true, Some, IfSome, IsTrue};
 ghost use Rattle.std.specs.List.{list_all};
 ghost use Rattle.sm_kinds.specs.Contexts.{is_graphic};
 ghost use Rattle.sm_wire.specs.Reading.{ReadsAs};
-ghost use Rattle.sm_wire.specs.Values.{plain_name_of};
+ghost use Rattle.sm_wire.specs.Values.{name_of, plain_name_of};
+ghost use Rattle.sm_wire.specs.Fields.{fields_of};
+ghost use Rattle.sm_wire.specs.Names.{HasEnds};
 
 use crate::read_error::ReadError;
 use sm_kinds::{MOST_NAME_BYTES, Name, all_graphic, drop_fields, spells};
@@ -85,19 +87,34 @@ impl RecentNames {
         Ok(name)
     }
 
+    /// Returns the kept name that these bytes spell. They are then a field of their own.
+    #[inline(always)]
+    #[tactic(auto, using(crate::proofs::FieldLemmas::graphic_field), unfolding(crate::specs::Values::name_of, crate::specs::Values::plain_name_of))]
+    pub fn kept(&self, bytes: &[u8]) -> Option<&Name>
+        ensures field { IfSome result (λ _. fields_of bytes.now ≡ bytes.now ∷ []) }
+        ensures name { IfSome result (λ n. name_of bytes.now ≡ Some n.now) }
+    {
+        match bytes {
+            [] => None,
+            [b'%', ..] => None,
+            [_, ..] => self.find(bytes),
+        }
+    }
+
     // Returns the kept name of these bytes.
+    #[inline(always)]
     fn find(&self, bytes: &[u8]) -> Option<&Name>
         ensures spelled { IfSome result (λ n. n.now ≡ bytes.now) }
         ensures graphic { IfSome result (λ n. IsTrue (list_all is_graphic bytes.now)) }
     {
         let place = self.places.get(slot_of(bytes))?;
         if let Some(kept) = &place.last {
-            if spells(kept.name.bytes(), bytes) {
+            if are_same(kept.name.bytes(), bytes) {
                 return Some(&kept.name);
             }
         }
         if let Some(kept) = &place.before {
-            if spells(kept.name.bytes(), bytes) {
+            if are_same(kept.name.bytes(), bytes) {
                 return Some(&kept.name);
             }
         }
@@ -153,4 +170,39 @@ fn short_number(bytes: &[u8]) -> u64 {
         number = number.wrapping_mul(256).wrapping_add(u64::from(*byte));
     }
     number
+}
+
+// Returns whether two names are the same. Those of 8 to 16 bytes are compared by their first and their last eight.
+#[inline(always)]
+fn are_same(a: &[u8], b: &[u8]) -> bool
+    ensures { result ≡ true → a.now ≡ b.now }
+{
+    if a.len() == b.len() && a.len() <= 16 {
+        if let Some(x) = ends_of(a) {
+            if let Some(y) = ends_of(b) {
+                return x.first == y.first && x.last == y.last;
+            }
+        }
+    }
+    spells(a, b)
+}
+
+// The first and the last eight bytes of a name, as numbers.
+#[derive(Clone, Copy)]
+struct Ends {
+    first: u64,
+    last: u64,
+}
+
+// Returns the first and the last eight bytes, if there are as many.
+#[inline(always)]
+fn ends_of(bytes: &[u8]) -> Option<Ends>
+    ensures { IfSome result (λ e. HasEnds bytes.now e.first e.last) }
+{
+    let first = bytes.first_chunk::<8>()?;
+    let last = bytes.last_chunk::<8>()?;
+    Some(Ends {
+        first: u64::from_le_bytes(*first),
+        last: u64::from_le_bytes(*last),
+    })
 }
