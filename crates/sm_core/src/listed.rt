@@ -2,7 +2,6 @@
 
 ghost use Rattle.std.specs.Prelude.{◌≡◌, ◌≤◌, ◌+◌, ◌∷◌, ℕ, length, IfOk, OnOk};
 ghost use Rattle.std.specs.List.{list_any};
-ghost use Rattle.std.specs.Vec.{vec_capacity};
 ghost use Rattle.sm_history.specs.Effects.{Effects};
 ghost use Rattle.sm_history.specs.Following.{MayFollowApart, MayAllApart, followed};
 ghost use Rattle.sm_history.specs.Sound.{Sound};
@@ -41,12 +40,12 @@ pub fn services_after(
 
 /// Applies one effect.
 fn follow(services: &mut Services, effect: &Effect) -> Result<(), AllocError>
-    requires { length services.old.rows.items + 1 ≤ vec_capacity services.old.rows }
+    requires { length services.old.rows.items + 1 ≤ services.old.rows.capacity }
     ensures tracks { OnOk result
         ((d : Effects) → Sound d → MayFollowApart d effect.now → TracksRows d services.old.rows.items
         → TracksRows (effect.now ∷ d) services.new.rows.items) }
-    ensures left { (n : ℕ) → length services.old.rows.items + (n + 1) ≤ vec_capacity services.old.rows
-        → length services.new.rows.items + n ≤ vec_capacity services.new.rows }
+    ensures left { (n : ℕ) → length services.old.rows.items + (n + 1) ≤ services.old.rows.capacity
+        → length services.new.rows.items + n ≤ services.new.rows.capacity }
 {
     match effect {
         Effect::Adds { name, service } => {

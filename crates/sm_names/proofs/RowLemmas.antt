@@ -1,7 +1,10 @@
 -- Names whose service shares a bit with a mask.
-use Rattle.std.proofs.Common.{◌≡◌, ℕ, true, false, List, [], ◌∷◌, refl, ap, ◌∙◌, Option, Some, None, if◌then◌else◌}
+use Rattle.std.proofs.Common.{◌≡◌, ℕ, true, false, List, [], ◌∷◌, ◌++◌, refl, ap, ◌∙◌, Option, Some, None}
+use Rattle.std.proofs.Common.{if◌then◌else◌}
 use Rattle.std.specs.Prelude.{filter, filter_map, option_map, map}
 use Rattle.std.specs.List.{cons_option}
+use Rattle.std.proofs.lemmas.List.{map-append}
+use Rattle.std.proofs.lemmas.List.Elements.{filter-append}
 use Rattle.sm_history.specs.declared.service.Service.{Service}
 use Rattle.sm_history.specs.declared.replay.named_row.NamedRow.{NamedRow}
 use Rattle.sm_history.specs.Queries.{shares_bit}
@@ -11,6 +14,10 @@ use Rattle.sm_history.specs.Tables.{row_in, service_of, names_of}
 use Rattle.sm_history.specs.Verdict.{service_meets}
 use Rattle.sm_history.proofs.NamedRows.{rows_found}
 use Rattle.sm_names.specs.Rows.{matching_names}
+
+pub matching_append : (mask : ℕ) (rows more : List NamedRow)
+    → matching_names mask (rows ++ more) ≡ matching_names mask rows ++ matching_names mask more
+matching_append mask rows more = rw (filter-append, map-append) refl
 
 -- One name more, with the service that it has, if any.
 one_more : (mask : ℕ) (n : List ℕ) (o : Option Service) (rows : List NamedRow) (ns : List (List ℕ))

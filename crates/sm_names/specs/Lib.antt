@@ -1,4 +1,5 @@
 pub mod Rows
+pub mod Orders
 pub mod Watching
 pub mod Tracking
 pub mod Words

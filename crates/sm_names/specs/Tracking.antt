@@ -15,7 +15,7 @@ pub record TracksNames (d : Effects) (t : NameTable) : Type 0 where
 
 -- n more names and watches need no allocation.
 pub record HasRoom (n : ℕ) (t : NameTable) : Type 0 where
-  pub services : length t.services.rows.items + n ≤ vec_capacity t.services.rows
+  pub services : length t.services.rows.items + n ≤ t.services.rows.capacity
   pub watches : length t.watches.list.items + n ≤ vec_capacity t.watches.list
   pub order : length t.order.items + n ≤ vec_capacity t.order
 

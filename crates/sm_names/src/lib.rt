@@ -6,7 +6,9 @@
 #![tactic(auto)]
 
 mod hints;
+mod named_rows;
 mod names;
+mod ordered;
 mod services;
 mod watch_list;
 mod watch_order;

@@ -1,22 +1,22 @@
 //! Services under their names.
 
 ghost use Rattle.std.specs.Prelude.{◌≡◌, ◌≤◌, ◌<◌, ◌+◌, true, [], ◌∷◌, length, nat_lt, IfOk, OnOk};
-ghost use Rattle.std.specs.Vec.{vec_capacity};
 ghost use Rattle.sm_history.specs.declared.effect.Effect.TheVariants.{Adds, Removes, Dies};
 ghost use Rattle.sm_history.specs.Effects.{Effects};
 ghost use Rattle.sm_history.specs.Clients.{is_live};
 ghost use Rattle.sm_history.specs.Services.{service_at, current_names};
 ghost use Rattle.sm_history.specs.Queries.{names_by_mask};
-ghost use Rattle.sm_names.specs.Rows.{TracksRows, matching_names};
+ghost use Rattle.sm_names.specs.Rows.{TracksRows};
 
 use crate::hints::Hints;
+use crate::named_rows::NamedRows;
 use sm_history::{NameList, NamedRow, Service};
 use sm_kinds::Name;
 use std::alloc::{AllocError, Global};
 
 /// The names that have a service, in rising byte order.
 pub struct Services {
-    rows: Vec<NamedRow>,
+    rows: NamedRows,
     /// Where rows may be found without a search.
     hints: Hints,
 }
@@ -27,39 +27,13 @@ impl Drop for Services {
     }
 }
 
-/// Copies rows; their names are shared. Returns an error if an allocation fails.
-fn copies_of(alloc: Global, rows: &[NamedRow]) -> Result<Vec<NamedRow>, AllocError>
-    ensures { IfOk result (λ v. v.items ≡ rows.now) }
-{
-    let mut copies = Vec::with_capacity(alloc, rows.len())?;
-    for row in rows {
-        let name = row.name.clone()?;
-        let service = row.service;
-        copies.push(NamedRow { name, service })?;
-    }
-    Ok(copies)
-}
-
-/// Returns the names whose dump flags share a bit with a mask.
-fn matching(alloc: Global, rows: &[NamedRow], mask: u32) -> Result<NameList, AllocError>
-    ensures { IfOk result (λ names. names ≡ matching_names mask rows.now) }
-{
-    let mut names = NameList::with_capacity(alloc, rows.len())?;
-    for row in rows {
-        if row.service.dump & mask != 0 {
-            names.push(row.name.bytes())?;
-        }
-    }
-    Ok(names)
-}
-
 impl Services {
     /// Makes an empty table.
     pub fn new(alloc: Global) -> Services
         ensures { TracksRows [] result.rows.items }
     {
         Services {
-            rows: Vec::new(alloc),
+            rows: NamedRows::new(alloc),
             hints: Hints::new(alloc),
         }
     }
@@ -67,10 +41,9 @@ impl Services {
     /// Copies the services, with room for `n` more names. The names are shared.
     pub fn copy(&self, alloc: Global, n: usize) -> Result<Services, AllocError>
         ensures { IfOk result (λ s. (s.rows.items ≡ self.now.rows.items)
-            × (length self.now.rows.items + n ≤ vec_capacity s.rows)) }
+            × (length self.now.rows.items + n ≤ s.rows.capacity)) }
     {
-        let mut rows = copies_of(alloc, &self.rows)?;
-        rows.reserve(n)?;
+        let rows = self.rows.copy(alloc, n)?;
         Ok(Services {
             rows,
             hints: Hints::new(alloc),
@@ -81,24 +54,24 @@ impl Services {
     pub fn listed(&self, alloc: Global) -> Result<Vec<NamedRow>, AllocError>
         ensures { IfOk result (λ v. (d : Effects) → TracksRows d self.now.rows.items → TracksRows d v.items) }
     {
-        copies_of(alloc, &self.rows)
+        self.rows.listed(alloc)
     }
 
     /// Makes room for `n` more names.
     pub fn reserve(&mut self, n: usize) -> Result<(), AllocError>
         ensures same { self.new.rows.items ≡ self.old.rows.items }
-        ensures room { OnOk result (length self.new.rows.items + n ≤ vec_capacity self.new.rows) }
-        ensures kept { vec_capacity self.old.rows ≤ vec_capacity self.new.rows }
+        ensures room { OnOk result (length self.new.rows.items + n ≤ self.new.rows.capacity) }
+        ensures kept { self.old.rows.capacity ≤ self.new.rows.capacity }
     {
-        self.hints.reserve(&self.rows);
+        self.hints.reserve(self.rows.rows());
         self.rows.reserve(n)
     }
 
     /// Returns whether one more name allocates nothing.
     pub fn is_ready(&self) -> bool
-        ensures { result ≡ nat_lt (length self.now.rows.items) (vec_capacity self.now.rows) }
+        ensures { result ≡ nat_lt (length self.now.rows.items) self.now.rows.capacity }
     {
-        self.rows.len() < self.rows.capacity()
+        self.rows.is_ready()
     }
 
     /// Returns the number of names that have a service.
@@ -114,9 +87,12 @@ impl Services {
         ensures { (d : Effects) → TracksRows d self.now.rows.items
             → result ≡ service_at d name.now }
     {
-        let slot = self.hints.slot_of(name);
-        match self.hints.search(slot, &self.rows, name) {
-            Ok(i) => Some(self.rows[i].service),
+        let hint = self.hints.get(self.hints.slot_of(name));
+        if let Some(service) = self.rows.guess(hint, name) {
+            return Some(service);
+        }
+        match self.rows.search(name) {
+            Ok(position) => Some(self.rows.service_at(position)),
             Err(_) => None,
         }
     }
@@ -126,31 +102,31 @@ impl Services {
         ensures { IfOk result (λ names. (d : Effects) → TracksRows d self.now.rows.items
             → names ≡ names_by_mask d mask) }
     {
-        matching(alloc, &self.rows, mask)
+        self.rows.by_mask(alloc, mask)
     }
 
     /// Puts a service under a name, replacing any earlier one. Allocates nothing.
     pub fn put(&mut self, name: Name, service: Service)
-        requires { length self.old.rows.items < vec_capacity self.old.rows }
+        requires { length self.old.rows.items < self.old.rows.capacity }
         ensures tracks { (d : Effects) → TracksRows d self.old.rows.items
             → is_live d service.node.owner.0 ≡ true
             → TracksRows (Adds name service ∷ d) self.new.rows.items }
-        ensures kept { (vec_capacity self.new.rows ≡ vec_capacity self.old.rows)
+        ensures kept { (self.new.rows.capacity ≡ self.old.rows.capacity)
             × (length self.new.rows.items ≤ length self.old.rows.items + 1) }
     {
         let slot = self.hints.slot_of(name.bytes());
-        match self.hints.search(slot, &self.rows, name.bytes()) {
-            Ok(i) => {
-                self.hints.set(slot, i);
-                self.rows[i].service = service;
+        let hint = self.hints.get(slot);
+        if self.rows.put_guess(hint, name.bytes(), service) {
+            return;
+        }
+        match self.rows.search(name.bytes()) {
+            Ok(position) => {
+                self.hints.set(slot, self.rows.index_at(position));
+                self.rows.set(position, service);
             }
-            Err(i) => {
-                self.hints.inserted(slot, i);
-                let row = NamedRow { name, service };
-                match self.rows.insert(i, row) {
-                    Ok(()) => {}
-                    Err(_) => unreachable!(),
-                }
+            Err(position) => {
+                self.hints.set(slot, self.rows.len());
+                self.rows.insert(position, NamedRow { name, service });
             }
         }
     }
@@ -159,13 +135,12 @@ impl Services {
     pub fn remove(&mut self, name: &[u8])
         ensures tracks { (d : Effects) → TracksRows d self.old.rows.items
             → TracksRows (Removes name.now ∷ d) self.new.rows.items }
-        ensures kept { (vec_capacity self.new.rows ≡ vec_capacity self.old.rows)
+        ensures kept { (self.new.rows.capacity ≡ self.old.rows.capacity)
             × (length self.new.rows.items ≤ length self.old.rows.items) }
     {
-        let slot = self.hints.slot_of(name);
-        if let Ok(i) = self.hints.search(slot, &self.rows, name) {
-            self.hints.removed(i);
-            let _ = self.rows.remove(i);
+        if let Ok(position) = self.rows.search(name) {
+            let i = self.rows.remove(position);
+            self.hints.moved(self.rows.rows(), i);
         }
     }
 
@@ -173,11 +148,9 @@ impl Services {
     pub fn remove_client(&mut self, client: u32)
         ensures tracks { (d : Effects) → TracksRows d self.old.rows.items
             → TracksRows (Dies client ∷ d) self.new.rows.items }
-        ensures kept { (vec_capacity self.new.rows ≡ vec_capacity self.old.rows)
+        ensures kept { (self.new.rows.capacity ≡ self.old.rows.capacity)
             × (length self.new.rows.items ≤ length self.old.rows.items) }
     {
-        let count = self.rows.len();
-        self.rows.retain(|row| client != row.service.node.owner.0);
-        self.hints.kept(&self.rows, count);
+        self.rows.remove_client(client, &mut self.hints);
     }
 }

@@ -6,8 +6,7 @@ use Rattle.sm_names.proofs.services.Services.len.Goals as goal
 
 pub returns : goal.returns
 returns c d tr =
-    let rows = c.args.self.now.rows in
+    let rows = c.args.self.now.rows.items in
     c.len.ensures
-    ∙ rows.ok.0
-    ∙ sym (length-map rows.items (λ (r : NamedRow). r.name))
-    ∙ ap (length {A = List ℕ}) (names_are d rows.items tr)
+    ∙ sym (length-map rows (λ (r : NamedRow). r.name))
+    ∙ ap (length {A = List ℕ}) (names_are d rows tr)
