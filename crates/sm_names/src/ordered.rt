@@ -31,7 +31,7 @@ fn row_of(rows: &[NamedRow], i: usize) -> &NamedRow
     &rows[i]
 }
 
-/// Returns whether there is a row with an index and this name; it may be that nothing is found out.
+/// Returns true only if there is a row with this index and this name.
 #[inline(always)]
 pub fn has_name(rows: &[NamedRow], i: usize, name: &[u8]) -> bool
     ensures { IsTrue result → (i < length rows.now) × ((row_at rows.now i).name ≡ name.now) }

@@ -34,7 +34,7 @@ pub enum Follows {
 }
 
 /// Appends the item of a request, which announces no files, and for which there is room. Inline, so that the request is
-/// made where it lies.
+/// built in the queue.
 #[inline(always)]
 pub fn give(items: &mut VecDeque<Item>, request: Request) -> Result<Follows, ReadError>
     requires no_files { header_by (Some request) ≡ None }
