@@ -1,9 +1,11 @@
 -- Changes with one small effect.
-use Rattle.std.specs.Prelude.{◌≤◌, Bool, true, false, List, [], ◌∷◌, None}
+use Rattle.std.specs.Prelude.{ℕ, ◌≤◌, Bool, true, false, List, [], ◌∷◌, None}
 use Rattle.sm_history.specs.Effects.{Effects}
 use Rattle.sm_history.specs.Histories.{call_delivery, found}
 use Rattle.sm_history.specs.Inboxes.{inbox_at}
 use Rattle.sm_history.specs.Verdict.{taken}
+use Rattle.sm_history.specs.declared.by.By.{By}
+use Rattle.sm_history.specs.declared.entry.Entry.{Entry}
 use Rattle.sm_history.specs.declared.effect.Effect.{Effect}
 use Rattle.sm_history.specs.declared.effect.Effect.TheVariants.{Gives, Releases, Takes}
 use Rattle.sm_history.specs.declared.event.Event.{Event}
@@ -43,6 +45,10 @@ plan_by d change = record {
   effects = effect_by change ∷ [];
   records = [];
 }
+
+-- This is the entry of its event.
+abbrev pub small_entry : Effects → By → ℕ → Event → SmallChange → Entry
+small_entry d by turn event change = record { by = by; turn = turn; event = event; outcome = outcome_by d change }
 
 -- A change can be made without an allocation.
 abbrev pub HasSmallRoom : SmallChange → State → Type 0

@@ -1,6 +1,6 @@
 //! The effects of a change.
 
-ghost use Rattle.std.specs.Prelude.{◌≡◌};
+ghost use Rattle.std.specs.Prelude.{◌≡◌, ◌∷◌, []};
 ghost use Rattle.sm_core.specs.EffectLists.{stored_effects};
 
 use sm_history::Effect;
@@ -33,6 +33,15 @@ impl Model for EffectList {
 }
 
 impl EffectList {
+    /// Makes a list of one effect.
+    pub fn one(effect: Effect) -> EffectList
+        ensures { result ≡ effect ∷ [] }
+    {
+        EffectList {
+            stored: StoredEffects::One(effect),
+        }
+    }
+
     /// Makes a list of these effects.
     pub fn many(effects: Vec<Effect>) -> EffectList
         ensures { result ≡ effects.items }

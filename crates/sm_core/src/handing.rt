@@ -1,6 +1,6 @@
 //! Table calls for judged events, which have made sure that the table can take them.
 
-ghost use Rattle.std.specs.Prelude.{◌≡◌, ◌≤◌, ◌<◌, ◌+◌, ℕ, true, nat_lt, ◌∷◌, length};
+ghost use Rattle.std.specs.Prelude.{◌≡◌, ◌≤◌, ◌<◌, ◌+◌, ℕ, true, nat_lt, [], ◌∷◌, drop, length, MatchOption};
 ghost use Rattle.sm_history.specs.Effects.{Effects};
 ghost use Rattle.sm_history.specs.declared.effect.Effect.TheVariants.{Releases, Delivers, Takes, Watches};
 ghost use Rattle.sm_history.specs.declared.limits.TheConstants.{MOST_WATCHES};
@@ -41,13 +41,15 @@ pub fn deliver(inboxes: &mut Inboxes, client: u32, delivery: Shared<Delivery>)
     }
 }
 
-/// Takes the oldest delivery.
-pub fn take_oldest(inboxes: &mut Inboxes, client: u32)
+/// Takes the oldest delivery, if there is any.
+pub fn take_oldest(inboxes: &mut Inboxes, client: u32) -> Option<Shared<Delivery>>
+    ensures taken { (d : Effects) → TracksInboxes d inboxes.old → MatchOption result (inbox_at d client ≡ [])
+        (λ x. inbox_at d client ≡ x ∷ drop 1 (inbox_at d client)) }
     ensures tracks { (d : Effects) → TracksInboxes d inboxes.old → nat_lt 0 (length (inbox_at d client)) ≡ true
         → TracksInboxes (Takes client ∷ d) inboxes.new }
     ensures still { (k : ℕ) → is_open inboxes.new k ≡ is_open inboxes.old k }
 {
-    let _ = inboxes.take(client);
+    inboxes.take(client)
 }
 
 /// Adds a watch of a name.

@@ -1,9 +1,9 @@
 //! Changes with one small effect.
 
 ghost use Rattle.std.specs.Prelude.{◌≡◌};
-ghost use Rattle.sm_core.specs.SmallChanges.{effect_by};
+ghost use Rattle.sm_core.specs.SmallChanges.{effect_by, is_small};
 
-use sm_history::Effect;
+use sm_history::{Effect, Event};
 use sm_kinds::Node;
 
 /// What a Get, a Release or a Take changes: its only effect, which owns no memory. It is copied where a `Plan` would be
@@ -46,5 +46,18 @@ impl SmallChange {
             SmallChange::Release { client, node } => Effect::Releases { client, node },
             SmallChange::Take { client } => Effect::Takes { client },
         }
+    }
+}
+
+/// Returns whether an event has a small change.
+#[inline(always)]
+pub fn has_small_change(event: &Event) -> bool
+    ensures { result ≡ is_small event.now }
+{
+    match event {
+        Event::Get { .. } => true,
+        Event::Release { .. } => true,
+        Event::Take => true,
+        _ => false,
     }
 }

@@ -8,7 +8,7 @@ ghost use Rattle.sm_core.specs.Judging as spec;
 ghost use Rattle.sm_core.specs.Managed.{effects_in};
 ghost use Rattle.sm_core.specs.SmallChanges.{effect_by, outcome_by, plan_by};
 
-use crate::effect_list::{EffectList, StoredEffects};
+use crate::effect_list::EffectList;
 use crate::manager::Manager;
 use crate::notes::Notes;
 use crate::plan::Plan;
@@ -18,50 +18,44 @@ use sm_history::Outcome;
 use std::alloc::AllocError;
 
 impl Manager {
-    /// Returns the outcome of a small change that may be made, once for the journal and once for the reply.
+    /// Returns the outcome of a small change that may be made.
     #[inline(always)]
-    pub fn small_outcomes(&self, change: SmallChange) -> Result<(Outcome, Outcome), AllocError>
+    pub fn small_outcome(&self, change: SmallChange) -> Result<Outcome, AllocError>
         requires { MayFollowApart (effects_in self.now) (effect_by change) }
-        ensures { IfOk result (λ o. (o.0 ≡ outcome_by (effects_in self.now) change)
-            × (o.1 ≡ outcome_by (effects_in self.now) change)) }
+        ensures { IfOk result (λ o. o ≡ outcome_by (effects_in self.now) change) }
     {
         match change {
-            SmallChange::Grant { number, .. } => {
-                Ok((Outcome::Granted(number), Outcome::Granted(number)))
-            }
-            SmallChange::Release { .. } => Ok((Outcome::Released, Outcome::Released)),
+            SmallChange::Grant { number, .. } => Ok(Outcome::Granted(number)),
+            SmallChange::Release { .. } => Ok(Outcome::Released),
             SmallChange::Take { client } => self.taken(client),
         }
     }
 
-    /// Returns the outcome of a take from a client's inbox, which has a delivery, twice.
-    #[inline(never)]
-    fn taken(&self, client: u32) -> Result<(Outcome, Outcome), AllocError>
+    /// Returns the outcome of a take from a client's inbox, which has a delivery.
+    #[inline(always)]
+    fn taken(&self, client: u32) -> Result<Outcome, AllocError>
         requires { MayFollowApart (effects_in self.now) (Takes client) }
-        ensures { IfOk result (λ o. (o.0 ≡ outcome_by (effects_in self.now) (Take client))
-            × (o.1 ≡ outcome_by (effects_in self.now) (Take client))) }
+        ensures { IfOk result (λ o. o ≡ outcome_by (effects_in self.now) (Take client)) }
     {
         let Some(oldest) = self.oldest(client) else {
             unreachable!();
         };
-        let outcome = Outcome::Taken(oldest.clone()?);
-        let reply_outcome = Outcome::Taken(oldest.clone()?);
-        Ok((outcome, reply_outcome))
+        Ok(Outcome::Taken(oldest.clone()?))
     }
 
     /// Returns the plan of a small change that may be made.
+    #[inline(always)]
     pub fn small_plan(&self, change: SmallChange) -> Checked<Plan>
         requires { MayFollowApart (effects_in self.now) (effect_by change) }
         ensures { MatchResult result (λ plan. plan ≡ plan_by (effects_in self.now) change)
             (λ stop. stop ≡ spec.out_of_memory) }
     {
-        let (outcome, reply_outcome) = self.small_outcomes(change)?;
+        let outcome = self.small_outcome(change)?;
+        let reply_outcome = self.small_outcome(change)?;
         Ok(Plan {
             outcome,
             reply_outcome,
-            effects: EffectList {
-                stored: StoredEffects::One(change.effect()),
-            },
+            effects: EffectList::one(change.effect()),
             records: Notes::none(self.alloc),
         })
     }

@@ -1,8 +1,17 @@
-use Rattle.std.proofs.Common.{ℕ, ◌≡◌, ◌∷◌, Some, None, sym, subst, ◌∙◌, refl}
-use Rattle.std.specs.Prelude.{Option, IsSome, IfSome}
+use Rattle.std.proofs.Common.{ℕ, ◌≡◌, List, [], ◌∷◌, true, length, Some, None, ap, sym, subst, ◌∙◌, refl}
+use Rattle.std.specs.Prelude.{Option, IsSome, IfSome, nat_lt}
 use Rattle.std.proofs.lemmas.Bool.{true≢false}
 use Rattle.sm_kinds.specs.declared.number.Node.{Node}
+use Rattle.sm_history.specs.declared.delivery.Delivery.{Delivery}
+use Rattle.sm_history.specs.declared.outcome.Outcome.TheVariants.{Taken}
 use Rattle.sm_history.specs.Effects.{Effects}
+use Rattle.sm_history.specs.Following.{MayFollow}
+use Rattle.sm_history.specs.Histories.{call_delivery, found}
+use Rattle.sm_history.specs.Verdict.{taken}
+use Rattle.sm_inbox.specs.declared.inboxes.Inboxes.{Inboxes}
+use Rattle.sm_inbox.specs.Tracking.{TracksInboxes, is_open}
+use Rattle.sm_core.specs.declared.state.State.{State}
+use Rattle.sm_core.specs.Stands.{Stands}
 use Rattle.sm_history.specs.Holdings.{refs_at}
 use Rattle.sm_grants.specs.declared.grants.Grants.{Grants}
 use Rattle.sm_grants.specs.Rows.{Tracks}
@@ -55,14 +64,36 @@ returns-in-Release-clause-stands c = rw c.in-Release.is (λ d s m. record {
   foreign = λ k n h. s.foreign k n (held_releases d c.in-Release.client c.in-Release.node k n h);
 })
 
-pub returns-in-Take-clause-stands : goal.returns-in-Take-clause-stands
-returns-in-Take-clause-stands c = rw c.in-Take.is (λ d s m. record {
-  sound = sound_follows d (Takes c.in-Take.client) s.sound m;
-  principals = same_principals (Takes c.in-Take.client) d _ refl s.principals;
-  next = s.next;
-  names = names_other (Takes c.in-Take.client) d c.args.self.now.names refl s.names;
-  grants = grants_other (Takes c.in-Take.client) d c.args.self.now.grants.rows.items refl s.grants;
-  inboxes = c.take_oldest.ensures.tracks d s.inboxes m;
-  open_ = λ k l. c.take_oldest.ensures.still k ∙ s.open_ k l;
-  foreign = s.foreign;
-})
+-- The tables after a take of what was there.
+taken_stands : (d : Effects) (client : ℕ) (s : State) (i : Inboxes) → Stands d s → MayFollow d (Takes client)
+    → TracksInboxes (Takes client ∷ d) i → ((k : ℕ) → is_open i k ≡ is_open s.inboxes k)
+    → Stands (Takes client ∷ d) (record s { inboxes = i })
+taken_stands d client s i stands may tracks still = record {
+  sound = sound_follows d (Takes client) stands.sound may;
+  principals = same_principals (Takes client) d _ refl stands.principals;
+  next = stands.next;
+  names = names_other (Takes client) d s.names refl stands.names;
+  grants = grants_other (Takes client) d s.grants.rows.items refl stands.grants;
+  inboxes = tracks;
+  open_ = λ k l. still k ∙ stands.open_ k l;
+  foreign = stands.foreign;
+}
+
+pub returns-in-Some-clause-stands : goal.returns-in-Some-clause-stands
+returns-in-Some-clause-stands c = rw c.in-Take.is (λ d s m. taken_stands d c.in-Take.client c.args.self.now _ s m
+    (c.in-Some.ensures.tracks d s.inboxes m) c.in-Some.ensures.still)
+
+pub returns-in-Some-clause-outcome : goal.returns-in-Some-clause-outcome
+returns-in-Some-clause-outcome c = rw c.in-Take.is (λ d s m.
+    ap (λ (xs : List Delivery). Some (Taken (taken xs (call_delivery [] 0 (found None) [] []))))
+    (sym (c.in-Some.ensures.taken d s.inboxes)))
+
+-- There is something to take.
+not_empty : {G : Type 0} (xs : List Delivery) → nat_lt 0 (length xs) ≡ true → xs ≡ [] → G
+not_empty xs some is = absurd (true≢false (sym some ∙ ap (λ (ys : List Delivery). nat_lt 0 (length ys)) is))
+
+pub returns-in-None-clause-stands : goal.returns-in-None-clause-stands
+returns-in-None-clause-stands c = rw c.in-Take.is (λ d s m. not_empty _ m (c.in-None.ensures.taken d s.inboxes))
+
+pub returns-in-None-clause-outcome : goal.returns-in-None-clause-outcome
+returns-in-None-clause-outcome c = rw c.in-Take.is (λ d s m. not_empty _ m (c.in-None.ensures.taken d s.inboxes))

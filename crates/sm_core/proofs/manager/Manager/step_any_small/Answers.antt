@@ -1,14 +1,17 @@
-use Rattle.std.proofs.Common.{None, refl, ap, sym, ◌∙◌}
+use Rattle.std.proofs.Common.{◌≡◌, None, refl, ap, sym, ◌∙◌}
 use Rattle.sm_history.specs.declared.outcome.Outcome.{Outcome}
 use Rattle.sm_history.specs.declared.reply.Reply.TheVariants.{Done}
-use Rattle.sm_history.specs.Histories.{effects_of}
+use Rattle.sm_history.specs.Books.{Book}
+use Rattle.sm_history.specs.Histories.{History, effects_of}
+use Rattle.sm_core.specs.declared.small_change.SmallChange.{SmallChange}
+use Rattle.sm_core.specs.Managed.{IsSame}
 use Rattle.sm_history.specs.Records.{moment_of}
 use Rattle.sm_history.specs.Verdict.{checks}
 use Rattle.sm_core.specs.SmallChanges.{outcome_by, plan_by}
 use Rattle.sm_core.proofs.Keeping.{stop_answers, stop_true, refused_leaves, refused_ring, small_records, ready_true}
 use Rattle.sm_core.proofs.Keeping.{done_answers, done_leaves, done_ring, kept_answers, small_ready, ready_of}
 use Rattle.sm_core.proofs.Stopping.{failing_is}
-use Rattle.sm_core.proofs.manager.Manager.step_small.Goals as goal
+use Rattle.sm_core.proofs.manager.Manager.step_any_small.Goals as goal
 
 pub refuse-requires : goal.refuse-requires
 refuse-requires c =
@@ -40,9 +43,9 @@ pub commit_small-requires-clause-ready : goal.commit_small-requires-clause-ready
 commit_small-requires-clause-ready c =
     let b = c.args.self.now.book in
     let it = c.in-Ok-make_small_ready.ensures in
-    small_ready b c.make_small_ready.new.self c.args.by c.args.turn c.args.event c.in-Ok.change _ it.same
+    small_ready b c.make_small_ready.new.self c.args.by c.args.turn c.args.event c.in-Ok.change it.same
     (failing_is (moment_of b.history) _ _ (checks b.places b.history c.args.by c.args.turn c.args.event) None
-    c.in-Ok.ensures.0) c.in-Ok.ensures.1 it.outcome it.entries it.turns it.room
+    c.in-Ok.ensures.0) c.in-Ok.ensures.1 it.entries it.turns it.room
 
 pub commit_small-requires-clause-noted : goal.commit_small-requires-clause-noted
 commit_small-requires-clause-noted c =
@@ -53,36 +56,40 @@ commit_small-requires-clause-noted c =
     ∙ small_records b.places b.history c.args.by c.args.turn c.args.event c.judge_small.new.notes c.in-Ok.change
     (rw c.none-notes.ensures at c.in-Ok.ensures.0) c.in-Ok.ensures.1)
 
+-- The outcome for the reply is that of the entry.
+reply_is : (old : Book) (mid : Book) (change : SmallChange) (outcome : Outcome) → IsSame old mid
+    → outcome ≡ outcome_by (effects_of old.history) change → Done outcome ≡ Done (outcome_by (effects_of mid.history) change)
+reply_is old mid change outcome same is =
+    ap (λ (x : Outcome). Done x) (is ∙ ap (λ (h : History). outcome_by (effects_of h) change) (sym same.history))
+
 pub returns-clause-answers : goal.returns-clause-answers
 returns-clause-answers c =
     let b = c.args.self.now.book in
     let it = c.in-Ok-make_small_ready.ensures in
-    let outcome = c.in-Ok-make_small_ready.ready.outcome in
-    done_answers b c.make_small_ready.new.self.book c.commit_small.new.self.book c.args.by c.args.turn c.args.event
-    (ready_of c.args.by c.args.turn c.args.event (record (plan_by (effects_of b.history) c.in-Ok.change) {
-      outcome = outcome;
-    }) outcome c.into_list.result) _ it.same
-    (small_ready b c.make_small_ready.new.self c.args.by c.args.turn c.args.event c.in-Ok.change _ it.same
+    let mid = c.make_small_ready.new.self.book in
+    done_answers b mid c.commit_small.new.self.book c.args.by c.args.turn c.args.event
+    (ready_of c.args.by c.args.turn c.args.event (plan_by (effects_of mid.history) c.in-Ok.change)
+    (outcome_by (effects_of mid.history) c.in-Ok.change) c.into_list.result) _ it.same
+    (small_ready b c.make_small_ready.new.self c.args.by c.args.turn c.args.event c.in-Ok.change it.same
     (failing_is (moment_of b.history) _ _ (checks b.places b.history c.args.by c.args.turn c.args.event) None
-    c.in-Ok.ensures.0) c.in-Ok.ensures.1 it.outcome it.entries it.turns it.room).done
+    c.in-Ok.ensures.0) c.in-Ok.ensures.1 it.entries it.turns it.room).done
     refl refl refl c.commit_small.ensures.places c.commit_small.ensures.history
-    (ap (λ (x : Outcome). Done x) (it.reply_outcome ∙ sym it.outcome))
+    (reply_is b mid c.in-Ok.change _ it.same it.outcome)
 
 pub returns-clause-ring : goal.returns-clause-ring
 returns-clause-ring c =
     let b = c.args.self.now.book in
     let it = c.in-Ok-make_small_ready.ensures in
-    let outcome = c.in-Ok-make_small_ready.ready.outcome in
+    let mid = c.make_small_ready.new.self.book in
     done_ring c.args.self.now c.make_small_ready.new.self c.commit_small.new.self.ring c.args.by c.args.turn
     c.args.event
-    (ready_of c.args.by c.args.turn c.args.event (record (plan_by (effects_of b.history) c.in-Ok.change) {
-      outcome = outcome;
-    }) outcome c.into_list.result) _ it.ring
+    (ready_of c.args.by c.args.turn c.args.event (plan_by (effects_of mid.history) c.in-Ok.change)
+    (outcome_by (effects_of mid.history) c.in-Ok.change) c.into_list.result) _ it.ring
     (c.into_list.ensures
     ∙ small_records b.places b.history c.args.by c.args.turn c.args.event c.judge_small.new.notes c.in-Ok.change
     (rw c.none-notes.ensures at c.in-Ok.ensures.0) c.in-Ok.ensures.1)
     c.commit_small.ensures.ring
-    (ap (λ (x : Outcome). Done x) (it.reply_outcome ∙ sym it.outcome))
+    (reply_is b mid c.in-Ok.change _ it.same it.outcome)
 
 pub returns-clause-records : goal.returns-clause-records
 returns-clause-records c =
@@ -92,4 +99,4 @@ returns-clause-records c =
     (it.copied
     ∙ small_records b.places b.history c.args.by c.args.turn c.args.event c.judge_small.new.notes c.in-Ok.change
     (rw c.none-notes.ensures at c.in-Ok.ensures.0) c.in-Ok.ensures.1)
-    (ap (λ (x : Outcome). Done x) it.reply_outcome)
+    (ap (λ (x : Outcome). Done x) it.outcome)

@@ -3,7 +3,7 @@ use Rattle.sm_history.specs.Records.{moment_of}
 use Rattle.sm_history.specs.Verdict.{checks}
 use Rattle.sm_core.proofs.Keeping.{stop_answers, stop_true, refused_leaves, refused_ring, done_records, ready_true}
 use Rattle.sm_core.proofs.Stopping.{failing_is}
-use Rattle.sm_core.proofs.manager.Manager.ready_recorded.Goals as goal
+use Rattle.sm_core.proofs.manager.Manager.ready_planned.Goals as goal
 
 pub refuse-requires : goal.refuse-requires
 refuse-requires c =
