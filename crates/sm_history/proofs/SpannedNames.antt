@@ -1,12 +1,14 @@
 -- A list of names grows without changing the names that it has.
 use Rattle.std.proofs.Common.{◌≡◌, ℕ, ◌≤◌, List, [], ◌∷◌, ◌++◌, refl, ap, ◌∙◌, length, take, drop, map}
-use Rattle.std.proofs.Common.{arith, length-drop}
+use Rattle.std.proofs.Common.{arith, length-drop, append-nil}
 use Rattle.std.proofs.lemmas.List.{take-append-le, drop-append-le, take_all, map-append}
 use Rattle.std.proofs.lemmas.List.Elements.{All-drop}
+use Rattle.std.proofs.lemmas.List.Folds.{concat-append}
+use Rattle.std.proofs.lemmas.Grind.{common_steps}
 use Rattle.std.proofs.Math.Seq.{drop-append_seam}
 use Rattle.std.specs.List.{All}
 use Rattle.sm_history.specs.declared.name_list.Span.{Span}
-use Rattle.sm_history.specs.NameLists.{bytes_at, IsWithin}
+use Rattle.sm_history.specs.NameLists.{bytes_at, IsWithin, ArePacked}
 
 -- More bytes behind them don't change those of a span.
 bytes_stay : (b more : List ℕ) (s : Span) → IsWithin b s → bytes_at (b ++ more) s ≡ bytes_at b s
@@ -33,3 +35,20 @@ pub name_pushed : (b name : List ℕ) (ss : List Span) (s : Span) → All (IsWit
 name_pushed b name ss s all start len =
     map-append (bytes_at (b ++ name)) ss (s ∷ [])
     ∙ rw (names_stay b name ss all, name_behind b name s start len) refl
+
+within_pushed : (b name : List ℕ) (ss : List Span) (s : Span) → All (IsWithin b) ss → s.start ≡ length b
+    → s.len ≡ length name → All (IsWithin (b ++ name)) (ss ++ s ∷ [])
+within_pushed b name ss s all start len = grind (arith, common_steps)
+
+pub packed_pushed : (b name : List ℕ) (ss : List Span) (s : Span) → ArePacked b ss → s.start ≡ length b
+    → s.len ≡ length name → ArePacked (b ++ name) (ss ++ s ∷ [])
+packed_pushed b name ss s packed start len = (
+  within_pushed b name ss s packed.0 start len,
+  rw (
+    name_pushed b name ss s packed.0 start len,
+    concat-append (map (bytes_at b) ss) (name ∷ []),
+    packed.1,
+    append-nil name,
+  )
+      refl,
+)

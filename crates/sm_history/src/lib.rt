@@ -24,6 +24,7 @@ mod failed_check;
 mod gate;
 pub mod laws;
 mod limits;
+mod name_bytes;
 mod name_list;
 mod notice;
 mod outcome;

@@ -1,7 +1,10 @@
 //! Lists of names in replies.
 
 ghost use Rattle.std.specs.Prelude.{◌≡◌, ◌<◌, ◌++◌, ◌∷◌, [], length, OnOk, OnErr, IfOk, slice_index_or};
+ghost use Rattle.std.specs.List.{concat, list_all};
+ghost use Rattle.sm_kinds.specs.Names.{is_name_byte};
 
+use crate::name_bytes::all_name_bytes;
 use std::alloc::{AllocError, Global};
 use std::marker::Model;
 
@@ -24,14 +27,13 @@ pub struct NameList {
 
 impl Model for NameList {
     ghost use Rattle.std.specs.Prelude.{List, ℕ, map};
-    ghost use Rattle.std.specs.List.{All};
-    ghost use Rattle.sm_history.specs.NameLists.{bytes_at, IsWithin};
+    ghost use Rattle.sm_history.specs.NameLists.{bytes_at, ArePacked};
 
     ghost Value = { List (List ℕ) };
 
     ghost view = { λ n. map (bytes_at n.bytes.items) n.spans.items };
 
-    ghost invariant = { λ n. All (IsWithin n.bytes.items) n.spans.items };
+    ghost invariant = { λ n. ArePacked n.bytes.items n.spans.items };
 }
 
 impl Drop for NameList {
@@ -65,6 +67,13 @@ impl NameList {
         self.bytes.extend_from_slice(name)?;
         self.spans.push_reserved(Span { start, len });
         Ok(())
+    }
+
+    /// Returns whether all bytes of all names may be in a service name.
+    pub fn has_name_bytes_only(&self) -> bool
+        ensures { result ≡ list_all is_name_byte (concat self.now) }
+    {
+        all_name_bytes(&self.bytes)
     }
 
     /// Returns the number of names.
