@@ -29,7 +29,7 @@ use Rattle.sm_history.specs.Lawful.{HasSoundPolicy}
 use Rattle.sm_core.specs.declared.plan.Plan.{Plan}
 use Rattle.sm_core.specs.Stands.{is_death, DeathIsLast}
 use Rattle.sm_core.specs.Judging.{AllPass, Halts, IsPlan, Judged, out_of_memory}
-use Rattle.sm_core.specs.Notifications.{MayPrecede, Tells}
+use Rattle.sm_core.specs.Notifications.{MayPrecede, Tells, TellsAdded}
 use Rattle.sm_history.specs.declared.records.Record.{Record}
 use Rattle.sm_history.specs.Records.{Moment, moment_of, left_by_notices, left_by_telling}
 use Rattle.sm_history.specs.Histories.{History, effects_of}
@@ -86,9 +86,7 @@ pub add_judged : (h : History) (old new : List Record) (c : ℕ) (name copy : Li
     → let d = effects_of h in AllPass (moment_of h) old new (add_checks d c name obj) → object ≡ resolve_at d c obj
     → object ≡ Some n
     → copy ≡ name → xs ≡ Adds copy (service c n allow dump) ∷ []
-    → MatchResult r (λ plan. (plan.outcome ≡ Added (notices_at (followed d xs) n (watchers_at d name)))
-    × (plan.records ≡ left_by_notices (moment_of h) (followed d xs) n (watchers_at d name))
-    × Tells d (after_notices (followed d xs) n (watchers_at d name)) plan) (λ s. s ≡ out_of_memory)
+    → MatchResult r (TellsAdded (moment_of h) d (followed d xs) n (watchers_at d name)) (λ s. s ≡ out_of_memory)
     → Judged h old new c (Add name obj allow dump) r
 add_judged h old new c name copy obj allow dump object n xs r pass is some same items made =
     let d = effects_of h in

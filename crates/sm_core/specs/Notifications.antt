@@ -8,6 +8,7 @@ use Rattle.sm_history.specs.declared.refusal.Failure.TheVariants.{TargetFull}
 use Rattle.sm_history.specs.declared.delivery.Delivery.{Delivery}
 use Rattle.sm_history.specs.declared.delivery.Given.{Given, TheVariants.Handle}
 use Rattle.sm_history.specs.declared.delivery.Message.TheVariants.{Registered}
+use Rattle.sm_history.specs.declared.outcome.Outcome.TheVariants.{Added}
 use Rattle.sm_history.specs.declared.limits.TheConstants.{MOST_DELIVERIES}
 use Rattle.sm_history.specs.Effects.{Effects}
 use Rattle.sm_history.specs.declared.effect.Watch.{Watch}
@@ -18,7 +19,7 @@ use Rattle.sm_history.specs.Inboxes.{inbox_at}
 use Rattle.sm_history.specs.Checks.{Check, Wants, from_manager, to_label, finding, calling, transferring}
 use Rattle.sm_history.specs.Following.{followed, MayAllApart}
 use Rattle.sm_history.specs.Records.{Moment, left_by_all, left_by_notices}
-use Rattle.sm_history.specs.Notices.{notice_checks, after_notice, after_notices}
+use Rattle.sm_history.specs.Notices.{notice_checks, notices_at, after_notice, after_notices}
 use Rattle.sm_history.specs.Sound.{Sound}
 use Rattle.sm_core.specs.Stands.{is_death}
 use Rattle.sm_core.specs.InboxRooms.{left_of}
@@ -99,3 +100,9 @@ pub record Tells (d after : Effects) (plan : Plan) : Type 0 where
   pub effects : followed d plan.effects ≡ after
   pub may : MayAllApart d plan.effects
   pub none_dies : list_any is_death plan.effects ≡ false
+
+-- This is the plan of an accepted Add whose own effects lead from d to e, with notices to these watchers.
+abbrev pub TellsAdded : Moment → Effects → Effects → Node → List Watch → Plan → Type 0
+TellsAdded m d e n ws plan =
+    (plan.outcome ≡ Added (notices_at e n ws)) × (plan.records ≡ left_by_notices m e n ws)
+    × Tells d (after_notices e n ws) plan

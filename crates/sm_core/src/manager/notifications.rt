@@ -7,12 +7,12 @@ ghost use Rattle.sm_history.specs.Holdings.{fits_handles, given_to, handed};
 ghost use Rattle.sm_history.specs.Services.{watchers_at};
 ghost use Rattle.sm_history.specs.declared.outcome.Outcome.TheVariants.{Added, Watched};
 ghost use Rattle.sm_history.specs.Following.{followed};
-ghost use Rattle.sm_history.specs.Notices.{notice as spec_notice, notice_at, after_notice, notices_at, after_notices};
+ghost use Rattle.sm_history.specs.Notices.{notice as spec_notice, notice_at, after_notice, notices_at};
 ghost use Rattle.sm_history.specs.Records.{left_by_notices};
 ghost use Rattle.sm_core.specs.Judging.{PassesWith};
 ghost use Rattle.sm_core.specs.Judging as spec;
 ghost use Rattle.sm_core.specs.Notifications.{told_checks, left_at, AreNotifications, GoesOn, GoesFar, MayPrecede};
-ghost use Rattle.sm_core.specs.Notifications.{Tells};
+ghost use Rattle.sm_core.specs.Notifications.{Tells, TellsAdded};
 ghost use Rattle.sm_core.specs.Managed.{effects_in, moment_in};
 ghost use Rattle.sm_core.specs.Tables.{IsLabel};
 
@@ -193,30 +193,61 @@ impl Manager {
         })
     }
 
-    /// Returns the plan of an accepted Add after these effects: each watcher of the name, which has this label, is
+    /// Returns the plan of an accepted Add with this effect: each watcher of the name, which has this label, is
     /// notified, or has the reason why not.
     pub fn plan_added(
         &self,
         name: &Name,
         node: Node,
         label: Label<'_>,
-        effects: Vec<Effect>,
+        adds: Effect,
     ) -> Checked<Plan>
         requires label { IsLabel (effects_in self.now) name.now label }
+        requires before { MayPrecede (effects_in self.now) node (adds ∷ []) }
+        ensures { MatchResult result
+            (TellsAdded (moment_in self.now) (effects_in self.now) (followed (effects_in self.now) (adds ∷ [])) node
+            (watchers_at (effects_in self.now) name.now))
+            (λ s. s ≡ spec.out_of_memory) }
+    {
+        let watchers = self.watchers(name.bytes());
+        if watchers.is_empty() {
+            return self.plan_unwatched(adds);
+        }
+        let effects = vec![in self.alloc; adds]?;
+        self.plan_notices(watchers, node, label, effects)
+    }
+
+    /// Returns the plan of an accepted Add with this effect, if nobody watches the name.
+    fn plan_unwatched(&self, adds: Effect) -> Checked<Plan>
+        ensures { MatchResult result
+            (λ plan. (plan.outcome ≡ Added []) × (plan.reply_outcome ≡ plan.outcome) × (plan.effects ≡ adds ∷ [])
+            × (plan.records ≡ []))
+            (λ s. s ≡ spec.out_of_memory) }
+    {
+        let (outcome, reply_outcome) = shared_notices(self.alloc, Vec::new(self.alloc))?;
+        let outcome = Outcome::Added(outcome);
+        Ok(Plan::quiet(self.alloc, adds, outcome, Outcome::Added(reply_outcome)))
+    }
+
+    /// Returns the plan of an accepted Add after these effects: each of these watchers of the name, which has this
+    /// label, is notified, or has the reason why not.
+    fn plan_notices(
+        &self,
+        watches: &[Watch],
+        node: Node,
+        label: Label<'_>,
+        effects: Vec<Effect>,
+    ) -> Checked<Plan>
+        requires live { list_all (λ w. is_live (effects_in self.now) w.client) watches.now ≡ true }
+        requires label { All (λ w. IsLabel (effects_in self.now) w.name label) watches.now }
         requires before { MayPrecede (effects_in self.now) node effects.items }
         ensures { MatchResult result
-            (λ plan. (plan.outcome ≡ Added (notices_at (followed (effects_in self.now) effects.items) node
-            (watchers_at (effects_in self.now) name.now)))
-            × (plan.records ≡ left_by_notices (moment_in self.now) (followed (effects_in self.now) effects.items) node
-            (watchers_at (effects_in self.now) name.now))
-            × Tells (effects_in self.now)
-            (after_notices (followed (effects_in self.now) effects.items) node
-            (watchers_at (effects_in self.now) name.now)) plan)
+            (TellsAdded (moment_in self.now) (effects_in self.now) (followed (effects_in self.now) effects.items) node
+            watches.now)
             (λ s. s ≡ spec.out_of_memory) }
     {
         let mut notifications = Notifications::behind(self.alloc, effects);
-        let watchers = self.watchers(name.bytes());
-        let notices = self.notify_all(watchers, node, label, &mut notifications)?;
+        let notices = self.notify_all(watches, node, label, &mut notifications)?;
         let (outcome, reply_outcome) = shared_notices(self.alloc, notices)?;
         Ok(Plan {
             outcome: Outcome::Added(outcome),
