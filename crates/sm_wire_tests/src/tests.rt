@@ -1,3 +1,4 @@
 mod lines;
+mod names;
 mod replies;
 mod sessions;
