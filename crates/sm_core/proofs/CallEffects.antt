@@ -42,21 +42,6 @@ pub numbers_many : (d : Effects) (k : ℕ) (ns : List Node) → length (numbers_
 numbers_many d k [] = refl
 numbers_many d k (n ∷ ns) = ap suc (numbers_many (Gives k n (number_for d k n) ∷ d) k ns)
 
-pub named_many : (d : Effects) (c : ℕ) (rs : List ObjRef) (os : List (Option Node)) → AreNamed d c rs os
-    → length os ≡ length rs
-named_many d c [] [] a = refl
-named_many d c [] (o ∷ os) a = absurd a
-named_many d c (r ∷ rs) [] a = absurd a
-named_many d c (r ∷ rs) (o ∷ os) a = ap suc (named_many d c rs os a.2)
-
-pub others_few : (k : ℕ) (os : List (Option Node)) → length (others k os) ≤ length os
-others_few k [] = omega arith
-others_few k (None ∷ os) = let i = others_few k os in omega (arith, i)
-others_few k (Some n ∷ os) =
-    let i = others_few k os in
-    elim (n.owner.0 == k) as (λ b. length (if b then others k os else n ∷ others k os) ≤ length (Some n ∷ os))
-    [ true ↦ omega (arith, i) | false ↦ omega (arith, i) ]
-
 -- ---- the effects afterwards
 
 followed_gives : (d : Effects) (k : ℕ) (ns : List Node) (x : Effect)

@@ -1,6 +1,6 @@
 //! Calls of objects.
 
-ghost use Rattle.std.specs.Prelude.{◌≡◌, ◌≤◌, ◌&&◌, true, length, Some, IfOk, MatchResult, false, is_some};
+ghost use Rattle.std.specs.Prelude.{◌≡◌, ◌≤◌, ◌&&◌, true, length, take, [], Some, IfOk, MatchResult, false, is_some};
 ghost use Rattle.sm_kinds.specs.declared.limits.TheConstants.{MOST_REFS};
 ghost use Rattle.sm_history.specs.declared.delivery.Message.TheVariants.{Called};
 ghost use Rattle.sm_history.specs.declared.event.Event.TheVariants.{Call};
@@ -22,23 +22,27 @@ use crate::manager::Manager;
 use crate::notes::Notes;
 use crate::plan::Plan;
 use crate::small_failed_check::{Checked, ShortAnswer, SmallFailedCheck};
+use arrayvec::ArrayVec;
 use sm_history::{Delivery, Effect, Failure, Given, GivenRefs, Message, Outcome, Shared};
-use sm_kinds::{Class, Identity, Node, ObjRef, Payload, Perms, Refs};
+use sm_kinds::{Class, ClientId, Identity, MOST_REFS, Node, ObjRef, Payload, Perms, Refs};
 use std::alloc::{AllocError, Global};
 
-/// Returns the objects that a receiver doesn't own, for which it needs handles.
-fn foreign(alloc: Global, receiver: u32, named: &[Option<Node>]) -> Result<Vec<Node>, AllocError>
-    ensures { IfOk result (λ v. v.items ≡ others receiver named.now) }
+/// Puts the objects that a receiver doesn't own, for which it needs handles, first in an array, and returns their number.
+fn foreign(receiver: u32, named: &[Option<Node>], nodes: &mut [Node; MOST_REFS]) -> usize
+    requires { length named.now ≤ MOST_REFS }
+    ensures foreign { take result nodes.new ≡ others receiver named.now }
+    ensures few { result ≤ MOST_REFS }
 {
-    let mut nodes = Vec::new(alloc);
+    let mut count = 0;
     for node in named {
         if let Some(node) = node {
             if node.owner.0 != receiver {
-                nodes.push(*node)?;
+                nodes[count] = *node;
+                count += 1;
             }
         }
     }
-    Ok(nodes)
+    count
 }
 
 /// Returns what the receiver gets, with numbers for the objects that need handles.
@@ -125,13 +129,21 @@ impl Manager {
         ensures { Judged self.now.book.history notes.old notes.new row.now.id
             (Call handle payload.now refs.now) result }
     {
+        // Reads a field, so that the invariant is known: see docs/PROOFS.md.
+        let _ = &self.places;
         let target = self.judge_target(row, handle, notes)?;
-        let named = self.judge_references(row, target.owner.0, refs.list(), notes)?;
-        let nodes = foreign(self.alloc, target.owner.0, named.as_slice())?;
-        if !self.has_room(target.owner.0, nodes.as_slice()) {
+        let mut named = ArrayVec::new();
+        self.judge_references(row, target.owner.0, refs.list(), &mut named, notes)?;
+        let blank = Node {
+            owner: ClientId(0),
+            object: 0,
+        };
+        let mut nodes = [blank; MOST_REFS];
+        let count = foreign(target.owner.0, named.as_slice(), &mut nodes);
+        if !self.has_room(target.owner.0, &nodes[..count]) {
             return Err(SmallFailedCheck::unmet(ShortAnswer::Failed(Failure::TargetFull)));
         }
-        self.plan_call(row, target, payload, named.as_slice(), nodes.as_slice())
+        self.plan_call(row, target, payload, named.as_slice(), &nodes[..count])
     }
 
     /// Returns the called object, if its owner lives and the caller may call the owner.
@@ -158,26 +170,28 @@ impl Manager {
         Ok(node)
     }
 
-    /// Returns the objects that a call's references name, if each may be passed to the receiver.
+    /// Checks that each of a call's references may be passed to the receiver, and lists the objects that they name.
     fn judge_references(
         &self,
         row: &LiveClient,
         receiver: u32,
         refs: &[ObjRef],
+        named: &mut ArrayVec<Option<Node>, MOST_REFS>,
         notes: &mut Notes,
-    ) -> Checked<Vec<Option<Node>>>
+    ) -> Checked<()>
         requires row { row.now ≡ client_row (effects_in self.now) row.now.id }
         requires live { is_live (effects_in self.now) receiver ≡ true }
+        requires few { length refs.now ≤ MOST_REFS }
+        requires none { named.old.items ≡ [] }
         ensures { PassesWith (moment_in self.now) notes.old notes.new
             (all_pass_to_client (effects_in self.now) row.now.id receiver refs.now)
-            (λ v. AreNamed (effects_in self.now) row.now.id refs.now v.items) result }
+            (λ done. AreNamed (effects_in self.now) row.now.id refs.now named.new.items) result }
     {
-        let mut named = Vec::new(self.alloc);
         for obj in refs {
             let node = self.judge_passed(row, receiver, *obj, notes)?;
-            named.push(node)?;
+            named.push(node);
         }
-        Ok(named)
+        Ok(())
     }
 
     /// Returns the object that a reference names, if it is null or may be passed to the receiver.

@@ -34,6 +34,7 @@ loop-obj-preserved c =
       names = names_on d k rs (drop i rs) (drop (i + 1) rs) r c.in_ok-node.node c.loop-obj.named.items
           c.push.new.self.items c.loop-obj.invariant.names left more c.in_ok-node.ensures.1.0
           c.in_ok-node.ensures.1.1;
+      many = search rules;
     }
 
 pub returns : goal.returns

@@ -1,4 +1,5 @@
 use Rattle.std.proofs.Common.{◌≡◌, drop}
+use Rattle.arrayvec.specs.ArrayVec.{array_vec_len}
 use Rattle.sm_history.specs.Histories.{effects_of}
 use Rattle.sm_history.specs.Records.{moment_of}
 use Rattle.sm_history.specs.Verdict.{all_pass_to_client}
@@ -16,4 +17,5 @@ invariant-loop-obj l =
       passed : after_checks m l.initial.notes (all_pass_to_client d c l.receiver l.refs)
           ≡ after_checks m l.notes (all_pass_to_client d c l.receiver (drop l.obj-index l.refs));
       names : NamesOn d c l.refs (drop l.obj-index l.refs) l.named.items;
+      many : array_vec_len l.named ≡ l.obj-index;
     }
