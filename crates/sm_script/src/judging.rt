@@ -1,7 +1,7 @@
 //! Answers requests with a manager, at the turns of their actors. The words of a reply are appended to one text, the
 //! lines of its records to another.
 
-ghost use Rattle.std.specs.Prelude.{◌≡◌, ◌⊎◌, ◌++◌, List, OnOk, OnErr, codes};
+ghost use Rattle.std.specs.Prelude.{◌≡◌, ◌⊎◌, ◌++◌, true, List, OnOk, OnErr, codes};
 ghost use Rattle.sm_history.specs.declared.by.By.TheVariants.{Admin, Manager as ByManager};
 ghost use Rattle.sm_history.specs.declared.event.Event.TheVariants.{Connect, Reload};
 ghost use Rattle.sm_history.specs.declared.query.Query.TheVariants.{Version};

@@ -27,7 +27,7 @@ use sm_history::{Delivery, Effect, Failure, Given, GivenRefs, Message, Outcome, 
 use sm_kinds::{Class, ClientId, Identity, MOST_REFS, Node, ObjRef, Payload, Perms, Refs};
 use std::alloc::{AllocError, Global};
 
-/// Puts the objects that a receiver doesn't own, for which it needs handles, first in an array, and returns their number.
+/// Puts the objects that a receiver doesn't own, for which it needs handles, first in an array. Returns their number.
 fn foreign(receiver: u32, named: &[Option<Node>], nodes: &mut [Node; MOST_REFS]) -> usize
     requires { length named.now ≤ MOST_REFS }
     ensures foreign { take result nodes.new ≡ others receiver named.now }

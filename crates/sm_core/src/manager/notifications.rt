@@ -195,7 +195,6 @@ impl Manager {
 
     /// Returns the plan of an accepted Add with this effect: each watcher of the name, which has this label, is
     /// notified, or has the reason why not.
-    #[inline]
     pub fn plan_added(
         &self,
         name: &Name,
@@ -219,7 +218,6 @@ impl Manager {
     }
 
     /// Returns the plan of an accepted Add with this effect, if nobody watches the name.
-    #[inline]
     fn plan_unwatched(&self, adds: Effect) -> Checked<Plan>
         ensures { MatchResult result
             (λ plan. (plan.outcome ≡ Added []) × (plan.reply_outcome ≡ plan.outcome) × (plan.effects ≡ adds ∷ [])
