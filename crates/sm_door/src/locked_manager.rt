@@ -1,11 +1,12 @@
 //! What is under the lock: the manager, and the publisher of its views.
 
-ghost use Rattle.std.specs.Prelude.{◌≡◌, ◌≤◌, ◌&&◌, length, IfOk, MatchResult};
+ghost use Rattle.std.specs.Prelude.{◌≡◌, ◌≤◌, ◌&&◌, true, length, IfOk, MatchResult};
 ghost use Rattle.std.specs.List.{All};
 ghost use Rattle.sm_audit.specs.declared.ring.TheConstants.{MOST_RECORDS};
 ghost use Rattle.sm_core.specs.Managed.{ring_after, step_leaves};
 ghost use Rattle.sm_core.specs.Readying.{IsReady};
 ghost use Rattle.sm_core.specs.SealReady.{IsReadySeal};
+ghost use Rattle.sm_core.specs.SmallChanges.{is_small};
 ghost use Rattle.sm_history.specs.declared.outcome.Outcome.TheVariants.{Connected};
 ghost use Rattle.sm_history.specs.declared.reply.Reply.TheVariants.{Done, Refused};
 ghost use Rattle.sm_history.specs.Histories.{client_of, turn_of};
@@ -26,7 +27,7 @@ use crate::seat::Seat;
 use crate::session::Session;
 use crate::shared_view::SharedView;
 use left_right::Absorb;
-use sm_core::{Manager, Ready, ReadySeal, View};
+use sm_core::{Manager, Ready, ReadySeal, View, has_small_change};
 use sm_history::{By, Event, Failure, Record, Refusal, Reply, Segment, connected, moves};
 use sm_kinds::Identity;
 use std::alloc::{AllocError, Global};
@@ -206,6 +207,39 @@ impl<J: Naming> LockedManager<J> {
     /// One step of the manager, with the audit records that it adds to the ring. A change is published before it is
     /// committed: if it can't be published, nothing is committed and the answer is `Memory`.
     fn step<R: Wait>(&mut self, rt: &R, by: By, turn: u64, event: Event) -> (Reply, Vec<Record>)
+        ensures answers { Steps self.old.book by turn event result.0 self.new.book }
+        ensures ring { self.new.ring ≡ ring_after self.old.ring self.old.book by turn event result.0 }
+        ensures records { result.1.items ≡ step_leaves self.old.book by turn event result.0 }
+    {
+        if has_small_change(&event) {
+            return self.step_small(rt, by, turn, event);
+        }
+        self.step_any(rt, by, turn, event)
+    }
+
+    /// As `step`, with the code for an event with a small change alone, which doesn't zero the locals of a plan.
+    #[inline(never)]
+    fn step_small<R: Wait>(
+        &mut self,
+        rt: &R,
+        by: By,
+        turn: u64,
+        event: Event,
+    ) -> (Reply, Vec<Record>)
+        requires { is_small event ≡ true }
+        ensures answers { Steps self.old.book by turn event result.0 self.new.book }
+        ensures ring { self.new.ring ≡ ring_after self.old.ring self.old.book by turn event result.0 }
+        ensures records { result.1.items ≡ step_leaves self.old.book by turn event result.0 }
+    {
+        if !has_small_change(&event) {
+            unreachable!();
+        }
+        self.step_any(rt, by, turn, event)
+    }
+
+    /// As `step`. Where the kind of the event is known, the code for other kinds goes, since this is in line.
+    #[inline(always)]
+    fn step_any<R: Wait>(&mut self, rt: &R, by: By, turn: u64, event: Event) -> (Reply, Vec<Record>)
         ensures answers { Steps self.old.book by turn event result.0 self.new.book }
         ensures ring { self.new.ring ≡ ring_after self.old.ring self.old.book by turn event result.0 }
         ensures records { result.1.items ≡ step_leaves self.old.book by turn event result.0 }

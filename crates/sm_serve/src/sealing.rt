@@ -13,9 +13,19 @@ pub fn seal_if_due<J: Naming, G: Gate + Drop, H: Supervisor, R: Wait>(
     sealer: &SharedAdmin<J>,
     monitor: &Monitor<H>,
 ) {
-    if !monitor.is_due() {
-        return;
+    if monitor.is_due() {
+        seal(rt, door, sealer, monitor);
     }
+}
+
+// Seals the open segment. Out of line, since it would zero its locals for each answer.
+#[inline(never)]
+fn seal<J: Naming, G: Gate + Drop, H: Supervisor, R: Wait>(
+    rt: &R,
+    door: &Door<J, G>,
+    sealer: &SharedAdmin<J>,
+    monitor: &Monitor<H>,
+) {
     let mut guard = sealer.lock(rt);
     // Another thread may have sealed it meanwhile.
     if !monitor.is_due() {

@@ -4,7 +4,7 @@ use Rattle.sm_core.specs.Managed.{ring_after, step_leaves}
 use Rattle.sm_history.specs.Steps.{Steps}
 use Rattle.sm_door.specs.Locked.{Locked}
 use Rattle.sm_door.proofs.Places.{same_book, steps_done, steps_refused, ring_done, leaves_done}
-use Rattle.sm_door.proofs.locked_manager.LockedManager.step.Goals as goal
+use Rattle.sm_door.proofs.locked_manager.LockedManager.step_any.Goals as goal
 
 pub returns-in-Err-clause-answers : goal.returns-in-Err-clause-answers
 returns-in-Err-clause-answers g c =
