@@ -35,7 +35,8 @@ use Rattle.sm_session.specs.declared.command.Command.TheVariants.{Hello, Line, I
 use Rattle.sm_connection.specs.Connections.{AdminAnswers, AdminGives, AdminGivesLine, AdminInstalls, AdminReads}
 use Rattle.sm_connection.specs.Connections.{AdminReplies, AdminSeals, AdminTold}
 use Rattle.sm_connection.specs.Connections.{ClientReplies, GivesChange, GivesHello, GivesDeath}
-use Rattle.sm_connection.specs.Connections.{GivesLine, GivesLook, Greets, OfSession, DiesAtDoor, Reads, SaysOnly, SaysUnrecorded}
+use Rattle.sm_connection.specs.Connections.{GivesLine, GivesLook, Greets, OfSession, DiesAtDoor, Reads, SaysOnly}
+use Rattle.sm_connection.specs.Connections.{SaysUnrecorded}
 use Rattle.sm_connection.specs.Connections.{SeatOr, GoesOn, StillHolds}
 use Rattle.sm_session.specs.Desks.{DeskAnswers, DeskDeath, command_of}
 use Rattle.sm_connection.specs.Held.{Holding, Puts}
@@ -292,7 +293,8 @@ admin_answers old items.LineTooLong response new p = absurd p
 -- A whole session of an administrator.
 pub admin_session : (result : Result (Unit {0}) Fault) (bound reads : ℕ) (old : Holding Knows)
     (r r_new w w_new : Option (List ℕ)) (new : Holding Knows)
-    → Attends Admins (DeskAnswers (Puts AdminGives)) (DeskDeath (Puts AdminGives)) result bound reads old r r_new w w_new new
+    → Attends Admins (DeskAnswers (Puts AdminGives)) (DeskDeath (Puts AdminGives)) result bound reads old r r_new
+    w w_new new
     → HoldsMore old new
 admin_session result bound reads old r r_new w w_new new p =
     attends_keeps (DeskAnswers (Puts AdminGives)) (DeskDeath (Puts AdminGives)) HoldsMore (λ h. stays h.held)

@@ -30,7 +30,12 @@ module _ {D S : Type 0} (f : D → S) (under : D → Item → Response → D →
       → AsksOnce under old item text new → AsksOnce answers (shown old) item text (shown new)
   asks_once old item text new p = (
     p.0,
-    record { asked = asked old.desk item p.0 new.desk p.1.asked; connected = p.1.connected; over = p.1.over; kind = p.1.kind },
+    record {
+      asked = asked old.desk item p.0 new.desk p.1.asked;
+      connected = p.1.connected;
+      over = p.1.over;
+      kind = p.1.kind;
+    },
     p.2,
   )
 

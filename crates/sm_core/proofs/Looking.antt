@@ -83,7 +83,8 @@ event_left places h by turn event new s (inl w) other = absurd (other w)
 event_left places h by turn event new s (inr e) other = stop_records places h by turn event new s e
 
 -- A failed check that isn't reported as a failed allocation is none.
-pub not_out_of_memory : (b : Bool) (s : FailedCheck) → (IsTrue b ↔ (s ≡ out_of_memory)) → b ≡ false → s ≡ out_of_memory → ⊥
+pub not_out_of_memory : (b : Bool) (s : FailedCheck) → (IsTrue b ↔ (s ≡ out_of_memory))
+    → b ≡ false → s ≡ out_of_memory → ⊥
 not_out_of_memory b s both isnt w = true≢false (sym (both.1 w) ∙ isnt)
 
 -- A reply other than `Memory` doesn't come from a failed allocation.

@@ -1,5 +1,6 @@
 -- The room left in inboxes, where one row changed.
-use Rattle.std.proofs.Common.{◌≡◌, ℕ, zero, suc, ◌<◌, Bool, true, false, ◌==◌, List, [], ◌∷◌, ◌++◌, refl, ap, subst, cond}
+use Rattle.std.proofs.Common.{◌≡◌, ℕ, zero, suc, ◌<◌, Bool, true, false, ◌==◌, List, [], ◌∷◌, ◌++◌, refl, ap, subst}
+use Rattle.std.proofs.Common.{cond}
 use Rattle.std.proofs.Common.{Option, Some, None, get_or, set, arith}
 use Rattle.std.specs.Prelude.{nat_eq, nat_le, max, option_map}
 use Rattle.std.specs.List.{find, list_all}

@@ -4,7 +4,8 @@ use Rattle.std.proofs.Common.{arith}
 use Rattle.std.proofs.lemmas.List.{append-nil}
 use Rattle.sm_wire.specs.declared.item.Item.{Item}
 use Rattle.sm_engine.specs.Running.{Answers, Runs, Answered, GaveUp, Going, Stopped, Wrote, Spilled}
-use Rattle.sm_engine.proofs.KnownLemmas.{Pending-start, Pending-spill, Pending-more, Pending-end, Partly-spilled, Spilled-none}
+use Rattle.sm_engine.proofs.KnownLemmas.{Pending-start, Pending-spill, Pending-more, Pending-end, Partly-spilled}
+use Rattle.sm_engine.proofs.KnownLemmas.{Spilled-none}
 
 pub Runs-append : {S : Type 0} (answers : Answers S) (s m t : S) (is js : List Item) (r r' a a' : List ℕ)
     → Runs answers s is r a m → Runs answers m js r' a' t → Runs answers s (is ++ js) (r ++ r') (a ++ a') t

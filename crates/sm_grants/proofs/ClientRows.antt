@@ -329,7 +329,8 @@ once_inserted (x ∷ xs) (suc i) r none once =
     let f = p.0 in
     (among_inserted xs i x.client r once.0 (grind (arith, nat_tests)), once_inserted xs i r p.1 once.1)
 
-pub tracks_pushed : (d : Effects) (rows : List ClientHandles) (i : ℕ) (r : ClientHandles) → table_of rows r.client ≡ None
+pub tracks_pushed : (d : Effects) (rows : List ClientHandles) (i : ℕ) (r : ClientHandles)
+    → table_of rows r.client ≡ None
     → r.handles.slots ≡ [] → TracksRows d rows → TracksRows d (insert rows i r)
 tracks_pushed d rows i r none empty tr = record {
   balanced = tr.balanced;

@@ -50,7 +50,8 @@ tracks_same x d t services watches tr = record {
   order = tr.order ∙ sym watches;
 }
 
-pub tracks_other : (x : Effect) (d : Effects) (t : NameTable) → is_heard x ≡ false → TracksNames d t → TracksNames (x ∷ d) t
+pub tracks_other : (x : Effect) (d : Effects) (t : NameTable) → is_heard x ≡ false → TracksNames d t
+    → TracksNames (x ∷ d) t
 tracks_other (Connects c who) d t h tr = absurd (true≢false h)
 tracks_other (Dies c) d t h tr = absurd (true≢false h)
 tracks_other (Adds name s) d t h tr = absurd (true≢false h)

@@ -1,5 +1,6 @@
 -- Whether there are any lines.
-use Rattle.std.proofs.Common.{◌≡◌, ℕ, ◌+◌, ◌<◌, ◌≤◌, Bool, List, [], ◌∷◌, ◌++◌, length, take, get_or, nat_lt, refl, arith}
+use Rattle.std.proofs.Common.{◌≡◌, ℕ, ◌+◌, ◌<◌, ◌≤◌, Bool, List, [], ◌∷◌, ◌++◌, length, take, get_or, nat_lt, refl}
+use Rattle.std.proofs.Common.{arith}
 use Rattle.std.specs.Prelude.{◌||◌}
 use Rattle.std.specs.List.{flat_map}
 use Rattle.std.proofs.lemmas.List.{take_all}
@@ -20,7 +21,8 @@ any_step f xs i d {any} {more} {both} lt p q e =
     rw (flat_step f xs i d lt, any_both (flat_map f (take i xs)) (f (get_or xs i d)), ← p, ← q) e
 
 -- There are lines if what is held got longer.
-pub any_held : {next : List ℕ} (held lines : List ℕ) → next ≡ held ++ lines → nat_lt (length held) (length next) ≡ is_any lines
+pub any_held : {next : List ℕ} (held lines : List ℕ) → next ≡ held ++ lines
+    → nat_lt (length held) (length next) ≡ is_any lines
 any_held {next} held lines e = grind (arith, common_steps, e)
 
 pub any_list : {A : Type 0} (f : A → List ℕ) (xs : List A) (i : ℕ) {any : Bool} → length xs ≤ i

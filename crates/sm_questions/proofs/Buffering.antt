@@ -88,7 +88,8 @@ flat_split f xs i d lt = ap (flat_map f) (sym (take-append-drop (i + 1) xs))
     ∙ ap (λ l. l ++ flat_map f (drop (i + 1) xs)) (flat_step f xs i d lt)
 
 -- The lines of one more entry are appended to what is held.
-pub held_step : {A : Type 0} {held next : List ℕ} (f : A → List ℕ) (xs : List A) (i : ℕ) (d : A) (first : List ℕ) → i < length xs
+pub held_step : {A : Type 0} {held next : List ℕ} (f : A → List ℕ) (xs : List A) (i : ℕ) (d : A) (first : List ℕ)
+    → i < length xs
     → held ≡ first ++ flat_map f (take i xs) → next ≡ held ++ f (get_or xs i d)
     → next ≡ first ++ flat_map f (take (i + 1) xs)
 held_step {A} {held} {next} f xs i d first lt p q = q ∙ rw (p, flat_step f xs i d lt, append_assoc) refl
@@ -111,7 +112,8 @@ stops_entry f xs i d lt p q = rw (flat_split f xs i d lt) (stops_more _ _ (stops
 -- The lines of an entry are held, and then the buffer is written if it is full.
 pub passes_step : {A : Type 0} {a b c : Option (List ℕ)} {held rest filled next : List ℕ} (f : A → List ℕ)
     (xs : List A) (i : ℕ) (d : A) → i < length xs → Passes a b held rest (flat_map f (take i xs))
-    → filled ≡ rest ++ f (get_or xs i d) → Passes b c filled next [] → Passes a c held next (flat_map f (take (i + 1) xs))
+    → filled ≡ rest ++ f (get_or xs i d) → Passes b c filled next []
+    → Passes a c held next (flat_map f (take (i + 1) xs))
 passes_step f xs i d lt p e q = passes_entry f xs i d lt p (passes_filled e q)
 
 pub stops_step : {A : Type 0} {a b c : Option (List ℕ)} {held rest filled : List ℕ} (f : A → List ℕ) (xs : List A)

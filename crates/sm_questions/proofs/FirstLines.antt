@@ -144,7 +144,8 @@ has_pairs policy filter table s asked lt found k d inside = record {
   room = asked.is.room;
   count = asked.rules.count;
   line = λ b low. found k d inside b low
-      ∙ written_is policy.statements (types policy.statements) table.rules.now b s (get_or table.targets.now k d) (class_at b)
+      ∙ written_is policy.statements (types policy.statements) table.rules.now b s (get_or table.targets.now k d)
+      (class_at b)
       (perm_at b) asked.rules lt (asked.targets.inside k d inside) (low, refl, refl);
 }
 

@@ -1,8 +1,10 @@
 -- Two types without a permission have no lines.
-use Rattle.std.proofs.Common.{◌≡◌, ◌∙◌, ◌&&◌, ℕ, suc, ◌+◌, ◌-◌, ◌<◌, ◌≤◌, List, [], ◌∷◌, ◌++◌, Option, Some, None, IfSome, true, false}
+use Rattle.std.proofs.Common.{◌≡◌, ◌∙◌, ◌&&◌, ℕ, suc, ◌+◌, ◌-◌, ◌<◌, ◌≤◌, List, [], ◌∷◌, ◌++◌, Option, Some, None}
+use Rattle.std.proofs.Common.{IfSome, true, false}
 use Rattle.std.proofs.Common.{nat_eq, get_or, length, take, map, refl, sym, ap, inl, inr, append_assoc, arith}
 use Rattle.std.specs.List.{flat_map}
-use Rattle.std.proofs.lemmas.List.{append-nil, get_or_default, get_or-map, get_or-take, length-map, length-take-le, take_more}
+use Rattle.std.proofs.lemmas.List.{append-nil, get_or_default, get_or-map, get_or-take, length-map, length-take-le}
+use Rattle.std.proofs.lemmas.List.{take_more}
 use Rattle.std.proofs.lemmas.Grind.{flat_map-append}
 use Rattle.std.proofs.lemmas.Nat.Bits.{bit_at-zero}
 use Rattle.std.proofs.lemmas.Bool.{cases_eq, eqb-true, or_cases}

@@ -1,6 +1,7 @@
 -- The types that are asked for, and the lines of the first allow rules that grant sources their permissions.
 use Rattle.std.proofs.Common.{get_or}
-use Rattle.std.specs.Prelude.{◌≡◌, ◌==◌, ◌<◌, ◌≤◌, ◌+◌, ◌*◌, ℕ, Bool, if◌then◌else◌, List, All, length, slice_get, Option}
+use Rattle.std.specs.Prelude.{◌≡◌, ◌==◌, ◌<◌, ◌≤◌, ◌+◌, ◌*◌, ℕ, Bool, if◌then◌else◌, List, All, length, slice_get}
+use Rattle.std.specs.Prelude.{Option}
 use Rattle.std.specs.Prelude.{Some, None, map}
 use Rattle.std.specs.List.{filter, filter_map}
 use Rattle.std.specs.Option.{option_or}

@@ -17,7 +17,8 @@ changed_line key before after = 126 ∷ 32 ∷ (label_words key before after ++ 
 -- A key has a line if the policies give different contexts to its name.
 unfoldable pub changed : Policy → Policy → List ℕ → List ℕ
 changed old new key =
-    if bytes_eq (label_of old key) (label_of new key) then [] else changed_line key (label_of old key) (label_of new key)
+    if bytes_eq (label_of old key) (label_of new key) then []
+    else changed_line key (label_of old key) (label_of new key)
 
 -- A key of the new policy has one only if the old policy has no such key.
 unfoldable pub added : Policy → Policy → List ℕ → List ℕ

@@ -1,5 +1,6 @@
 -- What a writer of whole lines does with a text, though a write may fail in the middle of a line.
-use Rattle.std.specs.Prelude.{◌≡◌, ◌++◌, ◌-◌, ◌==◌, ◌⊎◌, ℕ, List, Option, codes, count_by, drop, length, slice_index, take, vec_capacity}
+use Rattle.std.specs.Prelude.{◌≡◌, ◌++◌, ◌-◌, ◌==◌, ◌⊎◌, ℕ, List, Option, codes, count_by, drop, length, slice_index}
+use Rattle.std.specs.Prelude.{take, vec_capacity}
 use Rattle.std.specs.Fmt.{decimal}
 use Rattle.std.specs.Io.KnownBytes.{Appends}
 use Rattle.sm_serve.specs.declared.log_lines.LogLines.{LogLines, TheVariants.Fixed, TheVariants.Made}

@@ -3,7 +3,8 @@ use Rattle.std.proofs.Common.{◌≡◌, ℕ, List, [], ◌∷◌, Option, None,
 use Rattle.std.specs.Str.{bytes_eq}
 use Rattle.sm_kinds.specs.declared.number.ClientId.{ClientId}
 use Rattle.sm_wire.specs.LineTable.{Production, get_line, check_line, list_line, version_line, call_line}
-use Rattle.sm_wire.specs.LineTable.{release_line, take_line, add_line, hello_line, client_lines, rare_lines, connection_lines}
+use Rattle.sm_wire.specs.LineTable.{release_line, take_line, add_line, hello_line, client_lines, rare_lines}
+use Rattle.sm_wire.specs.LineTable.{connection_lines}
 use Rattle.sm_wire.specs.Grammar.{line_of, lines_of}
 use Rattle.sm_wire.specs.Fields.{first_is}
 

@@ -1,5 +1,6 @@
 -- Names of 8 to 16 bytes are the same if their ends are.
-use Rattle.std.proofs.Common.{◌≡◌, ◌∙◌, ℕ, ◌+◌, ◌-◌, ◌<◌, ◌≤◌, List, [], ◌∷◌, ◌++◌, zero, suc, length, take, drop, get_or, arith, sym}
+use Rattle.std.proofs.Common.{◌≡◌, ◌∙◌, ℕ, ◌+◌, ◌-◌, ◌<◌, ◌≤◌, List, [], ◌∷◌, ◌++◌, zero, suc, length, take, drop}
+use Rattle.std.proofs.Common.{get_or, arith, sym}
 use Rattle.std.proofs.Common.{length-take-le, length-drop}
 use Rattle.std.proofs.lemmas.List.{drop-drop, take-append-drop, get_or-drop}
 use Rattle.std.proofs.lemmas.Nat.{le_bytes_8}

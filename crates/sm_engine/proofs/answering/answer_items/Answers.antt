@@ -1,4 +1,5 @@
-use Rattle.std.proofs.Common.{◌≡◌, ℕ, List, ◌++◌, ◌∷◌, [], sym, ◌∙◌, refl, arith, append_assoc, Result, Ok, Err, OnOk, rules, append-nil}
+use Rattle.std.proofs.Common.{◌≡◌, ℕ, List, ◌++◌, ◌∷◌, [], sym, ◌∙◌, refl, arith, append_assoc, Result, Ok, Err, OnOk}
+use Rattle.std.proofs.Common.{rules, append-nil}
 use Rattle.std.proofs.lemmas.Result.{on_err_weaker}
 use Rattle.sm_wire.specs.declared.item.Item.{Item}
 use Rattle.sm_engine.specs.Running.{Answered, Answers, IsSilent}
@@ -45,7 +46,8 @@ pub loop-item-preserved : goal.loop-item-preserved
 loop-item-preserved g c =
     let i = c.loop-item.invariant.1 in
     let same : c.if-is_empty.machine ≡ c.answer.new.self =
-    elim c.if-is_empty.branch [ then-is_empty w ↦ w.machine-is ∙ w.written.ensures | else-is_empty w ↦ w.machine-is ] in (
+    elim c.if-is_empty.branch
+    [ then-is_empty w ↦ w.machine-is ∙ w.written.ensures | else-is_empty w ↦ w.machine-is ] in (
       c.loop-item.invariant.0 ++ c.in-Some.item ∷ [],
       record {
         left = sym (joined _ _ _ _ _ i.left c.in-Some.ensures.items);

@@ -29,7 +29,8 @@ returns-then-n-eq0-clause-served g c =
 
 pub returns-in_default-feed_into-clause-served : goal.returns-in_default-feed_into-clause-served
 returns-in_default-feed_into-clause-served g c = served_stop _ _ _ c.loop-reads.invariant.sofar
-    (few _ _ _ _ c.loop-reads.invariant.reads c.in-Ok.ensures.calls) c.in-Ok.ensures.bytes.0 (stopped_none _ _) _ (inr refl)
+    (few _ _ _ _ c.loop-reads.invariant.reads c.in-Ok.ensures.calls) c.in-Ok.ensures.bytes.0 (stopped_none _ _)
+    _ (inr refl)
 
 pub returns-in_err-answer_items-clause-served : goal.returns-in_err-answer_items-clause-served
 returns-in_err-answer_items-clause-served g c =
@@ -48,12 +49,14 @@ returns-in_err-answer_items-clause-too_many g c =
 pub returns-then-is_over-clause-served : goal.returns-then-is_over-clause-served
 returns-then-is_over-clause-served g c = served_over _ _ _ c.loop-reads.invariant.sofar
     (few _ _ _ _ c.loop-reads.invariant.reads c.in-Ok.ensures.calls) c.in-Ok.ensures.bytes.0
-    (rw (c.in-Ok-feed_into.ensures.items, c.loop-reads.invariant.idle.0) at c.in_ok-answer_items.ensures.ok) (sym c.is_over.ensures ∙ c.if-is_over.true)
+    (rw (c.in-Ok-feed_into.ensures.items, c.loop-reads.invariant.idle.0) at c.in_ok-answer_items.ensures.ok)
+    (sym c.is_over.ensures ∙ c.if-is_over.true)
 
 pub returns-then-is_dead-clause-served : goal.returns-then-is_dead-clause-served
 returns-then-is_dead-clause-served g c = served_long _ _ _ c.loop-reads.invariant.sofar
     (few _ _ _ _ c.loop-reads.invariant.reads c.in-Ok.ensures.calls) c.in-Ok.ensures.bytes.0
-    (rw (c.in-Ok-feed_into.ensures.items, c.loop-reads.invariant.idle.0) at c.in_ok-answer_items.ensures.ok) _ c.in-Ok-feed_into.ensures.scan (c.if-is_dead.ensures.0 refl)
+    (rw (c.in-Ok-feed_into.ensures.items, c.loop-reads.invariant.idle.0) at c.in_ok-answer_items.ensures.ok) _
+    c.in-Ok-feed_into.ensures.scan (c.if-is_dead.ensures.0 refl)
 
 pub loop-reads-preserved : goal.loop-reads-preserved
 loop-reads-preserved g c =
@@ -61,7 +64,8 @@ loop-reads-preserved g c =
     let within : c.in-Ok.n ≤ length c.read.new.buf = search rules in
     record {
       sofar = sofar_next _ _ i.sofar c.in-Ok.ensures.bytes.0
-          (rw (c.in-Ok-feed_into.ensures.items, i.idle.0) at c.in_ok-answer_items.ensures.ok) _ c.in-Ok-feed_into.ensures.scan (λ h. let no : false ≡ true = c.if-is_dead.ensures.1 h in cc)
+          (rw (c.in-Ok-feed_into.ensures.items, i.idle.0) at c.in_ok-answer_items.ensures.ok) _
+          c.in-Ok-feed_into.ensures.scan (λ h. let no : false ≡ true = c.if-is_dead.ensures.1 h in cc)
           (sym c.is_over.ensures ∙ c.if-is_over.false) (some _ _ within c.if-n-eq0.false);
       idle = c.clear.ensures;
       reads = omega (arith, c.in-Ok.ensures.calls, i.reads);

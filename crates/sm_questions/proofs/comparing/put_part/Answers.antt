@@ -31,6 +31,7 @@ loop-index-preserved g c =
           c.in_ok-write_full.ensures.ok;
       any = any_step f names c.loop-index.index [] lt c.loop-index.invariant.any
           (any_held c.loop-index.held.items _ c.in_ok-push.ensures)
-          (rw (c.len-before.ensures, c.len.ensures, c.loop-index.held.ok.0, c.push.new.held.ok.0) at c.either-any.ensures);
+          (rw (c.len-before.ensures, c.len.ensures, c.loop-index.held.ok.0, c.push.new.held.ok.0)
+          at c.either-any.ensures);
       count = c.in_ok-write_full.ensures.count ∙ c.loop-index.invariant.count;
     }

@@ -5,7 +5,8 @@ use Rattle.sm_questions.proofs.listing.access.Goals as goal
 
 pub returns-in_err-put_sources-clause-front : goal.returns-in_err-put_sources-clause-front
 returns-in_err-put_sources-clause-front g c =
-    on_err c.from_residual-in_err-put_sources.result (stops_end (rw c.new-held.ensures.items at c.in_err-put_sources.ensures.stopped))
+    on_err c.from_residual-in_err-put_sources.result
+    (stops_end (rw c.new-held.ensures.items at c.in_err-put_sources.ensures.stopped))
 
 pub returns-clause-front : goal.returns-clause-front
 returns-clause-front g c =

@@ -12,6 +12,7 @@ returns c =
     let names = types c.args.policy.now.statements in
     let f = pair_lines c.args.policy.now c.args.filter.now.perms.0 (at names c.args.source) in
     let numbers = c.args.table.now.targets.now in
-    let le : length numbers ≤ c.loop-target.target-index = omega (arith, rw c.targets-target-items.ensures at c.loop-target-test.false) in
+    let le : length numbers ≤ c.loop-target.target-index = omega
+    (arith, rw c.targets-target-items.ensures at c.loop-target-test.false) in
     held_list (numbered names f) numbers c.loop-target.target-index c.args.held.now.items le c.loop-target.invariant
     ∙ ap (λ l. c.args.held.now.items ++ l) (numbered_lines names c.args.filter.now.target f numbers c.requires.targets)

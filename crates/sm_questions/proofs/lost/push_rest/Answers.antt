@@ -18,8 +18,12 @@ loop-target-preserved c =
       | else-not-is_kept w ↦
           let some = rw (c.requires.numbers, c.from.ensures) at c.in_ok-there.ensures.some in
           let none = rw (c.requires.numbers, c.from.ensures) at c.in_ok-there.ensures.none in
-          let kept = rw
-          (c.requires.numbers, c.from-in-loop-target.ensures, c.deref.ensures.value, c.deref-in-loop-target.ensures.value) at
+          let kept = rw (
+            c.requires.numbers,
+            c.from-in-loop-target.ensures,
+            c.deref.ensures.value,
+            c.deref-in-loop-target.ensures.value,
+          ) at
           (sym c.is_kept.ensures ∙ w.if-not-is_kept.false) in
           let nothing = kept_lost c.args.sign c.args.one.now c.args.other.now c.in_ok-here.here.items
           c.in_ok-there.there.items c.args.source c.loop-target.target c.requires.source lt

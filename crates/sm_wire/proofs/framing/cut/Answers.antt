@@ -8,7 +8,8 @@ pub loop-start-preserved : goal.loop-start-preserved
 loop-start-preserved c =
     let n : c.loop-start.start + c.in-At.n - c.loop-start.start ≡ c.in-At.n = omega arith in (
       far_next c.args.kind _ _ _ c.args.bytes.now c.loop-start.start c.in-At.n _ _ _
-          (rw (sliced c.args.bytes.now c.loop-start.start) at c.in-At.ensures) (rw n at c.in_ok-whole_item-in-At.ensures.item)
+          (rw (sliced c.args.bytes.now c.loop-start.start) at c.in-At.ensures)
+          (rw n at c.in_ok-whole_item-in-At.ensures.item)
           c.loop-start.invariant.0,
       keeps_more _ _ _ _ c.loop-start.invariant.1 c.in_ok-whole_item-in-At.ensures.item.items,
     )

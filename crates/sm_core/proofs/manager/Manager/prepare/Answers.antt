@@ -4,7 +4,8 @@ use Rattle.sm_core.proofs.manager.Manager.prepare.Goals as goal
 
 pub make_room-requires : goal.make_room-requires
 make_room-requires c =
-    rw (← c.self.view_is, c.as_slice.ensures) (numbers_planned c.args.self.now.book c.self.inside.state c.self.inside.turns
+    rw (← c.self.view_is, c.as_slice.ensures)
+    (numbers_planned c.args.self.now.book c.self.inside.state c.self.inside.turns
     c.self.inside.ring c.args.by c.args.turn c.args.event c.args.plan
     (rw (← c.self.view_is) c.self.invariant) c.requires.pass c.requires.plan)
 

@@ -15,13 +15,15 @@ refuse-requires c =
 pub returns-in-Err-clause-refused : goal.returns-in-Err-clause-refused
 returns-in-Err-clause-refused c =
     let b = c.args.self.now.book in
-    stop_answers b.places b.history c.args.by c.args.turn c.args.event c.judge_small.new.notes c.in-Err.stop c.refuse.result.0
+    stop_answers b.places b.history c.args.by c.args.turn c.args.event c.judge_small.new.notes c.in-Err.stop
+    c.refuse.result.0
     (rw c.none-notes.ensures at c.in-Err.ensures) c.refuse.ensures.answer
 
 pub returns-in-Err-clause-recorded : goal.returns-in-Err-clause-recorded
 returns-in-Err-clause-recorded c =
     let b = c.args.self.now.book in
-    refused_ring c.args.self.now c.args.by c.args.turn c.args.event c.in-Err.stop c.judge_small.new.notes _ c.refuse.result.0
+    refused_ring c.args.self.now c.args.by c.args.turn c.args.event c.in-Err.stop c.judge_small.new.notes _
+    c.refuse.result.0
     (rw c.none-notes.ensures at c.in-Err.ensures) c.refuse.ensures.answer c.refuse.ensures.ring
 
 pub returns-in-Err-clause-leaves : goal.returns-in-Err-clause-leaves

@@ -36,8 +36,10 @@ returns c =
     let length : c.history_length-length.result ≡ length_of h =
     c.history_length-length.ensures in
     c.new.ensures
-    ∙ ap (λ (t : Rows). record { tables = t; length = c.history_length-length.result; turns = c.in_ok-turns.turns.items })
+    ∙ ap (λ (t : Rows). record
+    { tables = t; length = c.history_length-length.result; turns = c.in_ok-turns.turns.items })
     tables
-    ∙ ap (λ (ts : List TurnRow). record { tables = rows_at d; length = c.history_length-length.result; turns = ts }) turns
+    ∙ ap (λ (ts : List TurnRow). record
+    { tables = rows_at d; length = c.history_length-length.result; turns = ts }) turns
     ∙ ap (λ (n : ℕ). record { tables = rows_at d; length = n; turns = map (turn_row h) (actors_of h) }) length
     ∙ ap (λ (m : Managed). rows_of m.book.history) c.self.view_is

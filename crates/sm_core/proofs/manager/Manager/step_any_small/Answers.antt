@@ -58,7 +58,8 @@ commit_small-requires-clause-noted c =
 
 -- The outcome for the reply is that of the entry.
 reply_is : (old : Book) (mid : Book) (change : SmallChange) (outcome : Outcome) → IsSame old mid
-    → outcome ≡ outcome_by (effects_of old.history) change → Done outcome ≡ Done (outcome_by (effects_of mid.history) change)
+    → outcome ≡ outcome_by (effects_of old.history) change
+    → Done outcome ≡ Done (outcome_by (effects_of mid.history) change)
 reply_is old mid change outcome same is =
     ap (λ (x : Outcome). Done x) (is ∙ ap (λ (h : History). outcome_by (effects_of h) change) (sym same.history))
 

@@ -1,4 +1,5 @@
-use Rattle.std.proofs.Common.{◌≡◌, ◌+◌, ◌<◌, ◌≤◌, ◌⊎◌, inl, inr, Bool, ℕ, true, List, refl, subst, rules, arith, length, drop, get_or}
+use Rattle.std.proofs.Common.{◌≡◌, ◌+◌, ◌<◌, ◌≤◌, ◌⊎◌, inl, inr, Bool, ℕ, true, List, refl, subst, rules, arith}
+use Rattle.std.proofs.Common.{length, drop, get_or}
 use Rattle.std.specs.List.{list_any}
 use Rattle.std.proofs.lemmas.Grind.{common_steps}
 use Rattle.sm_history.specs.Clients.{is_connect_of}
@@ -14,7 +15,8 @@ use Rattle.sm_core.proofs.ListSteps.{further_at}
 use Rattle.sm_core.proofs.Opened.{number_same}
 use Rattle.sm_core.proofs.Viewing.{same_but_room}
 use Rattle.sm_core.proofs.state.State.reserve.Goals as goal
-use Rattle.sm_core.proofs.state.State.reserve.Goals.{in-Gives+in_ok-reserve-in-Gives, in-Connects+in_ok-reserve-in-Connects, in_default}
+use Rattle.sm_core.proofs.state.State.reserve.Goals.{in-Gives+in_ok-reserve-in-Gives}
+use Rattle.sm_core.proofs.state.State.reserve.Goals.{in-Connects+in_ok-reserve-in-Connects, in_default}
 
 -- Tables with other room for handles and inboxes stand as before.
 roomier : (d : Effects) (s : State) (g : Grants) (i : Inboxes) → (Tracks d s.grants → Tracks d g)

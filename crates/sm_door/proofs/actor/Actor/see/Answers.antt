@@ -30,7 +30,8 @@ returns g c =
         by = ap (λ (k : Knows). k.by) c.self.view_is;
         lawful = subst IsLawfulBook (sym seen) c.turn-self-inside.ensures.lawful;
         begins =
-            subst (λ (z : Book × Book). Begins z.0 z.1) (λ i. (sym c.inform-reader.ensures.seen i, was i)) c.inform-reader.ensures.begins;
+            subst (λ (z : Book × Book). Begins z.0 z.1) (λ i. (sym c.inform-reader.ensures.seen i, was i))
+            c.inform-reader.ensures.begins;
         reads = omega (arith, entered, before);
       };
       entered = omega (arith, entered, before);

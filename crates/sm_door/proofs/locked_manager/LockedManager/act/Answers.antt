@@ -35,7 +35,8 @@ returns g c =
     record {
       steps = s.0;
       ring = s.1;
-      submitted = submitted old.book new.book c.args.me.now c.see.new.self c.args.event c.see.ensures step.result.0 m s.0;
+      submitted = submitted old.book new.book c.args.me.now c.see.new.self c.args.event c.see.ensures
+          step.result.0 m s.0;
       logged = logged old.book new.book c.args.me.now c.see.new.self c.args.event c.see.ensures step.result.1.items
           step.result.0 m s.0 s.2;
       by = c.see.ensures.grows.by;

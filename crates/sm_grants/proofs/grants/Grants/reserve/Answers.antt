@@ -1,4 +1,5 @@
-use Rattle.std.proofs.Common.{◌≡◌, ◌≤◌, ◌<◌, ℕ, Bool, true, false, if◌then◌else◌, List, None, refl, sym, ap, subst, ◌∙◌, arith}
+use Rattle.std.proofs.Common.{◌≡◌, ◌≤◌, ◌<◌, ℕ, Bool, true, false, if◌then◌else◌, List, None, refl, sym, ap, subst}
+use Rattle.std.proofs.Common.{◌∙◌, arith}
 use Rattle.std.specs.Prelude.{Option, is_ok}
 use Rattle.std.specs.List.{insert}
 use Rattle.sm_grants.specs.declared.rows.ClientHandles.{ClientHandles}
@@ -121,7 +122,8 @@ invariant_of-self-in-None c =
     let r : ClientHandles = record { client = c.args.client; handles = c.reserve-in-None-2.new.self } in
     let items = rw c.reserve-in-None.ensures.items at c.insert.ensures.items in
     record {
-      bounded = either (λ v. highest v ≤ c.args.self.now.bound) (is_ok c.insert.result) (insert rows c.place_for-place.result r) rows
+      bounded = either (λ v. highest v ≤ c.args.self.now.bound) (is_ok c.insert.result)
+          (insert rows c.place_for-place.result r) rows
           c.insert.new.self.items items
           (inserted_bounded rows c.place_for-place.result c.args.self.now.bound r c.args.self.now.bounded
           (c.reserve-in-None-2.ensures.slots ∙ c.in_ok-handles-in-None.ensures)) c.args.self.now.bounded;

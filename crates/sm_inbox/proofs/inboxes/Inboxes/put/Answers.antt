@@ -31,6 +31,7 @@ returns-clause-still c =
 
 pub invariant_of-self : goal.invariant_of-self
 invariant_of-self c = record {
-  once = once_written _ c.args.self.now.rows.items c.in-Some.i c.index_mut-row.result.now _ c.index_mut-row.ensures.value
+  once = once_written _ c.args.self.now.rows.items c.in-Some.i c.index_mut-row.result.now _
+      c.index_mut-row.ensures.value
       refl c.args.self.now.once;
 }

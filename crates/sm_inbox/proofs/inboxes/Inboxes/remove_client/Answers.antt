@@ -32,4 +32,7 @@ pub invariant_of-self : goal.invariant_of-self
 invariant_of-self c =
     let left = filter_same _ (λ (r : Inbox). not (r.client == c.args.client)) _ (λ x b f' k. search rules) _ _
     c.retain.ensures.filtered in
-    record { once = rw left (once_left _ c.args.self.now.rows.items (λ k. not (k == c.args.client)) c.args.self.now.once) }
+    record {
+      once = rw left
+          (once_left _ c.args.self.now.rows.items (λ k. not (k == c.args.client)) c.args.self.now.once);
+    }

@@ -9,7 +9,8 @@ use Rattle.sm_inbox.proofs.inboxes.Inboxes.reserve.Goals as goal
 pub returns-then-is_some-clause-room : goal.returns-then-is_some-clause-room
 returns-then-is_some-clause-room c =
     let at = rw c.deref.ensures.value at c.inbox_index.ensures in
-    let there = sym (sought _ c.args.self.now.rows.items c.args.client c.inbox_index.result at) ∙ sym c.is_some.ensures ∙
+    let there = sym (sought _ c.args.self.now.rows.items c.args.client c.inbox_index.result at)
+    ∙ sym c.is_some.ensures ∙
     c.if-is_some.true in
     room_open _ there
 

@@ -17,7 +17,8 @@ returns c =
     let rows = c.self.inside.rows.items in
     let order = c.self.inside.order.items in
     let i = c.index.result.now in
-    let at = read_at rows order c.args.position i c.self.invariant (rw (← c.self.view_is) at c.requires) c.index.ensures in
+    let at = read_at rows order c.args.position i c.self.invariant (rw (← c.self.view_is) at c.requires)
+    c.index.ensures in
     let row = get_or_read rows i c.index-2.result.now at.2 c.index-2.ensures no_row in
     rw (← c.self.view_is, at_of rows order c.args.position no_row at.0, at.1)
     (ap (λ (r : NamedRow). r.service) row)

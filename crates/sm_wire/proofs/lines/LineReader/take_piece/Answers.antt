@@ -10,7 +10,8 @@ returns-in_ok-extend_from_slice-in-Later-clause-items c = rw (← c.self.view_is
 
 pub returns-in_ok-extend_from_slice-in-Later-clause-scan : goal.returns-in_ok-extend_from_slice-in-Later-clause-scan
 returns-in_ok-extend_from_slice-in-Later-clause-scan c = rw (← c.self.view_is)
-    (piece_later c.self.inside.kind c.self.inside.mode c.self.inside.held.items c.args.piece.now _ c.args.items.now.items
+    (piece_later c.self.inside.kind c.self.inside.mode c.self.inside.held.items c.args.piece.now _
+    c.args.items.now.items
     (rw (c.len.ensures ∙ c.self.inside.held.ok.0) at c.in-Later.ensures)
     c.in_ok-extend_from_slice-in-Later.ensures.items).0
 
