@@ -24,7 +24,7 @@ pub const LIST: u64 = 192;
 /// A reference in a list that has room for twice as many.
 pub const REFERENCE: u64 = 16;
 
-/// A notice in a list that has room for twice as many, or behind a shared pointer.
+/// A notice in a list or behind a shared pointer, and the reason why a watcher was not notified, without its texts.
 pub const NOTICE: u64 = 128;
 
 /// The row of a client among the numbers of changes, which stays until the next seal.
@@ -99,7 +99,7 @@ fn told_bytes(told: &Told) -> u64
 {
     match told {
         Told::Told(delivery) => delivery_bytes(delivery.get()),
-        Told::NotTold(reason) => reason_bytes(reason),
+        Told::NotTold(reason) => reason_bytes(reason.get()),
     }
 }
 

@@ -1,5 +1,5 @@
 -- Changes with one small effect.
-use Rattle.std.specs.Prelude.{ℕ, ◌≤◌, Bool, true, false, List, [], ◌∷◌, None}
+use Rattle.std.specs.Prelude.{ℕ, ◌≤◌, Bool, true, false, [], ◌∷◌, None}
 use Rattle.sm_history.specs.Effects.{Effects}
 use Rattle.sm_history.specs.Histories.{call_delivery, found}
 use Rattle.sm_history.specs.Inboxes.{inbox_at}

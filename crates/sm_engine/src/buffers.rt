@@ -1,5 +1,6 @@
 //! Buffers of an engine.
 
+ghost use Rattle.std.specs.Prelude.{◌≡◌, []};
 ghost use Rattle.sm_engine.specs.Buffers.{IsIdle};
 
 use sm_kinds::drop_fields;
@@ -7,14 +8,14 @@ use sm_wire::Item;
 use std::alloc::Global;
 use std::collections::VecDeque;
 
-/// The most items for which memory is kept between two pieces.
+/// A queue with room for at most four times as many items keeps its memory.
 const KEPT_ITEMS: usize = 256;
 
-/// The most bytes of each text for which memory is kept.
+/// A text with room for at most four times as many bytes keeps its memory.
 const KEPT_BYTES: usize = 16_384;
 
 /// The items of a piece, and the texts that are held back. They are empty between two pieces, and keep their memory
-/// unless it is large, so that a piece of a few lines needs no allocation.
+/// unless it is large and little of it was used. So most pieces need no allocation.
 pub struct Buffers {
     pub items: VecDeque<Item>,
     pub replies: Vec<u8>,
@@ -43,11 +44,32 @@ impl Buffers {
     pub fn clear(&mut self)
         ensures { IsIdle self.new }
     {
-        self.items.clear();
-        self.items.shrink_to(KEPT_ITEMS);
-        self.replies.clear();
-        self.replies.shrink_to(KEPT_BYTES);
-        self.lines.clear();
-        self.lines.shrink_to(KEPT_BYTES);
+        clear_items(&mut self.items);
+        clear_text(&mut self.replies);
+        clear_text(&mut self.lines);
+    }
+}
+
+/// Empties a queue. If it has much room, and less than a quarter was used, it gives half of its memory back.
+fn clear_items(items: &mut VecDeque<Item>)
+    ensures { items.new.items ≡ [] }
+{
+    let quarter = items.capacity() / 4;
+    let is_large = quarter > KEPT_ITEMS && quarter > items.len();
+    items.clear();
+    if is_large {
+        items.shrink_to(quarter * 2);
+    }
+}
+
+/// Empties a text. If it has much room, and less than a quarter was used, it gives half of its memory back.
+fn clear_text(text: &mut Vec<u8>)
+    ensures { text.new.items ≡ [] }
+{
+    let quarter = text.capacity() / 4;
+    let is_large = quarter > KEPT_BYTES && quarter > text.len();
+    text.clear();
+    if is_large {
+        text.shrink_to(quarter * 2);
     }
 }

@@ -1,5 +1,5 @@
 -- Security contexts: user:role:type or user:role:type:range.
-use Rattle.std.specs.Prelude.{◌≡◌, ℕ, ◌+◌, ◌≤◌, Bool, false, not, ◌&&◌, ◌||◌, ◌==◌, nat_le, if◌then◌else◌, List, length}
+use Rattle.std.specs.Prelude.{◌≡◌, ℕ, ◌+◌, Bool, false, not, ◌&&◌, ◌||◌, ◌==◌, nat_le, if◌then◌else◌, List, length}
 use Rattle.std.specs.Prelude.{take, drop, Option, Some, None, option_map}
 use Rattle.std.specs.List.{prefix_len, list_all}
 use Rattle.std.specs.Borrow.{Bor}
@@ -27,11 +27,6 @@ first_part bytes = take (prefix_len is_in_part bytes) bytes
 -- This is the third part of a context.
 abbrev pub type_of : List ℕ → List ℕ
 type_of text = first_part (behind_part (behind_part text))
-
--- The type of a context begins at this place and has this length.
-abbrev pub IsTypeAt : ℕ → ℕ → List ℕ → Type 0
-IsTypeAt start len text =
-    (take len (drop start text) ≡ type_of text) × ((start ≤ length text) × (len ≤ length (drop start text)))
 
 -- These are the bytes after a nonempty part and its colon.
 abbrev pub after_part : List ℕ → Option (List ℕ)

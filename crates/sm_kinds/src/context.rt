@@ -4,7 +4,6 @@ ghost use Rattle.std.specs.Prelude.{◌≡◌, ◌≢◌, ◌≤◌, ◌<◌, le
 ghost use Rattle.std.specs.List.{prefix_len, list_all};
 ghost use Rattle.sm_kinds.specs.Contexts as spec;
 
-use crate::drop_fields;
 use crate::lines::behind;
 use std::alloc::{AllocError, Global};
 use std::marker::Model;
@@ -14,9 +13,6 @@ use std::sync::ArcSlice;
 /// No check reads the range.
 pub struct Context {
     text: ArcSlice<u8>,
-    /// Where the type begins in the text, and its length in bytes.
-    kind_start: usize,
-    kind_len: usize,
 }
 
 /// Why bytes are no context.
@@ -31,18 +27,15 @@ pub enum ContextError {
 impl Model for Context {
     ghost use Rattle.std.specs.Arc.{arc_slice_items};
     ghost use Rattle.std.specs.Prelude.{List, ℕ};
-    ghost use Rattle.sm_kinds.specs.Contexts.{IsTypeAt};
 
     ghost Value = { List ℕ };
 
     ghost view = { λ n. arc_slice_items n.text };
-
-    ghost invariant = { λ n. IsTypeAt n.kind_start n.kind_len (arc_slice_items n.text) };
 }
 
 impl Drop for Context {
     fn drop(self) {
-        drop_fields!(self: text, kind_start, kind_len);
+        let Context { text: _ } = self;
     }
 }
 
@@ -52,11 +45,7 @@ impl Clone for Context {
     /// Returns another reference to the same text.
     fn clone(&self) -> Result<Context, AllocError> {
         let text = self.text.clone()?;
-        Ok(Context {
-            text,
-            kind_start: self.kind_start,
-            kind_len: self.kind_len,
-        })
+        Ok(Context { text })
     }
 }
 
@@ -83,7 +72,9 @@ impl Context {
     pub fn type_name(&self) -> &[u8]
         ensures { result.now ≡ spec.type_of self.now }
     {
-        let (kind, _) = behind(self.text.as_slice(), self.kind_start).split_at(self.kind_len);
+        let text = self.text.as_slice();
+        let rest = behind(text, type_start(text));
+        let (kind, _) = rest.split_at(part_len(rest));
         kind
     }
 
@@ -98,14 +89,8 @@ impl Context {
 fn copied(alloc: Global, text: &[u8]) -> Result<Context, AllocError>
     ensures { IfOk result (λ c. c ≡ text.now) }
 {
-    let kind_start = type_start(text);
-    let kind_len = part_len(behind(text, kind_start));
     let text = ArcSlice::from_slice(alloc, text)?;
-    Ok(Context {
-        text,
-        kind_start,
-        kind_len,
-    })
+    Ok(Context { text })
 }
 
 fn is_graphic(b: u8) -> bool

@@ -32,7 +32,7 @@ pub use number::{AdminId, ClientId, Node, ObjRef};
 pub use payload::{Payload, PayloadError};
 pub use perms::Perms;
 pub use places::Places;
-pub use refs::Refs;
+pub use refs::{Refs, RefsError};
 pub use user::{
     AID_APP_START, AID_ISOLATED_END, AID_ISOLATED_START, AID_USER_OFFSET, app_number,
     is_barred_app, is_isolated,

@@ -1,14 +1,24 @@
 //! The references of a call.
 
-ghost use Rattle.std.specs.Prelude.{◌≡◌, ◌≤◌, length, nat_le, if◌then◌else◌, Some, None};
+ghost use Rattle.std.specs.Prelude.{◌≡◌, ◌≤◌, ◌<◌, length, IfOk, OnOk, Err};
 
 use crate::limits::MOST_REFS;
 use crate::number::ObjRef;
+use std::alloc::{AllocError, Global};
 use std::marker::Model;
 
-/// The references of a call, in order, at most `MOST_REFS`.
+/// The references of a call, in order, at most `MOST_REFS`. They are behind a pointer, so that events stay small.
 pub struct Refs {
-    list: Vec<ObjRef>,
+    list: Box<Vec<ObjRef>>,
+}
+
+/// Why references can't be those of a call.
+#[derive(Clone, Copy, PartialEq, Eq)]
+pub enum RefsError {
+    /// There are more than `MOST_REFS`.
+    TooMany,
+    /// An allocation failed.
+    Memory,
 }
 
 impl Model for Refs {
@@ -18,9 +28,9 @@ impl Model for Refs {
 
     ghost Value = { List ObjRef };
 
-    ghost view = { λ r. r.list.items };
+    ghost view = { λ r. r.list.value.items };
 
-    ghost invariant = { λ r. length r.list.items ≤ MOST_REFS };
+    ghost invariant = { λ r. length r.list.value.items ≤ MOST_REFS };
 }
 
 impl Drop for Refs {
@@ -29,15 +39,30 @@ impl Drop for Refs {
     }
 }
 
+fn boxed(alloc: Global, list: Vec<ObjRef>) -> Result<Box<Vec<ObjRef>>, AllocError>
+    ensures { IfOk result (λ b. b.value ≡ list) }
+{
+    Ok(Box::new(alloc, list)?)
+}
+
 impl Refs {
-    /// Makes a list of these references, whose memory it keeps, or returns `None` if there are more than `MOST_REFS`.
-    pub fn from_vec(list: Vec<ObjRef>) -> Option<Refs>
-        ensures { result ≡ (if nat_le (length list.items) MOST_REFS then Some list.items else None) }
+    ghost use Rattle.sm_kinds.specs.declared.limits.TheConstants.{MOST_REFS};
+    ghost use Rattle.sm_kinds.specs.declared.refs.RefsError.TheVariants.{TooMany};
+
+    /// Makes a list of these references, whose memory it keeps.
+    pub fn from_vec(alloc: Global, list: Vec<ObjRef>) -> Result<Refs, RefsError>
+        ensures value { IfOk result (λ r. r ≡ list.items) }
+        ensures fits { OnOk result (length list.items ≤ MOST_REFS) }
+        ensures many { MOST_REFS < length list.items → result ≡ Err TooMany }
+        ensures only_many { result ≡ Err TooMany → MOST_REFS < length list.items }
     {
         if list.len() > MOST_REFS {
-            return None;
+            return Err(RefsError::TooMany);
         }
-        Some(Refs { list })
+        match boxed(alloc, list) {
+            Ok(list) => Ok(Refs { list }),
+            Err(_) => Err(RefsError::Memory),
+        }
     }
 
     /// Returns the references in their order.

@@ -13,9 +13,14 @@ use crate::numbers::u32_field;
 use crate::read_error::ReadError;
 use crate::recent_names::RecentNames;
 use hex::FromHexError;
-use sm_kinds::{Class, Context, ContextError, Name, ObjRef, Payload, PayloadError, Perms, Refs};
+use sm_kinds::{
+    Class, Context, ContextError, Name, ObjRef, Payload, PayloadError, Perms, Refs, RefsError,
+};
 use sm_ruletext::is_word;
 use std::alloc::Global;
+
+/// The number of references for which memory is taken before a call's references are read.
+const COMMON_REFS: usize = 3;
 
 // Parses NAME: plain bytes, or `%` and two hexadecimal digits for each byte.
 #[tactic(auto, unfolding(crate::specs::Values::name_of))]
@@ -106,12 +111,13 @@ pub fn own_object_field(field: &[u8]) -> Result<u32, ReadError>
     }
 }
 
-fn references(list: Vec<ObjRef>) -> Result<Refs, ReadError>
+fn references(alloc: Global, list: Vec<ObjRef>) -> Result<Refs, ReadError>
     ensures { ReadsAs result (fitting_references list.items) }
 {
-    match Refs::from_vec(list) {
-        Some(refs) => Ok(refs),
-        None => Err(ReadError::Malformed),
+    match Refs::from_vec(alloc, list) {
+        Ok(refs) => Ok(refs),
+        Err(RefsError::TooMany) => Err(ReadError::Malformed),
+        Err(RefsError::Memory) => Err(ReadError::Memory),
     }
 }
 
@@ -120,14 +126,16 @@ fn references(list: Vec<ObjRef>) -> Result<Refs, ReadError>
 pub fn reference_fields(alloc: Global, fields: &mut Fields<'_>) -> Result<Refs, ReadError>
     ensures { ReadsAs result (call_references_of fields.old) }
 {
-    let mut list = Vec::new(alloc);
+    let Ok(mut list) = Vec::with_capacity(alloc, COMMON_REFS) else {
+        return Err(ReadError::Memory);
+    };
     while let Ok(field) = fields.field() {
         let reference = reference_field(field)?;
         if list.push(reference).is_err() {
             return Err(ReadError::Memory);
         }
     }
-    references(list)
+    references(alloc, list)
 }
 
 // Parses PAYLOAD: `-` for no bytes, or two hexadecimal digits for each of at most 1,024 bytes.

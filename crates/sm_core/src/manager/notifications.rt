@@ -153,7 +153,7 @@ impl Manager {
             × GoesFar (moment_in self.now) (effects_in self.now) node watches.now notifications.old notifications.new)
             (λ s. s ≡ spec.out_of_memory) }
     {
-        let mut notices = Vec::new(self.alloc);
+        let mut notices = Vec::with_capacity(self.alloc, watches.len())?;
         for watch in watches {
             let notice = self.notify(watch, node, label, notifications)?;
             notices.push(notice)?;
@@ -213,7 +213,10 @@ impl Manager {
         if watchers.is_empty() {
             return self.plan_unwatched(adds);
         }
-        let effects = vec![in self.alloc; adds]?;
+        // Each watcher gets a handle and a delivery.
+        let count = watchers.len().saturating_mul(2).saturating_add(1);
+        let mut effects = Vec::with_capacity(self.alloc, count)?;
+        effects.push(adds)?;
         self.plan_notices(watchers, node, label, effects)
     }
 

@@ -76,8 +76,10 @@ pub enum Became {
 fn end_of(told: &Told) -> Became {
     match told {
         Told::Told(_) => Became::Told,
-        Told::NotTold(Reason::Denied(_)) => Became::Denied,
-        Told::NotTold(Reason::TargetFull) => Became::TargetFull,
+        Told::NotTold(reason) => match reason.get() {
+            Reason::Denied(_) => Became::Denied,
+            Reason::TargetFull => Became::TargetFull,
+        },
     }
 }
 
@@ -191,7 +193,7 @@ fn call(rt: &impl Abort, alloc: Global, refs: &[ObjRef]) -> Event {
     Event::Call {
         handle: 1,
         payload: payload.ok().expect(rt, "a payload"),
-        refs: Refs::from_vec(refs).expect(rt, "references"),
+        refs: Refs::from_vec(alloc, refs).ok().expect(rt, "references"),
     }
 }
 

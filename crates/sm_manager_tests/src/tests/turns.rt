@@ -6,7 +6,7 @@ use super::acts::{
 };
 use sm_audit::push_lines;
 use sm_core::Manager;
-use sm_history::{By, Entry, Query, Record};
+use sm_history::{By, Entry, Notice, Query, Record};
 use sm_kinds::{AdminId, Class, Perms};
 use std::alloc::Global;
 use std::mem::size_of;
@@ -98,8 +98,8 @@ fn a_journal_of_a_hundred_thousand(rt: HostRuntime) {
 }
 
 #[test]
-fn an_entry_is_small(rt: HostRuntime) {
-    assert!(rt; size_of::<Entry>() <= 112);
+fn an_entry_and_a_notice_are_small(rt: HostRuntime) {
+    assert!(rt; size_of::<Entry>() <= 72 && size_of::<Notice>() <= 24);
 }
 
 const SECOND_ADMIN: By = By::Admin(AdminId(0));

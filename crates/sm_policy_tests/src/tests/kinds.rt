@@ -2,7 +2,7 @@
 
 use sm_kinds::{
     Class, Context, ContextError, Name, Names, ObjRef, Payload, PayloadError, Perms, Places, Refs,
-    app_number, is_barred_app, is_isolated, push_access, push_numbered, valid_name,
+    RefsError, app_number, is_barred_app, is_isolated, push_access, push_numbered, valid_name,
 };
 use std::alloc::Global;
 use std::process::Abort;
@@ -145,17 +145,13 @@ fn a_payload_has_1024_bytes_at_most(rt: HostRuntime) {
     assert!(rt; fault == Some(PayloadError::TooLong));
 }
 
-fn length_of(refs: Option<Refs>) -> Option<usize> {
-    Some(refs?.list().len())
-}
-
 #[test]
 fn a_call_has_16_references_at_most(rt: HostRuntime) {
     let refs = [ObjRef::Own(1); 17];
-    for (refs, length) in [(&refs[..16], Some(16)), (refs.as_slice(), None)] {
-        let kept = length_of(Refs::from_vec(list(&rt, rt.alloc(), refs)));
-        assert_eq!(rt; kept, length);
-    }
+    let kept = Refs::from_vec(rt.alloc(), list(&rt, rt.alloc(), &refs[..16]));
+    assert_eq!(rt; kept.ok().expect(&rt, "references").list().len(), 16);
+    let fault = Refs::from_vec(rt.alloc(), list(&rt, rt.alloc(), &refs)).err();
+    assert!(rt; fault == Some(RefsError::TooMany));
 }
 
 #[test]

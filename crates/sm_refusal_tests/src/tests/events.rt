@@ -59,7 +59,7 @@ fn connects(alloc: Global, context: &[u8]) -> Option<Event> {
 fn call(alloc: Global) -> Option<Event> {
     let payload = Payload::from_vec(alloc, Vec::from_slice(alloc, b"\x00").ok()?).ok()?;
     let refs = Vec::from_slice(alloc, &[ObjRef::Own(5), ObjRef::Own(5)]).ok()?;
-    let refs = Refs::from_vec(refs)?;
+    let refs = Refs::from_vec(alloc, refs).ok()?;
     Some(Event::Call {
         handle: 1,
         payload,

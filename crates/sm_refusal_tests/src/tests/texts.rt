@@ -2,7 +2,7 @@
 
 use super::outcome::{same_text, value};
 use sm_history::{Event, Outcome, Reply};
-use sm_kinds::{Context, ContextError, Name, ObjRef, Payload, PayloadError, Refs};
+use sm_kinds::{Context, ContextError, Name, ObjRef, Payload, PayloadError, Refs, RefsError};
 use sm_wire::{FeedError, Item, Kind, LineReader, ReadError, Request, Telling, reply_line};
 use std::alloc::Global;
 use std::collections::VecDeque;
@@ -33,7 +33,8 @@ fn payload(rt: &impl Abort, alloc: Global) -> Option<()> {
 
 fn refs(rt: &impl Abort, alloc: Global) -> Option<()> {
     let list = [ObjRef::Own(5), ObjRef::Handle(9)];
-    let refs = Refs::from_vec(Vec::from_slice(alloc, &list).ok()?)?;
+    let copy = Vec::from_slice(alloc, &list).ok()?;
+    let refs = value(rt, Refs::from_vec(alloc, copy), RefsError::Memory)?;
     assert!(rt; refs.list() == list.as_slice());
     Some(())
 }

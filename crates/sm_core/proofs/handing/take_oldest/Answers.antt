@@ -1,4 +1,3 @@
-use Rattle.std.proofs.Common.{Some, None}
 use Rattle.sm_history.specs.Inboxes.{inbox_at}
 use Rattle.sm_core.proofs.HandedOver.{first_taken, was_taken}
 use Rattle.sm_core.proofs.handing.take_oldest.Goals as goal

@@ -51,11 +51,11 @@ pub loop-field-preserved : goal.loop-field-preserved
 loop-field-preserved c =
     let is : c.push.new.self.items ≡ c.loop-field.list.items ++ c.in_ok-reference.reference ∷ [] =
     rw c.if-is_err.ensures.negation at c.push.ensures.items in
-    more _ _ _ _ _ _ _ c.in-Ok.ensures c.in_ok-reference.ensures is c.loop-field.invariant
+    more _ _ _ _ _ _ _ c.in-Ok-field.ensures c.in_ok-reference.ensures is c.loop-field.invariant
 
 pub returns-in_err-reference : goal.returns-in_err-reference
 returns-in_err-reference c =
-    let no = refused _ _ _ _ _ _ c.in-Ok.ensures c.in_err-reference.ensures c.loop-field.invariant in search rules
+    let no = refused _ _ _ _ _ _ c.in-Ok-field.ensures c.in_err-reference.ensures c.loop-field.invariant in search rules
 
 pub returns : goal.returns
-returns c = rw (ends _ _ _ c.in_default.ensures.1 c.loop-field.invariant) c.references.ensures
+returns c = rw (ends _ _ _ c.in_default-field.ensures.1 c.loop-field.invariant) c.references.ensures

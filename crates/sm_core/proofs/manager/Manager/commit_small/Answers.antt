@@ -4,10 +4,9 @@ use Rattle.std.specs.Prelude.{unwrap_or}
 use Rattle.sm_history.specs.declared.by.By.{By}
 use Rattle.sm_history.specs.declared.event.Event.{Event}
 use Rattle.sm_history.specs.declared.outcome.Outcome.{Outcome}
-use Rattle.sm_history.specs.declared.records.Record.{Record}
 use Rattle.sm_history.specs.Effects.{Effects}
 use Rattle.sm_history.specs.Following.{MayFollow}
-use Rattle.sm_history.specs.Histories.{History, effects_of}
+use Rattle.sm_history.specs.Histories.{effects_of}
 use Rattle.sm_core.specs.declared.small_change.SmallChange.{SmallChange}
 use Rattle.sm_core.specs.declared.state.State.{State}
 use Rattle.sm_core.specs.Managed.{Managed}
