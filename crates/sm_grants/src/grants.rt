@@ -20,8 +20,9 @@ ghost use Rattle.sm_grants.specs.Holders.{holders_at};
 use crate::handles::Handles;
 use crate::place::node_index;
 use crate::rows::{ClientHandles, handles_of, holders_in, place_for};
+use arrayvec::ArrayVec;
 use sm_history::{Held, MOST_HANDLES, row_index};
-use sm_kinds::{ClientId, Node, ObjRef, drop_fields};
+use sm_kinds::{ClientId, MOST_REFS, Node, ObjRef, drop_fields};
 use std::alloc::{AllocError, Global};
 
 /// The handles of all clients: who holds which object, under which number, and how often.
@@ -228,35 +229,27 @@ impl Grants {
         count.min(u32::MAX as usize) as u32
     }
 
-    /// Returns the numbers of a client's handles if objects that it doesn't own are granted to it in order.
-    ///
-    /// # Errors
-    ///
-    /// An error if the numbers can't be allocated.
-    pub fn numbers(
-        &self,
-        alloc: Global,
-        client: u32,
-        nodes: &[Node],
-    ) -> Result<Vec<u32>, AllocError>
+    /// Returns the numbers of a client's handles if objects that it doesn't own are granted to it in order. Allocates
+    /// nothing.
+    pub fn numbers(&self, client: u32, nodes: &[Node]) -> ArrayVec<u32, MOST_REFS>
         requires { length nodes.now ≤ MOST_REFS }
         ensures { (d : Effects) → Tracks d self.now → is_live d client ≡ true
-            → IfOk result (λ numbers. numbers.items ≡ numbers_for d client nodes.now) }
+            → result.items ≡ numbers_for d client nodes.now }
     {
-        let mut numbers = Vec::with_capacity(alloc, nodes.len())?;
+        let mut numbers = ArrayVec::new();
         let mut behind = 0;
         for i in 0..nodes.len() {
             let (number, next) = self.number_behind(
                 client,
                 &nodes[..i],
-                &numbers,
+                numbers.as_slice(),
                 nodes[i],
                 behind,
             );
-            numbers.push_reserved(number);
+            numbers.push(number);
             behind = next;
         }
-        Ok(numbers)
+        numbers
     }
 
     /// Returns whether a client's handles have room for objects that it doesn't own, all granted in order.

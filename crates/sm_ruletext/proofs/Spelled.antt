@@ -8,7 +8,7 @@ use Rattle.sm_ruletext.specs.declared.token.TokenKind.TheVariants.{Tilde}
 use Rattle.sm_ruletext.specs.declared.token.TokenKind.TheVariants.{Dash, Other}
 use Rattle.sm_ruletext.specs.declared.fault.RuleTextFault.{RuleTextFault}
 use Rattle.sm_ruletext.specs.declared.fault.RuleTextFault.TheVariants.{Syntax}
-use Rattle.sm_ruletext.specs.declared.items.Items.{Items}
+use Rattle.sm_ruletext.specs.Items.{Items}
 use Rattle.sm_ruletext.specs.Items.{Set}
 use Rattle.sm_ruletext.specs.declared.rule.Rule.{Rule}
 use Rattle.sm_ruletext.specs.Lexing.{Tokens}

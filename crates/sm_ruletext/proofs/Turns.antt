@@ -5,10 +5,10 @@ use Rattle.sm_ruletext.specs.declared.token.TokenKind.TheVariants.{Word, Semicol
 use Rattle.sm_ruletext.specs.declared.token.TokenKind.TheVariants.{Tilde}
 use Rattle.sm_ruletext.specs.declared.token.TokenKind.TheVariants.{Dash, Other}
 use Rattle.sm_ruletext.specs.declared.fault.RuleTextFault.TheVariants.{Syntax}
-use Rattle.sm_ruletext.specs.declared.items.Items.{Items}
+use Rattle.sm_ruletext.specs.Items.{Items}
 use Rattle.sm_ruletext.specs.Lexing.{Tokens}
 use Rattle.sm_ruletext.specs.Words.{is_self}
-use Rattle.sm_ruletext.specs.Grammar.{Step, Read, kind_at, name_at, names_at, group_at}
+use Rattle.sm_ruletext.specs.Grammar.{Step, Read, without_name, kind_at, name_at, names_at, group_at}
 
 abbrev done : {A : Type 0} → A → Step A
 done x = Ok x
@@ -68,17 +68,17 @@ names_turn line names more ts us vs k name total kind-is comma-is name-is more-i
 group_dash : (line l depth : ℕ) (may_self fresh : Bool) (items : Items) (ts us : Tokens) (name : List ℕ)
     → name_at line ts ≡ Ok (name, us)
     → group_at line may_self depth fresh items ((l, Dash) ∷ ts)
-    ≡ group_at line may_self depth false (record items { minus = items.minus ++ name ∷ [] }) us
+    ≡ group_at line may_self depth false (without_name items name) us
 unfolding group_at
 group_dash line l depth may_self fresh items ts us name e =
     let t = name_taken line ts us name e in
     rw (t.1, t.2) refl
 
-pub group_turn : (line depth : ℕ) (may_self fresh : Bool) (items : Items) (more : List (List ℕ)) (ts us vs : Tokens)
-    (k : TokenKind) (name : List ℕ) (total : Read Items)
-    → kind_at line ts ≡ Ok (k, us) → k ≡ Dash → name_at line us ≡ Ok (name, vs) → more ≡ items.minus ++ name ∷ []
+pub group_turn : (line depth : ℕ) (may_self fresh : Bool) (items more : Items) (ts us vs : Tokens) (k : TokenKind)
+    (name : List ℕ) (total : Read Items)
+    → kind_at line ts ≡ Ok (k, us) → k ≡ Dash → name_at line us ≡ Ok (name, vs) → more ≡ without_name items name
     → group_at line may_self depth fresh items ts ≡ total
-    → group_at line may_self depth false (record items { minus = more }) vs ≡ total
+    → group_at line may_self depth false more vs ≡ total
 group_turn line depth may_self fresh items more ts us vs k name total kind-is dash-is name-is more-is so_far =
     let t = kind_taken line ts us k kind-is in
     rw more-is (sym (group_dash line t.0 depth may_self fresh items us vs name name-is)

@@ -7,8 +7,7 @@ use Rattle.sm_ruletext.specs.declared.token.TokenKind.TheVariants.{Tilde}
 use Rattle.sm_ruletext.specs.declared.token.TokenKind.TheVariants.{Dash}
 use Rattle.sm_ruletext.specs.declared.fault.RuleTextFault.{RuleTextFault}
 use Rattle.sm_ruletext.specs.declared.fault.RuleTextFault.TheVariants.{TooLarge, Syntax, Unsupported, TooMany, Memory}
-use Rattle.sm_ruletext.specs.declared.items.Items.{Items}
-use Rattle.sm_ruletext.specs.Items.{Set}
+use Rattle.sm_ruletext.specs.Items.{Items, Set}
 use Rattle.sm_ruletext.specs.declared.rule.Rule.{Rule}
 use Rattle.sm_ruletext.specs.Lexing.{Tokens}
 use Rattle.sm_ruletext.specs.Words.{is_self}
@@ -68,11 +67,27 @@ names_at line names ts = Err (Syntax line)
 abbrev pub no_items : Items
 no_items = record { all = false; to_self = false; plus = []; minus = [] }
 
+-- These have one more name.
+abbrev pub with_name : Items → List ℕ → Items
+with_name items name = record items { plus = items.plus ++ name ∷ [] }
+
+-- These have one more name after a `-`.
+abbrev pub without_name : Items → List ℕ → Items
+without_name items name = record items { minus = items.minus ++ name ∷ [] }
+
+-- These have `*`.
+abbrev pub with_all : Items → Items
+with_all items = record items { all = true }
+
+-- These have `self`.
+abbrev pub with_self : Items → Items
+with_self items = record items { to_self = true }
+
 -- A word is appended to items; it may be `self` if may_self says so.
 unfoldable pub with_word : ℕ → Bool → Items → List ℕ → Step Items
 with_word line may_self items w =
-    if is_self w then (if may_self then Ok (record items { to_self = true }) else Err (Syntax line))
-    else Ok (record items { plus = items.plus ++ w ∷ [] })
+    if is_self w then (if may_self then Ok (with_self items) else Err (Syntax line))
+    else Ok (with_name items w)
 
 -- This reads the items up to the `}` of the group. `depth` inner groups are open; `fresh` says that the token before is
 -- a `{`.
@@ -81,9 +96,9 @@ group_at line may_self depth fresh items ((l, Word w) ∷ ts) =
     with_word line may_self items w >>= λ i. group_at line may_self depth false i ts
 group_at line may_self depth fresh items ((l, Dash) ∷ (m, Word w) ∷ ts) =
     if is_self w then Err (Syntax line)
-    else group_at line may_self depth false (record items { minus = items.minus ++ w ∷ [] }) ts
+    else group_at line may_self depth false (without_name items w) ts
 group_at line may_self depth fresh items ((l, Star) ∷ ts) =
-    group_at line may_self depth false (record items { all = true }) ts
+    group_at line may_self depth false (with_all items) ts
 group_at line may_self depth fresh items ((l, Open) ∷ ts) = group_at line may_self (suc depth) true items ts
 group_at line may_self zero false items ((l, Close) ∷ ts) = Ok (items, ts)
 group_at line may_self (suc depth) false items ((l, Close) ∷ ts) = group_at line may_self depth false items ts
@@ -104,7 +119,7 @@ set_of line complement items = (
 
 -- This reads a set whose first token is k.
 unfoldable pub set_from : ℕ → Bool → TokenKind → Tokens → Read (Set × Bool)
-set_from line may_self Star ts = Ok (set_of line false (record no_items { all = true }), ts)
+set_from line may_self Star ts = Ok (set_of line false (with_all no_items), ts)
 set_from line may_self Tilde ts = do
   k ← kind_at line ts
   items ← items_from line false k.0 k.1

@@ -10,6 +10,13 @@ pub record Set : Type 0 where
   pub plus : List (List ℕ)
   pub minus : List (List ℕ)
 
+-- The items of a set: whether `*` is among them, and `self`; the names, and those after a `-`.
+pub record Items : Type 0 where
+  pub all : Bool
+  pub to_self : Bool
+  pub plus : List (List ℕ)
+  pub minus : List (List ℕ)
+
 -- What sets with the same items have in common.
 pub record Parts : Type 0 where
   pub all : Bool

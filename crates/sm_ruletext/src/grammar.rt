@@ -11,7 +11,7 @@ use crate::keyword::is_self;
 use crate::token::TokenKind;
 use crate::tokens::Tokens;
 use crate::{Rule, RuleTextFault, Set};
-use sm_kinds::{Name, Names};
+use sm_kinds::{Name, Names, Word};
 use std::alloc::Global;
 
 /// Returns the next token.
@@ -52,20 +52,23 @@ pub fn semicolon(tokens: &mut Tokens, line: u32) -> Result<(), RuleTextFault>
 
 /// Reads a word that may be a name.
 #[tactic(auto, unfolding(crate::specs::Grammar::kind_at, crate::specs::Grammar::name_at))]
+fn name_word<'a>(tokens: &mut Tokens<'a>, line: u32) -> Result<Word<'a>, RuleTextFault>
+    ensures read { Reads (λ w. w) result tokens.new (spec.name_at line tokens.old) }
+    ensures fewer { OnOk result (length tokens.new + 1 ≡ length tokens.old) }
+{
+    match kind(tokens, line)? {
+        TokenKind::Word(word) if !is_self(word.bytes()) => Ok(word),
+        _ => Err(RuleTextFault::Syntax(line)),
+    }
+}
+
+/// Reads a name.
 pub fn name(alloc: Global, tokens: &mut Tokens, line: u32) -> Result<Name, RuleTextFault>
     ensures read { Reads (λ n. n) result tokens.new (spec.name_at line tokens.old) }
     ensures fewer { OnOk result (length tokens.new + 1 ≡ length tokens.old) }
 {
-    match kind(tokens, line)? {
-        TokenKind::Word(word) => {
-            let bytes = word.bytes();
-            if is_self(bytes) {
-                return Err(RuleTextFault::Syntax(line));
-            }
-            Ok(tokens.name(alloc, bytes)?)
-        }
-        _ => Err(RuleTextFault::Syntax(line)),
-    }
+    let word = name_word(tokens, line)?;
+    Ok(tokens.name(alloc, word.bytes())?)
 }
 
 /// Reads further names, each after a comma, and the semicolon.
@@ -93,41 +96,35 @@ pub fn names(
 
 #[tactic(auto, unfolding(crate::specs::Grammar::with_word))]
 #[inline(always)]
-fn add_word(
-    alloc: Global,
-    tokens: &mut Tokens,
-    mut items: Items,
+fn add_word<'a>(
+    items: &mut Items<'a>,
     line: u32,
     may_self: bool,
-    word: &[u8],
-) -> Result<Items, RuleTextFault>
-    ensures exact { Gives is_memory (λ i. i) result (spec.with_word line may_self items word.now) }
-    ensures same { tokens.new ≡ tokens.old }
+    word: Word<'a>,
+) -> Result<(), RuleTextFault>
+    ensures { Gives is_memory (λ _. items.new) result (spec.with_word line may_self items.old word.entry) }
 {
-    if is_self(word) {
-        if !may_self {
-            return Err(RuleTextFault::Syntax(line));
-        }
-        items.to_self = true;
+    if !is_self(word.bytes()) {
+        items.add(word)?;
+    } else if may_self {
+        items.add_self();
     } else {
-        let name = tokens.name(alloc, word)?;
-        items.plus.push(name)?;
+        return Err(RuleTextFault::Syntax(line));
     }
-    Ok(items)
+    Ok(())
 }
 
 /// Reads items up to the end of a group, from after its brace.
 #[tactic(auto, unfolding(crate::specs::Grammar::group_at, crate::specs::Grammar::kind_at, crate::specs::Grammar::name_at))]
-fn group(
-    alloc: Global,
-    tokens: &mut Tokens,
+fn group<'a>(
+    tokens: &mut Tokens<'a>,
+    items: &mut Items<'a>,
     line: u32,
     may_self: bool,
-    mut items: Items,
-) -> Result<Items, RuleTextFault>
+) -> Result<(), RuleTextFault>
     requires { length tokens.old < 2 ^ 32 }
     ensures read { Reads
-        (λ i. i) result tokens.new (spec.group_at line may_self zero true items tokens.old) }
+        (λ _. items.new) result tokens.new (spec.group_at line may_self zero true items.old tokens.old) }
     ensures fewer { OnOk result (length tokens.new ≤ length tokens.old) }
 {
     let mut depth: usize = 0;
@@ -135,16 +132,16 @@ fn group(
     'items: loop {
         match kind(tokens, line)? {
             TokenKind::Word(word) => {
-                items = add_word(alloc, tokens, items, line, may_self, word.bytes())?;
+                add_word(items, line, may_self, word)?;
                 fresh = false;
             }
             TokenKind::Dash => {
-                let name = name(alloc, tokens, line)?;
-                items.minus.push(name)?;
+                let word = name_word(tokens, line)?;
+                items.subtract(word)?;
                 fresh = false;
             }
             TokenKind::Star => {
-                items.all = true;
+                items.add_all();
                 fresh = false;
             }
             TokenKind::Open => {
@@ -156,7 +153,7 @@ fn group(
                     return Err(RuleTextFault::Syntax(line));
                 }
                 if depth == 0 {
-                    return Ok(items);
+                    return Ok(());
                 }
                 depth -= 1;
             }
@@ -165,59 +162,59 @@ fn group(
     }
 }
 
+/// Reads a word or a group, whose first token has been taken.
 #[tactic(auto, unfolding(crate::specs::Grammar::items_from))]
 #[inline(always)]
-fn items_from(
-    alloc: Global,
-    tokens: &mut Tokens,
+fn items_from<'a>(
+    tokens: &mut Tokens<'a>,
+    items: &mut Items<'a>,
     line: u32,
     may_self: bool,
-    first: TokenKind,
-) -> Result<Items, RuleTextFault>
-    requires { length tokens.old < 2 ^ 32 }
+    first: TokenKind<'a>,
+) -> Result<(), RuleTextFault>
+    requires few { length tokens.old < 2 ^ 32 }
+    requires none { items.old ≡ spec.no_items }
     ensures read { Reads
-        (λ i. i) result tokens.new (spec.items_from line may_self first.entry tokens.old) }
+        (λ _. items.new) result tokens.new (spec.items_from line may_self first.entry tokens.old) }
     ensures fewer { OnOk result (length tokens.new ≤ length tokens.old) }
 {
     match first {
-        TokenKind::Word(word) => {
-            let items = tokens.no_items(alloc);
-            add_word(alloc, tokens, items, line, may_self, word.bytes())
-        }
-        TokenKind::Open => {
-            let items = tokens.no_items(alloc);
-            group(alloc, tokens, line, may_self, items)
-        }
+        TokenKind::Word(word) => add_word(items, line, may_self, word),
+        TokenKind::Open => group(tokens, items, line, may_self),
         _ => Err(RuleTextFault::Syntax(line)),
     }
 }
 
+/// Reads a set. Its items are then in `items`, unless it is a word.
 #[tactic(auto, unfolding(crate::specs::Grammar::set_at, crate::specs::Grammar::set_from, crate::specs::Grammar::items_from, crate::specs::Grammar::with_word))]
-fn set(
+#[inline(always)]
+fn set<'a>(
     alloc: Global,
-    tokens: &mut Tokens,
+    tokens: &mut Tokens<'a>,
+    items: &mut Items<'a>,
     line: u32,
     may_self: bool,
-) -> Result<(Set, bool), RuleTextFault>
-    ensures read { Reads (λ s. s) result tokens.new (spec.set_at line may_self tokens.old) }
+) -> Result<Set, RuleTextFault>
+    ensures read { Reads
+        (λ s. (s, items.new.to_self)) result tokens.new (spec.set_at line may_self tokens.old) }
     ensures fewer { OnOk result (length tokens.new ≤ length tokens.old) }
 {
+    items.clear();
     match kind(tokens, line)? {
         TokenKind::Star => {
-            let mut items = tokens.no_items(alloc);
-            items.all = true;
+            items.add_all();
             Ok(tokens.set(alloc, line, false, items)?)
         }
         TokenKind::Tilde => {
             let first = kind(tokens, line)?;
-            let items = items_from(alloc, tokens, line, false, first)?;
+            items_from(tokens, items, line, false, first)?;
             Ok(tokens.set(alloc, line, true, items)?)
         }
         TokenKind::Word(word) if !is_self(word.bytes()) => {
-            Ok((tokens.word_set(alloc, line, word.bytes())?, false))
+            Ok(tokens.word_set(alloc, line, word.bytes())?)
         }
         first => {
-            let items = items_from(alloc, tokens, line, may_self, first)?;
+            items_from(tokens, items, line, may_self, first)?;
             Ok(tokens.set(alloc, line, false, items)?)
         }
     }
@@ -225,15 +222,21 @@ fn set(
 
 /// Reads what follows `allow`, `neverallow` or `dontaudit`.
 #[tactic(auto, unfolding(crate::specs::Grammar::rule_at))]
-pub fn rule(alloc: Global, tokens: &mut Tokens, line: u32) -> Result<Rule, RuleTextFault>
+pub fn rule<'a>(
+    alloc: Global,
+    tokens: &mut Tokens<'a>,
+    items: &mut Items<'a>,
+    line: u32,
+) -> Result<Rule, RuleTextFault>
     ensures read { Reads (λ r. r) result tokens.new (spec.rule_at line tokens.old) }
     ensures fewer { OnOk result (length tokens.new ≤ length tokens.old) }
 {
-    let (source, _) = set(alloc, tokens, line, false)?;
-    let (target, to_self) = set(alloc, tokens, line, true)?;
+    let source = set(alloc, tokens, items, line, false)?;
+    let target = set(alloc, tokens, items, line, true)?;
+    let to_self = items.has_self();
     colon(tokens, line)?;
-    let (class, _) = set(alloc, tokens, line, false)?;
-    let (perm, _) = set(alloc, tokens, line, false)?;
+    let class = set(alloc, tokens, items, line, false)?;
+    let perm = set(alloc, tokens, items, line, false)?;
     semicolon(tokens, line)?;
     Ok(Rule {
         source,

@@ -9,6 +9,7 @@ ghost use Rattle.sm_ruletext.specs.Statements as spec;
 ghost use Rattle.sm_ruletext.specs.declared.keyword.Keyword.TheVariants as word;
 ghost use Rattle.sm_ruletext.specs.declared.statement.Statement.{Statement};
 
+use crate::items::Items;
 use crate::keyword::{Keyword, keyword_of};
 use crate::statements::Statements;
 use crate::token::TokenKind;
@@ -31,16 +32,17 @@ fn skipped(tokens: &mut Tokens, line: u32) -> Result<(), RuleTextFault>
 
 /// Reads what follows the first word of a rule: nothing, if the rule isn't kept.
 #[tactic(auto, unfolding(crate::specs::Statements::what_at))]
-fn rule(
+fn rule<'a>(
     alloc: Global,
-    tokens: &mut Tokens,
+    tokens: &mut Tokens<'a>,
+    items: &mut Items<'a>,
     line: u32,
     kind: RuleKind,
 ) -> Result<Option<What>, RuleTextFault>
     ensures read { Reads (λ w. w) result tokens.new (spec.what_at line (word.Rule kind) tokens.old) }
     ensures fewer { OnOk result (length tokens.new ≤ length tokens.old) }
 {
-    let rule = grammar::rule(alloc, tokens, line)?;
+    let rule = grammar::rule(alloc, tokens, items, line)?;
     if rule.is_kept() {
         Ok(Some(What::Rule(kind, rule)))
     } else {
@@ -49,9 +51,10 @@ fn rule(
 }
 
 #[tactic(auto, unfolding(crate::specs::Statements::what_at))]
-fn what(
+fn what<'a>(
     alloc: Global,
-    tokens: &mut Tokens,
+    tokens: &mut Tokens<'a>,
+    items: &mut Items<'a>,
     line: u32,
     keyword: Keyword,
 ) -> Result<Option<What>, RuleTextFault>
@@ -77,7 +80,7 @@ fn what(
             let names = grammar::names(alloc, tokens, line, names)?;
             Ok(Some(What::Member(name, names)))
         }
-        Keyword::Rule(kind) => rule(alloc, tokens, line, kind),
+        Keyword::Rule(kind) => rule(alloc, tokens, items, line, kind),
         Keyword::Permissive => {
             let name = grammar::name(alloc, tokens, line)?;
             grammar::semicolon(tokens, line)?;
@@ -119,12 +122,13 @@ fn exactly(alloc: Global, text: &[u8]) -> Result<Vec<Statement>, RuleTextFault>
 
 /// Reads one statement, whose first token has been taken.
 #[tactic(auto, unfolding(crate::specs::Statements::statement_from))]
-fn statement(
+fn statement<'a>(
     alloc: Global,
-    tokens: &mut Tokens,
+    tokens: &mut Tokens<'a>,
+    items: &mut Items<'a>,
     mut statements: Statements,
     line: u32,
-    first: TokenKind,
+    first: TokenKind<'a>,
 ) -> Result<Statements, RuleTextFault>
     ensures read { Reads
         (λ s. s) result tokens.new (spec.statement_from line first.entry statements tokens.old) }
@@ -133,7 +137,7 @@ fn statement(
     match first {
         TokenKind::Semicolon => Ok(statements),
         TokenKind::Word(word) => {
-            let what = what(alloc, tokens, line, keyword_of(word.bytes()))?;
+            let what = what(alloc, tokens, items, line, keyword_of(word.bytes()))?;
             statements.add(line, what)?;
             Ok(statements)
         }
@@ -144,9 +148,10 @@ fn statement(
 fn all(alloc: Global, mut tokens: Tokens) -> Result<Vec<Statement>, RuleTextFault>
     ensures { Gives is_memory (λ v. v.items) result (spec.statements_of tokens.entry) }
 {
+    let mut items = Items::none(alloc);
     let mut statements = Statements::new(alloc);
     'statements: while let Some((line, first)) = tokens.take() {
-        statements = statement(alloc, &mut tokens, statements, line, first)?;
+        statements = statement(alloc, &mut tokens, &mut items, statements, line, first)?;
     }
     Ok(statements.into_vec())
 }

@@ -1,15 +1,14 @@
 //! Sets of a rule.
 
 ghost use Rattle.std.specs.Prelude.{◌≡◌, ◌∷◌, [], false, IsTrue};
-ghost use Rattle.std.specs.Arc.{arc_value};
 ghost use Rattle.sm_ruletext.specs.Items.{SameItems, parts_of, set_with};
 ghost use Rattle.sm_ruletext.specs.Sets as spec;
 
 use crate::items::Items;
-use sm_kinds::{Names, drop_fields, spells};
+use sm_kinds::{Names, Word, drop_fields, spells};
 use std::alloc::{AllocError, Global};
 use std::marker::Model;
-use std::sync::Arc;
+use std::rc::Rc;
 
 /// Returns whether two lists have the same names.
 pub fn same_names(a: &Names, b: &Names) -> bool
@@ -22,6 +21,22 @@ pub fn same_names(a: &Names, b: &Names) -> bool
     }
     for i in 0..a.len() {
         if !spells(a[i].bytes(), b[i].bytes()) {
+            return false;
+        }
+    }
+    true
+}
+
+/// Returns whether names are these words.
+fn names_spell(names: &Names, words: &[Word]) -> bool
+    ensures { IsTrue result → names.now ≡ words.now }
+{
+    let names = names.list();
+    if names.len() != words.len() {
+        return false;
+    }
+    for i in 0..words.len() {
+        if !spells(names[i].bytes(), words[i].bytes()) {
             return false;
         }
     }
@@ -102,10 +117,10 @@ impl SetParts {
         ensures { IsTrue result
             → self.now ≡ parts_of items.now.all complement items.now.plus items.now.minus }
     {
-        self.all == items.all
+        self.all == items.has_all()
             && self.complement == complement
-            && same_names(&self.plus, &items.plus)
-            && same_names(&self.minus, &items.minus)
+            && names_spell(&self.plus, items.plus())
+            && names_spell(&self.minus, items.minus())
     }
 
     fn has_kept(&self) -> bool
@@ -145,22 +160,21 @@ impl SetParts {
 
 /// A set of types, of classes or of permissions, as written. Its items may be shared with other sets.
 pub struct Set {
+    parts: Rc<SetParts, Global>,
     line: u32,
-    parts: Arc<SetParts, Global>,
 }
 
 impl Model for Set {
-    ghost use Rattle.std.specs.Arc.{arc_value};
     ghost use Rattle.sm_ruletext.specs.Items.{Set, set_with};
 
     ghost Value = { Set };
 
-    ghost view = { λ s. set_with s.line (arc_value s.parts) };
+    ghost view = { λ s. set_with s.line s.parts.value };
 }
 
 impl Drop for Set {
     fn drop(self) {
-        let Set { line: _, parts: _ } = self;
+        let Set { parts: _, line: _ } = self;
     }
 }
 
@@ -169,20 +183,20 @@ impl Clone for Set {
 
     /// Returns another set with the same items.
     fn clone(&self) -> Result<Set, AllocError> {
-        let parts = Arc::try_clone(&self.parts)?;
+        let parts = self.parts.clone()?;
         Ok(Set {
-            line: self.line,
             parts,
+            line: self.line,
         })
     }
 }
 
 impl Set {
     /// Makes the set of these parts on a line.
-    pub fn of(line: u32, parts: Arc<SetParts, Global>) -> Set
-        ensures { result ≡ set_with line (arc_value parts) }
+    pub fn of(line: u32, parts: Rc<SetParts, Global>) -> Set
+        ensures { result ≡ set_with line parts.value }
     {
-        Set { line, parts }
+        Set { parts, line }
     }
 
     /// Returns the line of its statement.

@@ -1,19 +1,17 @@
 //! The sets of a source, each stored once.
 
 ghost use Rattle.std.specs.Prelude.{◌≡◌, ◌∷◌, [], false, IfOk, IfSome};
-ghost use Rattle.std.specs.Arc.{arc_value};
 ghost use Rattle.sm_ruletext.specs.Grammar as spec;
 ghost use Rattle.sm_ruletext.specs.Items.{parts_of, set_with};
 
 use crate::Set;
 use crate::items::Items;
 use crate::set::SetParts;
-use crate::words::{Words, digest};
+use crate::words::{Words, digest, digest_of};
 use sm_kinds::{Names, drop_fields};
 use std::alloc::{AllocError, Global};
 use std::marker::Model;
-use std::mem;
-use std::sync::Arc;
+use std::rc::Rc;
 
 /// The number of slots for the last sets.
 const SLOTS: usize = 16_384;
@@ -23,16 +21,14 @@ const MOST_SETS: usize = 65_536;
 
 /// The sets so far, which contracts don't see. What is found is compared with what is sought.
 pub struct SetPool {
-    sets: Vec<Arc<SetParts, Global>>,
+    sets: Vec<Rc<SetParts, Global>>,
     /// The last sets, each in the slot that its words select.
     slots: Vec<u32>,
-    /// Room for the items of the next set.
-    spare: Items,
 }
 
 impl Drop for SetPool {
     fn drop(self) {
-        drop_fields!(self: sets, slots, spare);
+        drop_fields!(self: sets, slots);
     }
 }
 
@@ -48,21 +44,11 @@ impl SetPool {
         SetPool {
             sets: Vec::new(alloc),
             slots: Vec::new(alloc),
-            spare: Items::none(alloc),
         }
     }
 
-    /// Returns an empty list of items.
-    pub fn no_items(&mut self, alloc: Global) -> Items
-        ensures { result ≡ spec.no_items }
-    {
-        let mut items = mem::replace(&mut self.spare, Items::none(alloc));
-        items.clear();
-        items
-    }
-
     /// Returns the parts in a slot.
-    fn at(&self, slot: usize) -> Option<&Arc<SetParts, Global>> {
+    fn at(&self, slot: usize) -> Option<&Rc<SetParts, Global>> {
         let number = self.slots.get(slot)?;
         self.sets.get(*number as usize)
     }
@@ -73,9 +59,9 @@ impl SetPool {
         slot: usize,
         complement: bool,
         items: &Items,
-    ) -> Result<Option<Arc<SetParts, Global>>, AllocError>
+    ) -> Result<Option<Rc<SetParts, Global>>, AllocError>
         ensures { IfOk result (λ o. IfSome o (λ parts.
-            arc_value parts ≡ parts_of items.now.all complement items.now.plus items.now.minus)) }
+            parts.value ≡ parts_of items.now.all complement items.now.plus items.now.minus)) }
     {
         let Some(parts) = self.at(slot) else {
             return Ok(None);
@@ -83,7 +69,7 @@ impl SetPool {
         if !parts.has_items(complement, items) {
             return Ok(None);
         }
-        let again = Arc::try_clone(parts)?;
+        let again = parts.clone()?;
         Ok(Some(again))
     }
 
@@ -92,9 +78,9 @@ impl SetPool {
         &self,
         slot: usize,
         word: &[u8],
-    ) -> Result<Option<Arc<SetParts, Global>>, AllocError>
+    ) -> Result<Option<Rc<SetParts, Global>>, AllocError>
         ensures { IfOk result (λ o. IfSome o (λ parts.
-            arc_value parts ≡ parts_of false false (word.now ∷ []) [])) }
+            parts.value ≡ parts_of false false (word.now ∷ []) [])) }
     {
         let Some(parts) = self.at(slot) else {
             return Ok(None);
@@ -102,7 +88,7 @@ impl SetPool {
         if !parts.is_word(word) {
             return Ok(None);
         }
-        let again = Arc::try_clone(parts)?;
+        let again = parts.clone()?;
         Ok(Some(again))
     }
 
@@ -125,13 +111,13 @@ impl SetPool {
     }
 
     /// Stores the parts of a set, if memory is left.
-    fn keep(&mut self, alloc: Global, slot: usize, parts: &Arc<SetParts, Global>) {
+    fn keep(&mut self, alloc: Global, slot: usize, parts: &Rc<SetParts, Global>) {
         self.make_slots(alloc);
         let count = self.sets.len();
         if count >= MOST_SETS || slot >= self.slots.len() {
             return;
         }
-        let Ok(again) = Arc::try_clone(parts) else {
+        let Ok(again) = parts.clone() else {
             return;
         };
         if self.sets.push(again).is_ok() {
@@ -149,7 +135,7 @@ impl SetPool {
     ) -> Result<Set, AllocError>
         ensures { IfOk result (λ s. s ≡ set_with line parts) }
     {
-        let shared = Arc::new(alloc, parts)?;
+        let shared = Rc::new(alloc, parts)?;
         self.keep(alloc, slot, &shared);
         Ok(Set::of(line, shared))
     }
@@ -159,23 +145,19 @@ impl SetPool {
     fn add_items(
         &mut self,
         alloc: Global,
+        words: &mut Words,
         slot: usize,
         line: u32,
         complement: bool,
-        items: Items,
-    ) -> Result<(Set, bool), AllocError>
-        ensures { IfOk result (λ s. s ≡ spec.set_of line complement items) }
+        items: &Items,
+    ) -> Result<Set, AllocError>
+        ensures { IfOk result (λ s. s ≡ (spec.set_of line complement items.now).0) }
     {
         let number = self.next_number();
-        let Items {
-            all,
-            to_self,
-            plus,
-            minus,
-        } = items;
-        let parts = SetParts::new(number, all, complement, plus, minus);
-        let set = self.add(alloc, slot, line, parts)?;
-        Ok((set, to_self))
+        let plus = words.names(alloc, items.plus())?;
+        let minus = words.names(alloc, items.minus())?;
+        let parts = SetParts::new(number, items.has_all(), complement, plus, minus);
+        self.add(alloc, slot, line, parts)
     }
 
     /// Stores a new set of one word.
@@ -191,7 +173,6 @@ impl SetPool {
         ensures { IfOk result (λ s. s ≡ set_with line (parts_of false false (word.now ∷ []) [])) }
     {
         let name = words.name(alloc, word)?;
-        let _ = words.take_mark();
         let mut plus = Names::new(alloc);
         plus.push(name)?;
         let number = self.next_number();
@@ -199,24 +180,23 @@ impl SetPool {
         self.add(alloc, slot, line, parts)
     }
 
-    /// Returns the set of these items, and whether `self` is among them. The mark of its words selects the slot.
+    /// Returns the set of these items.
     pub fn set(
         &mut self,
         alloc: Global,
-        mark: u64,
+        words: &mut Words,
         line: u32,
         complement: bool,
-        items: Items,
-    ) -> Result<(Set, bool), AllocError>
-        ensures { IfOk result (λ s. s ≡ spec.set_of line complement items) }
+        items: &Items,
+    ) -> Result<Set, AllocError>
+        ensures { IfOk result (λ s. s ≡ (spec.set_of line complement items.now).0) }
     {
-        let slot = mark as usize % SLOTS;
-        if let Some(parts) = self.known(slot, complement, &items)? {
-            let to_self = items.to_self;
-            self.spare = items;
-            return Ok((Set::of(line, parts), to_self));
+        let digest = digest_of(items.minus(), digest_of(items.plus(), 0));
+        let slot = digest as usize % SLOTS;
+        if let Some(parts) = self.known(slot, complement, items)? {
+            return Ok(Set::of(line, parts));
         }
-        self.add_items(alloc, slot, line, complement, items)
+        self.add_items(alloc, words, slot, line, complement, items)
     }
 
     /// Returns the set of one word.

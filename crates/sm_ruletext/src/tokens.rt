@@ -168,14 +168,6 @@ impl<'a> Tokens<'a> {
         self.words.name(alloc, bytes)
     }
 
-    /// Returns an empty list of items.
-    pub fn no_items(&mut self, alloc: Global) -> Items
-        ensures items { result ≡ grammar.no_items }
-        ensures same { self.new ≡ self.old }
-    {
-        self.sets.no_items(alloc)
-    }
-
     /// Returns the set of one word.
     pub fn word_set(&mut self, alloc: Global, line: u32, word: &[u8]) -> Result<Set, AllocError>
         ensures set { IfOk result (λ s. s ≡ set_with line (parts_of false false (word.now ∷ []) [])) }
@@ -184,18 +176,18 @@ impl<'a> Tokens<'a> {
         self.sets.word(alloc, &mut self.words, line, word)
     }
 
-    /// Returns the set of these items, and whether `self` is among them.
+    /// Returns the set of these items.
     pub fn set(
         &mut self,
         alloc: Global,
         line: u32,
         complement: bool,
-        items: Items,
-    ) -> Result<(Set, bool), AllocError>
-        ensures set { IfOk result (λ s. s ≡ grammar.set_of line complement items) }
+        items: &Items,
+    ) -> Result<Set, AllocError>
+        ensures set { IfOk result (λ s. s ≡ (grammar.set_of line complement items.now).0) }
         ensures same { self.new ≡ self.old }
     {
-        let mark = self.words.take_mark();
-        self.sets.set(alloc, mark, line, complement, items)
+        self.sets
+            .set(alloc, &mut self.words, line, complement, items)
     }
 }

@@ -3,7 +3,7 @@
 ghost use Rattle.std.specs.Prelude.{◌≡◌, ◌≤◌, ◌+◌, length, IfOk, IfSome};
 
 use indexmap::IndexMap;
-use sm_kinds::{Name, spells};
+use sm_kinds::{Name, Names, Word, spells};
 use std::alloc::{AllocError, Global};
 use std::marker::Model;
 
@@ -66,6 +66,17 @@ pub fn digest(bytes: &[u8]) -> u64 {
     sum ^ (sum >> 32)
 }
 
+/// Returns a number that equal lists of words have in common, for the same `first`.
+pub fn digest_of(words: &[Word], first: u64) -> u64 {
+    let mut sum = first;
+    for word in words {
+        sum = (sum ^ digest(word.bytes()))
+            .wrapping_mul(MIXER)
+            .rotate_left(20);
+    }
+    sum
+}
+
 /// Names by their bytes, which contracts don't see. A name that occurs a thousand times is stored once.
 #[derive(Drop)]
 pub struct Words {
@@ -73,8 +84,6 @@ pub struct Words {
     /// The last words, found by the slots that their bytes select.
     last: Vec<Name>,
     slots: Vec<u32>,
-    /// A digest of the words since it was last taken.
-    mark: u64,
 }
 
 impl Model for Words {
@@ -96,7 +105,6 @@ impl Words {
             names: IndexMap::new(alloc),
             last: Vec::new(alloc),
             slots: Vec::new(alloc),
-            mark: 0,
         }
     }
 
@@ -178,28 +186,26 @@ impl Words {
         Ok(name)
     }
 
-    /// Adds a word to the mark, and returns its slot.
-    fn slot_of(&mut self, bytes: &[u8]) -> usize {
-        let digest = digest(bytes);
-        self.mark = (self.mark ^ digest).wrapping_mul(MIXER).rotate_left(20);
-        digest as usize % SLOTS
-    }
-
     /// Returns the name of these bytes, shared with an earlier one, if there was one.
     pub fn name(&mut self, alloc: Global, bytes: &[u8]) -> Result<Name, AllocError>
         ensures { IfOk result (λ n. n ≡ bytes.now) }
     {
-        let slot = self.slot_of(bytes);
+        let slot = digest(bytes) as usize % SLOTS;
         if let Some(known) = self.recent(slot, bytes)? {
             return Ok(known);
         }
         self.seek(alloc, slot, bytes)
     }
 
-    /// Returns the digest of the words since the last call.
-    pub fn take_mark(&mut self) -> u64 {
-        let mark = self.mark;
-        self.mark = 0;
-        mark
+    /// Returns the names of these words.
+    pub fn names(&mut self, alloc: Global, words: &[Word]) -> Result<Names, AllocError>
+        ensures { IfOk result (λ n. n ≡ words.now) }
+    {
+        let mut names = Names::new(alloc);
+        for word in words {
+            let name = self.name(alloc, word.bytes())?;
+            names.push(name)?;
+        }
+        Ok(names)
     }
 }

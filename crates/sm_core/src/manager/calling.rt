@@ -54,7 +54,7 @@ fn given(
 ) -> Result<Vec<Given>, AllocError>
     ensures { IfOk result (λ v. v.items ≡ given_as receiver named.now numbers.now) }
 {
-    let mut list = Vec::new(alloc);
+    let mut list = Vec::with_capacity(alloc, named.len())?;
     let mut next = 0;
     for node in named {
         let Some(node) = node else {
@@ -81,7 +81,7 @@ fn gives(
     requires { length nodes.now ≡ length numbers.now }
     ensures { IfOk result (λ v. v.items ≡ gives_of receiver nodes.now numbers.now) }
 {
-    let mut effects = Vec::new(alloc);
+    let mut effects = Vec::with_capacity(alloc, nodes.len() + 1)?;
     for i in 0..nodes.len() {
         let gives = Effect::Gives {
             client: receiver,
@@ -255,12 +255,12 @@ impl Manager {
     }
 
     /// Returns the numbers that a receiver has for these objects, granted in order.
-    fn numbers(&self, receiver: u32, nodes: &[Node]) -> Result<Vec<u32>, AllocError>
+    fn numbers(&self, receiver: u32, nodes: &[Node]) -> ArrayVec<u32, MOST_REFS>
         requires live { is_live (effects_in self.now) receiver ≡ true }
         requires few { length nodes.now ≤ MOST_REFS }
-        ensures { IfOk result (λ v. v.items ≡ numbers_for (effects_in self.now) receiver nodes.now) }
+        ensures { result.items ≡ numbers_for (effects_in self.now) receiver nodes.now }
     {
-        self.state.grants.numbers(self.alloc, receiver, nodes)
+        self.state.grants.numbers(receiver, nodes)
     }
 
     /// Returns the plan of a call that passes its checks.
@@ -280,7 +280,7 @@ impl Manager {
             (λ s. s ≡ spec.out_of_memory) }
     {
         let owner = target.owner.0;
-        let numbers = self.numbers(owner, nodes)?;
+        let numbers = self.numbers(owner, nodes);
         let mut effects = gives(self.alloc, owner, nodes, numbers.as_slice())?;
         let given = given(self.alloc, owner, named, numbers.as_slice())?;
         let delivery = delivery(self.alloc, &row.process.who, target.object, payload, given)?;

@@ -60,11 +60,9 @@ fn references_of_a_call(rt: HostRuntime) {
     }
     let _ = grants.release(7, 2);
     let nodes = [object(2, 1), object(1, 3), object(2, 2), object(2, 1)];
-    let numbers = grants.numbers(rt.alloc(), 7, &nodes).ok();
-    let numbers = numbers.expect(&rt, "memory");
+    let numbers = grants.numbers(7, &nodes);
     assert!(rt; numbers.as_slice() == [2, 3, 5, 2].as_slice());
-    let others = grants.numbers(rt.alloc(), 8, &nodes).ok();
-    let others = others.expect(&rt, "memory");
+    let others = grants.numbers(8, &nodes);
     assert!(rt; others.as_slice() == [1, 2, 3, 1].as_slice());
     assert!(rt; grants.room(7, &nodes) && grants.room(8, &[]));
 }

@@ -38,13 +38,6 @@ fn gives(rt: &impl Abort, grants: &mut Grants) -> Option<()> {
     Some(())
 }
 
-/// An object that was given has its number, and another one the next.
-fn numbers(rt: &impl Abort, alloc: Global, grants: &Grants) -> Option<()> {
-    let numbers = grants.numbers(alloc, 7, &[object(9), object(6)]).ok()?;
-    assert!(rt; numbers.as_slice() == [3, 2].as_slice());
-    Some(())
-}
-
 fn two_listed(rt: &impl Abort, alloc: Global, grants: &Grants) -> Option<()> {
     let listed = grants.listed(alloc, 7).ok()?;
     assert!(rt; listed.iter().filter(|slot| slot.is_some()).count() == 2);
@@ -53,7 +46,6 @@ fn two_listed(rt: &impl Abort, alloc: Global, grants: &Grants) -> Option<()> {
 
 fn gives_and_lists(rt: &impl Abort, alloc: Global, grants: &mut Grants) -> Option<()> {
     gives(rt, grants)?;
-    numbers(rt, alloc, grants)?;
     two_listed(rt, alloc, grants)
 }
 

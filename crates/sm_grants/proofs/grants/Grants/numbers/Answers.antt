@@ -16,17 +16,16 @@ loop-i-preserved c =
     let n = get_or c.args.nodes.now c.loop-i.i none in
     let r = c.number_behind-number.result.0 in
     let behind = c.number_behind-number.result.1 in
-    let step = (rw c.deref.ensures.value at (c.number_behind-number.ensures.step t)) c.loop-i.invariant.along in
+    let step = (rw c.as_slice.ensures.value at (c.number_behind-number.ensures.step t)) c.loop-i.invariant.along in
     let more : take (c.loop-i.i + 1) c.args.nodes.now ≡ ns ++ n ∷ [] =
     take_more c.args.nodes.now c.loop-i.i none c.loop-i-test.true in
     let are = c.loop-i.invariant.numbered in
-    let items = c.push_reserved.ensures.items in
+    let items = c.push.ensures.items in
     let long = length-take-le c.loop-i.i c.args.nodes.now (omega (arith, c.loop-i-test.true)) in
     record {
       numbered = rw (more, items) (numbers_more s ns rs n r are step.0);
       along = rw (more, items, grants_more s ns rs n r are) step.1;
-      many = let a = c.push_reserved.ensures.len in let b = c.loop-i.invariant.many in omega (arith, a, b);
-      room = let a = c.push_reserved.ensures.capacity in let b = c.loop-i.invariant.room in omega (arith, a, b);
+      many = let a = c.push.ensures.len in let b = c.loop-i.invariant.many in omega (arith, a, b);
       near = let a = c.number_behind-number.ensures.near in omega (arith, a, long);
     }
 

@@ -1,5 +1,5 @@
-use Rattle.std.proofs.Common.{◌≡◌, ◌+◌, ◌≤◌, length, take, vec_len}
-use Rattle.std.specs.Vec.{vec_capacity}
+use Rattle.std.proofs.Common.{◌≡◌, ◌+◌, ◌≤◌, take}
+use Rattle.arrayvec.specs.ArrayVec.{array_vec_len}
 use Rattle.sm_grants.specs.Rows.{slots_of}
 use Rattle.sm_grants.specs.Several.{AreNumbersFor, Along, with_grants}
 use Rattle.sm_grants.proofs.grants.Grants.numbers.Given as goal
@@ -10,7 +10,6 @@ invariant-loop-i l = record {
   along : Along (slots_of l.self.rows.items l.client)
       (with_grants (slots_of l.self.rows.items l.client) (take l.i l.nodes) l.numbers.items) (take l.i l.nodes)
       l.numbers.items l.behind;
-  many : vec_len l.numbers ≡ l.i;
-  room : length l.nodes ≤ vec_capacity l.numbers;
+  many : array_vec_len l.numbers ≡ l.i;
   near : l.behind ≤ 65536 + l.i;
 }
