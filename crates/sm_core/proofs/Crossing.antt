@@ -12,6 +12,7 @@ use Rattle.std.specs.contracts.sync.Arc as Arc
 use Rattle.sm_policy.proofs.Crossing.{prepared_send, prepared_sync}
 use Rattle.sm_history.specs.contracts.entry.Entry as Entry
 use Rattle.sm_history.specs.contracts.turn.TurnRow as TurnRow
+use Rattle.sm_history.proofs.turn.TurnRow.TheSendSync as TurnRowCrosses
 use Rattle.sm_names.specs.contracts.services.Services as Services
 use Rattle.sm_names.proofs.services.Services.TheSendSync as ServicesCross
 use Rattle.sm_core.specs.contracts.client.LiveClient as LiveClient
@@ -24,6 +25,7 @@ use Rattle.sm_core.specs.contracts.turn_counts.TurnCounts as TurnCounts
 use Rattle.sm_core.specs.contracts.journal.Journal as Journal
 use Rattle.sm_core.specs.contracts.view.View as View
 use Rattle.sm_core.specs.contracts.view.View.TheInside as ViewInside
+use Rattle.sm_core.specs.contracts.view_tables.ViewTables as ViewTables
 
 pub global_send : IsSend Global.the_field.row
 global_send = search (sendable, crosses) depth 20
@@ -101,6 +103,22 @@ services_send = Arc-send Services.the_row ServicesCross.the_send ServicesCross.t
 services_sync : IsSync (Arc.the_row Services.the_row Global.the_row Heap.ghosts)
 services_sync = Arc-sync Services.the_row ServicesCross.the_send ServicesCross.the_sync
 
+view_tables_send : IsSend ViewTables.the_row
+view_tables_send =
+    recorded_send _ _ _ ViewTables.the_type.to_one
+    (struct_send (struct.shape ViewTables.the_type) (
+      Arc-send Principals.the_row principals_send principals_sync,
+      (services_send, (turn_counts_send, tt)),
+    ))
+
+view_tables_sync : IsSync ViewTables.the_row
+view_tables_sync =
+    recorded_sync _ _ _ ViewTables.the_type.to_one
+    (struct_sync (struct.shape ViewTables.the_type) (
+      Arc-sync Principals.the_row principals_send principals_sync,
+      (services_sync, (turn_counts_sync, tt)),
+    ))
+
 pub view_send : IsSend View.the_row
 view_send =
     cross.view_send ViewInside.the_row _ _ _ _
@@ -112,8 +130,8 @@ view_send =
         (
           u64_send,
           (
-            Arc-send Principals.the_row principals_send principals_sync,
-            (services_send, (turn_counts_send, (journal_send, (next_send, tt)))),
+            Arc-send ViewTables.the_row view_tables_send view_tables_sync,
+            (TurnRowCrosses.the_field_send, (journal_send, (next_send, tt))),
           ),
         ),
       ),
@@ -130,8 +148,8 @@ view_sync =
         (
           u64_sync,
           (
-            Arc-sync Principals.the_row principals_send principals_sync,
-            (services_sync, (turn_counts_sync, (journal_sync, (next_sync, tt)))),
+            Arc-sync ViewTables.the_row view_tables_send view_tables_sync,
+            (TurnRowCrosses.the_field_sync, (journal_sync, (next_sync, tt))),
           ),
         ),
       ),

@@ -1,14 +1,16 @@
 -- The rows of actors that made a change since a table was copied.
-use Rattle.std.proofs.Common.{◌≡◌, ◌+◌, Bool, true, false, List, [], ◌∷◌, Option, Some, refl, ap, sym, subst, ◌∙◌}
+use Rattle.std.proofs.Common.{◌≡◌, ℕ, Bool, true, false, List, [], ◌∷◌, Option, Some, refl, ap, sym, subst, ◌∙◌}
 use Rattle.std.proofs.Common.{unwrap_or, if◌then◌else◌}
+use Rattle.std.specs.Arc.{arc_value}
 use Rattle.std.specs.Prelude.{cond, find, not, option_map}
 use Rattle.sm_history.specs.declared.by.By.{By}
 use Rattle.sm_history.specs.declared.turn.TurnRow.{TurnRow}
 use Rattle.sm_history.specs.Openings.{is_same}
 use Rattle.sm_history.proofs.TurnRows.{same_actor}
+use Rattle.sm_core.specs.declared.turn_counts.TurnCounts.{TurnCounts}
 use Rattle.sm_core.specs.declared.turns.Turns.{Turns}
 use Rattle.sm_core.specs.Counting.{change_count}
-use Rattle.sm_core.specs.Viewing.{counted_in, rows_of_others}
+use Rattle.sm_core.specs.Viewing.{counted_by, counted_in, counted_with, rows_of_others}
 
 -- Among the rows of others than `by`, another actor's first row is the one that it has among all.
 found_among_others : (b by : By) (rows : List TurnRow) → is_same b by ≡ false
@@ -25,19 +27,36 @@ found_among_others b by (r ∷ rs) other =
       | false ↦ λ e. ap (cond (is_same b r.by) (Some r)) (found_among_others b by rs other)
     ] refl
 
--- The changes of an actor, where one actor's row is replaced by one with one change more.
-pub counted_after : (base turns : Turns) (row : TurnRow) (rows rows' : List TurnRow) (b : By)
-    → counted_in base rows b ≡ change_count turns b → row.turns ≡ change_count turns row.by + 1
-    → rows' ≡ row ∷ rows_of_others row.by rows
-    → counted_in base rows' b ≡ (if is_same b row.by then change_count turns b + 1 else change_count turns b)
-counted_after base turns row rows rows' b was one is =
-    let rest = rows_of_others row.by rows in
-    ap (λ (rs : List TurnRow). counted_in base rs b) is
-    ∙ elim (is_same b row.by) as (λ t. is_same b row.by ≡ t
-    → unwrap_or (option_map (λ (r : TurnRow). r.turns) (cond t (Some row) (find (λ r. is_same b r.by) rest)))
-    (change_count base b) ≡ (if t then change_count turns b + 1 else change_count turns b)) [
-      | true ↦ λ e. one ∙ ap (λ (a : By). change_count turns a + 1) (sym (same_actor b row.by e))
-      | false ↦ λ e. ap (λ (o : Option TurnRow). unwrap_or (option_map (λ (r : TurnRow). r.turns) o)
-          (change_count base b))
-          (found_among_others b row.by rows e) ∙ was
+-- The changes of an actor by the first of its rows, where this is one's first row or there is none.
+abbrev first_turns : Turns → List TurnRow → By → TurnRow → Bool → ℕ
+first_turns base rows b row t =
+    unwrap_or (option_map (λ r. r.turns) (cond t (Some row) (find (λ r. is_same b r.by) rows))) (change_count base b)
+
+-- Without an actor's later rows, all have the same changes.
+pub counted_once : (base : Turns) (row : TurnRow) (rows : List TurnRow) (b : By)
+    → counted_in base (row ∷ rows_of_others row.by rows) b ≡ counted_in base (row ∷ rows) b
+counted_once base row rows b =
+    elim (is_same b row.by) as (λ t. is_same b row.by ≡ t
+    → first_turns base (rows_of_others row.by rows) b row t ≡ first_turns base rows b row t) [
+      | true ↦ λ e. refl
+      | false ↦ λ e. ap (λ (o : Option TurnRow). unwrap_or (option_map (λ r. r.turns) o) (change_count base b))
+          (found_among_others b row.by rows e)
     ] refl
+
+-- The changes of all actors are as many as these, where those of one are in the row that comes first.
+pub counted_first : (counts : TurnCounts) (row : TurnRow) (b : By) (changes : By → ℕ)
+    → (is_same b row.by ≡ false → counted_by counts b ≡ changes b) → row.turns ≡ changes row.by
+    → counted_with row counts b ≡ changes b
+counted_first counts row b changes others one =
+    elim (is_same b row.by) as (λ t. is_same b row.by ≡ t
+    → first_turns (arc_value counts.base) counts.since.items b row t ≡ changes b) [
+      | true ↦ λ e. one ∙ ap changes (sym (same_actor b row.by e))
+      | false ↦ others
+    ] refl
+
+-- Where the first row is one actor's, the others have the same changes without it.
+pub counted_others : (counts : TurnCounts) (row : TurnRow) (by b : By) → is_same by row.by ≡ true
+    → is_same b by ≡ false → counted_with row counts b ≡ counted_by counts b
+counted_others counts row by b same other =
+    ap (first_turns (arc_value counts.base) counts.since.items b row)
+    (subst (λ (a : By). is_same b a ≡ false) (same_actor by row.by same) other)

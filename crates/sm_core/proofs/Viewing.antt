@@ -1,6 +1,7 @@
 -- What a view's parts are after more effects, and what it answers.
 use Rattle.std.proofs.Common.{◌≡◌, ℕ, ◌+◌, ◌<◌, ◌||◌, Bool, true, false, List, [], ◌∷◌, refl, ap, sym, subst, ◌∙◌}
 use Rattle.std.proofs.Common.{inr, if◌then◌else◌, arith}
+use Rattle.std.specs.Arc.{arc_value}
 use Rattle.std.specs.List.{list_any}
 use Rattle.std.proofs.lemmas.Bool.{true≢false}
 use Rattle.sm_history.specs.declared.effect.Effect.{Effect}
@@ -24,6 +25,7 @@ use Rattle.sm_names.specs.declared.services.Services.{Services}
 use Rattle.sm_core.specs.declared.ready.Ready.{Ready}
 use Rattle.sm_core.specs.declared.state.State.{State}
 use Rattle.sm_core.specs.declared.turns.Turns.{Turns}
+use Rattle.sm_core.specs.declared.view_tables.ViewTables.{ViewTables}
 use Rattle.sm_core.specs.Counting.{change_count}
 use Rattle.sm_core.specs.Kept.{Kept}
 use Rattle.sm_core.specs.Stands.{StandPrincipals, sets_in}
@@ -35,7 +37,7 @@ use Rattle.sm_names.specs.Tracking.{TracksNames}
 use Rattle.sm_names.proofs.Others.{same_rows}
 use Rattle.sm_core.specs.declared.principals.Principals.{Principals}
 use Rattle.sm_core.proofs.StandsAlike.{principals_alike, services_alike}
-use Rattle.sm_core.specs.Viewing.{IsComing, Viewed, counted_in, moves_principals, moves_services}
+use Rattle.sm_core.specs.Viewing.{IsComing, Viewed, counted_with, moves_principals, moves_services}
 
 -- ---- effects that a part doesn't hear of
 
@@ -117,14 +119,13 @@ gone P d xs left is g = subst P (ap (followed g.0) (sym is) ∙ g.4) g.2
 -- ---- views
 
 -- The parts of a view of what there is now.
-pub viewed_now : (places : ℕ) (h : History) (turns : Turns) (s : State) (len : ℕ) (principals : Principals)
-    (services : Services) (base : Turns) (since : List TurnRow)
-    → Kept places h turns s [] → len ≡ length_of h
-    → ((d : Effects) → StandPrincipals d s.principals → StandPrincipals d principals)
-    → ((d : Effects) → TracksNames d s.names → TracksRows d services.rows.items)
-    → ((b : By) → counted_in base since b ≡ change_count turns b)
-    → Viewed places h len principals services base since
-viewed_now places h turns s len principals services base since k is asks named counts = record {
+pub viewed_now : (places : ℕ) (h : History) (turns : Turns) (s : State) (len : ℕ) (tables : ViewTables)
+    (newest : TurnRow) → Kept places h turns s [] → len ≡ length_of h
+    → ((d : Effects) → StandPrincipals d s.principals → StandPrincipals d (arc_value tables.principals))
+    → ((d : Effects) → TracksNames d s.names → TracksRows d (arc_value tables.services).rows.items)
+    → ((b : By) → counted_with newest tables.turn_counts b ≡ change_count turns b)
+    → Viewed places h len tables newest
+viewed_now places h turns s len tables newest k is asks named counts = record {
   lawful = k.lawful;
   fits = k.fits;
   few = k.few;
@@ -134,21 +135,21 @@ viewed_now places h turns s len principals services base since k is asks named c
   turns = λ by. counts by ∙ k.turns_are by;
 }
 
+-- The number of an actor's changes once an event is committed.
+abbrev pub changes_with : Turns → By → By → ℕ
+changes_with turns by b = if is_same b by then change_count turns b + 1 else change_count turns b
+
 -- The parts of a view of what there is once an event is committed.
-pub viewed_more : (places : ℕ) (h : History) (turns : Turns) (r : Ready) (len : ℕ)
-    (principals principals' : Principals) (services services' : Services) (base base' : Turns)
-    (since since' : List TurnRow)
-    → ((b : By) → change_count turns b ≡ turn_of h b) → IsComing places h r
-    → Viewed places h len principals services base since
-    → ((d : Effects) → Sound d → StandPrincipals d principals → MayAllApart d r.effects
-    → StandPrincipals (followed d r.effects) principals')
-    → ((d : Effects) → Sound d → TracksRows d services.rows.items → MayAllApart d r.effects
-    → TracksRows (followed d r.effects) services'.rows.items)
-    → ((b : By) → counted_in base' since' b
-    ≡ (if is_same b r.entry.by then change_count turns b + 1 else change_count turns b))
-    → Viewed places (entered r.entry h) (len + 1) principals' services' base' since'
-viewed_more places h turns r len principals principals' services services' base base' since since' turns_are
-    coming v asks named counts =
+pub viewed_more : (places : ℕ) (h : History) (turns : Turns) (r : Ready) (len : ℕ) (tables tables' : ViewTables)
+    (newest newest' : TurnRow) → ((b : By) → change_count turns b ≡ turn_of h b) → IsComing places h r
+    → Viewed places h len tables newest
+    → ((d : Effects) → Sound d → StandPrincipals d (arc_value tables.principals) → MayAllApart d r.effects
+    → StandPrincipals (followed d r.effects) (arc_value tables'.principals))
+    → ((d : Effects) → Sound d → TracksRows d (arc_value tables.services).rows.items → MayAllApart d r.effects
+    → TracksRows (followed d r.effects) (arc_value tables'.services).rows.items)
+    → ((b : By) → counted_with newest' tables'.turn_counts b ≡ changes_with turns r.entry.by b)
+    → Viewed places (entered r.entry h) (len + 1) tables' newest'
+viewed_more places h turns r len tables tables' newest newest' turns_are coming v asks named counts =
     let e = r.entry in
     let d = effects_of h in
     let sound = sound_lawful places h v.lawful in record {
@@ -156,8 +157,9 @@ viewed_more places h turns r len principals principals' services services' base 
       fits = fits_any places h e.by e.turn e.event e.outcome sound v.fits coming.done;
       few = v.few;
       length_is = let was = v.length_is in omega (arith, was);
-      asks = subst (λ (x : Effects). StandPrincipals x principals') coming.effects (asks d sound v.asks coming.may);
-      named = subst (λ (x : Effects). TracksRows x services'.rows.items) coming.effects
+      asks = subst (λ (x : Effects). StandPrincipals x (arc_value tables'.principals)) coming.effects
+          (asks d sound v.asks coming.may);
+      named = subst (λ (x : Effects). TracksRows x (arc_value tables'.services).rows.items) coming.effects
           (named d sound v.named coming.may);
       turns = λ by. counts by
           ∙ elim (is_same by e.by) as (λ t. is_same by e.by ≡ t →
@@ -168,45 +170,48 @@ viewed_more places h turns r len principals principals' services services' base 
     }
 
 -- The parts of a view of what a seal leaves. Principals and services stay.
-pub viewed_sealed : (places : ℕ) (h : History) (len : ℕ) (principals : Principals) (services : Services)
-    (base base' : Turns)
-    (since since' : List TurnRow) → Viewed places h len principals services base since
-    → ((by : By) → counted_in base' since' by ≡ turn_of (sealed h) by)
-    → Viewed places (sealed h) len principals services base' since'
-viewed_sealed places h len principals services base base' since since' v counts =
+pub viewed_sealed : (places : ℕ) (h : History) (len : ℕ) (tables tables' : ViewTables) (newest newest' : TurnRow)
+    → Viewed places h len tables newest → arc_value tables'.principals ≡ arc_value tables.principals
+    → arc_value tables'.services ≡ arc_value tables.services
+    → ((by : By) → counted_with newest' tables'.turn_counts by ≡ turn_of (sealed h) by)
+    → Viewed places (sealed h) len tables' newest'
+viewed_sealed places h len tables tables' newest newest' v principals services counts =
     let d = effects_of h in
+    let e = effects_of (sealed h) in
     let sim = sim_rows d (sound_lawful places h v.lawful) in
     let is = v.length_is in record {
       lawful = sealed_lawful places h v.lawful;
       fits = sealed_fits places h v.fits;
       few = v.few;
       length_is = omega (arith, is);
-      asks = principals_alike d (effects_of (sealed h)) principals sim.agree v.asks;
-      named = services_alike d (effects_of (sealed h)) services.rows.items sim.agree v.named;
+      asks = subst (StandPrincipals e) (sym principals)
+          (principals_alike d e (arc_value tables.principals) sim.agree v.asks);
+      named = subst (λ (s : Services). TracksRows e s.rows.items) (sym services)
+          (services_alike d e (arc_value tables.services).rows.items sim.agree v.named);
       turns = counts;
     }
 
 -- The length of a view is below the greatest number.
-pub viewed_length : (places : ℕ) (h : History) (len : ℕ) (principals : Principals) (services : Services) (base : Turns)
-    (since : List TurnRow) → Viewed places h len principals services base since → len < GREATEST
-viewed_length places h len principals services base since v =
+pub viewed_length : (places : ℕ) (h : History) (len : ℕ) (tables : ViewTables) (newest : TurnRow)
+    → Viewed places h len tables newest → len < GREATEST
+viewed_length places h len tables newest v =
     let fits = (numbers_fit places h v.lawful).lengths in
     let is = v.length_is in
     omega (arith, fits, is)
 
 -- The counts of changes are, too.
-pub viewed_turns : (places : ℕ) (h : History) (len : ℕ) (principals : Principals) (services : Services) (base : Turns)
-    (since : List TurnRow) (by : By) → Viewed places h len principals services base since → turn_of h by < GREATEST
-viewed_turns places h len principals services base since by v =
+pub viewed_turns : (places : ℕ) (h : History) (len : ℕ) (tables : ViewTables) (newest : TurnRow) (by : By)
+    → Viewed places h len tables newest → turn_of h by < GREATEST
+viewed_turns places h len tables newest by v =
     let few = turns_small places h v.lawful by in
     let small = (numbers_fit places h v.lawful).lengths in
     omega (arith, few, small)
 
 -- The version of a view and the policies that an event sets are below the greatest number.
-pub viewed_version : (places : ℕ) (h : History) (len : ℕ) (principals : Principals) (services : Services)
-    (base : Turns) (since : List TurnRow) (r : Ready) → Viewed places h len principals services base since
-    → IsComing places h r → principals.version + sets_in r.effects < GREATEST
-viewed_version places h len principals services base since r v coming =
+pub viewed_version : (places : ℕ) (h : History) (len : ℕ) (tables : ViewTables) (newest : TurnRow) (r : Ready)
+    → Viewed places h len tables newest → IsComing places h r
+    → (arc_value tables.principals).version + sets_in r.effects < GREATEST
+viewed_version places h len tables newest r v coming =
     let is = v.asks.version in
     let small = coming.numbers in
     omega (arith, is, small)

@@ -1,6 +1,7 @@
 -- Views and their parts.
-use Rattle.std.specs.Prelude.{ℕ, ◌≡◌, ◌≤◌, ◌<◌, ◌+◌, Bool, true, false, List, Option, Some, None, filter, find}
+use Rattle.std.specs.Prelude.{ℕ, ◌≡◌, ◌≤◌, ◌<◌, ◌+◌, Bool, true, false, List, ◌∷◌, Option, Some, None, filter, find}
 use Rattle.std.specs.Prelude.{not, option_map, unwrap_or}
+use Rattle.std.specs.Arc.{arc_value}
 use Rattle.sm_history.specs.declared.by.By.{By}
 use Rattle.sm_history.specs.declared.entry.Entry.{Entry}
 use Rattle.sm_history.specs.declared.effect.Effect.{Effect}
@@ -14,11 +15,11 @@ use Rattle.sm_history.specs.declared.turn.TurnRow.{TurnRow}
 use Rattle.sm_history.specs.Lawful.{IsLawful, FitsPlaces, HasSoundPolicy}
 use Rattle.sm_history.specs.Verdict.{verdict}
 use Rattle.sm_kinds.specs.declared.limits.TheConstants.{MOST_PLACES}
-use Rattle.sm_names.specs.declared.services.Services.{Services}
 use Rattle.sm_names.specs.Rows.{TracksRows}
-use Rattle.sm_core.specs.declared.principals.Principals.{Principals}
 use Rattle.sm_core.specs.declared.ready.Ready.{Ready}
+use Rattle.sm_core.specs.declared.turn_counts.TurnCounts.{TurnCounts}
 use Rattle.sm_core.specs.declared.turns.Turns.{Turns}
+use Rattle.sm_core.specs.declared.view_tables.ViewTables.{ViewTables}
 use Rattle.sm_core.specs.Counting.{change_count}
 use Rattle.sm_core.specs.Stands.{StandPrincipals, sets_in}
 use Rattle.sm_history.specs.declared.limits.TheConstants.{GREATEST}
@@ -56,16 +57,23 @@ rows_of_others by since = filter (λ r. not (is_same by r.by)) since
 abbrev pub counted_in : Turns → List TurnRow → By → ℕ
 counted_in base since by = unwrap_or (listed_turns since by) (change_count base by)
 
+-- An actor's changes by these counts.
+abbrev pub counted_by : TurnCounts → By → ℕ
+counted_by t by = counted_in (arc_value t.base) t.since.items by
+
+-- An actor's changes by these counts and one row more, which comes first.
+abbrev pub counted_with : TurnRow → TurnCounts → By → ℕ
+counted_with newest t by = counted_in (arc_value t.base) (newest ∷ t.since.items) by
+
 -- The parts of a view are those of its history.
-pub record Viewed (places : ℕ) (h : History) (length : ℕ) (principals : Principals) (services : Services) (base : Turns)
-    (since : List TurnRow) : Type 0 where
+pub record Viewed (places : ℕ) (h : History) (length : ℕ) (tables : ViewTables) (newest : TurnRow) : Type 0 where
   pub lawful : IsLawful places h
   pub fits : FitsPlaces places h
   pub few : places ≤ MOST_PLACES
   pub length_is : length ≡ length_of h
-  pub asks : StandPrincipals (effects_of h) principals
-  pub named : TracksRows (effects_of h) services.rows.items
-  pub turns : (by : By) → counted_in base since by ≡ turn_of h by
+  pub asks : StandPrincipals (effects_of h) (arc_value tables.principals)
+  pub named : TracksRows (effects_of h) (arc_value tables.services).rows.items
+  pub turns : (by : By) → counted_with newest tables.turn_counts by ≡ turn_of h by
 
 -- What is asked of an event that is ready, after this history.
 pub record IsComing (places : ℕ) (h : History) (r : Ready) : Type 0 where

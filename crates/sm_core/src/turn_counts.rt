@@ -1,12 +1,10 @@
 //! The turns of actors in a view.
 
-ghost use Rattle.std.specs.Prelude.{◌≡◌, ◌<◌, ◌+◌, ◌∷◌, IfOk, if◌then◌else◌};
-ghost use Rattle.std.specs.Arc.{arc_value};
+ghost use Rattle.std.specs.Prelude.{◌≡◌, ◌∷◌, IfOk};
 ghost use Rattle.sm_history.specs.declared.by.By.{By};
 ghost use Rattle.sm_history.specs.Openings.{is_same};
-ghost use Rattle.sm_history.specs.declared.limits.TheConstants.{GREATEST};
 ghost use Rattle.sm_core.specs.Counting.{change_count};
-ghost use Rattle.sm_core.specs.Viewing.{counted_in, listed_turns, rows_of_others};
+ghost use Rattle.sm_core.specs.Viewing.{counted_by, counted_with, listed_turns, rows_of_others};
 
 use crate::turns::Turns;
 use sm_history::{By, TurnRow};
@@ -29,8 +27,9 @@ impl Drop for TurnCounts {
     }
 }
 
-/// Whether they are one actor.
-fn is_same(one: By, other: By) -> bool
+/// Returns whether they are one actor.
+#[inline(always)]
+pub fn is_same(one: By, other: By) -> bool
     ensures { result ≡ is_same one other }
 {
     match (one, other) {
@@ -68,34 +67,24 @@ fn with_row(alloc: Global, since: &[TurnRow], row: TurnRow) -> Result<Vec<TurnRo
 impl TurnCounts {
     /// Makes the counts of a table.
     pub fn of(alloc: Global, turns: &Turns) -> Result<TurnCounts, AllocError>
-        ensures { IfOk result (λ t. (b : By)
-            → counted_in (arc_value t.base) t.since.items b ≡ change_count turns.now b) }
+        ensures { IfOk result (λ t. (b : By) → counted_by t b ≡ change_count turns.now b) }
     {
         let base = Arc::new(alloc, turns.copy()?)?;
         let since = Vec::new(alloc);
         Ok(TurnCounts { base, since })
     }
 
-    /// Returns the counts after one more change of this actor. `turns` is a table of the counts up to now.
+    /// Returns the counts with this row among them. `turns` is a table of the same counts.
     ///
     /// # Errors
     ///
     /// An error where an allocation failed.
-    pub fn after(&self, alloc: Global, turns: &Turns, by: By) -> Result<TurnCounts, AllocError>
-        requires counts { (b : By) → counted_in (arc_value self.now.base) self.now.since.items b
-            ≡ change_count turns.now b }
-        requires few { change_count turns.now by < GREATEST }
-        ensures { IfOk result (λ t. (b : By) → counted_in (arc_value t.base) t.since.items b
-            ≡ (if is_same b by then change_count turns.now b + 1 else change_count turns.now b)) }
+    pub fn with(&self, alloc: Global, turns: &Turns, row: TurnRow) -> Result<TurnCounts, AllocError>
+        requires { (b : By) → counted_with row self.now b ≡ change_count turns.now b }
+        ensures { IfOk result (λ t. (b : By) → counted_by t b ≡ change_count turns.now b) }
     {
-        let row = TurnRow {
-            by,
-            turns: turns.of(by) + 1,
-        };
         if self.since.len() >= MOST_SINCE {
-            let base = Arc::new(alloc, turns.copy()?)?;
-            let since = with_row(alloc, &[], row)?;
-            return Ok(TurnCounts { base, since });
+            return TurnCounts::of(alloc, turns);
         }
         let base = Arc::try_clone(&self.base)?;
         let since = with_row(alloc, &self.since, row)?;
@@ -104,7 +93,7 @@ impl TurnCounts {
 
     /// Returns the number of changes of an actor.
     pub fn of_actor(&self, by: By) -> u64
-        ensures { result ≡ counted_in (arc_value self.now.base) self.now.since.items by }
+        ensures { result ≡ counted_by self.now by }
     {
         listed_turns(by, &self.since).unwrap_or_else(|| self.base.of(by))
     }

@@ -1,88 +1,48 @@
 //! Views.
 
-ghost use Rattle.std.specs.Prelude.{◌≡◌, ◌<◌, ◌+◌, [], IfOk};
-ghost use Rattle.std.specs.Arc.{arc_value};
-ghost use Rattle.sm_history.specs.Effects.{Effects};
-ghost use Rattle.sm_history.specs.Following.{MayAllApart, followed};
+ghost use Rattle.std.specs.Prelude.{◌≡◌, [], IfOk};
 ghost use Rattle.sm_history.specs.Histories.{entered, turn_of};
 ghost use Rattle.sm_history.specs.Segments.{sealed};
 ghost use Rattle.sm_history.specs.declared.by.By.{By};
-ghost use Rattle.sm_history.specs.declared.limits.TheConstants.{GREATEST};
-ghost use Rattle.sm_history.specs.Sound.{Sound};
-ghost use Rattle.sm_names.specs.Rows.{TracksRows};
 ghost use Rattle.sm_core.specs.Counting.{change_count};
 ghost use Rattle.sm_core.specs.Kept.{Kept};
 ghost use Rattle.sm_core.specs.Managed.{look_leaves};
-ghost use Rattle.sm_core.specs.Stands.{StandPrincipals, sets_in};
 ghost use Rattle.sm_core.specs.Viewing.{IsComing};
 ghost use Rattle.sm_history.specs.BookOrder.{IsLawfulBook};
 ghost use Rattle.sm_history.specs.Promises.{Looks};
 
 use crate::journal::Journal;
-use crate::listed::{moves_any_services, services_after};
-use crate::principals::{Principals, moves_any_principals};
 use crate::query_tables::QueryTables;
 use crate::ready::Ready;
 use crate::state::State;
-use crate::turn_counts::TurnCounts;
+use crate::turn_counts::{TurnCounts, is_same};
 use crate::turns::Turns;
-use sm_history::{By, Effect, Entry, Query, Record, Reply};
+use crate::view_tables::{ViewTables, next_tables};
+use sm_history::{By, Entry, Query, Record, Reply, TurnRow};
 use sm_kinds::drop_fields;
-use sm_names::Services;
 use std::alloc::{AllocError, Global};
 use std::marker::Model;
 use std::snapshot::Snapshot;
 use std::sync::Arc;
 
-/// Returns the processes after these effects: those of the present view, if no effect changes them.
-fn next_principals(
-    alloc: Global,
-    last: &Arc<Principals>,
-    effects: &[Effect],
-) -> Result<Arc<Principals>, AllocError>
-    requires { (arc_value last.now).version + sets_in effects.now < GREATEST }
-    ensures { IfOk result (λ p. (d : Effects) → Sound d → StandPrincipals d (arc_value last.now)
-        → MayAllApart d effects.now → StandPrincipals (followed d effects.now) (arc_value p)) }
-{
-    if !moves_any_principals(effects) {
-        return Arc::try_clone(last);
-    }
-    Ok(Arc::new(alloc, last.after(alloc, effects)?)?)
-}
-
-/// Returns the services after these effects: those of the present view, if no effect changes them.
-fn next_services(
-    alloc: Global,
-    last: &Arc<Services>,
-    effects: &[Effect],
-) -> Result<Arc<Services>, AllocError>
-    ensures { IfOk result (λ s. (d : Effects) → Sound d → TracksRows d (arc_value last.now).rows.items
-        → MayAllApart d effects.now → TracksRows (followed d effects.now) (arc_value s).rows.items) }
-{
-    if !moves_any_services(effects) {
-        return Arc::try_clone(last);
-    }
-    Ok(Arc::new(alloc, services_after(alloc, last, effects)?)?)
-}
-
 /// A manager at one moment, for readers: the processes that may ask, and the answers. Contracts see the slots and the
 /// history.
 ///
-/// Its parts are shared with other views that have the same ones: a change that doesn't alter the names copies no name.
+/// Its tables are shared with other views: a change that doesn't alter the names copies no name.
 pub struct View {
     alloc: Global,
     places: u32,
     length: u64,
-    principals: Arc<Principals>,
-    services: Arc<Services>,
-    turn_counts: TurnCounts,
+    tables: Arc<ViewTables>,
+    /// The row of the actor that made the last change. It is the manager's if there is none since the opening or a seal.
+    newest: TurnRow,
     journal: Snapshot<Journal>,
     next: Option<Snapshot<Entry>>,
 }
 
 impl Drop for View {
     fn drop(self) {
-        drop_fields!(self: alloc, places, length, principals, services, turn_counts, journal, next);
+        drop_fields!(self: alloc, places, length, tables, newest, journal, next);
     }
 }
 
@@ -99,7 +59,7 @@ impl Model for View {
     } };
 
     ghost invariant = { λ v. Viewed v.places (with_next (λ s. s.value) v.next v.journal.value.history) v.length
-        (arc_value v.principals) (arc_value v.services) (arc_value v.turn_counts.base) v.turn_counts.since.items };
+        (arc_value v.tables) v.newest };
 }
 
 impl View {
@@ -114,13 +74,17 @@ impl View {
         requires { Kept places journal.now.history turns.now state.now [] }
         ensures { IfOk result (λ v. v ≡ record { places = places; history = journal.now.history }) }
     {
+        let tables = ViewTables {
+            principals: Arc::new(alloc, state.principals.copy(alloc)?)?,
+            services: Arc::new(alloc, state.names.services().copy(alloc, 0)?)?,
+            turn_counts: TurnCounts::of(alloc, turns)?,
+        };
         Ok(View {
             alloc,
             places,
             length: journal.history_length(),
-            principals: Arc::new(alloc, state.principals.copy(alloc)?)?,
-            services: Arc::new(alloc, state.names.services().copy(alloc, 0)?)?,
-            turn_counts: TurnCounts::of(alloc, turns)?,
+            tables: Arc::new(alloc, tables)?,
+            newest: turns.row(By::Manager),
             journal: Snapshot::of(journal),
             next: None,
         })
@@ -141,14 +105,17 @@ impl View {
             (λ v. v ≡ record { places = self.now.places; history = entered ready.now.entry self.now.history }) }
     {
         let alloc = self.alloc;
+        let by = ready.entry.by;
         let effects = ready.effects.as_slice();
         Ok(View {
             alloc,
             places: self.places,
             length: self.length + 1,
-            principals: next_principals(alloc, &self.principals, effects)?,
-            services: next_services(alloc, &self.services, effects)?,
-            turn_counts: self.turn_counts.after(alloc, turns, ready.entry.by)?,
+            tables: next_tables(alloc, &self.tables, turns, self.newest, by, effects)?,
+            newest: TurnRow {
+                by,
+                turns: turns.of(by) + 1,
+            },
             journal: Snapshot::of(journal),
             next: Some(Snapshot::of(&ready.entry)),
         })
@@ -161,13 +128,17 @@ impl View {
         requires turns { (by : By) → change_count turns.now by ≡ turn_of (sealed self.now.history) by }
         ensures { IfOk result (λ v. v ≡ record { places = self.now.places; history = journal.now.history }) }
     {
+        let tables = ViewTables {
+            principals: Arc::try_clone(&self.tables.principals)?,
+            services: Arc::try_clone(&self.tables.services)?,
+            turn_counts: TurnCounts::of(self.alloc, turns)?,
+        };
         Ok(View {
             alloc: self.alloc,
             places: self.places,
             length: self.length,
-            principals: Arc::try_clone(&self.principals)?,
-            services: Arc::try_clone(&self.services)?,
-            turn_counts: TurnCounts::of(self.alloc, turns)?,
+            tables: Arc::new(self.alloc, tables)?,
+            newest: turns.row(By::Manager),
             journal: Snapshot::of(journal),
             next: None,
         })
@@ -187,7 +158,10 @@ impl View {
     {
         // Reads a field, so that the invariant is known: see docs/PROOFS.md.
         let _ = &self.places;
-        self.turn_counts.of_actor(by)
+        if is_same(by, self.newest.by) {
+            return self.newest.turns;
+        }
+        self.tables.turn_counts.of_actor(by)
     }
 
     /// The answer to a query, on the history that it is of. It adds no record to the ring.
@@ -206,8 +180,8 @@ impl View {
             alloc: self.alloc,
             places: self.places,
             length: self.length,
-            principals: &self.principals,
-            services: &self.services,
+            principals: &self.tables.principals,
+            services: &self.tables.services,
             journal: &self.journal,
             next: &self.next,
         };

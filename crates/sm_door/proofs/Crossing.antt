@@ -130,10 +130,8 @@ module _ (T : RattleType) (g : Ghosts T.Denot) where
   publisher_send =
       let D = PublisherInside.the_type T (Absorb.ghosts T g Absorb.no_dict) g in
       view_send (PublisherInside.the_row T (Absorb.ghosts T g Absorb.no_dict) g) _ _ _ _
-      (recorded_send _ _ _ D.to_one (struct_send (struct.shape D) (
-        GlobalCrosses.the_field_send,
-        (RegistryCrosses.the_send T g, (arc_send, (OptionCrosses.the_field_send _ writer_send, tt))),
-      )))
+      (recorded_send _ _ _ D.to_one (struct_send (struct.shape D)
+      (GlobalCrosses.the_field_send, (RegistryCrosses.the_send T g, (OptionCrosses.the_field_send _ writer_send, tt)))))
 
   locked_send : IsSend (LockedManager.the_row T g (Absorb.ghosts T g Absorb.no_dict))
   locked_send =

@@ -93,12 +93,12 @@ impl<J: Naming, G: Gate + Drop> Door<J, G> {
         let Ok(shared_view) = SharedView::new(rt, alloc, &mut registry, view) else {
             return Err(Refusal::Memory);
         };
-        let Ok(writer) = writer_of(alloc, &shared_view) else {
+        let Ok(writer) = writer_of(alloc, shared_view) else {
             return Err(Refusal::Memory);
         };
         match tokens_of(alloc, &manager, &writer) {
             Ok((seats, admins)) => {
-                let publisher = Publisher::new(alloc, registry, shared_view, writer);
+                let publisher = Publisher::new(alloc, registry, writer);
                 let locked = Mutex::new(LockedManager::new(alloc, manager, publisher));
                 Ok((Door { locked, gate }, seats, admins))
             }
@@ -149,6 +149,7 @@ impl<J: Naming, G: Gate + Drop> Door<J, G> {
 
     /// Judges an event of this actor, and makes it if it is accepted. Returns the event's audit records with the
     /// answer.
+    #[inline(always)]
     fn act<R: Wait>(&self, rt: &R, me: &mut Actor<J>, event: Event) -> (Reply, Vec<Record>)
         ensures submitted { Submitted me.old me.new event result.0 }
         ensures logged { Logged me.old me.new event result.0 result.1.items }

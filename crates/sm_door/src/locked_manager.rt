@@ -71,7 +71,7 @@ fn show_ready<J: Naming, R: Wait>(
     ensures { MatchResult result (λ done. publisher.new ≡ extended manager.now.book ready.now.entry)
         (λ e. publisher.new ≡ publisher.old) }
 {
-    let view = manager.view_after(ready, &publisher.shared_view.view)?;
+    let view = manager.view_after(ready, &publisher.shared_view().view)?;
     publisher.publish(rt, view)
 }
 
@@ -87,7 +87,7 @@ fn show_sealed<J: Naming, R: Wait>(
     ensures { MatchResult result (λ done. publisher.new ≡ sealed_book manager.now.book)
         (λ e. publisher.new ≡ publisher.old) }
 {
-    let view = manager.view_sealed(ready, &publisher.shared_view.view)?;
+    let view = manager.view_sealed(ready, &publisher.shared_view().view)?;
     publisher.publish(rt, view)
 }
 
@@ -108,6 +108,7 @@ impl<J: Naming> LockedManager<J> {
     /// Judges an event of an actor at its turn, and makes it if it is accepted: this is the one step of the manager. The
     /// token then sees the history that answered, unless an allocation failed or the event isn't its actor's. Returns
     /// the event's audit records with the answer.
+    #[inline(always)]
     pub fn act<R: Wait>(&mut self, rt: &R, me: &mut Actor<J>, event: Event) -> (Reply, Vec<Record>)
         ensures steps { Steps self.old.book me.old.by (turn me.old) event result.0 self.new.book }
         ensures ring { self.new.ring
@@ -206,6 +207,7 @@ impl<J: Naming> LockedManager<J> {
 
     /// One step of the manager, with the audit records that it adds to the ring. A change is published before it is
     /// committed: if it can't be published, nothing is committed and the answer is `Memory`.
+    #[inline(always)]
     fn step<R: Wait>(&mut self, rt: &R, by: By, turn: u64, event: Event) -> (Reply, Vec<Record>)
         ensures answers { Steps self.old.book by turn event result.0 self.new.book }
         ensures ring { self.new.ring ≡ ring_after self.old.ring self.old.book by turn event result.0 }

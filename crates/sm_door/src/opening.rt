@@ -30,17 +30,15 @@ const PLACES: usize = 68;
 /// Makes the writer of a door whose first shared view this is. Returns an error if an allocation fails.
 pub(crate) fn writer_of<J: Naming>(
     alloc: Global,
-    shared_view: &Arc<SharedView<J>>,
+    shared_view: Arc<SharedView<J>>,
 ) -> Result<ViewWriter<J>, AllocError>
-    requires { arc_value shared_view.now ≡ J.opening }
+    requires { arc_value shared_view ≡ J.opening }
     ensures { IfOk result (λ w. arc_value w.desk.shown.value.shared_view ≡ J.opening) }
 {
-    let first = Arc::try_clone(shared_view)?;
-    let second = Arc::try_clone(shared_view)?;
-    let first = Published { shared_view: first };
-    let second = Published {
-        shared_view: second,
+    let first = Published {
+        shared_view: Arc::try_clone(&shared_view)?,
     };
+    let second = Published { shared_view };
     ViewWriter::new(alloc, first, second, PLACES)
         .ok()
         .ok_or(AllocError)

@@ -21,9 +21,7 @@ where
 {
     alloc: Global,
     registry: Registry<J>,
-    /// The shared view that is published.
-    pub(crate) shared_view: Arc<SharedView<J>>,
-    /// The writer. It is absent only within `publish`.
+    /// The writer, which has the shared view that readers find. It is absent only within `publish`.
     writer: Option<ViewWriter<J>>,
 }
 
@@ -31,16 +29,16 @@ impl<J: Naming> Model for Publisher<J>
 where
     Published<J>: Absorb<Arc<SharedView<J>>, State = View>,
 {
-    ghost use Rattle.std.specs.Prelude.{◌≡◌, MatchOption};
+    ghost use Rattle.std.specs.Prelude.{MatchOption};
     ghost use Rattle.std.specs.Arc.{arc_value};
     ghost use Rattle.sm_history.specs.Books.{Book};
+    ghost use Rattle.sm_history.specs.Tokens.{at_or};
 
     ghost Value = { Book };
 
-    ghost view = { λ p. arc_value p.shared_view };
+    ghost view = { λ p. at_or J.opening (λ w. arc_value w.desk.shown.value.shared_view) p.writer };
 
-    ghost invariant = { λ p. MatchOption p.writer ⊥
-        (λ w. arc_value w.desk.shown.value.shared_view ≡ arc_value p.shared_view) };
+    ghost invariant = { λ p. MatchOption p.writer ⊥ (λ w. Unit {0}) };
 }
 
 /// Publishes a shared view. On an error readers find what they found, and the next shared view overtakes the one that
@@ -61,20 +59,13 @@ fn show<J: Naming, R: Wait>(
 }
 
 impl<J: Naming> Publisher<J> {
-    /// The publisher whose writer shows this shared view.
-    pub(crate) fn new(
-        alloc: Global,
-        registry: Registry<J>,
-        shared_view: Arc<SharedView<J>>,
-        writer: ViewWriter<J>,
-    ) -> Publisher<J>
-        requires { arc_value writer.desk.shown.value.shared_view ≡ arc_value shared_view }
-        ensures { result ≡ arc_value shared_view }
+    /// Makes a publisher with this writer. Contracts see the book that the writer shows.
+    pub(crate) fn new(alloc: Global, registry: Registry<J>, writer: ViewWriter<J>) -> Publisher<J>
+        ensures { result ≡ arc_value writer.desk.shown.value.shared_view }
     {
         Publisher {
             alloc,
             registry,
-            shared_view,
             writer: Some(writer),
         }
     }
@@ -89,19 +80,23 @@ impl<J: Naming> Publisher<J> {
         ensures { MatchResult result (λ done. self.new ≡ view) (λ e. self.new ≡ self.old) }
     {
         let shared_view = SharedView::new(rt, self.alloc, &mut self.registry, view)?;
-        let kept = Arc::try_clone(&shared_view)?;
         let writer = self.writer.take().unwrap();
         let (writer, shown) = show(rt, writer, shared_view);
         match self.writer.replace(writer) {
             None => (),
             Some(_writer) => unreachable!(),
         }
-        match shown {
-            Ok(()) => {
-                self.shared_view = kept;
-                Ok(())
-            }
-            Err(error) => Err(error),
+        shown
+    }
+
+    /// Returns the shared view that readers find.
+    #[inline(always)]
+    pub(crate) fn shared_view(&self) -> &SharedView<J>
+        ensures { result.now ≡ self.now }
+    {
+        match &self.writer {
+            Some(writer) => &writer.published().shared_view,
+            None => unreachable!(),
         }
     }
 
@@ -116,7 +111,7 @@ impl<J: Naming> Publisher<J> {
             match reader.enter_as::<Sees>() {
                 Ok(reading) => {
                     let shown = &reading.get().shared_view.history_id;
-                    let found = shown.is(&self.shared_view.history_id);
+                    let found = shown.is(&self.shared_view().history_id);
                     reader = reading.leave();
                     if found {
                         return reader;
@@ -133,7 +128,6 @@ impl<J: Naming> Publisher<J> {
         let Publisher {
             alloc: _,
             registry: _registry,
-            shared_view: _shared_view,
             writer,
         } = self;
         writer.unwrap().take(rt);

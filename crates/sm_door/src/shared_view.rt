@@ -40,6 +40,7 @@ impl<J: Naming> Model for SharedView<J> {
 
 impl<J: Naming> SharedView<J> {
     /// Makes a shared view of a view, with a new id. Returns an error if an allocation failed or no number is left.
+    #[inline(always)]
     pub(crate) fn new<R: Wait>(
         rt: &R,
         alloc: Global,

@@ -66,6 +66,7 @@ impl<T: Drop> Sequence<T> {
     }
 
     /// Returns these values, followed by more.
+    #[inline(always)]
     pub fn and(self, more: Sequence<T>) -> Result<Vec<T>, AllocError>
         ensures { IfOk result (λ v. v.items ≡ self ++ more) }
     {

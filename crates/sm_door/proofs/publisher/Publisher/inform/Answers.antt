@@ -16,10 +16,10 @@ enter_as-requires g c x = enters g.J.Naming.opening (λ s. arc_value s.shared_vi
 pub returns-then-found-clause-begins : goal.returns-then-found-clause-begins
 returns-then-found-clause-begins g c =
     let ids = c.is-found.ensures c.if-found.true in
-    let same : c.deref.result.now ≡ c.deref-in-Ok.result.now =
+    let same : c.deref.result.now ≡ c.shared_view.result.now =
     sym c.behind-get.view_is ∙ sym c.behind-get.invariant ∙ ids ∙ c.behind-self.invariant ∙ c.behind-self.view_is in
     let p : Begins c.args.self.now (place_view c.loop.reader.place).seen =
-    search (rules, c.in-Ok.ensures, c.get.ensures, c.deref.ensures, c.deref-in-Ok.ensures, same, c.self.view_is) in
+    search (rules, c.in-Ok.ensures, c.get.ensures, c.deref.ensures, c.shared_view.ensures, same) in
     book_through _ _ _ p c.loop.invariant.0
 
 pub returns-then-found-clause-entered : goal.returns-then-found-clause-entered

@@ -6,7 +6,7 @@ use Rattle.sm_history.specs.Following.{MayAllApart, followed}
 use Rattle.sm_history.specs.Sound.{Sound}
 use Rattle.sm_names.specs.Rows.{TracksRows}
 use Rattle.sm_core.proofs.Viewing.{services_stay}
-use Rattle.sm_core.proofs.view.next_services.Goals as goal
+use Rattle.sm_core.proofs.view_tables.next_services.Goals as goal
 
 pub returns-then-not-moves_any_services : goal.returns-then-not-moves_any_services
 returns-then-not-moves_any_services c =

@@ -6,7 +6,7 @@ use Rattle.sm_history.specs.Following.{MayAllApart, followed}
 use Rattle.sm_history.specs.Sound.{Sound}
 use Rattle.sm_core.specs.Stands.{StandPrincipals}
 use Rattle.sm_core.proofs.Viewing.{principals_stay}
-use Rattle.sm_core.proofs.view.next_principals.Goals as goal
+use Rattle.sm_core.proofs.view_tables.next_principals.Goals as goal
 
 pub returns-then-not-moves_any_principals : goal.returns-then-not-moves_any_principals
 returns-then-not-moves_any_principals c =
