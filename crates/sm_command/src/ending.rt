@@ -12,22 +12,28 @@ use sm_kinds::{Class, Perms, push_access};
 use sm_script::ScriptFault;
 use std::alloc::{AllocError, Global};
 use std::io::{self, ErrorKind};
+use thiserror::Error;
 
 /// The line for a failed allocation, also for one while a line is made.
 pub const NO_MEMORY: &[u8] = b"fault: no memory\n";
 
 /// Why the program ended without an answer.
-#[derive(Drop)]
+#[derive(Debug, Drop, Error)]
 pub enum Ending<'a> {
     /// An allocation failed while the command line or the files of a policy were read.
+    #[error("fault: no memory")]
     Memory,
     /// The file of this path couldn't be read.
+    #[error("fault: {path}: {error}")]
     File { path: &'a str, error: io::Error },
     /// The lock beside the socket of this path couldn't be made.
+    #[error("fault: {path}.lock: {error}")]
     Lock { path: &'a str, error: io::Error },
     /// The script was not run, or not to its end; or the verdict of a check couldn't be written.
+    #[error(transparent)]
     Script(ScriptFault),
     /// A server ended early.
+    #[error("fault: {0}")]
     Serve(ServeFault),
 }
 

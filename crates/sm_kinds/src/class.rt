@@ -2,13 +2,21 @@
 
 ghost use Rattle.std.specs.Prelude.{◌≡◌};
 
+use crate::escaped::write_escaped;
 use crate::word::spells;
+use std::fmt;
 
 /// An object class, in the order of SELinux's `security_classes` as this product uses it.
-#[derive(Clone, Copy, PartialEq, Eq)]
+#[derive(Clone, Copy, Debug, PartialEq, Eq)]
 pub enum Class {
     ServiceManager,
     Binder,
+}
+
+impl fmt::Display for Class {
+    fn fmt<W: fmt::Write>(&self, f: &mut fmt::Formatter<W>) -> fmt::Result {
+        write_escaped(f, self.word())
+    }
 }
 
 impl Class {

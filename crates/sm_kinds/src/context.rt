@@ -8,6 +8,7 @@ use crate::lines::behind;
 use std::alloc::{AllocError, Global};
 use std::marker::Model;
 use std::sync::ArcSlice;
+use thiserror::Error;
 
 /// A security context, `user:role:type` or `user:role:type:range`, which contracts see as its text.
 /// No check reads the range.
@@ -16,11 +17,13 @@ pub struct Context {
 }
 
 /// Why bytes are no context.
-#[derive(Clone, Copy, PartialEq, Eq)]
+#[derive(Clone, Copy, Debug, Error, PartialEq, Eq)]
 pub enum ContextError {
     /// They aren't `user:role:type` or `user:role:type:range`.
+    #[error("not a security context")]
     BadContext,
     /// An allocation failed.
+    #[error("out of memory")]
     Memory,
 }
 

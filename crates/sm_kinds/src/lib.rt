@@ -6,6 +6,7 @@
 mod class;
 mod context;
 mod drops;
+mod escaped;
 mod identity;
 mod limits;
 mod lines;

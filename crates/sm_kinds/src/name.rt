@@ -4,9 +4,11 @@ ghost use Rattle.std.specs.Prelude.{◌≡◌, ◌++◌, ◌∷◌, [], OnOk, On
 ghost use Rattle.std.specs.List.{list_all};
 ghost use Rattle.sm_kinds.specs.Names.{is_name_byte, is_valid_name};
 
+use crate::escaped::write_escaped;
 use crate::limits::MOST_NAME_BYTES;
 use crate::word::spells;
 use std::alloc::{AllocError, Global};
+use std::fmt;
 use std::marker::Model;
 use std::sync::ArcSlice;
 
@@ -37,6 +39,18 @@ impl Clone for Name {
     fn clone(&self) -> Result<Name, AllocError> {
         let bytes = self.bytes.clone()?;
         Ok(Name { bytes })
+    }
+}
+
+impl fmt::Display for Name {
+    fn fmt<W: fmt::Write>(&self, f: &mut fmt::Formatter<W>) -> fmt::Result {
+        write_escaped(f, self.bytes())
+    }
+}
+
+impl fmt::Debug for Name {
+    fn fmt<W: fmt::Write>(&self, f: &mut fmt::Formatter<W>) -> fmt::Result {
+        write!(f, "Name({self})")
     }
 }
 

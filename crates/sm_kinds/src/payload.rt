@@ -1,38 +1,38 @@
 //! Payloads of calls.
 
-ghost use Rattle.std.specs.Arc.{arc_value};
 ghost use Rattle.std.specs.Prelude.{◌≡◌, ◌≤◌, ◌<◌, length, IfOk, OnOk};
 
 use crate::limits::MOST_PAYLOAD_BYTES;
 use bytes::Bytes;
-use std::alloc::{AllocError, Global};
+use std::alloc::AllocError;
 use std::marker::Model;
-use std::sync::Arc;
+use thiserror::Error;
 
-/// The payload of a call, at most `MOST_PAYLOAD_BYTES`. It is behind a shared pointer, so that events stay small.
+/// The payload of a call, at most [`MOST_PAYLOAD_BYTES`] bytes, which clones share.
 pub struct Payload {
-    bytes: Arc<Bytes, Global>,
+    bytes: Bytes,
 }
 
 /// Why bytes are no payload.
-#[derive(Clone, Copy, PartialEq, Eq)]
+#[derive(Clone, Copy, Debug, Error, PartialEq, Eq)]
 pub enum PayloadError {
-    /// There are more bytes than `MOST_PAYLOAD_BYTES`.
+    /// There are more bytes than [`MOST_PAYLOAD_BYTES`].
+    #[error("the payload is too long")]
     TooLong,
     /// An allocation failed.
+    #[error("out of memory")]
     Memory,
 }
 
 impl Model for Payload {
-    ghost use Rattle.std.specs.Arc.{arc_value};
     ghost use Rattle.std.specs.Prelude.{List, ℕ, ◌≤◌, length};
     ghost use Rattle.sm_kinds.specs.declared.limits.TheConstants.{MOST_PAYLOAD_BYTES};
 
     ghost Value = { List ℕ };
 
-    ghost view = { λ p. arc_value p.bytes };
+    ghost view = { λ p. p.bytes };
 
-    ghost invariant = { λ p. length (arc_value p.bytes) ≤ MOST_PAYLOAD_BYTES };
+    ghost invariant = { λ p. length p.bytes ≤ MOST_PAYLOAD_BYTES };
 }
 
 impl Drop for Payload {
@@ -46,23 +46,17 @@ impl Clone for Payload {
 
     /// Returns another reference to the same bytes.
     fn clone(&self) -> Result<Payload, AllocError> {
-        let bytes = Arc::try_clone(&self.bytes)?;
+        let bytes = self.bytes.clone()?;
         Ok(Payload { bytes })
     }
 }
 
-fn shared(alloc: Global, bytes: Vec<u8>) -> Result<Arc<Bytes, Global>, AllocError>
-    ensures { IfOk result (λ shared. arc_value shared ≡ bytes.items) }
-{
-    let bytes = Bytes::from_vec(bytes)?;
-    Ok(Arc::new(alloc, bytes)?)
-}
-
 impl Payload {
+    ghost use Rattle.sm_kinds.specs.declared.limits.TheConstants.{MOST_PAYLOAD_BYTES};
     ghost use Rattle.sm_kinds.specs.declared.payload.PayloadError.TheVariants.{TooLong};
 
     /// Makes a payload of these bytes, whose memory it keeps.
-    pub fn from_vec(alloc: Global, bytes: Vec<u8>) -> Result<Payload, PayloadError>
+    pub fn from_vec(bytes: Vec<u8>) -> Result<Payload, PayloadError>
         ensures value { IfOk result (λ p. p ≡ bytes.items) }
         ensures fits { OnOk result (length bytes.items ≤ MOST_PAYLOAD_BYTES) }
         ensures long { MOST_PAYLOAD_BYTES < length bytes.items → result ≡ Err TooLong }
@@ -71,7 +65,7 @@ impl Payload {
         if bytes.len() > MOST_PAYLOAD_BYTES {
             return Err(PayloadError::TooLong);
         }
-        match shared(alloc, bytes) {
+        match Bytes::from_vec(bytes) {
             Ok(bytes) => Ok(Payload { bytes }),
             Err(_) => Err(PayloadError::Memory),
         }
@@ -79,7 +73,8 @@ impl Payload {
 
     /// Returns the bytes of the payload.
     pub fn bytes(&self) -> &[u8]
-        ensures { result.now ≡ self.now }
+        ensures value { result.now ≡ self.now }
+        ensures fits { length result.now ≤ MOST_PAYLOAD_BYTES }
     {
         self.bytes.as_slice()
     }

@@ -3,11 +3,13 @@
 ghost use Rattle.std.specs.Prelude.{⊤, ◌≡◌, [], ◌∷◌, codes};
 
 use crate::class::Class;
+use crate::escaped::write_escaped;
 use crate::word::spells;
 use bitflags::{Flag, Flags, bitflag_items};
+use std::fmt;
 
 /// A set of permissions. Those of `service_manager` are bits 0 to 2, those of `binder` bits 3 to 6.
-#[derive(Clone, Copy, PartialEq, Eq)]
+#[derive(Clone, Copy, Debug, PartialEq, Eq)]
 pub struct Perms(pub u8);
 
 bitflag_items! {
@@ -42,6 +44,13 @@ impl Flags for Perms {
 
     fn from_bits_retain(bits: u8) -> Perms {
         Perms(bits)
+    }
+}
+
+impl fmt::Display for Perms {
+    /// Writes the word of a single permission, and nothing for a set of none or several.
+    fn fmt<W: fmt::Write>(&self, f: &mut fmt::Formatter<W>) -> fmt::Result {
+        write_escaped(f, self.word().unwrap_or(b""))
     }
 }
 

@@ -6,6 +6,7 @@ use crate::limits::MOST_REFS;
 use crate::number::ObjRef;
 use std::alloc::{AllocError, Global};
 use std::marker::Model;
+use thiserror::Error;
 
 /// The references of a call, in order, at most `MOST_REFS`. They are behind a pointer, so that events stay small.
 pub struct Refs {
@@ -13,11 +14,13 @@ pub struct Refs {
 }
 
 /// Why references can't be those of a call.
-#[derive(Clone, Copy, PartialEq, Eq)]
+#[derive(Clone, Copy, Debug, Error, PartialEq, Eq)]
 pub enum RefsError {
     /// There are more than `MOST_REFS`.
+    #[error("too many references")]
     TooMany,
     /// An allocation failed.
+    #[error("out of memory")]
     Memory,
 }
 

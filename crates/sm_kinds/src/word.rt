@@ -3,6 +3,8 @@
 ghost use Rattle.std.specs.Prelude.{◌≡◌};
 ghost use Rattle.std.specs.Str.{bytes_eq};
 
+use crate::escaped::write_escaped;
+use std::fmt;
 use std::marker::Model;
 
 /// A word of a source. Contracts see its bytes.
@@ -17,6 +19,18 @@ impl<'a> Model for Word<'a> {
     ghost Value = { List ℕ };
 
     ghost view = { λ w. w.bytes.now };
+}
+
+impl<'a> fmt::Display for Word<'a> {
+    fn fmt<W: fmt::Write>(&self, f: &mut fmt::Formatter<W>) -> fmt::Result {
+        write_escaped(f, self.bytes)
+    }
+}
+
+impl<'a> fmt::Debug for Word<'a> {
+    fn fmt<W: fmt::Write>(&self, f: &mut fmt::Formatter<W>) -> fmt::Result {
+        write!(f, "Word({self})")
+    }
 }
 
 impl<'a> Word<'a> {

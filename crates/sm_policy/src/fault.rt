@@ -10,23 +10,31 @@ use sm_rules::RulesFault;
 use sm_ruletext::RuleTextFault;
 use sm_types::TypesFault;
 use std::alloc::{AllocError, AllocFailed};
+use thiserror::Error;
 
 /// The first refusal of a policy. A failed allocation is `Memory`, wherever it happened.
-#[derive(Drop)]
+#[derive(Debug, Drop, Error)]
 pub enum PolicyFault {
     /// The policy source isn't in the grammar, or is too large.
+    #[error(transparent)]
     Rules(RuleTextFault),
     /// A declaration is refused.
+    #[error(transparent)]
     Types(TypesFault),
     /// A rule is refused.
+    #[error(transparent)]
     Access(RulesFault),
     /// The contexts file is refused.
+    #[error(transparent)]
     Contexts(ContextsFault),
     /// The context on this line of the contexts file has a type that the policy source doesn't declare.
+    #[error("contexts: undeclared type at line {0}")]
     UndeclaredLabel(u32),
     /// An allow rule allows what a neverallow rule forbids.
+    #[error(transparent)]
     Neverallow(Violation),
     /// An allocation failed.
+    #[error("memory")]
     Memory,
 }
 

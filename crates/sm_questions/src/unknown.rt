@@ -7,15 +7,19 @@ use crate::lookups::is_declared;
 use sm_kinds::{Class, Perms, Word};
 use sm_policy::Prepared;
 use std::alloc::{AllocError, Global};
+use thiserror::Error;
 
 /// A word of a question that names nothing.
-#[derive(Drop)]
+#[derive(Debug, Drop, Error)]
 pub enum Unknown<'a> {
     /// The policy source declares no such type.
+    #[error("unknown type {0}")]
     Type(Word<'a>),
     /// There is no such class.
+    #[error("unknown class {0}")]
     Class(Word<'a>),
     /// The class has no such permission.
+    #[error("unknown permission {0}")]
     Permission(Word<'a>),
 }
 

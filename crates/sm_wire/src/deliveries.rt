@@ -1,14 +1,16 @@
 //! Deliveries in reply lines.
 
-ghost use Rattle.std.specs.Prelude.{◌≡◌, ◌++◌, ◌<◌, OnOk, codes, slice_index};
+ghost use Rattle.std.specs.Prelude.{◌≡◌, ◌++◌, ◌≤◌, OnOk, codes, length};
 ghost use Rattle.std.specs.List.{flat_map};
 ghost use Rattle.sm_wire.specs.Replies.{spaced_given, payload_text, caller_text, registered_text};
 ghost use Rattle.sm_wire.specs.Replies.{message_text};
-ghost use Rattle.hex.specs.Hex.{encode_lower, lower_digits};
+ghost use Rattle.hex.specs.Hex.{encode_lower};
+ghost use Rattle.sm_kinds.specs.declared.limits.TheConstants.{MOST_PAYLOAD_BYTES};
 
 use crate::decimals::push_numbered;
 use crate::names::push_spaced_name;
 use sm_history::{Delivery, Given, Message};
+use sm_kinds::Payload;
 use std::alloc::{AllocError, Global};
 
 /// Appends the words of a delivery.
@@ -39,7 +41,7 @@ fn push_message(
             refs,
         } => {
             push_caller(out, object, *pid, *uid)?;
-            push_payload(out, payload.bytes())?;
+            push_payload(out, payload)?;
             push_refs(out, refs.list())
         }
         Message::Registered { name, given } => {
@@ -75,32 +77,24 @@ fn push_caller(out: &mut Vec<u8>, object: u32, pid: u32, uid: u32) -> Result<(),
 }
 
 #[tactic(auto, unfolding(crate::specs::Replies::payload_text))]
-fn push_payload(out: &mut Vec<u8>, payload: &[u8]) -> Result<(), AllocError>
+fn push_payload(out: &mut Vec<u8>, payload: &Payload) -> Result<(), AllocError>
     ensures { OnOk result (out.new.items ≡ out.old.items ++ payload_text payload.now) }
 {
-    match payload {
+    match payload.bytes() {
         [] => out.extend_from_slice(b"-"),
-        [_, ..] => push_hex(out, payload),
+        bytes => push_hex(out, bytes),
     }
 }
 
-// Appends two hexadecimal digits for each byte, without a text of their own.
-#[tactic(auto, unfolding(hex::specs::Hex::encode_with))]
+// Appends two hexadecimal digits for each byte, which are written where they stay.
 fn push_hex(out: &mut Vec<u8>, bytes: &[u8]) -> Result<(), AllocError>
+    requires { length bytes.now ≤ MOST_PAYLOAD_BYTES }
     ensures { OnOk result (out.new.items ≡ out.old.items ++ encode_lower bytes.now) }
 {
-    for byte in bytes {
-        out.extend_from_slice(&[hex_digit(*byte / 16), hex_digit(*byte % 16)])?;
-    }
+    let front = out.len();
+    out.resize(front + 2 * bytes.len(), 0)?;
+    hex::encode_to_slice(bytes, &mut out[front..]).unwrap();
     Ok(())
-}
-
-#[inline(always)]
-fn hex_digit(digit: u8) -> u8
-    requires { digit < 16 }
-    ensures { result ≡ slice_index lower_digits digit }
-{
-    b"0123456789abcdef"[digit as usize]
 }
 
 // Appends each reference after a space.

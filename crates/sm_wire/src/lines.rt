@@ -16,13 +16,16 @@ use sm_kinds::drop_fields;
 use std::alloc::{AllocError, Global};
 use std::collections::VecDeque;
 use std::marker::Model;
+use thiserror::Error;
 
 /// Why a piece gave no items.
-#[derive(Clone, Copy, PartialEq, Eq)]
+#[derive(Clone, Copy, Debug, Error, PartialEq, Eq)]
 pub enum FeedError {
     /// An earlier piece gave `Item::LineTooLong`.
+    #[error("a line is too long")]
     LineTooLong,
     /// An allocation failed.
+    #[error("out of memory")]
     Memory,
 }
 

@@ -4,13 +4,16 @@ ghost use Rattle.std.specs.Prelude.{◌≡◌};
 ghost use Rattle.sm_wire.specs.declared.read_error.ReadError.TheVariants.{Memory};
 
 use std::alloc::AllocError;
+use thiserror::Error;
 
 /// Why a field or a line was not read.
-#[derive(Clone, Copy, PartialEq, Eq)]
+#[derive(Clone, Copy, Debug, Error, PartialEq, Eq)]
 pub enum ReadError {
     /// It isn't in the grammar of request lines.
+    #[error("malformed")]
     Malformed,
     /// An allocation failed.
+    #[error("out of memory")]
     Memory,
 }
 

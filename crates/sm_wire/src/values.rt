@@ -145,7 +145,7 @@ pub fn payload_field(alloc: Global, field: &[u8]) -> Result<Payload, ReadError>
 {
     match field {
         [] => Err(ReadError::Malformed),
-        b"-" => payload(alloc, Vec::new(alloc)),
+        b"-" => payload(Vec::new(alloc)),
         _ => hex_payload(alloc, field),
     }
 }
@@ -154,13 +154,13 @@ pub fn payload_field(alloc: Global, field: &[u8]) -> Result<Payload, ReadError>
 fn hex_payload(alloc: Global, digits: &[u8]) -> Result<Payload, ReadError>
     ensures { ReadsAs result (hex_payload_of digits.now) }
 {
-    payload(alloc, hex_bytes(alloc, digits)?)
+    payload(hex_bytes(alloc, digits)?)
 }
 
-fn payload(alloc: Global, bytes: Vec<u8>) -> Result<Payload, ReadError>
+fn payload(bytes: Vec<u8>) -> Result<Payload, ReadError>
     ensures { ReadsAs result (fitting_payload bytes.items) }
 {
-    match Payload::from_vec(alloc, bytes) {
+    match Payload::from_vec(bytes) {
         Ok(payload) => Ok(payload),
         Err(PayloadError::TooLong) => Err(ReadError::Malformed),
         Err(PayloadError::Memory) => Err(ReadError::Memory),

@@ -188,7 +188,7 @@ fn add(rt: &impl Abort, alloc: Global) -> Event {
 }
 
 fn call(rt: &impl Abort, alloc: Global, refs: &[ObjRef]) -> Event {
-    let payload = Payload::from_vec(alloc, Vec::new(alloc));
+    let payload = Payload::from_vec(Vec::new(alloc));
     let refs = Vec::from_slice(alloc, refs).ok().expect(rt, "memory");
     Event::Call {
         handle: 1,

@@ -136,12 +136,12 @@ fn list<T: Copy>(rt: &impl Abort, alloc: Global, values: &[T]) -> Vec<T> {
 fn a_payload_has_1024_bytes_at_most(rt: HostRuntime) {
     let long = [7u8; 1_025];
     for bytes in [b"data".as_slice(), &long[..1_024]] {
-        let payload = Payload::from_vec(rt.alloc(), list(&rt, rt.alloc(), bytes));
+        let payload = Payload::from_vec(list(&rt, rt.alloc(), bytes));
         let payload = payload.ok().expect(&rt, "a payload");
         let copy = payload.clone().ok().expect(&rt, "a copy");
         assert_eq!(rt; copy.bytes(), bytes);
     }
-    let fault = Payload::from_vec(rt.alloc(), list(&rt, rt.alloc(), &long)).err();
+    let fault = Payload::from_vec(list(&rt, rt.alloc(), &long)).err();
     assert!(rt; fault == Some(PayloadError::TooLong));
 }
 

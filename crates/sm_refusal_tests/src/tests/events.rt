@@ -57,7 +57,7 @@ fn connects(alloc: Global, context: &[u8]) -> Option<Event> {
 
 /// A call with two references to one object.
 fn call(alloc: Global) -> Option<Event> {
-    let payload = Payload::from_vec(alloc, Vec::from_slice(alloc, b"\x00").ok()?).ok()?;
+    let payload = Payload::from_vec(Vec::from_slice(alloc, b"\x00").ok()?).ok()?;
     let refs = Vec::from_slice(alloc, &[ObjRef::Own(5), ObjRef::Own(5)]).ok()?;
     let refs = Refs::from_vec(alloc, refs).ok()?;
     Some(Event::Call {

@@ -26,7 +26,7 @@ fn name(rt: &impl Abort, alloc: Global) -> Option<()> {
 
 fn payload(rt: &impl Abort, alloc: Global) -> Option<()> {
     let bytes = Vec::from_slice(alloc, b"data").ok()?;
-    let payload = value(rt, Payload::from_vec(alloc, bytes), PayloadError::Memory)?;
+    let payload = value(rt, Payload::from_vec(bytes), PayloadError::Memory)?;
     same_text(rt, payload.bytes(), b"data");
     Some(())
 }
