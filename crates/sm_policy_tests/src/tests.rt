@@ -2,6 +2,7 @@ mod bit_rows;
 mod declarations;
 mod kinds;
 mod labels;
+mod messages;
 mod plain;
 mod policies;
 mod rule_texts;

@@ -2,6 +2,7 @@ mod checks;
 mod command_lines;
 mod crowds;
 mod denials;
+mod endings;
 mod exchanges;
 mod faults;
 mod fixture;

@@ -1,4 +1,5 @@
 mod lines;
 mod names;
+mod refusals;
 mod replies;
 mod sessions;

@@ -99,7 +99,7 @@ fn a_journal_of_a_hundred_thousand(rt: HostRuntime) {
 
 #[test]
 fn an_entry_and_a_notice_are_small(rt: HostRuntime) {
-    assert!(rt; size_of::<Entry>() <= 72 && size_of::<Notice>() <= 24);
+    assert!(rt; size_of::<Entry>() <= 96 && size_of::<Notice>() <= 24);
 }
 
 const SECOND_ADMIN: By = By::Admin(AdminId(0));
