@@ -9,7 +9,7 @@ import time
 from concurrent.futures import ThreadPoolExecutor
 
 from operating.servers import OTHER_HELLO, check, expect, is_over, is_refused, room, served, talk
-from talking import APPLICATION, BROKEN, PATIENCE, ROOT, SERVICE, Connection
+from talking import APPLICATION, BROKEN, PATIENCE, ROOT, SERVICE, Connection, LeftOut
 
 
 @check
@@ -106,24 +106,45 @@ def kept_door(server):
         child.wait()
 
 
+def is_greeted(party):
+    """The first line is the answer to the doorkeeper's `hello`. Who waited for the doorkeeper were clients, too."""
+    expect(party.lines.line()[:7], "client ", "a process is connected")
+
+
 @check
 def doorkeeper(program):
-    with served(program) as server, kept_door(server) as path:
-        with Connection(path) as party:
-            expect(party.lines.line().startswith("client "), True, "the own user is connected")
-            talk(party, ("add activity o1 0 8", "ok"), (OTHER_HELLO, "malformed"), ("hello", "malformed"))
-            if os.getuid() == 0:
-                with as_user(10007):
-                    other = Connection(path)
-                expect(other.lines.line().startswith("client "), True, "user 10007 is connected")
-                talk(other, ("get activity", "handle 1"), ("add foo o1 0 8", "exception -1 app 10007"))
-                with as_user(10008):
-                    unknown = Connection(path)
-                expect(is_over(unknown), True, "the connection of a user without a context is over")
-            talk(party, ("bye", "bye"))
-            expect(is_over(party), True, "the connection is over after `bye`")
+    with served(program) as server, kept_door(server) as path, Connection(path) as party:
+        is_greeted(party)
+        talk(party, (OTHER_HELLO, "malformed"), ("hello", "malformed"), ("bye", "bye"))
+        expect(is_over(party), True, "the connection is over after `bye`")
     # A refused process can't try again as another one.
-    with served(program, "--journal", "2") as server, kept_door(server) as path:
-        with Connection(path) as party:
-            expect(party.lines.line(), "failed journal-full\n", "the own user is answered")
-            talk(party, (OTHER_HELLO, "malformed"))
+    with served(program, "--journal", "2") as server, kept_door(server) as path, Connection(path) as party:
+        expect(party.lines.line(), "failed journal-full\n", "the own user is answered")
+        talk(party, (OTHER_HELLO, "malformed"))
+
+
+@check
+def doorkeeper_of_a_service(program):
+    user = os.getuid()
+    with served(program) as server, kept_door(server) as path, Connection(path) as party:
+        is_greeted(party)
+        if user % 100_000 >= 10_000:
+            talk(party, ("add activity o1 0 8", f"exception -1 app {user}"))
+            raise LeftOut(f"user {user} is an application, which may not add")
+        talk(party, ("add activity o1 0 8", "ok"))
+
+
+@check
+def doorkeeper_of_two_users(program):
+    if os.getuid() != 0 or os.uname().machine not in SETRESUID:
+        raise LeftOut("only root can connect as another user, on x86_64")
+    with served(program) as server, kept_door(server) as path, Connection(path) as party:
+        is_greeted(party)
+        talk(party, ("add activity o1 0 8", "ok"))
+        with as_user(10007):
+            other = Connection(path)
+        is_greeted(other)
+        talk(other, ("get activity", "handle 1"), ("add foo o1 0 8", "exception -1 app 10007"))
+        with as_user(10008):
+            unknown = Connection(path)
+        expect(is_over(unknown), True, "the connection of a user without a context is over")

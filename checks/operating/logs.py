@@ -60,7 +60,8 @@ def audit_log_that_does_not_block(program):
 def audit_log_of_long_requests(program):
     """The lines that wait have few megabytes, also where each request has many."""
     watches, adds = 4096, 12
-    stricter = DEVICE.replace("allow binderuser activity_service", "allow { binderuser -untrusted_app } activity_service")
+    found = "allow binderuser activity_service"
+    stricter = DEVICE.replace(found, "allow { binderuser -untrusted_app } activity_service")
     with served(program, "--audit") as server, server.client() as client, server.client() as watcher:
         talk(client, (HELLO, "client 1"))
         talk(watcher, (OTHER_HELLO, "client 2"), *[("watch activity o1", "ok")] * watches)
