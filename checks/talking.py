@@ -1,4 +1,4 @@
-"""Shared by the checks: the built program, its policies, and the lines that come from it."""
+"""Shared by checks/ and bench/: the built program, its policies, and the lines that come from it."""
 
 import os
 import select
