@@ -4,11 +4,13 @@ import os
 import re
 import select
 import subprocess
+from itertools import chain, product
 
 from operating.servers import HELLO, check, expect, room
-from talking import BROKEN, DEVICE, LABELS, PATIENCE, ROOT, Wrong
+from talking import BROKEN, DEVICE, LABELS, PATIENCE, ROOT, Lines, Wrong
 
 TOUR = (ROOT / "examples" / "tour.te").read_text()
+OPENS = "allow servicemanager self:binder set_context_mgr;\n"
 TOUR_LABELS = (ROOT / "examples" / "tour_contexts").read_text()
 
 
@@ -60,7 +62,6 @@ def pages_of_options(program):
 @check
 def scripts_and_checks(program):
     """The statuses of `run` and `check`, and what they say."""
-    opens = "allow servicemanager self:binder set_context_mgr;\n"
     broken = "neverallow at line 22 by allow at line 24: untrusted_app activity_service service_manager add\n"
     shown = (
         "broken:22: neverallow untrusted_app *:service_manager add;\n"
@@ -82,7 +83,7 @@ def scripts_and_checks(program):
         (["serve", "--socket", "s", "--admin", "a", "unopened", "labels"], 1, "", denied),
     ]
     with room() as folder:
-        texts = ("rules", DEVICE), ("broken", BROKEN), ("unopened", DEVICE.replace(opens, "")), ("labels", LABELS)
+        texts = ("rules", DEVICE), ("broken", BROKEN), ("unopened", DEVICE.replace(OPENS, "")), ("labels", LABELS)
         for name, text in texts:
             (folder / name).write_text(text)
         script = f"{HELLO}\n1 add activity o1 0 8\n1 bye\n".encode()
@@ -90,6 +91,75 @@ def scripts_and_checks(program):
             ended = subprocess.run([program, *words], cwd=folder, input=script, capture_output=True, timeout=PATIENCE)
             came = ended.returncode, ended.stdout.decode(), ended.stderr.decode()
             expect(came, (status, told, said), f"{' '.join(words)} ends with")
+
+
+# The faults of a command line in the order in which they are looked for: each as the words that it puts in place of
+# good ones, with what is said of it. A policy is refused by its rules or by its labels.
+MISSING = "No such file or directory (os error 2)"
+FAULTS = [
+    [({"option": "--unknown"}, "error: ")],
+    [({"rules": "nowhere"}, f"fault: nowhere: {MISSING}\n")],
+    [({"labels": "none"}, f"fault: none: {MISSING}\n")],
+    [
+        ({"rules": "refused"}, "policy refused: rules: unknown name at line 1\n"),
+        ({"labels": "unlabelled"}, "policy refused: contexts: bad line 1\n"),
+    ],
+    [({"rules": "unopened"}, "open denied servicemanager servicemanager binder set_context_mgr\n")],
+    [({"socket": "nowhere/clients"}, f"fault: nowhere/clients.lock: {MISSING}\n")],
+    [({"admin": "none/admins"}, f"fault: none/admins.lock: {MISSING}\n")],
+]
+
+# The words of each command, and how many of these faults it can have.
+WORDS = {
+    "run": (["rules", "labels"], 5),
+    "check": (["rules", "labels"], 4),
+    "serve": (["--socket", "socket", "--admin", "admin", "rules", "labels"], 7),
+}
+
+
+def faulty_lines(words, faults):
+    """The words of a command line with one fault or two, and what is said of the earlier one."""
+    for at, earlier in enumerate(faults):
+        for (first, said), (second, _) in product(earlier, [({}, ""), *chain(*faults[at + 1 :])]):
+            if not first.keys() & second.keys():
+                given = first | second
+                options = [given["option"]] if "option" in given else []
+                yield [given.get(word, word) for word in words] + options, said
+
+
+@check
+def order_of_faults(program):
+    texts = {
+        "rules": DEVICE,
+        "labels": LABELS,
+        "refused": "permissive app;\n",
+        "unlabelled": "activity\n",
+        "unopened": DEVICE.replace(OPENS, ""),
+    }
+    with room() as folder:
+        for name, text in texts.items():
+            (folder / name).write_text(text)
+        for command, (words, number) in WORDS.items():
+            for line, said in faulty_lines(words, FAULTS[:number]):
+                ended = subprocess.run([program, command, *line], cwd=folder, capture_output=True, timeout=PATIENCE)
+                came = (ended.stdout + ended.stderr).decode()
+                # What is said of a wrong command line is the library's.
+                came, status = (came[: len(said)], 2) if said == "error: " else (came, 1)
+                expect((ended.returncode, came), (status, said), f"{command} {' '.join(line)} ends with")
+
+
+@check
+def script_of_many_reads(program):
+    """Each line is read by itself."""
+    with room() as folder:
+        (folder / "rules").write_text(DEVICE)
+        (folder / "labels").write_text(LABELS)
+        streams = {"stdin": subprocess.PIPE, "stdout": subprocess.PIPE, "stderr": subprocess.STDOUT, "bufsize": 0}
+        with subprocess.Popen([program, "run", "rules", "labels"], cwd=folder, **streams) as child:
+            replies = Lines(child.stdout.fileno())
+            for line, reply in [(HELLO, "client 1"), *[("1 version", "version 1 2")] * 1000]:
+                child.stdin.write(f"{line}\n".encode())
+                expect(replies.line(), f"{reply}\n", f"{line!r} is answered")
 
 
 # A file of rules that is compared with the tour's, and its labels.

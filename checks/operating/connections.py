@@ -7,13 +7,13 @@ import os
 import resource
 import select
 import signal
-import struct
 import tempfile
 import threading
 import time
 
 from operating.servers import HELLO, LIMIT, MARGIN, NOT_ACCEPTED, OTHER_HELLO
-from operating.servers import Server, check, expect, is_over, is_refused, room, served, talk, with_accept_error
+from operating.servers import Server, ask_all, check, expect, is_over, is_refused, room, served, talk
+from operating.servers import with_accept_error
 from talking import DEVICE, PATIENCE, Wrong
 
 
@@ -77,6 +77,29 @@ def slow_reader(program):
 
 
 @check
+def slow_reader_of_a_list(program):
+    """A long reply is written in pieces, and ten seconds are the limit of all together."""
+    # A name is followed by five digits, and by a space or the end of the line.
+    names, name = 4096, "n" * 122
+    with room() as folder:
+        more = "allow system_server default_android_service:service_manager add;\n"
+        (folder / "rules").write_text(DEVICE + more)
+        with Server(program, folder) as server, server.listens().client() as client:
+            talk(client, (HELLO, "client 1"))
+            adds = b"".join(f"add {name}{number:05} o1 0 8\n".encode() for number in range(names))
+            expect(set(ask_all(client, adds, names)), {b"ok"}, "adds are answered")
+            client.send(b"list 15\n")
+            began, came = time.monotonic(), 0
+            while time.monotonic() - began < LIMIT + 1:
+                came += len(client.stream.recv(4096))
+                time.sleep(0.4)
+            while piece := client.stream.recv(65536):
+                came += len(piece)
+                if came > names * (len(name) + 6):
+                    raise Wrong("a client that takes a list slowly is served")
+
+
+@check
 def idle_administrator(program):
     """It makes room for another one after two to four seconds."""
     with served(program) as server, server.admin() as first:
@@ -92,6 +115,20 @@ def idle_administrator(program):
             expect(is_over(first), True, "the first administrator's connection ended")
             time.sleep(5)
             talk(second, ("version", "version 1 1"))
+
+
+@check
+def administrator_who_idles_alone(program, shim):
+    """It has a minute. The server waits for a twentieth of its limits here."""
+    faster = 20
+    env = os.environ | {"LD_PRELOAD": shim, "RECEIVES_FASTER": str(faster)}
+    with served(program, env=env) as server, server.admin() as admin:
+        talk(admin, ("version", "version 1 1"))
+        began = time.monotonic()
+        expect(is_over(admin), True, "an idle administrator's connection ended")
+        took = faster * (time.monotonic() - began)
+        if not 55 < took < 120:
+            raise Wrong(f"an administrator idled for {took:.0f} seconds")
 
 
 @check
@@ -135,13 +172,31 @@ def stopped_and_continued(program):
         flood.join()
 
 
+@contextlib.contextmanager
+def counted(shim):
+    """The environment of a program that counts, and the counts: allocations, those that were refused, whether all are
+    refused now, and calls that accept a connection."""
+    with tempfile.NamedTemporaryFile() as file:
+        file.write(bytes(32))
+        file.flush()
+        env = os.environ | {"LD_PRELOAD": shim, "REFUSE_COUNTS": file.name}
+        yield env, memoryview(mmap.mmap(file.fileno(), 32)).cast("Q")
+
+
 @check
-def too_few_files(program):
-    with served(program, "--workers", "32") as server, contextlib.ExitStack() as open_ones:
+def too_few_files(program, shim):
+    """A server that waits for files tries ten times a second whether there are some."""
+    with contextlib.ExitStack() as open_ones:
+        env, counts = open_ones.enter_context(counted(shim))
+        server = open_ones.enter_context(served(program, "--workers", "32", env=env))
         number = len(os.listdir(f"/proc/{server.child.pid}/fd")) + 6
         resource.prlimit(server.child.pid, resource.RLIMIT_NOFILE, (number, number))
         clients = [open_ones.enter_context(server.client()) for _ in range(8)]
         server.says("warning: a connection waits to be accepted: Too many open files (os error 24)\n")
+        before = counts[3]
+        time.sleep(1)
+        if not 0 < counts[3] - before < 15:
+            raise Wrong(f"a server that waits for files tried {counts[3] - before} times in a second")
         talk(clients[0], (HELLO, "client 1"), ("version", "version 1 2"))
         for client in clients[:5]:
             client.stream.close()
@@ -190,21 +245,16 @@ def accept_that_fails_once(program, shim):
 
 @check
 def client_that_cannot_leave(program, shim):
-    with tempfile.NamedTemporaryFile() as file:
-        file.write(bytes(24))
-        file.flush()
-        counts = mmap.mmap(file.fileno(), 24)
-        env = os.environ | {"LD_PRELOAD": shim, "REFUSE_COUNTS": file.name}
-        with served(program, "--workers", "4", env=env) as server:
-            with server.client() as client:
-                talk(client, (HELLO, "client 1"), ("add activity o1 0 8", "ok"))
-                counts[16:24] = struct.pack("=Q", 1)
-            refused = settled(lambda: struct.unpack("=Q", counts[8:16])[0])
-            counts[16:24] = bytes(8)
-            if refused < 16:
-                raise Wrong(f"a client's end was refused {refused} times")
-            with server.client() as client:
-                talk(client, (OTHER_HELLO, "client 2"), ("get activity", "null"), ("version", "version 1 5"))
+    with counted(shim) as (env, counts), served(program, "--workers", "4", env=env) as server:
+        with server.client() as client:
+            talk(client, (HELLO, "client 1"), ("add activity o1 0 8", "ok"))
+            counts[2] = 1
+        refused = settled(lambda: counts[1])
+        counts[2] = 0
+        if refused < 16:
+            raise Wrong(f"a client's end was refused {refused} times")
+        with server.client() as client:
+            talk(client, (OTHER_HELLO, "client 2"), ("get activity", "null"), ("version", "version 1 5"))
 
 
 def settled(number_of):

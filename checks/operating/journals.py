@@ -75,20 +75,22 @@ def memory_of_many_notices(program):
 
 @check
 def memory_that_runs_out(program):
-    """Changes of other clients are made again, once a client that used up the memory is gone."""
+    """Changes of other clients are made again, once a client that used up the memory is gone; and so the next time."""
     limit, pairs, times = 80_000_000, 5_000, 50
     little = lambda: resource.setrlimit(resource.RLIMIT_AS, (limit, limit))
     options = ("--workers", "4", "--seal-at", "524288", "--seal-bytes", "1000000000")
     env = os.environ | {"MALLOC_ARENA_MAX": "1"}
     with served(program, *options, preexec_fn=little, env=env) as server:
-        with server.client() as client:
-            talk(client, (HELLO, "client 1"))
-            for _ in range(times):
-                ask_all(client, b"watch activity o1\nunwatch activity o1\n" * pairs, 2 * pairs)
+        for turn in range(2):
+            with server.client() as client:
+                talk(client, (HELLO, f"client {2 * turn + 1}"))
+                lines = b"watch activity o1\nunwatch activity o1\n" * pairs
+                answers = {answer for _ in range(times) for answer in ask_all(client, lines, 2 * pairs)}
+                expect(b"failed memory" in answers, True, "memory has run out")
+            with server.client() as client:
+                talk(client, (HELLO, f"client {2 * turn + 2}"))
+                talk(client, *[("watch activity o1", "ok"), ("unwatch activity o1", "ok")] * 1000)
         server.says("warning: memory is short: an allocation failed\n")
-        with server.client() as client:
-            expect(client.ask(HELLO)[:7], "client ", "the next client is answered")
-            talk(client, *[("watch activity o1", "ok"), ("unwatch activity o1", "ok")] * 1000)
 
 
 @check

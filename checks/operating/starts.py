@@ -64,6 +64,17 @@ def listen_that_fails(program, shim):
 
 
 @check
+def lock_that_is_removed_before_it_is_locked(program, shim):
+    """The path is in use, also if another lock has taken the place of the one that was opened."""
+    for makes in "0", "1":
+        with room() as folder:
+            lock = {"FLOCK_REMOVES": str(folder / "clients.lock"), "FLOCK_MAKES": makes}
+            with Server(program, folder, env=os.environ | lock | {"LD_PRELOAD": shim}) as server:
+                server.ends(f"fault: {server.clients}: {IN_USE}\n")
+            expect(files_of(folder), ["clients.lock"] if makes == "1" else [], "the server leaves")
+
+
+@check
 def closed_standard_error(program):
     """What is for standard error goes into no file that the server opens."""
     with room() as folder, Server(program, folder, preexec_fn=lambda: os.close(2)) as server:
