@@ -93,38 +93,44 @@ def scripts_and_checks(program):
             expect(came, (status, told, said), f"{' '.join(words)} ends with")
 
 
-# The faults of a command line in the order in which they are looked for: each as the words that it puts in place of
-# good ones, with what is said of it. A policy is refused by its rules or by its labels.
-MISSING = "No such file or directory (os error 2)"
-FAULTS = [
-    [({"option": "--unknown"}, "error: ")],
-    [({"rules": "nowhere"}, f"fault: nowhere: {MISSING}\n")],
-    [({"labels": "none"}, f"fault: none: {MISSING}\n")],
-    [
-        ({"rules": "refused"}, "policy refused: rules: unknown name at line 1\n"),
-        ({"labels": "unlabelled"}, "policy refused: contexts: bad line 1\n"),
-    ],
-    [({"rules": "unopened"}, "open denied servicemanager servicemanager binder set_context_mgr\n")],
-    [({"socket": "nowhere/clients"}, f"fault: nowhere/clients.lock: {MISSING}\n")],
-    [({"admin": "none/admins"}, f"fault: none/admins.lock: {MISSING}\n")],
-]
+# Faults of command lines, each as the words that it puts in place of good ones, its status and what is said of it.
+UNKNOWN_OPTION = ({"option": "--unknown"}, 2, "error: ")
+UNKNOWN_TYPE = ({"untrusted_app": "app"}, 2, "fault: unknown type app\n")
+DENIED = ({"rules": "unopened"}, 1, "open denied servicemanager servicemanager binder set_context_mgr\n")
 
-# The words of each command, and how many of these faults it can have.
-WORDS = {
-    "run": (["rules", "labels"], 5),
-    "check": (["rules", "labels"], 4),
-    "serve": (["--socket", "socket", "--admin", "admin", "rules", "labels"], 7),
+
+def missing(word, path, file=""):
+    return {word: path}, 1, f"fault: {file or path}: No such file or directory (os error 2)\n"
+
+
+def faults_of_policy(rules, labels, line):
+    """A file of a policy is missing, or the policy is refused by this line of its rules or its labels."""
+    by_rules = ({rules: f"bad-{rules}"}, 1, f"policy refused: rules: unknown name at line {line}\n")
+    by_labels = ({labels: f"bad-{labels}"}, 1, f"policy refused: contexts: bad line {line}\n")
+    return [missing(rules, f"no-{rules}")], [missing(labels, f"no-{labels}")], [by_rules, by_labels]
+
+
+# The good words of each command, and its faults in the order in which they are looked for.
+FIRST = [UNKNOWN_OPTION], *faults_of_policy("rules", "labels", 1)
+SOCKETS = [missing("socket", "gone/s", "gone/s.lock")], [missing("admin", "away/a", "away/a.lock")]
+FAULTS = {
+    "run rules labels": [*FIRST, [DENIED]],
+    "check rules labels": FIRST,
+    "serve --socket socket --admin admin rules labels": [*FIRST, [DENIED], *SOCKETS],
+    "explain rules labels untrusted_app activity_service service_manager find": [*FIRST, [UNKNOWN_TYPE]],
+    "access --source untrusted_app rules labels": [*FIRST, [UNKNOWN_TYPE]],
+    "diff rules labels new newlabels": [*FIRST, *faults_of_policy("new", "newlabels", 2)],
 }
 
 
 def faulty_lines(words, faults):
-    """The words of a command line with one fault or two, and what is said of the earlier one."""
+    """The words of each command line with one fault or two, with the status and what is said of the earlier one."""
     for at, earlier in enumerate(faults):
-        for (first, said), (second, _) in product(earlier, [({}, ""), *chain(*faults[at + 1 :])]):
+        for (first, *ending), (second, *_) in product(earlier, [({},), *chain(*faults[at + 1 :])]):
             if not first.keys() & second.keys():
                 given = first | second
                 options = [given["option"]] if "option" in given else []
-                yield [given.get(word, word) for word in words] + options, said
+                yield [given.get(word, word) for word in words] + options, *ending
 
 
 @check
@@ -132,20 +138,24 @@ def order_of_faults(program):
     texts = {
         "rules": DEVICE,
         "labels": LABELS,
-        "refused": "permissive app;\n",
-        "unlabelled": "activity\n",
+        "new": DEVICE,
+        "newlabels": LABELS,
+        "bad-rules": "permissive app;\n",
+        "bad-labels": "activity\n",
+        "bad-new": "\npermissive app;\n",
+        "bad-newlabels": "\nactivity\n",
         "unopened": DEVICE.replace(OPENS, ""),
     }
     with room() as folder:
         for name, text in texts.items():
             (folder / name).write_text(text)
-        for command, (words, number) in WORDS.items():
-            for line, said in faulty_lines(words, FAULTS[:number]):
-                ended = subprocess.run([program, command, *line], cwd=folder, capture_output=True, timeout=PATIENCE)
+        for command, faults in FAULTS.items():
+            for words, status, said in faulty_lines(command.split(), faults):
+                ended = subprocess.run([program, *words], cwd=folder, capture_output=True, timeout=PATIENCE)
                 came = (ended.stdout + ended.stderr).decode()
-                # What is said of a wrong command line is the library's.
-                came, status = (came[: len(said)], 2) if said == "error: " else (came, 1)
-                expect((ended.returncode, came), (status, said), f"{command} {' '.join(line)} ends with")
+                # The rest of what is said of a wrong command line is the library's.
+                came = said if said == "error: " and came.startswith(said) else came
+                expect((ended.returncode, came), (status, said), f"{' '.join(words)} ends with")
 
 
 @check
