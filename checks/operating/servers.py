@@ -119,7 +119,7 @@ def is_over(party):
 def is_refused(path):
     try:
         Connection(path).stream.close()
-    except (ConnectionRefusedError, FileNotFoundError):
+    except (ConnectionRefusedError, FileNotFoundError, PermissionError):
         return True
     return False
 
