@@ -1,10 +1,12 @@
 /* Refuses allocations of the program that it is preloaded into (LD_PRELOAD): the one whose number is in REFUSE_AT, or
  * all from the one whose number is in REFUSE_FROM on. Allocations are numbered from 1, over all threads. The file that
  * REFUSE_COUNTS names, of 16 bytes, gets two counts in the machine's byte order: of allocations and of refusals. They
- * are kept while the program runs, so a program that is killed leaves them, too. A file of 24 bytes has a third number
- * behind them: while it isn't 0, all allocations are refused. ACCEPT_FAILS_AT is the number of the call of accept4 that
- * fails with the error whose number is in ACCEPT_ERROR; LISTEN_FAILS_AT and LISTEN_ERROR are the same of listen. For
- * Linux with glibc. */
+ * are kept while the program runs, so a program that is killed leaves them, too. A file of 32 bytes has two more numbers
+ * behind them: while the third isn't 0, all allocations are refused; the fourth counts calls of accept4. ACCEPT_FAILS_AT is the number of the call of accept4 that
+ * fails with the error whose number is in ACCEPT_ERROR; LISTEN_FAILS_AT and LISTEN_ERROR are the same of listen. Before
+ * the first call of flock the file that FLOCK_REMOVES names is removed, and made again if FLOCK_MAKES is 1, as another
+ * process may do between the open and the lock. The time limits of receiving are divided by RECEIVES_FASTER. For Linux
+ * with glibc. */
 
 #define _GNU_SOURCE
 
@@ -15,8 +17,10 @@
 #include <stddef.h>
 #include <stdint.h>
 #include <stdlib.h>
+#include <sys/file.h>
 #include <sys/mman.h>
 #include <sys/socket.h>
+#include <sys/time.h>
 #include <unistd.h>
 
 void *__libc_malloc(size_t size);
@@ -28,6 +32,7 @@ struct counts {
     _Atomic uint64_t allocations;
     _Atomic uint64_t refusals;
     _Atomic uint64_t refused_now;
+    _Atomic uint64_t accepts;
 };
 
 static struct counts unshared;
@@ -36,10 +41,11 @@ static uint64_t refused_at;
 static uint64_t refused_from;
 static uint64_t accept_fails_at;
 static int accept_error;
-static _Atomic uint64_t accepts;
 static uint64_t listen_fails_at;
 static int listen_error;
 static _Atomic uint64_t listens;
+static _Atomic uint64_t flocks;
+static uint64_t receives_faster;
 
 static uint64_t number_of(const char *variable)
 {
@@ -53,6 +59,7 @@ __attribute__((constructor)) static void begin(void)
     accept_error = (int)number_of("ACCEPT_ERROR");
     listen_fails_at = number_of("LISTEN_FAILS_AT");
     listen_error = (int)number_of("LISTEN_ERROR");
+    receives_faster = number_of("RECEIVES_FASTER");
     const char *path = getenv("REFUSE_COUNTS");
     int file = path ? open(path, O_RDWR) : -1;
     if (file < 0)
@@ -115,7 +122,7 @@ int accept4(int listener, struct sockaddr *restrict address, socklen_t *restrict
     static int (*really)(int, struct sockaddr *restrict, socklen_t *restrict, int);
     if (!really)
         *(void **)&really = dlsym(RTLD_NEXT, "accept4");
-    if (atomic_fetch_add(&accepts, 1) + 1 == accept_fails_at) {
+    if (atomic_fetch_add(&counts->accepts, 1) + 1 == accept_fails_at) {
         errno = accept_error;
         return -1;
     }
@@ -132,4 +139,31 @@ int listen(int socket, int backlog)
         return -1;
     }
     return really(socket, backlog);
+}
+
+int flock(int file, int operation)
+{
+    static int (*really)(int, int);
+    if (!really)
+        *(void **)&really = dlsym(RTLD_NEXT, "flock");
+    const char *path = getenv("FLOCK_REMOVES");
+    if (path && atomic_fetch_add(&flocks, 1) == 0) {
+        unlink(path);
+        if (number_of("FLOCK_MAKES") == 1)
+            close(open(path, O_RDWR | O_CREAT, 0600));
+    }
+    return really(file, operation);
+}
+
+int setsockopt(int socket, int level, int name, const void *value, socklen_t length)
+{
+    static int (*really)(int, int, int, const void *, socklen_t);
+    if (!really)
+        *(void **)&really = dlsym(RTLD_NEXT, "setsockopt");
+    if (receives_faster == 0 || level != SOL_SOCKET || name != SO_RCVTIMEO)
+        return really(socket, level, name, value, length);
+    const struct timeval *given = value;
+    uint64_t micros = (given->tv_sec * 1000000 + given->tv_usec) / receives_faster;
+    struct timeval less = {.tv_sec = micros / 1000000, .tv_usec = micros % 1000000};
+    return really(socket, level, name, &less, sizeof less);
 }

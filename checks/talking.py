@@ -1,8 +1,9 @@
-"""Shared by the checks: the built program, its policies, and the lines that come from it."""
+"""Shared by checks/ and bench/: the built program, its policies, and the lines that come from it."""
 
 import os
 import select
 import socket
+import subprocess
 import sys
 import time
 from pathlib import Path
@@ -25,13 +26,51 @@ class Wrong(Exception):
     """A wrong answer or a wrong end of the program."""
 
 
+class LeftOut(Exception):
+    """What can't be tried on this machine or by this user."""
+
+
+def stop(line):
+    """Ends a check that can't begin, with status 2."""
+    print(line, file=sys.stderr)
+    sys.exit(2)
+
+
+def need(*programs):
+    """Ends a check with status 2, unless these programs are on the path."""
+    if subprocess.call([ROOT / "checks" / "needs", sys.argv[0], *programs]):
+        sys.exit(2)
+
+
+def finish(name, passed, failures, left_out=()):
+    """Prints what was left out, what failed, and the numbers of both and of what passed; then ends the check."""
+    for line in left_out:
+        print(f"left out: {line}")
+    for line in failures[:50]:
+        print(f"FAILED: {line}")
+    print(f"{name}: {passed} passed, {len(failures)} failed, {len(left_out)} skipped")
+    sys.exit(1 if failures else 0)
+
+
 def add_program(parser):
     parser.add_argument("--program", default=str(PROGRAM), help="svcmgr, as `rt ci` or `rt run` builds it")
 
 
 def check_program(options):
     if not os.access(options.program, os.X_OK):
-        sys.exit(f"no program at {options.program}: build it by `rt run -- --help` in crates/svcmgr")
+        stop(f"no program at {options.program}: build it by `rt run -- --help` in crates/svcmgr")
+
+
+def add_only(parser):
+    parser.add_argument("--only", metavar="WORD", default="", help="only those whose name has this word")
+
+
+def chosen(options, named):
+    """Those whose name has the word of `--only`, of pairs of a name and a value."""
+    found = [(name, it) for name, it in named if options.only in name]
+    if not found:
+        stop(f"nothing here has {options.only} in its name")
+    return found
 
 
 class Lines:

@@ -1,5 +1,11 @@
-# Sourced by examples/run, examples/check, examples/serve and .ci/run: sets `jobs` to 4 where four processors and 12 GB
-# of memory are free, and otherwise leaves it empty, so that rt decides.
+# Sourced by examples/run, examples/check, examples/serve and .ci/run.
+
+# Ends the program with status 2, unless these are on the path.
+need() {
+    "$(dirname "${BASH_SOURCE[0]}")/../checks/needs" "$0" "$@" || exit 2
+}
+
+# `jobs` is 4 where four processors and 12 GB of memory are free, and otherwise empty, so that rt decides.
 jobs=""
 available="$(sed -n 's/^MemAvailable: *\([0-9]*\) kB$/\1/p' /proc/meminfo)"
 if [ "$(nproc)" -ge 4 ] && [ "${available:-0}" -ge 12000000 ]; then

@@ -1,0 +1,150 @@
+"""Requests of administrators, and clients with the identities that the kernel gives."""
+
+import contextlib
+import ctypes
+import os
+import socket
+import subprocess
+import time
+from concurrent.futures import ThreadPoolExecutor
+
+from operating.servers import OTHER_HELLO, check, expect, is_over, is_refused, room, served, talk
+from talking import APPLICATION, BROKEN, PATIENCE, ROOT, SERVICE, Connection, LeftOut
+
+
+@check
+def requests_of_administrators(program):
+    with served(program) as server, server.client() as client:
+        talk(client, (OTHER_HELLO, "client 1"), ("add activity o1 0 8", "exception -1 app 10007"))
+        rules, labels, large, broken = (server.folder / name for name in ("rules", "labels", "large", "broken"))
+        large.write_text("#" * 5_000_000)
+        broken.write_text(BROKEN)
+        denial = f"clause: denied app for pid=200 uid=10007 name=activity scontext={APPLICATION}"
+        refused = "neverallow at line 22 by allow at line 24: untrusted_app activity_service service_manager add"
+        missing = f"fault: {server.folder}/none: No such file or directory (os error 2)\n"
+        asked = [
+            (["version"], 0, "version 1 2\n", ""),
+            (["explain", "untrusted_app", "system_server", "binder", "call"], 0, "allowed 1 19\n", ""),
+            (["explain", "untrusted_app", "nobody", "binder", "call"], 0, "unwritten 1\n", ""),
+            (["denials"], 0, f"denials 1\njournal=2 version=1 {denial}\n", ""),
+            (["reload", rules, labels], 0, "reloaded 2\n", ""),
+            (["reload", broken, labels], 1, f"refused {refused}\n", ""),
+            (["reload", large, labels], 1, "fault long\n", ""),
+            (["reload", rules, server.folder / "none"], 1, "", missing),
+            (["seal"], 0, "sealed 1 3\n", ""),
+            (["seal"], 0, "empty\n", ""),
+        ]
+        administer(program, ["version"], [0, "version 1 2\n", ""], {"SVCMGR_ADMIN": str(server.admins)})
+        for words, *ending in asked:
+            administer(program, ["--admin", server.admins, *words], ending)
+        administer(program, ["--admin", server.folder / "none", "version"], [1, "", missing])
+    unknown = "fault: the administrators' socket isn't given, by --admin or SVCMGR_ADMIN\n"
+    administer(program, ["version"], [2, "", unknown])
+
+
+def administer(program, words, ending, variables=None):
+    """Asks by `svcmgr admin`, and expects a status and what is said on both streams."""
+    environment = {name: text for name, text in os.environ.items() if name != "SVCMGR_ADMIN"} | (variables or {})
+    words = [program, "admin", *words]
+    ended = subprocess.run(words, capture_output=True, text=True, timeout=PATIENCE, env=environment)
+    expect([ended.returncode, ended.stdout, ended.stderr], ending, f"{words[1:]} ends with")
+
+
+@check
+def server_that_dies_before_its_answer(program):
+    """An answer that isn't whole is none, whatever the server had written of it."""
+    for told in b"", b"version 1", b"denials 2\njournal=1 a line\n":
+        with room() as folder, socket.socket(socket.AF_UNIX) as listener:
+            path = folder / "admins"
+            listener.bind(str(path))
+            listener.listen()
+            with ThreadPoolExecutor(1) as pool:
+                answered = pool.submit(answer_once, listener, told)
+                words = "the server ended the connection: ask for the version to see what was done"
+                administer(program, ["--admin", path, "denials"], [1, "", f"fault: {path}: {words}\n"])
+                answered.result()
+
+
+def answer_once(listener, told):
+    stream, _ = listener.accept()
+    with stream:
+        stream.recv(65536)
+        stream.sendall(told)
+
+
+# Linux's number of setresuid, which changes the identity of one thread alone.
+SETRESUID = {"x86_64": 117}
+
+
+@contextlib.contextmanager
+def as_user(uid):
+    """Lets this thread be another user, as far as sockets and files are concerned. Needs root."""
+    libc = ctypes.CDLL(None, use_errno=True)
+    call = SETRESUID[os.uname().machine]
+    libc.syscall(call, -1, uid, -1)
+    try:
+        yield
+    finally:
+        libc.syscall(call, -1, 0, -1)
+
+
+@contextlib.contextmanager
+def kept_door(server):
+    """A doorkeeper at a server, and where it listens. Users 0 and 10007 have contexts."""
+    path, contexts = server.folder / "door", server.folder / "contexts"
+    contexts.write_text(f"{os.getuid()} {SERVICE}\n10007 {APPLICATION}\n")
+    server.folder.chmod(0o755)
+    words = [ROOT / "examples" / "doorkeeper", "--socket", path, "--server", server.clients, "--contexts", contexts]
+    child = subprocess.Popen(words, stdin=subprocess.DEVNULL, stderr=subprocess.DEVNULL)
+    try:
+        until = time.monotonic() + PATIENCE
+        while is_refused(path) and time.monotonic() < until:
+            time.sleep(0.05)
+        yield path
+    finally:
+        child.kill()
+        child.wait()
+
+
+def is_greeted(party):
+    """The first line is the answer to the doorkeeper's `hello`. Who waited for the doorkeeper were clients, too."""
+    expect(party.lines.line()[:7], "client ", "a process is connected")
+
+
+@check
+def doorkeeper(program):
+    with served(program) as server, kept_door(server) as path, Connection(path) as party:
+        is_greeted(party)
+        talk(party, (OTHER_HELLO, "malformed"), ("hello", "malformed"), ("bye", "bye"))
+        expect(is_over(party), True, "the connection is over after `bye`")
+    # A refused process can't try again as another one.
+    with served(program, "--journal", "2") as server, kept_door(server) as path, Connection(path) as party:
+        expect(party.lines.line(), "failed journal-full\n", "the own user is answered")
+        talk(party, (OTHER_HELLO, "malformed"))
+
+
+@check
+def doorkeeper_of_a_service(program):
+    user = os.getuid()
+    with served(program) as server, kept_door(server) as path, Connection(path) as party:
+        is_greeted(party)
+        if user % 100_000 >= 10_000:
+            talk(party, ("add activity o1 0 8", f"exception -1 app {user}"))
+            raise LeftOut(f"user {user} is an application, which may not add")
+        talk(party, ("add activity o1 0 8", "ok"))
+
+
+@check
+def doorkeeper_of_two_users(program):
+    if os.getuid() != 0 or os.uname().machine not in SETRESUID:
+        raise LeftOut("only root can connect as another user, on x86_64")
+    with served(program) as server, kept_door(server) as path, Connection(path) as party:
+        is_greeted(party)
+        talk(party, ("add activity o1 0 8", "ok"))
+        with as_user(10007):
+            other = Connection(path)
+        is_greeted(other)
+        talk(other, ("get activity", "handle 1"), ("add foo o1 0 8", "exception -1 app 10007"))
+        with as_user(10008):
+            unknown = Connection(path)
+        expect(is_over(unknown), True, "the connection of a user without a context is over")

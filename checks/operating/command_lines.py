@@ -1,0 +1,311 @@
+"""Command lines: scripts, checks and questions, and what is said of those that can't be answered."""
+
+import os
+import re
+import select
+import subprocess
+from itertools import chain, product
+
+from operating.servers import HELLO, check, expect, room
+from talking import BROKEN, DEVICE, LABELS, PATIENCE, ROOT, Lines, Wrong
+
+TOUR = (ROOT / "examples" / "tour.te").read_text()
+OPENS = "allow servicemanager self:binder set_context_mgr;\n"
+TOUR_LABELS = (ROOT / "examples" / "tour_contexts").read_text()
+
+
+@check
+def refused_command_lines(program):
+    lines = [
+        ["--socket", "", "--admin", "a"],
+        ["--socket", "s", "--admin", ""],
+        ["--socket", "s", "--admin", "s"],
+        ["--socket", "s", "--admin", "a", "--mode", "1777"],
+        ["--socket", "s", "--admin", "a", "--mode", "rw"],
+        ["--socket", "s", "--admin", "a", "--seal-at", "1"],
+        ["--socket", "s", "--admin", "a", "--journal", "9", "--seal-at", "5"],
+        ["--socket", "s", "--admin", "a", "--seal-at", "524289"],
+        ["--socket", "s", "--admin", "a", "--seal-bytes", "4095"],
+        ["--socket", "s", "--admin", "a", "--journal", "+9"],
+        ["--socket", "s", "--admin", "a", "--workers", "016"],
+    ]
+    with room() as folder:
+        for words in lines:
+            words = [program, "serve", *words, "rules", "labels"]
+            ended = subprocess.run(words, cwd=folder, capture_output=True, timeout=PATIENCE)
+            expect((ended.returncode, ended.stdout), (2, b""), f"{words} ends with")
+            if not ended.stderr.startswith(b"error: "):
+                raise Wrong(f"{words} says {ended.stderr!r}")
+    ended = subprocess.run([program, "--version"], capture_output=True, timeout=PATIENCE)
+    expect((ended.returncode, ended.stderr), (0, b""), "--version ends with")
+    if not ended.stdout.startswith(b"svcmgr "):
+        raise Wrong(f"--version says {ended.stdout!r}")
+
+
+@check
+def pages_of_options(program):
+    """The manual page and the completion have the options of `--help`, and no others."""
+    found = set()
+    completion = (ROOT / "examples" / "completion.bash").read_text()
+    for command in ("run", "check", "serve", "label", "explain", "access", "diff", "admin"):
+        ended = subprocess.run([program, command, "--help"], capture_output=True, text=True, timeout=PATIENCE)
+        expect((ended.returncode, ended.stdout), (2, ""), f"{command} --help ends with")
+        options = set(re.findall(r"--[a-z-]+", ended.stderr))
+        completed = re.search(rf'^ *{command}\) options="(.*)"', completion, re.MULTILINE)[1]
+        completed = {word for word in completed.split() if word.startswith("--")}
+        expect(completed, options, f"completion.bash has for {command}")
+        found |= options
+    manual = re.findall(r"\.?Fl -([a-z-]+)", (ROOT / "docs" / "svcmgr.1").read_text())
+    expect({f"--{name}" for name in manual}, found | {"--version"}, "docs/svcmgr.1 has")
+
+
+@check
+def scripts_and_checks(program):
+    """The statuses of `run` and `check`, and what they say."""
+    broken = "neverallow at line 22 by allow at line 24: untrusted_app activity_service service_manager add\n"
+    shown = (
+        "broken:22: neverallow untrusted_app *:service_manager add;\n"
+        "broken:24: allow { domain -system_server } activity_service:service_manager { add find };\n"
+    )
+    denied = "open denied servicemanager servicemanager binder set_context_mgr\n"
+    missing = "fault: nowhere: No such file or directory (os error 2)\n"
+    asked = [
+        (["run", "rules", "labels"], 0, "client 1\nok\nbye\n", ""),
+        (["run", "broken", "labels"], 1, "", f"policy refused: {broken}"),
+        (["run", "unopened", "labels"], 1, "", denied),
+        (["run", "nowhere", "labels"], 1, "", missing),
+        (["check", "rules", "labels"], 0, "policy ok: 6 types, 2 attributes, 8 rules, 2 labels\n", ""),
+        (["check", "broken", "labels"], 1, f"policy refused: {broken}", ""),
+        (["check", "--show", "broken", "labels"], 1, f"policy refused: {broken}", shown),
+        (["check", "--show", "rules", "labels"], 0, "policy ok: 6 types, 2 attributes, 8 rules, 2 labels\n", ""),
+        (["check", "unopened", "labels"], 0, "policy ok: 6 types, 2 attributes, 7 rules, 2 labels\n", ""),
+        (["check", "nowhere", "labels"], 1, "", missing),
+        (["serve", "--socket", "s", "--admin", "a", "unopened", "labels"], 1, "", denied),
+    ]
+    with room() as folder:
+        texts = ("rules", DEVICE), ("broken", BROKEN), ("unopened", DEVICE.replace(OPENS, "")), ("labels", LABELS)
+        for name, text in texts:
+            (folder / name).write_text(text)
+        script = f"{HELLO}\n1 add activity o1 0 8\n1 bye\n".encode()
+        for words, status, told, said in asked:
+            ended = subprocess.run([program, *words], cwd=folder, input=script, capture_output=True, timeout=PATIENCE)
+            came = ended.returncode, ended.stdout.decode(), ended.stderr.decode()
+            expect(came, (status, told, said), f"{' '.join(words)} ends with")
+
+
+# Faults of command lines, each as the words that it puts in place of good ones, its status and what is said of it.
+UNKNOWN_OPTION = ({"option": "--unknown"}, 2, "error: ")
+UNKNOWN_TYPE = ({"untrusted_app": "app"}, 2, "fault: unknown type app\n")
+DENIED = ({"rules": "unopened"}, 1, "open denied servicemanager servicemanager binder set_context_mgr\n")
+
+
+def missing(word, path, file=""):
+    return {word: path}, 1, f"fault: {file or path}: No such file or directory (os error 2)\n"
+
+
+def faults_of_policy(rules, labels, line):
+    """A file of a policy is missing, or the policy is refused by this line of its rules or its labels."""
+    by_rules = ({rules: f"bad-{rules}"}, 1, f"policy refused: rules: unknown name at line {line}\n")
+    by_labels = ({labels: f"bad-{labels}"}, 1, f"policy refused: contexts: bad line {line}\n")
+    return [missing(rules, f"no-{rules}")], [missing(labels, f"no-{labels}")], [by_rules, by_labels]
+
+
+# The good words of each command, and its faults in the order in which they are looked for.
+FIRST = [UNKNOWN_OPTION], *faults_of_policy("rules", "labels", 1)
+SOCKETS = [missing("socket", "gone/s", "gone/s.lock")], [missing("admin", "away/a", "away/a.lock")]
+FAULTS = {
+    "run rules labels": [*FIRST, [DENIED]],
+    "check rules labels": FIRST,
+    "serve --socket socket --admin admin rules labels": [*FIRST, [DENIED], *SOCKETS],
+    "explain rules labels untrusted_app activity_service service_manager find": [*FIRST, [UNKNOWN_TYPE]],
+    "access --source untrusted_app rules labels": [*FIRST, [UNKNOWN_TYPE]],
+    "diff rules labels new newlabels": [*FIRST, *faults_of_policy("new", "newlabels", 2)],
+}
+
+
+def faulty_lines(words, faults):
+    """The words of each command line with one fault or two, with the status and what is said of the earlier one."""
+    for at, earlier in enumerate(faults):
+        for (first, *ending), (second, *_) in product(earlier, [({},), *chain(*faults[at + 1 :])]):
+            if not first.keys() & second.keys():
+                given = first | second
+                options = [given["option"]] if "option" in given else []
+                yield [given.get(word, word) for word in words] + options, *ending
+
+
+@check
+def order_of_faults(program):
+    texts = {
+        "rules": DEVICE,
+        "labels": LABELS,
+        "new": DEVICE,
+        "newlabels": LABELS,
+        "bad-rules": "permissive app;\n",
+        "bad-labels": "activity\n",
+        "bad-new": "\npermissive app;\n",
+        "bad-newlabels": "\nactivity\n",
+        "unopened": DEVICE.replace(OPENS, ""),
+    }
+    with room() as folder:
+        for name, text in texts.items():
+            (folder / name).write_text(text)
+        for command, faults in FAULTS.items():
+            for words, status, said in faulty_lines(command.split(), faults):
+                ended = subprocess.run([program, *words], cwd=folder, capture_output=True, timeout=PATIENCE)
+                came = (ended.stdout + ended.stderr).decode()
+                # The rest of what is said of a wrong command line is the library's.
+                came = said if said == "error: " and came.startswith(said) else came
+                expect((ended.returncode, came), (status, said), f"{' '.join(words)} ends with")
+
+
+@check
+def script_of_many_reads(program):
+    """Each line is read by itself."""
+    with room() as folder:
+        (folder / "rules").write_text(DEVICE)
+        (folder / "labels").write_text(LABELS)
+        streams = {"stdin": subprocess.PIPE, "stdout": subprocess.PIPE, "stderr": subprocess.STDOUT, "bufsize": 0}
+        with subprocess.Popen([program, "run", "rules", "labels"], cwd=folder, **streams) as child:
+            replies = Lines(child.stdout.fileno())
+            for line, reply in [(HELLO, "client 1"), *[("1 version", "version 1 2")] * 1000]:
+                child.stdin.write(f"{line}\n".encode())
+                expect(replies.line(), f"{reply}\n", f"{line!r} is answered")
+
+
+# A file of rules that is compared with the tour's, and its labels.
+NEW_TOUR = TOUR.replace(
+    "allow untrusted_app system_server:binder transfer;\n",
+    "allow untrusted_app private_service:service_manager find;\n",
+)
+NEW_TOUR_LABELS = """activity u:object_r:activity_service:s0
+window   u:object_r:private_service:s0
+*        u:object_r:private_service:s0
+media    u:object_r:activity_service:s0
+"""
+
+QUESTIONS = [
+    ("label rules labels activity", 0, "u:object_r:activity_service:s0 1\n"),
+    ("label rules labels foo", 0, "u:object_r:private_service:s0 3\n"),
+    ("explain rules labels untrusted_app activity_service service_manager find", 0, "allowed 27\n"),
+    ("explain rules labels untrusted_app activity_service service_manager add", 1, "unwritten\n"),
+    ("explain --name rules labels isolated_app window service_manager find", 0, "allowed 28\n"),
+    ("explain permissive labels isolated_app activity_service service_manager find", 0, "allowed 28\npermissive\n"),
+    ("explain permissive labels isolated_app activity_service service_manager add", 0, "unwritten\npermissive\n"),
+    (
+        "access rules labels --source isolated_app",
+        0,
+        "isolated_app servicemanager binder call 20\nisolated_app activity_service service_manager find 28\n",
+    ),
+    (
+        "access rules labels --name window --perm find",
+        0,
+        "system_server activity_service service_manager find 24\n"
+        "untrusted_app activity_service service_manager find 27\n"
+        "isolated_app activity_service service_manager find 28\n",
+    ),
+    (
+        "access --target system_server --class binder rules labels",
+        0,
+        "servicemanager system_server binder call 32\n"
+        "servicemanager system_server binder transfer 11\n"
+        "untrusted_app system_server binder call 34\n"
+        "untrusted_app system_server binder transfer 35\n",
+    ),
+    ("access rules labels --source private_service", 0, ""),
+    ("diff rules labels rules labels", 0, ""),
+    (
+        "diff rules labels new newlabels",
+        1,
+        "- untrusted_app system_server binder transfer\n"
+        "+ untrusted_app private_service service_manager find\n"
+        "~ window u:object_r:activity_service:s0 u:object_r:private_service:s0\n"
+        "~ media u:object_r:private_service:s0 u:object_r:activity_service:s0\n",
+    ),
+    (
+        "diff rules labels device devicelabels",
+        1,
+        "- system_server private_service service_manager add\n"
+        "- system_server private_service service_manager find\n"
+        "+ servicemanager isolated_app binder call\n"
+        "+ isolated_app servicemanager binder transfer\n"
+        "~ window u:object_r:activity_service:s0 u:object_r:default_android_service:s0\n"
+        "~ * u:object_r:private_service:s0 u:object_r:default_android_service:s0\n",
+    ),
+    ("label refused labels foo", 1, "policy refused: rules: unknown name at line 1\n"),
+    ("diff rules labels rules refused", 1, "policy refused: contexts: bad line 1\n"),
+]
+
+# Questions without an answer, with what is said on standard error.
+UNANSWERED = [
+    ("explain rules labels app activity_service service_manager find", 2, "fault: unknown type app\n"),
+    ("explain rules labels untrusted_app activity service_manager find", 2, "fault: unknown type activity\n"),
+    ("explain rules labels untrusted_app activity_service file read", 2, "fault: unknown class file\n"),
+    ("explain rules labels untrusted_app activity_service binder find", 2, "fault: unknown permission find\n"),
+    ("access rules labels --source app", 2, "fault: unknown type app\n"),
+    ("access rules labels --class binder --perm find", 2, "fault: unknown permission find\n"),
+    ("access rules nowhere", 1, "fault: nowhere: No such file or directory (os error 2)\n"),
+    ("diff rules labels nowhere labels", 1, "fault: nowhere: No such file or directory (os error 2)\n"),
+]
+
+
+def tour_in(folder):
+    """The tour's policy and others in a folder."""
+    texts = {
+        "rules": TOUR,
+        "labels": TOUR_LABELS,
+        "new": NEW_TOUR,
+        "newlabels": NEW_TOUR_LABELS,
+        "device": DEVICE,
+        "devicelabels": LABELS,
+        "permissive": TOUR + "permissive isolated_app;\n",
+        "refused": "permissive app;\n",
+    }
+    for name, text in texts.items():
+        (folder / name).write_text(text)
+
+
+@check
+def questions(program):
+    """The answers to questions and their statuses, and the faults of questions without an answer."""
+    asked = [(line, status, told, "") for line, status, told in QUESTIONS]
+    asked += [(line, status, "", said) for line, status, said in UNANSWERED]
+    with room() as folder:
+        tour_in(folder)
+        for line, status, told, said in asked:
+            ended = subprocess.run([program, *line.split()], cwd=folder, capture_output=True, timeout=PATIENCE)
+            came = ended.returncode, ended.stdout.decode(), ended.stderr.decode()
+            expect(came, (status, told, said), f"{line} ends with")
+
+
+def wait_until_nobody_reads(pipe):
+    """Waits while a child of another experiment, which runs no program of its own yet, still has the other end."""
+    ends = select.poll()
+    ends.register(pipe, 0)
+    if not ends.poll(PATIENCE * 1000):
+        raise Wrong("the other end of a pipe is still open")
+
+
+@check
+def unread_answers(program):
+    """Answers that can't be written: quiet if nobody reads them, and then neither `allowed` nor `no difference`."""
+    asked = [
+        ("label rules labels activity", 0),
+        ("access rules labels", 0),
+        ("explain rules labels untrusted_app activity_service service_manager find", 1),
+        ("diff rules labels new newlabels", 1),
+        ("label refused labels activity", 1),
+    ]
+    with room() as folder:
+        tour_in(folder)
+        for line, status in asked:
+            words = [program, *line.split()]
+            there, here = os.pipe()
+            os.close(there)
+            wait_until_nobody_reads(here)
+            ended = subprocess.run(words, cwd=folder, stdout=here, stderr=subprocess.PIPE, timeout=PATIENCE)
+            os.close(here)
+            expect((ended.returncode, ended.stderr), (status, b""), f"{line} ends with, if nobody reads,")
+            with open("/dev/full", "wb") as full:
+                ended = subprocess.run(words, cwd=folder, stdout=full, stderr=subprocess.PIPE, timeout=PATIENCE)
+            came = ended.returncode, ended.stderr
+            expect(came, (1, b"fault: a write failed\n"), f"{line} ends with, if the disk is full,")
