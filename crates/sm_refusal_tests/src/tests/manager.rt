@@ -124,7 +124,7 @@ fn looked(rt: &impl Abort, manager: &Manager) -> Option<Seen> {
 }
 
 /// What is seen of a manager now, at the second look if an allocation failed.
-fn seen(rt: &impl Abort, manager: &Manager) -> Seen {
+fn seen_of(rt: &impl Abort, manager: &Manager) -> Seen {
     match looked(rt, manager) {
         Some(seen) => seen,
         None => looked(rt, manager).expect(rt, "memory"),
@@ -172,9 +172,9 @@ fn makes_each(rt: &impl Abort, alloc: Global, manager: &mut Manager, calls: &[Ca
 
 /// Makes a call. If an allocation failed, the manager is as it was, and the same call succeeds at the next try.
 fn makes(rt: &impl Abort, alloc: Global, manager: &mut Manager, call: Call) {
-    let before = seen(rt, manager);
+    let before = seen_of(rt, manager);
     if tries(rt, alloc, manager, call).is_none() {
-        assert!(rt; seen(rt, manager) == before);
+        assert!(rt; seen_of(rt, manager) == before);
         assert!(rt; tries(rt, alloc, manager, call).is_some());
     }
 }
