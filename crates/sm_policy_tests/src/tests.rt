@@ -2,7 +2,6 @@ mod bit_rows;
 mod declarations;
 mod kinds;
 mod labels;
-mod plain;
 mod policies;
 mod rule_texts;
 mod statements;
