@@ -3,7 +3,6 @@ mod declarations;
 mod kinds;
 mod labels;
 mod messages;
-mod plain;
 mod policies;
 mod rule_texts;
 mod statements;

@@ -1,7 +1,7 @@
 //! Tests for runs in which one allocation fails: `rt try --test --fail-alloc 1..` in this folder.
 //!
 //! A test makes calls that allocate. Each call gives the right value, or reports that an allocation failed and changes
-//! nothing. After a failed allocation the test runs once more, and then every call has to give its value.
+//! nothing. Then it is made again on the same values, and has to give its value.
 #![tactic(auto)]
 
 #[cfg(test)]

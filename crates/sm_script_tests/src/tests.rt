@@ -7,6 +7,7 @@ mod exchanges;
 mod faults;
 mod fixture;
 mod limits;
+mod lines;
 mod parts;
 mod reloads;
 mod renumbering;

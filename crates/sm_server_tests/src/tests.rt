@@ -1,3 +1,4 @@
+mod differences;
 mod held;
 mod hold;
 mod operations;

@@ -1,14 +1,15 @@
 //! Segments that a manager returns: their contents, and the openings of the next ones.
 
 use super::acts::{
-    A_SERVER, AN_ADD, APPLICATION, Act, Became, SERVER, Seen, has_turn, opened, steps,
+    A_SERVER, ADMIN, AN_ADD, APPLICATION, Act, Became, SERVER, Seen, has_turn, opened, steps,
 };
 use sm_core::Manager;
 use sm_history::{
     By, ClientRow, Delivery, Given, Held, Message, NamedRow, Refusal, Rows, Segment, Shared,
     TurnRow, Watch,
 };
-use sm_kinds::Identity;
+use sm_kinds::{Class, Identity, Perms};
+use sm_policy::Prepared;
 use std::alloc::Global;
 use std::process::Abort;
 
@@ -114,9 +115,23 @@ fn same_turns(one: &[TurnRow], other: &[TurnRow]) -> bool {
     one.len() == other.len() && one.iter().zip(other).all(|(a, b)| same_turn(a, b))
 }
 
-/// Whether two openings are the same. There is one policy alone.
+/// The line of the rule by which an application finds `activity`. The stricter rules of these tests have none.
+fn find_line(policy: &Prepared) -> Option<u32> {
+    let class = Class::ServiceManager;
+    policy.why(b"untrusted_app", b"activity_service", class, Perms::FIND)
+}
+
+fn same_policy(one: &Option<Prepared>, other: &Option<Prepared>) -> bool {
+    match (one, other) {
+        (Some(a), Some(b)) => a.counts() == b.counts() && find_line(a) == find_line(b),
+        _ => false,
+    }
+}
+
+/// Whether two openings are the same.
 fn same_rows(one: &Rows, other: &Rows) -> bool {
     one.version() == other.version()
+        && same_policy(one.policy(), other.policy())
         && same_manager(one.manager(), other.manager())
         && one.clients() == other.clients()
         && one.history_length() == other.history_length()
@@ -205,16 +220,24 @@ const FULL: &[Round] = &[
     },
     Round {
         changes: &[
+            (ADMIN, Act::ReloadStricter(1), Seen::Reloaded(2)),
+            (APPLICATION, Act::Get, Seen::Another),
+        ],
+        segment: (4, 8, 1),
+        turns: &[(ADMIN, 1)],
+    },
+    Round {
+        changes: &[
             (APPLICATION, Act::Release, Seen::Done),
             (APPLICATION, Act::Release, Seen::Done),
             (APPLICATION, Act::Release, Seen::Another),
         ],
-        segment: (4, 9, 2),
+        segment: (5, 10, 2),
         turns: &[],
     },
     Round {
         changes: &[(SERVER, Act::Die, Seen::Done)],
-        segment: (5, 10, 1),
+        segment: (6, 11, 1),
         turns: &[(SERVER, 0), (APPLICATION, 4)],
     },
 ];

@@ -1,7 +1,7 @@
 //! Numbers, names, contexts and permissions: values from their formats and limits.
 
 use sm_kinds::{
-    Class, Context, ContextError, Name, Names, ObjRef, Payload, PayloadError, Perms, Places, Refs,
+    Class, Context, ContextError, Name, ObjRef, Payload, PayloadError, Perms, Places, Refs,
     RefsError, app_number, is_barred_app, is_isolated, push_access, push_numbered, valid_name,
 };
 use std::alloc::Global;
@@ -46,22 +46,6 @@ fn names_have_1_to_127_bytes(rt: HostRuntime) {
     ] {
         assert_eq!(rt; (name, valid_name(name)), (name, valid));
     }
-}
-
-#[test]
-fn a_list_has_the_names_that_were_put_in(rt: HostRuntime) {
-    let mut names = Names::new(rt.alloc());
-    let name = Name::new(rt.alloc(), b"activity");
-    let name = name.ok().expect(&rt, "a name");
-    names.push(name).ok().expect(&rt, "memory");
-    assert_eq!(rt;
-        (
-            names.contains(b"activity"),
-            names.contains(b"activit"),
-            names.list().len()
-        ),
-        (true, false, 1)
-    );
 }
 
 #[test]

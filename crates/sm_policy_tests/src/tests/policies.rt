@@ -1,12 +1,10 @@
 //! Policies from their two texts: what is refused, what is counted, who may do what.
 
-use super::plain::written_plainly;
 use super::statements::{accepted, repeated};
 use sm_contexts::ContextsFault;
 use sm_kinds::{Class, Perms};
 use sm_policy::*;
-use sm_rules::{PERM_COUNT, class_at, perm_at};
-use sm_ruletext::{RuleTextFault, Statement};
+use sm_ruletext::RuleTextFault;
 use sm_samples::{DEVICE_LABELS, DEVICE_RULES, device_rules_with};
 use sm_types::TypesFault;
 use std::alloc::{AllocError, Global};
@@ -395,109 +393,4 @@ fn permissive_and_dontaudit_in_a_snapshot(rt: HostRuntime) {
         let found = of_manager(&snapshot, source, perm);
         assert_eq!(rt; (source, found), (source, wanted));
     }
-}
-
-fn letter(n: u32) -> u8 {
-    b'a' + (n % 24) as u8
-}
-
-/// Types `a` to `x`, of which some have an attribute.
-fn add_types(text: &mut Vec<u8>) -> Result<(), AllocError> {
-    text.extend_from_slice(b"attribute second;\nattribute third;\n")?;
-    for n in 0..24u32 {
-        text.extend_from_slice(b"type ")?;
-        text.push(letter(n))?;
-        if n % 2 == 0 {
-            text.extend_from_slice(b", second")?;
-        }
-        if n % 3 == 0 {
-            text.extend_from_slice(b", third")?;
-        }
-        text.extend_from_slice(b";\n")?;
-    }
-    Ok(())
-}
-
-/// What stands before the first type of a rule, between the two, and after the second.
-const FORMS: [(&[u8], &[u8], &[u8]); 6] = [
-    (b"allow ", b" ", b":binder call;\n"),
-    (b"allow { second -", b" } ", b":service_manager find;\n"),
-    (
-        b"allow ",
-        b" { third self -",
-        b" }:binder { call transfer };\n",
-    ),
-    (
-        b"allow ~{ second ",
-        b" } { self ",
-        b" }:service_manager { add list };\n",
-    ),
-    (
-        b"allow { third ",
-        b" } { ",
-        b" second -third self }:{ binder service_manager } ~call;\n",
-    ),
-    (
-        b"neverallow ",
-        b" { ",
-        b" -a -b -c -d -e -f -g -h -i -j -k -l -m -n -o -p -q -r -s -t -u -v -w -x }:binder *;\n",
-    ),
-];
-
-/// A rule of each form for each of some pairs of types.
-fn add_rules(text: &mut Vec<u8>) -> Result<(), AllocError> {
-    let mut seed = 7u32;
-    for _ in 0..3u32 {
-        for (front, middle, end) in FORMS {
-            seed = seed.wrapping_mul(1_103_515_245).wrapping_add(12_345);
-            text.extend_from_slice(front)?;
-            text.push(letter(seed >> 8))?;
-            text.extend_from_slice(middle)?;
-            text.push(letter(seed >> 16))?;
-            text.extend_from_slice(end)?;
-        }
-    }
-    Ok(())
-}
-
-/// Whether the bytes and the rules of the text say the same of two types, for each permission.
-fn agree(prepared: &Prepared, statements: &[Statement], source: u32, target: u32) -> bool {
-    for bit in 0..PERM_COUNT {
-        let class = class_at(bit);
-        let perm = perm_at(bit);
-        let written = written_plainly(
-            statements,
-            &[letter(source)],
-            &[letter(target)],
-            class,
-            perm,
-        );
-        let (allowed, _) = decided(prepared, &[letter(source)], &[letter(target)], class, perm);
-        if allowed != written.is_some() {
-            return false;
-        }
-    }
-    true
-}
-
-/// The first two types of which they do not say the same.
-fn first_disagreement(prepared: &Prepared, statements: &[Statement]) -> Option<(u32, u32)> {
-    for source in 0..24u32 {
-        for target in 0..24u32 {
-            if !agree(prepared, statements, source, target) {
-                return Some((source, target));
-            }
-        }
-    }
-    None
-}
-
-#[test]
-fn bytes_say_what_is_written(rt: HostRuntime) {
-    let mut text = Vec::new(rt.alloc());
-    add_types(&mut text).ok().expect(&rt, "memory");
-    add_rules(&mut text).ok().expect(&rt, "memory");
-    let statements = accepted(&rt, rt.alloc(), &text);
-    let prepared = prepared(&rt, rt.alloc(), &text, b"* u:r:a\n");
-    assert_eq!(rt; first_disagreement(&prepared, &statements), None);
 }

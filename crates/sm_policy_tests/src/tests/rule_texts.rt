@@ -2,7 +2,6 @@
 
 ghost use Rattle.sm_types.specs.Members.{IsOf};
 
-use super::plain::written_plainly;
 use super::statements::accepted;
 use sm_kinds::{Class, Perms, push_numbered};
 use sm_neverallow::{Matrices, NumberedViolation, first_violation};
@@ -126,7 +125,7 @@ fn kept_rules(rt: HostRuntime) {
     }
 }
 
-/// The line of the rule that grants an access: the same by the text, by the names of types and by their indexes.
+/// The line of the rule that grants an access: the same by the names of types and by their indexes.
 fn line(
     rt: &impl Abort,
     alloc: Global,
@@ -139,12 +138,11 @@ fn line(
     let types = types_of(rt, alloc, &statements);
     let rules = Rules::build(alloc, &statements, &types);
     let rules = rules.ok().expect(rt, "rules");
-    let plain = written_plainly(&statements, source, target, class, perm);
     let named = rules.written_by_name(&types, source, target, class, perm);
     let source = types.index(source).expect(rt, "a source");
     let target = types.index(target).expect(rt, "a target");
     let line = rules.written(source, target, class, perm);
-    assert_eq!(rt; (plain, named), (line, line));
+    assert_eq!(rt; named, line);
     line
 }
 

@@ -3,7 +3,8 @@
 ghost use Rattle.std.specs.Prelude.{◌≡◌};
 ghost use Rattle.sm_core.specs.Opening.{opened};
 
-use super::manager::{activity, is_memory, lists_activity, policy, process};
+use super::events::activity;
+use super::manager::{is_memory, lists_activity, policy, process};
 use super::outcome::same;
 use sm_door::{Admin, Door, Naming, Seat, Session, UnnamedRegistry};
 use sm_history::{NoGate, Outcome, Record, Refusal, Reply};
@@ -132,41 +133,40 @@ impl<'a, J: Naming, R: Wait + Abort> Caller<'a, J, R> {
         }
     }
 
-    /// An add that is denied comes with its record.
+    /// An add that is denied comes with its record. `None` if an allocation failed.
     fn may_not_add(&self, me: &mut Session<J>) -> Option<()> {
         let event = activity(self.alloc)?;
         let (reply, records) = self.door.submit_recorded(self.rt, me, event);
-        is_denied(self.rt, reply, records);
-        Some(())
+        is_denied(self.rt, reply, records)
     }
 
-    /// A list that is denied comes with its record.
-    fn may_not_list(&self, me: &mut Session<J>) {
+    /// A list that is denied comes with its record. `None` if an allocation failed.
+    fn may_not_list(&self, me: &mut Session<J>) -> Option<()> {
         let (reply, records) = self.door.list_recorded(me, 15);
-        is_denied(self.rt, reply, records);
+        is_denied(self.rt, reply, records)
     }
 
     /// The calls of an application.
     fn application(&self, seats: &mut Vec<Seat<J>>) -> Option<()> {
         let mut me = self.joined(seats, b"u:r:untrusted_app:s0")?;
-        let ended = self.may_not_add(&mut me);
-        self.may_not_list(&mut me);
+        again!(self.rt; self.may_not_add(&mut me));
+        again!(self.rt; self.may_not_list(&mut me));
         self.dies(me);
-        ended
+        Some(())
     }
 
-    /// Whether there are no records. `None` if an allocation failed.
-    fn has_no_denials(&self, me: &mut Admin<J>) -> Option<bool> {
+    /// There are no records. `None` if an allocation failed.
+    fn has_no_denials(&self, me: &mut Admin<J>) -> Option<()> {
         let records = self.door.denials(self.rt, me).ok()?;
-        Some(records.is_empty())
+        assert!(self.rt; records.is_empty());
+        Some(())
     }
 
     /// The calls of an administrator.
     fn administrator(&self, me: &mut Admin<J>) -> Option<()> {
         self.installs(me)?;
-        self.loses(me)?;
-        let none = self.has_no_denials(me)?;
-        assert!(self.rt; none);
+        again!(self.rt; self.loses(me));
+        again!(self.rt; self.has_no_denials(me));
         self.seals(me);
         Some(())
     }
@@ -174,7 +174,7 @@ impl<'a, J: Naming, R: Wait + Abort> Caller<'a, J, R> {
     /// The calls of a server, and then those of an administrator.
     fn server(&self, me: &mut Session<J>, admin: &mut Admin<J>) -> Option<()> {
         self.adds(me)?;
-        lists_activity(self.rt, self.door.list(me, 15), 3)?;
+        again!(self.rt; lists_activity(self.rt, self.door.list(me, 15), 3));
         self.administrator(admin)
     }
 
@@ -202,14 +202,15 @@ fn is_added(rt: &impl Abort, reply: Reply) -> bool {
     false
 }
 
-/// A request was denied, with its record; or an allocation failed, and there is none.
-fn is_denied(rt: &impl Abort, reply: Reply, records: Vec<Record>) {
+/// A request was denied, with its record. `None` if an allocation failed, and then there is no record.
+fn is_denied(rt: &impl Abort, reply: Reply, records: Vec<Record>) -> Option<()> {
     if matches!(&reply, Reply::Refused(Refusal::Denied(_))) {
         assert!(rt; records.len() == 1);
-    } else {
-        assert!(rt; is_memory(&reply));
-        assert!(rt; records.is_empty());
+        return Some(());
     }
+    assert!(rt; is_memory(&reply));
+    assert!(rt; records.is_empty());
+    None
 }
 
 fn opens<J: Naming, R: Wait + Abort>(
@@ -250,5 +251,5 @@ fn door<R: Wait + Abort>(rt: &R, alloc: Global) -> Option<()> {
 
 #[test]
 fn each_call_of_a_door(rt: HostRuntime) {
-    assert!(rt; door(&rt, rt.alloc()).is_some() || door(&rt, rt.alloc()).is_some());
+    again!(rt; door(&rt, rt.alloc()));
 }

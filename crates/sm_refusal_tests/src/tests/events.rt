@@ -1,19 +1,17 @@
 //! Each event at a manager.
 
-use super::manager::{SERVER, activity, does, opened, policy, process};
-use sm_core::Manager;
+use super::manager::{ADMIN, Call, SERVER, makes_all, prepared, process};
 use sm_history::{By, Event};
-use sm_kinds::{AdminId, ClientId, Name, ObjRef, Payload, Refs};
+use sm_kinds::{ClientId, Name, ObjRef, Payload, Refs};
+use sm_samples::stricter_rules;
 use std::alloc::Global;
 use std::process::Abort;
 
 const APPLICATION: By = By::Client(ClientId(2));
 
-const ADMIN: By = By::Admin(AdminId(0));
-
 /// An event.
 #[derive(Clone, Copy)]
-enum Step {
+pub enum Step {
     ConnectsServer,
     ConnectsApplication,
     Adds,
@@ -28,27 +26,18 @@ enum Step {
     Reloads,
 }
 
-/// Changes that are all done: each event but the opening. The application calls with two references to one object, so
-/// the server is granted its handle twice, and releases one.
-const STEPS: [(By, Step); 14] = [
-    (By::Manager, Step::ConnectsServer),
-    (SERVER, Step::Watches),
-    (SERVER, Step::Adds),
-    (SERVER, Step::Takes),
-    (By::Manager, Step::ConnectsApplication),
-    (APPLICATION, Step::Gets),
-    (APPLICATION, Step::Calls),
-    (SERVER, Step::Takes),
-    (SERVER, Step::Releases),
-    (SERVER, Step::Unwatches),
-    (APPLICATION, Step::Releases),
-    (SERVER, Step::Unregisters),
-    (ADMIN, Step::Reloads),
-    (APPLICATION, Step::Dies),
-];
-
 fn name(alloc: Global) -> Option<Name> {
     Name::new(alloc, b"activity").ok()
+}
+
+/// `activity`, an object of the client's own.
+pub fn activity(alloc: Global) -> Option<Event> {
+    Some(Event::Add {
+        name: name(alloc)?,
+        obj: ObjRef::Own(1),
+        allow_isolated: false,
+        dump: 8,
+    })
 }
 
 fn connects(alloc: Global, context: &[u8]) -> Option<Event> {
@@ -68,15 +57,15 @@ fn call(alloc: Global) -> Option<Event> {
 }
 
 fn reload(rt: &impl Abort, alloc: Global) -> Option<Event> {
-    let prepared = policy(rt, alloc)?;
+    let rules = stricter_rules(alloc).ok()?;
     Some(Event::Reload {
         expected: 1,
-        prepared,
+        prepared: prepared(rt, alloc, &rules)?,
     })
 }
 
 /// The event of a step. `None` if an allocation failed.
-fn event_of(rt: &impl Abort, alloc: Global, step: Step) -> Option<Event> {
+pub fn event_of(rt: &impl Abort, alloc: Global, step: Step) -> Option<Event> {
     match step {
         Step::ConnectsServer => connects(alloc, b"u:r:system_server:s0"),
         Step::ConnectsApplication => connects(alloc, b"u:r:untrusted_app:s0"),
@@ -102,22 +91,31 @@ fn event_of(rt: &impl Abort, alloc: Global, step: Step) -> Option<Event> {
     }
 }
 
-/// Makes all changes in turn. `None` if an allocation failed; then the change before was the last.
-fn makes_all(rt: &impl Abort, alloc: Global, manager: &mut Manager) -> Option<()> {
-    for (by, step) in STEPS {
-        let event = event_of(rt, alloc, step)?;
-        does(rt, manager, by, event)?;
-    }
-    Some(())
-}
-
-fn events(rt: &impl Abort, alloc: Global) -> Option<()> {
-    let mut manager = opened(rt, alloc)?;
-    makes_all(rt, alloc, &mut manager)
-}
+/// Changes that are all done: each event but the opening. The application calls with two references to one object, so
+/// the server is granted its handle twice, and releases one. After the reload the application may not find the name that
+/// it watches, so the second add leaves a record.
+const CALLS: [Call; 18] = [
+    Call::Changes(By::Manager, Step::ConnectsServer),
+    Call::Changes(SERVER, Step::Watches),
+    Call::Changes(SERVER, Step::Adds),
+    Call::Changes(SERVER, Step::Takes),
+    Call::Changes(By::Manager, Step::ConnectsApplication),
+    Call::Changes(APPLICATION, Step::Gets),
+    Call::Changes(APPLICATION, Step::Calls),
+    Call::Changes(SERVER, Step::Takes),
+    Call::Changes(SERVER, Step::Releases),
+    Call::Changes(SERVER, Step::Unwatches),
+    Call::Changes(APPLICATION, Step::Watches),
+    Call::Changes(APPLICATION, Step::Releases),
+    Call::Changes(APPLICATION, Step::Releases),
+    Call::Changes(ADMIN, Step::Reloads),
+    Call::Changes(SERVER, Step::Adds),
+    Call::HasRecords(1),
+    Call::Changes(SERVER, Step::Unregisters),
+    Call::Changes(APPLICATION, Step::Dies),
+];
 
 #[test]
 fn each_event_is_done(rt: HostRuntime) {
-    let alloc = rt.alloc();
-    assert!(rt; events(&rt, alloc).is_some() || events(&rt, alloc).is_some());
+    makes_all(&rt, rt.alloc(), &CALLS);
 }

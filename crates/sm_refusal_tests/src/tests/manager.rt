@@ -2,16 +2,19 @@
 
 ghost use Rattle.std.specs.Prelude.{◌≡◌};
 
+use super::events::{Step, activity, event_of};
 use super::outcome::same;
 use sm_core::{Manager, View};
 use sm_history::{Answer, By, Event, Outcome, Query, Record, Refusal, Reply, Segment};
-use sm_kinds::{ClientId, Context, Identity, Name, ObjRef, Places};
+use sm_kinds::{AdminId, ClientId, Context, Identity, Name, Places};
 use sm_policy::{PolicyFault, Prepared};
 use sm_samples::{DEVICE_LABELS, DEVICE_RULES};
 use std::alloc::Global;
 use std::process::Abort;
 
 pub const SERVER: By = By::Client(ClientId(1));
+
+pub const ADMIN: By = By::Admin(AdminId(0));
 
 pub fn process(alloc: Global, context: &[u8]) -> Option<Identity> {
     let context = Context::read(alloc, context).ok()?;
@@ -22,8 +25,9 @@ pub fn process(alloc: Global, context: &[u8]) -> Option<Identity> {
     })
 }
 
-pub fn policy(rt: &impl Abort, alloc: Global) -> Option<Prepared> {
-    match Prepared::from_texts(alloc, DEVICE_RULES, DEVICE_LABELS) {
+/// A policy of these rules. `None` if an allocation failed.
+pub fn prepared(rt: &impl Abort, alloc: Global, rules: &[u8]) -> Option<Prepared> {
+    match Prepared::from_texts(alloc, rules, DEVICE_LABELS) {
         Ok(policy) => Some(policy),
         Err(fault) => {
             assert!(rt; matches!(fault, PolicyFault::Memory));
@@ -32,15 +36,8 @@ pub fn policy(rt: &impl Abort, alloc: Global) -> Option<Prepared> {
     }
 }
 
-/// `activity`, an object of the client's own.
-pub fn activity(alloc: Global) -> Option<Event> {
-    let name = Name::new(alloc, b"activity").ok()?;
-    Some(Event::Add {
-        name,
-        obj: ObjRef::Own(1),
-        allow_isolated: false,
-        dump: 8,
-    })
+pub fn policy(rt: &impl Abort, alloc: Global) -> Option<Prepared> {
+    prepared(rt, alloc, DEVICE_RULES)
 }
 
 /// Whether an allocation failed.
@@ -77,7 +74,7 @@ pub fn lists_activity(rt: &impl Abort, reply: Reply, wanted: u64) -> Option<()> 
 }
 
 /// A manager of 1,000 slots. `None` if an allocation failed.
-pub fn opened(rt: &impl Abort, alloc: Global) -> Option<Manager> {
+fn opened(rt: &impl Abort, alloc: Global) -> Option<Manager> {
     let who = process(alloc, b"u:r:servicemanager:s0")?;
     let policy = policy(rt, alloc)?;
     let places = Places::new(1000).expect(rt, "places");
@@ -90,8 +87,121 @@ pub fn opened(rt: &impl Abort, alloc: Global) -> Option<Manager> {
     }
 }
 
-/// Makes an actor's next change. `None` if an allocation failed, and then nothing has changed.
-pub fn does(rt: &impl Abort, manager: &mut Manager, by: By, event: Event) -> Option<()> {
+/// What is seen of a manager.
+#[derive(Clone, Copy, PartialEq, Eq)]
+struct Seen {
+    version: u64,
+    length: u64,
+    records: usize,
+    /// The names that the server lists: none before it is connected.
+    names: usize,
+}
+
+/// The number of listed names. `None` if an allocation failed.
+fn names_in(reply: Reply) -> Option<usize> {
+    match &reply {
+        Reply::Looked {
+            version: _,
+            length: _,
+            answer: Answer::Names(names),
+        } => Some(names.get().len()),
+        Reply::Refused(Refusal::Memory) => None,
+        _ => Some(0),
+    }
+}
+
+/// What is seen of a manager now. `None` if an allocation failed.
+fn looked(rt: &impl Abort, manager: &Manager) -> Option<Seen> {
+    let (version, length) = manager.version_seen(ADMIN).expect(rt, "a version");
+    let records = manager.records().ok()?.len();
+    let names = names_in(manager.look(SERVER, Query::List(15)))?;
+    Some(Seen {
+        version,
+        length,
+        records,
+        names,
+    })
+}
+
+/// What is seen of a manager now, at the second look if an allocation failed.
+fn seen_of(rt: &impl Abort, manager: &Manager) -> Seen {
+    match looked(rt, manager) {
+        Some(seen) => seen,
+        None => looked(rt, manager).expect(rt, "memory"),
+    }
+}
+
+/// A call on a manager.
+#[derive(Clone, Copy)]
+pub enum Call {
+    /// An actor's next change, which is done.
+    Changes(By, Step),
+    /// The server lists `activity`, from a history of this length.
+    Lists(u64),
+    /// What the server's changes and lists would record.
+    WouldRecord,
+    /// The server gets a name that it may not find.
+    IsDenied,
+    /// The manager has this many records.
+    HasRecords(usize),
+    /// An add of the server's, and a view that is made before the change is committed.
+    ShowsAnAdd,
+    /// The first seal, and a view that is made before it.
+    ShowsASeal,
+    /// The second seal.
+    SealsAgain,
+}
+
+/// Makes calls on a manager of their own.
+pub fn makes_all(rt: &impl Abort, alloc: Global, calls: &[Call]) {
+    again!(rt; opens_and_makes(rt, alloc, calls));
+}
+
+/// Makes calls on a new manager. `None` if an allocation failed before it was open.
+fn opens_and_makes(rt: &impl Abort, alloc: Global, calls: &[Call]) -> Option<()> {
+    let mut manager = opened(rt, alloc)?;
+    makes_each(rt, alloc, &mut manager, calls);
+    Some(())
+}
+
+fn makes_each(rt: &impl Abort, alloc: Global, manager: &mut Manager, calls: &[Call]) {
+    for call in calls {
+        makes(rt, alloc, manager, *call);
+    }
+}
+
+/// Makes a call. If an allocation failed, the manager is as it was, and the same call succeeds at the next try.
+fn makes(rt: &impl Abort, alloc: Global, manager: &mut Manager, call: Call) {
+    let before = seen_of(rt, manager);
+    if tries(rt, alloc, manager, call).is_none() {
+        assert!(rt; seen_of(rt, manager) == before);
+        assert!(rt; tries(rt, alloc, manager, call).is_some());
+    }
+}
+
+/// Makes a call. `None` if an allocation failed.
+fn tries(rt: &impl Abort, alloc: Global, manager: &mut Manager, call: Call) -> Option<()> {
+    match call {
+        Call::Changes(by, step) => changes(rt, alloc, manager, by, step),
+        Call::Lists(length) => lists(rt, manager, length),
+        Call::WouldRecord => would_record(rt, alloc, manager),
+        Call::IsDenied => is_denied(rt, alloc, manager),
+        Call::HasRecords(count) => has_records(rt, manager, count),
+        Call::ShowsAnAdd => shows_an_add(rt, alloc, manager),
+        Call::ShowsASeal => shows_a_seal(rt, manager),
+        Call::SealsAgain => seals_again(rt, manager),
+    }
+}
+
+/// Makes an actor's next change. `None` if an allocation failed; then it is still the actor's turn.
+fn changes(
+    rt: &impl Abort,
+    alloc: Global,
+    manager: &mut Manager,
+    by: By,
+    step: Step,
+) -> Option<()> {
+    let event = event_of(rt, alloc, step)?;
     let turn = manager.turn(by);
     if is_done(rt, manager.step(by, turn, event)) {
         same(rt, manager.turn(by), turn.saturating_add(1));
@@ -102,57 +212,20 @@ pub fn does(rt: &impl Abort, manager: &mut Manager, by: By, event: Event) -> Opt
     }
 }
 
-/// A server joins, and adds `activity`.
-fn serves(rt: &impl Abort, alloc: Global, manager: &mut Manager) -> Option<()> {
-    let server = process(alloc, b"u:r:system_server:s0")?;
-    does(rt, manager, By::Manager, Event::Connect(server))?;
-    adds(rt, alloc, manager)
-}
+const JOINS: Call = Call::Changes(By::Manager, Step::ConnectsServer);
 
-/// The server adds `activity`.
-fn adds(rt: &impl Abort, alloc: Global, manager: &mut Manager) -> Option<()> {
-    let event = activity(alloc)?;
-    does(rt, manager, SERVER, event)
-}
-
-/// What a test does with a manager whose server added `activity`.
-#[derive(Clone, Copy)]
-enum Calls {
-    Looks,
-    Records,
-    Changes,
-    Seals,
-}
-
-/// Makes the calls of a test on a manager of its own. `None` if an allocation failed.
-fn made(rt: &impl Abort, alloc: Global, calls: Calls) -> Option<()> {
-    let mut manager = opened(rt, alloc)?;
-    makes(rt, alloc, &mut manager, calls)
-}
-
-fn makes(rt: &impl Abort, alloc: Global, manager: &mut Manager, calls: Calls) -> Option<()> {
-    serves(rt, alloc, manager)?;
-    match calls {
-        Calls::Looks => looks(rt, manager),
-        Calls::Records => records(rt, alloc, manager),
-        Calls::Changes => changes(rt, alloc, manager),
-        Calls::Seals => seals(rt, alloc, manager),
-    }
-}
+const ADDS: Call = Call::Changes(SERVER, Step::Adds);
 
 /// Lists on the manager, and on a view of it.
-fn looks(rt: &impl Abort, manager: &Manager) -> Option<()> {
-    lists_activity(rt, manager.look(SERVER, Query::List(15)), 3)?;
+fn lists(rt: &impl Abort, manager: &Manager, wanted: u64) -> Option<()> {
+    lists_activity(rt, manager.look(SERVER, Query::List(15)), wanted)?;
     let view = manager.view().ok()?;
-    lists_activity(rt, view.look(SERVER, Query::List(15)), 3)
+    lists_activity(rt, view.look(SERVER, Query::List(15)), wanted)
 }
 
 #[test]
 fn services_are_listed(rt: HostRuntime) {
-    let alloc = rt.alloc();
-    assert!(rt;
-        made(&rt, alloc, Calls::Looks).is_some() || made(&rt, alloc, Calls::Looks).is_some()
-    );
+    makes_all(&rt, rt.alloc(), &[JOINS, ADDS, Call::Lists(3)]);
 }
 
 /// An event under which a check is denied: the server gets a name that it may not find.
@@ -161,11 +234,14 @@ fn denied(alloc: Global) -> Option<Event> {
     Some(Event::Get { name })
 }
 
-/// What a step of the event would record.
-fn step_would_record(rt: &impl Abort, alloc: Global, manager: &Manager) -> Option<()> {
+/// A step of the event would be recorded, and a list wouldn't.
+fn would_record(rt: &impl Abort, alloc: Global, manager: &Manager) -> Option<()> {
     let event = denied(alloc)?;
     let turn = manager.turn(SERVER);
-    is_recorded(rt, manager.step_records(SERVER, turn, &event).ok())
+    is_recorded(rt, manager.step_records(SERVER, turn, &event).ok())?;
+    let records = manager.look_records(SERVER, &Query::List(15)).ok()?;
+    assert!(rt; records.is_empty());
+    Some(())
 }
 
 /// One record, after three changes.
@@ -176,23 +252,14 @@ fn is_recorded(rt: &impl Abort, records: Option<Vec<Record>>) -> Option<()> {
     Some(())
 }
 
-/// A list would record nothing.
-fn list_would_record(rt: &impl Abort, manager: &Manager) -> Option<()> {
-    let records = manager.look_records(SERVER, &Query::List(15)).ok()?;
-    assert!(rt; records.is_empty());
-    Some(())
-}
-
-/// Makes the step. It is recorded unless an allocation failed.
-fn step_records(rt: &impl Abort, alloc: Global, manager: &mut Manager) -> Option<()> {
+/// Makes the step. `None` if an allocation failed.
+fn is_denied(rt: &impl Abort, alloc: Global, manager: &mut Manager) -> Option<()> {
     let event = denied(alloc)?;
     let turn = manager.turn(SERVER);
     if has_no_memory(manager.step(SERVER, turn, event)) {
-        has_records(rt, manager, 0)?;
-        None
-    } else {
-        has_records(rt, manager, 1)
+        return None;
     }
+    Some(())
 }
 
 fn has_no_memory(reply: Reply) -> bool {
@@ -205,21 +272,25 @@ fn has_records(rt: &impl Abort, manager: &Manager, wanted: usize) -> Option<()> 
     Some(())
 }
 
-fn records(rt: &impl Abort, alloc: Global, manager: &mut Manager) -> Option<()> {
-    step_would_record(rt, alloc, manager)?;
-    list_would_record(rt, manager)?;
-    step_records(rt, alloc, manager)
-}
-
 #[test]
 fn denials_are_recorded(rt: HostRuntime) {
-    let alloc = rt.alloc();
-    assert!(rt;
-        made(&rt, alloc, Calls::Records).is_some() || made(&rt, alloc, Calls::Records).is_some()
-    );
+    let calls = [
+        JOINS,
+        ADDS,
+        Call::WouldRecord,
+        Call::IsDenied,
+        Call::HasRecords(1),
+    ];
+    makes_all(&rt, rt.alloc(), &calls);
 }
 
-/// Adds `activity` once more, and lists on the view that was made before the change was committed.
+/// Lists on a view.
+fn view_lists(rt: &impl Abort, view: &View, wanted: u64) {
+    again!(rt; lists_activity(rt, view.look(SERVER, Query::List(15)), wanted));
+}
+
+/// Adds `activity` once more, and lists on the view that was made before the change was committed. `None` if an
+/// allocation failed.
 fn shows(rt: &impl Abort, alloc: Global, manager: &mut Manager, last: &View) -> Option<()>
     requires { last.now ≡ manager.old.book }
 {
@@ -229,7 +300,8 @@ fn shows(rt: &impl Abort, alloc: Global, manager: &mut Manager, last: &View) -> 
         Ok(ready) => match manager.view_after(&ready, last) {
             Ok(view) => {
                 is_added(rt, manager.commit(ready));
-                lists_activity(rt, view.look(SERVER, Query::List(15)), 4)
+                view_lists(rt, &view, 4);
+                Some(())
             }
             Err(_) => None,
         },
@@ -244,7 +316,7 @@ fn is_added(rt: &impl Abort, reply: Reply) {
     assert!(rt; matches!(&reply, Reply::Done(Outcome::Added(_))));
 }
 
-fn changes(rt: &impl Abort, alloc: Global, manager: &mut Manager) -> Option<()> {
+fn shows_an_add(rt: &impl Abort, alloc: Global, manager: &mut Manager) -> Option<()> {
     let Ok(last) = manager.view() else {
         return None;
     };
@@ -253,31 +325,33 @@ fn changes(rt: &impl Abort, alloc: Global, manager: &mut Manager) -> Option<()> 
 
 #[test]
 fn a_change_is_seen(rt: HostRuntime) {
-    let alloc = rt.alloc();
-    assert!(rt;
-        made(&rt, alloc, Calls::Changes).is_some() || made(&rt, alloc, Calls::Changes).is_some()
-    );
+    makes_all(&rt, rt.alloc(), &[JOINS, ADDS, Call::ShowsAnAdd]);
 }
 
 /// The first segment, with three changes.
-fn is_first(rt: &impl Abort, segment: &Segment) -> Option<()> {
+fn is_first(rt: &impl Abort, segment: &Segment) {
     same(rt, segment.number(), 1);
     same(rt, segment.history_length(), 3);
+    again!(rt; is_replayed(rt, segment));
+}
+
+fn is_replayed(rt: &impl Abort, segment: &Segment) -> Option<()> {
     let rows = segment.replay().ok()?;
     same(rt, rows.history_length(), 3);
     assert!(rt; rows.names().len() == 1);
     Some(())
 }
 
-/// Closes the first segment, and lists on the view that was made before.
+/// Closes the first segment, and lists on the view that was made before. `None` if an allocation failed.
 fn closes(rt: &impl Abort, manager: &mut Manager, last: &View) -> Option<()>
     requires { last.now ≡ manager.old.book }
 {
     match manager.ready_seal() {
         Ok(ready) => match manager.view_sealed(&ready, last) {
             Ok(view) => {
-                is_first(rt, &manager.commit_seal(ready))?;
-                lists_activity(rt, view.look(SERVER, Query::List(15)), 3)
+                is_first(rt, &manager.commit_seal(ready));
+                view_lists(rt, &view, 3);
+                Some(())
             }
             Err(_) => None,
         },
@@ -288,7 +362,7 @@ fn closes(rt: &impl Abort, manager: &mut Manager, last: &View) -> Option<()>
     }
 }
 
-fn seals_first(rt: &impl Abort, manager: &mut Manager) -> Option<()> {
+fn shows_a_seal(rt: &impl Abort, manager: &mut Manager) -> Option<()> {
     let Ok(last) = manager.view() else {
         return None;
     };
@@ -296,7 +370,7 @@ fn seals_first(rt: &impl Abort, manager: &mut Manager) -> Option<()> {
 }
 
 /// Seals the manager once more, after one more change.
-fn seals_second(rt: &impl Abort, manager: &mut Manager) -> Option<()> {
+fn seals_again(rt: &impl Abort, manager: &mut Manager) -> Option<()> {
     match manager.seal() {
         Ok(segment) => {
             same(rt, segment.number(), 2);
@@ -310,16 +384,8 @@ fn seals_second(rt: &impl Abort, manager: &mut Manager) -> Option<()> {
     }
 }
 
-fn seals(rt: &impl Abort, alloc: Global, manager: &mut Manager) -> Option<()> {
-    seals_first(rt, manager)?;
-    adds(rt, alloc, manager)?;
-    seals_second(rt, manager)
-}
-
 #[test]
 fn segments_are_closed(rt: HostRuntime) {
-    let alloc = rt.alloc();
-    assert!(rt;
-        made(&rt, alloc, Calls::Seals).is_some() || made(&rt, alloc, Calls::Seals).is_some()
-    );
+    let calls = [JOINS, ADDS, Call::ShowsASeal, ADDS, Call::SealsAgain];
+    makes_all(&rt, rt.alloc(), &calls);
 }

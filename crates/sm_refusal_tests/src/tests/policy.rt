@@ -26,7 +26,7 @@ fn labels(rt: &impl Abort, alloc: Global) -> Option<()> {
 
 #[test]
 fn labels_are_read(rt: HostRuntime) {
-    assert!(rt; labels(&rt, rt.alloc()).is_some() || labels(&rt, rt.alloc()).is_some());
+    again!(rt; labels(&rt, rt.alloc()));
 }
 
 // The second rule's source and class are those of the first.
@@ -49,13 +49,14 @@ fn rules(rt: &impl Abort, alloc: Global) -> Option<()> {
     let statements = value(rt, read(alloc, OWN_PAIRS), RuleTextFault::Memory)?;
     assert!(rt; statements.len() == 4);
     let types = value(rt, Types::build(alloc, &statements), TypesFault::Memory)?;
-    both_types(rt, alloc, &types, &statements[2])?;
+    again!(rt; both_types(rt, alloc, &types, &statements[2]));
     let built = Rules::build(alloc, &statements, &types);
     let rules = value(rt, built, RulesFault::Memory)?;
     assert!(rt; rules.written(0, 0, Class::Binder, Perms::CALL) == Some(3));
     assert!(rt; rules.written(0, 1, Class::Binder, Perms::CALL).is_none());
     assert!(rt; rules.written(0, 1, Class::Binder, Perms::TRANSFER) == Some(4));
-    vectors(rt, alloc, &rules)
+    again!(rt; vectors(rt, alloc, &rules));
+    Some(())
 }
 
 fn vectors(rt: &impl Abort, alloc: Global, rules: &Rules) -> Option<()> {
@@ -76,7 +77,7 @@ fn vectors(rt: &impl Abort, alloc: Global, rules: &Rules) -> Option<()> {
 
 #[test]
 fn rules_are_compiled(rt: HostRuntime) {
-    assert!(rt; rules(&rt, rt.alloc()).is_some() || rules(&rt, rt.alloc()).is_some());
+    again!(rt; rules(&rt, rt.alloc()));
 }
 
 const REFUSED: &[u8] =
@@ -97,11 +98,10 @@ fn broken(rt: &impl Abort, alloc: Global) -> Option<()> {
 
 #[test]
 fn a_broken_policy_is_refused(rt: HostRuntime) {
-    assert!(rt; broken(&rt, rt.alloc()).is_some() || broken(&rt, rt.alloc()).is_some());
+    again!(rt; broken(&rt, rt.alloc()));
 }
 
-fn shared(rt: &impl Abort, alloc: Global) -> Option<()> {
-    let policy = policy(rt, alloc)?;
+fn shares(rt: &impl Abort, policy: &Prepared) -> Option<()> {
     let other = policy.share().ok()?;
     let line = other.why(
         b"untrusted_app",
@@ -113,7 +113,13 @@ fn shared(rt: &impl Abort, alloc: Global) -> Option<()> {
     Some(())
 }
 
+fn shared(rt: &impl Abort, alloc: Global) -> Option<()> {
+    let policy = policy(rt, alloc)?;
+    again!(rt; shares(rt, &policy));
+    Some(())
+}
+
 #[test]
 fn a_policy_is_shared(rt: HostRuntime) {
-    assert!(rt; shared(&rt, rt.alloc()).is_some() || shared(&rt, rt.alloc()).is_some());
+    again!(rt; shared(&rt, rt.alloc()));
 }

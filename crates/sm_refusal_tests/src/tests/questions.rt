@@ -1,5 +1,6 @@
 //! Answers to questions about a policy.
 
+use super::manager::prepared;
 use super::outcome::same_text;
 use sm_engine::{Counted, Fault};
 use sm_kinds::{Class, Perms, Word};
@@ -8,20 +9,9 @@ use sm_questions::{
     FilterOptions, Target, Unknown, access, diff, explain, label, read_filter, shown_lines,
     unknown_text,
 };
-use sm_samples::{DEVICE_LABELS, DEVICE_RULES, stricter_rules};
+use sm_samples::{DEVICE_RULES, stricter_rules};
 use std::alloc::Global;
 use std::process::Abort;
-
-/// A policy. `None` if an allocation failed.
-fn prepared(rt: &impl Abort, alloc: Global, rules: &[u8]) -> Option<Prepared> {
-    match Prepared::from_texts(alloc, rules, DEVICE_LABELS) {
-        Ok(policy) => Some(policy),
-        Err(fault) => {
-            assert!(rt; matches!(fault, PolicyFault::Memory));
-            None
-        }
-    }
-}
 
 /// Compares what a call wrote. `None` if an allocation failed, of the call or of its writer.
 fn wrote(
@@ -112,24 +102,25 @@ fn shows_a_line(rt: &impl Abort, alloc: Global) -> Option<()> {
     Some(())
 }
 
-fn answers(rt: &impl Abort, alloc: Global, old: &Prepared, new: &Prepared) -> Option<()> {
-    labels(rt, alloc, old)?;
-    explains(rt, alloc, old)?;
-    lists(rt, alloc, old)?;
-    compares(rt, alloc, old, new)?;
-    names_a_word(rt, alloc)?;
-    shows_a_line(rt, alloc)
+fn answers(rt: &impl Abort, alloc: Global, old: &Prepared, new: &Prepared) {
+    again!(rt; labels(rt, alloc, old));
+    again!(rt; explains(rt, alloc, old));
+    again!(rt; lists(rt, alloc, old));
+    again!(rt; compares(rt, alloc, old, new));
+    again!(rt; names_a_word(rt, alloc));
+    again!(rt; shows_a_line(rt, alloc));
 }
 
 fn asks(rt: &impl Abort, alloc: Global) -> Option<()> {
     let old = prepared(rt, alloc, DEVICE_RULES)?;
     let stricter = stricter_rules(alloc).ok()?;
     let new = prepared(rt, alloc, &stricter)?;
-    answers(rt, alloc, &old, &new)
+    answers(rt, alloc, &old, &new);
+    Some(())
 }
 
 #[test]
 fn questions_are_answered(rt: HostRuntime) {
     let alloc = rt.alloc();
-    assert!(rt; asks(&rt, alloc).is_some() || asks(&rt, alloc).is_some());
+    again!(rt; asks(&rt, alloc));
 }

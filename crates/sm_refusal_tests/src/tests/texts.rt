@@ -39,16 +39,13 @@ fn refs(rt: &impl Abort, alloc: Global) -> Option<()> {
     Some(())
 }
 
-fn values(rt: &impl Abort, alloc: Global) -> Option<()> {
-    context(rt, alloc)?;
-    name(rt, alloc)?;
-    payload(rt, alloc)?;
-    refs(rt, alloc)
-}
-
 #[test]
 fn values_are_kept(rt: HostRuntime) {
-    assert!(rt; values(&rt, rt.alloc()).is_some() || values(&rt, rt.alloc()).is_some());
+    let alloc = rt.alloc();
+    again!(rt; context(&rt, alloc));
+    again!(rt; name(&rt, alloc));
+    again!(rt; payload(&rt, alloc));
+    again!(rt; refs(&rt, alloc));
 }
 
 fn is_call(event: &Event) -> bool {
@@ -79,14 +76,10 @@ fn answered(rt: &impl Abort, alloc: Global) -> Option<()> {
     Some(())
 }
 
-fn request(rt: &impl Abort, alloc: Global) -> Option<()> {
-    read(rt, alloc)?;
-    answered(rt, alloc)
-}
-
 #[test]
 fn a_request_is_read_and_answered(rt: HostRuntime) {
-    assert!(rt; request(&rt, rt.alloc()).is_some() || request(&rt, rt.alloc()).is_some());
+    again!(rt; read(&rt, rt.alloc()));
+    again!(rt; answered(&rt, rt.alloc()));
 }
 
 /// The number of `version` lines among the items, if they are nothing else.
@@ -104,31 +97,17 @@ fn is_version(rt: &impl Abort, items: Vec<Item>) {
     assert!(rt; versions(&items) == Some(1));
 }
 
-/// Feeds the second piece. A piece that met a failed allocation may be fed again.
-fn fed(rt: &impl Abort, lines: &mut LineReader) -> Option<Vec<Item>> {
-    match lines.feed(b"ion\nver") {
-        Ok(items) => Some(items),
-        Err(error) => {
-            assert!(rt; error == FeedError::Memory);
-            value(rt, lines.feed(b"ion\nver"), FeedError::Memory)
-        }
-    }
-}
-
-/// Two and a half lines are cut.
-fn feeds(rt: &impl Abort, lines: &mut LineReader) -> Option<()> {
-    is_version(
-        rt,
-        value(rt, lines.feed(b"version\nvers"), FeedError::Memory)?,
-    );
-    is_version(rt, fed(rt, lines)?);
+/// Feeds a piece, which completes one line. `None` if an allocation failed; then the piece may be fed again.
+fn feeds(rt: &impl Abort, lines: &mut LineReader, piece: &[u8]) -> Option<()> {
+    is_version(rt, value(rt, lines.feed(piece), FeedError::Memory)?);
     Some(())
 }
 
-fn cut(rt: &impl Abort, alloc: Global) -> Option<()> {
-    let mut lines = LineReader::new(alloc, Kind::Client);
-    feeds(rt, &mut lines)?;
-    queues(rt, &mut lines, &mut VecDeque::new(alloc))
+/// Two and a half lines are cut, and the last one is completed.
+fn cuts(rt: &impl Abort, lines: &mut LineReader, items: &mut VecDeque<Item>) {
+    again!(rt; feeds(rt, lines, b"version\nvers"));
+    again!(rt; feeds(rt, lines, b"ion\nver"));
+    again!(rt; queues(rt, lines, items));
 }
 
 /// Ends the half line and reads a whole one, whose name needs memory. A refusal leaves the queue empty.
@@ -148,5 +127,7 @@ fn queues(rt: &impl Abort, lines: &mut LineReader, items: &mut VecDeque<Item>) -
 
 #[test]
 fn lines_are_cut(rt: HostRuntime) {
-    assert!(rt; cut(&rt, rt.alloc()).is_some() || cut(&rt, rt.alloc()).is_some());
+    let alloc = rt.alloc();
+    let mut lines = LineReader::new(alloc, Kind::Client);
+    cuts(&rt, &mut lines, &mut VecDeque::new(alloc));
 }

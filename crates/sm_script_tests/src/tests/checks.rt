@@ -1,6 +1,7 @@
 //! The lines of checks, and writers that fail at them.
 
 use super::fixture::{DEVICE, Files};
+use super::lines::same_lines;
 use sm_check::check;
 use sm_engine::{Counted, Fault};
 use sm_kinds::push_numbered;
@@ -15,7 +16,7 @@ const ACCEPTED: &[u8] = b"policy ok: 6 types, 2 attributes, 8 rules, 2 labels\n"
 fn tells(rt: &impl Abort, alloc: Global, rules: &[u8], contexts: &[u8], line: &[u8]) -> bool {
     let mut writer = Counted::new(Vec::new(alloc));
     let result = check(alloc, rules, contexts, &mut writer);
-    assert_eq!(rt; writer.into_inner().as_slice(), line);
+    same_lines(rt, b"", &writer.into_inner(), line);
     result.ok().expect(rt, "a line").is_none()
 }
 

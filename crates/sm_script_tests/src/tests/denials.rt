@@ -1,6 +1,7 @@
 //! Audit lines, and the ring of the newest records.
 
 use super::fixture::{DEVICE, Files, Fixture};
+use super::lines::same_lines;
 use super::parts::Part::{self, Lines, Reload, Repeat};
 use super::parts::{A_HANDLE, A_SERVICE, Parts, push, said_of};
 use Step::{Ask, Denials, Hear};
@@ -78,7 +79,7 @@ fn holds(rt: &impl Abort, alloc: Global, files: Files, steps: &[Step]) {
 
 fn audited(rt: &impl Abort, alloc: Global, files: Files, said: &Said, lines: &[u8]) {
     let heard = Fixture::new(files).replies(rt, alloc, &said.script, &said.wanted);
-    assert_eq!(rt; heard.as_slice(), lines);
+    same_lines(rt, b"", &heard, lines);
 }
 
 // What an application is refused, as it is recorded.

@@ -4,6 +4,7 @@ use super::exchanges::{
     A_SERVER_DIES, A_SERVER_THAT_DIES, ANOTHER_SERVER_COMES, REFERENCES_OF_A_CALL, WITHOUT_CALLS,
 };
 use super::fixture::Fixture;
+use super::lines::same_lines;
 use super::parts::Part::{Bytes, Lines, Reload};
 use super::parts::{A_SERVICE, Parts, said_of};
 use sm_engine::Fault;
@@ -39,7 +40,7 @@ fn hears_pieces(rt: &impl Abort, alloc: Global, said: &Said, most: usize) {
     let mut audit = Vec::new(alloc);
     let ran = device().run(rt, alloc, &mut reader, &mut writer, &mut audit);
     assert!(rt; ran.ending == Ok(()));
-    assert_eq!(rt; writer.as_slice(), said.wanted.as_slice());
+    same_lines(rt, &said.script, &writer, &said.wanted);
 }
 
 #[test]

@@ -1,5 +1,6 @@
 //! A policy, and scripts that run under it.
 
+use super::lines::same_lines;
 use super::parts::{Parts, said_of};
 use sm_engine::{Counted, Fault};
 use sm_kinds::Places;
@@ -148,10 +149,11 @@ impl Fixture {
         mut script: &[u8],
         wanted: &[u8],
     ) -> (Vec<u8>, Result<(), Fault>) {
+        let asked = script;
         let mut replies = Vec::new(alloc);
         let mut lines = Vec::new(alloc);
         let ran = self.run(rt, alloc, &mut script, &mut replies, &mut lines);
-        assert_eq!(rt; replies.as_slice(), wanted);
+        same_lines(rt, asked, &replies, wanted);
         (lines, ran.ending)
     }
 

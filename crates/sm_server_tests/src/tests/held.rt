@@ -1,5 +1,6 @@
 //! Calls that are held while others are answered and while connections fail.
 
+use super::differences::is_left;
 use super::hold::{ARMED, HOLDING, Hold, RELEASED};
 use super::server::{ALL_IS_WELL, HELLO, Talk, Watched, at_a_door, numbers};
 use super::steps::Step::{self, Close, Over, Say, Vanish};
@@ -90,7 +91,7 @@ const A_CALL_IS_HELD: &[Step] = &[
 fn a_call_is_held_until_another_is_answered(rt: HostRuntime) -> Result<(), Fail> {
     let (visits, exchange) = connected(&rt, rt.alloc(), numbers(4, 4, 0), A_CALL_IS_HELD)?;
     let left = at_a_door(&rt, rt.alloc(), 1000, Second::new(), visits, exchange);
-    assert!(rt; left == ALL_IS_WELL);
+    is_left(&rt, rt.alloc(), &[A_CALL_IS_HELD], left, ALL_IS_WELL);
     Ok(())
 }
 
@@ -175,6 +176,13 @@ fn a_change_is_held_until_a_list_is_answered(rt: HostRuntime) -> Result<(), Fail
     };
     let (visits, exchange) = connected(&rt, rt.alloc(), numbers(4, 4, 0), &[])?;
     let talk = Listing { exchange, hold };
-    assert!(rt; at_a_door(&rt, rt.alloc(), 1000, gate, visits, talk) == ALL_IS_WELL);
+    let left = at_a_door(&rt, rt.alloc(), 1000, gate, visits, talk);
+    let steps = [
+        GREETINGS,
+        THE_CHANGE,
+        A_LIST_WHILE_IT_IS_HELD,
+        AFTER_ITS_RELEASE,
+    ];
+    is_left(&rt, rt.alloc(), &steps, left, ALL_IS_WELL);
     Ok(())
 }

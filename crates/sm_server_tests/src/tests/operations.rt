@@ -1,5 +1,6 @@
 //! A server whose listener fails, connections that take too long, and a journal that fills up.
 
+use super::differences::is_left;
 use super::server::{
     ALL_IS_WELL, ENDED_BY_ITS_LISTENER, HELLO, Heard, LISTENING, Left, at_a_door, filled, holds,
     numbers,
@@ -32,7 +33,7 @@ fn failures_that_pass_are_passed_over(rt: HostRuntime) -> Result<(), Fail> {
         },
         ..ALL_IS_WELL
     };
-    assert!(rt; left == wanted);
+    is_left(&rt, rt.alloc(), &[ONE_CLIENT], left, wanted);
     Ok(())
 }
 
@@ -41,7 +42,7 @@ fn a_connection_that_has_begun_is_served_to_its_end(rt: HostRuntime) -> Result<(
     let (mut visits, exchange) = connected(&rt, rt.alloc(), numbers(1, 1, 0), ONE_CLIENT)?;
     visits.numbers.clients = 2;
     let left = at_a_door(&rt, rt.alloc(), 1000, NoGate, visits, exchange);
-    assert!(rt; left == ENDED_BY_ITS_LISTENER);
+    is_left(&rt, rt.alloc(), &[ONE_CLIENT], left, ENDED_BY_ITS_LISTENER);
     Ok(())
 }
 
@@ -59,7 +60,8 @@ fn a_connection_that_goes_on_is_cut_off(rt: HostRuntime) -> Result<(), Fail> {
     visits.numbers.clients = 2;
     visits.numbers.patience.end = 1;
     let left = at_a_door(&rt, rt.alloc(), 1000, NoGate, visits, exchange);
-    assert!(rt; left == ENDED_BY_ITS_LISTENER);
+    let steps = [A_CLIENT_THAT_IS_CUT_OFF];
+    is_left(&rt, rt.alloc(), &steps, left, ENDED_BY_ITS_LISTENER);
     Ok(())
 }
 

@@ -3,6 +3,7 @@
 ghost use Rattle.std.specs.Prelude.{◌≡◌};
 ghost use Rattle.sm_core.specs.Opening.{opened};
 
+use super::differences::is_left;
 use super::steps::Step::{self, Close, Over, ReloadStricter, Say, SayAll, Vanish};
 use super::steps::connected;
 use sm_connection::{FreeSeats, SealAt, ServerEvent, Supervisor};
@@ -258,7 +259,7 @@ pub fn holds<R: Net + Threads + Wait + Clock + Abort + Sync>(
         heard,
         ..ALL_IS_WELL
     };
-    assert!(rt; left == wanted);
+    is_left(rt, alloc, &[steps], left, wanted);
 }
 
 /// A device's service manager and its policy.
@@ -479,6 +480,6 @@ fn a_listener_that_fails_ends_the_server(rt: HostRuntime) -> Result<(), Fail> {
     let (mut visits, silence) = connected(&rt, rt.alloc(), numbers(2, 0, 0), &[])?;
     visits.numbers.clients = 1;
     let left = at_a_door(&rt, rt.alloc(), 1000, NoGate, visits, silence);
-    assert!(rt; left == ENDED_BY_ITS_LISTENER);
+    is_left(&rt, rt.alloc(), &[], left, ENDED_BY_ITS_LISTENER);
     Ok(())
 }

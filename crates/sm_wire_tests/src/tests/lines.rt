@@ -1,7 +1,7 @@
 //! Requests as lines, and the lines of replies.
 
 use sm_history::{Denial, Event, Outcome, Query, Refusal, Reply};
-use sm_kinds::{ClientId, Name, ObjRef, push_numbered};
+use sm_kinds::{ClientId, Identity, Name, ObjRef, push_access, push_numbered};
 use sm_wire::*;
 use std::alloc::{AllocError, Global};
 use std::process::Abort;
@@ -75,25 +75,51 @@ fn push_event(out: &mut Vec<u8>, event: &Event) -> Result<(), AllocError> {
     }
 }
 
-// Adds who makes a request, where the line says so, and what it does.
-fn push_asked(out: &mut Vec<u8>, client: Option<ClientId>, words: &[u8]) -> Result<(), AllocError> {
-    if let Some(client) = client {
-        push_numbered(out, b"", u64::from(client.0))?;
+// Adds who makes a request, where the line says so.
+fn push_asker(out: &mut Vec<u8>, client: Option<ClientId>) -> Result<(), AllocError> {
+    match client {
+        Some(client) => push_numbered(out, b"", u64::from(client.0)),
+        None => Ok(()),
     }
-    out.extend_from_slice(words)
+}
+
+// Adds a query in words.
+fn push_query(out: &mut Vec<u8>, query: &Query) -> Result<(), AllocError> {
+    match query {
+        Query::Version => out.extend_from_slice(b" asks the version"),
+        Query::List(mask) => push_numbered(out, b" asks the names of ", u64::from(*mask)),
+        Query::Explain {
+            source,
+            target,
+            class,
+            perm,
+        } => {
+            out.extend_from_slice(b" asks why ")?;
+            push_access(out, source.bytes(), target.bytes(), *class, *perm)
+        }
+    }
+}
+
+// Adds a process in words.
+fn push_process(out: &mut Vec<u8>, who: &Identity) -> Result<(), AllocError> {
+    push_numbered(out, b"hello of ", u64::from(who.pid))?;
+    push_numbered(out, b" user ", u64::from(who.uid))?;
+    out.extend_from_slice(b" in ")?;
+    out.extend_from_slice(who.context.text())
 }
 
 // Adds a request in words.
 fn push_request(out: &mut Vec<u8>, request: &Request) -> Result<(), AllocError> {
     match request {
         Request::Change(client, event) => {
-            push_asked(out, *client, b"")?;
+            push_asker(out, *client)?;
             push_event(out, event)
         }
-        Request::Look(client, Query::Version) => push_asked(out, *client, b" asks the version"),
-        Request::Look(client, Query::List(_)) => push_asked(out, *client, b" asks the names"),
-        Request::Look(client, Query::Explain { .. }) => push_asked(out, *client, b" asks why"),
-        Request::Hello(who) => push_numbered(out, b"hello of ", u64::from(who.pid)),
+        Request::Look(client, query) => {
+            push_asker(out, *client)?;
+            push_query(out, query)
+        }
+        Request::Hello(who) => push_process(out, who),
         Request::Reload {
             expected,
             rules,
@@ -157,10 +183,13 @@ const WELL_FORMED: Readings = &[
     ("1 release 4294967295", "1 releases 4294967295"),
     ("1 take", "1 takes"),
     ("0 bye", "0 dies"),
-    ("1 list 15", "1 asks the names"),
+    ("1 list 4294967295", "1 asks the names of 4294967295"),
     ("1 version", "1 asks the version"),
-    ("hello 7 0 u:r:t", "hello of 7"),
-    ("explain a b binder call", " asks why"),
+    (
+        "hello 4294967295 7 u:r:t:s0",
+        "hello of 4294967295 user 7 in u:r:t:s0",
+    ),
+    ("explain a b binder call", " asks why a b binder call"),
     (
         "reload 18446744073709551615 2 4294967295",
         "reload of 18446744073709551615 by 2 and 4294967295",
@@ -178,13 +207,23 @@ fn well_formed_lines(rt: HostRuntime) -> Result<(), Fail> {
 
 /// Lines, each with what a client's connection, an administrator's and a script read it as.
 const BY_KIND: &[(&str, &str, &str, &str)] = &[
-    ("hello 7 0 u:r:t", "hello of 7", "malformed", "hello of 7"),
+    (
+        "hello 7 0 u:r:t",
+        "hello of 7 user 0 in u:r:t",
+        "malformed",
+        "hello of 7 user 0 in u:r:t",
+    ),
     ("get a", " gets a", "malformed", "malformed"),
     ("1 get a", "malformed", "malformed", "1 gets a"),
     ("call 3 -", " calls 3", "malformed", "malformed"),
     ("1 call 3 -", "malformed", "malformed", "1 calls 3"),
-    ("list 15", " asks the names", "malformed", "malformed"),
-    ("1 list 15", "malformed", "malformed", "1 asks the names"),
+    ("list 15", " asks the names of 15", "malformed", "malformed"),
+    (
+        "1 list 15",
+        "malformed",
+        "malformed",
+        "1 asks the names of 15",
+    ),
     ("bye", " dies", "malformed", "malformed"),
     ("1 bye", "malformed", "malformed", "1 dies"),
     (
@@ -197,8 +236,8 @@ const BY_KIND: &[(&str, &str, &str, &str)] = &[
     (
         "explain a b binder call",
         "malformed",
-        " asks why",
-        " asks why",
+        " asks why a b binder call",
+        " asks why a b binder call",
     ),
     (
         "reload 1 2 3",
@@ -411,21 +450,48 @@ fn lines_in_pieces(rt: HostRuntime) {
     }
 }
 
-// The items of a client's stream, in words, one on each line.
-fn streamed(rt: &impl Abort, alloc: Global, stream: &[u8]) -> Result<Vec<u8>, AllocError> {
-    let mut lines = LineReader::new(alloc, Kind::Client);
-    fed(rt, alloc, &mut lines, stream)
+/// More names than the cache of a stream holds at two for each of its 1,024 places, so some place is that of three.
+const NAMES: u64 = 2049;
+
+// A `get` of the name with this number is read as that, whatever names the stream had before.
+fn is_read(
+    rt: &impl Abort,
+    alloc: Global,
+    lines: &mut LineReader,
+    number: u64,
+) -> Result<(), AllocError> {
+    let mut line = Vec::new(alloc);
+    push_numbered(&mut line, b"get ", number)?;
+    line.push(b'\n')?;
+    let mut wanted = Vec::new(alloc);
+    push_numbered(&mut wanted, b" gets ", number)?;
+    wanted.push(b'\n')?;
+    let words = fed(rt, alloc, lines, &line)?;
+    assert_eq!(rt; words.as_slice(), wanted.as_slice(), "name {number}");
+    Ok(())
 }
 
-// Among the names that a stream caches, `Aa` and `BB` have the same slot.
+/// Lines after these names, each with what it is read as.
+const AFTER_NAMES: Readings = &[
+    ("check 7\n", " gets 7\n"),
+    ("get %37\n", " gets 7\n"),
+    ("get a b\n", "malformed\n"),
+    ("get \n", "malformed\n"),
+    ("get \x7f\n", "malformed\n"),
+    ("check 7\n", " gets 7\n"),
+];
+
 #[test]
 fn names_that_come_again(rt: HostRuntime) -> Result<(), Fail> {
-    let stream =
-        b"get Aa\nget BB\ncheck Aa\nget Aa\nget %4242\nget a b\nget \nget \x7f\ncheck BB\n";
-    let words = streamed(&rt, rt.alloc(), stream)?;
-    let wanted =
-        b" gets Aa\n gets BB\n gets Aa\n gets Aa\n gets BB\nmalformed\nmalformed\nmalformed\n gets BB\n";
-    assert_eq!(rt; words.as_slice(), wanted.as_slice());
+    let alloc = rt.alloc();
+    let mut lines = LineReader::new(alloc, Kind::Client);
+    for n in 0..2 * NAMES {
+        is_read(&rt, alloc, &mut lines, n % NAMES)?;
+    }
+    for (line, wanted) in AFTER_NAMES {
+        let words = fed(&rt, alloc, &mut lines, line.as_bytes())?;
+        assert_eq!(rt; words.as_slice(), wanted.as_bytes(), "{line}");
+    }
     Ok(())
 }
 

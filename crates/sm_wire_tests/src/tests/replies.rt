@@ -91,15 +91,3 @@ fn a_reply_goes_behind_what_is_there(rt: HostRuntime) -> Result<(), Fail> {
     assert_eq!(rt; out.as_slice(), b"ok\nclient 1\n".as_slice());
     Ok(())
 }
-
-#[test]
-fn texts_of_a_reload(rt: HostRuntime) -> Result<(), Fail> {
-    let alloc = rt.alloc();
-    let rules = Vec::from_slice(alloc, b"type a;\n")?;
-    let contexts = Vec::from_slice(alloc, b"* u:object_r:a:s0\n")?;
-    let texts = PolicyTexts::new(7, rules, contexts);
-    assert_eq!(rt; texts.expected(), 7);
-    assert_eq!(rt; texts.rules(), b"type a;\n".as_slice());
-    assert_eq!(rt; texts.contexts(), b"* u:object_r:a:s0\n".as_slice());
-    Ok(())
-}
