@@ -92,17 +92,17 @@ def policy_contexts(count: int) -> Lines:
     yield "* u:object_r:svc0:s0"
 
 
-def wide_policy(allows: int, neverallows: int, seed: int) -> Lines:
-    """4,096 types, and rules of all permissions for nearly all sources and nearly half of the targets: of one
-    half of the types in the allow rules, of the other half in the neverallow rules."""
+def wide_policy(types: int, allows: int, neverallows: int, seed: int) -> Lines:
+    """Types, and rules of all permissions for nearly all sources and nearly half of the targets: of one half of the
+    types in the allow rules, of the other half in the neverallow rules."""
     draw = random.Random(seed)
     for attribute in ("a", "g", "n"):
         yield f"attribute {attribute};"
-    for k in range(4096):
+    for k in range(types):
         yield f"type w{k}, a, {'gn'[k % 2]};"
     for word, attribute, count in (("allow", "g", allows), ("neverallow", "n", neverallows)):
         for _ in range(count):
-            source, target = draw.randrange(4096), draw.randrange(4096)
+            source, target = draw.randrange(types), draw.randrange(types)
             yield f"{word} {{ a -w{source} }} {{ {attribute} -w{target} }}:{{ binder service_manager }} *;"
 
 
@@ -309,39 +309,51 @@ def run_input(name: str, size: int, requests: int, script: Callable[[], Lines]) 
     return Input(name, size, manager_policy, manager_contexts, script, requests)
 
 
-def all_inputs(seed: int) -> Iterator[Input]:
-    for n in (1000, 2000, 4000):
+# The least size of an input that is made smaller.
+LEAST = 40
+
+
+def all_inputs(seed: int, part: int = 1) -> Iterator[Input]:
+    """All inputs, with what grows in them divided by `part`, down to LEAST."""
+
+    def one(wanted: int) -> int:
+        return min(wanted, max(wanted // part, LEAST))
+
+    def sizes(*wanted: int) -> dict[int, None]:
+        return dict.fromkeys(map(one, wanted))
+
+    gets, notices, reloaded, decisions, wide = map(one, (50_000, 100_000, 1000, 5000, 4096))
+    for n in sizes(1000, 2000, 4000):
         yield Input("check: types", n, lambda n=n: policy(n, seed), lambda n=n: policy_contexts(n))
-    for n in (13_000, 26_000, 52_000):
-        yield Input("check: wide allow rules", n, lambda n=n: wide_policy(n, 1, seed), wide_contexts)
-    for n in (13_000, 26_000, 52_000):
-        yield Input("check: wide neverallow rules", n, lambda n=n: wide_policy(1, n, seed), wide_contexts)
+    for n in sizes(13_000, 26_000, 52_000):
+        yield Input("check: wide allow rules", n, lambda n=n: wide_policy(wide, n, 1, seed), wide_contexts)
+    for n in sizes(13_000, 26_000, 52_000):
+        yield Input("check: wide neverallow rules", n, lambda n=n: wide_policy(wide, 1, n, seed), wide_contexts)
     for question in ("access", "diff"):
-        for n in (1000, 2000, 4000):
+        for n in sizes(1000, 2000, 4000):
             rules, contexts = lambda n=n: policy(n, seed), lambda n=n: policy_contexts(n)
             yield Input(f"{question}: types", n, rules, contexts, question=question)
-    for n in (200_000, 400_000, 800_000):
+    for n in sizes(200_000, 400_000, 800_000):
         yield run_input("run: versions", n, n, lambda n=n: versions(n))
-    for n in (200_000, 400_000, 800_000):
+    for n in sizes(200_000, 400_000, 800_000):
         yield run_input("run: malformed lines", n, n, lambda n=n: malformed(n))
-    for n in (200_000, 400_000, 800_000):
+    for n in sizes(200_000, 400_000, 800_000):
         yield run_input("run: mixed requests", n, n, lambda n=n: mixed(n, seed))
-    for n in (1000, 2000, 4000):
-        yield run_input("run: names", n, 50_000, lambda n=n: many_names(n, 50_000, seed))
-    for n in (16, 32, 64):
-        yield run_input("run: clients", n, 50_000, lambda n=n: many_clients(n, 50_000, seed))
-    for n in (5000, 10_000, 20_000):
+    for n in sizes(1000, 2000, 4000):
+        yield run_input("run: names", n, gets, lambda n=n: many_names(n, gets, seed))
+    for n in sizes(16, 32, 64):
+        yield run_input("run: clients", n, gets, lambda n=n: many_clients(n, gets, seed))
+    for n in sizes(5000, 10_000, 20_000):
         yield run_input("run: objects", n, 2 * n, lambda n=n: many_objects(n))
-    for n in (50_000, 100_000, 200_000):
+    for n in sizes(50_000, 100_000, 200_000):
         yield run_input("run: calls", n, 3 * n, lambda n=n: calls(n))
-    for n in (63, 630, 4095):
-        adds = 100_000 // n
+    for n in sizes(63, 630, 4095):
+        adds = max(notices // n, 1)
         yield run_input("run: watches", n, n + adds * (n + 1), lambda n=n, adds=adds: many_watches(n, adds))
-    for n in (20_000, 40_000, 80_000):
+    for n in sizes(20_000, 40_000, 80_000):
         yield run_input("run: deaths", n, 5 * n, lambda n=n: many_deaths(n))
-    for n in (10, 20, 40):
-        yield run_input("run: reloads", n, n, lambda n=n: reloads(n, 1000, seed))
-    for n in (7500, 15_000, 30_000):
-        yield Input(
-            "run: rules before the one", n, lambda n=n: late_policy(n), manager_contexts, lambda: lists(5000), 5000
-        )
+    for n in sizes(10, 20, 40):
+        yield run_input("run: reloads", n, n, lambda n=n: reloads(n, reloaded, seed))
+    for n in sizes(7500, 15_000, 30_000):
+        rules, script = lambda n=n: late_policy(n), lambda: lists(decisions)
+        yield Input("run: rules before the one", n, rules, manager_contexts, script, decisions)
