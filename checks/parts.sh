@@ -5,6 +5,9 @@ passed=0 failed=0 skipped=0
 # What the checks need, and those that compare with SELinux's tools.
 tools=(python3 git cc) selinux_tools=(checkpolicy sesearch seinfo sediff)
 
+# What some checks are left out without.
+further_tools=(valgrind mandoc)
+
 room="$(mktemp -d)"
 trap 'rm -rf "$room"' EXIT
 
@@ -42,6 +45,12 @@ brief_part() {
         cat "$room/said"
         echo "FAILED: $1"
     fi
+}
+
+# Counts a check that isn't run, and says by which option.
+leave_out() {
+    echo "left out: $1"
+    skipped=$((skipped + 1))
 }
 
 # Prints the sums, and ends with status 1 if something failed.

@@ -1,4 +1,4 @@
-"""Says what svcmgr must answer, from the answers of Android's service manager: README.md has the table and the marks."""
+"""Says what svcmgr must answer, from the answers of Android's service manager. README.md has the table and marks."""
 
 import re
 import subprocess
