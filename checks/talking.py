@@ -52,6 +52,23 @@ def finish(name, passed, failures, left_out=()):
     sys.exit(1 if failures else 0)
 
 
+def tried(name, attempt, *given):
+    """What was left out of an attempt, and what failed."""
+    try:
+        attempt(*given)
+    except LeftOut as why:
+        return f"{name}: {why}", None
+    except (Wrong, OSError, ValueError) as fault:
+        return None, f"{name}: {fault}"
+    return None, None
+
+
+def finish_tried(name, ended):
+    """Ends a check by what was left out and what failed of its attempts."""
+    left_out, failures = ([pair[n] for pair in ended if pair[n]] for n in (0, 1))
+    finish(name, len(ended) - len(failures) - len(left_out), failures, left_out)
+
+
 def add_program(parser):
     parser.add_argument("--program", default=str(PROGRAM), help="svcmgr, as `rt ci` or `rt run` builds it")
 
