@@ -1,0 +1,59 @@
+"""Runs the program on a drawn case, and says how its answers differ from the model's."""
+
+import subprocess
+from pathlib import Path
+
+from talking import PATIENCE
+
+FILES = ["rules", "contexts", "newrules", "newcontexts"]
+
+
+class Program:
+    """The program in a folder of its own, with the files of a case."""
+
+    def __init__(self, path, folder):
+        self.path, self.folder = path, Path(folder)
+
+    def put(self, case):
+        for name, text in zip(FILES, (case.rules, case.contexts, case.new_rules, case.new_contexts)):
+            (self.folder / name).write_bytes(text.encode("latin-1"))
+
+    def ask(self, words, given=""):
+        """What a command line writes to standard output and to standard error, and its status."""
+        ended = subprocess.run(
+            [self.path, *words], cwd=self.folder, input=given.encode("latin-1"), capture_output=True, timeout=PATIENCE
+        )
+        return ended.stdout.decode("latin-1"), ended.stderr.decode("latin-1"), ended.returncode
+
+
+def command_of(question):
+    """The command line of a question."""
+    command, *words = question
+    options, files = [], FILES[:2]
+    if command == "explain":
+        options, words = ["--name"] if words[0] else [], words[1:]
+    elif command == "access":
+        for option, word in zip(("--source", "--target", "--name", "--class", "--perm"), words):
+            options += [option, word] if word is not None else []
+        words = []
+    elif command == "diff":
+        files = FILES
+    return [command, *options, *files, *words]
+
+
+def commands(case):
+    """Each command line of a case, with its input and the model's way to answer it."""
+    files = (case.rules, case.contexts)
+    script = "".join(case.script)
+    asked = [
+        (["run", "--journal", str(case.slots), *FILES[:2]], script, lambda model: model.run(*files, script, case.slots)),
+        (["check", "--show", *FILES[:2]], "", lambda model: model.asks("check", *files, FILES[:2])),
+    ]
+    for question in case.questions:
+        texts = files + (case.new_rules, case.new_contexts) if question[0] == "diff" else files
+
+        def answer(model, question=question, texts=texts):
+            return model.asks(question[0], *texts, *question[1:])
+
+        asked.append((command_of(question), "", answer))
+    return asked

@@ -1,0 +1,282 @@
+"""Runs a drawn script over the sockets of a server, and says how its answers differ from the model's.
+
+A conversation is a list of pairs of a peer and what it sends: `admin` or the number of a client's connection, and a line
+with its newline. After a line that is cut, or nothing at all, the connection ends."""
+
+import contextlib
+import copy
+import subprocess
+import time
+
+from model import Administrator, Client, Script, answer_next
+from modelling.lines import Input
+from talking import PATIENCE, Connection, Lines, Wrong
+
+from .programs import FILES
+
+ADMIN = "admin"
+
+# Audit lines that are compared: with more of them some may be lost.
+MOST_LINES = 400
+
+# Steps of a search for an order.
+MOST_STEPS = 20000
+
+
+class Speaker(Connection):
+    def line(self):
+        """The next line without its newline, as the model has it."""
+        return self.lines.line().rstrip("\n")
+
+    def reply(self):
+        """A reply, with the audit lines that follow a `denials`."""
+        first = self.line()
+        number = int(first.split(" ")[1]) if first.startswith("denials ") else 0
+        return "\n".join([first, *[self.line() for _ in range(number)]])
+
+    def end(self):
+        with contextlib.suppress(OSError):
+            self.stream.shutdown(1)
+
+
+class Server:
+    """A server with the policy of a case, and the connections to it."""
+
+    def __init__(self, program, case):
+        self.folder, self.speakers = program.folder, {}
+        program.put(case)
+        words = [program.path, "serve", "--journal", str(case.slots), "--workers", "64", "--audit"]
+        words += ["--socket", "clients", "--admin", "admins", *FILES[:2]]
+        self.child = subprocess.Popen(words, cwd=self.folder, stdin=subprocess.DEVNULL, stderr=subprocess.PIPE)
+        self.said = Lines(self.child.stderr.fileno())
+
+    def __enter__(self):
+        return self
+
+    def __exit__(self, *_):
+        for speaker in self.speakers.values():
+            speaker.stream.close()
+        self.child.kill()
+        self.child.wait()
+        self.child.stderr.close()
+        for name in "clients", "admins", "clients.lock", "admins.lock":
+            (self.folder / name).unlink(missing_ok=True)
+
+    def speaker(self, who):
+        if who not in self.speakers:
+            self.speakers[who] = Speaker(self.folder / ("admins" if who == ADMIN else "clients"))
+        return self.speakers[who]
+
+    def drop(self, who):
+        if who in self.speakers:
+            self.speakers.pop(who).stream.close()
+
+    def await_length(self, length):
+        """Waits until the journal has a length, after a connection has ended."""
+        until = time.monotonic() + PATIENCE
+        while True:
+            self.speaker(ADMIN).send(b"version\n")
+            came = self.speaker(ADMIN).line()
+            if came.endswith(f" {length}"):
+                return
+            if time.monotonic() > until:
+                raise Wrong(f"the length is {came!r} in place of {length}")
+            time.sleep(0.002)
+
+    def audit_lines(self, number):
+        """As many audit lines as that, without the warnings between them."""
+        found = []
+        while len(found) < number:
+            line = self.said.line()
+            if line == "":
+                break
+            if not line.startswith("warning: "):
+                found.append(line.rstrip("\n"))
+        return found
+
+
+def expect(came, wanted, what):
+    if came != wanted:
+        raise Wrong(f"{what}:\n  program: {came!r}\n  page:    {wanted!r}")
+
+
+class Talk:
+    """The model's side of a server."""
+
+    def __init__(self, manager):
+        self.manager, self.peers, self.audit = manager, {}, []
+
+    def peer(self, who):
+        if who not in self.peers:
+            self.peers[who] = Administrator() if who == ADMIN else Client()
+        return self.peers[who]
+
+    def answer(self, who, text):
+        """The reply to a line, or nothing where the connection ends; then its client dies."""
+        peer, reply = self.peer(who), None
+        if text != "":
+            reply, lines = answer_next(self.manager, peer, Input(text))
+            self.audit += lines
+        peer.has_ended = peer.has_ended or text == ""
+        number = getattr(peer, "number", None)
+        if peer.has_ended and number is not None and self.manager.clients[number - 1].is_live:
+            self.manager.bye(self.manager.clients[number - 1])
+        return reply
+
+
+def say_one(server, talk, who, text):
+    """Sends what a peer says next, and compares the reply."""
+    if talk.peer(who).has_ended:
+        return
+    wanted = talk.answer(who, text)
+    speaker = server.speaker(who)
+    speaker.send(text.encode("latin-1"))
+    if text == "" or wanted == "fault cut":
+        speaker.end()
+    if wanted is not None:
+        came = "\n".join(speaker.line() for _ in wanted.split("\n"))
+        expect(came, wanted, f"connection {who} sends {text!r}")
+    if talk.peer(who).has_ended:
+        expect(speaker.line(), "", f"connection {who} ends after {text!r}")
+        server.drop(who)
+        if who == ADMIN:
+            talk.peers.pop(who)
+        server.await_length(talk.manager.length)
+
+
+def begin(server, model, case):
+    """The model's side, or nothing if the server says why it doesn't begin."""
+    manager, fault = model.opened(case.rules, case.contexts, case.slots)
+    line = "listening for clients at clients and for administrators at admins\n"
+    expect(server.said.line(), fault or line, "the server says")
+    return manager and Talk(manager)
+
+
+def difference_served(program, model, case, conversation):
+    """How a server's answers to a conversation differ from the model's, or nothing."""
+    try:
+        with Server(program, case) as server:
+            talk = begin(server, model, case)
+            if talk is None:
+                return None
+            for who, text in conversation:
+                say_one(server, talk, who, text)
+            if len(talk.audit) <= MOST_LINES:
+                expect(server.audit_lines(len(talk.audit)), talk.audit, "audit lines")
+    except (Wrong, OSError) as wrong:
+        return str(wrong)
+    return None
+
+
+def conversation_of(drawing, case):
+    """A script as what connections send. Some clients' connections end without a `bye`, or within a line."""
+    manager, _ = drawing.model.opened(case.rules, case.contexts, case.slots)
+    found, clients, connections = [], {}, 0
+    for line in case.script:
+        reply = answer_next(manager, Script(), Input(line))[0] if manager else ""
+        first, _, rest = line.partition(" ")
+        if first == "hello":
+            connections += 1
+            found.append((connections, line))
+            if reply.startswith("client "):
+                clients[reply.split(" ")[1]] = connections
+        elif first in clients:
+            if rest == "bye\n":
+                rest = drawing.one([rest, "", "add a o1", "take"])
+            found.append((clients[first], rest))
+        else:
+            found.append((drawing.one([ADMIN, ADMIN, *clients.values()]) if rest == "" else ADMIN, line))
+    return found
+
+
+# Several connections at once.
+
+
+def ask_at_once(server, parts):
+    """Sends what each peer says at once, and the replies to each."""
+    for who, lines in parts.items():
+        server.speaker(who)
+    for who, lines in parts.items():
+        server.speaker(who).send("".join(lines).encode("latin-1"))
+    came = {who: [] for who in parts}
+    for who, lines in parts.items():
+        while len(came[who]) < len(lines) and came[who][-1:] != ["bye"]:
+            came[who].append(server.speaker(who).reply())
+    return came
+
+
+def state_of(talk):
+    """A text that is the same for the same state."""
+    manager = {name: value for name, value in vars(talk.manager).items() if name != "policy"}
+    return repr((sorted(manager.items()), [(who, vars(peer)) for who, peer in talk.peers.items()]))
+
+
+def copied(talk):
+    policy = talk.manager.policy
+    return copy.deepcopy(talk, {id(policy): policy})
+
+
+def has_order(talk, parts, came, last):
+    """Whether the model gives all replies in some order, and then `last` to a `denials`. None if the search is long."""
+    seen, steps = set(), 0
+    waiting = [(talk, {who: 0 for who in parts})]
+    while waiting:
+        talk, at = waiting.pop()
+        steps += 1
+        if steps > MOST_STEPS:
+            return None
+        if all(at[who] == len(came[who]) for who in parts):
+            if talk.manager.denials() == last:
+                return True
+            continue
+        for who, lines in parts.items():
+            if at[who] == len(came[who]):
+                continue
+            after = copied(talk)
+            if after.answer(who, lines[at[who]]) != came[who][at[who]]:
+                continue
+            place = {**at, who: at[who] + 1}
+            state = (tuple(place.values()), state_of(after))
+            if state not in seen:
+                seen.add(state)
+                waiting.append((after, place))
+    return False
+
+
+def parts_at_once(drawing, talk):
+    """What three connections send at once: clients that are there, a new one, and now and then an administrator."""
+    there = [who for who, peer in talk.peers.items() if who != ADMIN and not peer.has_ended and peer.number]
+    drawing.chance.shuffle(there)
+    parts = {who: [] for who in there[:2]}
+    new = drawing.one([ADMIN, "new"]) if drawing.is_so(0.7) or len(there) < 3 else there[2]
+    parts[new] = []
+    for who, lines in parts.items():
+        if who == "new":
+            lines.append("hello 77 1000 u:r:server:s0\n")
+        for _ in range(drawing.chance.randint(2, 5)):
+            lines.append(drawing.one(["version", "seal", "denials", drawing.explain()]) if who == ADMIN else drawing.request())
+            lines[-1] += "\n"
+    return parts
+
+
+def difference_at_once(program, model, case, conversation, drawing):
+    """As `difference_served`, for connections that speak at once after a conversation."""
+    try:
+        with Server(program, case) as server:
+            talk = begin(server, model, case)
+            if talk is None:
+                return None
+            for who, text in conversation:
+                say_one(server, talk, who, text)
+            parts = parts_at_once(drawing, talk)
+            came = ask_at_once(server, parts)
+            last = server.speaker(ADMIN)
+            last.send(b"denials\n")
+            last = last.reply()
+            found = has_order(talk, parts, came, last)
+    except (Wrong, OSError) as wrong:
+        return str(wrong)
+    if found is False:
+        said = [f"{who} sends {lines!r}\n  program: {came[who]!r}" for who, lines in parts.items()]
+        return "\n".join(["no order gives these replies:", *said, f"then the records are {last!r}"])
+    return None

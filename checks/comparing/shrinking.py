@@ -1,0 +1,74 @@
+"""Shrinks what shows a difference, and writes it as a script of the shell."""
+
+import time
+from dataclasses import replace
+
+from .programs import FILES
+
+# Seconds that a difference is shrunk.
+SECONDS = 20
+
+
+def without_lines(lines, differs, until):
+    """Takes lines out, many at a time and then fewer, as long as what is left differs."""
+    size = max(1, len(lines) // 2)
+    while size >= 1 and time.monotonic() < until:
+        at = 0
+        while at < len(lines) and time.monotonic() < until:
+            fewer = lines[:at] + lines[at + size :]
+            if differs(fewer):
+                lines = fewer
+            else:
+                at += size
+        size //= 2
+    return lines
+
+
+def shrunk(case, differs):
+    """A smaller case that still differs: fewer lines of the script and of each file."""
+    until = time.monotonic() + SECONDS
+    case = replace(case, script=without_lines(case.script, lambda it: differs(replace(case, script=it)), until))
+    for name in ("rules", "contexts", "new_rules", "new_contexts"):
+        lines = getattr(case, name).splitlines(keepends=True)
+        kept = without_lines(lines, lambda it: differs(replace(case, **{name: "".join(it)})), until)
+        case = replace(case, **{name: "".join(kept)})
+    return case
+
+
+def quoted(text):
+    """A text with one character for each byte, as a word of bash."""
+    if text != "" and all("\x20" <= byte <= "\x7e" and byte not in "'\\" for byte in text):
+        return f"'{text}'"
+    short = {"\n": "\\n", "\t": "\\t", "\\": "\\\\", "'": "\\'"}
+    return "$'" + "".join(short.get(it) or (it if "\x20" <= it <= "\x7e" else f"\\x{ord(it):02x}") for it in text) + "'"
+
+
+def written_file(name, lines):
+    """The commands of bash that write a file: NUL bytes aren't those of a word, so printf makes them."""
+    if lines == []:
+        return f": > {name}"
+    words = [quoted(line.replace("\\", "\\\\").replace("\0", "\\0000")) for line in lines]
+    return f"printf '%b' \\\n    " + " \\\n    ".join(words) + f" > {name}"
+
+
+def files_of(case, names):
+    texts = dict(zip(FILES, (case.rules, case.contexts, case.new_rules, case.new_contexts)))
+    return [written_file(name, texts[name].splitlines(keepends=True)) for name in names]
+
+
+def script_of(case, words, wanted, came):
+    """A script of bash that shows a difference at a command line, and both answers."""
+    found = files_of(case, [name for name in FILES if name in words])
+    command = " ".join(["svcmgr", *(quoted(word) for word in words)])
+    if words[0] == "run":
+        found.append(written_file("script", case.script))
+        command += " < script"
+    found.append(command)
+    for what, page, program in zip(("standard output", "standard error", "status"), wanted, came):
+        if page != program:
+            found += [f"# {what} by the page:", *commented(page), f"# {what} of the program:", *commented(program)]
+    return "\n".join(found)
+
+
+def commented(answer):
+    return [f"#   {line!r}"[:500] for line in str(answer).split("\n")[-40:]]

@@ -1,0 +1,127 @@
+"""The commands that judge a policy and answer questions about it, as docs/FORMATS.md says.
+
+Each gives what it writes to standard output and to standard error, and its status."""
+
+from itertools import product
+
+from .policies import CLASSES, MOST_BYTES, Policy, Refused
+
+ACCESSES = [(kind, perm) for kind, perms in CLASSES for perm in perms]
+
+
+class Unknown(Exception):
+    """A word of a question that names nothing."""
+
+
+def read_policy(rules, contexts, kind=Policy):
+    """The policy of two files, of which no more is read than shows that one is too large."""
+    return kind(rules[: MOST_BYTES + 1], contexts[: MOST_BYTES + 1])
+
+
+def lines(found):
+    return "".join(f"{line}\n" for line in found)
+
+
+def shown(refused, files):
+    """The lines that a refusal names, each after its file and its number."""
+    path, text = files[refused.text.startswith("contexts: ")]
+    every = text.split("\n")
+    return lines(f"{path}:{line}: {every[line - 1]}" for line in refused.lines)
+
+
+def check(kind, rules, contexts, paths=None):
+    """With two paths, the lines that a refusal names are shown."""
+    try:
+        policy = read_policy(rules, contexts, kind)
+    except Refused as refused:
+        files = list(zip(paths, (rules, contexts))) if paths else None
+        return f"policy refused: {refused.text}\n", shown(refused, files) if paths else "", 1
+    types, attributes, kept, labels = policy.counts()
+    return f"policy ok: {types} types, {attributes} attributes, {kept} rules, {labels} labels\n", "", 0
+
+
+def asked(question):
+    """A question that is answered by a function of its policies, and its faults."""
+
+    def answer(kind, *rest):
+        try:
+            return question(kind, *rest)
+        except Refused as refused:
+            return f"policy refused: {refused.text}\n", "", 1
+        except Unknown as unknown:
+            return "", f"fault: unknown {unknown}\n", 2
+
+    return answer
+
+
+def known(policy, source, target, kind, perm):
+    """Looks up the words that are given, in this order."""
+    for what, word, names in (
+        ("type", source, policy.types),
+        ("type", target, policy.types),
+        ("class", kind, [name for name, _ in CLASSES]),
+        ("permission", perm, [each for name, each in ACCESSES if kind in (None, name)]),
+    ):
+        if word is not None and word not in names:
+            raise Unknown(f"{what} {word}")
+
+
+def type_of_name(policy, name):
+    return policy.label(name).split(":")[2]
+
+
+@asked
+def label(kind, rules, contexts, name):
+    line, context = read_policy(rules, contexts, kind).entry(name)
+    return f"{context} {line}\n", "", 0
+
+
+@asked
+def explain(kind, rules, contexts, is_name, source, target, class_, perm):
+    policy = read_policy(rules, contexts, kind)
+    if is_name:
+        target = type_of_name(policy, target)
+    known(policy, source, target, class_, perm)
+    line = policy.line_of(source, target, class_, perm)
+    found = ["unwritten" if line is None else f"allowed {line}"]
+    if source in policy.permissive:
+        found.append("permissive")
+    return lines(found), "", 1 if found == ["unwritten"] else 0
+
+
+@asked
+def access(kind, rules, contexts, source=None, target=None, name=None, class_=None, perm=None):
+    policy = read_policy(rules, contexts, kind)
+    if name is not None:
+        target = type_of_name(policy, name)
+    known(policy, source, target, class_, perm)
+    wanted = (source, target, class_, perm)
+    found = []
+    for each in every_access(policy):
+        if all(want is None or want == is_ for want, is_ in zip(wanted, each)) and policy.is_allowed(*each):
+            line = policy.line_of(*each)
+            found.append(f"{' '.join(each)} {'permissive' if line is None else line}")
+    return lines(found), "", 0
+
+
+def every_access(policy):
+    return [(source, target, *access) for source, target, access in product(policy.types, policy.types, ACCESSES)]
+
+
+def only_first(first, second):
+    """The accesses that only the first policy allows."""
+    return [each for each in every_access(first) if first.is_allowed(*each) and not second.is_allowed(*each)]
+
+
+@asked
+def diff(kind, rules, contexts, new_rules, new_contexts):
+    old = read_policy(rules, contexts, kind)
+    new = read_policy(new_rules, new_contexts, kind)
+    found = [f"- {' '.join(each)}" for each in only_first(old, new)]
+    found += [f"+ {' '.join(each)}" for each in only_first(new, old)]
+    for key in old.keys() + [key for key in new.keys() if key not in old.keys()]:
+        if old.label(key) != new.label(key):
+            found.append(f"~ {key} {old.label(key)} {new.label(key)}")
+    for sign, one, other in (("-", old, new), ("+", new, old)):
+        found += [f"{sign} permissive {name}" for name in one.types if name in one.permissive and name not in other.permissive]
+    return lines(found), "", 1 if found else 0
