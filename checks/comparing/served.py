@@ -7,6 +7,7 @@ import contextlib
 import copy
 import subprocess
 import time
+from itertools import groupby
 
 from model import Administrator, Client, Script, answer_next
 from modelling.lines import Input
@@ -21,6 +22,7 @@ MOST_LINES = 400
 
 # Steps of a search for an order.
 MOST_STEPS = 20000
+GIVEN_UP = "the search for an order was given up"
 
 
 class Speaker(Connection):
@@ -42,11 +44,11 @@ class Speaker(Connection):
 class Server:
     """A server with the policy of a case, and the connections to it."""
 
-    def __init__(self, program, case):
+    def __init__(self, program, case, connections):
         self.folder, self.speakers = program.folder, {}
         program.put(case)
-        words = [program.path, "serve", "--journal", str(case.slots), "--workers", "64", "--audit"]
-        words += ["--socket", "clients", "--admin", "admins", *FILES[:2]]
+        words = [program.path, "serve", "--journal", str(case.slots), "--workers", str(min(64, connections + 2))]
+        words += ["--audit", "--socket", "clients", "--admin", "admins", *FILES[:2]]
         self.child = subprocess.Popen(words, cwd=self.folder, stdin=subprocess.DEVNULL, stderr=subprocess.PIPE)
         self.said = Lines(self.child.stderr.fileno())
 
@@ -124,24 +126,40 @@ class Talk:
         return reply
 
 
-def say_one(server, talk, who, text):
-    """Sends what a peer says next, and compares the reply."""
-    if talk.peer(who).has_ended:
+def say(server, talk, who, texts):
+    """Sends what a peer says next, and compares the replies."""
+    said = []
+    for text in texts:
+        if talk.peer(who).has_ended:
+            break
+        said.append((text, talk.answer(who, text)))
+    if said == []:
         return
-    wanted = talk.answer(who, text)
     speaker = server.speaker(who)
-    speaker.send(text.encode("latin-1"))
-    if text == "" or wanted == "fault cut":
+    speaker.send("".join(text for text, _ in said).encode("latin-1"))
+    if said[-1][0] == "" or said[-1][1] == "fault cut":
         speaker.end()
-    if wanted is not None:
-        came = "\n".join(speaker.line() for _ in wanted.split("\n"))
-        expect(came, wanted, f"connection {who} sends {text!r}")
+    for text, wanted in said:
+        if wanted is not None:
+            came = "\n".join(speaker.line() for _ in wanted.split("\n"))
+            expect(came, wanted, f"connection {who} sends {text!r}")
     if talk.peer(who).has_ended:
-        expect(speaker.line(), "", f"connection {who} ends after {text!r}")
-        server.drop(who)
-        if who == ADMIN:
-            talk.peers.pop(who)
-        server.await_length(talk.manager.length)
+        end(server, talk, who)
+
+
+def end(server, talk, who):
+    """The server ends a connection, whose client is dead then."""
+    expect(server.speaker(who).line(), "", f"connection {who} ends, and then comes")
+    server.drop(who)
+    if who == ADMIN:
+        talk.peers.pop(who)
+    server.await_length(talk.manager.length)
+
+
+def say_all(server, talk, conversation):
+    """One peer after another. What a peer says until another one speaks is sent at once."""
+    for who, group in groupby(conversation, key=lambda pair: pair[0]):
+        say(server, talk, who, [text for _, text in group])
 
 
 def begin(server, model, case):
@@ -155,12 +173,11 @@ def begin(server, model, case):
 def difference_served(program, model, case, conversation):
     """How a server's answers to a conversation differ from the model's, or nothing."""
     try:
-        with Server(program, case) as server:
+        with Server(program, case, len({who for who, _ in conversation})) as server:
             talk = begin(server, model, case)
             if talk is None:
                 return None
-            for who, text in conversation:
-                say_one(server, talk, who, text)
+            say_all(server, talk, conversation)
             if len(talk.audit) <= MOST_LINES:
                 expect(server.audit_lines(len(talk.audit)), talk.audit, "audit lines")
     except (Wrong, OSError) as wrong:
@@ -262,12 +279,11 @@ def parts_at_once(drawing, talk):
 def difference_at_once(program, model, case, conversation, drawing):
     """As `difference_served`, for connections that speak at once after a conversation."""
     try:
-        with Server(program, case) as server:
+        with Server(program, case, len({who for who, _ in conversation})) as server:
             talk = begin(server, model, case)
             if talk is None:
                 return None
-            for who, text in conversation:
-                say_one(server, talk, who, text)
+            say_all(server, talk, conversation)
             parts = parts_at_once(drawing, talk)
             came = ask_at_once(server, parts)
             last = server.speaker(ADMIN)
@@ -276,7 +292,9 @@ def difference_at_once(program, model, case, conversation, drawing):
             found = has_order(talk, parts, came, last)
     except (Wrong, OSError) as wrong:
         return str(wrong)
-    if found is False:
+    if found is None:
+        return GIVEN_UP
+    if not found:
         said = [f"{who} sends {lines!r}\n  program: {came[who]!r}" for who, lines in parts.items()]
         return "\n".join(["no order gives these replies:", *said, f"then the records are {last!r}"])
     return None

@@ -89,9 +89,12 @@ class Manager:
         """One for the death of each live client."""
         return len(self.live())
 
-    def change(self, more_kept=0):
+    def need_slot(self, more_kept=0):
         if self.used + 1 + self.slots_kept() + more_kept > self.slots:
             raise Answer("failed journal-full")
+
+    def change(self, more_kept=0):
+        self.need_slot(more_kept)
         self.enter()
 
     def enter(self):
@@ -241,8 +244,9 @@ class Manager:
         old = self.service(name)
         if old is None and len(self.services) >= MOST_NAMES:
             raise Answer("exception -5 table-full")
+        self.need_slot()
         notices = self.notices([watch for watch in self.watches if watch.name == name], item)
-        self.change()
+        self.enter()
         if old is not None:
             self.services.remove(old)
         self.services.append(Service(name, item, is_for_isolated, flags, caller.number))
@@ -281,8 +285,9 @@ class Manager:
             raise Answer("exception -5 table-full")
         watch = Watch(name, caller.number, reference[1])
         service = self.service(name)
+        self.need_slot()
         notices = [] if service is None else self.notices([watch], service.item)
-        self.change()
+        self.enter()
         self.watches.append(watch)
         self.deliver(notices)
         return "ok"
