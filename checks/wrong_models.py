@@ -1,4 +1,4 @@
-"""Twelve wrong models: each gets one rule of docs/FORMATS.md wrong. checks/scripts --wrong-models finds each of them."""
+"""Wrong models: each gets one rule of docs/FORMATS.md wrong. `checks/scripts --wrong-models` finds all of them."""
 
 from model import Model
 from modelling.manager import Answer, Manager, is_isolated
@@ -142,4 +142,5 @@ MANAGERS = [
     SilencedKept,
 ]
 
-WRONG = [(kind.__name__, Model(manager=kind)) for kind in MANAGERS] + [(SelfLessItems.__name__, Model(policy=SelfLessItems))]
+WRONG = [(kind.__name__, Model(manager=kind)) for kind in MANAGERS]
+WRONG.append((SelfLessItems.__name__, Model(policy=SelfLessItems)))

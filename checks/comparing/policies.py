@@ -192,7 +192,7 @@ class PolicyDrawing:
         """A text with some of its bytes changed, taken out, put in or repeated."""
         for _ in range(self.one([1, 1, 2, 5])):
             at = self.chance.randint(0, len(text))
-            byte = self.one(["\n", " ", "#", '"', "{", "}", ";", "~", "-", "*", ":", ",", "\r", "\t", "\0", "\xff", "a", "0"])
+            byte = self.one([*'\n #"{};~-*:,\r\t\0\xffa0'])
             end = at + self.one([0, 1, 1, 2, 9])
             middle = self.one([byte, "", byte * 3, text[at:end] * 2])
             text = text[:at] + middle + text[end:]

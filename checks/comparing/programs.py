@@ -20,9 +20,11 @@ class Program:
 
     def ask(self, words, given=""):
         """What a command line writes to standard output and to standard error, and its status."""
-        ended = subprocess.run(
-            [self.path, *words], cwd=self.folder, input=given.encode("latin-1"), capture_output=True, timeout=PATIENCE
-        )
+        command, given = [self.path, *words], given.encode("latin-1")
+        try:
+            ended = subprocess.run(command, cwd=self.folder, input=given, capture_output=True, timeout=PATIENCE)
+        except subprocess.TimeoutExpired:
+            return "", f"it hasn't ended after {PATIENCE} seconds", None
         return ended.stdout.decode("latin-1"), ended.stderr.decode("latin-1"), ended.returncode
 
 
@@ -45,8 +47,9 @@ def commands(case):
     """Each command line of a case, with its input and the model's way to answer it."""
     files = (case.rules, case.contexts)
     script = "".join(case.script)
+    run = ["run", "--journal", str(case.slots), *FILES[:2]]
     asked = [
-        (["run", "--journal", str(case.slots), *FILES[:2]], script, lambda model: model.run(*files, script, case.slots)),
+        (run, script, lambda model: model.run(*files, script, case.slots)),
         (["check", "--show", *FILES[:2]], "", lambda model: model.asks("check", *files, FILES[:2])),
     ]
     for question in case.questions:

@@ -94,7 +94,8 @@ class Drawing(PolicyDrawing):
         rules = self.rules() if rules is None else rules
         contexts = self.contexts()
         now = self.manager.version if self.manager else 1
-        return f"reload {now if self.is_so(0.8) else self.one([0, 1, 2])} {len(rules)} {len(contexts)}\n{rules}{contexts}"
+        expected = now if self.is_so(0.8) else self.one([0, 1, 2])
+        return f"reload {expected} {len(rules)} {len(contexts)}\n{rules}{contexts}"
 
     def explain(self):
         kind = self.one(CLASS_WORDS[:2])
@@ -195,7 +196,8 @@ class Drawing(PolicyDrawing):
         self.say_all(f"{self.connect()} version")
 
     def say_story(self):
-        stories = [self.full_inbox, self.passed_on, self.passed_on, self.death, self.numbers, self.explained, self.isolated]
+        stories = [self.full_inbox, self.passed_on, self.passed_on, self.death, self.numbers, self.explained]
+        stories.append(self.isolated)
         if self.is_so(0.02):
             stories = [self.many_denials, self.many_clients]
         self.one(stories)()

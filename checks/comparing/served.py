@@ -1,13 +1,13 @@
 """Runs a drawn script over the sockets of a server, and says how its answers differ from the model's.
 
-A conversation is a list of pairs of a peer and what it sends: `admin` or the number of a client's connection, and a line
-with its newline. After a line that is cut, or nothing at all, the connection ends."""
+A conversation is a list of pairs of a peer and what it sends: `admin` or the number of a client's connection, and a
+line with its newline. After a line that is cut, or nothing at all, the connection ends."""
 
 import contextlib
 import copy
 import subprocess
 import time
-from itertools import groupby
+from itertools import groupby, zip_longest
 
 from model import Administrator, Client, Script, answer_next
 from modelling.lines import Input
@@ -210,11 +210,12 @@ def conversation_of(drawing, case):
 
 
 def ask_at_once(server, parts):
-    """Sends what each peer says at once, and the replies to each."""
-    for who, lines in parts.items():
+    """The replies to what each peer says, sent by a line of each in turn without waiting for an answer."""
+    for who in parts:
         server.speaker(who)
-    for who, lines in parts.items():
-        server.speaker(who).send("".join(lines).encode("latin-1"))
+    for turn in zip_longest(*parts.values(), fillvalue=""):
+        for who, line in zip(parts, turn):
+            server.speaker(who).send(line.encode("latin-1"))
     came = {who: [] for who in parts}
     for who, lines in parts.items():
         while len(came[who]) < len(lines) and came[who][-1:] != ["bye"]:
@@ -270,9 +271,9 @@ def parts_at_once(drawing, talk):
     for who, lines in parts.items():
         if who == "new":
             lines.append("hello 77 1000 u:r:server:s0\n")
-        for _ in range(drawing.chance.randint(2, 5)):
-            lines.append(drawing.one(["version", "seal", "denials", drawing.explain()]) if who == ADMIN else drawing.request())
-            lines[-1] += "\n"
+        for _ in range(drawing.chance.randint(3, 6)):
+            of_admin = drawing.one(["version", "seal", "denials", drawing.explain()])
+            lines.append(f"{of_admin if who == ADMIN else drawing.request()}\n")
     return parts
 
 

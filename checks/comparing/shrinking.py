@@ -9,8 +9,9 @@ from .programs import FILES
 SECONDS = 20
 
 
-def without_lines(lines, differs, until):
+def fewest(lines, differs, until=None):
     """Takes lines out, many at a time and then fewer, as long as what is left differs."""
+    until = until or time.monotonic() + SECONDS
     size = max(1, len(lines) // 2)
     while size >= 1 and time.monotonic() < until:
         at = 0
@@ -27,10 +28,10 @@ def without_lines(lines, differs, until):
 def shrunk(case, differs):
     """A smaller case that still differs: fewer lines of the script and of each file."""
     until = time.monotonic() + SECONDS
-    case = replace(case, script=without_lines(case.script, lambda it: differs(replace(case, script=it)), until))
+    case = replace(case, script=fewest(case.script, lambda it: differs(replace(case, script=it)), until))
     for name in ("rules", "contexts", "new_rules", "new_contexts"):
         lines = getattr(case, name).splitlines(keepends=True)
-        kept = without_lines(lines, lambda it: differs(replace(case, **{name: "".join(it)})), until)
+        kept = fewest(lines, lambda it: differs(replace(case, **{name: "".join(it)})), until)
         case = replace(case, **{name: "".join(kept)})
     return case
 
@@ -48,7 +49,7 @@ def written_file(name, lines):
     if lines == []:
         return f": > {name}"
     words = [quoted(line.replace("\\", "\\\\").replace("\0", "\\0000")) for line in lines]
-    return f"printf '%b' \\\n    " + " \\\n    ".join(words) + f" > {name}"
+    return "printf '%b' \\\n    " + " \\\n    ".join(words) + f" > {name}"
 
 
 def files_of(case, names):

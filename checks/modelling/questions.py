@@ -123,5 +123,6 @@ def diff(kind, rules, contexts, new_rules, new_contexts):
         if old.label(key) != new.label(key):
             found.append(f"~ {key} {old.label(key)} {new.label(key)}")
     for sign, one, other in (("-", old, new), ("+", new, old)):
-        found += [f"{sign} permissive {name}" for name in one.types if name in one.permissive and name not in other.permissive]
+        only = [name for name in one.types if name in one.permissive and name not in other.permissive]
+        found += [f"{sign} permissive {name}" for name in only]
     return lines(found), "", 1 if found else 0
