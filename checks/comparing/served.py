@@ -20,6 +20,9 @@ ADMIN = "admin"
 # Audit lines that are compared: with more of them some may be lost.
 MOST_LINES = 400
 
+# Clients' connections: one that finds no worker would wait.
+MOST_CONNECTIONS = 60
+
 # Steps of a search for an order.
 MOST_STEPS = 20000
 GIVEN_UP = "the search for an order was given up"
@@ -47,7 +50,7 @@ class Server:
     def __init__(self, program, case, connections):
         self.folder, self.speakers = program.folder, {}
         program.put(case)
-        words = [program.path, "serve", "--journal", str(case.slots), "--workers", str(min(64, connections + 2))]
+        words = [program.path, "serve", "--journal", str(case.slots), "--workers", str(connections + 2)]
         words += ["--audit", "--socket", "clients", "--admin", "admins", *FILES[:2]]
         self.child = subprocess.Popen(words, cwd=self.folder, stdin=subprocess.DEVNULL, stderr=subprocess.PIPE)
         self.said = Lines(self.child.stderr.fileno())
@@ -186,12 +189,17 @@ def difference_served(program, model, case, conversation):
 
 
 def conversation_of(drawing, case):
-    """A script as what connections send. Some clients' connections end without a `bye`, or within a line."""
+    """A script as what connections send, and seals between. Some connections end without a `bye`, or within a line."""
     manager, _ = drawing.model.opened(case.rules, case.contexts, case.slots)
     found, clients, connections = [], {}, 0
+    seals = drawing.one([0, 0, 0.05, 0.3])
     for line in case.script:
+        if drawing.is_so(seals):
+            found.append((ADMIN, "seal\n"))
         reply = answer_next(manager, Script(), Input(line))[0] if manager else ""
         first, _, rest = line.partition(" ")
+        if first == "hello" and connections == MOST_CONNECTIONS:
+            break
         if first == "hello":
             connections += 1
             found.append((connections, line))
