@@ -23,12 +23,19 @@ MOST_LINES = 400
 # Clients' connections: one that finds no worker would wait.
 MOST_CONNECTIONS = 60
 
+# Seconds after which a connection without a client is made anew.
+AGE = 4
+
 # Steps of a search for an order.
 MOST_STEPS = 20000
 GIVEN_UP = "the search for an order was given up"
 
 
 class Speaker(Connection):
+    def __init__(self, path):
+        super().__init__(path)
+        self.since = time.monotonic()
+
     def line(self):
         """The next line without its newline, as the model has it."""
         return self.lines.line().rstrip("\n")
@@ -75,6 +82,11 @@ class Server:
     def drop(self, who):
         if who in self.speakers:
             self.speakers.pop(who).stream.close()
+
+    def renew(self, who):
+        """Drops a connection that the server may end soon, since no `hello` of it is answered by a number."""
+        if who in self.speakers and time.monotonic() - self.speakers[who].since > AGE:
+            self.drop(who)
 
     def await_length(self, length):
         """Waits until the journal has a length, after a connection has ended."""
@@ -131,13 +143,15 @@ class Talk:
 
 def say(server, talk, who, texts):
     """Sends what a peer says next, and compares the replies."""
-    said = []
+    said, number = [], getattr(talk.peer(who), "number", None)
     for text in texts:
         if talk.peer(who).has_ended:
             break
         said.append((text, talk.answer(who, text)))
     if said == []:
         return
+    if number is None:
+        server.renew(who)
     speaker = server.speaker(who)
     speaker.send("".join(text for text, _ in said).encode("latin-1"))
     if said[-1][0] == "" or said[-1][1] == "fault cut":
