@@ -1,5 +1,6 @@
 """Shrinks what shows a difference, and writes it as a script of the shell."""
 
+import shlex
 import time
 from dataclasses import replace
 
@@ -25,10 +26,28 @@ def fewest(lines, differs, until=None):
     return lines
 
 
+def without_client(script, number):
+    """A script without the lines of a client. The clients after it have the numbers before theirs."""
+    found, hellos = [], 0
+    for line in script:
+        first, _, rest = line.partition(" ")
+        hellos += first == "hello"
+        if (first == "hello" and hellos == number) or first == str(number):
+            continue
+        if first.isdecimal() and int(first) > number:
+            line = f"{int(first) - 1} {rest}"
+        found.append(line)
+    return found
+
+
 def shrunk(case, differs):
-    """A smaller case that still differs: fewer lines of the script and of each file."""
+    """A smaller case that still differs: fewer lines of the script and of each file, and fewer clients."""
     until = time.monotonic() + SECONDS
     case = replace(case, script=fewest(case.script, lambda it: differs(replace(case, script=it)), until))
+    for number in range(len(case.script), 0, -1):
+        fewer = replace(case, script=without_client(case.script, number))
+        if fewer.script != case.script and differs(fewer):
+            case = fewer
     for name in ("rules", "contexts", "new_rules", "new_contexts"):
         lines = getattr(case, name).splitlines(keepends=True)
         kept = fewest(lines, lambda it: differs(replace(case, **{name: "".join(it)})), until)
@@ -60,7 +79,7 @@ def files_of(case, names):
 def script_of(case, words, wanted, came):
     """A script of bash that shows a difference at a command line, and both answers."""
     found = files_of(case, [name for name in FILES if name in words])
-    command = " ".join(["svcmgr", *(quoted(word) for word in words)])
+    command = " ".join(["svcmgr", *(shlex.quote(word) for word in words)])
     if words[0] == "run":
         found.append(written_file("script", case.script))
         command += " < script"
