@@ -146,7 +146,7 @@ class PolicyDrawing:
             return self.rule("dontaudit")
         if kind < 0.85:
             return self.one(OTHER_RULES)
-        if kind < 0.88:
+        if kind < 0.9:
             return self.rule("neverallow")
         if kind < 0.97:
             return self.one(["auditallow a b;", "allow x y:file read;", "# no rule", "typeattribute thing caller;", ""])
@@ -160,6 +160,8 @@ class PolicyDrawing:
         lines += [line for line in USUAL_RULES if not self.is_so(missing)]
         for _ in range(self.one([0, 1, 2, 5])):
             lines.insert(self.chance.randint(8, len(lines)), self.statement())
+        if self.is_so(0.1):
+            lines.insert(self.chance.randint(8, len(lines)), self.rule("neverallow"))
         if self.is_so(0.1):
             self.chance.shuffle(lines)
         if self.is_so(0.08):
