@@ -34,13 +34,13 @@ part() {
     return "$ended"
 }
 
-# Runs a part and shows its last line, what it left out and what failed; all, if it says no numbers.
+# Runs a part and shows what it left out and its last line, or all from the first failure on; all, if it says no numbers.
 brief_part() {
     local ended=0
     "$@" > "$room/said" 2>&1 || ended=1
     if add "$ended"; then
-        grep -E '^(FAILED|left out): ' "$room/said" || true
-        tail -n 1 "$room/said"
+        grep '^left out: ' "$room/said" || true
+        sed -n '/^FAILED: /,$p' "$room/said" | grep . || tail -n 1 "$room/said"
     else
         cat "$room/said"
         echo "FAILED: $1"

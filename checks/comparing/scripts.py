@@ -152,7 +152,8 @@ class Drawing(PolicyDrawing):
         one, two = self.connect("server"), self.connect(self.one(["server", None]), 1000)
         self.say_all(f"{one} add a o1 1 8", f"{two} get a", f"{two} add b h1 1 8")
         for _ in range(self.one([1, 2, 3])):
-            what = ["bye", "bye", "unregister b h1", "unregister b h1", "unregister a o1", "release 1", "list 15", "call 1 - o1"]
+            what = ["bye", "bye", "unregister b h1", "unregister b h1", "unregister a o1", "release 1", "list 15"]
+            what.append("call 1 - o1")
             self.say(f"{self.one([one, two, two, two])} {self.one(what)}")
         self.say_all(f"{self.connect('app')} get b", f"{two} unregister b h1", f"{two} call 1 00 h1")
 
