@@ -5,3 +5,4 @@ pub mod Permissions
 pub mod Messages
 pub mod Reading
 pub mod Lines
+pub mod Words

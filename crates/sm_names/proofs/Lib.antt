@@ -4,4 +4,3 @@ pub mod OrderLemmas
 pub mod WatchLemmas
 pub mod TrackedWatches
 pub mod Others
-pub mod SameWords

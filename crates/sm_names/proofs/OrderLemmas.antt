@@ -284,3 +284,36 @@ order_removed n order p i last o lt e long = record {
       let own_last : one last (get_or order p 0) ≡ one last i = ap (one last) e in
       grind (arith, nat_tests, new, here, there, was, was_last, in', own, own_last, long);
 }
+
+-- ---- an index that is replaced where it was guessed
+
+none_renamed : (from to : ℕ) (xs : List ℕ) → times from xs ≡ 0 → map (renamed from to) xs ≡ xs
+none_renamed from to [] none = refl
+none_renamed from to (x ∷ xs) none =
+    let c = times_cons from x xs in
+    let head : renamed from to x ≡ x = grind (arith, nat_tests, c, none) in
+    rw (head, none_renamed from to xs (omega (arith, c, none))) refl
+
+pub set_renamed : (from to p : ℕ) (xs : List ℕ) → p < length xs → get_or xs p 0 ≡ from → times from xs ≤ 1
+    → set xs p to ≡ map (renamed from to) xs
+set_renamed from to p [] lt e once = absurd (omega (arith, lt))
+set_renamed from to zero (x ∷ xs) lt e once =
+    let c = times_cons from x xs in
+    let z : one from x ≡ 1 = ap (one from) e ∙ one_own from in
+    let rest = none_renamed from to xs (omega (arith, c, z, once)) in
+    let head : renamed from to x ≡ to = grind (arith, nat_tests, e) in
+    rw (head, rest) refl
+set_renamed from to (suc p) (x ∷ xs) lt e once =
+    let lt' : p < length xs = omega (arith, lt) in
+    let some = present xs p from lt' e in
+    let c = times_cons from x xs in
+    let head : renamed from to x ≡ x = grind (arith, nat_tests, c, once, some) in
+    rw (head, ← set_renamed from to p xs lt' e (omega (arith, c, once, some))) refl
+
+-- What is left of an order has each index once at most.
+pub once_left : (n : ℕ) (order : List ℕ) (p j : ℕ) → IsOrder n order → p < length order
+    → times j (remove order p) ≤ 1
+once_left n order p j o lt =
+    let less = sum_by-remove (one j) order p 0 lt in
+    let once = o.once j in
+    grind (arith, nat_tests, less, once)

@@ -2,4 +2,3 @@ pub mod Rows
 pub mod Orders
 pub mod Watching
 pub mod Tracking
-pub mod Words

@@ -2,15 +2,12 @@
 //! a row that a hint leads to is used only if it has the name that is sought. So contracts say nothing of hints, and
 //! hints that can't be allocated are just not there.
 
-use crate::words::digest;
+use crate::digest::digest;
 use sm_history::NamedRow;
 use std::alloc::Global;
 
 /// There are at most this many slots.
 const MOST_SLOTS: usize = 16_384;
-
-/// Fewer rows have no slots: they are searched as fast.
-const FEWEST_ROWS: usize = 6;
 
 /// The slots.
 #[derive(Drop)]
@@ -47,7 +44,7 @@ impl Hints {
     /// Makes slots for this many rows, if there are too few and there is memory, and fills them.
     pub fn reserve(&mut self, rows: &[NamedRow]) {
         let count = self.places.len();
-        if rows.len() < FEWEST_ROWS.max(count / 4) || count >= MOST_SLOTS {
+        if rows.len() < count / 4 || count >= MOST_SLOTS {
             return;
         }
         let wanted = if count == 0 { 64 } else { count * 4 };

@@ -5,6 +5,7 @@
 //! An `AllocError` says that an allocation failed, and nothing else.
 #![tactic(auto)]
 
+mod digest;
 mod hints;
 mod named_rows;
 mod names;
@@ -12,7 +13,6 @@ mod ordered;
 mod services;
 mod watch_list;
 mod watch_order;
-mod words;
 
 pub use names::NameTable;
 pub use services::Services;

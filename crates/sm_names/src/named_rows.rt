@@ -9,7 +9,9 @@ ghost use Rattle.sm_names.specs.Orders.{row_at};
 ghost use Rattle.sm_names.specs.Rows.{matching_names};
 
 use crate::hints::Hints;
-use crate::ordered::{copies_in_order, copies_of, has_name, matching, position_of, rename};
+use crate::ordered::{
+    copies_in_order, copies_of, has_name, matching, position_of, position_of_last, rename_near,
+};
 use sm_history::{NameList, NamedRow, Service};
 use std::alloc::{AllocError, Global};
 use std::marker::Model;
@@ -194,8 +196,9 @@ impl NamedRows {
         ensures kept { self.new.capacity ≡ self.old.capacity }
     {
         let i = self.order.remove(position);
+        let near = position_of_last(&self.rows, &self.order);
         let _ = self.rows.swap_remove(i);
-        rename(&mut self.order, self.rows.len(), i);
+        rename_near(&mut self.order, near, self.rows.len(), i);
         i
     }
 

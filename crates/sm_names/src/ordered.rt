@@ -1,14 +1,14 @@
 //! Rows of names by their indices, and lists of these in the order of the names.
 
-ghost use Rattle.std.specs.Prelude.{◌≡◌, ◌<◌, ◌∷◌, [], ◌++◌, length, map, IfOk, OnOk, IsTrue, MatchResult};
+ghost use Rattle.std.specs.Prelude.{◌≡◌, ◌<◌, ◌≤◌, ◌∷◌, [], ◌++◌, length, map, IfOk, OnOk, IsTrue, MatchResult};
 ghost use Rattle.std.specs.List.Sorted.{IsSearchInRange};
 ghost use Rattle.sm_history.specs.Rising.{IsRising};
 ghost use Rattle.sm_history.specs.Tables.{names_of, IsNamePlace, IsNameGap};
-ghost use Rattle.sm_names.specs.Orders.{row_at, rows_at, IsOrder, renamed};
+ghost use Rattle.sm_names.specs.Orders.{row_at, rows_at, times, IsOrder, renamed};
 ghost use Rattle.sm_names.specs.Rows.{matching_names};
 
-use crate::words::is_same;
 use sm_history::{NameList, NamedRow};
+use sm_kinds::spells;
 use std::alloc::{AllocError, Global};
 
 /// Returns the name of the row with an index, or no bytes if there is none.
@@ -37,7 +37,7 @@ pub fn has_name(rows: &[NamedRow], i: usize, name: &[u8]) -> bool
     ensures { IsTrue result → (i < length rows.now) × ((row_at rows.now i).name ≡ name.now) }
 {
     match rows.get(i) {
-        Some(row) => is_same(row.name.bytes(), name),
+        Some(row) => spells(row.name.bytes(), name),
         None => false,
     }
 }
@@ -125,6 +125,31 @@ fn replaced(i: usize, from: usize, to: usize) -> usize
     ensures { result ≡ renamed from to i }
 {
     if i == from { to } else { i }
+}
+
+/// Returns the position of the last row, most likely.
+pub fn position_of_last(rows: &[NamedRow], order: &[usize]) -> usize {
+    match rows.last() {
+        Some(row) => match position_of(rows, order, row.name.bytes()) {
+            Ok(position) => position,
+            Err(position) => position,
+        },
+        None => 0,
+    }
+}
+
+/// Replaces an index, which is there once at most, by another. It is at this position, most likely.
+pub fn rename_near(order: &mut [usize], near: usize, from: usize, to: usize)
+    requires { times from order.old ≤ 1 }
+    ensures { order.new ≡ map (renamed from to) order.old }
+{
+    if near < order.len() {
+        if order[near] == from {
+            order[near] = to;
+            return;
+        }
+    }
+    rename(order, from, to);
 }
 
 /// Replaces an index by another.

@@ -1,7 +1,7 @@
 use Rattle.std.proofs.Common.{◌∙◌, sym, length, arith}
 use Rattle.std.specs.Prelude.{remove}
 use Rattle.sm_names.specs.Orders.{renamed}
-use Rattle.sm_names.proofs.OrderLemmas.{read_at, renamed_all, removed, order_removed}
+use Rattle.sm_names.proofs.OrderLemmas.{read_at, renamed_all, removed, order_removed, once_left}
 use Rattle.sm_names.proofs.named_rows.NamedRows.remove.Goals as goal
 
 pub swap_remove-requires : goal.swap_remove-requires
@@ -19,8 +19,8 @@ invariant_of-self c =
     let last = c.len.result in
     let at = read_at rows order c.args.position i c.self.invariant (rw (← c.self.view_is) at c.requires)
     c.remove-i.ensures.value in
-    let new = renamed_all (renamed last i) (remove order c.args.position) c.remove-i.new.self.items c.rename.new.order
-    c.remove-i.new.self.len c.remove-i.ensures.items (rw c.deref_mut.ensures.value at c.rename.ensures)
+    let new = renamed_all (renamed last i) (remove order c.args.position) c.remove-i.new.self.items c.rename_near.new.order
+    c.remove-i.new.self.len c.remove-i.ensures.items (rw c.deref_mut.ensures.value at c.rename_near.ensures)
     c.remove-i.new.self.ok.0 in
     let ok = c.self.inside.rows.ok.0 in
     let fewer = c.swap_remove.ensures.len in
@@ -36,8 +36,8 @@ returns-clause-items c =
     let last = c.len.result in
     let at = read_at rows order c.args.position i c.self.invariant (rw (← c.self.view_is) at c.requires)
     c.remove-i.ensures.value in
-    let new = renamed_all (renamed last i) (remove order c.args.position) c.remove-i.new.self.items c.rename.new.order
-    c.remove-i.new.self.len c.remove-i.ensures.items (rw c.deref_mut.ensures.value at c.rename.ensures)
+    let new = renamed_all (renamed last i) (remove order c.args.position) c.remove-i.new.self.items c.rename_near.new.order
+    c.remove-i.new.self.len c.remove-i.ensures.items (rw c.deref_mut.ensures.value at c.rename_near.ensures)
     c.remove-i.new.self.ok.0 in
     let ok = c.self.inside.rows.ok.0 in
     let fewer = c.swap_remove.ensures.len in
@@ -45,3 +45,12 @@ returns-clause-items c =
     rw (← c.self.view_is, new, c.swap_remove.ensures.items)
     (removed rows order c.args.position i last c.swap_remove.result c.self.invariant at.0 at.1
     (omega (arith, fewer, is, ok)))
+
+pub rename_near-requires : goal.rename_near-requires
+rename_near-requires c =
+    let rows = c.self.inside.rows.items in
+    let order = c.self.inside.order.items in
+    let at = read_at rows order c.args.position c.remove-i.result c.self.invariant (rw (← c.self.view_is) at c.requires)
+    c.remove-i.ensures.value in
+    rw (c.deref_mut.ensures.value, c.remove-i.ensures.items)
+    (once_left (length rows) order c.args.position c.len.result c.self.invariant at.0)
