@@ -9,4 +9,4 @@ pub mod NumberLemmas
 pub mod SpellingLemmasContexts
 pub mod SpellingLemmasFields
 pub mod SpellingLemmasLines
-pub mod TestedNames
+pub mod ValidNames

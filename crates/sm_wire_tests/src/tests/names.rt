@@ -25,13 +25,13 @@ fn line_of(alloc: Global, list: NameList) -> Result<Vec<u8>, AllocError> {
     Ok(line)
 }
 
-/// Names, whether all their bytes may be in service names, and the line of a reply with them.
+/// Names, whether all are valid names of services, and the line of a reply with them.
 const LISTS: &[(&[&[u8]], bool, &[u8])] = &[
     (&[], true, b"names 1 2 0\n"),
     (&[b"-/.09", b"AZ_az"], true, b"names 1 2 2 -/.09 AZ_az\n"),
     (&[b"a", b"b", b"c d"], false, b"names 1 2 3 a b %632064\n"),
     (&[b"a\x00", b"b"], false, b"names 1 2 2 %6100 b\n"),
-    (&[b"", b"a"], true, b"names 1 2 2 % a\n"),
+    (&[b"", b"a"], false, b"names 1 2 2 % a\n"),
 ];
 
 #[test]
@@ -39,9 +39,9 @@ fn only_invalid_names_are_written_as_digits(rt: HostRuntime) {
     let alloc = rt.alloc();
     for (names, valid, wanted) in LISTS {
         let list = list_of(alloc, *names).ok().expect(&rt, "memory");
-        let only = list.has_name_bytes_only();
+        let is_plain = list.plain_text().is_some();
         let line = line_of(alloc, list).ok().expect(&rt, "memory");
-        assert_eq!(rt; (only, line.as_slice()), (*valid, *wanted));
+        assert_eq!(rt; (is_plain, line.as_slice()), (*valid, *wanted));
     }
 }
 
@@ -52,8 +52,8 @@ fn a_name_that_is_too_long_is_written_as_digits(rt: HostRuntime) {
     // `names 1 2 1 `, the name or `%` and its digits, and the newline.
     for (len, wanted) in [(127, 12 + 127 + 1), (128, 12 + 257 + 1)] {
         let list = list_of(alloc, &[&long[..len]]).ok().expect(&rt, "memory");
-        let only = list.has_name_bytes_only();
+        let is_plain = list.plain_text().is_some();
         let line = line_of(alloc, list).ok().expect(&rt, "memory");
-        assert_eq!(rt; (len, only, line.len()), (len, true, wanted));
+        assert_eq!(rt; (len, is_plain, line.len()), (len, len <= 127, wanted));
     }
 }

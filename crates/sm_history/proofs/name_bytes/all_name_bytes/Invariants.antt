@@ -1,7 +1,0 @@
-use Rattle.std.proofs.Common.{◌≡◌, take}
-use Rattle.std.specs.List.{list_all}
-use Rattle.sm_kinds.specs.Names.{is_name_byte}
-use Rattle.sm_history.proofs.name_bytes.all_name_bytes.Given as goal
-
-abbrev pub invariant-loop-b : goal.invariant-loop-b
-invariant-loop-b l = l.all ≡ list_all is_name_byte (take l.b-index l.bytes)
