@@ -25,7 +25,7 @@ use Rattle.sm_wire.specs.declared.request.Request.TheVariants.{Change, Look, Den
 use Rattle.sm_wire.specs.declared.request.Request.TheVariants as requests
 use Rattle.sm_wire.specs.declared.item.Item.{Item}
 use Rattle.sm_wire.specs.declared.item.Item.TheVariants as items
-use Rattle.sm_wire.specs.declared.kind.Kind.TheVariants.{Admin as Admins}
+use Rattle.sm_wire.specs.declared.kind.Kind.TheVariants.{Admin as Admins, Client as Clients}
 use Rattle.sm_engine.specs.declared.fault.Fault.{Fault}
 use Rattle.sm_session.specs.Sessions.{Attends}
 use Rattle.sm_session.specs.declared.response.Response.{Response}
@@ -37,10 +37,10 @@ use Rattle.sm_connection.specs.Connections.{AdminReplies, AdminSeals, AdminTold}
 use Rattle.sm_connection.specs.Connections.{ClientReplies, GivesChange, GivesHello, GivesDeath}
 use Rattle.sm_connection.specs.Connections.{GivesLine, GivesLook, Greets, OfSession, DiesAtDoor, Reads, SaysOnly}
 use Rattle.sm_connection.specs.Connections.{SaysUnrecorded}
-use Rattle.sm_connection.specs.Connections.{SeatOr, GoesOn, StillHolds}
+use Rattle.sm_connection.specs.Connections.{ClientGives, ComesAfter, SeatOr, GoesOn, StillHolds}
 use Rattle.sm_session.specs.Desks.{DeskAnswers, DeskDeath, command_of}
 use Rattle.sm_connection.specs.Held.{Holding, Puts}
-use Rattle.sm_connection.specs.Growing.{AdminsSeeMore, ClientsSeeMore, ComesAfter}
+use Rattle.sm_connection.specs.Growing.{AdminsSeeMore, ClientsSeeMore}
 use Rattle.sm_connection.proofs.Lasting.{attends_keeps}
 use Rattle.sm_connection.proofs.Reading.{queried as entered}
 
@@ -76,16 +76,10 @@ greets old new who _ p = absurd p
 
 -- What is held now is a later token.
 held : (old token : Knows) (new : Option Knows) → GoesOn old token → new ≡ Some token → ComesAfter (Some old) new
-held old token new p e =
-    let P : Option Knows → Type 0 = λ x. ComesAfter (Some old) x in subst P (sym e) p
-
-nothing : (old : Option Knows) (new : Option Knows) → new ≡ None → ComesAfter old new
-nothing None new e = tt
-nothing (Some old) new e =
-    let P : Option Knows → Type 0 = λ x. ComesAfter (Some old) x in subst P (sym e) tt
+held old token new p e = (token, p, e)
 
 unchanged : (old new : Option Knows) → new ≡ old → ComesAfter old new
-unchanged None new e = tt
+unchanged None new e = e
 unchanged (Some old) new e = held old old new (stays old) e
 
 seat_or : (by : By) {P Q R : Type 0} → (P → R) → (Q → R) → SeatOr by P Q → R
@@ -94,19 +88,20 @@ seat_or (Client c) p q x = q x
 seat_or (Admin a) p q x = p x
 
 hello : (old new : Option Knows) (who : Identity) (reply : Reply) → GivesHello old who reply new → ComesAfter old new
-hello None new who reply p = tt
+hello None new who reply p = p.1
 hello (Some old) new who reply p = seat_or old.by
     (λ x. held old x.0 new (greets old x.0 who reply x.1) x.2) (λ x. unchanged (Some old) new x.1) p
 
 of_session : (Answers : Knows → Type 0) (Without : Type 0) (old new : Option Knows)
     → ((session : Knows) → Answers session → ComesAfter (Some session) new) → (Without → ComesAfter old new)
     → OfSession Answers Without old → ComesAfter old new
-of_session Answers Without None new f g p = tt
+of_session Answers Without None new f g p = g p
 of_session Answers Without (Some old) new f g p = seat_or old.by g (λ x. f old x) p
 
 dies_at_door : (session : Knows) (new : Option Knows) (reply : Reply) → DiesAtDoor session reply new
     → ComesAfter (Some session) new
-dies_at_door session new (Done outcome) p = nothing (Some session) new p.1
+dies_at_door session new (Done outcome) p = held session p.1.0 new
+    (record { begins = p.1.1.grows.begins; lawful = λ q. p.1.1.grows.lawful }) p.1.3
 dies_at_door session new (Refused refusal) p =
     held session p.1.0 new (submitted session p.1.0 Die (Refused refusal) p.1.1) p.1.2
 dies_at_door session new _ p = absurd p
@@ -158,12 +153,12 @@ through a b c p q = record {
 
 behind : (old token : Knows) (new : Option Knows) → GoesOn old token → ComesAfter (Some token) new
     → ComesAfter (Some old) new
-behind old token None p q = tt
-behind old token (Some new) p q = through old token new p q
+behind old token new p q = (q.0, through old token q.0 p q.1, q.2)
 
 dies_after_tries : (old tried new : Option Knows) (reply : Reply) → StillHolds old tried → GivesDeath tried reply new
     → ComesAfter old new
-dies_after_tries None tried new reply s p = tt
+dies_after_tries None tried new reply s p =
+    let P : Option Knows → Type 0 = λ x. ComesAfter x new in subst P s (dies tried new reply p)
 dies_after_tries (Some old) tried new reply s p =
     let P : Option Knows → Type 0 = λ x. ComesAfter x new in
     behind old s.0 new s.1 (subst P s.2 (dies tried new reply p))
@@ -222,6 +217,38 @@ pub clients_see_more : ClientsSeeMore
 clients_see_more old new command (Replied reply) log p = replies old new command reply log p
 clients_see_more old new command (PolicyRefused fault) log p = absurd p
 clients_see_more old new command (Denied records) log p = absurd p
+
+-- What a client's connection holds goes on.
+abbrev HoldsLater : Holding (Option Knows) → Holding (Option Knows) → Type 0
+HoldsLater old new = ComesAfter old.held new.held
+
+later_through : (a b c : Option Knows) → ComesAfter a b → ComesAfter b c → ComesAfter a c
+later_through None b c p q = let P : Option Knows → Type 0 = λ x. ComesAfter x c in subst P p q
+later_through (Some a) b c p q =
+    let P : Option Knows → Type 0 = λ x. ComesAfter x c in behind a p.0 c p.1 (subst P p.2 q)
+
+client_answers : (old : Holding (Option Knows)) (item : Item) (response : Response) (new : Holding (Option Knows))
+    → DeskAnswers (Puts ClientGives) old item response new → HoldsLater old new
+client_answers old (items.Asked request) response new p =
+    clients_see_more old.held new.held (command_of request) response p.0 p.1
+client_answers old (items.Policy texts) response new (inl p) =
+    unchanged old.held new.held (ap (λ (h : Holding (Option Knows)). h.held) p.3)
+client_answers old (items.Policy texts) response new (inr p) =
+    clients_see_more old.held new.held (Install texts.expected p.0) response p.2.0 p.2.1
+client_answers old items.Malformed response new p = absurd p
+client_answers old items.LineTooLong response new p = absurd p
+
+-- A whole session of a client.
+pub client_session : (result : Result (Unit {0}) Fault) (bound reads : ℕ) (old : Holding (Option Knows))
+    (r r_new w w_new : Option (List ℕ)) (new : Holding (Option Knows))
+    → Attends Clients (DeskAnswers (Puts ClientGives)) (DeskDeath (Puts ClientGives)) result bound reads old r r_new
+    w w_new new
+    → HoldsLater old new
+client_session result bound reads old r r_new w w_new new p =
+    attends_keeps (DeskAnswers (Puts ClientGives)) (DeskDeath (Puts ClientGives)) HoldsLater
+    (λ h. unchanged h.held h.held refl) (λ a b c. later_through a.held b.held c.held) client_answers
+    (λ s t x. clients_see_more s.held t.held Death x.0 x.1.0 x.1.1) Clients result bound reads old r r_new w w_new
+    new p
 
 -- ---- administrators
 

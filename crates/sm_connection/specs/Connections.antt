@@ -17,7 +17,7 @@ use Rattle.sm_history.specs.BookOrder.{Begins, IsLawfulBook}
 use Rattle.sm_history.specs.PossibleReplies.{OfConnect, OfDeath}
 use Rattle.sm_history.specs.Promises.{Accepted, Closed, Joined, NotClosed, NotTold, Queried, Submitted, TellsRecords}
 use Rattle.sm_history.specs.Promises.{Turned}
-use Rattle.sm_history.specs.Tokens.{Knows}
+use Rattle.sm_history.specs.Tokens.{Knows, token}
 use Rattle.sm_history.specs.Verdict.{is_die}
 use Rattle.sm_door.specs.Logged.{Logged, ReadLogged}
 use Rattle.sm_wire.specs.declared.request.Request.{Request}
@@ -34,8 +34,8 @@ SaysOnly refusal old reply new = (reply ≡ Refused refusal) × (new ≡ old)
 
 -- ---- clients
 
--- A client's connection holds nothing, a free seat, which is a token of the manager's, or its client's session. This
--- chooses by the token's actor.
+-- A client's connection holds a free seat, which is a token of the manager's, or its client's session; or nothing, if
+-- it was given no seat. This chooses by the token's actor.
 abbrev pub SeatOr : By → Type 0 → Type 0 → Type 0
 SeatOr Manager seat session = seat
 SeatOr (Client c) seat session = session
@@ -52,18 +52,18 @@ Greets seat who (GotOwn o) new = ⊥
 Greets seat who (Looked v l a) new = ⊥
 Greets seat who (Sealed n l) new = ⊥
 
--- A process says `hello`. A connection without a token takes a free seat, if there is one.
+-- A process says `hello`. A connection that was given no seat has no place for it.
 abbrev pub GivesHello : Option Knows → Identity → Reply → Option Knows → Type 0
-GivesHello None who reply new =
-    SaysOnly TooManyClients None reply new
-    ⊎ ((seat : Knows) × (token : Knows) × Greets seat who reply token × (new ≡ Some token))
+GivesHello None who reply new = SaysOnly TooManyClients None reply new
 GivesHello (Some seat) who reply new = SeatOr seat.by
     ((token : Knows) × Greets seat who reply token × (new ≡ Some token))
     (SaysOnly (Failed NotYours) (Some seat) reply new)
 
--- The client died, and the connection holds nothing more; or its death was refused, and it still holds the client.
+-- The client died, and the connection holds its free seat, which has seen the death; or its death was refused, and it
+-- still holds the client.
 abbrev pub DiesAtDoor : Knows → Reply → Option Knows → Type 0
-DiesAtDoor old (Done outcome) new = (outcome ≡ Died) × (new ≡ None) × ((seat : Knows) × Accepted old seat Die Died)
+DiesAtDoor old (Done outcome) new = (outcome ≡ Died) × ((seat : Knows)
+    × Accepted old (token old.by seat.seen seat.reads) Die Died × (seat.by ≡ Manager) × (new ≡ Some seat))
 DiesAtDoor old (Refused refusal) new = OfDeath refusal
     × ((token : Knows) × Submitted old token Die (Refused refusal) × (new ≡ Some token))
 DiesAtDoor old GotNull new = ⊥
@@ -130,6 +130,11 @@ GivesLine old Seal reply log new = SaysUnrecorded (Failed NotYours) old reply lo
 pub record GoesOn (old new : Knows) : Type 0 where
   pub begins : Begins new.seen old.seen
   pub lawful : IsLawfulBook old.seen → IsLawfulBook new.seen
+
+-- What is held is a token that the history goes on to; or nothing, if nothing was held before.
+abbrev pub ComesAfter : Option Knows → Option Knows → Type 0
+ComesAfter None new = new ≡ None
+ComesAfter (Some old) new = (token : Knows) × GoesOn old token × (new ≡ Some token)
 
 -- What is held is the same, or a token of the same actor that has seen no less.
 abbrev pub StillHolds : Option Knows → Option Knows → Type 0

@@ -1,16 +1,10 @@
 -- A connection sees one lawful history that grows.
-use Rattle.std.specs.Prelude.{List, Option, Some, None}
+use Rattle.std.specs.Prelude.{List, Option}
 use Rattle.sm_history.specs.declared.records.Record.{Record}
 use Rattle.sm_history.specs.Tokens.{Knows}
 use Rattle.sm_session.specs.declared.response.Response.{Response}
 use Rattle.sm_session.specs.declared.command.Command.{Command}
-use Rattle.sm_connection.specs.Connections.{AdminGives, ClientGives, GoesOn}
-
--- If a token is held before and after, the history goes on from the one to the other.
-abbrev pub ComesAfter : Option Knows → Option Knows → Type 0
-ComesAfter None new = Unit {0}
-ComesAfter (Some old) None = Unit {0}
-ComesAfter (Some old) (Some new) = GoesOn old new
+use Rattle.sm_connection.specs.Connections.{AdminGives, ClientGives, ComesAfter, GoesOn}
 
 -- Each answer of a client's connection comes from a history that begins with what the connection had seen.
 abbrev pub ClientsSeeMore : Type 0

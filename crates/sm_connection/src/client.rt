@@ -9,7 +9,6 @@ ghost use Rattle.sm_connection.specs.Connections.{GivesDeathAfterTries, Greets, 
 
 use crate::answered::Answered;
 use crate::connection::Connection;
-use crate::free_seats::FreeSeats;
 use crate::refusals::{not_connected, not_yours};
 use sm_door::{Door, Naming, Seat, SeatOrSession, Session};
 use sm_history::{Event, Gate, Outcome, Query, Refusal, Reply, is_death};
@@ -23,41 +22,30 @@ use std::sync::Wait;
 /// refuses it, which may pass.
 const TRIES: u32 = 15;
 
-/// A client's connection at the door. It takes a seat for its first `hello`, and gives it back when its client dies.
+/// A client's connection at the door.
 pub struct Client<'a, J: Naming, G: Gate, R> {
     rt: &'a R,
     alloc: Global,
     door: &'a Door<J, G>,
-    seats: &'a FreeSeats<J>,
 }
 
 impl<'a, J: Naming, G: Gate, R> Drop for Client<'a, J, G, R> {
     fn drop(self) {
-        drop_fields!(self: rt, alloc, door, seats);
+        drop_fields!(self: rt, alloc, door);
     }
 }
 
 impl<'a, J: Naming, G: Gate + Drop, R: Wait> Client<'a, J, G, R> {
-    /// Makes a connection with these seats.
-    pub fn new(
-        rt: &'a R,
-        alloc: Global,
-        door: &'a Door<J, G>,
-        seats: &'a FreeSeats<J>,
-    ) -> Client<'a, J, G, R> {
-        Client {
-            rt,
-            alloc,
-            door,
-            seats,
-        }
+    /// Makes a connection at this door.
+    pub fn new(rt: &'a R, alloc: Global, door: &'a Door<J, G>) -> Client<'a, J, G, R> {
+        Client { rt, alloc, door }
     }
 
     fn hello(&self, held: &mut Option<SeatOrSession<J>>, who: Identity) -> Reply
         ensures { GivesHello held.old who result held.new }
     {
         let Some(token) = held.take() else {
-            return self.hello_outside(held, who);
+            return Reply::Refused(Refusal::TooManyClients);
         };
         match token.into_session() {
             Ok(session) => {
@@ -65,16 +53,6 @@ impl<'a, J: Naming, G: Gate + Drop, R: Wait> Client<'a, J, G, R> {
                 not_yours()
             }
             Err(seat) => self.connect(held, seat, who),
-        }
-    }
-
-    fn hello_outside(&self, held: &mut Option<SeatOrSession<J>>, who: Identity) -> Reply
-        requires { held.old ≡ None }
-        ensures { GivesHello held.old who result held.new }
-    {
-        match self.seats.take(self.rt) {
-            Some(seat) => self.connect(held, seat, who),
-            None => Reply::Refused(Refusal::TooManyClients),
         }
     }
 
@@ -149,12 +127,11 @@ impl<'a, J: Naming, G: Gate + Drop, R: Wait> Client<'a, J, G, R> {
     }
 
     fn die_at_door(&self, held: &mut Option<SeatOrSession<J>>, session: Session<J>) -> Reply
-        requires { held.old ≡ None }
         ensures { DiesAtDoor session result held.new }
     {
         match self.door.die(self.rt, session) {
             Ok(seat) => {
-                self.seats.give_back(self.rt, seat);
+                *held = Some(SeatOrSession::of_seat(seat));
                 Reply::Done(Outcome::Died)
             }
             Err((refusal, session)) => {

@@ -8,7 +8,6 @@ mod audit_sink;
 mod client;
 mod connection;
 mod door_desk;
-mod free_seats;
 pub mod laws;
 mod monitor;
 mod owned;
@@ -20,7 +19,6 @@ mod supervisor;
 
 pub use audit_sink::{AuditSink, SupervisorSink};
 pub use door_desk::Occasion;
-pub use free_seats::FreeSeats;
 pub use monitor::{Gauge, Monitor};
 pub use owned::ENTRY;
 pub use seal_at::SealAt;

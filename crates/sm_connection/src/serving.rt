@@ -1,11 +1,11 @@
 //! A connection's session over any reader and writer.
 
-ghost use Rattle.std.specs.Prelude.{◌<◌, ◌-◌, None};
+ghost use Rattle.std.specs.Prelude.{◌≡◌, ◌<◌, ◌-◌};
 ghost use Rattle.sm_engine.specs.Counts.{failures_of, calls_of, inner_of, greatest_count};
 ghost use Rattle.sm_wire.specs.declared.kind.Kind.TheVariants.{Client as AsClient, Admin as AsAdmin};
 ghost use Rattle.sm_session.specs.Desks.{DeskAnswers, DeskDeath};
 ghost use Rattle.sm_session.specs.Sessions.{Attends, Counts};
-ghost use Rattle.sm_connection.specs.Connections.{ClientGives, AdminGives, GoesOn};
+ghost use Rattle.sm_connection.specs.Connections.{ClientGives, AdminGives, ComesAfter, GoesOn};
 ghost use Rattle.sm_connection.specs.Held.{Puts, holding};
 
 use crate::administrator::Administrator;
@@ -13,10 +13,9 @@ use crate::audit_sink::AuditSink;
 use crate::client::Client;
 use crate::connection::Connection;
 use crate::door_desk::{DoorDesk, Occasion};
-use crate::free_seats::FreeSeats;
 use crate::monitor::Monitor;
 use crate::supervisor::Supervisor;
-use sm_door::{Admin, Door, Naming, SeatOrSession};
+use sm_door::{Admin, Door, Naming, Seat, SeatOrSession};
 use sm_engine::{Counted, Fault};
 use sm_history::Gate;
 use sm_session::session;
@@ -25,10 +24,10 @@ use std::alloc::Global;
 use std::io::{Read, Write};
 use std::sync::Wait;
 
-/// Serves a client's connection over any reader and writer. Each allowed line is answered once, in order, from the
-/// history behind the door. That ends with the lines, with a `bye` that is answered by `bye`, with a fault, or after
-/// `bound` reads. The sink is given the audit records of each answer once, in order. Returns what the connection still holds
-/// (nothing, a seat, or the session of a client that couldn't die) and the sink.
+/// Serves a client's connection over any reader and writer, at this seat, or without one if there is none. Each allowed
+/// line is answered once, in order, from the history behind the door. That ends with the lines, with a `bye` that is
+/// answered by `bye`, with a fault, or after `bound` reads. The sink is given the audit records of each answer once, in
+/// order. Returns the seat, or the session of a client that couldn't die, and the sink.
 pub fn serve_client<
     J: Naming,
     G: Gate + Drop,
@@ -42,7 +41,7 @@ pub fn serve_client<
     rt: &R,
     alloc: Global,
     door: &Door<J, G>,
-    seats: &FreeSeats<J>,
+    seat: Option<Seat<J>>,
     tend: B,
     monitor: &Monitor<H>,
     sink: L,
@@ -54,18 +53,20 @@ pub fn serve_client<
     requires reader { failures_of reader.old < greatest_count }
     requires writer { failures_of writer.old < greatest_count }
     ensures attends { Attends AsClient (DeskAnswers (Puts ClientGives)) (DeskDeath (Puts ClientGives)) result.2 bound
-        (calls_of reader.new - calls_of reader.old) (holding None (L.given sink))
+        (calls_of reader.new - calls_of reader.old) (holding seat (L.given sink))
         (I.remaining (inner_of reader.old)) (I.remaining (inner_of reader.new))
         (O.contents (inner_of writer.old)) (O.contents (inner_of writer.new))
         (holding result.0 (L.given result.1)) }
+    ensures goes_on { ComesAfter seat result.0 }
     ensures counts { Counts result.2 bound reader.old reader.new writer.old writer.new }
 {
-    let client = Client::new(rt, alloc, door, seats);
+    let client = Client::new(rt, alloc, door);
+    let held = slot_of(seat);
     attend(
         alloc,
         Kind::Client,
         &client,
-        None,
+        held,
         tend,
         monitor,
         sink,
@@ -124,6 +125,16 @@ pub fn serve_administrator<
         bound,
     )
 }
+// The slot of a seat, if there is one.
+fn slot_of<J: Naming>(seat: Option<Seat<J>>) -> Option<SeatOrSession<J>>
+    ensures { result ≡ seat }
+{
+    match seat {
+        Some(seat) => Some(SeatOrSession::of_seat(seat)),
+        None => None,
+    }
+}
+
 // Serves a connection that holds this, and returns what it holds then, and the sink.
 fn attend<
     C: Connection<S>,

@@ -3,7 +3,7 @@
 ghost use Rattle.std.specs.Prelude.{◌≡◌, [], nat_eq, MatchOption};
 ghost use Rattle.left_right.specs.Sides.{view as place_view};
 ghost use Rattle.sm_history.specs.Histories.{turn_of};
-ghost use Rattle.sm_history.specs.BookOrder.{IsLawfulBook};
+ghost use Rattle.sm_history.specs.BookOrder.{Begins, IsLawfulBook};
 ghost use Rattle.sm_history.specs.Promises.{Queried};
 ghost use Rattle.sm_history.specs.Tokens.{Sees as SeesNow, keeps_turn, token, turn};
 ghost use Rattle.sm_door.specs.Logged.{ReadFrom, ReadLogged};
@@ -38,7 +38,7 @@ impl<J: Naming> Model for Actor<J> {
     ghost use Rattle.std.specs.Prelude.{◌≡◌, MatchOption};
     ghost use Rattle.left_right.specs.Sides.{view as place_view};
     ghost use Rattle.sm_history.specs.Histories.{turn_of};
-    ghost use Rattle.sm_history.specs.BookOrder.{IsLawfulBook};
+    ghost use Rattle.sm_history.specs.BookOrder.{Begins, IsLawfulBook};
     ghost use Rattle.sm_history.specs.Tokens.{Knows, token, at_or};
     ghost use Rattle.sm_door.specs.Rule.{known};
 
@@ -48,7 +48,8 @@ impl<J: Naming> Model for Actor<J> {
         (at_or (known J.opening 0) (λ r. place_view r.place) s.reader).reads };
 
     ghost invariant = { λ s. MatchOption s.reader ⊥
-        (λ r. (s.turn ≡ turn_of (place_view r.place).seen.history s.by) × IsLawfulBook (place_view r.place).seen) };
+        (λ r. (s.turn ≡ turn_of (place_view r.place).seen.history s.by) × IsLawfulBook (place_view r.place).seen
+        × Begins (place_view r.place).seen J.opening) };
 }
 
 impl<J: Naming> Actor<J> {
@@ -75,10 +76,11 @@ impl<J: Naming> Actor<J> {
     }
 
     /// Returns the number of its own changes that it has seen, which is its next turn. The history that it has seen is
-    /// lawful.
+    /// lawful, and begins with that of the door's opening.
     pub fn due(&self) -> u64
         ensures turn { result ≡ turn self.now }
         ensures lawful { IsLawfulBook self.now.seen }
+        ensures begins { Begins self.now.seen J.opening }
     {
         match &self.reader {
             Some(_) => self.turn,

@@ -2,6 +2,7 @@
 
 ghost use Rattle.std.specs.Prelude.{◌≡◌};
 ghost use Rattle.sm_history.specs.declared.by.By.TheVariants.{Admin as TheAdmin};
+ghost use Rattle.sm_history.specs.BookOrder.{Begins, IsLawfulBook};
 
 use crate::actor::Actor;
 use crate::registry::Naming;
@@ -40,5 +41,13 @@ impl<J: Naming> Admin<J> {
         ensures { result ≡ actor }
     {
         Admin { number, actor }
+    }
+
+    /// The history that it has seen is lawful, and begins with that of its door's opening.
+    pub fn knows_opening(&self)
+        ensures lawful { IsLawfulBook self.now.seen }
+        ensures begins { Begins self.now.seen J.opening }
+    {
+        let _ = self.actor.due();
     }
 }

@@ -1,6 +1,6 @@
 //! The door: a manager behind a lock.
 
-ghost use Rattle.std.specs.Prelude.{◌≡◌, ◌⊎◌, ◌&&◌, true, false, [], IfOk, IfErr, MatchResult};
+ghost use Rattle.std.specs.Prelude.{◌≡◌, ◌≤◌, ◌⊎◌, ◌&&◌, true, false, [], IfOk, IfErr, MatchResult};
 ghost use Rattle.sm_kinds.specs.Contexts.{type_of};
 ghost use Rattle.sm_kinds.specs.declared.class.Class.TheVariants.{Binder};
 ghost use Rattle.sm_policy.specs.Policy.{allowed};
@@ -38,7 +38,8 @@ use crossbeam_utils::Backoff;
 use left_right::Absorb;
 use sm_core::{Manager, View};
 use sm_history::{
-    Event, Failure, Gate, Query, Record, Refusal, Reply, Segment, died, installed, is_death,
+    Event, Failure, Gate, MOST_CLIENTS, Query, Record, Refusal, Reply, Segment, died, installed,
+    is_death,
 };
 use sm_kinds::{Class, Identity, Name, Perms, Places};
 use sm_policy::Prepared;
@@ -85,6 +86,35 @@ impl<J: Naming, G: Gate + Drop> Door<J, G> {
             ⊎ ((allowed policy (type_of who.context) (type_of who.context) Binder managing ≡ false)
             × (r ≡ opening_denial who)))) }
     {
+        Door::<J, G>::open_for(rt, alloc, unnamed, who, policy, places, gate, MOST_CLIENTS)
+    }
+
+    /// Opens a manager as `open` does, with free seats for this many clients, at most 64. Each change visits the reader
+    /// slot of each seat, so fewer seats make changes faster.
+    ///
+    /// # Errors
+    ///
+    /// Those of `open`.
+    pub fn open_for<R: Wait>(
+        rt: &R,
+        alloc: Global,
+        unnamed: UnnamedRegistry,
+        who: Identity,
+        policy: Prepared,
+        places: Places,
+        gate: G,
+        clients: usize,
+    ) -> Result<(Door<J, G>, Vec<Seat<J>>, Vec<Admin<J>>), Refusal>
+        requires registry { unnamed.seen.book ≡ J.registry }
+        requires few { clients ≤ MOST_CLIENTS }
+        requires opening { J.opening ≡ opened places who policy }
+        ensures opened { IfOk result (λ r. MayOpen who policy
+            × (r.1.items ≡ new_seats (opened places who policy) clients)
+            × (r.2.items ≡ new_admins (opened places who policy) ADMINS)) }
+        ensures refused { IfErr result (λ r. (r ≡ Memory) ⊎ ((MayOpen who policy × (r ≡ WantsPlace))
+            ⊎ ((allowed policy (type_of who.context) (type_of who.context) Binder managing ≡ false)
+            × (r ≡ opening_denial who)))) }
+    {
         let manager = Manager::open(alloc, who, policy, places)?;
         let mut registry = unnamed.named::<J>();
         let Ok(view) = manager.view() else {
@@ -93,10 +123,10 @@ impl<J: Naming, G: Gate + Drop> Door<J, G> {
         let Ok(shared_view) = SharedView::new(rt, alloc, &mut registry, view) else {
             return Err(Refusal::Memory);
         };
-        let Ok(writer) = writer_of(alloc, shared_view) else {
+        let Ok(writer) = writer_of(alloc, shared_view, clients) else {
             return Err(Refusal::Memory);
         };
-        match tokens_of(alloc, &manager, &writer) {
+        match tokens_of(alloc, &manager, &writer, clients) {
             Ok((seats, admins)) => {
                 let publisher = Publisher::new(alloc, registry, writer);
                 let locked = Mutex::new(LockedManager::new(alloc, manager, publisher));
@@ -278,6 +308,22 @@ impl<J: Naming, G: Gate + Drop> Door<J, G> {
         ensures turns { result ≡ (keeps_turn one.old one.new && keeps_turn other.old other.new) }
     {
         self.bring(rt, &mut one.actor, &mut other.actor)
+    }
+
+    /// Shows an administrator and a free seat the whole history, as in `meet`.
+    pub fn meet_seat<R: Wait>(&self, rt: &R, one: &mut Admin<J>, other: &mut Seat<J>)
+        ensures one { Sees one.old one.new.seen one.new }
+        ensures other { Sees other.old one.new.seen other.new }
+    {
+        self.bring(rt, &mut one.actor, &mut other.actor);
+    }
+
+    /// Shows two administrators the whole history, as in `meet`.
+    pub fn meet_admins<R: Wait>(&self, rt: &R, one: &mut Admin<J>, other: &mut Admin<J>)
+        ensures one { Sees one.old one.new.seen one.new }
+        ensures other { Sees other.old one.new.seen other.new }
+    {
+        self.bring(rt, &mut one.actor, &mut other.actor);
     }
 
     fn bring<R: Wait>(&self, rt: &R, one: &mut Actor<J>, other: &mut Actor<J>) -> bool

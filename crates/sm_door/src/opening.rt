@@ -1,6 +1,6 @@
 //! The tokens of a new door.
 
-ghost use Rattle.std.specs.Prelude.{◌≡◌, ◌⊎◌, ◌++◌, ◌∷◌, [], IfOk, IfErr};
+ghost use Rattle.std.specs.Prelude.{◌≡◌, ◌≤◌, ◌⊎◌, ◌++◌, ◌∷◌, [], IfOk, IfErr};
 ghost use Rattle.sm_history.specs.declared.refusal.Refusal.TheVariants.{Memory, NoSeat as WantsPlace};
 ghost use Rattle.std.specs.Arc.{arc_value};
 ghost use Rattle.sm_history.specs.declared.limits.TheConstants.{MOST_CLIENTS};
@@ -16,7 +16,7 @@ use crate::registry::Naming;
 use crate::seat::Seat;
 use crate::shared_view::SharedView;
 use sm_core::Manager;
-use sm_history::{By, MOST_CLIENTS, Refusal};
+use sm_history::{By, Refusal};
 use sm_kinds::AdminId;
 use std::alloc::{AllocError, Global};
 use std::sync::Arc;
@@ -24,40 +24,41 @@ use std::sync::Arc;
 /// The number of administrators' tokens.
 pub const ADMINS: u32 = 4;
 
-/// The number of reader slots: one for each client and administrator.
-const PLACES: usize = 68;
-
-/// Makes the writer of a door whose first shared view this is. Returns an error if an allocation fails.
+/// Makes the writer of a door whose first shared view this is, with a reader slot for each of this many clients and for
+/// each administrator. Returns an error if an allocation fails.
 pub(crate) fn writer_of<J: Naming>(
     alloc: Global,
     shared_view: Arc<SharedView<J>>,
+    clients: usize,
 ) -> Result<ViewWriter<J>, AllocError>
-    requires { arc_value shared_view ≡ J.opening }
+    requires seen { arc_value shared_view ≡ J.opening }
+    requires few { clients ≤ MOST_CLIENTS }
     ensures { IfOk result (λ w. arc_value w.desk.shown.value.shared_view ≡ J.opening) }
 {
     let first = Published {
         shared_view: Arc::try_clone(&shared_view)?,
     };
     let second = Published { shared_view };
-    ViewWriter::new(alloc, first, second, PLACES)
+    ViewWriter::new(alloc, first, second, clients + ADMINS as usize)
         .ok()
         .ok_or(AllocError)
 }
 
-/// Makes a seat for each client and a token for each administrator, which have seen the opening. `NoSeat` if a slot was
+/// Makes this many seats and a token for each administrator, which have seen the opening. `NoSeat` if a slot was
 /// refused.
 pub(crate) fn tokens_of<J: Naming>(
     alloc: Global,
     manager: &Manager,
     writer: &ViewWriter<J>,
+    clients: usize,
 ) -> Result<(Vec<Seat<J>>, Vec<Admin<J>>), Refusal>
     requires { manager.now.book ≡ J.opening }
     ensures refused { IfErr result (λ r. (r ≡ Memory) ⊎ (r ≡ WantsPlace)) }
-    ensures tokens { IfOk result (λ r. (r.0.items ≡ new_seats J.opening MOST_CLIENTS)
+    ensures tokens { IfOk result (λ r. (r.0.items ≡ new_seats J.opening clients)
         × (r.1.items ≡ new_admins J.opening ADMINS)) }
 {
     let mut seats = Vec::new(alloc);
-    for _seat in 0..MOST_CLIENTS {
+    for _seat in 0..clients {
         let seat = seat_of(alloc, manager, writer)?;
         keep(&mut seats, seat)?;
     }

@@ -1,12 +1,12 @@
 //! Accepts clients' connections, and passes them to the workers.
 
+use crate::arrived::Arrived;
 use crate::arriving::arrival;
 use crate::entrance::Entrance;
 use crate::faults::Faults;
-use crate::queue::{Arrivals, Offered, offer};
-use sm_connection::{ServerEvent, Supervisor};
+use crate::queue::{Arrivals, Offered, Queue};
+use sm_account::{ServerEvent, Supervisor};
 use sm_engine::ServeFault;
-use std::os::unix::net::UnixStream;
 use std::rt::Clock;
 use std::sync::Wait;
 
@@ -20,6 +20,7 @@ const LONG: u64 = 1_000;
 pub fn admit<C: Entrance, H: Supervisor, R: Wait + Clock>(
     rt: &R,
     entrance: &mut C,
+    queue: &Queue,
     to: Arrivals,
     host: &H,
     faults: &Faults,
@@ -30,10 +31,10 @@ pub fn admit<C: Entrance, H: Supervisor, R: Wait + Clock>(
     }
     let mut told = false;
     for _ in 0..number {
-        let Some(stream) = arrival(rt, entrance, host, faults) else {
+        let Some(arrived) = arrival(rt, entrance, host, faults) else {
             return;
         };
-        match pass(rt, &to, host, faults, stream, told) {
+        match pass(rt, queue, &to, host, faults, arrived, told) {
             Some(waits) => told = waits,
             None => return,
         }
@@ -44,25 +45,27 @@ pub fn admit<C: Entrance, H: Supervisor, R: Wait + Clock>(
 /// needn't; or `None` if there is a fault.
 fn pass<H: Supervisor, R: Wait + Clock>(
     rt: &R,
+    queue: &Queue,
     to: &Arrivals,
     host: &H,
     faults: &Faults,
-    stream: UnixStream,
+    arrived: Arrived,
     told: bool,
 ) -> Option<bool> {
-    let mut waiting = match offer(rt, to, stream, AT_ONCE) {
+    let mut waiting = match queue.offer(rt, to, arrived, AT_ONCE) {
         Offered::Taken => return Some(false),
-        Offered::Refused(stream) => stream,
+        Offered::Refused(arrived) => arrived,
         Offered::Closed => return close(rt, host, faults),
     };
     let mut told = told;
     for _ in rt.forever() {
         if faults.is_noted(rt) {
+            waiting.turn_away(faults.live().turned_away());
             return None;
         }
-        match offer(rt, to, waiting, LONG) {
+        match queue.offer(rt, to, waiting, LONG) {
             Offered::Taken => return Some(told),
-            Offered::Refused(stream) => waiting = stream,
+            Offered::Refused(arrived) => waiting = arrived,
             Offered::Closed => return close(rt, host, faults),
         }
         if !told {
@@ -70,6 +73,7 @@ fn pass<H: Supervisor, R: Wait + Clock>(
         }
         told = true;
     }
+    waiting.turn_away(faults.live().turned_away());
     None
 }
 

@@ -1,11 +1,11 @@
 //! The next connection of an entrance, in spite of failures that pass.
 
+use crate::arrived::Arrived;
 use crate::entrance::Entrance;
 use crate::faults::Faults;
-use sm_connection::{ServerEvent, Supervisor};
+use sm_account::{ServerEvent, Supervisor};
 use sm_engine::ServeFault;
 use std::io::{self, ErrorKind};
-use std::os::unix::net::UnixStream;
 use std::rt::Clock;
 use std::sync::Wait;
 use std::thread;
@@ -52,14 +52,14 @@ pub fn arrival<E: Entrance, H: Supervisor, R: Wait + Clock>(
     entrance: &mut E,
     host: &H,
     faults: &Faults,
-) -> Option<UnixStream> {
+) -> Option<Arrived> {
     let mut told = false;
     for _ in rt.forever() {
         if faults.is_noted(rt) {
             return None;
         }
         match entrance.accept() {
-            Ok(stream) => return unless_noted(rt, faults, stream),
+            Ok(stream) => return unless_noted(rt, faults, Arrived::new(stream)),
             Err(error) => match failure_of(&error) {
                 AcceptFailure::Passing => {}
                 AcceptFailure::Shortage => {
@@ -76,11 +76,12 @@ pub fn arrival<E: Entrance, H: Supervisor, R: Wait + Clock>(
     None
 }
 
-fn unless_noted<R: Wait>(rt: &R, faults: &Faults, stream: UnixStream) -> Option<UnixStream> {
+fn unless_noted<R: Wait>(rt: &R, faults: &Faults, arrived: Arrived) -> Option<Arrived> {
     if faults.is_noted(rt) {
+        arrived.turn_away(faults.live().turned_away());
         return None;
     }
-    Some(stream)
+    Some(arrived)
 }
 
 fn wait_out<H: Supervisor, R: Clock>(rt: &R, host: &H, error: io::Error, told: bool) {

@@ -1,66 +1,98 @@
 //! One connection's session, from its first line to its end.
 
-use crate::dying_clients::DyingClients;
+ghost use Rattle.sm_wire.specs.declared.kind.Kind.TheVariants.{Client as AsClient, Admin as AsAdmin};
+ghost use Rattle.sm_account.specs.Served.{Attended};
+
 use crate::entrance::Entrance;
-use crate::pace::{Pace, Paced};
-use crate::patience::{Patience, limit_administrator};
+use crate::pace::{Pace, PacedRead, PacedWrite};
+use crate::patience::{Limited, Patience, limit_administrator};
 use crate::sealing::seal_if_due;
 use crate::shared_admin::SharedAdmin;
+use crate::turned_away::TurnedAway;
 use crate::uninterrupted::Uninterrupted;
 use crate::visitor::{Lobby, Visitor};
-use sm_connection::{FreeSeats, Monitor, Occasion, Supervisor, serve_administrator, serve_client};
-use sm_door::{Admin, Door, Naming, SeatOrSession};
+use sm_account::{
+    Account, Chronicle, Monitor, Occasion, Supervisor, at_rest, serve_administrator, serve_client,
+};
+use sm_door::{Admin, Door, Naming, Seat, SeatOrSession};
 use sm_engine::{Counted, Fault};
 use sm_history::Gate;
 use std::alloc::Global;
-use std::os::unix::net::UnixStream;
+use std::io::{Read, Write};
 use std::rt::Clock;
 use std::sync::Wait;
 
 /// The most reads of a session. Each gives at least one byte, or is the last.
 const READS: u32 = 16_777_216;
 
-/// Serves a client's connection, which has a seat from its first `hello` to its end. A client that can't die at its
-/// end joins those that are dying, which are tried again whenever a connection begins or ends. After each answer the
-/// journal is sealed if it is due.
-pub fn attend_client<J: Naming, G: Gate + Drop, H: Supervisor, R: Wait + Clock>(
+/// Serves a client's connection at a worker's seat, and adds it to the worker's account. After each answer the journal
+/// is sealed if it is due. Returns the account with the seat, or with the session of a client that couldn't die, and both
+/// ends of the connection. If the time can't be read or limited, nothing is served.
+pub fn attend_client<
+    J: Naming,
+    K: Chronicle,
+    G: Gate + Drop,
+    H: Supervisor,
+    R: Wait + Clock,
+    I: Read + Limited,
+    O: Write + Limited,
+>(
     rt: &R,
     alloc: Global,
     door: &Door<J, G>,
-    seats: &FreeSeats<J>,
-    dying: &DyingClients<J>,
+    account: Account<Seat<J>, K>,
     sealer: &SharedAdmin<J>,
     monitor: &Monitor<H>,
     patience: Patience,
-    stream: &UnixStream,
-) {
-    let Ok(pace) = Pace::new(rt, stream, patience) else {
-        return;
+    input: I,
+    output: O,
+) -> (Account<SeatOrSession<J>, K>, I, O)
+    ensures { Attended AsClient account result.0 (I.remaining input) (I.remaining result.1) (O.contents output)
+        (O.contents result.2) }
+{
+    if patience.limit_replies(&output).is_err() {
+        return (at_rest(account), input, output);
+    }
+    let Ok(pace) = Pace::new(rt, patience) else {
+        return (at_rest(account), input, output);
     };
-    dying.retry(rt, door, seats, monitor);
-    let held = attend_stream(rt, alloc, door, seats, sealer, monitor, &pace);
-    dying.take_over(rt, seats, held);
+    let attended = attend_stream(
+        rt, alloc, door, account, sealer, monitor, &pace, input, output,
+    );
     seal_if_due(rt, door, sealer, monitor);
-    dying.retry(rt, door, seats, monitor);
+    attended
 }
 
-// Serves a client's connection at this pace, and returns what it still holds. A new client may idle once it is connected.
-fn attend_stream<J: Naming, G: Gate + Drop, H: Supervisor, R: Wait + Clock>(
+// Serves a client's connection at this pace. A new client may idle once it is connected.
+fn attend_stream<
+    J: Naming,
+    K: Chronicle,
+    G: Gate + Drop,
+    H: Supervisor,
+    R: Wait + Clock,
+    I: Read + Limited,
+    O: Write + Limited,
+>(
     rt: &R,
     alloc: Global,
     door: &Door<J, G>,
-    seats: &FreeSeats<J>,
+    account: Account<Seat<J>, K>,
     sealer: &SharedAdmin<J>,
     monitor: &Monitor<H>,
     pace: &Pace<'_, R>,
-) -> Option<SeatOrSession<J>> {
-    let mut reader = Counted::new(Uninterrupted::new(Paced::new(&*pace)));
-    let mut writer = Counted::new(Uninterrupted::new(Paced::new(&*pace)));
-    let (held, _, ended) = serve_client(
+    input: I,
+    output: O,
+) -> (Account<SeatOrSession<J>, K>, I, O)
+    ensures { Attended AsClient account result.0 (I.remaining input) (I.remaining result.1) (O.contents output)
+        (O.contents result.2) }
+{
+    let mut reader = Counted::new(Uninterrupted::new(PacedRead::new(&*pace, input)));
+    let mut writer = Counted::new(Uninterrupted::new(PacedWrite::new(&*pace, output)));
+    let (account, _, ended) = serve_client(
         rt,
         alloc,
         door,
-        seats,
+        account,
         |occasion| {
             if matches!(occasion, Occasion::Connected) {
                 pace.connect();
@@ -74,7 +106,9 @@ fn attend_stream<J: Naming, G: Gate + Drop, H: Supervisor, R: Wait + Clock>(
         READS,
     );
     note_end(monitor, ended);
-    held
+    let input = reader.into_inner().into_inner().into_inner();
+    let output = writer.into_inner().into_inner().into_inner();
+    (account, input, output)
 }
 
 // A session ends early where its requests or replies find no memory.
@@ -85,29 +119,43 @@ fn note_end<H: Supervisor>(monitor: &Monitor<H>, ended: Result<(), Fault>) {
 }
 
 /// Serves an administrator's connection, which may take `seconds` for each line and each reply, and less for a line if
-/// another one waits in the lobby. After each answer the journal is sealed if it is due.
-pub fn attend_administrator<J: Naming, G: Gate + Drop, A: Entrance, H: Supervisor, R: Wait>(
+/// another one waits in the lobby, and adds it to the account. After each answer the journal is sealed if it is due.
+pub fn attend_administrator<
+    J: Naming,
+    K: Chronicle,
+    G: Gate + Drop,
+    A: Entrance,
+    H: Supervisor,
+    R: Wait,
+    I: Read + Limited,
+    O: Write + Limited,
+>(
     rt: &R,
     alloc: Global,
     door: &Door<J, G>,
-    admin: Admin<J>,
+    account: Account<Admin<J>, K>,
     sealer: &SharedAdmin<J>,
     monitor: &Monitor<H>,
     seconds: u64,
-    stream: &UnixStream,
+    input: I,
+    output: O,
     lobby: &mut Lobby<A>,
-) -> Admin<J> {
-    if limit_administrator(seconds, stream).is_err() {
-        return admin;
+    turned: &TurnedAway,
+) -> (Account<Admin<J>, K>, I, O)
+    ensures { Attended AsAdmin account result.0 (I.remaining input) (I.remaining result.1) (O.contents output)
+        (O.contents result.2) }
+{
+    if limit_administrator(seconds, &input, &output).is_err() {
+        return (account, input, output);
     }
-    let visitor = Visitor::new(stream, lobby, seconds);
+    let visitor = Visitor::new(input, lobby, turned, seconds);
     let mut reader = Counted::new(Uninterrupted::new(visitor));
-    let mut writer = Counted::new(Uninterrupted::new(stream));
-    let (admin, _, ended) = serve_administrator(
+    let mut writer = Counted::new(Uninterrupted::new(output));
+    let (account, _, ended) = serve_administrator(
         rt,
         alloc,
         door,
-        admin,
+        account,
         |_| seal_if_due(rt, door, sealer, monitor),
         monitor,
         monitor.sink(),
@@ -117,5 +165,7 @@ pub fn attend_administrator<J: Naming, G: Gate + Drop, A: Entrance, H: Superviso
     );
     note_end(monitor, ended);
     seal_if_due(rt, door, sealer, monitor);
-    admin
+    let input = reader.into_inner().into_inner().into_inner();
+    let output = writer.into_inner().into_inner();
+    (account, input, output)
 }

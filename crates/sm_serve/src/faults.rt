@@ -1,7 +1,7 @@
 //! The first fault of a server, and the connections that end after it.
 
 use crate::live::Live;
-use sm_connection::Supervisor;
+use sm_account::Supervisor;
 use sm_engine::ServeFault;
 use std::alloc::Global;
 use std::rt::Clock;

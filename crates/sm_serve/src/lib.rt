@@ -1,22 +1,26 @@
 //! A server of connections at a door: sessions of clients in worker threads, and those of administrators in one more.
 #![tactic(auto)]
 
+mod accounts;
 mod admitting;
+mod arrived;
 mod arriving;
 mod attending;
-mod dying_clients;
 mod entrance;
 mod faults;
 mod live;
 mod log_lines;
 mod log_writer;
 mod pace;
+mod pages;
 mod patience;
 mod queue;
 mod sealing;
 mod server_log;
 mod serving;
+mod settling;
 mod shared_admin;
+mod turned_away;
 mod uninterrupted;
 mod visitor;
 mod whole_lines;

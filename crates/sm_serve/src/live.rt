@@ -1,12 +1,12 @@
 //! The connections that a server serves.
 
+use crate::arrived::{Arrived, Cutter, Guest};
+use crate::turned_away::TurnedAway;
 use sm_kinds::drop_fields;
 use std::alloc::{AllocError, Global};
-use std::net::Shutdown;
-use std::os::unix::net::UnixStream;
 use std::rt::Clock;
 use std::sync::atomic::{AtomicU64, Ordering};
-use std::sync::{Arc, Mutex, Wait};
+use std::sync::{Mutex, Wait};
 use std::thread;
 use std::time::Duration;
 
@@ -16,11 +16,12 @@ pub struct Live {
     open: Mutex<Open>,
     // The threads that serve connections, or are about to.
     threads: AtomicU64,
+    turned_away: TurnedAway,
 }
 
 impl Drop for Live {
     fn drop(self) {
-        drop_fields!(self: alloc, open, threads);
+        drop_fields!(self: alloc, open, threads, turned_away);
     }
 }
 
@@ -41,12 +42,12 @@ impl Drop for Open {
 /// A connection under a number of its own.
 struct Connected {
     number: u64,
-    stream: Arc<UnixStream>,
+    cutter: Cutter,
 }
 
 impl Drop for Connected {
     fn drop(self) {
-        drop_fields!(self: number, stream);
+        drop_fields!(self: number, cutter);
     }
 }
 
@@ -67,7 +68,13 @@ impl Live {
                 connections: Vec::new(alloc),
             }),
             threads: AtomicU64::new(0),
+            turned_away: TurnedAway::new(),
         }
+    }
+
+    /// Returns the count of connections that were turned away.
+    pub fn turned_away(&self) -> &TurnedAway {
+        &self.turned_away
     }
 
     /// Counts a thread that is about to be started.
@@ -85,25 +92,20 @@ impl Live {
     ///
     /// # Errors
     ///
-    /// `AllocError` if an allocation failed. The connection is closed then.
-    pub fn enter<R: Wait>(
-        &self,
-        rt: &R,
-        stream: UnixStream,
-    ) -> Result<(u64, Arc<UnixStream>), AllocError> {
-        let stream = Arc::new(self.alloc, stream)?;
-        let shared = Arc::try_clone(&stream)?;
+    /// `AllocError` if an allocation failed. The connection is turned away then.
+    pub fn enter<R: Wait>(&self, rt: &R, arrived: Arrived) -> Result<(u64, Guest), AllocError> {
+        let (guest, cutter) = arrived.admit(self.alloc, &self.turned_away)?;
         let mut open = self.open.lock(rt);
         let number = open.next;
         if open.is_over {
-            shut_down(&stream);
+            cutter.cut();
         }
-        open.connections.push(Connected {
-            number,
-            stream: shared,
-        })?;
+        if open.connections.push(Connected { number, cutter }).is_err() {
+            guest.turn_away(&self.turned_away);
+            return Err(AllocError);
+        }
         open.next = number.wrapping_add(1);
-        Ok((number, stream))
+        Ok((number, guest))
     }
 
     /// Forgets the connection of this number, which has ended.
@@ -129,12 +131,7 @@ impl Live {
         let mut open = self.open.lock(rt);
         open.is_over = true;
         for connection in open.connections.iter() {
-            shut_down(&connection.stream);
+            connection.cutter.cut();
         }
     }
-}
-
-// A connection that has ended meanwhile is as it should be.
-fn shut_down(stream: &UnixStream) {
-    let _ = stream.shutdown(Shutdown::Both);
 }

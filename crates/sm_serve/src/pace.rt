@@ -1,10 +1,11 @@
 //! The time that a client's connection takes.
 
-use crate::patience::Patience;
+ghost use Rattle.std.specs.Prelude.{◌≡◌};
+
+use crate::patience::{Limited, Patience};
 use sm_kinds::drop_fields;
 use std::cell::Cell;
 use std::io::{self, ErrorKind, Read, Write};
-use std::os::unix::net::UnixStream;
 use std::rt::Clock;
 use std::time::{Duration, Instant};
 
@@ -15,42 +16,34 @@ const AT_ONCE: usize = 32_768;
 /// connected, and for all writes between two reads, which have the replies to one piece of input.
 pub struct Pace<'a, R> {
     rt: &'a R,
-    stream: &'a UnixStream,
     patience: Patience,
     begun: Instant,
     is_connected: Cell<bool>,
     // When the replies to the last piece began to be written.
     replying: Cell<Option<Instant>>,
-    // Whether the limit of a write is what was left for a piece.
-    is_short: Cell<bool>,
 }
 
 impl<'a, R> Drop for Pace<'a, R> {
     fn drop(self) {
-        drop_fields!(self: rt, stream, patience, begun, is_connected, replying, is_short);
+        drop_fields!(self: rt, patience, begun, is_connected, replying);
     }
 }
 
 impl<'a, R: Clock> Pace<'a, R> {
     /// Begins with a connection that has sent nothing.
-    pub fn new(rt: &'a R, stream: &'a UnixStream, patience: Patience) -> io::Result<Pace<'a, R>> {
-        patience.limit_replies(stream)?;
+    pub fn new(rt: &'a R, patience: Patience) -> io::Result<Pace<'a, R>> {
         Ok(Pace {
             rt,
-            stream,
             patience,
             begun: Instant::now(rt)?,
             is_connected: Cell::new(false),
             replying: Cell::new(None),
-            is_short: Cell::new(false),
         })
     }
 
     /// Notes that the client is connected, so it may idle from now on.
     pub fn connect(&self) {
         self.is_connected.set(true);
-        // Removing a limit of an open socket can't fail.
-        let _ = self.stream.set_read_timeout(None);
     }
 
     // Returns what is left of this number of seconds. An error if it is less than a millisecond.
@@ -64,54 +57,122 @@ impl<'a, R: Clock> Pace<'a, R> {
     }
 }
 
-/// The reader or the writer of a connection, within its limits.
-pub struct Paced<'a, R> {
+/// The reader of a connection, within its limits.
+pub struct PacedRead<'a, R, I> {
     pace: &'a Pace<'a, R>,
+    input: I,
+    // Whether a read has no limit.
+    is_free: bool,
 }
 
-impl<'a, R> Drop for Paced<'a, R> {
+impl<'a, R, I: Drop> Drop for PacedRead<'a, R, I> {
     fn drop(self) {
-        let Paced { pace: _ } = self;
+        drop_fields!(self: pace, input, is_free);
     }
 }
 
-impl<'a, R: Clock> Paced<'a, R> {
-    /// A reader or writer within these limits.
-    pub fn new(pace: &'a Pace<'a, R>) -> Paced<'a, R> {
-        Paced { pace }
+impl<'a, R, I> PacedRead<'a, R, I> {
+    /// A reader within these limits.
+    pub fn new(pace: &'a Pace<'a, R>, input: I) -> PacedRead<'a, R, I>
+        ensures { result.input ≡ input }
+    {
+        PacedRead {
+            pace,
+            input,
+            is_free: false,
+        }
+    }
+
+    /// Returns the reader without limits.
+    pub fn into_inner(self) -> I
+        ensures { result ≡ self.entry.input }
+    {
+        let PacedRead {
+            pace: _,
+            input,
+            is_free: _,
+        } = self;
+        input
     }
 }
 
-impl<'a, R: Clock> Read for Paced<'a, R> {
+impl<'a, R: Clock, I: Read + Limited> Read for PacedRead<'a, R, I> {
+    ghost remaining = { λ p. I.remaining p.input };
+
     fn read(&mut self, buf: &mut [u8]) -> io::Result<usize> {
         let pace = self.pace;
-        let mut stream = pace.stream;
         pace.replying.set(None);
-        if !pace.is_connected.get() {
-            let left = pace.left(pace.begun, pace.patience.hello)?;
-            stream.set_read_timeout(Some(left))?;
+        if !self.is_free {
+            if pace.is_connected.get() {
+                self.is_free = true;
+                // Removing a limit of an open socket can't fail.
+                let _ = self.input.limit_reads(None);
+            } else {
+                let left = pace.left(pace.begun, pace.patience.hello)?;
+                self.input.limit_reads(Some(left))?;
+            }
         }
-        stream.read(buf)
+        self.input.read(buf)
     }
 }
 
-impl<'a, R: Clock> Write for Paced<'a, R> {
+/// The writer of a connection, within its limits.
+pub struct PacedWrite<'a, R, O> {
+    pace: &'a Pace<'a, R>,
+    output: O,
+    // Whether the limit of a write is what was left for a piece.
+    is_short: bool,
+}
+
+impl<'a, R, O: Drop> Drop for PacedWrite<'a, R, O> {
+    fn drop(self) {
+        drop_fields!(self: pace, output, is_short);
+    }
+}
+
+impl<'a, R, O> PacedWrite<'a, R, O> {
+    /// A writer within these limits.
+    pub fn new(pace: &'a Pace<'a, R>, output: O) -> PacedWrite<'a, R, O>
+        ensures { result.output ≡ output }
+    {
+        PacedWrite {
+            pace,
+            output,
+            is_short: false,
+        }
+    }
+
+    /// Returns the writer without limits.
+    pub fn into_inner(self) -> O
+        ensures { result ≡ self.entry.output }
+    {
+        let PacedWrite {
+            pace: _,
+            output,
+            is_short: _,
+        } = self;
+        output
+    }
+}
+
+impl<'a, R: Clock, O: Write + Limited> Write for PacedWrite<'a, R, O> {
+    ghost contents = { λ p. O.contents p.output };
+
     fn write(&mut self, buf: &[u8]) -> io::Result<usize> {
         let pace = self.pace;
-        let mut stream = pace.stream;
         if let Some(begun) = pace.replying.get() {
             let left = pace.left(begun, pace.patience.reply)?;
-            pace.is_short.set(true);
-            stream.set_write_timeout(Some(left))?;
+            self.is_short = true;
+            self.output.limit_writes(Some(left))?;
         } else {
             pace.replying.set(Some(Instant::now(pace.rt)?));
-            if pace.is_short.get() {
-                pace.is_short.set(false);
-                pace.patience.limit_replies(stream)?;
+            if self.is_short {
+                self.is_short = false;
+                pace.patience.limit_replies(&self.output)?;
             }
         }
         let most = buf.len().min(AT_ONCE);
-        stream.write(&buf[..most])
+        self.output.write(&buf[..most])
     }
 
     fn flush(&mut self) -> io::Result<()> {

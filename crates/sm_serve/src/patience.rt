@@ -18,15 +18,38 @@ pub struct Patience {
     pub end: u64,
 }
 
+/// Ends of connections whose calls can be limited in time.
+pub trait Limited {
+    /// Limits each read, or none.
+    fn limit_reads(&self, most: Option<Duration>) -> io::Result<()>;
+
+    /// Limits each write, or none.
+    fn limit_writes(&self, most: Option<Duration>) -> io::Result<()>;
+}
+
+impl<'a> Limited for &'a UnixStream {
+    fn limit_reads(&self, most: Option<Duration>) -> io::Result<()> {
+        UnixStream::set_read_timeout(*self, most)
+    }
+
+    fn limit_writes(&self, most: Option<Duration>) -> io::Result<()> {
+        UnixStream::set_write_timeout(*self, most)
+    }
+}
+
 impl Patience {
     /// Limits a write to a client's connection.
-    pub fn limit_replies(&self, stream: &UnixStream) -> io::Result<()> {
-        stream.set_write_timeout(Some(Duration::from_secs(self.reply)))
+    pub fn limit_replies<O: Limited>(&self, output: &O) -> io::Result<()> {
+        output.limit_writes(Some(Duration::from_secs(self.reply)))
     }
 }
 
 /// Limits each write of an administrator's connection to this number of seconds, and each read to few.
-pub fn limit_administrator(seconds: u64, stream: &UnixStream) -> io::Result<()> {
-    stream.set_read_timeout(Some(Duration::from_secs(seconds.min(COURTESY))))?;
-    stream.set_write_timeout(Some(Duration::from_secs(seconds)))
+pub fn limit_administrator<I: Limited, O: Limited>(
+    seconds: u64,
+    input: &I,
+    output: &O,
+) -> io::Result<()> {
+    input.limit_reads(Some(Duration::from_secs(seconds.min(COURTESY))))?;
+    output.limit_writes(Some(Duration::from_secs(seconds)))
 }

@@ -1,53 +1,114 @@
 //! The passage from the thread that accepts clients' connections to the workers.
 
+use crate::arrived::Arrived;
+use crate::turned_away::TurnedAway;
 use crossbeam_channel::{Receiver, SendTimeoutError, Sender, bounded};
 use std::alloc::{AllocError, Global};
-use std::os::unix::net::UnixStream;
 use std::rt::Clock;
 use std::sync::{Mutex, Wait};
 use std::time::Duration;
 
-/// The end into which accepted connections go.
-pub type Arrivals = Sender<UnixStream>;
+/// The end at which workers are told that a connection has come.
+pub type Arrivals = Sender<()>;
 
-/// The end from which workers take connections, each in its turn.
-pub type Queue = Mutex<Receiver<UnixStream>>;
+/// The end from which workers take connections, each in its turn. A channel carries only what may be dropped, so the
+/// connections lie beside it: one for each worker that was told, and the one that is offered.
+pub struct Queue {
+    turns: Mutex<Receiver<()>>,
+    offered: Mutex<Vec<Arrived>>,
+}
 
-/// Returns the two ends. No connection is held in between: it is passed to a worker that waits for one.
-pub fn queue_of(alloc: Global) -> Result<(Arrivals, Queue), AllocError> {
-    match bounded::<UnixStream, Global>(alloc, 0) {
-        Ok((to, from)) => Ok((to, Mutex::new(from))),
-        Err(_) => Err(AllocError),
+/// Returns the two ends. A worker is told when it waits for a connection. There is room for one connection for each of
+/// this many workers, and for the one that is offered.
+pub fn queue_of(alloc: Global, workers: u32) -> Result<(Arrivals, Queue), AllocError> {
+    let most = (workers as usize).saturating_add(1);
+    let offered = Vec::<Arrived>::with_capacity(alloc, most)?;
+    match bounded::<(), Global>(alloc, 0) {
+        Ok((to, from)) => Ok((
+            to,
+            Queue {
+                turns: Mutex::new(from),
+                offered: Mutex::new(offered),
+            },
+        )),
+        Err(_) => {
+            offered.destroy_empty();
+            Err(AllocError)
+        }
     }
 }
 
-/// Returns the next connection, or `None` if no more come.
-pub fn next<R: Wait>(rt: &R, queue: &Queue) -> Option<UnixStream> {
-    queue.lock(rt).recv(rt).ok()
+impl Queue {
+    /// Returns the next connection, or `None` if no more come.
+    pub fn next<R: Wait>(&self, rt: &R) -> Option<Arrived> {
+        if self.turns.lock(rt).recv(rt).is_err() {
+            return None;
+        }
+        self.take(rt)
+    }
+
+    // Takes the oldest connection. Another one may have been offered since a worker was told of it.
+    fn take<R: Wait>(&self, rt: &R) -> Option<Arrived> {
+        let mut offered = self.offered.lock(rt);
+        if offered.is_empty() {
+            return None;
+        }
+        Some(offered.remove(0))
+    }
+
+    // Takes back the newest connection, of which no worker was told.
+    fn take_back<R: Wait>(&self, rt: &R) -> Option<Arrived> {
+        self.offered.lock(rt).pop()
+    }
+
+    fn put<R: Wait>(&self, rt: &R, arrived: Arrived) -> Option<Arrived> {
+        match self.offered.lock(rt).push(arrived) {
+            Ok(()) => None,
+            Err(failed) => Some(failed.value),
+        }
+    }
+
+    /// Turns away what no worker took.
+    pub fn close(self, turned: &TurnedAway) {
+        let Queue { turns: _, offered } = self;
+        let mut left = offered.into_inner();
+        while let Some(arrived) = left.pop() {
+            arrived.turn_away(turned);
+        }
+        left.destroy_empty();
+    }
+
+    /// Offers a connection to the workers for this number of milliseconds.
+    pub fn offer<R: Wait + Clock>(
+        &self,
+        rt: &R,
+        to: &Arrivals,
+        arrived: Arrived,
+        milliseconds: u64,
+    ) -> Offered {
+        if let Some(arrived) = self.put(rt, arrived) {
+            return Offered::Refused(arrived);
+        }
+        let told = to.send_timeout(rt, (), Duration::from_millis(milliseconds));
+        if told.is_ok() {
+            return Offered::Taken;
+        }
+        if matches!(told, Err(SendTimeoutError::Disconnected(_))) {
+            return Offered::Closed;
+        }
+        match self.take_back(rt) {
+            Some(arrived) => Offered::Refused(arrived),
+            None => Offered::Taken,
+        }
+    }
 }
 
 /// What became of a connection that was offered to the workers.
-#[derive(Drop)]
 pub enum Offered {
     /// A worker has it.
     Taken,
     /// No worker was free for the whole time.
-    Refused(UnixStream),
-    /// There are no workers any more.
+    Refused(Arrived),
+    /// There are no workers any more. It is turned away with the queue.
     Closed,
-}
-
-/// Offers a connection to the workers for this number of milliseconds.
-pub fn offer<R: Wait + Clock>(
-    rt: &R,
-    to: &Arrivals,
-    stream: UnixStream,
-    milliseconds: u64,
-) -> Offered {
-    match to.send_timeout(rt, stream, Duration::from_millis(milliseconds)) {
-        Ok(()) => Offered::Taken,
-        Err(SendTimeoutError::Timeout(stream)) => Offered::Refused(stream),
-        Err(SendTimeoutError::OutOfMemory(stream)) => Offered::Refused(stream),
-        Err(SendTimeoutError::Disconnected(_)) => Offered::Closed,
-    }
 }

@@ -1,7 +1,7 @@
 //! Seals that a server makes by itself.
 
 use crate::shared_admin::SharedAdmin;
-use sm_connection::{Monitor, Supervisor};
+use sm_account::{Monitor, Supervisor};
 use sm_door::{Door, Naming};
 use sm_history::{Gate, Refusal};
 use std::sync::Wait;

@@ -1,21 +1,24 @@
 //! The server's threads.
 
+ghost use Rattle.std.specs.Prelude.{IfSome};
+ghost use Rattle.sm_account.specs.Served.{OneRun};
+
+use crate::accounts::Accounts;
 use crate::admitting::admit;
+use crate::arrived::Arrived;
 use crate::arriving::arrival;
-use crate::attending::{attend_administrator, attend_client};
-use crate::dying_clients::DyingClients;
 use crate::entrance::Entrance;
 use crate::faults::Faults;
 use crate::patience::Patience;
-use crate::queue::{Arrivals, Queue, next, queue_of};
+use crate::queue::{Arrivals, Queue, queue_of};
+use crate::settling::settle;
 use crate::shared_admin::SharedAdmin;
 use crate::visitor::Lobby;
-use sm_connection::{FreeSeats, Gauge, Monitor, SealAt, Supervisor};
-use sm_door::{Admin, Door, Naming};
+use sm_account::{Account, Chronicle, Gauge, Monitor, SealAt, Supervisor, at_rest, opened};
+use sm_door::{Admin, Door, Naming, Seat, SeatOrSession};
 use sm_engine::ServeFault;
 use sm_history::Gate;
 use std::alloc::Global;
-use std::os::unix::net::UnixStream;
 use std::rt::Clock;
 use std::sync::Wait;
 use std::thread;
@@ -24,7 +27,7 @@ use std::thread::Threads;
 /// The number of worker threads, the connections of each kind that are accepted, and their time limits.
 #[derive(Clone, Copy, PartialEq, Eq)]
 pub struct Numbers {
-    /// The number of clients' connections that are served at once.
+    /// The number of clients' connections that are served at once, at most that of the workers' accounts.
     pub workers: u32,
     /// The number of clients' connections that are accepted.
     pub clients: u64,
@@ -37,12 +40,15 @@ pub struct Numbers {
 }
 
 /// Accepts the connections of each kind, and returns when their sessions have ended. Clients' connections are served by
-/// `workers` threads, one connection at a time each; administrators' by one more thread, one after another, all under
-/// `admin`. Seals that are due are made under `sealer`. The supervisor is notified when all threads run. Returns an
-/// error if a listener failed for good, a thread couldn't be started or an allocation failed; then the entrances are
-/// closed, and the connections that have begun are shut down if they haven't ended in time.
+/// a thread for each worker's account, one connection at a time each; administrators' by one more thread, one after
+/// another, all under `admin`. Seals that are due are made under `sealer`. The supervisor is notified when all threads
+/// run. All accounts are added to `gathered`, which is returned: its connections are parts of one lawful history, which
+/// begins with the one of the door's opening. Its chronicle also counts the connections that were turned away. The result
+/// is an error if a listener failed for good, a thread couldn't be started or an allocation failed; then the entrances
+/// are closed, and the connections that have begun are shut down if they haven't ended in time.
 pub fn serve<
     J: Naming + Send + Sync,
+    K: Chronicle + Send,
     G: Gate + Drop + Send + Sync,
     C: Entrance,
     A: Entrance + Drop + Send,
@@ -55,28 +61,34 @@ pub fn serve<
     clients: &mut C,
     admins: A,
     door: &Door<J, G>,
-    seats: &FreeSeats<J>,
-    admin: Admin<J>,
+    workers: Vec<Account<Seat<J>, K>>,
+    admin: Account<Admin<J>, K>,
+    gathered: Account<Admin<J>, K>,
     sealer: Admin<J>,
     numbers: Numbers,
-) -> Result<(), ServeFault> {
-    let (common, to) = Common::new(alloc, host, door, seats, sealer, &numbers)?;
-    run_threads(rt, &common, clients, admins, admin, numbers, to);
-    common.dying.retry(rt, door, seats, &common.monitor());
-    let Common { faults, .. } = common;
-    faults.into_result()
+) -> (Account<Admin<J>, K>, Result<(), ServeFault>)
+    ensures { IfSome result.0.told (OneRun J.opening result.0.token.seen) }
+{
+    let accounts = Accounts::new(workers, admin, gathered);
+    let (turned_away, ended) = match Common::new(alloc, host, door, sealer, &numbers) {
+        Ok((common, to)) => {
+            run_threads(rt, &common, &accounts, clients, admins, numbers, to);
+            common.into_result()
+        }
+        Err(fault) => (0, Err(fault)),
+    };
+    let mut all = accounts.into_gathered(rt, door);
+    all.turn_away(turned_away);
+    (opened(all), ended)
 }
 
 /// What all threads of a server share.
-#[derive(Drop)]
 struct Common<'a, J: Naming, G: Gate, H> {
     alloc: Global,
     host: &'a H,
     door: &'a Door<J, G>,
-    seats: &'a FreeSeats<J>,
     patience: Patience,
     queue: Queue,
-    dying: DyingClients<J>,
     sealer: SharedAdmin<J>,
     gauge: Gauge,
     faults: Faults,
@@ -88,32 +100,43 @@ impl<'a, J: Naming, G: Gate + Drop, H: Supervisor> Common<'a, J, G, H> {
         alloc: Global,
         host: &'a H,
         door: &'a Door<J, G>,
-        seats: &'a FreeSeats<J>,
         sealer: Admin<J>,
         numbers: &Numbers,
     ) -> Result<(Common<'a, J, G, H>, Arrivals), ServeFault> {
-        let Ok((to, queue)) = queue_of(alloc) else {
-            return Err(ServeFault::Memory);
-        };
-        let Ok(dying) = DyingClients::new(alloc) else {
-            return Err(ServeFault::Memory);
-        };
         let Ok(gauge) = Gauge::new(alloc, numbers.slots, numbers.seal_at) else {
+            return Err(ServeFault::Memory);
+        };
+        let Ok((to, queue)) = queue_of(alloc, numbers.workers) else {
             return Err(ServeFault::Memory);
         };
         let common = Common {
             alloc,
             host,
             door,
-            seats,
             patience: numbers.patience,
             queue,
-            dying,
             sealer: SharedAdmin::new(sealer),
             gauge,
             faults: Faults::new(alloc),
         };
         Ok((common, to))
+    }
+
+    /// Turns away the connections that no worker took. Returns how many were turned away, and the first fault.
+    fn into_result(self) -> (u64, Result<(), ServeFault>) {
+        let Common {
+            alloc: _,
+            host: _,
+            door: _,
+            patience: _,
+            queue,
+            sealer: _,
+            gauge: _,
+            faults,
+        } = self;
+        queue.close(faults.live().turned_away());
+        let number = faults.live().turned_away().number();
+        (number, faults.into_result())
     }
 
     fn monitor(&self) -> Monitor<'_, H> {
@@ -124,6 +147,7 @@ impl<'a, J: Naming, G: Gate + Drop, H: Supervisor> Common<'a, J, G, H> {
 /// Runs the threads to their ends. Clients' connections are accepted by this one.
 fn run_threads<
     J: Naming + Send + Sync,
+    K: Chronicle + Send,
     G: Gate + Drop + Send + Sync,
     C: Entrance,
     A: Entrance + Drop + Send,
@@ -132,9 +156,9 @@ fn run_threads<
 >(
     rt: &R,
     common: &Common<'_, J, G, H>,
+    accounts: &Accounts<J, K>,
     clients: &mut C,
     admins: A,
-    admin: Admin<J>,
     numbers: Numbers,
     to: Arrivals,
 ) {
@@ -143,86 +167,140 @@ fn run_threads<
     thread::scope(thread::scope_env(), rt, |scope| {
         for _ in 0..numbers.workers {
             faults.live().begin_thread();
-            let started = scope.spawn(move || work(rt, common));
+            let started = scope.spawn(move || work(rt, common, accounts));
             if started.is_err() {
                 faults.miss_thread(rt, common.host);
             }
         }
         faults.live().begin_thread();
-        let started = scope.spawn(move || administer(rt, common, admin, admins, number));
+        let started = scope.spawn(move || administer(rt, common, accounts, admins, number));
         if started.is_err() {
             faults.miss_thread(rt, common.host);
         }
-        admit(rt, clients, to, common.host, faults, numbers.clients);
+        admit(
+            rt,
+            clients,
+            &common.queue,
+            to,
+            common.host,
+            faults,
+            numbers.clients,
+        );
         faults.end_connections(rt, common.patience.end);
     });
 }
 
-/// Serves connections from the queue, until no more come.
-fn work<J: Naming, G: Gate + Drop, H: Supervisor, R: Wait + Clock>(
+/// Serves clients' connections under a worker's account, and adds it to that of all.
+fn work<J: Naming, K: Chronicle, G: Gate + Drop, H: Supervisor, R: Wait + Clock>(
     rt: &R,
     common: &Common<'_, J, G, H>,
+    accounts: &Accounts<J, K>,
 ) {
+    if let Some(account) = accounts.take_worker(rt) {
+        let account = serve_clients(rt, common, account);
+        accounts.add(rt, common.door, account);
+    }
+    common.faults.live().end_thread();
+}
+
+/// Serves connections from the queue at this account's seat, until no more come.
+fn serve_clients<J: Naming, K: Chronicle, G: Gate + Drop, H: Supervisor, R: Wait + Clock>(
+    rt: &R,
+    common: &Common<'_, J, G, H>,
+    account: Account<Seat<J>, K>,
+) -> Account<SeatOrSession<J>, K> {
     let monitor = common.monitor();
     let live = common.faults.live();
+    let mut slot = at_rest(account);
     for _ in rt.forever() {
-        let Some(stream) = next(rt, &common.queue) else {
+        let seat = match settle(rt, common.door, slot, &monitor, &common.faults) {
+            Ok(seat) => seat,
+            Err(left) => {
+                slot = left;
+                break;
+            }
+        };
+        let Some(arrived) = common.queue.next(rt) else {
+            slot = at_rest(seat);
             break;
         };
-        let Ok((number, stream)) = live.enter(rt, stream) else {
+        let Ok((number, guest)) = live.enter(rt, arrived) else {
             monitor.run_short();
+            slot = at_rest(seat);
             continue;
         };
-        attend_client(
+        slot = guest.attend_client(
             rt,
             common.alloc,
             common.door,
-            common.seats,
-            &common.dying,
+            seat,
             &common.sealer,
             &monitor,
             common.patience,
-            &stream,
         );
         live.leave(rt, number);
     }
-    live.end_thread();
+    slot
+}
+
+/// Serves administrators' connections, one after another, and adds the account to that of all.
+fn administer<
+    J: Naming,
+    K: Chronicle,
+    G: Gate + Drop,
+    A: Entrance + Drop,
+    H: Supervisor,
+    R: Wait + Clock,
+>(rt: &R, common: &Common<'_, J, G, H>, accounts: &Accounts<J, K>, entrance: A, number: u64) {
+    if let Some(account) = accounts.take_admin(rt) {
+        let account = serve_administrators(rt, common, account, entrance, number);
+        accounts.add_admin(rt, common.door, account);
+    }
+    common.faults.live().end_thread();
 }
 
 /// Serves administrators' connections, one after another.
-fn administer<J: Naming, G: Gate + Drop, A: Entrance + Drop, H: Supervisor, R: Wait + Clock>(
+fn serve_administrators<
+    J: Naming,
+    K: Chronicle,
+    G: Gate + Drop,
+    A: Entrance + Drop,
+    H: Supervisor,
+    R: Wait + Clock,
+>(
     rt: &R,
     common: &Common<'_, J, G, H>,
-    admin: Admin<J>,
+    admin: Account<Admin<J>, K>,
     entrance: A,
     number: u64,
-) {
+) -> Account<Admin<J>, K> {
     let monitor = common.monitor();
     let live = common.faults.live();
-    let mut token = admin;
+    let mut account = admin;
     let mut lobby = Lobby::new(entrance);
     for _ in 0..number {
-        let Some(stream) = next_administrator(rt, &mut lobby, common.host, &common.faults) else {
+        let Some(arrived) = next_administrator(rt, &mut lobby, common.host, &common.faults) else {
             break;
         };
-        let Ok((place, stream)) = live.enter(rt, stream) else {
+        let Ok((place, guest)) = live.enter(rt, arrived) else {
             monitor.run_short();
             continue;
         };
-        token = attend_administrator(
+        account = guest.attend_administrator(
             rt,
             common.alloc,
             common.door,
-            token,
+            account,
             &common.sealer,
             &monitor,
             common.patience.admin,
-            &stream,
             &mut lobby,
+            live.turned_away(),
         );
         live.leave(rt, place);
     }
-    live.end_thread();
+    lobby.close(live.turned_away());
+    account
 }
 
 /// Returns the administrator's connection that waits, or waits for one.
@@ -231,9 +309,9 @@ fn next_administrator<A: Entrance, H: Supervisor, R: Wait + Clock>(
     lobby: &mut Lobby<A>,
     host: &H,
     faults: &Faults,
-) -> Option<UnixStream> {
-    if let Some(stream) = lobby.take() {
-        return Some(stream);
+) -> Option<Arrived> {
+    if let Some(arrived) = lobby.take() {
+        return Some(arrived);
     }
     arrival(rt, lobby.entrance(), host, faults)
 }

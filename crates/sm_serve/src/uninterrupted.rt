@@ -21,6 +21,14 @@ impl<T> Uninterrupted<T> {
     {
         Uninterrupted { inner }
     }
+
+    /// Returns the reader or writer.
+    pub fn into_inner(self) -> T
+        ensures { result ≡ self.inner }
+    {
+        let Uninterrupted { inner } = self;
+        inner
+    }
 }
 
 impl<R: Read> Read for Uninterrupted<R> {

@@ -5,12 +5,13 @@ ghost use Rattle.sm_core.specs.Opening.{opened};
 
 use crate::console::Console;
 use crate::sockets::{Claim, OWNER_ALONE};
+use sm_account::{Account, Forgets};
 use sm_command::{Ending, Sockets};
-use sm_connection::{FreeSeats, SealAt};
+use sm_connection::SealAt;
 use sm_core::manager_identity;
-use sm_door::{Admin, Door, Naming, UnnamedRegistry};
+use sm_door::{Admin, Door, Naming, Seat, UnnamedRegistry};
 use sm_engine::ServeFault;
-use sm_history::NoGate;
+use sm_history::{MOST_CLIENTS, NoGate};
 use sm_kinds::{Identity, Places};
 use sm_policy::Prepared;
 use sm_script::ScriptFault;
@@ -45,7 +46,7 @@ pub fn serve_policy<'a, R: Files + Net + Threads + Wait + Clock + Sync>(
     )
 }
 
-/// Opens the door, and closes it when the server has ended.
+/// Opens the door with a seat for each worker, and closes it when the server has ended.
 fn open<'a, J: Naming + Send + Sync, R: Files + Net + Threads + Wait + Clock + Sync>(
     host: &HostRuntime,
     rt: &R,
@@ -60,25 +61,38 @@ fn open<'a, J: Naming + Send + Sync, R: Files + Net + Threads + Wait + Clock + S
 {
     let alloc = host.alloc();
     let slots = places.entries();
-    let opened = Door::<J, NoGate>::open(rt, alloc, unnamed, who, policy, places, NoGate);
+    let clients = MOST_CLIENTS.min(sockets.workers as usize);
+    let opened = Door::<J, NoGate>::open_for(
+        rt, alloc, unnamed, who, policy, places, NoGate, clients,
+    );
     let (door, seats, mut admins) = match opened {
         Ok(parts) => parts,
         Err(refusal) => return Err(Ending::Script(ScriptFault::Opening(refusal))),
     };
-    let seats = FreeSeats::new(seats);
-    let tokens = AdminTokens {
-        admin: admins.swap_remove(0),
+    let mut workers = Vec::new(alloc);
+    for seat in seats {
+        if workers.push(Account::new(seat, Forgets::new())).is_err() {
+            door.close(rt);
+            return Err(Ending::Memory);
+        }
+    }
+    let tokens = Tokens {
+        workers,
+        gathered: Account::new(admins.swap_remove(0), Forgets::new()),
+        admin: Account::new(admins.swap_remove(0), Forgets::new()),
         sealer: admins.swap_remove(0),
     };
-    let ended = listen(host, rt, &door, &seats, tokens, slots, sockets);
+    let ended = listen(host, rt, &door, tokens, slots, sockets);
     door.close(rt);
     ended
 }
 
-/// The tokens of a server: for administrators' connections, and for its own seals.
+/// The tokens of a server: for clients' connections, for administrators', for its own seals, and for what became of all.
 #[derive(Drop)]
-struct AdminTokens<J: Naming> {
-    admin: Admin<J>,
+struct Tokens<J: Naming> {
+    workers: Vec<Account<Seat<J>, Forgets>>,
+    admin: Account<Admin<J>, Forgets>,
+    gathered: Account<Admin<J>, Forgets>,
     sealer: Admin<J>,
 }
 
@@ -113,17 +127,14 @@ fn listen<'a, J: Naming + Send + Sync, R: Files + Net + Threads + Wait + Clock +
     host: &HostRuntime,
     rt: &R,
     door: &Door<J, NoGate>,
-    seats: &FreeSeats<J>,
-    tokens: AdminTokens<J>,
+    tokens: Tokens<J>,
     slots: u32,
     sockets: Sockets<'a>,
 ) -> Result<(), Ending<'a>> {
     let (claim, clients) = open_socket(host, rt, sockets.clients, sockets.mode)?;
     let ended = match open_socket(host, rt, sockets.admins, Some(OWNER_ALONE)) {
         Ok((other, admins)) => {
-            let ended = serve_at(
-                host, rt, door, seats, tokens, slots, sockets, clients, admins,
-            );
+            let ended = serve_at(host, rt, door, tokens, slots, sockets, clients, admins);
             other.remove(rt);
             ended
         }
@@ -138,8 +149,7 @@ fn serve_at<'a, J: Naming + Send + Sync, R: Threads + Wait + Clock + Sync>(
     host: &HostRuntime,
     rt: &R,
     door: &Door<J, NoGate>,
-    seats: &FreeSeats<J>,
-    tokens: AdminTokens<J>,
+    tokens: Tokens<J>,
     slots: u32,
     sockets: Sockets<'a>,
     clients: UnixListener,
@@ -165,9 +175,7 @@ fn serve_at<'a, J: Naming + Send + Sync, R: Threads + Wait + Clock + Sync>(
         if scope.spawn(move || shown.write_log(lines)).is_err() {
             return Err(Ending::Serve(ServeFault::NoThread));
         }
-        let ended = serve_under(
-            host, rt, shown, door, seats, tokens, numbers, clients, admins,
-        );
+        let ended = serve_under(host, rt, shown, door, tokens, numbers, clients, admins);
         shown.end_log();
         ended
     })
@@ -179,22 +187,27 @@ fn serve_under<'a, J: Naming + Send + Sync, R: Threads + Wait + Clock + Sync>(
     rt: &R,
     console: &Console<R>,
     door: &Door<J, NoGate>,
-    seats: &FreeSeats<J>,
-    tokens: AdminTokens<J>,
+    tokens: Tokens<J>,
     numbers: Numbers,
     mut clients: UnixListener,
     admins: UnixListener,
 ) -> Result<(), Ending<'a>> {
-    let AdminTokens { admin, sealer } = tokens;
-    let ended = serve(
+    let Tokens {
+        workers,
+        admin,
+        gathered,
+        sealer,
+    } = tokens;
+    let (_, ended) = serve(
         rt,
         host.alloc(),
         console,
         &mut clients,
         admins,
         door,
-        seats,
+        workers,
         admin,
+        gathered,
         sealer,
         numbers,
     );

@@ -88,7 +88,7 @@ fn push_field(text: &mut Vec<u8>, name: &str, came: u64, wanted: u64) -> Result<
 fn push_fields(text: &mut Vec<u8>, left: &Left, wanted: &Left) -> Result<(), AllocError> {
     let (came, through) = (left.came_through, wanted.came_through);
     push_field(text, "came_through", u64::from(came), u64::from(through))?;
-    push_field(text, "free", left.free as u64, wanted.free as u64)?;
+    push_field(text, "turned_away", left.turned_away, wanted.turned_away)?;
     if left.ending != wanted.ending {
         text.extend_from_slice(b"\nending: ")?;
         text.extend_from_slice(word_of(left.ending).as_bytes())?;

@@ -85,6 +85,36 @@ fn a_client_that_waits_is_told_once(rt: HostRuntime) {
     holds(&rt, rt.alloc(), 1000, numbers, A_CLIENT_THAT_WAITS, heard);
 }
 
+/// Two clients and a worker for one, where the client that waits says nothing and is turned away.
+const A_CLIENT_THAT_IS_TURNED_AWAY: &[Step] = &[
+    Say(0, HELLO, b"client 1\n"),
+    Over(1),
+    Say(0, b"bye\n", b"bye\n"),
+    Over(0),
+];
+
+#[test]
+fn a_client_that_is_turned_away_is_counted(rt: HostRuntime) -> Result<(), Fail> {
+    let steps = A_CLIENT_THAT_IS_TURNED_AWAY;
+    let mut numbers = numbers(1, 2, 1);
+    numbers.patience.admin = 3;
+    let (mut visits, exchange) = connected(&rt, rt.alloc(), numbers, steps)?;
+    // The administrators' listener fails for good once the first of them, who says nothing, has taken too long.
+    visits.numbers.admins = 2;
+    let left = at_a_door(&rt, rt.alloc(), 1000, NoGate, visits, exchange);
+    let heard = Heard {
+        waits: 1,
+        ..ENDED_BY_ITS_LISTENER.heard
+    };
+    let wanted = Left {
+        turned_away: 1,
+        heard,
+        ..ENDED_BY_ITS_LISTENER
+    };
+    is_left(&rt, rt.alloc(), &[steps], left, wanted);
+    Ok(())
+}
+
 /// A client and an administrator that say nothing, and a client that takes no reply.
 const IDLE_CONNECTIONS: &[Step] = &[
     Say(1, HELLO, b"client 1\n"),

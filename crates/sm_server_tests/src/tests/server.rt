@@ -4,10 +4,12 @@ ghost use Rattle.std.specs.Prelude.{◌≡◌};
 ghost use Rattle.sm_core.specs.Opening.{opened};
 
 use super::differences::is_left;
+use super::remembers::Remembers;
 use super::steps::Step::{self, Close, Over, ReloadStricter, Say, SayAll, Vanish};
 use super::steps::connected;
-use sm_connection::{FreeSeats, SealAt, ServerEvent, Supervisor};
-use sm_door::{Door, Naming, UnnamedRegistry};
+use sm_account::Account;
+use sm_connection::{SealAt, ServerEvent, Supervisor};
+use sm_door::{Door, Naming, Seat, UnnamedRegistry};
 use sm_engine::ServeFault;
 use sm_history::{Gate, NoGate, Record};
 use sm_kinds::{Context, Identity, Places};
@@ -216,18 +218,26 @@ pub struct Left {
     /// The index of the failed step, if one failed.
     pub failed: Option<usize>,
     pub came_through: bool,
+    /// The number of connections that were accepted and not served.
+    pub turned_away: u64,
     pub heard: Heard,
     pub ending: Result<(), ServeFault>,
-    pub free: usize,
+}
+
+/// What is left when a server has ended, and the chronicle of all its accounts.
+#[derive(Drop)]
+pub struct Ended {
+    pub left: Left,
+    pub chronicle: Remembers,
 }
 
 /// What is left of a server that met all that was said.
 pub const ALL_IS_WELL: Left = Left {
     failed: None,
     came_through: true,
+    turned_away: 0,
     heard: LISTENING,
     ending: Ok(()),
-    free: 64,
 };
 
 /// What is left if all steps succeeded before the listener failed for good.
@@ -279,10 +289,19 @@ fn device(rt: &impl Abort, alloc: Global) -> (Identity, Prepared) {
 
 /// Serves these connections, at a door with a journal of `places` slots, during the exchange.
 pub fn at_a_door<
-    T: Talk + Send + Drop,
+    T: Talk + Send + Drop + 'static,
     G: Watched + Drop + Send + Sync,
     R: Threads + Wait + Clock + Abort + Sync,
->(rt: &R, alloc: Global, places: u32, gate: G, mut visits: Visits, talk: T) -> Left {
+>(rt: &R, alloc: Global, places: u32, gate: G, visits: Visits, talk: T) -> Left {
+    at_a_door_with_chronicle(rt, alloc, places, gate, visits, talk).left
+}
+
+/// Serves these connections as `at_a_door` does, and also returns the chronicle of all accounts.
+pub fn at_a_door_with_chronicle<
+    T: Talk + Send + Drop + 'static,
+    G: Watched + Drop + Send + Sync,
+    R: Threads + Wait + Clock + Abort + Sync,
+>(rt: &R, alloc: Global, places: u32, gate: G, mut visits: Visits, talk: T) -> Ended {
     visits.numbers.slots = places;
     let places = Places::new(places).expect(rt, "places");
     let (who, rules) = device(rt, alloc);
@@ -301,7 +320,7 @@ pub fn at_a_door<
 
 fn serves<
     J: Naming + Send + Sync,
-    T: Talk + Send + Drop,
+    T: Talk + Send + Drop + 'static,
     G: Watched + Drop + Send + Sync,
     R: Threads + Wait + Clock + Abort + Sync,
 >(
@@ -314,7 +333,7 @@ fn serves<
     gate: G,
     visits: Visits,
     mut talk: T,
-) -> Left
+) -> Ended
     requires registry { unnamed.seen.book ≡ J.registry }
     requires opening { J.opening ≡ opened places who policy }
 {
@@ -322,41 +341,63 @@ fn serves<
         rt, alloc, unnamed, who, policy, places, gate,
     ).ok()
         .expect(rt, "a door");
-    let seats = FreeSeats::new(seats);
-    let admin = tokens.pop().expect(rt, "an administrator");
-    let sealer = tokens.pop().expect(rt, "another one");
+    let workers = workers_at(rt, alloc, seats);
+    let admin = Account::new(tokens.pop().expect(rt, "a token"), Remembers::new(alloc));
+    let gathered = Account::new(
+        tokens.pop().expect(rt, "another one"),
+        Remembers::new(alloc),
+    );
+    let sealer = tokens.pop().expect(rt, "a third one");
     let Visits {
         mut clients,
         admins,
         numbers,
     } = visits;
     let ear = Ear::new();
-    let (said, ending) = thread::join(
+    let talking = thread::spawn(rt, move || talk.run())
+        .ok()
+        .expect(rt, "a thread");
+    let (account, ending) = serve(
         rt,
-        move || talk.run(),
-        || serve(
-            rt,
-            alloc,
-            &ear,
-            &mut clients,
-            admins,
-            &door,
-            &seats,
-            admin,
-            sealer,
-            numbers,
-        ),
+        alloc,
+        &ear,
+        &mut clients,
+        admins,
+        &door,
+        workers,
+        admin,
+        gathered,
+        sealer,
+        numbers,
     );
-    let free = seats.count(rt);
+    let said = talking.join(rt);
+    let chronicle = account.into_chronicle();
     let came_through = door.gate().is_well();
     door.close(rt);
-    Left {
+    let left = Left {
         failed: said.err(),
         came_through,
+        turned_away: chronicle.turned_away,
         heard: ear.heard(),
         ending,
-        free,
+    };
+    Ended { left, chronicle }
+}
+
+/// The accounts of workers at these seats.
+fn workers_at<J: Naming>(
+    rt: &impl Abort,
+    alloc: Global,
+    seats: Vec<Seat<J>>,
+) -> Vec<Account<Seat<J>, Remembers>> {
+    let mut workers = Vec::new(alloc);
+    for seat in seats {
+        workers
+            .push(Account::new(seat, Remembers::new(alloc)))
+            .ok()
+            .expect(rt, "memory");
     }
+    workers
 }
 
 /// The `hello` of a system service.
@@ -424,12 +465,12 @@ fn the_service_of_a_client_that_vanished_is_gone(rt: HostRuntime) {
     holds(&rt, rt.alloc(), 1000, numbers(1, 2, 0), steps, LISTENING);
 }
 
-/// One client more than there are seats.
+/// One client more than there are seats, which waits for a worker.
 const ONE_CLIENT_TOO_MANY: &[Step] = &[
     SayAll(64, HELLO, b"client "),
-    Say(64, HELLO, b"failed too-many-clients\n"),
     Say(0, b"", b"1\n"),
     Say(0, b"bye\n", b"bye\n"),
+    Over(0),
     Say(64, HELLO, b"client 65\n"),
 ];
 

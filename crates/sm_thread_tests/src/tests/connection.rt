@@ -4,8 +4,7 @@
 use super::door::{Scene, plays};
 use sm_audit::push_lines;
 use sm_connection::{
-    AuditSink, FreeSeats, Gauge, Monitor, SealAt, ServerEvent, Supervisor, serve_administrator,
-    serve_client,
+    AuditSink, Gauge, Monitor, SealAt, ServerEvent, Supervisor, serve_administrator, serve_client,
 };
 use sm_door::{Admin, Door, Naming, Seat};
 use sm_engine::Counted;
@@ -51,23 +50,23 @@ impl Supervisor for Quiet {
 /// The most reads of a connection.
 const READS: u32 = 10;
 
-/// What is written to a client's connection. Asserts that it ends well and holds nothing then.
+/// What is written to a client's connection at a free seat. Asserts that it ends well and gives a free seat back.
 fn client_told<'a, J: Naming, R: Wait + Abort>(
     rt: &'a R,
     alloc: Global,
     door: &Door<J, NoGate>,
-    seats: &FreeSeats<J>,
+    seat: Option<Seat<J>>,
     monitor: &Monitor<Quiet>,
     sink: Lines<'a, R>,
     lines: &'static [u8],
 ) -> (Vec<u8>, Lines<'a, R>) {
     let mut reader = Counted::new(lines);
     let mut writer = Counted::new(Vec::new(alloc));
-    let (held, sink, ended) = serve_client(
+    let (slot, sink, ended) = serve_client(
         rt,
         alloc,
         door,
-        seats,
+        seat,
         |_| {},
         monitor,
         sink,
@@ -75,7 +74,8 @@ fn client_told<'a, J: Naming, R: Wait + Abort>(
         &mut writer,
         READS,
     );
-    assert!(rt; held.is_none() && ended.is_ok());
+    let slot = slot.expect(rt, "a slot");
+    assert!(rt; slot.into_session().is_err() && ended.is_ok());
     (writer.into_inner(), sink)
 }
 
@@ -150,10 +150,9 @@ pub fn serves<J: Naming, R: Wait + Abort>(
     rt: &R,
     alloc: Global,
     door: &Door<J, NoGate>,
-    seats: Vec<Seat<J>>,
+    mut seats: Vec<Seat<J>>,
     mut admins: Vec<Admin<J>>,
 ) {
-    let seats = FreeSeats::new(seats);
     let admin = admins.pop().expect(rt, "an administrator");
     let never = SealAt {
         entries: None,
@@ -167,12 +166,11 @@ pub fn serves<J: Naming, R: Wait + Abort>(
         alloc,
         text: Vec::new(alloc),
     };
-    let (told, sink) = client_told(rt, alloc, door, &seats, &monitor, sink, AN_APPLICATION);
+    let (told, sink) = client_told(rt, alloc, door, seats.pop(), &monitor, sink, AN_APPLICATION);
     assert_eq!(rt; told.as_slice(), TOLD_TO_THE_APPLICATION);
     let (told, sink) = administrator_told(rt, alloc, door, admin, &monitor, sink, AN_ADMINISTRATOR);
     assert_eq!(rt; told.as_slice(), TOLD_TO_THE_ADMINISTRATOR);
     assert_eq!(rt; sink.text.as_slice(), DENIED);
-    assert_eq!(rt; seats.count(rt), 64);
 }
 
 #[test]

@@ -7,6 +7,7 @@ use Rattle.sm_history.specs.Histories.{turn_of}
 use Rattle.sm_door.specs.Logged.{LooksLogged}
 use Rattle.sm_history.specs.BookOrder.{Begins, IsLawfulBook}
 use Rattle.sm_history.specs.Tokens.{Knows, turn}
+use Rattle.sm_history.proofs.BookOrder.{book_through}
 use Rattle.sm_door.specs.declared.published.ReaderKnowledge.{ReaderKnowledge}
 use Rattle.sm_door.proofs.Places.{enters}
 use Rattle.sm_door.proofs.actor.Actor.read_view.Goals as goal
@@ -20,9 +21,17 @@ invariant_of-self g c =
     let shared_view = arc_value c.in-Ok.reading.part.value.shared_view in
     let found : c.deref-in-Ok.result.now ≡ shared_view = search (rules, c.get.ensures, c.deref-in-Ok.ensures) in
     let now = c.leave.ensures.1 ∙ c.in-Ok.ensures.1.1 in
-    subst (λ (b : Book). (c.turn-self-inside.result ≡ turn_of b.history c.self.inside.by) × IsLawfulBook b)
-    (found ∙ ap (λ (k : ReaderKnowledge). k.seen) (sym now))
-    (c.turn-self-inside.ensures.turn, c.turn-self-inside.ensures.lawful)
+    let had : c.self.inside.reader ≡ Some c.unwrap.result = search (rules, c.take.ensures, c.unwrap.ensures) in
+    let kept = rw had at c.self.invariant in
+    let begins = book_through shared_view (place_view c.unwrap.result.place).seen g.J.Naming.opening
+    c.in-Ok.ensures.1.0 kept.2 in
+    subst (λ (b : Book). (c.turn-self-inside.result ≡ turn_of b.history c.self.inside.by) × IsLawfulBook b
+    × Begins b g.J.Naming.opening)
+    (found ∙ ap (λ (k : ReaderKnowledge). k.seen) (sym now)) (
+      c.turn-self-inside.ensures.turn,
+      c.turn-self-inside.ensures.lawful,
+      subst (λ (b : Book). Begins b g.J.Naming.opening) (sym found) begins,
+    )
 
 pub returns-in-Ok : goal.returns-in-Ok
 returns-in-Ok g c =
@@ -56,7 +65,7 @@ invariant_of-self-in-Err g c =
     let had : c.self.inside.reader ≡ Some c.unwrap.result = search (rules, c.take.ensures, c.unwrap.ensures) in
     let kept = rw had at c.self.invariant in
     subst (λ (k : ReaderKnowledge). (c.self.inside.turn ≡ turn_of k.seen.history c.self.inside.by)
-    × IsLawfulBook k.seen)
+    × IsLawfulBook k.seen × Begins k.seen g.J.Naming.opening)
     (sym c.in-Err.ensures.1) kept
 
 pub invariant_of-self-in-Err-2 : goal.invariant_of-self-in-Err-2
@@ -64,5 +73,5 @@ invariant_of-self-in-Err-2 g c =
     let had : c.self.inside.reader ≡ Some c.unwrap.result = search (rules, c.take.ensures, c.unwrap.ensures) in
     let kept = rw had at c.self.invariant in
     subst (λ (k : ReaderKnowledge). (c.self.inside.turn ≡ turn_of k.seen.history c.self.inside.by)
-    × IsLawfulBook k.seen)
+    × IsLawfulBook k.seen × Begins k.seen g.J.Naming.opening)
     (sym c.in-Err.ensures.1) kept
