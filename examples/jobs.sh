@@ -1,4 +1,4 @@
-# Sourced by examples/run, examples/check, examples/serve and .ci/run.
+# Sourced by examples/run, examples/check, examples/serve, examples/prove and .ci/run.
 
 # Ends the program with status 2, unless these are on the path.
 need() {
@@ -27,19 +27,6 @@ svcmgr() (
     if [ -n "${unproved:-}" ]; then
         exec rt try --data policy.rules="$2" --data policy.contexts="$3" -- "$1" policy.rules policy.contexts
     fi
-    say_jobs "45 minutes on four cores (92 minutes of processors), on some machines half as much again"
-    prove_libraries >&2
-    rt run ${jobs:+--jobs "$jobs"} -- "$@"
+    ../../examples/prove >&2
+    exec out/svcmgr "$@"
 )
-
-# Proves each library that isn't built yet, lowest first. `rt run` would read all of them at once before it proves the
-# first one, which takes two minutes.
-prove_libraries() {
-    local libraries library
-    libraries="$(sed '/^svcmgr/,$d; /^#/d; s/[ :].*//' ../../crates.txt)"
-    for library in $libraries; do
-        if [ ! -e "../$library/out/rlib/stamp" ]; then
-            (cd "../$library" && rt lib ${jobs:+--jobs "$jobs"})
-        fi
-    done
-}

@@ -187,15 +187,21 @@ def begin(server, model, case):
     return manager and Talk(manager)
 
 
+@contextlib.contextmanager
+def talking(program, model, case, conversation):
+    """A server and the model's side after a conversation, or no model's side if the server says why it doesn't begin."""
+    with Server(program, case, len({who for who, _ in conversation})) as server:
+        talk = begin(server, model, case)
+        if talk is not None:
+            say_all(server, talk, conversation)
+        yield server, talk
+
+
 def difference_served(program, model, case, conversation):
     """How a server's answers to a conversation differ from the model's, or nothing."""
     try:
-        with Server(program, case, len({who for who, _ in conversation})) as server:
-            talk = begin(server, model, case)
-            if talk is None:
-                return None
-            say_all(server, talk, conversation)
-            if len(talk.audit) <= MOST_LINES:
+        with talking(program, model, case, conversation) as (server, talk):
+            if talk is not None and len(talk.audit) <= MOST_LINES:
                 expect(server.audit_lines(len(talk.audit)), talk.audit, "audit lines")
     except (Wrong, OSError) as wrong:
         return str(wrong)
@@ -302,11 +308,9 @@ def parts_at_once(drawing, talk):
 def difference_at_once(program, model, case, conversation, drawing):
     """As `difference_served`, for connections that speak at once after a conversation."""
     try:
-        with Server(program, case, len({who for who, _ in conversation})) as server:
-            talk = begin(server, model, case)
+        with talking(program, model, case, conversation) as (server, talk):
             if talk is None:
                 return None
-            say_all(server, talk, conversation)
             parts = parts_at_once(drawing, talk)
             came = ask_at_once(server, parts)
             last = server.speaker(ADMIN)
