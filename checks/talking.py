@@ -119,9 +119,12 @@ class Connection:
     """A connection to a server."""
 
     def __init__(self, path):
-        self.stream = socket.socket(socket.AF_UNIX)
-        self.stream.connect(str(path))
-        self.lines = Lines(self.stream.fileno())
+        stream = socket.socket(socket.AF_UNIX)
+        stream.connect(str(path))
+        self.use(stream)
+
+    def use(self, stream):
+        self.stream, self.lines = stream, Lines(stream.fileno())
 
     def __enter__(self):
         return self

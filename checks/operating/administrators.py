@@ -1,15 +1,12 @@
-"""Requests of administrators, and clients with the identities that the kernel gives."""
+"""Requests of administrators."""
 
-import contextlib
-import ctypes
 import os
 import socket
 import subprocess
-import time
 from concurrent.futures import ThreadPoolExecutor
 
-from operating.servers import OTHER_HELLO, check, expect, is_over, is_refused, room, served, talk
-from talking import APPLICATION, BROKEN, PATIENCE, ROOT, SERVICE, Connection, LeftOut
+from operating.servers import OTHER_HELLO, check, expect, room, served, talk
+from talking import APPLICATION, BROKEN, PATIENCE
 
 
 @check
@@ -70,81 +67,3 @@ def answer_once(listener, told):
     with stream:
         stream.recv(65536)
         stream.sendall(told)
-
-
-# Linux's number of setresuid, which changes the identity of one thread alone.
-SETRESUID = {"x86_64": 117}
-
-
-@contextlib.contextmanager
-def as_user(uid):
-    """Lets this thread be another user, as far as sockets and files are concerned. Needs root."""
-    libc = ctypes.CDLL(None, use_errno=True)
-    call = SETRESUID[os.uname().machine]
-    libc.syscall(call, -1, uid, -1)
-    try:
-        yield
-    finally:
-        libc.syscall(call, -1, 0, -1)
-
-
-@contextlib.contextmanager
-def kept_door(server):
-    """A doorkeeper at a server, and where it listens. Users 0 and 10007 have contexts."""
-    path, contexts = server.folder / "door", server.folder / "contexts"
-    contexts.write_text(f"{os.getuid()} {SERVICE}\n10007 {APPLICATION}\n")
-    server.folder.chmod(0o755)
-    words = [ROOT / "examples" / "doorkeeper", "--socket", path, "--server", server.clients, "--contexts", contexts]
-    child = subprocess.Popen(words, stdin=subprocess.DEVNULL, stderr=subprocess.DEVNULL)
-    try:
-        until = time.monotonic() + PATIENCE
-        while is_refused(path) and time.monotonic() < until:
-            time.sleep(0.05)
-        yield path
-    finally:
-        child.kill()
-        child.wait()
-
-
-def is_greeted(party):
-    """The first line is the answer to the doorkeeper's `hello`. Who waited for the doorkeeper were clients, too."""
-    expect(party.lines.line()[:7], "client ", "a process is connected")
-
-
-@check
-def doorkeeper(program):
-    with served(program) as server, kept_door(server) as path, Connection(path) as party:
-        is_greeted(party)
-        talk(party, (OTHER_HELLO, "malformed"), ("hello", "malformed"), ("bye", "bye"))
-        expect(is_over(party), True, "the connection is over after `bye`")
-    # A refused process can't try again as another one.
-    with served(program, "--journal", "2") as server, kept_door(server) as path, Connection(path) as party:
-        expect(party.lines.line(), "failed journal-full\n", "the own user is answered")
-        talk(party, (OTHER_HELLO, "malformed"))
-
-
-@check
-def doorkeeper_of_a_service(program):
-    user = os.getuid()
-    with served(program) as server, kept_door(server) as path, Connection(path) as party:
-        is_greeted(party)
-        if user % 100_000 >= 10_000:
-            talk(party, ("add activity o1 0 8", f"exception -1 app {user}"))
-            raise LeftOut(f"user {user} is an application, which may not add")
-        talk(party, ("add activity o1 0 8", "ok"))
-
-
-@check
-def doorkeeper_of_two_users(program):
-    if os.getuid() != 0 or os.uname().machine not in SETRESUID:
-        raise LeftOut("only root can connect as another user, on x86_64")
-    with served(program) as server, kept_door(server) as path, Connection(path) as party:
-        is_greeted(party)
-        talk(party, ("add activity o1 0 8", "ok"))
-        with as_user(10007):
-            other = Connection(path)
-        is_greeted(other)
-        talk(other, ("get activity", "handle 1"), ("add foo o1 0 8", "exception -1 app 10007"))
-        with as_user(10008):
-            unknown = Connection(path)
-        expect(is_over(unknown), True, "the connection of a user without a context is over")

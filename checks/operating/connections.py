@@ -12,7 +12,7 @@ import threading
 import time
 
 from operating.servers import HELLO, LIMIT, MARGIN, NOT_ACCEPTED, OTHER_HELLO
-from operating.servers import Server, ask_all, check, expect, is_over, is_refused, room, served, talk
+from operating.servers import Server, ask_all, check, comes_true, expect, is_over, is_refused, room, served, talk
 from operating.servers import with_accept_error
 from talking import DEVICE, PATIENCE, Wrong
 
@@ -249,21 +249,10 @@ def client_that_cannot_leave(program, shim):
         with server.client() as client:
             talk(client, (HELLO, "client 1"), ("add activity o1 0 8", "ok"))
             counts[2] = 1
-        refused = settled(lambda: counts[1])
+        # The death is tried 16 times at once, and ten times a second from then on.
+        comes_true(lambda: counts[1] >= 20, "twenty allocations are refused")
         counts[2] = 0
-        if refused < 16:
-            raise Wrong(f"a client's end was refused {refused} times")
+        with server.admin() as admin:
+            comes_true(lambda: admin.ask("version") == "version 1 4", "the client's death")
         with server.client() as client:
             talk(client, (OTHER_HELLO, "client 2"), ("get activity", "null"), ("version", "version 1 5"))
-
-
-def settled(number_of):
-    """A number that was more than 0 and the same for a while."""
-    until = time.monotonic() + PATIENCE
-    number = 0
-    while time.monotonic() < until:
-        time.sleep(0.5)
-        before, number = number, number_of()
-        if number > 0 and number == before:
-            return number
-    raise Wrong("nothing was refused, or it went on")

@@ -38,18 +38,10 @@ def expect(came, wanted, what):
         raise Wrong(f"{what}: {came!r} in place of {wanted!r}")
 
 
-class Server:
-    """A server in a folder of its own or in one that is given, from its start on."""
+class Daemon:
+    """A program that runs until it is killed, and what it says on standard error."""
 
-    def __init__(self, program, folder, *options, clients="clients", admins="admins", **others):
-        self.folder = folder
-        self.clients, self.admins = folder / clients, folder / admins
-        # A second server in the folder finds the files that the first one may be reading.
-        for name, text in ("rules", DEVICE), ("labels", LABELS):
-            if not (folder / name).exists():
-                (folder / name).write_text(text)
-        words = [program, "serve", *options, "--socket", str(self.clients), "--admin", str(self.admins)]
-        words += [str(folder / "rules"), str(folder / "labels")]
+    def __init__(self, words, **others):
         streams = {"stdin": subprocess.DEVNULL, "stdout": subprocess.DEVNULL, "stderr": subprocess.PIPE}
         self.child = subprocess.Popen(words, **streams, **others)
         self.said = Lines(self.child.stderr.fileno())
@@ -62,30 +54,43 @@ class Server:
         self.child.wait()
         self.child.stderr.close()
 
-    def listens(self):
-        line = f"listening for clients at {self.clients} and for administrators at {self.admins}\n"
-        expect(self.said.line(), line, "the server says")
-        return self
-
     def says(self, line):
-        expect(self.said.line(), line, "the server says")
+        expect(self.said.line(), line, "it says")
 
     def says_no_more(self):
         time.sleep(0.2)
         if self.said.held or select.select([self.said.number], [], [], 0)[0]:
-            raise Wrong(f"the server says {self.said.line()!r}")
+            raise Wrong(f"it says {self.said.line()!r}")
 
     def ends(self, line):
-        """It says this, ends with status 1, and leaves no socket of its own."""
+        """It says this, and ends with status 1."""
         self.says(line)
         self.has_ended()
-        expect(self.said.line(), "", "the server says at its end")
+        expect(self.said.line(), "", "it says at its end")
 
-    def has_ended(self, seconds=PATIENCE):
+    def has_ended(self, seconds=PATIENCE, status=1):
         try:
-            expect(self.child.wait(seconds), 1, "the server ends with status")
+            expect(self.child.wait(seconds), status, "it ends with status")
         except subprocess.TimeoutExpired:
-            raise Wrong(f"the server hasn't ended after {seconds} seconds") from None
+            raise Wrong(f"it hasn't ended after {seconds} seconds") from None
+
+
+class Server(Daemon):
+    """A server in a folder of its own or in one that is given, from its start on."""
+
+    def __init__(self, program, folder, *options, clients="clients", admins="admins", **others):
+        self.folder = folder
+        self.clients, self.admins = folder / clients, folder / admins
+        # A second server in the folder finds the files that the first one may be reading.
+        for name, text in ("rules", DEVICE), ("labels", LABELS):
+            if not (folder / name).exists():
+                (folder / name).write_text(text)
+        words = [program, "serve", *options, "--socket", str(self.clients), "--admin", str(self.admins)]
+        super().__init__([*words, str(folder / "rules"), str(folder / "labels")], **others)
+
+    def listens(self):
+        self.says(f"listening for clients at {self.clients} and for administrators at {self.admins}\n")
+        return self
 
     def client(self):
         return Connection(self.clients)
@@ -109,6 +114,14 @@ def served(program, *options, **others):
 def talk(party, *exchanges):
     for line, reply in exchanges:
         expect(party.ask(line), reply, f"{line!r} is answered")
+
+
+def comes_true(is_so, what):
+    until = time.monotonic() + PATIENCE
+    while not is_so():
+        if time.monotonic() > until:
+            raise Wrong(f"{what}: not after {PATIENCE} seconds")
+        time.sleep(0.02)
 
 
 def is_over(party):
