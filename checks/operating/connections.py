@@ -154,6 +154,19 @@ def clients_that_wait(program):
 
 
 @check
+def clients_in_their_turn(program):
+    """A worker takes the connection that has waited longest."""
+    number = 100
+    with served(program, "--workers", "1") as server, contextlib.ExitStack() as rest:
+        clients = [rest.enter_context(server.client()) for _ in range(number)]
+        for client in clients:
+            client.send(HELLO.encode() + b"\n")
+        for turn, client in enumerate(clients, 1):
+            expect(client.lines.line(), f"client {turn}\n", "a client is answered")
+            client.stream.close()
+
+
+@check
 def stopped_and_continued(program):
     """Calls that a signal interrupts are made again."""
     number = 20_000
