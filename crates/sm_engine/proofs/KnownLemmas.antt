@@ -41,10 +41,6 @@ pub Spilled-front : (a b : Option (List ℕ)) (held : List ℕ) (n : ℕ) → Ap
     → Spilled a b held (drop n held)
 Spilled-front a b held n p = record { written = take n held; appended = p; joined = sym (take-append-drop n held) }
 
--- The first state of a text that is written in parts.
-pub Pending-start : (a : Option (List ℕ)) (held : List ℕ) → held ≡ [] → Pending a a held []
-Pending-start a held e = record { written = []; appended = Appends-nothing a; joined = sym e }
-
 pub Pending-spill : {a b c : Option (List ℕ)} {held rest whole : List ℕ} → Pending a b held whole
     → Spilled b c held rest → Pending a c rest whole
 Pending-spill {a} {b} {c} {held} {rest} {whole} p s = record {

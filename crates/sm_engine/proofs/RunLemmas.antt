@@ -4,7 +4,7 @@ use Rattle.std.proofs.Common.{arith}
 use Rattle.std.proofs.lemmas.List.{append-nil}
 use Rattle.sm_wire.specs.declared.item.Item.{Item}
 use Rattle.sm_engine.specs.Running.{Answers, Runs, Answered, GaveUp, Going, Stopped, Wrote, Spilled}
-use Rattle.sm_engine.proofs.KnownLemmas.{Pending-start, Pending-spill, Pending-more, Pending-end, Partly-spilled}
+use Rattle.sm_engine.proofs.KnownLemmas.{Pending-spill, Pending-more, Pending-end, Partly-spilled}
 use Rattle.sm_engine.proofs.KnownLemmas.{Spilled-none}
 
 pub Runs-append : {S : Type 0} (answers : Answers S) (s m t : S) (is js : List Item) (r r' a a' : List ℕ)
@@ -25,17 +25,6 @@ Runs-append answers s m t (i ∷ is) js r r' a a' p q = (
 pub Runs-one : {S : Type 0} (answers : Answers S) (s t : S) (i : Item) (r a : List ℕ)
     → answers s i r a t → Runs answers s (i ∷ []) r a t
 Runs-one answers s t i r a p = (t, r, a, [], [], p, (refl, refl, refl), sym (append-nil r), sym (append-nil a))
-
--- Nothing is answered yet.
-pub going_start : {S : Type 0} (answers : Answers S) (s : S) (w a : Option (List ℕ))
-    (held held_lines : List ℕ) → held ≡ [] → held_lines ≡ [] → Going answers s [] w w a a held held_lines s
-going_start answers s w a held held_lines e f = record {
-  replies = [];
-  lines = [];
-  runs = (refl, refl, refl);
-  wrote = Pending-start w held e;
-  audited = Pending-start a held_lines f;
-}
 
 -- One more item is answered.
 pub going_answer : {S : Type 0} {answers : Answers S} {old m t : S} {items : List Item}
@@ -139,10 +128,3 @@ going_end g s p t q all e = record {
   wrote = Pending-end (Pending-spill g.wrote s) p;
   audited = Pending-end (Pending-spill g.audited t) q;
 }
-
--- Nothing was answered.
-pub stopped_none : {S : Type 0} {answers : Answers S} {s : S} {w a : Option (List ℕ)}
-    (limit : ℕ) (items : List Item) → Stopped limit answers s items w w a a s
-stopped_none {answers = answers} {s = s} {w = w} {a = a} limit items =
-    going_fail_end limit (going_start answers s w a [] [] refl refl) (omega arith) (omega arith) (Spilled-none w [])
-    (Spilled-none a []) items items refl

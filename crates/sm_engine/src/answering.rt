@@ -2,6 +2,8 @@
 
 ghost use Rattle.std.specs.Prelude.{◌≡◌, ◌<◌, ◌≤◌, ◌+◌, ◌-◌, ℕ, [], length, OnOk, OnErr, take, ◌⊎◌, ◌↔◌};
 ghost use Rattle.std.specs.Io.KnownBytes.{Appends};
+ghost use Rattle.sm_wire.specs.Items.{scan_after, items_after};
+ghost use Rattle.sm_engine.specs.Buffers.{IsIdle};
 ghost use Rattle.sm_engine.specs.Counts.{failures_of, inner_of, greatest_count};
 ghost use Rattle.sm_engine.specs.Running.{IsSilent, Wrote, Stopped, Spilled};
 
@@ -10,25 +12,28 @@ use crate::counted::Counted;
 use crate::fault::Fault;
 use crate::machine::Machine;
 use crate::writing::write_whole;
+use sm_wire::LineReader;
 use std::io::Write;
 
-/// Answers the items of the buffers in order, and writes their answers.
-pub fn answer_items<M: Machine, W: Write, A: Write>(
+/// Answers each item that ends in the piece when it is read, and writes the answers.
+pub fn answer_piece<M: Machine, W: Write, A: Write>(
     machine: &mut M,
+    lines: &mut LineReader,
+    piece: &[u8],
     buffers: &mut Buffers,
     writer: &mut Counted<W>,
     audit: &mut Counted<A>,
 ) -> Result<(), Fault>
-    requires replies { buffers.old.replies.items ≡ [] }
-    requires lines { buffers.old.lines.items ≡ [] }
+    requires idle { IsIdle buffers.old }
     requires writer { failures_of writer.old < greatest_count }
     requires audit { failures_of audit.old < greatest_count }
-    ensures ok { OnOk result (Wrote M.answers machine.old buffers.old.items.items
+    ensures scan { OnOk result (lines.new ≡ scan_after lines.old piece.now) }
+    ensures ok { OnOk result (Wrote M.answers machine.old (items_after lines.old piece.now)
         (W.contents (inner_of writer.old)) (W.contents (inner_of writer.new))
         (A.contents (inner_of audit.old)) (A.contents (inner_of audit.new)) machine.new) }
     ensures writer_count { OnOk result (failures_of writer.new ≡ failures_of writer.old) }
     ensures audit_count { OnOk result (failures_of audit.new ≡ failures_of audit.old) }
-    ensures err { OnErr result (Stopped M.hold_limit M.answers machine.old buffers.old.items.items
+    ensures err { OnErr result (Stopped M.hold_limit M.answers machine.old (items_after lines.old piece.now)
         (W.contents (inner_of writer.old)) (W.contents (inner_of writer.new))
         (A.contents (inner_of audit.old)) (A.contents (inner_of audit.new)) machine.new) }
     ensures fault { OnErr result ((result ≡ Err Fault.WriteFault) ⊎ (result ≡ Err Fault.Memory)) }
@@ -36,7 +41,12 @@ pub fn answer_items<M: Machine, W: Write, A: Write>(
         < failures_of writer.new + failures_of audit.new) }
     ensures unaudited { IsSilent M.answers → audit.new ≡ audit.old }
 {
-    while let Some(item) = buffers.items.pop_front() {
+    let mut start = 0;
+    while start < piece.len() {
+        start += lines.take_one(&piece[start..], &mut buffers.items)?;
+        let Some(item) = buffers.items.pop() else {
+            continue;
+        };
         machine.answer(item, &mut buffers.replies, &mut buffers.lines)?;
         let limit = machine.hold_limit();
         spill(writer, limit, &mut buffers.replies)?;

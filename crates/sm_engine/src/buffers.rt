@@ -6,18 +6,15 @@ ghost use Rattle.sm_engine.specs.Buffers.{IsIdle};
 use sm_kinds::drop_fields;
 use sm_wire::Item;
 use std::alloc::Global;
-use std::collections::VecDeque;
-
-/// A queue with room for at most four times as many items keeps its memory.
-const KEPT_ITEMS: usize = 256;
 
 /// A text with room for at most four times as many bytes keeps its memory.
 const KEPT_BYTES: usize = 16_384;
 
-/// The items of a piece, and the texts that are held back. They are empty between two pieces, and keep their memory
-/// unless it is large and little of it was used. So most pieces need no allocation.
+/// The item that is answered next, and the texts that are held back. They are empty between two pieces, and keep their
+/// memory, a text unless it is large and little of it was used. So most pieces need no allocation.
 pub struct Buffers {
-    pub items: VecDeque<Item>,
+    /// A list of one item at most. An item is made in its place here.
+    pub items: Vec<Item>,
     pub replies: Vec<u8>,
     pub lines: Vec<u8>,
 }
@@ -34,7 +31,7 @@ impl Buffers {
         ensures { IsIdle result }
     {
         Buffers {
-            items: VecDeque::new(alloc),
+            items: Vec::new(alloc),
             replies: Vec::new(alloc),
             lines: Vec::new(alloc),
         }
@@ -44,21 +41,9 @@ impl Buffers {
     pub fn clear(&mut self)
         ensures { IsIdle self.new }
     {
-        clear_items(&mut self.items);
+        self.items.clear();
         clear_text(&mut self.replies);
         clear_text(&mut self.lines);
-    }
-}
-
-/// Empties a queue. If it has much room, and less than a quarter was used, it gives half of its memory back.
-fn clear_items(items: &mut VecDeque<Item>)
-    ensures { items.new.items ≡ [] }
-{
-    let quarter = items.capacity() / 4;
-    let is_large = quarter > KEPT_ITEMS && quarter > items.len();
-    items.clear();
-    if is_large {
-        items.shrink_to(quarter * 2);
     }
 }
 

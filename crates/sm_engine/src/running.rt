@@ -8,7 +8,7 @@ ghost use Rattle.sm_engine.specs.Buffers.{IsIdle};
 ghost use Rattle.sm_engine.specs.Counts.{failures_of, calls_of, inner_of, greatest_count, one_more};
 ghost use Rattle.sm_engine.specs.Running.{IsSilent, Wrote, Stopped, Served, ending_of};
 
-use crate::answering::answer_items;
+use crate::answering::answer_piece;
 use crate::buffers::Buffers;
 use crate::counted::Counted;
 use crate::fault::Fault;
@@ -63,11 +63,14 @@ pub fn run<M: Machine, R: Read, W: Write, A: Write>(
         if n == 0 {
             return write_ending(&lines, writer);
         }
-        // No line was too long yet, so only memory can fail.
-        let Ok(()) = lines.feed_into(&buffer[..n], &mut buffers.items) else {
-            return Err(Fault::Memory);
-        };
-        answer_items(machine, &mut buffers, writer, audit)?;
+        answer_piece(
+            machine,
+            &mut lines,
+            &buffer[..n],
+            &mut buffers,
+            writer,
+            audit,
+        )?;
         buffers.clear();
         if machine.is_over() {
             return Ok(());

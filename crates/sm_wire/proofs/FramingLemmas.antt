@@ -1,9 +1,9 @@
 -- What the bytes of a whole item, or of a part of one, lead to.
 use Rattle.std.proofs.Common.{◌≡◌, ◌≢◌, ℕ, suc, ◌+◌, ◌-◌, ◌<◌, ◌≤◌, List, [], ◌∷◌, ◌++◌, length, take, drop, get_or}
-use Rattle.std.proofs.Common.{length-append, length-drop, append_assoc, refl, ap, sym, ◌∙◌, arith}
-use Rattle.std.proofs.Math.Seq.{drop-cons, take-add, take-append_seam, drop-append_seam, take-length}
+use Rattle.std.proofs.Common.{length-append, append_assoc, refl, ap, sym, ◌∙◌, arith, Option, Some, None, ◌⊎◌, inl, inr}
+use Rattle.std.proofs.Math.Seq.{drop-cons, take-add, take-append_seam, take-length}
 use Rattle.std.proofs.lemmas.Bool.Decides.{nat_tests}
-use Rattle.std.proofs.lemmas.List.{append-nil, length-take-le, get_or-take, drop-drop, take-append-drop}
+use Rattle.std.proofs.lemmas.List.{append-nil, length-take-le, get_or-take, take-append-drop}
 use Rattle.sm_wire.specs.declared.item.Item.{Item}
 use Rattle.sm_wire.specs.declared.item.Item.TheVariants.{LineTooLong}
 use Rattle.sm_wire.specs.declared.kind.Kind.{Kind}
@@ -11,9 +11,10 @@ use Rattle.sm_wire.specs.declared.frame_state.FrameState.{FrameState}
 use Rattle.sm_wire.specs.declared.frame_state.FrameState.TheVariants.{Line, Texts as TextsMode, Dead}
 use Rattle.sm_wire.specs.declared.reload_header.ReloadHeader.{ReloadHeader}
 use Rattle.sm_wire.specs.declared.ends.End.TheVariants.{At, Later, Never}
-use Rattle.sm_wire.specs.Items.{Scan, Makes, scan_start, scan_dead, policy_item, line_end, line_step, text_step}
-use Rattle.sm_wire.specs.Items.{mode_step, byte_step, scan_after, items_after}
-use Rattle.sm_wire.specs.Ends.{EndsAs, IsWhole, whole_step, never_items}
+use Rattle.sm_wire.specs.Grammar.{header_of}
+use Rattle.sm_wire.specs.Items.{Scan, Makes, Takes, scan_start, scan_dead, policy_item, line_end, text_start, line_step}
+use Rattle.sm_wire.specs.Items.{text_step, mode_step, byte_step, scan_after, items_after}
+use Rattle.sm_wire.specs.Ends.{EndsAs, whole_step, never_items}
 use Rattle.sm_wire.proofs.ItemLemmas.{items_after-append, scan_after-append}
 
 -- The bytes lead from one scan to another, and end these items.
@@ -21,23 +22,9 @@ pub record Leads (s : Scan) (bytes : List ℕ) (t : Scan) (ended : List Item) : 
   pub scan : scan_after s bytes ≡ t
   pub items : items_after s bytes ≡ ended
 
--- How far the loop has come.
-pub record Far (kind : Kind) (m first : FrameState) (bytes : List ℕ) (start : ℕ) (old new : List Item) : Type 0 where
-  pub within : start ≤ length bytes
-  pub rest : scan_after (record { kind = kind; mode = m; held = [] }) (drop start bytes)
-      ≡ scan_after (record { kind = kind; mode = first; held = [] }) bytes
-  pub whole : new ++ items_after (record { kind = kind; mode = m; held = [] }) (drop start bytes) ≡ old
-      ++ items_after (record { kind = kind; mode = first; held = [] }) bytes
-
--- The rest of some bytes, as the code takes it.
-pub sliced : (bytes : List ℕ) (start : ℕ) → take (length bytes - start) (drop start bytes) ≡ drop start bytes
-sliced bytes start =
-    let n : length bytes - start ≡ length (drop start bytes) = omega (arith, length-drop start bytes) in
-    rw n (take-length (drop start bytes))
-
 -- At a stream of any kind.
 module _ (kind : Kind) where
-  pub leads_then : (s t u : Scan) (xs ys : List ℕ) (is js : List Item) → Leads s xs t is → Leads t ys u js
+  leads_then : (s t u : Scan) (xs ys : List ℕ) (is js : List Item) → Leads s xs t is → Leads t ys u js
       → Leads s (xs ++ ys) u (is ++ js)
   leads_then s t u xs ys is js p q = record {
     scan = rw (scan_after-append s xs ys, p.scan) q.scan;
@@ -107,7 +94,7 @@ module _ (kind : Kind) where
       [] (line_end kind (held ++ front)).1 (front_leads held bytes n (omega arith) room plain)
       (leads_one there 10 (line_end kind (held ++ front)).0 (line_end kind (held ++ front)).1 step))
 
-  pub dead_leads : (bytes : List ℕ) → Leads (scan_dead kind) bytes (scan_dead kind) []
+  dead_leads : (bytes : List ℕ) → Leads (scan_dead kind) bytes (scan_dead kind) []
   unfolding mode_step
   dead_leads [] = record { scan = refl; items = refl }
   dead_leads (x ∷ xs) = let rest = dead_leads xs in record { scan = rest.scan; items = rest.items }
@@ -190,7 +177,7 @@ module _ (kind : Kind) where
   ends_lead Dead held bytes n e = absurd e
 
   -- Bytes of an item before its end.
-  pub later_leads : (m : FrameState) (held bytes : List ℕ) → EndsAs m (length held) bytes Later
+  later_leads : (m : FrameState) (held bytes : List ℕ) → EndsAs m (length held) bytes Later
       → Leads (record { kind = kind; mode = m; held = held }) bytes
       (record { kind = kind; mode = m; held = held ++ bytes }) []
   later_leads Line held bytes e = line_leads held bytes e.1 e.0
@@ -198,134 +185,91 @@ module _ (kind : Kind) where
   later_leads Dead held bytes e = absurd e
 
   -- Bytes where no item ends any more.
-  pub never_leads : (m : FrameState) (held bytes : List ℕ) → (m ≡ Dead → held ≡ []) → EndsAs m (length held) bytes Never
+  never_leads : (m : FrameState) (held bytes : List ℕ) → (held ≡ []) ⊎ (0 < length bytes)
+      → EndsAs m (length held) bytes Never
       → Leads (record { kind = kind; mode = m; held = held }) bytes (scan_dead kind) (never_items m)
-  never_leads Line held bytes empty e = line_long held bytes (4096 - length held) refl e.0 e.1
-  never_leads (TextsMode a) held bytes empty e = absurd e
-  never_leads Dead held bytes empty e = rw (empty refl) (dead_leads bytes)
+  unfolding mode_step
+  never_leads Line held bytes some e = line_long held bytes (4096 - length held) refl e.0 e.1
+  never_leads (TextsMode a) held bytes some e = absurd e
+  never_leads Dead held [] (inl none) e = rw none (dead_leads [])
+  never_leads Dead held [] (inr some) e = absurd (omega arith)
+  never_leads Dead held (x ∷ xs) some e =
+      let rest = dead_leads xs in record { scan = rest.scan; items = rest.items }
 
-  -- What ends so are the bytes of a whole item.
-  pub ends_whole : (m : FrameState) (held bytes : List ℕ) (n : ℕ) → EndsAs m (length held) bytes (At n)
-      → IsWhole m (held ++ take n bytes)
-  ends_whole Line held bytes n e =
-      omega (arith, length-append held (take n bytes), length-take-le n bytes e.1, e.0)
-  ends_whole (TextsMode a) held bytes n e =
-      omega (arith, length-append held (take n bytes), length-take-le n bytes e.1, e.2)
-  ends_whole Dead held bytes n e = absurd e
+  -- It is reported at most once that no item ends any more.
+  never_one : (m : FrameState) → length (never_items m) ≤ 1
+  never_one Line = omega arith
+  never_one (TextsMode a) = omega arith
+  never_one Dead = omega arith
 
   -- An item ends among the bytes, and not behind them.
-  pub ends_within : (m : FrameState) (held : ℕ) (bytes : List ℕ) (n : ℕ) → EndsAs m held bytes (At n)
+  ends_within : (m : FrameState) (held : ℕ) (bytes : List ℕ) (n : ℕ) → EndsAs m held bytes (At n)
       → (0 < n) × (n ≤ length bytes)
   ends_within Line held bytes n e = (e.0, e.1)
   ends_within (TextsMode a) held bytes n e = (e.0, e.1)
   ends_within Dead held bytes n e = absurd e
 
-  -- One more item.
-  pub far_next : (m n first : FrameState) (bytes : List ℕ) (start k : ℕ) (old mid new : List Item)
-      → EndsAs m 0 (drop start bytes) (At k) → Makes (whole_step kind m (take k (drop start bytes))) kind n [] mid new
-      → Far kind m first bytes start old mid → Far kind n first bytes (start + k) old new
-  far_next m n first bytes start k old mid new ends made far =
-      let w = ends_within m 0 (drop start bytes) k ends in
-      let l = ends_lead m [] (drop start bytes) k ends in
-      let there : Scan = record { kind = kind; mode = m; held = [] } in
-      let here : Scan = record { kind = kind; mode = n; held = [] } in
-      let rest = drop (start + k) bytes in
-      let parts : drop start bytes ≡ take k (drop start bytes) ++ rest =
-      sym (take-append-drop k (drop start bytes)) ∙ ap (λ (l : List ℕ). take k (drop start bytes) ++ l)
-      (drop-drop k start bytes) in
-      let both = leads_then there here (scan_after here rest) (take k (drop start bytes)) rest
-      (whole_step kind m (take k (drop start bytes))).1 (items_after here rest)
-      (record { scan = l.scan ∙ made.scan; items = l.items }) (record { scan = refl; items = refl }) in
+  -- The end of a `reload` line gives one item at most.
+  text_one : (a : ReloadHeader) → length (text_start kind a).1 ≤ 1
+  unfolding text_start
+  text_one a = grind (arith, nat_tests)
+
+  -- The end of a line gives one item at most.
+  line_one : (line : List ℕ) (o : Option ReloadHeader) → header_of kind line ≡ o → length (line_end kind line).1 ≤ 1
+  unfolding line_end
+  line_one line (Some a) e = rw e (text_one a)
+  line_one line None e = rw e (omega arith)
+
+  -- A whole item is one item at most.
+  whole_one : (m : FrameState) (bytes : List ℕ) → length (whole_step kind m bytes).1 ≤ 1
+  unfolding whole_step
+  whole_one Line bytes = line_one (take (length bytes - 1) bytes) (header_of kind (take (length bytes - 1) bytes)) refl
+  whole_one (TextsMode a) bytes = omega arith
+  whole_one Dead bytes = omega arith
+
+  -- A reader took the end of an item.
+  pub takes_end : (m n : FrameState) (held piece none : List ℕ) (k : ℕ) (old new : List Item)
+      → EndsAs m (length held) piece (At k) → Makes (whole_step kind m (held ++ take k piece)) kind n [] old new
+      → none ≡ []
+      → Takes (record { kind = kind; mode = m; held = held }) (record { kind = kind; mode = n; held = none }) piece k
+      old new
+  takes_end m n held piece none k old new ends made empty =
+      let w = ends_within m (length held) piece k ends in
+      let l = ends_lead m held piece k ends in
       record {
-        within = omega (arith, far.within, w.1, length-drop start bytes);
-        rest = rw (← both.scan, ← parts) far.rest;
-        whole = rw (made.items, append_assoc, ← both.items, ← parts) far.whole;
+        some = λ h. w.0;
+        within = w.1;
+        scan = rw empty (sym (l.scan ∙ made.scan));
+        items = rw l.items made.items;
+        one = rw l.items (whole_one m (held ++ take k piece));
       }
 
-  -- The loop ends where the bytes end, or in the middle of an item.
-  pub far_later : (m first : FrameState) (bytes : List ℕ) (start : ℕ) (old new : List Item)
-      → EndsAs m 0 (drop start bytes) Later
-      → Far kind m first bytes start old new
-      → (scan_after (record { kind = kind; mode = first; held = [] }) bytes ≡ record {
-        kind = kind;
-        mode = m;
-        held = drop start bytes;
-      }) × (new ≡ old ++ items_after (record { kind = kind; mode = first; held = [] }) bytes)
-  far_later m first bytes start old new ends far =
-      let l = later_leads m [] (drop start bytes) ends in
-      (rw (← far.rest) l.scan, rw (← far.whole, l.items, append-nil new) refl)
+  -- A reader took a piece in which nothing ends.
+  pub takes_later : (m : FrameState) (held piece all : List ℕ) (items : List Item)
+      → EndsAs m (length held) piece Later → all ≡ held ++ piece
+      → Takes (record { kind = kind; mode = m; held = held }) (record { kind = kind; mode = m; held = all }) piece
+      (length piece) items items
+  takes_later m held piece all items ends is =
+      let l = later_leads m held piece ends in
+      record {
+        some = λ h. h;
+        within = omega arith;
+        scan = rw (take-length piece, l.scan, is) refl;
+        items = rw (take-length piece, l.items, append-nil items) refl;
+        one = rw (take-length piece, l.items) (omega arith);
+      }
 
-  -- The loop ends with the stream.
-  pub far_never : (m first : FrameState) (bytes : List ℕ) (start : ℕ) (old mid new : List Item)
-      → EndsAs m 0 (drop start bytes) Never → new ≡ mid ++ never_items m → Far kind m first bytes start old mid →
-      (scan_after (record { kind = kind; mode = first; held = [] }) bytes ≡ (scan_dead kind))
-      × (new ≡ old ++ items_after (record { kind = kind; mode = first; held = [] }) bytes)
-  far_never m first bytes start old mid new ends is far =
-      let l = never_leads m [] (drop start bytes) (λ h. refl) ends in
-      (rw (← far.rest) l.scan, rw (← far.whole, l.items) is)
-
-  -- A piece that ends what is held, and what the rest of it leads to.
-  pub piece_ends : (m n last : FrameState) (held piece : List ℕ) (k start : ℕ) (old mid new : List Item)
-      → EndsAs m (length held) piece (At k) → Makes (whole_step kind m (held ++ take k piece)) kind n [] old mid
-      → scan_after (record { kind = kind; mode = n; held = [] })
-      (drop k piece) ≡ record { kind = kind; mode = last; held = drop start (drop k piece) }
-      → new ≡ mid ++ items_after (record { kind = kind; mode = n; held = [] }) (drop k piece) →
-      (scan_after (record { kind = kind; mode = m; held = held }) piece
-      ≡ record { kind = kind; mode = last; held = drop start (drop k piece) })
-      × (new ≡ old ++ items_after (record { kind = kind; mode = m; held = held }) piece)
-  piece_ends m n last held piece k start old mid new ends made rest is =
-      let there : Scan = record { kind = kind; mode = m; held = held } in
-      let here : Scan = record { kind = kind; mode = n; held = [] } in
-      let l = ends_lead m held piece k ends in
-      let tail : Leads here (drop k piece) (record { kind = kind; mode = last; held = drop start (drop k piece) })
-      (items_after here (drop k piece)) = record { scan = rest; items = refl } in
-      let first : Leads there (take k piece) here (whole_step kind m (held ++ take k piece)).1 =
-      record { scan = l.scan ∙ made.scan; items = l.items } in
-      let both = leads_then there here (record { kind = kind; mode = last; held = drop start (drop k piece) })
-      (take k piece)
-      (drop k piece) (whole_step kind m (held ++ take k piece)).1 (items_after here (drop k piece)) first tail in
-      let parts = take-append-drop k piece in
-      (ap (scan_after there) (sym parts) ∙ both.scan, rw (is, made.items, append_assoc, ← both.items, parts) refl)
-
-  -- A piece that ends what is held, as the code takes it: the bytes that are held then.
-  pub piece_taken : (m n last : FrameState) (held piece first whole all left : List ℕ) (k start from : ℕ)
-      (old mid new : List Item) → EndsAs m (length held) piece (At k) → first ≡ held ++ take k piece → whole ≡ first
-      → Makes (whole_step kind m whole) kind n [] old mid
-      → scan_after (record { kind = kind; mode = n; held = [] }) (take (length piece - k) (drop k piece)) ≡ record {
-        kind = kind;
-        mode = last;
-        held = drop start (take (length piece - k) (drop k piece));
-      } → new ≡ mid ++ items_after (record { kind = kind; mode = n; held = [] }) (take (length piece - k)
-      (drop k piece))
-      → all ≡ first ++ take (length piece - (k + start)) (drop (k + start) piece) → from ≡ length held
-      → left ≡ drop (from + k) all → (record { kind = kind; mode = last; held = left } ≡ scan_after
-      (record { kind = kind; mode = m; held = held }) piece)
-      × (new ≡ old ++ items_after (record { kind = kind; mode = m; held = held }) piece)
-  piece_taken m n last held piece first whole all left k start from old mid new ends first_is whole_is made rest is
-      all_is
-      from_is left_is =
-      let w = ends_within m (length held) piece k ends in
-      let both = piece_ends m n last held piece k start old mid new ends (rw (whole_is, first_is) at made)
-      (rw (sliced piece k) at rest) (rw (sliced piece k) at is) in
-      let len : from + k ≡ length first =
-      omega (arith, from_is, ap length first_is, length-append held (take k piece), length-take-le k piece w.1) in
-      let kept : left ≡ drop start (drop k piece) = left_is ∙ rw (len, all_is) (drop-append_seam first _)
-      ∙ sliced piece (k + start) ∙ sym (drop-drop start k piece) in
-      (ap (λ (h : List ℕ). record { kind = kind; mode = last; held = h }) kept ∙ sym both.0, both.1)
-
-  -- A piece that ends nothing.
-  pub piece_later : (m : FrameState) (held piece all : List ℕ) (old : List Item) → EndsAs m (length held) piece Later
-      → all ≡ held ++ piece → (record { kind = kind; mode = m; held = all } ≡ scan_after
-      (record { kind = kind; mode = m; held = held }) piece)
-      × (old ≡ old ++ items_after (record { kind = kind; mode = m; held = held }) piece)
-  piece_later m held piece all old ends is =
-      let l = later_leads m held piece ends in (rw (is, l.scan) refl, rw (l.items, append-nil old) refl)
-
-  -- A piece of a line that is too long.
-  pub piece_never : (m : FrameState) (held piece none : List ℕ) (old new : List Item) → m ≢ Dead
-      → EndsAs m (length held) piece Never → none ≡ [] → new ≡ old ++ never_items m
-      → (record { kind = kind; mode = Dead; held = none } ≡ scan_after
-      (record { kind = kind; mode = m; held = held }) piece)
-      × (new ≡ old ++ items_after (record { kind = kind; mode = m; held = held }) piece)
-  piece_never m held piece none old new alive ends empty is =
-      let l = never_leads m held piece (λ h. absurd (alive h)) ends in (rw (empty, l.scan) refl, rw l.items is)
+  -- A reader took a piece of a line that is too long, or one that comes after it.
+  pub takes_never : (m : FrameState) (held piece none : List ℕ) (old new : List Item)
+      → (held ≡ []) ⊎ (0 < length piece) → EndsAs m (length held) piece Never → new ≡ old ++ never_items m → none ≡ []
+      → Takes (record { kind = kind; mode = m; held = held }) (record { kind = kind; mode = Dead; held = none }) piece
+      (length piece) old new
+  takes_never m held piece none old new some ends is empty =
+      let l = never_leads m held piece some ends in
+      record {
+        some = λ h. h;
+        within = omega arith;
+        scan = rw (take-length piece, l.scan, empty) refl;
+        items = rw (take-length piece, l.items) is;
+        one = rw (take-length piece, l.items) (never_one m);
+      }

@@ -1,7 +1,6 @@
 -- What is read after a `reload` line, once the item of its request is appended.
-use Rattle.std.proofs.Common.{◌≡◌, ℕ, List, [], ◌∷◌, ◌++◌, length, take, get_or, Option, Some, None, refl}
-use Rattle.std.proofs.Common.{append_assoc, ap, sym, ◌∙◌, ◌≤◌, length-take-le}
-use Rattle.std.proofs.lemmas.List.{append-nil}
+use Rattle.std.proofs.Common.{◌≡◌, ℕ, List, [], ◌∷◌, length, take, get_or, Option, Some, None, refl}
+use Rattle.std.proofs.Common.{◌≤◌, length-take-le}
 use Rattle.std.proofs.Math.Seq.{get_or-append_seam, take-append_seam}
 use Rattle.sm_wire.specs.declared.item.Item.{Item}
 use Rattle.sm_wire.specs.declared.item.Item.TheVariants.{Asked}
@@ -10,21 +9,8 @@ use Rattle.sm_wire.specs.declared.frame_state.FrameState.{FrameState}
 use Rattle.sm_wire.specs.declared.reload_header.ReloadHeader.{ReloadHeader}
 use Rattle.sm_wire.specs.declared.request.Request.{Request, TheVariants.Reload}
 use Rattle.sm_wire.specs.Grammar.{request_of, header_of}
-use Rattle.sm_wire.specs.Giving.{Appended, Keeps}
+use Rattle.sm_wire.specs.Giving.{Appended}
 use Rattle.sm_wire.specs.Items.{Makes, line_end, text_start}
-
-pub keeps_same : (old new : List Item) → new ≡ old → Keeps old new
-keeps_same old new is = ([], is ∙ sym (append-nil old))
-
-pub keeps_more : (old mid new more : List Item) → Keeps old mid → new ≡ mid ++ more → Keeps old new
-keeps_more old mid new more (front, is) more_is =
-    (front ++ more, more_is ∙ ap (λ l. l ++ more) is ∙ append_assoc old front more)
-
-pub keeps_then : (old mid new : List Item) → Keeps old mid → Keeps mid new → Keeps old new
-keeps_then old mid new kept (more, is) = keeps_more old mid new more kept is
-
-pub kept_front : (old new : List Item) → Keeps old new → take (length old) new ≡ old
-kept_front old new (more, is) = rw is (take-append_seam old more)
 
 -- A `reload` line leaves no item, and its files are read.
 reload_taken : (kind : Kind) (line : List ℕ) (o : Option Request) (old new last : List Item) (item : Item)

@@ -6,7 +6,7 @@ use Rattle.sm_wire.specs.declared.kind.Kind.{Kind}
 use Rattle.sm_wire.specs.declared.frame_state.FrameState.{FrameState}
 use Rattle.sm_wire.specs.declared.frame_state.FrameState.TheVariants.{Line, Texts as TextsMode, Dead}
 use Rattle.sm_wire.specs.declared.ends.End.{End, TheVariants.At, TheVariants.Later, TheVariants.Never}
-use Rattle.sm_wire.specs.Items.{FrameStep, Scan, line_limit, scan_start, scan_dead, line_end, policy_item}
+use Rattle.sm_wire.specs.Items.{FrameStep, line_limit, scan_start, scan_dead, line_end, policy_item}
 
 -- There is no newline among the first n bytes.
 abbrev pub IsPlain : List ℕ → ℕ → Type 0
@@ -50,9 +50,3 @@ abbrev pub never_items : FrameState → List Item
 never_items Line = LineTooLong ∷ []
 never_items (TextsMode a) = LineTooLong ∷ []
 never_items Dead = []
-
--- The scan is the same, except for more bytes after those that are held.
-pub record Overfull (old new : Scan) : Type 0 where
-  pub kind : new.kind ≡ old.kind
-  pub mode : new.mode ≡ old.mode
-  pub held : take (length old.held) new.held ≡ old.held

@@ -19,7 +19,3 @@ Gives (Ok Line) old new o = Appended o old new × (header_by o ≡ None)
 Gives (Ok Files) old new o = Appended o old new
 Gives (Err Malformed) old new o = (o ≡ None) × (new ≡ old)
 Gives (Err Memory) old new o = new ≡ old
-
--- Some items may have been appended.
-abbrev pub Keeps : List Item → List Item → Type 0
-Keeps old new = (more : List Item) × (new ≡ old ++ more)

@@ -1,5 +1,5 @@
 -- The items of a stream of bytes.
-use Rattle.std.specs.Prelude.{◌≡◌, ◌≢◌, ℕ, ◌+◌, List, [], ◌∷◌, ◌++◌, length, take, drop, Option, Some, None, Bool, true}
+use Rattle.std.specs.Prelude.{◌≡◌, ◌≢◌, ◌<◌, ◌≤◌, ℕ, ◌+◌, List, [], ◌∷◌, ◌++◌, length, take, drop, Option, Some, None, Bool, true}
 use Rattle.std.specs.Prelude.{false, ◌||◌, ◌&&◌, nat_le, ◌==◌, if◌then◌else◌}
 use Rattle.sm_wire.specs.declared.request.Request.{Request}
 use Rattle.sm_wire.specs.declared.item.Item.{Item}
@@ -119,6 +119,15 @@ rest_of kind bytes = scan_after (scan_start kind) bytes
 pub record Makes (s : FrameStep) (kind : Kind) (mode : FrameState) (held : List ℕ) (old new : List Item) : Type 0 where
   pub scan : s.0 ≡ record { kind = kind; mode = mode; held = held }
   pub items : new ≡ old ++ s.1
+
+-- A call of a reader takes the first n bytes of a piece, and at least one if there is any. One item at most ends among
+-- them, and is appended.
+pub record Takes (old new : Scan) (piece : List ℕ) (n : ℕ) (before after : List Item) : Type 0 where
+  pub some : 0 < length piece → 0 < n
+  pub within : n ≤ length piece
+  pub scan : new ≡ scan_after old (take n piece)
+  pub items : after ≡ before ++ items_after old (take n piece)
+  pub one : length (items_after old (take n piece)) ≤ 1
 
 -- The files of a `reload` line are being read.
 abbrev pub in_texts : FrameState → Bool

@@ -3,8 +3,7 @@
 //! A function zeroes its locals on entry. So the lines with fields are parsed by functions that aren't inlined, and a
 //! short line doesn't pay for a long one.
 
-ghost use Rattle.std.specs.Prelude.{◌<◌, ◌∷◌};
-ghost use Rattle.std.specs.VecDeque.{deque_len, deque_capacity};
+ghost use Rattle.std.specs.Prelude.{◌<◌, ◌∷◌, vec_len, vec_capacity};
 ghost use Rattle.sm_wire.specs.Giving.{Gives};
 ghost use Rattle.sm_wire.specs.LineTable.{get_line, list_line, add_line, watch_line, unwatch_line, unregister_line};
 ghost use Rattle.sm_wire.specs.LineTable.{version_line, call_line, release_line, client_lines, rare_lines};
@@ -21,7 +20,6 @@ use crate::values::{
 };
 use sm_history::{Event, Query};
 use sm_kinds::{ClientId, spells};
-use std::collections::VecDeque;
 
 /// Reads a query or a change of a client. The words that come most often are compared first.
 #[tactic(auto, using(crate::proofs::LineLemmas::rare_lines_left), unfolding(crate::specs::Grammar::lines_of, crate::specs::Grammar::parsed_by))]
@@ -29,9 +27,9 @@ pub fn client_request(
     recent: &mut RecentNames,
     client: Option<ClientId>,
     fields: &mut Fields<'_>,
-    items: &mut VecDeque<Item>,
+    items: &mut Vec<Item>,
 ) -> Result<Follows, ReadError>
-    requires { deque_len items.old < deque_capacity items.old }
+    requires { vec_len items.old < vec_capacity items.old }
     ensures { Gives result items.old.items items.new.items (lines_of (client_lines client) fields.old) }
 {
     if fields.takes(b"get") {
@@ -60,9 +58,9 @@ fn rare_request(
     recent: &mut RecentNames,
     client: Option<ClientId>,
     fields: &mut Fields<'_>,
-    items: &mut VecDeque<Item>,
+    items: &mut Vec<Item>,
 ) -> Result<Follows, ReadError>
-    requires { deque_len items.old < deque_capacity items.old }
+    requires { vec_len items.old < vec_capacity items.old }
     ensures { Gives result items.old.items items.new.items (lines_of (rare_lines client) fields.old) }
 {
     let word = fields.field()?;
@@ -99,9 +97,9 @@ fn get(
     recent: &mut RecentNames,
     client: Option<ClientId>,
     fields: &mut Fields<'_>,
-    items: &mut VecDeque<Item>,
+    items: &mut Vec<Item>,
 ) -> Result<Follows, ReadError>
-    requires { deque_len items.old < deque_capacity items.old }
+    requires { vec_len items.old < vec_capacity items.old }
     ensures { Gives result items.old.items items.new.items (line_of (get_line client) fields.old) }
 {
     if let Some(bytes) = fields.rest() {
@@ -120,9 +118,9 @@ fn get_new(
     recent: &mut RecentNames,
     client: Option<ClientId>,
     fields: &mut Fields<'_>,
-    items: &mut VecDeque<Item>,
+    items: &mut Vec<Item>,
 ) -> Result<Follows, ReadError>
-    requires { deque_len items.old < deque_capacity items.old }
+    requires { vec_len items.old < vec_capacity items.old }
     ensures { Gives result items.old.items items.new.items (line_of (get_line client) fields.old) }
 {
     let name = fields.field()?;
@@ -137,9 +135,9 @@ fn get_new(
 fn list(
     client: Option<ClientId>,
     fields: &mut Fields<'_>,
-    items: &mut VecDeque<Item>,
+    items: &mut Vec<Item>,
 ) -> Result<Follows, ReadError>
-    requires { deque_len items.old < deque_capacity items.old }
+    requires { vec_len items.old < vec_capacity items.old }
     ensures { Gives result items.old.items items.new.items (line_of (list_line client) fields.old) }
 {
     let mask = fields.field()?;
@@ -154,9 +152,9 @@ fn list(
 pub fn version(
     client: Option<ClientId>,
     fields: &mut Fields<'_>,
-    items: &mut VecDeque<Item>,
+    items: &mut Vec<Item>,
 ) -> Result<Follows, ReadError>
-    requires { deque_len items.old < deque_capacity items.old }
+    requires { vec_len items.old < vec_capacity items.old }
     ensures { Gives result items.old.items items.new.items (line_of (version_line client) fields.old) }
 {
     fields.end()?;
@@ -170,9 +168,9 @@ fn add(
     recent: &mut RecentNames,
     client: Option<ClientId>,
     fields: &mut Fields<'_>,
-    items: &mut VecDeque<Item>,
+    items: &mut Vec<Item>,
 ) -> Result<Follows, ReadError>
-    requires { deque_len items.old < deque_capacity items.old }
+    requires { vec_len items.old < vec_capacity items.old }
     ensures { Gives result items.old.items items.new.items (line_of (add_line client) fields.old) }
 {
     let name = fields.field()?;
@@ -196,9 +194,9 @@ fn watch(
     recent: &mut RecentNames,
     client: Option<ClientId>,
     fields: &mut Fields<'_>,
-    items: &mut VecDeque<Item>,
+    items: &mut Vec<Item>,
 ) -> Result<Follows, ReadError>
-    requires { deque_len items.old < deque_capacity items.old }
+    requires { vec_len items.old < vec_capacity items.old }
     ensures { Gives result items.old.items items.new.items (line_of (watch_line client) fields.old) }
 {
     let name = fields.field()?;
@@ -219,9 +217,9 @@ fn unwatch(
     recent: &mut RecentNames,
     client: Option<ClientId>,
     fields: &mut Fields<'_>,
-    items: &mut VecDeque<Item>,
+    items: &mut Vec<Item>,
 ) -> Result<Follows, ReadError>
-    requires { deque_len items.old < deque_capacity items.old }
+    requires { vec_len items.old < vec_capacity items.old }
     ensures { Gives result items.old.items items.new.items (line_of (unwatch_line client) fields.old) }
 {
     let name = fields.field()?;
@@ -242,9 +240,9 @@ fn unregister(
     recent: &mut RecentNames,
     client: Option<ClientId>,
     fields: &mut Fields<'_>,
-    items: &mut VecDeque<Item>,
+    items: &mut Vec<Item>,
 ) -> Result<Follows, ReadError>
-    requires { deque_len items.old < deque_capacity items.old }
+    requires { vec_len items.old < vec_capacity items.old }
     ensures { Gives result items.old.items items.new.items (line_of (unregister_line client) fields.old) }
 {
     let name = fields.field()?;
@@ -265,9 +263,9 @@ fn call(
     recent: &mut RecentNames,
     client: Option<ClientId>,
     fields: &mut Fields<'_>,
-    items: &mut VecDeque<Item>,
+    items: &mut Vec<Item>,
 ) -> Result<Follows, ReadError>
-    requires { deque_len items.old < deque_capacity items.old }
+    requires { vec_len items.old < vec_capacity items.old }
     ensures { Gives result items.old.items items.new.items (line_of (call_line client) fields.old) }
 {
     let handle = fields.field()?;
@@ -286,9 +284,9 @@ fn call(
 fn release(
     client: Option<ClientId>,
     fields: &mut Fields<'_>,
-    items: &mut VecDeque<Item>,
+    items: &mut Vec<Item>,
 ) -> Result<Follows, ReadError>
-    requires { deque_len items.old < deque_capacity items.old }
+    requires { vec_len items.old < vec_capacity items.old }
     ensures { Gives result items.old.items items.new.items (line_of (release_line client) fields.old) }
 {
     let handle = fields.field()?;

@@ -1,13 +1,12 @@
-//! Cuts bytes into items.
+//! Reads the bytes of whole items.
 
-ghost use Rattle.std.specs.Prelude.{◌≡◌, ◌≢◌, ◌≤◌, ◌+◌, ◌++◌, [], length, take, drop, IfOk, OnOk, OnErr};
-ghost use Rattle.sm_wire.specs.Items.{Makes, policy_item, text_start, line_end, scan_after, items_after};
-ghost use Rattle.sm_wire.specs.Giving.{Appended, Keeps};
+ghost use Rattle.std.specs.Prelude.{◌≡◌, ◌≢◌, ◌≤◌, ◌+◌, ◌++◌, [], length, take, IfOk, OnOk, OnErr};
+ghost use Rattle.sm_wire.specs.Items.{Makes, policy_item, text_start, line_end};
+ghost use Rattle.sm_wire.specs.Giving.{Appended};
 ghost use Rattle.sm_wire.specs.Grammar.{request_of};
 ghost use Rattle.sm_wire.specs.Ends.{IsWhole, whole_step, never_items};
 ghost use Rattle.sm_wire.specs.declared.frame_state.FrameState.TheVariants.{Line};
 
-use crate::ends::{End, item_end};
 use crate::fields::Fields;
 use crate::frame_state::FrameState;
 use crate::grammar::fields_request;
@@ -19,70 +18,25 @@ use crate::reload_header::ReloadHeader;
 use crate::request::Request;
 use crate::texts::PolicyTexts;
 use std::alloc::{AllocError, Global};
-use std::collections::VecDeque;
 
 /// The most bytes of each file after a `reload` line.
 const TEXT_LIMIT: u32 = 4_194_304;
 
-/// What is read next after some bytes, and the index at which its own bytes begin.
-#[derive(Clone, Copy)]
-pub struct Remainder {
-    pub mode: FrameState,
-    pub start: usize,
-}
-
-/// Cuts bytes that begin with an item, and appends their items.
-#[tactic(auto, using(crate::proofs::GivingLemmas::keeps_same))]
-pub fn cut(
-    kind: Kind,
-    mode: FrameState,
-    bytes: &[u8],
-    recent: &mut RecentNames,
-    items: &mut VecDeque<Item>,
-) -> Result<Remainder, AllocError>
-    ensures start { IfOk result (λ c. c.start ≤ length bytes.now) }
-    ensures rest { IfOk result (λ c. scan_after (record { kind = kind; mode = mode; held = [] }) bytes.now
-        ≡ record { kind = kind; mode = c.mode; held = drop c.start bytes.now }) }
-    ensures items { IfOk result (λ _. items.new.items
-        ≡ items.old.items ++ items_after (record { kind = kind; mode = mode; held = [] }) bytes.now) }
-    ensures err { OnErr result (Keeps items.old.items items.new.items) }
-{
-    let mut mode = mode;
-    let mut start = 0;
-    while start < bytes.len() {
-        match item_end(&mode, 0, &bytes[start..]) {
-            End::At(n) => {
-                let item = &bytes[start..start + n];
-                whole_item(kind, &mut mode, item, recent, items)?;
-                start += n;
-            }
-            End::Later => return Ok(Remainder { mode, start }),
-            End::Never => {
-                end_stream(mode, items)?;
-                let mode = FrameState::Dead;
-                let start = bytes.len();
-                return Ok(Remainder { mode, start });
-            }
-        }
-    }
-    Ok(Remainder { mode, start })
-}
-
 /// Reports a line that is too long, once.
-pub fn end_stream(mode: FrameState, items: &mut VecDeque<Item>) -> Result<(), AllocError>
+pub fn end_stream(mode: FrameState, items: &mut Vec<Item>) -> Result<(), AllocError>
     ensures item { OnOk result (items.new.items ≡ items.old.items ++ never_items mode) }
     ensures err { OnErr result (items.new.items ≡ items.old.items) }
 {
     match mode {
         FrameState::Dead => Ok(()),
         _ => {
-            items.push_back(Item::LineTooLong)?;
+            items.push(Item::LineTooLong)?;
             Ok(())
         }
     }
 }
 
-/// Appends the item that is these bytes, and sets what is read next. After an error nothing was appended.
+/// Appends the item that is these bytes, and sets what is read next. After an error nothing has changed.
 ///
 /// Most items are lines with another line behind them. So the other items, and the ends of `reload` lines, are read by
 /// functions that aren't inlined, and `mode` is written only by these.
@@ -93,12 +47,12 @@ pub fn whole_item(
     mode: &mut FrameState,
     bytes: &[u8],
     recent: &mut RecentNames,
-    items: &mut VecDeque<Item>,
+    items: &mut Vec<Item>,
 ) -> Result<(), AllocError>
     requires { IsWhole mode.old bytes.now }
     ensures item { OnOk result
         (Makes (whole_step kind mode.old bytes.now) kind mode.new [] items.old.items items.new.items) }
-    ensures err { OnErr result (items.new.items ≡ items.old.items) }
+    ensures err { OnErr result ((mode.new ≡ mode.old) × (items.new.items ≡ items.old.items)) }
 {
     match mode {
         FrameState::Line => line(kind, mode, &bytes[..bytes.len() - 1], recent, items),
@@ -115,19 +69,19 @@ fn texts(
     kind: Kind,
     mode: &mut FrameState,
     bytes: &[u8],
-    items: &mut VecDeque<Item>,
+    items: &mut Vec<Item>,
 ) -> Result<(), AllocError>
     requires whole { IsWhole mode.old bytes.now }
     requires no_line { mode.old ≢ Line }
     ensures item { OnOk result
         (Makes (whole_step kind mode.old bytes.now) kind mode.new [] items.old.items items.new.items) }
-    ensures err { OnErr result (items.new.items ≡ items.old.items) }
+    ensures err { OnErr result ((mode.new ≡ mode.old) × (items.new.items ≡ items.old.items)) }
 {
     let FrameState::Texts(header) = *mode else {
         return Ok(());
     };
     let item = policy(alloc, header, bytes)?;
-    items.push_back(item)?;
+    items.push(item)?;
     *mode = FrameState::Line;
     Ok(())
 }
@@ -140,12 +94,12 @@ fn line(
     mode: &mut FrameState,
     line: &[u8],
     recent: &mut RecentNames,
-    items: &mut VecDeque<Item>,
+    items: &mut Vec<Item>,
 ) -> Result<(), AllocError>
     requires { mode.old ≡ Line }
     ensures item { OnOk result
         (Makes (line_end kind line.now) kind mode.new [] items.old.items items.new.items) }
-    ensures err { OnErr result (items.new.items ≡ items.old.items) }
+    ensures err { OnErr result ((mode.new ≡ mode.old) × (items.new.items ≡ items.old.items)) }
 {
     items.reserve(1)?;
     let count = items.len();
@@ -154,7 +108,7 @@ fn line(
         Ok(Follows::Files) => files_begin(recent.alloc, kind, line, count, mode, items),
         Err(ReadError::Malformed) => {
             items.reserve(1)?;
-            items.push_back_reserved(Item::Malformed);
+            items.push_reserved(Item::Malformed);
             Ok(())
         }
         Err(ReadError::Memory) => Err(AllocError),
@@ -171,14 +125,14 @@ fn files_begin(
     line: &[u8],
     count: usize,
     mode: &mut FrameState,
-    items: &mut VecDeque<Item>,
+    items: &mut Vec<Item>,
 ) -> Result<(), AllocError>
     requires line { mode.old ≡ Line }
     requires count { count ≤ length items.old.items }
     requires last { Appended (request_of kind line.now) (take count items.old.items) items.old.items }
     ensures item { OnOk result
         (Makes (line_end kind line.now) kind mode.new [] (take count items.old.items) items.new.items) }
-    ensures err { OnErr result (items.new.items ≡ take count items.old.items) }
+    ensures err { OnErr result ((mode.new ≡ mode.old) × (items.new.items ≡ take count items.old.items)) }
 {
     let Some(
         Item::Asked(
@@ -208,15 +162,15 @@ fn texts_begin(
     kind: Kind,
     header: ReloadHeader,
     mode: &mut FrameState,
-    items: &mut VecDeque<Item>,
+    items: &mut Vec<Item>,
 ) -> Result<(), AllocError>
     requires { mode.old ≡ Line }
     ensures item { OnOk result
         (Makes (text_start kind header) kind mode.new [] items.old.items items.new.items) }
-    ensures err { OnErr result (items.new.items ≡ items.old.items) }
+    ensures err { OnErr result ((mode.new ≡ mode.old) × (items.new.items ≡ items.old.items)) }
 {
     if header.rules > TEXT_LIMIT || header.contexts > TEXT_LIMIT {
-        items.push_back(Item::LineTooLong)?;
+        items.push(Item::LineTooLong)?;
         *mode = FrameState::Dead;
         return Ok(());
     }
@@ -225,7 +179,7 @@ fn texts_begin(
         return Ok(());
     }
     let item = policy(alloc, header, b"")?;
-    items.push_back(item)?;
+    items.push(item)?;
     Ok(())
 }
 

@@ -1,7 +1,6 @@
 //! Requests, parsed from the fields of a line, by the kind of the stream.
 
-ghost use Rattle.std.specs.Prelude.{◌<◌, ◌∷◌};
-ghost use Rattle.std.specs.VecDeque.{deque_len, deque_capacity};
+ghost use Rattle.std.specs.Prelude.{◌<◌, ◌∷◌, vec_len, vec_capacity};
 ghost use Rattle.sm_wire.specs.Giving.{Gives};
 ghost use Rattle.sm_wire.specs.Reading.{ReadsAs};
 ghost use Rattle.sm_wire.specs.LineTable.{hello_line, explain_line, policy_lines, admin_lines, unnumbered_lines};
@@ -20,21 +19,20 @@ use crate::values::{class_field, context_field, perm_field, word_field};
 use sm_history::Query;
 use sm_kinds::{ClientId, Identity, spells};
 use std::alloc::Global;
-use std::collections::VecDeque;
 
 /// Parses a line of this kind. The line has no newline.
 #[tactic(auto, unfolding(crate::specs::Grammar::request_of))]
 pub fn request(alloc: Global, kind: Kind, line: &[u8]) -> Result<Request, ReadError>
     ensures { ReadsAs result (request_of kind line.now) }
 {
-    let mut items = VecDeque::with_capacity(alloc, 1)?;
+    let mut items = Vec::with_capacity(alloc, 1)?;
     fields_request(
         &mut RecentNames::none(alloc),
         kind,
         &mut Fields::new(line),
         &mut items,
     )?;
-    match items.pop_front() {
+    match items.pop() {
         Some(Item::Asked(request)) => Ok(request),
         _ => unreachable!(),
     }
@@ -47,9 +45,9 @@ pub fn fields_request(
     recent: &mut RecentNames,
     kind: Kind,
     fields: &mut Fields<'_>,
-    items: &mut VecDeque<Item>,
+    items: &mut Vec<Item>,
 ) -> Result<Follows, ReadError>
-    requires { deque_len items.old < deque_capacity items.old }
+    requires { vec_len items.old < vec_capacity items.old }
     ensures { Gives result items.old.items items.new.items (fields_request_of kind fields.old) }
 {
     match kind {
@@ -76,9 +74,9 @@ pub fn fields_request(
 fn admin_request(
     alloc: Global,
     fields: &mut Fields<'_>,
-    items: &mut VecDeque<Item>,
+    items: &mut Vec<Item>,
 ) -> Result<Follows, ReadError>
-    requires { deque_len items.old < deque_capacity items.old }
+    requires { vec_len items.old < vec_capacity items.old }
     ensures { Gives result items.old.items items.new.items (lines_of admin_lines fields.old) }
 {
     let word = fields.field()?;
@@ -95,9 +93,9 @@ fn unnumbered_request(
     alloc: Global,
     word: &[u8],
     fields: &mut Fields<'_>,
-    items: &mut VecDeque<Item>,
+    items: &mut Vec<Item>,
 ) -> Result<Follows, ReadError>
-    requires { deque_len items.old < deque_capacity items.old }
+    requires { vec_len items.old < vec_capacity items.old }
     ensures { Gives result items.old.items items.new.items (lines_of unnumbered_lines (word.now ∷ fields.old)) }
 {
     if spells(word, b"hello") {
@@ -113,14 +111,14 @@ fn policy_request(
     alloc: Global,
     word: &[u8],
     fields: &mut Fields<'_>,
-    items: &mut VecDeque<Item>,
+    items: &mut Vec<Item>,
 ) -> Result<Follows, ReadError>
-    requires { deque_len items.old < deque_capacity items.old }
+    requires { vec_len items.old < vec_capacity items.old }
     ensures { Gives result items.old.items items.new.items (lines_of policy_lines (word.now ∷ fields.old)) }
 {
     if spells(word, b"reload") {
         let request = reload(fields)?;
-        items.push_back_reserved(Item::Asked(request));
+        items.push_reserved(Item::Asked(request));
         Ok(Follows::Files)
     } else if spells(word, b"explain") {
         explain(alloc, fields, items)
@@ -141,9 +139,9 @@ fn policy_request(
 fn hello(
     alloc: Global,
     fields: &mut Fields<'_>,
-    items: &mut VecDeque<Item>,
+    items: &mut Vec<Item>,
 ) -> Result<Follows, ReadError>
-    requires { deque_len items.old < deque_capacity items.old }
+    requires { vec_len items.old < vec_capacity items.old }
     ensures { Gives result items.old.items items.new.items (line_of hello_line fields.old) }
 {
     let pid = fields.field()?;
@@ -162,9 +160,9 @@ fn hello(
 fn explain(
     alloc: Global,
     fields: &mut Fields<'_>,
-    items: &mut VecDeque<Item>,
+    items: &mut Vec<Item>,
 ) -> Result<Follows, ReadError>
-    requires { deque_len items.old < deque_capacity items.old }
+    requires { vec_len items.old < vec_capacity items.old }
     ensures { Gives result items.old.items items.new.items (line_of explain_line fields.old) }
 {
     let source = fields.field()?;

@@ -1,14 +1,12 @@
 //! Items of a stream of request lines.
 
-ghost use Rattle.std.specs.Prelude.{◌≡◌, ◌<◌, Some, None};
-ghost use Rattle.std.specs.VecDeque.{deque_len, deque_capacity};
+ghost use Rattle.std.specs.Prelude.{◌≡◌, ◌<◌, Some, None, vec_len, vec_capacity};
 ghost use Rattle.sm_wire.specs.Giving.{Gives};
 ghost use Rattle.sm_wire.specs.Grammar.{header_by};
 
 use crate::read_error::ReadError;
 use crate::request::Request;
 use crate::texts::PolicyTexts;
-use std::collections::VecDeque;
 
 /// An item of a stream of request lines.
 #[derive(Drop)]
@@ -34,13 +32,13 @@ pub enum Follows {
 }
 
 /// Appends the item of a request, which announces no files, and for which there is room. Inline, so that the request is
-/// built in the queue.
+/// built in the list.
 #[inline(always)]
-pub fn give(items: &mut VecDeque<Item>, request: Request) -> Result<Follows, ReadError>
+pub fn give(items: &mut Vec<Item>, request: Request) -> Result<Follows, ReadError>
     requires no_files { header_by (Some request) ≡ None }
-    requires room { deque_len items.old < deque_capacity items.old }
+    requires room { vec_len items.old < vec_capacity items.old }
     ensures { Gives result items.old.items items.new.items (Some request) }
 {
-    items.push_back_reserved(Item::Asked(request));
+    items.push_reserved(Item::Asked(request));
     Ok(Follows::Line)
 }

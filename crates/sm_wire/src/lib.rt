@@ -34,7 +34,7 @@ pub use kind::Kind;
 pub use laws::{
     any_cut, first_line, long_line, one_request, one_spelling, reload_line, written_lines,
 };
-pub use lines::{FeedError, LineReader};
+pub use lines::LineReader;
 pub use policy_refusals::push_policy_refused;
 pub use read_error::ReadError;
 pub use reload_header::ReloadHeader;

@@ -3,9 +3,8 @@
 use super::outcome::{same_text, value};
 use sm_history::{Event, Outcome, Reply};
 use sm_kinds::{Context, ContextError, Name, ObjRef, Payload, PayloadError, Refs, RefsError};
-use sm_wire::{FeedError, Item, Kind, LineReader, ReadError, Request, Telling, reply_line};
+use sm_wire::{Item, Kind, LineReader, ReadError, Request, Telling, reply_line};
 use std::alloc::Global;
-use std::collections::VecDeque;
 use std::process::Abort;
 use std::test::*;
 
@@ -82,52 +81,63 @@ fn a_request_is_read_and_answered(rt: HostRuntime) {
     again!(rt; answered(&rt, rt.alloc()));
 }
 
-/// The number of `version` lines among the items, if they are nothing else.
-fn versions(items: &[Item]) -> Option<usize> {
-    for item in items {
-        if !matches!(item, Item::Asked(Request::Look(None, _))) {
-            return None;
-        }
-    }
-    Some(items.len())
+/// Whether the items are two `version` lines and a `get`.
+fn are_expected(items: &[Item]) -> bool {
+    matches!(
+        items,
+        [
+            Item::Asked(Request::Look(None, _)),
+            Item::Asked(Request::Look(None, _)),
+            Item::Asked(Request::Change(None, Event::Get { .. })),
+        ]
+    )
 }
 
-/// One `version` line.
-fn is_version(rt: &impl Abort, items: Vec<Item>) {
-    assert!(rt; versions(&items) == Some(1));
+/// Pieces of two and a half lines and more, each with the number of its bytes that a call reads and with the number of
+/// items after it. The name of the last line needs memory.
+const PIECES: &[(&[u8], usize, usize)] = &[
+    (b"version\nvers", 8, 1),
+    (b"vers", 4, 1),
+    (b"ion\nget", 4, 2),
+    (b"get", 3, 2),
+    (b" activity\nlist", 10, 3),
+];
+
+/// Reads what is next of a piece. `None` if an allocation failed; then nothing was appended, and the piece may be read
+/// again.
+fn takes(
+    rt: &impl Abort,
+    lines: &mut LineReader,
+    piece: &[u8],
+    items: &mut Vec<Item>,
+) -> Option<usize> {
+    let before = items.len();
+    let taken = lines.take_one(piece, items).ok();
+    assert!(rt; taken.is_some() || items.len() == before);
+    taken
 }
 
-/// Feeds a piece, which completes one line. `None` if an allocation failed; then the piece may be fed again.
-fn feeds(rt: &impl Abort, lines: &mut LineReader, piece: &[u8]) -> Option<()> {
-    is_version(rt, value(rt, lines.feed(piece), FeedError::Memory)?);
+/// Reads a piece, as far as this.
+fn reads(
+    rt: &impl Abort,
+    lines: &mut LineReader,
+    piece: &[u8],
+    length: usize,
+    items: &mut Vec<Item>,
+) -> Option<()> {
+    let taken = takes(rt, lines, piece, items)?;
+    assert!(rt; taken == length);
     Some(())
-}
-
-/// Two and a half lines are cut, and the last one is completed.
-fn cuts(rt: &impl Abort, lines: &mut LineReader, items: &mut VecDeque<Item>) {
-    again!(rt; feeds(rt, lines, b"version\nvers"));
-    again!(rt; feeds(rt, lines, b"ion\nver"));
-    again!(rt; queues(rt, lines, items));
-}
-
-/// Ends the half line and reads a whole one, whose name needs memory. A refusal leaves the queue empty.
-fn queues(rt: &impl Abort, lines: &mut LineReader, items: &mut VecDeque<Item>) -> Option<()> {
-    match lines.feed_into(b"sion\nget activity\n", items) {
-        Ok(()) => {
-            assert!(rt; items.len() == 2);
-            Some(())
-        }
-        Err(error) => {
-            assert!(rt; error == FeedError::Memory);
-            assert!(rt; items.is_empty());
-            None
-        }
-    }
 }
 
 #[test]
 fn lines_are_cut(rt: HostRuntime) {
     let alloc = rt.alloc();
     let mut lines = LineReader::new(alloc, Kind::Client);
-    cuts(&rt, &mut lines, &mut VecDeque::new(alloc));
+    let mut items = Vec::new(alloc);
+    for (piece, length, count) in PIECES {
+        again!(rt; reads(&rt, &mut lines, piece, *length, &mut items));
+        assert!(rt; items.len() == *count);
+    }
+    assert!(rt; are_expected(&items));
 }

@@ -415,16 +415,20 @@ fn push_item(out: &mut Vec<u8>, item: &Item) -> Result<(), AllocError> {
     out.extend_from_slice(b"\n")
 }
 
+// The items that a piece completes.
+fn taken(alloc: Global, lines: &mut LineReader, piece: &[u8]) -> Result<Vec<Item>, AllocError> {
+    let mut items = Vec::new(alloc);
+    let mut start = 0;
+    while start < piece.len() {
+        start += lines.take_one(&piece[start..], &mut items)?;
+    }
+    Ok(items)
+}
+
 // The items that a piece completes, in words.
-fn fed(
-    rt: &impl Abort,
-    alloc: Global,
-    lines: &mut LineReader,
-    piece: &[u8],
-) -> Result<Vec<u8>, AllocError> {
+fn read(alloc: Global, lines: &mut LineReader, piece: &[u8]) -> Result<Vec<u8>, AllocError> {
     let mut out = Vec::new(alloc);
-    let items = lines.feed(piece).ok().expect(rt, "items");
-    for item in &items {
+    for item in &taken(alloc, lines, piece)? {
         push_item(&mut out, item)?;
     }
     Ok(out)
@@ -442,12 +446,33 @@ fn lines_in_pieces(rt: HostRuntime) {
         ("bc\n", "policy for 1 of ab and c\nmalformed\n", false),
     ];
     for (piece, wanted, has_begun) in pieces {
-        let words = fed(&rt, alloc, &mut lines, piece.as_bytes()).expect(&rt, "memory");
+        let words = read(alloc, &mut lines, piece.as_bytes()).expect(&rt, "memory");
         assert_eq!(rt;
             (words.as_slice(), lines.rest()),
             (wanted.as_bytes(), has_begun)
         );
     }
+}
+
+#[test]
+fn one_item_at_a_time(rt: HostRuntime) -> Result<(), Fail> {
+    let alloc = rt.alloc();
+    let mut lines = LineReader::new(alloc, Kind::Admin);
+    let mut items = Vec::new(alloc);
+    // What is left of a piece, each with the number of bytes that a call reads, and that of the items so far.
+    let pieces = [
+        ("version\nreload 1 2 1\nabc\nve", 8, 1),
+        ("reload 1 2 1\nabc\nve", 13, 1),
+        ("abc\nve", 3, 2),
+        ("\nve", 1, 3),
+        ("ve", 2, 3),
+        ("", 0, 3),
+    ];
+    for (piece, length, count) in pieces {
+        let n = lines.take_one(piece.as_bytes(), &mut items)?;
+        assert_eq!(rt; (n, items.len()), (length, count), "{piece}");
+    }
+    Ok(())
 }
 
 /// More names than the cache of a stream holds at two for each of its 1,024 places, so some place is that of three.
@@ -466,7 +491,7 @@ fn is_read(
     let mut wanted = Vec::new(alloc);
     push_numbered(&mut wanted, b" gets ", number)?;
     wanted.push(b'\n')?;
-    let words = fed(rt, alloc, lines, &line)?;
+    let words = read(alloc, lines, &line)?;
     assert_eq!(rt; words.as_slice(), wanted.as_slice(), "name {number}");
     Ok(())
 }
@@ -489,7 +514,7 @@ fn names_that_come_again(rt: HostRuntime) -> Result<(), Fail> {
         is_read(&rt, alloc, &mut lines, n % NAMES)?;
     }
     for (line, wanted) in AFTER_NAMES {
-        let words = fed(&rt, alloc, &mut lines, line.as_bytes())?;
+        let words = read(alloc, &mut lines, line.as_bytes())?;
         assert_eq!(rt; words.as_slice(), wanted.as_bytes(), "{line}");
     }
     Ok(())
@@ -500,9 +525,10 @@ fn no_line_behind_one_that_is_too_long(rt: HostRuntime) -> Result<(), Fail> {
     let alloc = rt.alloc();
     let mut lines = LineReader::new(alloc, Kind::Script);
     let long = vec![in alloc; b'a'; 4097]?;
-    let items = lines.feed(&long).ok().expect(&rt, "items");
+    let items = taken(alloc, &mut lines, &long)?;
     assert!(rt; matches!(items.as_slice(), [Item::LineTooLong]));
     assert!(rt; lines.is_dead());
-    assert!(rt; matches!(lines.feed(b"\n"), Err(FeedError::LineTooLong)));
+    assert!(rt; taken(alloc, &mut lines, b"\nversion\n")?.is_empty());
+    assert!(rt; lines.is_dead());
     Ok(())
 }

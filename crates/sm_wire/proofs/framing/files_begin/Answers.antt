@@ -9,5 +9,6 @@ returns-clause-item c =
     let found = c.in-Some-Asked-Reload in
     on_ok_weaker c.texts_begin.result (λ begins. line_reload c.args.kind c.args.line.now c.args.count _ _ _
     (record { expected = found.expected; rules = found.rules; contexts = found.contexts }) _ c.requires.count
-    c.requires.last found.ensures.lookup (found.field-0-is ∙ ap Asked found.field-0-0-is) begins)
+    c.requires.last (rw c.deref.ensures.value at found.ensures.lookup.1)
+    (found.field-0-is ∙ ap Asked found.field-0-0-is) begins)
     (rw (← c.truncate.ensures.items) c.texts_begin.ensures.item)

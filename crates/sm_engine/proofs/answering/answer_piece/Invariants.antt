@@ -1,12 +1,14 @@
-use Rattle.std.proofs.Common.{◌≡◌, ◌++◌, ◌-◌, ◌≤◌, length, List, []}
+use Rattle.std.proofs.Common.{◌≡◌, ◌-◌, ◌≤◌, length, List, []}
 use Rattle.sm_wire.specs.declared.item.Item.{Item}
 use Rattle.sm_engine.specs.Counts.{failures_of, inner_of}
 use Rattle.sm_engine.specs.Running.{Going, IsSilent}
-use Rattle.sm_engine.proofs.answering.answer_items.Given as goal
+use Rattle.sm_engine.proofs.PieceLemmas.{Taken}
+use Rattle.sm_engine.proofs.answering.answer_piece.Given as goal
 
-abbrev pub invariant-loop-item : goal.invariant-loop-item
-invariant-loop-item g l = (done : List Item) × (record {
-  left : done ++ l.buffers.items.items ≡ l.fn.buffers.items.items;
+abbrev pub invariant-loop-start : goal.invariant-loop-start
+invariant-loop-start g l = (done : List Item) × (record {
+  taken : Taken l.fn.lines l.lines l.piece l.start done;
+  slot : l.buffers.items.items ≡ [];
   going : Going g.M.Machine.answers l.fn.machine done (g.W.Write.contents (inner_of l.fn.writer))
       (g.W.Write.contents (inner_of l.writer)) (g.A.Write.contents (inner_of l.fn.audit))
       (g.A.Write.contents (inner_of l.audit)) l.buffers.replies.items l.buffers.lines.items l.machine;
@@ -17,5 +19,5 @@ invariant-loop-item g l = (done : List Item) × (record {
   silent : IsSilent g.M.Machine.answers → (l.audit ≡ l.fn.audit) × (l.buffers.lines.items ≡ []);
 })
 
-abbrev pub decreases-loop-item : goal.decreases-loop-item
-decreases-loop-item g l = length l.buffers.items.items
+abbrev pub decreases-loop-start : goal.decreases-loop-start
+decreases-loop-start g l = length l.piece - l.start
