@@ -8,6 +8,7 @@ import os
 import re
 import resource
 import select
+import shutil
 import signal
 import socket
 import stat
@@ -37,13 +38,13 @@ LIST_DENIED = re.compile("exception -1 denied untrusted_app servicemanager servi
 class Door(Daemon):
     """A doorkeeper at a server, from its start on. Its table has contexts for the own user and for 10007."""
 
-    def __init__(self, server, *options, **others):
+    def __init__(self, server, *options, doorkeeper=DOORKEEPER, **others):
         self.path, self.table = server.folder / "door", server.folder / "users"
         server.folder.chmod(0o755)
         if not self.table.exists():
             self.table.write_text(f"{os.getuid()} {SERVICE}\n10007 {APPLICATION}\n")
         self.listening = f"listening at {self.path} for svcmgr at {server.clients}\n"
-        words = [DOORKEEPER, "--socket", self.path, "--server", server.clients, "--contexts", self.table, *options]
+        words = [doorkeeper, "--socket", self.path, "--server", server.clients, "--contexts", self.table, *options]
         super().__init__(words, **others)
 
     def listens(self):
@@ -110,6 +111,13 @@ def as_user(uid):
 def entered_as(uid, door):
     with as_user(uid):
         return Passed(door.path)
+
+
+def let_in_as(uid, door):
+    """A client of a user who has room. Another check's process may have a copy of a closed connection for a moment."""
+    clients = []
+    comes_true(lambda: clients.append(entered_as(uid, door)) or clients[-1].is_in, f"a client of {uid} is let in")
+    return clients[-1]
 
 
 def waits(path):
@@ -484,18 +492,12 @@ def doorkeeper_with_shares(program):
     with opened(program, server=("--workers", "16")) as (_, door), contextlib.ExitStack() as all_of_them:
         door.table.write_text(f"0 {SERVICE}\n* {APPLICATION}\n")
 
-        def enter(uid):
-            return all_of_them.enter_context(entered_as(uid, door))
-
         def let_in(uid):
-            # A process that another check starts may have a copy of a closed connection for a moment.
-            clients = []
-            comes_true(lambda: clients.append(enter(uid)) or clients[-1].is_in, f"a client of {uid} is let in")
-            return clients[-1]
+            return all_of_them.enter_context(let_in_as(uid, door))
 
         def fill(uid, number):
             clients = [let_in(uid) for _ in range(number)]
-            refused = enter(uid)
+            refused = entered_as(uid, door)
             expect((refused.answer, refused.is_in), (TOO_MANY, False), f"one more client of {uid} is answered")
             return clients
 
@@ -530,6 +532,84 @@ def doorkeeper_with_shares_of_those_who_wait(program):
             waiting[0] = all_of_them.enter_context(waits(door.path))
         first.stream.close()
         all_are_let_in(waiting)
+
+
+@check
+def doorkeeper_with_shares_of_other_processes(program):
+    """A seat is free when the last process that has the connection has ended, whoever opened it."""
+    need_users()
+    with opened(program, "--seats", "2") as (_, door):
+        with entered_as(10007, door) as client:
+            other = subprocess.Popen(["sleep", str(3 * PATIENCE)], pass_fds=[client.stream.fileno()])
+        with other:
+            expect(entered_as(10007, door).answer, TOO_MANY, "a client is answered while another process is connected")
+            other.kill()
+        let_in_as(10007, door).stream.close()
+
+
+@check
+def doorkeeper_with_users_without_a_share(program):
+    """Root and the doorkeeper's own user are let in whatever they have, and what they have is taken."""
+    need_users()
+    own = 10009
+    with served(program, "--mode", "666") as server, contextlib.ExitStack() as all_of_them:
+        # The own user may not be able to read this repository.
+        copy = shutil.copy(DOORKEEPER, server.folder)
+        os.chown(server.folder, own, -1)
+        (server.folder / "users").write_text(f"* {APPLICATION}\n")
+        with Door(server, "--seats", "8", doorkeeper=copy, user=own) as door:
+            door.listens()
+            for uid, answer in [(10007, "client "), *[(0, "client "), (own, "client ")] * 3, (10007, TOO_MANY)]:
+                client = all_of_them.enter_context(entered_as(uid, door))
+                expect(client.answer[: len(answer)], answer, f"a client of {uid} is answered")
+
+
+@check
+def doorkeeper_with_shares_of_relayed_clients(program):
+    """Each has a seat until its connection ends."""
+    need_users()
+    with opened(program, "--relay", "--seats", "4") as (_, door):
+
+        def enter():
+            with as_user(10007):
+                client = Connection(door.path)
+            if client.lines.line() != TOO_MANY:
+                return client
+            expect(is_over(client), True, "the connection of a refused client is over")
+            client.stream.close()
+            return None
+
+        clients = [enter() for _ in range(3)]
+        expect([client is not None for client in clients], [True, True, False], "relayed clients are let in")
+        clients[0].stream.close()
+        comes_true(enter, "a client is let in after another one has gone")
+
+
+@check
+def doorkeeper_that_says_who_is_refused(program):
+    """One line for each user, until the user gets a seat again, and no more than one in ten seconds."""
+    need_users()
+    with opened(program, "--seats", "3") as (_, door):
+        door.table.write_text(f"* {APPLICATION}\n")
+
+        def refuse(uid, says=False, more=""):
+            expect(entered_as(uid, door).answer, TOO_MANY, f"a client of {uid} is answered")
+            if says:
+                door.says(f"warning: user {uid} has its share of the seats: process {os.getpid()} is refused{more}\n")
+            door.says_no_more()
+
+        with let_in_as(10007, door):
+            with let_in_as(10008, door):
+                refuse(10007, says=True)
+                refuse(10008, says=True)
+            with let_in_as(10008, door):
+                refuse(10007)
+                refuse(10008)
+                time.sleep(LIMIT + 1)
+                refuse(10007)
+                refuse(10008, says=True, more=" (1 more since the last such line)")
+        with let_in_as(10007, door):
+            refuse(10007, says=True)
 
 
 # ---- clients that are relayed
