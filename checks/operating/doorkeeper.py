@@ -20,7 +20,7 @@ import time
 from concurrent.futures import ThreadPoolExecutor
 from pathlib import Path
 
-from operating.connections import counted
+from operating.connections import counted, tries_ten_times_a_second
 from operating.servers import LIMIT, MARGIN, OTHER_HELLO, Daemon, Server
 from operating.servers import check, comes_true, expect, is_over, is_refused, room, served, talk
 from talking import APPLICATION, PATIENCE, ROOT, SERVICE, Connection, LeftOut, Wrong
@@ -330,10 +330,7 @@ def doorkeeper_with_too_few_files(program, shim):
         resource.prlimit(door.child.pid, resource.RLIMIT_NOFILE, (files + 5, files + 5))
         waiting = [all_of_them.enter_context(Connection(door.path)) for _ in range(20)]
         door.says("warning: a connection waits to be accepted: Too many open files\n")
-        before = counts[3]
-        time.sleep(1)
-        if not 0 < counts[3] - before < 15:
-            raise Wrong(f"a doorkeeper that waits for files tried {counts[3] - before} times in a second")
+        tries_ten_times_a_second(counts)
         talk(first, ("get activity", "null"))
         door.says_no_more()
         first.stream.close()
