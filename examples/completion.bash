@@ -1,10 +1,7 @@
 # Completion of svcmgr's command line for bash: source this file.
 _svcmgr() {
-    local word="${COMP_WORDS[COMP_CWORD]}" command="${COMP_WORDS[1]:-}" options=""
-    if [ "$COMP_CWORD" -eq 1 ]; then
-        mapfile -t COMPREPLY < <(compgen -W "run check serve label explain access diff admin --help --version" -- "$word")
-        return
-    fi
+    local word="${COMP_WORDS[COMP_CWORD]}" before="${COMP_WORDS[COMP_CWORD - 1]}" command="${COMP_WORDS[1]:-}"
+    local options="" words=""
     case "$command" in
         run) options="--journal --help" ;;
         check) options="--show --help" ;;
@@ -13,10 +10,21 @@ _svcmgr() {
         explain) options="--name --help" ;;
         access) options="--source --target --name --class --perm --help" ;;
         diff) options="--help" ;;
-        admin) options="--admin --help version denials seal reload explain" ;;
+        admin) options="--admin --help" ;;
     esac
-    if [[ "$word" == -* ]]; then
-        mapfile -t COMPREPLY < <(compgen -W "$options" -- "$word")
+    # The words for this place, if files don't fit.
+    case "$COMP_CWORD $command $before" in
+        "1 "*) words="run check serve label explain access diff admin --help --version" ;;
+        *" access --class") words="service_manager binder" ;;
+        *" access --perm") words="add find list impersonate call set_context_mgr transfer" ;;
+        "2 admin admin") words="version denials seal reload explain" ;;
+        "4 admin "*) [ "${COMP_WORDS[2]}" = --admin ] && words="version denials seal reload explain" ;;
+    esac
+    if [[ "$COMP_CWORD" -gt 1 && "$word" == -* ]]; then
+        words="$options"
+    fi
+    if [ -n "$words" ]; then
+        mapfile -t COMPREPLY < <(compgen -W "$words" -- "$word")
     else
         mapfile -t COMPREPLY < <(compgen -f -- "$word")
     fi

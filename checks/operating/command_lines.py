@@ -42,21 +42,77 @@ def refused_command_lines(program):
         raise Wrong(f"--version says {ended.stdout!r}")
 
 
+def help_of(program, *words):
+    ended = subprocess.run([program, *words, "--help"], capture_output=True, text=True, timeout=PATIENCE)
+    expect((ended.returncode, ended.stdout), (2, ""), f"{[*words, '--help']} ends with")
+    return ended.stderr
+
+
+def commands_in(text):
+    """The commands that a help lists, less the parser's own."""
+    return set(re.findall(r"^  ([a-z]+) ", text, re.MULTILINE)) - {"help"}
+
+
+def options_in(text):
+    return set(re.findall(r"--[a-z-]+", text))
+
+
 @check
 def pages_of_options(program):
-    """The manual page and the completion have the options of `--help`, and no others."""
+    """The manual page and the completion have the commands and the options of `--help`, and no others."""
+    commands, requests = commands_in(help_of(program)), commands_in(help_of(program, "admin"))
+    expect(completed("svcmgr "), commands | {"--help", "--version"}, "svcmgr is completed to")
+    expect(completed("svcmgr admin "), requests, "svcmgr admin is completed to")
     found = set()
-    completion = (ROOT / "examples" / "completion.bash").read_text()
-    for command in ("run", "check", "serve", "label", "explain", "access", "diff", "admin"):
-        ended = subprocess.run([program, command, "--help"], capture_output=True, text=True, timeout=PATIENCE)
-        expect((ended.returncode, ended.stdout), (2, ""), f"{command} --help ends with")
-        options = set(re.findall(r"--[a-z-]+", ended.stderr))
-        completed = re.search(rf'^ *{command}\) options="(.*)"', completion, re.MULTILINE)[1]
-        completed = {word for word in completed.split() if word.startswith("--")}
-        expect(completed, options, f"completion.bash has for {command}")
+    for command in commands:
+        options = options_in(help_of(program, command))
+        expect(completed(f"svcmgr {command} -"), options, f"svcmgr {command} - is completed to")
         found |= options
     manual = re.findall(r"\.?Fl -([a-z-]+)", (ROOT / "docs" / "svcmgr.1").read_text())
     expect({f"--{name}" for name in manual}, found | {"--version"}, "docs/svcmgr.1 has")
+
+
+# Sources the completion, and prints what it completes the last of its words to.
+COMPLETE = """source "$0" && COMP_WORDS=("$@") COMP_CWORD=$(($# - 1)) && _svcmgr && printf '%s\n' "${COMPREPLY[@]}" """
+
+# Command lines in a folder with the files `labels` and `rules`, and what their last word is completed to.
+COMPLETED = [
+    ("svcmgr a", "access admin"),
+    ("svcmgr run ", "labels rules"),
+    ("svcmgr check r", "rules"),
+    ("svcmgr check --s", "--show"),
+    ("svcmgr admin v", "version"),
+    ("svcmgr admin --admin ", "labels rules"),
+    ("svcmgr admin --admin rules ", "version denials seal reload explain"),
+    ("svcmgr admin --admin rules s", "seal"),
+    ("svcmgr admin reload ", "labels rules"),
+    ("svcmgr admin reload rules l", "labels"),
+    ("svcmgr admin --admin rules reload ", "labels rules"),
+    ("svcmgr access --class ", "service_manager binder"),
+    ("svcmgr access rules labels --class b", "binder"),
+    ("svcmgr access --perm ", "add find list impersonate call set_context_mgr transfer"),
+    ("svcmgr access --class binder --perm c", "call"),
+    ("svcmgr access --class binder ", "labels rules"),
+    ("svcmgr access --source ", "labels rules"),
+    ("svcmgr diff rules labels n", ""),
+]
+
+
+def completed(line, folder=None):
+    """What the last word of a command line is completed to."""
+    words = ["bash", "-c", COMPLETE, ROOT / "examples" / "completion.bash", *line.split(" ")]
+    ended = subprocess.run(words, cwd=folder, capture_output=True, text=True, timeout=PATIENCE)
+    expect((ended.returncode, ended.stderr), (0, ""), f"the completion of {line!r} ends with")
+    return set(ended.stdout.split())
+
+
+@check
+def completed_words(program):
+    with room() as folder:
+        for name in ("labels", "rules"):
+            (folder / name).touch()
+        for line, words in COMPLETED:
+            expect(completed(line, folder), set(words.split()), f"{line!r} is completed to")
 
 
 @check
