@@ -35,6 +35,8 @@ def requests_of_administrators(program):
         for words, *ending in asked:
             administer(program, ["--admin", server.admins, *words], ending)
         administer(program, ["--admin", server.folder / "none", "version"], [1, "", missing])
+        for words in ["version"], ["reload", rules, labels]:
+            administer(program, ["--admin", server.clients, *words], [1, "malformed\n", ""])
     unknown = "fault: the administrators' socket isn't given, by --admin or SVCMGR_ADMIN\n"
     administer(program, ["version"], [2, "", unknown])
 

@@ -68,8 +68,55 @@ def pages_of_options(program):
         options = options_in(help_of(program, command))
         expect(completed(f"svcmgr {command} -"), options, f"svcmgr {command} - is completed to")
         found |= options
+    expect("answers malformed" in help_of(program, "admin"), True, "svcmgr admin --help tells of the wrong socket")
     manual = re.findall(r"\.?Fl -([a-z-]+)", (ROOT / "docs" / "svcmgr.1").read_text())
     expect({f"--{name}" for name in manual}, found | {"--version"}, "docs/svcmgr.1 has")
+
+
+# What is around the rules in a `policy.conf`, in the order of its sections.
+COMPILED = (
+    """class service_manager
+class binder
+sid kernel
+class service_manager { add find list }
+class binder { impersonate call set_context_mgr transfer }
+sensitivity s0;
+dominance { s0 }
+category c0;
+level s0:c0;
+mlsconstrain binder call (l1 eq l2);
+policycap network_peer_controls;
+""",
+    """role r;
+role r types domain;
+user u roles { r } level s0 range s0 - s0:c0;
+sid kernel u:r:servicemanager:s0
+fs_use_xattr ext4 u:object_r:activity_service:s0;
+genfscon proc / u:object_r:activity_service:s0
+""",
+)
+
+
+@check
+def page_of_compiled_policies(program):
+    """What docs/ANDROID.md makes of a `policy.conf` are the rules, on the lines where they were."""
+    page = (ROOT / "docs" / "ANDROID.md").read_text()
+    command = re.search(r"^\$ (sed .* policy\.conf > policy\.te)$", page, re.MULTILINE)[1]
+    before, behind = COMPILED
+    asked = [
+        (["bash", "-c", command], ""),
+        ([program, "check", "policy.te", "labels"], "policy ok: 6 types, 2 attributes, 8 rules, 2 labels\n"),
+        (
+            [program, *"explain policy.te labels untrusted_app activity_service service_manager find".split()],
+            f"allowed {len(before.splitlines()) + 17}\n",
+        ),
+    ]
+    with room() as folder:
+        (folder / "policy.conf").write_text(before + DEVICE + behind)
+        (folder / "labels").write_text(LABELS)
+        for words, told in asked:
+            ended = subprocess.run(words, cwd=folder, capture_output=True, text=True, timeout=PATIENCE)
+            expect((ended.returncode, ended.stdout, ended.stderr), (0, told, ""), f"{words} ends with")
 
 
 # Sources the completion, and prints what it completes the last of its words to.

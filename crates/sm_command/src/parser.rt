@@ -101,7 +101,8 @@ fn admin<'a>(alloc: Global) -> Building<'a> {
     let program = Command::new(alloc, "admin")
         .about("Asks a running server as its administrator")
         .subcommand_required(true);
-    let path = "The administrators' socket; without it that of SVCMGR_ADMIN";
+    let path =
+        "The administrators' socket; without it that of SVCMGR_ADMIN (the clients' socket answers malformed)";
     let version = "Tells the version of the policy and the length of the journal";
     let denials = "Lists the newest denied requests";
     let seal = "Closes the open segment of the journal, and drops it";
