@@ -53,7 +53,7 @@ def commands(case):
         (["check", "--show", *FILES[:2]], "", lambda model: model.asks("check", *files, FILES[:2])),
     ]
     for question in case.questions:
-        texts = files + (case.new_rules, case.new_contexts) if question[0] == "diff" else files
+        texts = (*files, case.new_rules, case.new_contexts, FILES) if question[0] == "diff" else files
 
         def answer(model, question=question, texts=texts):
             return model.asks(question[0], *texts, *question[1:])

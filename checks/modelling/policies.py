@@ -35,7 +35,7 @@ class Refused(Exception):
 
     def __init__(self, text, *lines):
         super().__init__(text)
-        self.text, self.lines = text, lines
+        self.text, self.lines, self.said = text, lines, ""
 
 
 class Syntax(Exception):

@@ -47,7 +47,7 @@ def asked(question):
         try:
             return question(kind, *rest)
         except Refused as refused:
-            return f"policy refused: {refused.text}\n", "", 1
+            return f"policy refused: {refused.text}\n", refused.said, 2
         except Unknown as unknown:
             return "", f"fault: unknown {unknown}\n", 2
 
@@ -113,10 +113,19 @@ def only_first(first, second):
     return [each for each in every_access(first) if first.is_allowed(*each) and not second.is_allowed(*each)]
 
 
+def read_named(rules, contexts, kind, paths):
+    """One of two policies, whose refusal names its files."""
+    try:
+        return read_policy(rules, contexts, kind)
+    except Refused as refused:
+        refused.said = f"fault: {' '.join(paths)}: policy refused\n"
+        raise
+
+
 @asked
-def diff(kind, rules, contexts, new_rules, new_contexts):
-    old = read_policy(rules, contexts, kind)
-    new = read_policy(new_rules, new_contexts, kind)
+def diff(kind, rules, contexts, new_rules, new_contexts, paths):
+    old = read_named(rules, contexts, kind, paths[:2])
+    new = read_named(new_rules, new_contexts, kind, paths[2:])
     found = [f"- {' '.join(each)}" for each in only_first(old, new)]
     found += [f"+ {' '.join(each)}" for each in only_first(new, old)]
     for key in old.keys() + [key for key in new.keys() if key not in old.keys()]:

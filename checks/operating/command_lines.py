@@ -202,27 +202,35 @@ UNKNOWN_TYPE = ({"untrusted_app": "app"}, 2, "fault: unknown type app\n")
 DENIED = ({"rules": "unopened"}, 1, "open denied servicemanager servicemanager binder set_context_mgr\n")
 
 
-def missing(word, path, file=""):
-    return {word: path}, 1, f"fault: {file or path}: No such file or directory (os error 2)\n"
+def missing(word, path, file="", status=1):
+    return {word: path}, status, f"fault: {file or path}: No such file or directory (os error 2)\n"
 
 
-def faults_of_policy(rules, labels, line):
-    """A file of a policy is missing, or the policy is refused by this line of its rules or its labels."""
-    by_rules = ({rules: f"bad-{rules}"}, 1, f"policy refused: rules: unknown name at line {line}\n")
-    by_labels = ({labels: f"bad-{labels}"}, 1, f"policy refused: contexts: bad line {line}\n")
-    return [missing(rules, f"no-{rules}")], [missing(labels, f"no-{labels}")], [by_rules, by_labels]
+def faults_of_policy(rules, labels, line, status=1, named=False):
+    """A file of a policy is missing, or the policy is refused by this line of its rules or its labels. One of two
+    policies is named then."""
+
+    def refused(bad, text):
+        files = " ".join(f"bad-{file}" if file == bad else file for file in (rules, labels))
+        said = f"fault: {files}: policy refused\n" if named else ""
+        return {bad: f"bad-{bad}"}, status, f"policy refused: {text} {line}\n{said}"
+
+    files = [[missing(file, f"no-{file}", status=status)] for file in (rules, labels)]
+    return *files, [refused(rules, "rules: unknown name at line"), refused(labels, "contexts: bad line")]
 
 
 # The good words of each command, and its faults in the order in which they are looked for.
 FIRST = [UNKNOWN_OPTION], *faults_of_policy("rules", "labels", 1)
+ASKED = [UNKNOWN_OPTION], *faults_of_policy("rules", "labels", 1, 2), [UNKNOWN_TYPE]
+OLD, NEW = faults_of_policy("rules", "labels", 1, 2, True), faults_of_policy("new", "newlabels", 2, 2, True)
 SOCKETS = [missing("socket", "gone/s", "gone/s.lock")], [missing("admin", "away/a", "away/a.lock")]
 FAULTS = {
     "run rules labels": [*FIRST, [DENIED]],
     "check rules labels": FIRST,
     "serve --socket socket --admin admin rules labels": [*FIRST, [DENIED], *SOCKETS],
-    "explain rules labels untrusted_app activity_service service_manager find": [*FIRST, [UNKNOWN_TYPE]],
-    "access --source untrusted_app rules labels": [*FIRST, [UNKNOWN_TYPE]],
-    "diff rules labels new newlabels": [*FIRST, *faults_of_policy("new", "newlabels", 2)],
+    "explain rules labels untrusted_app activity_service service_manager find": ASKED,
+    "access --source untrusted_app rules labels": ASKED,
+    "diff rules labels new newlabels": [[UNKNOWN_OPTION], *OLD, *NEW],
 }
 
 
@@ -334,20 +342,31 @@ QUESTIONS = [
         "~ window u:object_r:activity_service:s0 u:object_r:default_android_service:s0\n"
         "~ * u:object_r:private_service:s0 u:object_r:default_android_service:s0\n",
     ),
-    ("label refused labels foo", 1, "policy refused: rules: unknown name at line 1\n"),
-    ("diff rules labels rules refused", 1, "policy refused: contexts: bad line 1\n"),
 ]
 
-# Questions without an answer, with what is said on standard error.
+# Questions without an answer, with what is said on standard output and on standard error.
+UNKNOWN_NAME = "policy refused: rules: unknown name at line 1\n"
+NOWHERE = "fault: nowhere: No such file or directory (os error 2)\n"
 UNANSWERED = [
-    ("explain rules labels app activity_service service_manager find", 2, "fault: unknown type app\n"),
-    ("explain rules labels untrusted_app activity service_manager find", 2, "fault: unknown type activity\n"),
-    ("explain rules labels untrusted_app activity_service file read", 2, "fault: unknown class file\n"),
-    ("explain rules labels untrusted_app activity_service binder find", 2, "fault: unknown permission find\n"),
-    ("access rules labels --source app", 2, "fault: unknown type app\n"),
-    ("access rules labels --class binder --perm find", 2, "fault: unknown permission find\n"),
-    ("access rules nowhere", 1, "fault: nowhere: No such file or directory (os error 2)\n"),
-    ("diff rules labels nowhere labels", 1, "fault: nowhere: No such file or directory (os error 2)\n"),
+    ("explain rules labels app activity_service service_manager find", "", "fault: unknown type app\n"),
+    ("explain rules labels untrusted_app activity service_manager find", "", "fault: unknown type activity\n"),
+    ("explain rules labels untrusted_app activity_service file read", "", "fault: unknown class file\n"),
+    ("explain rules labels untrusted_app activity_service binder find", "", "fault: unknown permission find\n"),
+    ("access rules labels --source app", "", "fault: unknown type app\n"),
+    ("access rules labels --class binder --perm find", "", "fault: unknown permission find\n"),
+    ("label nowhere labels foo", "", NOWHERE),
+    ("explain rules nowhere untrusted_app activity_service service_manager find", "", NOWHERE),
+    ("access rules nowhere", "", NOWHERE),
+    ("diff rules labels nowhere labels", "", NOWHERE),
+    ("label refused labels foo", UNKNOWN_NAME, ""),
+    ("explain refused labels untrusted_app activity_service service_manager find", UNKNOWN_NAME, ""),
+    ("access refused labels", UNKNOWN_NAME, ""),
+    ("diff refused labels rules labels", UNKNOWN_NAME, "fault: refused labels: policy refused\n"),
+    (
+        "diff rules labels rules refused",
+        "policy refused: contexts: bad line 1\n",
+        "fault: rules refused: policy refused\n",
+    ),
 ]
 
 
@@ -371,7 +390,7 @@ def tour_in(folder):
 def questions(program):
     """The answers to questions and their statuses, and the faults of questions without an answer."""
     asked = [(line, status, told, "") for line, status, told in QUESTIONS]
-    asked += [(line, status, "", said) for line, status, said in UNANSWERED]
+    asked += [(line, 2, told, said) for line, told, said in UNANSWERED]
     with room() as folder:
         tour_in(folder)
         for line, status, told, said in asked:
@@ -396,7 +415,7 @@ def unread_answers(program):
         ("access rules labels", 0),
         ("explain rules labels untrusted_app activity_service service_manager find", 1),
         ("diff rules labels new newlabels", 1),
-        ("label refused labels activity", 1),
+        ("label refused labels activity", 2),
     ]
     with room() as folder:
         tour_in(folder)
@@ -411,4 +430,4 @@ def unread_answers(program):
             with open("/dev/full", "wb") as full:
                 ended = subprocess.run(words, cwd=folder, stdout=full, stderr=subprocess.PIPE, timeout=PATIENCE)
             came = ended.returncode, ended.stderr
-            expect(came, (1, b"fault: a write failed\n"), f"{line} ends with, if the disk is full,")
+            expect(came, (2, b"fault: a write failed\n"), f"{line} ends with, if the disk is full,")

@@ -16,7 +16,7 @@ use Rattle.sm_check.specs.Checking.{refused_line}
 use Rattle.sm_questions.specs.Words.{unknown_words}
 use Rattle.sm_questions.specs.declared.unknown.Unknown.{Unknown}
 use Rattle.sm_command.specs.declared.ending.Ending.{Ending}
-use Rattle.sm_command.specs.declared.ending.Ending.TheVariants.{Memory, File, Lock, Script, Serve}
+use Rattle.sm_command.specs.declared.ending.Ending.TheVariants.{Memory, File, Lock, Refused, Script, Serve}
 
 -- The line for a file has its path, and the words of the operating system.
 abbrev pub TellsOfFile : List ℕ → List ℕ → Type 0
@@ -25,6 +25,11 @@ TellsOfFile path line = (words : List ℕ) × (line ≡ codes "fault: " ++ path 
 -- The lock beside a socket has this path.
 abbrev pub lock_of : List ℕ → List ℕ
 lock_of path = path ++ codes ".lock"
+
+-- This is the line for the files of a refused policy.
+abbrev pub refused_files_line : List ℕ → List ℕ → List ℕ
+refused_files_line rules contexts =
+    codes "fault: " ++ rules ++ codes " " ++ contexts ++ codes ": policy refused\n"
 
 -- This is the line for a failed allocation.
 abbrev pub no_memory : List ℕ
@@ -82,5 +87,6 @@ abbrev pub Tells : Ending → List ℕ → Type 0
 Tells Memory line = line ≡ no_memory
 Tells (File path error) line = TellsOfFile path.now line
 Tells (Lock path error) line = TellsOfFile (lock_of path.now) line
+Tells (Refused rules contexts) line = line ≡ refused_files_line rules.now contexts.now
 Tells (Script fault) line = line ≡ script_line fault
 Tells (Serve fault) line = line ≡ serve_line fault

@@ -29,6 +29,9 @@ pub enum Ending<'a> {
     /// The lock beside the socket of this path couldn't be made.
     #[error("fault: {path}.lock: {error}")]
     Lock { path: &'a str, error: io::Error },
+    /// One of the two policies of a `diff`, that of these files, is refused.
+    #[error("fault: {rules} {contexts}: policy refused")]
+    Refused { rules: &'a str, contexts: &'a str },
     /// The script was not run, or not to its end; or the verdict of a check couldn't be written.
     #[error(transparent)]
     Script(ScriptFault),
@@ -89,6 +92,7 @@ impl<'a> Ending<'a> {
             Ending::Memory => Vec::from_slice(alloc, NO_MEMORY),
             Ending::File { path, error } => file_line(alloc, path, error),
             Ending::Lock { path, error } => lock_line(alloc, path, error),
+            Ending::Refused { rules, contexts } => refused_files_line(alloc, rules, contexts),
             Ending::Script(ScriptFault::Policy(fault)) => refused_line(alloc, fault),
             Ending::Script(ScriptFault::Opening(refusal)) => opening_line(alloc, refusal),
             Ending::Script(ScriptFault::Engine(fault)) => {
@@ -118,6 +122,18 @@ fn lock_line(alloc: Global, path: &str, error: &io::Error) -> Result<Vec<u8>, Al
 {
     let name = lock_of(alloc, path)?;
     file_line(alloc, name.as_str(), error)
+}
+
+// Returns `fault: RULES CONTEXTS: policy refused`.
+fn refused_files_line(alloc: Global, rules: &str, contexts: &str) -> Result<Vec<u8>, AllocError>
+    ensures { IfOk result (λ line. line.items ≡ spec.refused_files_line rules.now contexts.now) }
+{
+    let mut line = Vec::from_slice(alloc, b"fault: ")?;
+    line.extend_from_slice(rules.as_bytes())?;
+    line.extend_from_slice(b" ")?;
+    line.extend_from_slice(contexts.as_bytes())?;
+    line.extend_from_slice(b": policy refused\n")?;
+    Ok(line)
 }
 
 /// Returns the path of the lock beside the socket of this path.

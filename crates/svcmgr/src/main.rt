@@ -107,7 +107,7 @@ fn perform<'a, R: Files + Net + Threads + Wait + Clock + Sync>(
         Mode::Run => run_stdin(host, options),
         Mode::Check { show } => check_policy(host, options, show),
         Mode::Serve(sockets) => serve_sockets(host, rt, options, sockets),
-        Mode::Ask(question) => ask(host, options, question),
+        Mode::Ask(question) => Ok(ask(host, options, question)),
     }
 }
 

@@ -1,7 +1,7 @@
 //! Answers to questions about policies, on standard output.
 
 use crate::pipe::Pipe;
-use crate::text_of;
+use crate::{fail, text_of};
 use sm_check::refused_line;
 use sm_command::{
     AccessWords, Ending, FilterWords, NO_MEMORY, NewFiles, Options, Question, TargetWord,
@@ -15,18 +15,53 @@ use sm_questions::{
 };
 use std::process::ExitCode;
 
+/// The status of a question that has no answer.
+const NO_ANSWER: u8 = 2;
+
 /// Reads the policy, and answers the question.
-pub fn ask<'a>(
+pub fn ask<'a>(rt: &HostRuntime, options: &Options<'a>, question: Question<'a>) -> ExitCode {
+    match try_ask(rt, options, question) {
+        Ok(code) => code,
+        Err(ending) => {
+            fail(rt, &ending);
+            ExitCode::from(NO_ANSWER)
+        }
+    }
+}
+
+fn try_ask<'a>(
     rt: &HostRuntime,
     options: &Options<'a>,
     question: Question<'a>,
 ) -> Result<ExitCode, Ending<'a>> {
-    let rules = text_of(rt, options.rules)?;
-    let contexts = text_of(rt, options.contexts)?;
-    match Prepared::from_texts(rt.alloc(), &rules, &contexts) {
-        Ok(policy) => answer(rt, &policy, question),
-        Err(fault) => refuse(rt, &fault),
+    match read_policy(rt, options.rules, options.contexts)? {
+        Some(policy) => answer(rt, &policy, question),
+        None => match question {
+            Question::Diff(_) => Err(refused(options.rules, options.contexts)),
+            _ => Ok(ExitCode::from(NO_ANSWER)),
+        },
     }
+}
+
+/// Reads the policy of these files. Prints the refusal and returns `None`, if it is refused.
+fn read_policy<'a>(
+    rt: &HostRuntime,
+    rules: &'a str,
+    contexts: &'a str,
+) -> Result<Option<Prepared>, Ending<'a>> {
+    let rules = text_of(rt, rules)?;
+    let contexts = text_of(rt, contexts)?;
+    match Prepared::from_texts(rt.alloc(), &rules, &contexts) {
+        Ok(policy) => Ok(Some(policy)),
+        Err(fault) => {
+            refuse(rt, &fault)?;
+            Ok(None)
+        }
+    }
+}
+
+fn refused<'a>(rules: &'a str, contexts: &'a str) -> Ending<'a> {
+    Ending::Refused { rules, contexts }
 }
 
 fn answer<'a>(
@@ -43,7 +78,7 @@ fn answer<'a>(
 }
 
 /// Prints the refusal of a policy, as `check` does.
-fn refuse<'a>(rt: &HostRuntime, fault: &PolicyFault) -> Result<ExitCode, Ending<'a>> {
+fn refuse<'a>(rt: &HostRuntime, fault: &PolicyFault) -> Result<(), Ending<'a>> {
     if matches!(fault, PolicyFault::Memory) {
         return Err(Ending::Memory);
     }
@@ -51,35 +86,32 @@ fn refuse<'a>(rt: &HostRuntime, fault: &PolicyFault) -> Result<ExitCode, Ending<
         return Err(Ending::Memory);
     };
     let mut writer = Counted::new(Pipe::new(rt.stdout()));
-    let ended = match write_whole(&mut writer, &line) {
-        Ok(()) => Ok(false),
-        Err(fault) => Err(fault),
-    };
-    decided(ended, writer.into_inner().is_closed())
+    let ended = write_whole(&mut writer, &line);
+    unless_unread(ended, writer.into_inner().is_closed())
 }
 
 /// Prints that a word of a question names nothing.
 fn refuse_word(rt: &HostRuntime, unknown: &Unknown<'_>) -> ExitCode {
-    match unknown_line(rt.alloc(), unknown) {
-        Ok(line) => {
-            // A failure can't be reported anywhere else.
-            let _ = rt.stderr().write_all(&line);
-            ExitCode::from(2)
-        }
-        Err(_) => {
-            let _ = rt.stderr().write_all(NO_MEMORY);
-            ExitCode::FAILURE
-        }
+    // A failure can't be reported anywhere else.
+    let _ = match unknown_line(rt.alloc(), unknown) {
+        Ok(line) => rt.stderr().write_all(&line),
+        Err(_) => rt.stderr().write_all(NO_MEMORY),
+    };
+    ExitCode::from(NO_ANSWER)
+}
+
+/// Returns the fault of a write. One that is cut off since nobody reads on is no failure.
+fn unless_unread<'a>(ended: Result<(), Fault>, is_closed: bool) -> Result<(), Ending<'a>> {
+    match ended {
+        Err(Fault::WriteFault) if is_closed => Ok(()),
+        ended => Ok(ended?),
     }
 }
 
-/// Returns the status of a list. One that is cut off since nobody reads on is no failure.
+/// Returns the status of a list.
 fn listed<'a>(ended: Result<(), Fault>, is_closed: bool) -> Result<ExitCode, Ending<'a>> {
-    match ended {
-        Ok(()) => Ok(ExitCode::SUCCESS),
-        Err(Fault::WriteFault) if is_closed => Ok(ExitCode::SUCCESS),
-        Err(fault) => Err(Ending::from(fault)),
-    }
+    unless_unread(ended, is_closed)?;
+    Ok(ExitCode::SUCCESS)
 }
 
 /// Returns the status of a yes or a no. An answer that nobody reads is no yes.
@@ -166,11 +198,9 @@ fn tell_differences<'a>(
     old: &Prepared,
     files: NewFiles<'a>,
 ) -> Result<ExitCode, Ending<'a>> {
-    let rules = text_of(rt, files.rules)?;
-    let contexts = text_of(rt, files.contexts)?;
-    match Prepared::from_texts(rt.alloc(), &rules, &contexts) {
-        Ok(new) => compare(rt, old, &new),
-        Err(fault) => refuse(rt, &fault),
+    match read_policy(rt, files.rules, files.contexts)? {
+        Some(new) => compare(rt, old, &new),
+        None => Err(refused(files.rules, files.contexts)),
     }
 }
 

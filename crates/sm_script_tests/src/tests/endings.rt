@@ -59,6 +59,8 @@ fn the_text_of_a_file_fault_is_its_line(rt: HostRuntime) -> Result<(), Fail> {
         alloc,
         Ending::of_lock("socket", io::Error::from_raw_os_error(13)),
     )?;
+    let (rules, contexts) = ("a.rules", "a.contexts");
+    prints_its_line(&rt, alloc, Ending::Refused { rules, contexts })?;
     Ok(())
 }
 
