@@ -2,6 +2,7 @@
 
 Each gives what it writes to standard output and to standard error, and its status."""
 
+import re
 from itertools import product
 
 from .policies import CLASSES, MOST_BYTES, Policy, Refused
@@ -22,15 +23,28 @@ def lines(found):
     return "".join(f"{line}\n" for line in found)
 
 
+def statement(rest):
+    """The statement with which these lines begin, on one line."""
+    found = rest[0].split("#")[0]
+    for line in rest[1:]:
+        if found.rstrip(" \t\r").endswith(";"):
+            break
+        front, semicolon, _ = line.split("#")[0].partition(";")
+        found = f"{found}\n{front}{semicolon}"
+    return re.sub("[ \t\r\n]+", " ", found.strip(" \t\r\n"))[:4096]
+
+
 def shown(refused, files):
-    """The lines that a refusal names, each after its file and its number."""
+    """The statements and lines that a refusal names, each after its file and its number."""
     path, text = files[refused.text.startswith("contexts: ")]
     every = text.split("\n")
-    return lines(f"{path}:{line}: {every[line - 1]}" for line in refused.lines)
+    is_whole = refused.text.startswith(("contexts: ", "rules: unsupported "))
+    found = [(line, every[line - 1] if is_whole else statement(every[line - 1 :])) for line in refused.lines]
+    return lines(f"{path}:{line}: {text}" for line, text in found)
 
 
 def check(kind, rules, contexts, paths=None):
-    """With two paths, the lines that a refusal names are shown."""
+    """With two paths, what a refusal names is shown."""
     try:
         policy = read_policy(rules, contexts, kind)
     except Refused as refused:

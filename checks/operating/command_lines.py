@@ -162,6 +162,29 @@ def completed_words(program):
             expect(completed(line, folder), set(words.split()), f"{line!r} is completed to")
 
 
+# A statement of a refused policy at line 22 of its source, and what is shown of it.
+NEVER = "neverallow untrusted_app *:service_manager add;"
+SHOWN = [
+    (NEVER, NEVER),
+    ("neverallow untrusted_app\n\t*:service_manager {\r\n  add # find;\n\n};", NEVER.replace("add", "{ add }")),
+    ("neverallow untrusted_app *:service_manager add # it;\n  ; type other;", NEVER.replace(";", " ;")),
+    (f";;{NEVER} # end", f";;{NEVER}"),
+    (NEVER.replace("add", "{" + " add" * 2000 + "}"), NEVER.replace("add", "{" + " add" * 2000 + "}")[:4096]),
+]
+
+
+@check
+def shown_statements(program):
+    with room() as folder:
+        (folder / "labels").write_text(LABELS)
+        for written, shown in SHOWN:
+            (folder / "rules").write_text(BROKEN.replace(NEVER, written))
+            words = [program, "check", "--show", "rules", "labels"]
+            ended = subprocess.run(words, cwd=folder, capture_output=True, text=True, timeout=PATIENCE)
+            expect(ended.stderr.splitlines()[0], f"rules:22: {shown}", f"of {written!r} it is shown")
+            expect((ended.returncode, len(ended.stderr.splitlines())), (1, 2), f"{written!r} ends with")
+
+
 @check
 def scripts_and_checks(program):
     """The statuses of `run` and `check`, and what they say."""

@@ -19,7 +19,7 @@ use std::{env, io};
 pub enum Mode<'a> {
     /// `svcmgr run [--journal N] RULES CONTEXTS`
     Run,
-    /// `svcmgr check [--show] RULES CONTEXTS`, and whether the lines that a refusal names are shown.
+    /// `svcmgr check [--show] RULES CONTEXTS`, and whether what a refusal names is shown.
     Check { show: bool },
     /// `svcmgr serve [--journal N] [--seal-at N] [--seal-bytes N] [--workers W] [--mode MODE] [--audit] --socket PATH
     /// --admin PATH RULES CONTEXTS`

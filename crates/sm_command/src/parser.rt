@@ -162,7 +162,7 @@ fn by_name<'a>(alloc: Global) -> Arg<'a> {
 fn show<'a>(alloc: Global) -> Arg<'a> {
     Arg::new(alloc, "show")
         .long("show")
-        .help("Shows the lines that a refusal names, on standard error")
+        .help("Shows the statements and lines that a refusal names, on standard error")
         .action(ArgAction::SetTrue)
 }
 

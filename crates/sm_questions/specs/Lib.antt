@@ -7,6 +7,7 @@ pub mod FirstLines
 pub mod Granted
 pub mod Keys
 pub mod Labels
+pub mod OneLine
 pub mod Parts
 pub mod Relabelled
 pub mod TypeNumbers

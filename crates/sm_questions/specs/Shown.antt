@@ -11,6 +11,7 @@ use Rattle.sm_types.specs.declared.fault.TypesFault.TheVariants as types
 use Rattle.sm_types.specs.Names.{at}
 use Rattle.sm_rules.specs.declared.fault.RulesFault.{RulesFault}
 use Rattle.sm_rules.specs.declared.fault.RulesFault.TheVariants as access
+use Rattle.sm_questions.specs.OneLine.{statement_at}
 use Rattle.sm_policy.specs.declared.violation.Violation.{Violation}
 use Rattle.sm_policy.specs.declared.fault.PolicyFault.{PolicyFault}
 use Rattle.sm_policy.specs.declared.fault.PolicyFault.TheVariants.{Rules, Types, Access, Contexts, UndeclaredLabel}
@@ -25,18 +26,23 @@ abbrev pub shown_line : List ℕ → List ℕ → ℕ → List ℕ
 shown_line path text number =
     path ++ numbered (codes ":") number ++ codes ": " ++ line_at text number ++ codes "\n"
 
--- The line is shown, if there is one.
+-- A statement is shown as `FILE:LINE: TEXT`, too.
+abbrev pub shown_statement : List ℕ → List ℕ → ℕ → List ℕ
+shown_statement path text number =
+    path ++ numbered (codes ":") number ++ codes ": " ++ statement_at text number ++ codes "\n"
+
+-- The statement of a line is shown, if there is one.
 abbrev pub shown_at : List ℕ → List ℕ → Option ℕ → List ℕ
-shown_at path text (Some number) = shown_line path text number
+shown_at path text (Some number) = shown_statement path text number
 shown_at path text None = []
 
--- A fault of the policy source names this line.
-abbrev pub text_line : RuleTextFault → Option ℕ
-text_line text.TooLarge = None
-text_line (text.Syntax n) = Some n
-text_line (text.Unsupported n) = Some n
-text_line text.TooMany = None
-text_line text.Memory = None
+-- This is shown for a fault of the policy source. An unsupported statement has no known end.
+abbrev pub shown_text : List ℕ → List ℕ → RuleTextFault → List ℕ
+shown_text path source text.TooLarge = []
+shown_text path source (text.Syntax n) = shown_statement path source n
+shown_text path source (text.Unsupported n) = shown_line path source n
+shown_text path source text.TooMany = []
+shown_text path source text.Memory = []
 
 -- A fault of the declarations names this line.
 abbrev pub types_line : TypesFault → Option ℕ
@@ -60,13 +66,13 @@ shown_contexts path text (labels.TwoDefaults n) = shown_line path text n
 shown_contexts path text labels.NoDefault = []
 shown_contexts path text labels.Memory = []
 
--- Of a broken neverallow rule, its own line is first, and then that of the allow rule.
+-- Of a broken neverallow rule, it is first itself, and then the allow rule.
 abbrev pub shown_violation : List ℕ → List ℕ → Violation → List ℕ
-shown_violation path text v = shown_line path text v.never_line ++ shown_line path text v.allow_line
+shown_violation path text v = shown_statement path text v.never_line ++ shown_statement path text v.allow_line
 
--- These are the lines that a refusal names, of a policy source and a contexts file.
+-- These are the statements and lines that a refusal names, of a policy source and a contexts file.
 abbrev pub shown_lines : List ℕ → List ℕ → List ℕ → List ℕ → PolicyFault → List ℕ
-shown_lines rules_path rules contexts_path contexts (Rules e) = shown_at rules_path rules (text_line e)
+shown_lines rules_path rules contexts_path contexts (Rules e) = shown_text rules_path rules e
 shown_lines rules_path rules contexts_path contexts (Types e) = shown_at rules_path rules (types_line e)
 shown_lines rules_path rules contexts_path contexts (Access e) = shown_at rules_path rules (rules_line e)
 shown_lines rules_path rules contexts_path contexts (Contexts e) = shown_contexts contexts_path contexts e

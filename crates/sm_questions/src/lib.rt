@@ -11,6 +11,7 @@ mod labelling;
 mod listing;
 mod lookups;
 mod lost;
+mod one_line;
 mod part;
 mod relabelling;
 mod showing;

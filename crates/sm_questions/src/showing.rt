@@ -1,8 +1,10 @@
-//! The lines of a policy's files that a refusal names.
+//! The statements and lines of a policy's files that a refusal names.
 
-ghost use Rattle.std.specs.Prelude.{◌≡◌, ◌++◌, IfOk, OnOk};
+ghost use Rattle.std.specs.Prelude.{◌≡◌, ◌++◌, IfOk, OnOk, codes};
+ghost use Rattle.sm_kinds.specs.Messages.{numbered};
 ghost use Rattle.sm_questions.specs.Shown as spec;
 
+use crate::one_line::statement_at;
 use sm_contexts::{ContextsFault, Lines};
 use sm_kinds::push_numbered;
 use sm_policy::{PolicyFault, Violation};
@@ -26,19 +28,41 @@ fn line_at(text: &[u8], number: u32) -> &[u8]
     b""
 }
 
-/// Appends `FILE:LINE: TEXT`.
+/// Appends `FILE:LINE: TEXT`, with a line as it is.
 fn push_line(path: &[u8], text: &[u8], number: u32, shown: &mut Vec<u8>) -> Result<(), AllocError>
     ensures { OnOk result (shown.new.items ≡ shown.old.items ++ spec.shown_line path.now text.now number) }
+{
+    push_text(path, number, line_at(text, number), shown)
+}
+
+/// Appends `FILE:LINE: TEXT`, with the statement of a line.
+fn push_statement(
+    alloc: Global,
+    path: &[u8],
+    text: &[u8],
+    number: u32,
+    shown: &mut Vec<u8>,
+) -> Result<(), AllocError>
+    ensures { OnOk result (shown.new.items ≡ shown.old.items ++ spec.shown_statement path.now text.now number) }
+{
+    let statement = statement_at(alloc, text, number)?;
+    push_text(path, number, &statement, shown)
+}
+
+fn push_text(path: &[u8], number: u32, text: &[u8], shown: &mut Vec<u8>) -> Result<(), AllocError>
+    ensures { OnOk result (shown.new.items
+        ≡ shown.old.items ++ (path.now ++ numbered (codes ":") number ++ codes ": " ++ text.now ++ codes "\n")) }
 {
     shown.extend_from_slice(path)?;
     push_numbered(shown, b":", u64::from(number))?;
     shown.extend_from_slice(b": ")?;
-    shown.extend_from_slice(line_at(text, number))?;
+    shown.extend_from_slice(text)?;
     shown.extend_from_slice(b"\n")
 }
 
-/// Appends the line of this number, if there is one.
+/// Appends the statement of the line of this number, if there is one.
 fn push_at(
+    alloc: Global,
     path: &[u8],
     text: &[u8],
     number: Option<u32>,
@@ -47,17 +71,24 @@ fn push_at(
     ensures { OnOk result (shown.new.items ≡ shown.old.items ++ spec.shown_at path.now text.now number) }
 {
     match number {
-        Some(number) => push_line(path, text, number, shown),
+        Some(number) => push_statement(alloc, path, text, number, shown),
         None => Ok(()),
     }
 }
 
-fn text_line(fault: RuleTextFault) -> Option<u32>
-    ensures { result ≡ spec.text_line fault }
+fn push_source(
+    alloc: Global,
+    path: &[u8],
+    source: &[u8],
+    fault: RuleTextFault,
+    shown: &mut Vec<u8>,
+) -> Result<(), AllocError>
+    ensures { OnOk result (shown.new.items ≡ shown.old.items ++ spec.shown_text path.now source.now fault) }
 {
     match fault {
-        RuleTextFault::Syntax(n) | RuleTextFault::Unsupported(n) => Some(n),
-        RuleTextFault::TooLarge | RuleTextFault::TooMany | RuleTextFault::Memory => None,
+        RuleTextFault::Syntax(n) => push_statement(alloc, path, source, n, shown),
+        RuleTextFault::Unsupported(n) => push_line(path, source, n, shown),
+        RuleTextFault::TooLarge | RuleTextFault::TooMany | RuleTextFault::Memory => Ok(()),
     }
 }
 
@@ -79,21 +110,6 @@ fn rules_line(fault: RulesFault) -> Option<u32>
     }
 }
 
-/// Appends two lines.
-fn push_both(
-    path: &[u8],
-    text: &[u8],
-    first: u32,
-    second: u32,
-    shown: &mut Vec<u8>,
-) -> Result<(), AllocError>
-    ensures { OnOk result (shown.new.items ≡ shown.old.items
-        ++ (spec.shown_line path.now text.now first ++ spec.shown_line path.now text.now second)) }
-{
-    push_line(path, text, first, shown)?;
-    push_line(path, text, second, shown)
-}
-
 fn push_contexts(
     path: &[u8],
     text: &[u8],
@@ -106,12 +122,16 @@ fn push_contexts(
         ContextsFault::BadLine(n) | ContextsFault::TwoDefaults(n) => push_line(
             path, text, n, shown,
         ),
-        ContextsFault::Conflict(earlier, later) => push_both(path, text, later, earlier, shown),
+        ContextsFault::Conflict(earlier, later) => {
+            push_line(path, text, later, shown)?;
+            push_line(path, text, earlier, shown)
+        }
         ContextsFault::TooLarge | ContextsFault::NoDefault | ContextsFault::Memory => Ok(()),
     }
 }
 
 fn push_violation(
+    alloc: Global,
     path: &[u8],
     text: &[u8],
     violation: &Violation,
@@ -119,12 +139,12 @@ fn push_violation(
 ) -> Result<(), AllocError>
     ensures { OnOk result (shown.new.items ≡ shown.old.items ++ spec.shown_violation path.now text.now violation.now) }
 {
-    let (never, allow) = (violation.never_line, violation.allow_line);
-    push_both(path, text, never, allow, shown)
+    push_statement(alloc, path, text, violation.never_line, shown)?;
+    push_statement(alloc, path, text, violation.allow_line, shown)
 }
 
-/// Returns the lines that a refusal names of these two files, each as `FILE:LINE: TEXT`, in the order in which it names
-/// them.
+/// Returns the statements and lines that a refusal names of these two files, each as `FILE:LINE: TEXT`, in the order in
+/// which it names them.
 pub fn shown_lines(
     alloc: Global,
     rules_path: &[u8],
@@ -138,13 +158,13 @@ pub fn shown_lines(
 {
     let mut shown = Vec::new(alloc);
     match fault {
-        PolicyFault::Rules(e) => push_at(rules_path, rules, text_line(*e), &mut shown)?,
-        PolicyFault::Types(e) => push_at(rules_path, rules, types_line(*e), &mut shown)?,
-        PolicyFault::Access(e) => push_at(rules_path, rules, rules_line(*e), &mut shown)?,
+        PolicyFault::Rules(e) => push_source(alloc, rules_path, rules, *e, &mut shown)?,
+        PolicyFault::Types(e) => push_at(alloc, rules_path, rules, types_line(*e), &mut shown)?,
+        PolicyFault::Access(e) => push_at(alloc, rules_path, rules, rules_line(*e), &mut shown)?,
         PolicyFault::Contexts(e) => push_contexts(contexts_path, contexts, *e, &mut shown)?,
         PolicyFault::UndeclaredLabel(n) => push_line(contexts_path, contexts, *n, &mut shown)?,
         PolicyFault::Neverallow(violation) => {
-            push_violation(rules_path, rules, violation, &mut shown)?
+            push_violation(alloc, rules_path, rules, violation, &mut shown)?
         }
         PolicyFault::Memory => {}
     }

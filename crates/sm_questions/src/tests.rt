@@ -335,7 +335,22 @@ const REFUSED: &[Refused] = &[
     Refused {
         rules: b"type a;\ntype b;\nneverallow a b:binder call;\nallow a b:binder\n  call;\n",
         contexts: b"* u:r:a\n",
-        shown: b"t.te:3: neverallow a b:binder call;\nt.te:4: allow a b:binder\n",
+        shown: b"t.te:3: neverallow a b:binder call;\nt.te:4: allow a b:binder call;\n",
+    },
+    Refused {
+        rules: b"type a; # b\n type c;neverallow\t a {\r\n\n a # c;\n  c}:binder call;allow a a:binder call;",
+        contexts: b"* u:r:a\n",
+        shown: b"t.te:2: type c;neverallow a { a c}:binder call;\nt.te:5: c}:binder call;allow a a:binder call;\n",
+    },
+    Refused {
+        rules: b"type a;\n\nallow a\n  # end\n",
+        contexts: b"* u:r:a\n",
+        shown: b"t.te:3: allow a\n",
+    },
+    Refused {
+        rules: b"type a;\nbool x\n true;\n",
+        contexts: b"* u:r:a\n",
+        shown: b"t.te:2: bool x\n",
     },
     Refused {
         rules: b"type a;\ntype b;",

@@ -9,8 +9,8 @@ use sm_questions::shown_lines;
 use std::io::Write;
 use std::process::ExitCode;
 
-/// Prints whether a policy is accepted, and where `show` is set the lines of the files that a refusal names, on standard
-/// error.
+/// Prints whether a policy is accepted, and where `show` is set the statements and lines that a refusal names, on
+/// standard error.
 pub fn check_policy<'a>(
     rt: &HostRuntime,
     options: &Options<'a>,

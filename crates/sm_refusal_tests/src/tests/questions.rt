@@ -9,6 +9,7 @@ use sm_questions::{
     FilterOptions, Target, Unknown, access, diff, explain, label, read_filter, shown_lines,
     unknown_text,
 };
+use sm_ruletext::RuleTextFault;
 use sm_samples::{DEVICE_RULES, stricter_rules};
 use std::alloc::Global;
 use std::process::Abort;
@@ -102,6 +103,13 @@ fn shows_a_line(rt: &impl Abort, alloc: Global) -> Option<()> {
     Some(())
 }
 
+fn shows_a_statement(rt: &impl Abort, alloc: Global) -> Option<()> {
+    let fault = PolicyFault::Rules(RuleTextFault::Syntax(1));
+    let shown = shown_lines(alloc, b"t.te", b"allow a # b\n c", b"labels", b"", &fault).ok()?;
+    same_text(rt, &shown, b"t.te:1: allow a c\n");
+    Some(())
+}
+
 fn answers(rt: &impl Abort, alloc: Global, old: &Prepared, new: &Prepared) {
     again!(rt; labels(rt, alloc, old));
     again!(rt; explains(rt, alloc, old));
@@ -109,6 +117,7 @@ fn answers(rt: &impl Abort, alloc: Global, old: &Prepared, new: &Prepared) {
     again!(rt; compares(rt, alloc, old, new));
     again!(rt; names_a_word(rt, alloc));
     again!(rt; shows_a_line(rt, alloc));
+    again!(rt; shows_a_statement(rt, alloc));
 }
 
 fn asks(rt: &impl Abort, alloc: Global) -> Option<()> {
