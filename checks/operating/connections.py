@@ -224,6 +224,21 @@ def too_few_files(program, shim):
 
 
 @check
+def enough_files(program):
+    """A file for each worker and 11 are enough, and one less isn't."""
+    waits = "a client has waited for a worker for a second"
+    short = "a connection waits to be accepted: Too many open files (os error 24)"
+    for number, words in (4 + 11, waits), (4 + 10, short):
+        few = lambda: resource.setrlimit(resource.RLIMIT_NOFILE, (number, number))
+        with served(program, "--workers", "4", preexec_fn=few) as server, contextlib.ExitStack() as open_ones:
+            admins = [open_ones.enter_context(server.admin()) for _ in range(4)]
+            talk(admins[0], ("version", "version 1 1"))
+            clients = [open_ones.enter_context(server.client()) for _ in range(8)]
+            talk(clients[0], (HELLO, "client 1"))
+            server.says(f"warning: {words}\n")
+
+
+@check
 def listener_that_fails(program, shim):
     with served(program, env=with_accept_error(shim, errno.EBADF)) as server, server.client() as client:
         talk(client, (HELLO, "client 1"))
