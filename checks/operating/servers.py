@@ -76,16 +76,16 @@ class Daemon:
 
 
 class Server(Daemon):
-    """A server in a folder of its own or in one that is given, from its start on."""
+    """A server in a folder of its own or in one that is given, from its start on: the words before it start it."""
 
-    def __init__(self, program, folder, *options, clients="clients", admins="admins", **others):
+    def __init__(self, program, folder, *options, clients="clients", admins="admins", before=(), **others):
         self.folder = folder
         self.clients, self.admins = folder / clients, folder / admins
         # A second server in the folder finds the files that the first one may be reading.
         for name, text in ("rules", DEVICE), ("labels", LABELS):
             if not (folder / name).exists():
                 (folder / name).write_text(text)
-        words = [program, "serve", *options, "--socket", str(self.clients), "--admin", str(self.admins)]
+        words = [*before, program, "serve", *options, "--socket", str(self.clients), "--admin", str(self.admins)]
         super().__init__([*words, str(folder / "rules"), str(folder / "labels")], **others)
 
     def listens(self):
