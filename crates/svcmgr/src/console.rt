@@ -1,6 +1,7 @@
 //! What operators see of a server, on standard error.
 
 use crate::standard_error::StandardError;
+use crate::systemd::tell_systemd;
 use sm_command::Sockets;
 use sm_connection::{ServerEvent, Supervisor};
 use sm_history::Record;
@@ -106,6 +107,11 @@ impl<'a, R: Wait + Clock> Console<'a, R> {
 
 impl<'a, R: Wait> Supervisor for Console<'a, R> {
     fn tell(&self, notice: ServerEvent) {
+        match &notice {
+            ServerEvent::Listening => tell_systemd(self.host, b"READY=1"),
+            ServerEvent::AcceptFailed(_) => tell_systemd(self.host, b"STOPPING=1"),
+            _ => {}
+        }
         let line = match self.line_of(notice) {
             Ok(line) => line,
             Err(_) => LogLines::Fixed(NO_LINE),

@@ -10,6 +10,7 @@ mod questions;
 mod sockets;
 mod standard_error;
 mod standard_streams;
+mod systemd;
 
 use admin::administer;
 use checking::check_policy;

@@ -1,21 +1,62 @@
-"""Signals, and a limit on the size of files, for programs that are started as their units start them."""
+"""What units rely on: what systemd is told, signals, and a limit on the size of files."""
 
+import contextlib
+import errno
 import os
 import re
 import resource
 import signal
+import socket
 import time
 
 from operating.doorkeeper import opened
 from operating.logs import LIST_DENIED
-from operating.servers import OTHER_HELLO, Server, check, comes_true, is_refused, room, served, talk
-from talking import ROOT
+from operating.servers import HELLO, OTHER_HELLO, Server, check, comes_true, expect, is_refused, room, served, talk
+from operating.servers import with_accept_error
+from talking import PATIENCE, ROOT
 
 
 def starter():
     """The words of the server's unit that are before the program."""
     unit = (ROOT / "examples" / "svcmgr.service").read_text().replace("\\\n", "")
     return re.search("^ExecStart=(.*)/usr/local/bin/svcmgr serve ", unit, re.MULTILINE)[1].split()
+
+
+@contextlib.contextmanager
+def supervisor(name):
+    """A socket in place of systemd's. The name is a path, or one in the abstract namespace after `@`."""
+    with socket.socket(socket.AF_UNIX, socket.SOCK_DGRAM) as told:
+        told.bind(f"\0{name[1:]}" if name.startswith("@") else name)
+        told.settimeout(PATIENCE)
+        yield told
+
+
+@check
+def what_systemd_is_told(program, shim):
+    """That a server listens, and that it ends by itself; nothing by one that doesn't start."""
+    with room() as folder:
+        for name in f"{folder}/supervisor", f"@{folder}/supervisor":
+            env = with_accept_error(shim, errno.EBADF) | {"NOTIFY_SOCKET": name}
+            with supervisor(name) as told, Server(program, folder, env=env) as server:
+                expect(told.recv(100), b"READY=1", "systemd is told")
+                with server.client() as client, Server(program, folder, env=env) as other:
+                    other.has_ended()
+                    talk(client, (HELLO, "client 1"))
+                expect(told.recv(100), b"STOPPING=1", "systemd is told")
+                server.has_ended()
+
+
+@check
+def systemd_that_takes_nothing(program):
+    """A server waits for it for five seconds, and then serves."""
+    with room() as folder, supervisor(name := f"{folder}/supervisor") as told:
+        told.setblocking(False)
+        with contextlib.suppress(BlockingIOError):
+            while True:
+                told.sendto(b"?", name)
+        with Server(program, folder, env=os.environ | {"NOTIFY_SOCKET": name}) as server:
+            with server.listens().client() as client:
+                talk(client, (HELLO, "client 1"))
 
 
 @check
