@@ -101,7 +101,7 @@ genfscon proc / u:object_r:activity_service:s0
 def page_of_compiled_policies(program):
     """What docs/ANDROID.md makes of a `policy.conf` are the rules, on the lines where they were."""
     page = (ROOT / "docs" / "ANDROID.md").read_text()
-    command = re.search(r"^\$ (sed .* policy\.conf > policy\.te)$", page, re.MULTILINE)[1]
+    command = re.search(r"^(sed .* policy\.conf > policy\.te)$", page, re.MULTILINE)[1]
     before, behind = COMPILED
     asked = [
         (["bash", "-c", command], ""),

@@ -19,6 +19,7 @@ from talking import DEVICE, PATIENCE, Wrong
 
 @check
 def slow_connections(program):
+    """One that says nothing gives way to one that waits, and one that takes no reply has ten seconds."""
     with served(program, "--workers", "2") as server, server.client() as silent, server.client() as greedy:
         began = time.monotonic()
         talk(greedy, (HELLO, "client 1"))
@@ -30,8 +31,8 @@ def slow_connections(program):
             expect(is_over(silent), True, "a silent connection ended")
             flood.join(LIMIT + MARGIN)
             expect(flood.is_alive(), False, "a client that takes no reply is served")
-            if not LIMIT - 1 < took < LIMIT + MARGIN:
-                raise Wrong(f"a connection waited {took:.1f} seconds for a worker")
+            if took > MARGIN:
+                raise Wrong(f"a connection waited {took:.1f} seconds for a silent one")
 
 
 @check
@@ -234,7 +235,8 @@ def enough_files(program):
             admins = [open_ones.enter_context(server.admin()) for _ in range(4)]
             talk(admins[0], ("version", "version 1 1"))
             clients = [open_ones.enter_context(server.client()) for _ in range(8)]
-            talk(clients[0], (HELLO, "client 1"))
+            for turn, client in enumerate(clients[:4], 1):
+                talk(client, (HELLO, f"client {turn}"))
             server.says(f"warning: {words}\n")
 
 

@@ -17,8 +17,20 @@ use sm_session::{Command, Desk, Response};
 pub enum Occasion {
     /// A client was connected.
     Connected,
+    /// Another change was made, or one was refused because no slot was free or an allocation failed.
+    Changed,
     /// Anything else was answered.
     Answered,
+}
+
+fn occasion_of(response: &Response) -> Occasion {
+    match response {
+        Response::Replied(Reply::Done(Outcome::Connected(_))) => Occasion::Connected,
+        Response::Replied(Reply::Done(_)) => Occasion::Changed,
+        Response::Replied(Reply::Refused(Refusal::JournalFull)) => Occasion::Changed,
+        Response::Replied(Reply::Refused(Refusal::Memory)) => Occasion::Changed,
+        _ => Occasion::Answered,
+    }
 }
 
 /// A session's desk at a door: it lets the connection answer, shows the monitor each answer, gives its audit records to
@@ -96,11 +108,7 @@ impl<'a, C: Connection<S>, S, B: FnMut(Occasion), H: Supervisor, L: AuditSink> D
             _ => {}
         }
         self.sink.give(&records);
-        let occasion = match &response {
-            Response::Replied(Reply::Done(Outcome::Connected(_))) => Occasion::Connected,
-            _ => Occasion::Answered,
-        };
-        (self.tend)(occasion);
+        (self.tend)(occasion_of(&response));
         response
     }
 }

@@ -4,6 +4,7 @@ use crate::attending::{attend_administrator, attend_client};
 use crate::entrance::Entrance;
 use crate::pages::{NotedRead, NotedWrite};
 use crate::patience::Patience;
+use crate::queue::Queue;
 use crate::shared_admin::SharedAdmin;
 use crate::turned_away::TurnedAway;
 use crate::visitor::Lobby;
@@ -98,12 +99,13 @@ impl Guest {
         sealer: &SharedAdmin<J>,
         monitor: &Monitor<H>,
         patience: Patience,
+        queue: &Queue,
     ) -> Account<SeatOrSession<J>, K> {
         let Guest { stream } = self;
         let input = NotedRead::new(&*stream, account.page());
         let output = NotedWrite::new(&*stream, account.page());
         let (mut account, input, output) = attend_client(
-            rt, alloc, door, account, sealer, monitor, patience, input, output,
+            rt, alloc, door, account, sealer, monitor, patience, queue, input, output,
         );
         account.keep(input.into_page(), output.into_page());
         account

@@ -6,6 +6,7 @@ ghost use Rattle.sm_account.specs.Served.{Attended};
 use crate::entrance::Entrance;
 use crate::pace::{Pace, PacedRead, PacedWrite};
 use crate::patience::{Limited, Patience, limit_administrator};
+use crate::queue::Queue;
 use crate::sealing::seal_if_due;
 use crate::shared_admin::SharedAdmin;
 use crate::turned_away::TurnedAway;
@@ -25,8 +26,8 @@ use std::sync::Wait;
 /// The most reads of a session. Each gives at least one byte, or is the last.
 const READS: u32 = 16_777_216;
 
-/// Serves a client's connection at a worker's seat, and adds it to the worker's account. After each answer the journal
-/// is sealed if it is due. Returns the account with the seat, or with the session of a client that couldn't die, and both
+/// Serves a client's connection at a worker's seat, and adds it to the worker's account. After each change the journal
+/// is sealed if it is due; an answer to a read never waits for that. Returns the account with the seat, or with the session of a client that couldn't die, and both
 /// ends of the connection. If the time can't be read or limited, nothing is served.
 pub fn attend_client<
     J: Naming,
@@ -44,6 +45,7 @@ pub fn attend_client<
     sealer: &SharedAdmin<J>,
     monitor: &Monitor<H>,
     patience: Patience,
+    queue: &Queue,
     input: I,
     output: O,
 ) -> (Account<SeatOrSession<J>, K>, I, O)
@@ -53,7 +55,7 @@ pub fn attend_client<
     if patience.limit_replies(&output).is_err() {
         return (at_rest(account), input, output);
     }
-    let Ok(pace) = Pace::new(rt, patience) else {
+    let Ok(pace) = Pace::new(rt, patience, queue) else {
         return (at_rest(account), input, output);
     };
     let attended = attend_stream(
@@ -97,7 +99,9 @@ fn attend_stream<
             if matches!(occasion, Occasion::Connected) {
                 pace.connect();
             }
-            seal_if_due(rt, door, sealer, monitor);
+            if !matches!(occasion, Occasion::Answered) {
+                seal_if_due(rt, door, sealer, monitor);
+            }
         },
         monitor,
         monitor.sink(),
@@ -119,7 +123,7 @@ fn note_end<H: Supervisor>(monitor: &Monitor<H>, ended: Result<(), Fault>) {
 }
 
 /// Serves an administrator's connection, which may take `seconds` for each line and each reply, and less for a line if
-/// another one waits in the lobby, and adds it to the account. After each answer the journal is sealed if it is due.
+/// another one waits in the lobby, and adds it to the account. After each change the journal is sealed if it is due.
 pub fn attend_administrator<
     J: Naming,
     K: Chronicle,
@@ -156,7 +160,11 @@ pub fn attend_administrator<
         alloc,
         door,
         account,
-        |_| seal_if_due(rt, door, sealer, monitor),
+        |occasion| {
+            if !matches!(occasion, Occasion::Answered) {
+                seal_if_due(rt, door, sealer, monitor);
+            }
+        },
         monitor,
         monitor.sink(),
         &mut reader,

@@ -3,6 +3,7 @@
 ghost use Rattle.std.specs.Prelude.{◌≡◌};
 
 use crate::patience::{Limited, Patience};
+use crate::queue::Queue;
 use sm_kinds::drop_fields;
 use std::cell::Cell;
 use std::io::{self, ErrorKind, Read, Write};
@@ -12,11 +13,18 @@ use std::time::{Duration, Instant};
 /// The most bytes of a write, which the kernel keeps in one block: it limits the wait for each block alone.
 const AT_ONCE: usize = 32_768;
 
+/// Seconds until a client must be connected while other connections wait for a worker.
+const HURRY: u64 = 1;
+
+/// The most seconds between two looks at whether they do.
+const LOOK: u64 = 1;
+
 /// The time limits of a client's connection, each for several calls together: for all reads until the client is
 /// connected, and for all writes between two reads, which have the replies to one piece of input.
 pub struct Pace<'a, R> {
     rt: &'a R,
     patience: Patience,
+    queue: &'a Queue,
     begun: Instant,
     is_connected: Cell<bool>,
     // When the replies to the last piece began to be written.
@@ -25,16 +33,17 @@ pub struct Pace<'a, R> {
 
 impl<'a, R> Drop for Pace<'a, R> {
     fn drop(self) {
-        drop_fields!(self: rt, patience, begun, is_connected, replying);
+        drop_fields!(self: rt, patience, queue, begun, is_connected, replying);
     }
 }
 
 impl<'a, R: Clock> Pace<'a, R> {
     /// Begins with a connection that has sent nothing.
-    pub fn new(rt: &'a R, patience: Patience) -> io::Result<Pace<'a, R>> {
+    pub fn new(rt: &'a R, patience: Patience, queue: &'a Queue) -> io::Result<Pace<'a, R>> {
         Ok(Pace {
             rt,
             patience,
+            queue,
             begun: Instant::now(rt)?,
             is_connected: Cell::new(false),
             replying: Cell::new(None),
@@ -44,6 +53,18 @@ impl<'a, R: Clock> Pace<'a, R> {
     /// Notes that the client is connected, so it may idle from now on.
     pub fn connect(&self) {
         self.is_connected.set(true);
+    }
+
+    // Returns the limit of the next read of a connection whose client isn't connected.
+    fn left_to_connect(&self) -> io::Result<Duration> {
+        let seconds = if self.queue.is_crowded() {
+            self.patience.hello.min(HURRY)
+        } else {
+            self.patience.hello
+        };
+        let left = self.left(self.begun, seconds)?;
+        let look = Duration::from_secs(LOOK);
+        Ok(if look < left { look } else { left })
     }
 
     // Returns what is left of this number of seconds. An error if it is less than a millisecond.
@@ -96,23 +117,43 @@ impl<'a, R, I> PacedRead<'a, R, I> {
     }
 }
 
+impl<'a, R: Clock, I: Read + Limited> PacedRead<'a, R, I> {
+    // Limits the next read until the client is connected.
+    fn limit(&mut self) -> io::Result<()>
+        ensures { self.new.input ≡ self.old.input }
+    {
+        if self.is_free {
+            return Ok(());
+        }
+        if self.pace.is_connected.get() {
+            self.is_free = true;
+            // Removing a limit of an open socket can't fail.
+            let _ = self.input.limit_reads(None);
+            return Ok(());
+        }
+        let left = self.pace.left_to_connect()?;
+        self.input.limit_reads(Some(left))
+    }
+}
+
 impl<'a, R: Clock, I: Read + Limited> Read for PacedRead<'a, R, I> {
     ghost remaining = { λ p. I.remaining p.input };
 
     fn read(&mut self, buf: &mut [u8]) -> io::Result<usize> {
         let pace = self.pace;
         pace.replying.set(None);
-        if !self.is_free {
-            if pace.is_connected.get() {
-                self.is_free = true;
-                // Removing a limit of an open socket can't fail.
-                let _ = self.input.limit_reads(None);
-            } else {
-                let left = pace.left(pace.begun, pace.patience.hello)?;
-                self.input.limit_reads(Some(left))?;
+        for _ in 0..pace.patience.hello {
+            self.limit()?;
+            match self.input.read(buf) {
+                Ok(n) => return Ok(n),
+                Err(error) => {
+                    if self.is_free || error.kind() != ErrorKind::WouldBlock {
+                        return Err(error);
+                    }
+                }
             }
         }
-        self.input.read(buf)
+        Err(io::Error::from(ErrorKind::TimedOut))
     }
 }
 

@@ -5,6 +5,7 @@ use crate::turned_away::TurnedAway;
 use crossbeam_channel::{Receiver, SendTimeoutError, Sender, bounded};
 use std::alloc::{AllocError, Global};
 use std::rt::Clock;
+use std::sync::atomic::{AtomicU64, Ordering};
 use std::sync::{Mutex, Wait};
 use std::time::Duration;
 
@@ -16,7 +17,13 @@ pub type Arrivals = Sender<()>;
 pub struct Queue {
     turns: Mutex<Receiver<()>>,
     offered: Mutex<Vec<Arrived>>,
+    // Whether a connection waits for a worker: `NOBODY` or `SOMEBODY`.
+    waiting: AtomicU64,
 }
+
+const NOBODY: u64 = 0;
+
+const SOMEBODY: u64 = 1;
 
 /// Returns the two ends. A worker is told when it waits for a connection. There is room for one connection for each of
 /// this many workers, and for the one that is offered.
@@ -29,6 +36,7 @@ pub fn queue_of(alloc: Global, workers: u32) -> Result<(Arrivals, Queue), AllocE
             Queue {
                 turns: Mutex::new(from),
                 offered: Mutex::new(offered),
+                waiting: AtomicU64::new(NOBODY),
             },
         )),
         Err(_) => {
@@ -70,12 +78,21 @@ impl Queue {
 
     /// Turns away what no worker took.
     pub fn close(self, turned: &TurnedAway) {
-        let Queue { turns: _, offered } = self;
+        let Queue {
+            turns: _,
+            offered,
+            waiting: _,
+        } = self;
         let mut left = offered.into_inner();
         while let Some(arrived) = left.pop() {
             arrived.turn_away(turned);
         }
         left.destroy_empty();
+    }
+
+    /// Returns whether a connection waits for a worker.
+    pub fn is_crowded(&self) -> bool {
+        self.waiting.load(Ordering::SeqCst) == SOMEBODY
     }
 
     /// Offers a connection to the workers for this number of milliseconds.
@@ -91,8 +108,10 @@ impl Queue {
         }
         let told = to.send_timeout(rt, (), Duration::from_millis(milliseconds));
         if told.is_ok() {
+            self.waiting.store(NOBODY, Ordering::SeqCst);
             return Offered::Taken;
         }
+        self.waiting.store(SOMEBODY, Ordering::SeqCst);
         if matches!(told, Err(SendTimeoutError::Disconnected(_))) {
             return Offered::Closed;
         }

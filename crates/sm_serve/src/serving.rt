@@ -237,6 +237,7 @@ fn serve_clients<J: Naming, K: Chronicle, G: Gate + Drop, H: Supervisor, R: Wait
             &common.sealer,
             &monitor,
             common.patience,
+            &common.queue,
         );
         live.leave(rt, number);
     }

@@ -4,13 +4,15 @@
 use super::door::{Scene, plays};
 use sm_audit::push_lines;
 use sm_connection::{
-    AuditSink, Gauge, Monitor, SealAt, ServerEvent, Supervisor, serve_administrator, serve_client,
+    AuditSink, Gauge, Monitor, Occasion, SealAt, ServerEvent, Supervisor, serve_administrator,
+    serve_client,
 };
 use sm_door::{Admin, Door, Naming, Seat};
 use sm_engine::Counted;
 use sm_history::{NoGate, Record};
 use sm_kinds::drop_fields;
 use std::alloc::Global;
+use std::cell::Cell;
 use std::process::Abort;
 use std::sync::Wait;
 
@@ -50,7 +52,15 @@ impl Supervisor for Quiet {
 /// The most reads of a connection.
 const READS: u32 = 10;
 
-/// What is written to a client's connection at a free seat. Asserts that it ends well and gives a free seat back.
+/// Counts what isn't an answer alone: a journal is sealed then, if it is due.
+fn count(changes: &Cell<u32>, occasion: Occasion) {
+    if !matches!(occasion, Occasion::Answered) {
+        changes.set(changes.get().wrapping_add(1));
+    }
+}
+
+/// What is written to a client's connection at a free seat. Asserts that it ends well after this many changes, and gives
+/// a free seat back.
 fn client_told<'a, J: Naming, R: Wait + Abort>(
     rt: &'a R,
     alloc: Global,
@@ -59,15 +69,17 @@ fn client_told<'a, J: Naming, R: Wait + Abort>(
     monitor: &Monitor<Quiet>,
     sink: Lines<'a, R>,
     lines: &'static [u8],
+    changes: u32,
 ) -> (Vec<u8>, Lines<'a, R>) {
     let mut reader = Counted::new(lines);
     let mut writer = Counted::new(Vec::new(alloc));
+    let counted = Cell::new(0);
     let (slot, sink, ended) = serve_client(
         rt,
         alloc,
         door,
         seat,
-        |_| {},
+        |occasion| count(&counted, occasion),
         monitor,
         sink,
         &mut reader,
@@ -75,11 +87,11 @@ fn client_told<'a, J: Naming, R: Wait + Abort>(
         READS,
     );
     let slot = slot.expect(rt, "a slot");
-    assert!(rt; slot.into_session().is_err() && ended.is_ok());
+    assert!(rt; slot.into_session().is_err() && ended.is_ok() && counted.get() == changes);
     (writer.into_inner(), sink)
 }
 
-/// What is written to an administrator's connection. Asserts that it ends well.
+/// What is written to an administrator's connection. Asserts that it ends well, without a change.
 fn administrator_told<'a, J: Naming, R: Wait + Abort>(
     rt: &'a R,
     alloc: Global,
@@ -91,19 +103,20 @@ fn administrator_told<'a, J: Naming, R: Wait + Abort>(
 ) -> (Vec<u8>, Lines<'a, R>) {
     let mut reader = Counted::new(lines);
     let mut writer = Counted::new(Vec::new(alloc));
+    let counted = Cell::new(0);
     let (_, sink, ended) = serve_administrator(
         rt,
         alloc,
         door,
         admin,
-        |_| {},
+        |occasion| count(&counted, occasion),
         monitor,
         sink,
         &mut reader,
         &mut writer,
         READS,
     );
-    assert!(rt; ended.is_ok());
+    assert!(rt; ended.is_ok() && counted.get() == 0);
     (writer.into_inner(), sink)
 }
 
@@ -166,7 +179,16 @@ pub fn serves<J: Naming, R: Wait + Abort>(
         alloc,
         text: Vec::new(alloc),
     };
-    let (told, sink) = client_told(rt, alloc, door, seats.pop(), &monitor, sink, AN_APPLICATION);
+    let (told, sink) = client_told(
+        rt,
+        alloc,
+        door,
+        seats.pop(),
+        &monitor,
+        sink,
+        AN_APPLICATION,
+        2,
+    );
     assert_eq!(rt; told.as_slice(), TOLD_TO_THE_APPLICATION);
     let (told, sink) = administrator_told(rt, alloc, door, admin, &monitor, sink, AN_ADMINISTRATOR);
     assert_eq!(rt; told.as_slice(), TOLD_TO_THE_ADMINISTRATOR);
