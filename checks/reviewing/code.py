@@ -169,11 +169,11 @@ def ghost_uses(source, items):
 
 
 @cache
-def rust_uses(source):
-    """The paths that `use` lines bring in, by their names."""
+def rust_uses(source, passed_on=False):
+    """The paths that `use` lines bring in, by their names; or only those that a `pub use` passes on."""
     found = {}
     for item in source.items:
-        if item.kind == "use":
+        if item.kind == "use" and (item.is_public or not passed_on):
             text = re.sub(r"^.*?\buse\s+", "", source.bare[item.start : item.end - 1], count=1, flags=re.S)
             for path in paths_of(text):
                 words = path.split(" as ")
@@ -197,6 +197,22 @@ def paths_of(text):
         else:
             parts[-1] += letter
     return [path for part in parts if part.strip() for path in paths_of(head + part.strip())]
+
+
+def owner(source, item):
+    """The type of an `impl`, or the name of another item."""
+    if item.kind != "impl":
+        return item.name
+    head = source.bare[item.start : item.body]
+    head = head[head.index("impl") + len("impl" + item.generics) :]
+    return re.match(r"\s*(?:.*\bfor\s+)?(?:&\s*)?(?:mut\s+)?(?:\w+::)*(\w+)", head, re.S)[1]
+
+
+def trait_of(source, item):
+    """The trait of an `impl`, or nothing."""
+    head = source.bare[item.start : item.body]
+    found = re.match(r"\s*(?:\w+::)*(\w+).*\bfor\b", head[head.index("impl") + len("impl" + item.generics) :], re.S)
+    return found[1] if found else ""
 
 
 def read(path, crate, module, root):

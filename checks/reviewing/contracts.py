@@ -39,13 +39,7 @@ class Function:
     def owner(self):
         """The type or the trait of a method, or nothing."""
         parent = self.item.parent
-        if parent is None:
-            return ""
-        head = self.source.bare[parent.start : parent.body]
-        if parent.kind == "trait":
-            return parent.name
-        head = head[head.index("impl") + 4 + len(parent.generics) :]
-        return re.match(r"\s*(?:.*\bfor\s+)?(?:&\s*)?(?:mut\s+)?(?:\w+::)*(\w+)", head, re.S)[1]
+        return code.owner(self.source, parent) if parent else ""
 
     def names(self):
         path = [self.source.crate, *self.source.module, *filter(None, [self.owner]), self.item.name]
