@@ -6,10 +6,8 @@ from functools import cache
 from pathlib import Path
 
 from reviewing import antt, code
-from reviewing.antt import Unread
-from reviewing.names import Reader
 
-# Constructors of the kit's std that definitions match on. A name of std that isn't one of these binds a variable.
+# Constructors of the kit's std that definitions match on. Another name of std in a pattern is refused.
 STD_CONSTRUCTORS = {"[]", "◌∷◌", "zero", "suc", "true", "false", "Some", "None", "Ok", "Err", "pos", "negsuc"}
 STD_CONSTRUCTORS |= {"Less", "Equal", "Greater"}
 
