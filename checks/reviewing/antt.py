@@ -151,14 +151,16 @@ def named(part):
 
 
 def declared(parts, path):
-    """The declarations of these parts of a block, by their names."""
-    found, latest = {}, None
+    """The declarations of these parts of a block, by their names. That of an operator begins with its fixity."""
+    found, latest, fixities = {}, None, {}
     for part in parts:
         rest, kind, name = named(part)
         if part[0].text in ("infixl", "infixr", "infix"):
+            fixities[part[2].text] = part[0].line
             continue
         if kind is not None:
-            latest = found[name] = Declaration(name, kind, part[0].line, part[-1].line, rest)
+            first = fixities.get(name, part[0].line)
+            latest = found[name] = Declaration(name, kind, first, part[-1].line, rest)
         elif latest is None:
             raise Unread(f"{path}:{part[0].line}: {part[0].text} has no signature")
         elif part[0].text != "unfolding":

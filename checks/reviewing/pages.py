@@ -28,7 +28,7 @@ PAGES = {
 WIDTH = 120
 HEAD = """# What {names} on
 
-{count}: what a reviewer reads to know what {contracts}. They are without comments, and lowest first: a definition comes
+{count}: what a reviewer reads to know what {contracts} says. They are without comments, and lowest first: a definition comes
 after those that it rests on. `checks/reading NAME` prints them with those that other pages have, where NAME is {paths}.
 `checks/reading --update` writes this page.
 """
@@ -187,8 +187,8 @@ def wrapped(text):
 def written(page, earlier):
     """The text of a page. `earlier` has the page of each definition that an earlier one has."""
     short = [f"`{name.split('::')[-1]}`" for name in page.names]
-    says = f"the contract of {short[0]} says" if len(short) == 1 else f"the contracts of {listed(short)} say"
     rests = f"{listed(short)} {'rests' if len(short) == 1 else 'rest'}"
+    says = short[0] if len(short) == 1 else "each of them"
     paths = listed([f"`{name}`" for name in page.names], "or")
     head = HEAD.format(names=rests, count=page.count(), contracts=says, paths=paths)
     title, *body = head.split("\n\n")
@@ -231,7 +231,8 @@ def all_pages(library):
     return found
 
 
-def stated(text):
-    """Each contract of which a page states the number of definitions and lines, with what it states."""
-    form = r"`checks/reading (\S+)`[^`.]*?([\d,]+ definitions, [\d,]+ lines)"
-    return re.findall(form, " ".join(text.split()))
+def restated(text, library):
+    """A page with the right numbers behind each `checks/reading CONTRACT` that it gives numbers for, or None without."""
+    form = r"(`checks/reading (\S+)`[^`.]*?)[\d,]+ definitions, [\d,]+ lines"
+    found, number = re.subn(form, lambda it: it[1] + library.page([library.find(it[2])]).count(), text)
+    return found if number else None
