@@ -1,6 +1,7 @@
 """Reads files of definitions: their tokens, their `use` lines and their declarations."""
 
 import re
+from contextlib import contextmanager
 from dataclasses import dataclass, field
 
 COMMENT = re.compile(r'("(?:\\.|[^"\\])*")|(?<![^\s(){};,])--[^\n]*|\{-.*?-\}', re.S)
@@ -87,7 +88,7 @@ def closing(found, at):
             depth += (found[index].text in "({") - (found[index].text in ")}")
             if depth == 0:
                 return index
-    raise Unread(f"an open {found[at].text} of line {found[at].line}")
+    raise Unread(f"line {found[at].line}: {found[at].text} isn't closed")
 
 
 def index_of(found, *texts, start=0):
@@ -174,13 +175,21 @@ def is_header(part):
     return any(words[: len(head)] == head for head in (["use"], ["mod"], ["pub", "use"], ["pub", "mod"]))
 
 
+@contextmanager
+def within(path):
+    """Names the file in a fault that doesn't."""
+    try:
+        yield
+    except Unread as fault:
+        raise fault if str(fault).startswith(str(path)) else Unread(f"{path}: {fault}") from None
+
+
 def read(path, root):
     """The file at a path below the root."""
     text = without_comments((root / path).read_text())
-    parts = blocks(tokens(text, path))
-    uses = []
-    for part in parts:
-        if is_header(part) and "use" in (part[0].text, part[1].text):
-            uses += used(part)
-    found = declared([part for part in parts if not is_header(part)], path)
-    return File(path, text.splitlines(), uses, found)
+    with within(path):
+        parts = blocks(tokens(text, path))
+        headers = [part for part in parts if is_header(part)]
+        uses = [used(part) for part in headers if "use" in (part[0].text, part[1].text)]
+        found = declared([part for part in parts if not is_header(part)], path)
+    return File(path, text.splitlines(), sum(uses, []), found)

@@ -4,7 +4,7 @@ import re
 from dataclasses import dataclass, field
 from functools import cache
 
-from reviewing.antt import Unread, tokens, used
+from reviewing.antt import Unread, tokens, used, within
 
 PIECE = re.compile(
     r"(?P<comment>//[^\n]*|/\*.*?\*/)"
@@ -62,7 +62,7 @@ def closing(text, at):
         depth += (text[index] in "([{") - (text[index] in ")]}")
         if depth == 0:
             return index + 1
-    raise Unread(f"an open {text[at]}")
+    raise Unread(f"line {text.count(chr(10), 0, at) + 1}: {text[at]} isn't closed")
 
 
 def without_attributes(source, start, end):
@@ -218,5 +218,6 @@ def trait_of(source, item):
 def read(path, crate, module, root):
     text = (root / path).read_text()
     source = Source(str(path), crate, module, blanked(text, {"comment"}), blanked(text, {"comment", "literal"}))
-    source.items = items_of(source, 0, len(text))
+    with within(path):
+        source.items = items_of(source, 0, len(text))
     return source
