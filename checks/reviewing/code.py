@@ -14,7 +14,7 @@ PIECE = re.compile(
 )
 HEAD = re.compile(
     r"(?P<visible>pub(?:\([^)]*\))?\s+)?(?:unsafe\s+|const\s+(?=fn))*"
-    r"(?P<kind>ghost\s+use|ghost|use|mod|fn|struct|enum|trait|impl|const|static|type|macro_rules!|\w+!)\s*"
+    r"(?P<kind>ghost\s+use|ghost|use|mod|fn|struct|enum|trait|impl|const|static|type|macro_rules!|\w+!)(?!\w)\s*"
 )
 CLAUSE = re.compile(r"\s*(?P<kind>ghost|requires|ensures)\*?\s*(?P<name>[\w]*)\s*:?\s*(?=\{)")
 
