@@ -181,7 +181,7 @@ def within(path):
     try:
         yield
     except Unread as fault:
-        raise fault if str(fault).startswith(str(path)) else Unread(f"{path}: {fault}") from None
+        raise Unread(f"{path}: {fault}" if str(fault).startswith("line ") else str(fault)) from None
 
 
 def read(path, root):

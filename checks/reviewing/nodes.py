@@ -4,7 +4,7 @@ import re
 from pathlib import Path
 
 from reviewing import antt, code
-from reviewing.antt import Unread, tokens
+from reviewing.antt import Unread, tokens, within
 from reviewing.names import Reader
 from reviewing.repository import RUST_WORDS, Key, Node, implementation, inner, members_of
 from reviewing.scopes import ClauseScope, DefinitionScope, bounds_of
@@ -24,7 +24,8 @@ class Nodes:
     def node(self, key):
         key = key if key.path.endswith(".rt") and (key.part == VIEW or self.is_member(key)) else key.whole()
         if key not in self.known:
-            self.known[key] = self.definition(key) if key.path.endswith(".antt") else self.coded(key)
+            with within(key.path):
+                self.known[key] = self.definition(key) if key.path.endswith(".antt") else self.coded(key)
         return self.known[key]
 
     def below(self, node):
