@@ -101,10 +101,10 @@ genfscon proc / u:object_r:activity_service:s0
 def page_of_compiled_policies(program):
     """What docs/ANDROID.md makes of a `policy.conf` are the rules, on the lines where they were."""
     page = (ROOT / "docs" / "ANDROID.md").read_text()
-    command = re.search(r"^(sed .* policy\.conf > policy\.te)$", page, re.MULTILINE)[1]
+    command = re.search(r"^(examples/rules-of policy\.conf > policy\.te)$", page, re.MULTILINE)[1]
     before, behind = COMPILED
     asked = [
-        (["bash", "-c", command], ""),
+        (["bash", "-c", f"{ROOT}/{command}"], ""),
         ([program, "check", "policy.te", "labels"], "policy ok: 6 types, 2 attributes, 8 rules, 2 labels\n"),
         (
             [program, *"explain policy.te labels untrusted_app activity_service service_manager find".split()],
