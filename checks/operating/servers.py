@@ -88,8 +88,12 @@ class Server(Daemon):
         words = [*before, program, "serve", *options, "--socket", str(self.clients), "--admin", str(self.admins)]
         super().__init__([*words, str(folder / "rules"), str(folder / "labels")], **others)
 
+    @property
+    def listening(self):
+        return f"listening for clients at {self.clients} and for administrators at {self.admins}\n"
+
     def listens(self):
-        self.says(f"listening for clients at {self.clients} and for administrators at {self.admins}\n")
+        self.says(self.listening)
         return self
 
     def client(self):

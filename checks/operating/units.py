@@ -1,4 +1,4 @@
-"""What units rely on: what systemd is told, signals, and a limit on the size of files."""
+"""What units rely on: what systemd and its journal are told, signals, and a limit on the size of files."""
 
 import contextlib
 import errno
@@ -10,9 +10,10 @@ import socket
 import time
 
 from operating.doorkeeper import opened
-from operating.logs import LIST_DENIED
-from operating.servers import HELLO, OTHER_HELLO, Server, check, comes_true, expect, is_refused, room, served, talk
-from operating.servers import with_accept_error
+from operating.logs import LIST, LIST_DENIED
+from operating.servers import HELLO, NOT_ACCEPTED, OTHER_HELLO, Server, check, comes_true, expect, is_refused
+from operating.servers import room, served, talk, with_accept_error
+from operating.starts import IN_USE
 from talking import PATIENCE, ROOT
 
 
@@ -57,6 +58,27 @@ def systemd_that_takes_nothing(program):
         with Server(program, folder, env=os.environ | {"NOTIFY_SOCKET": name}) as server:
             with server.listens().client() as client:
                 talk(client, (HELLO, "client 1"))
+
+
+# Starts a program whose standard error is a stream of systemd's journal, by the variable that names it.
+JOURNAL = ("sh", "-c", 'JOURNAL_STREAM=$(stat -Lc %d:%i /dev/fd/2) exec "$@"', "sh")
+
+
+@check
+def priorities(program, shim):
+    """Each line for systemd's journal begins with its priority, and no line for another file does."""
+    env = with_accept_error(shim, errno.EBADF)
+    with room() as folder, Server(program, folder, "--audit", before=JOURNAL, env=env) as server:
+        server.says(f"<6>{server.listening}")
+        with Server(program, folder, before=JOURNAL) as other:
+            other.ends(f"<3>fault: {other.clients}: {IN_USE}\n")
+        with server.client() as client:
+            server.says("<4>warning: no more connections are accepted: Bad file descriptor (os error 9)\n")
+            talk(client, (OTHER_HELLO, "client 1"), ("list 15", LIST_DENIED))
+            server.says(f"<5>journal=2 {LIST}")
+        server.ends(f"<3>{NOT_ACCEPTED}")
+    with served(program, env=os.environ | {"JOURNAL_STREAM": "1:2"}):
+        pass
 
 
 @check

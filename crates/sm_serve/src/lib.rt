@@ -8,6 +8,7 @@ mod arriving;
 mod attending;
 mod entrance;
 mod faults;
+mod level;
 mod live;
 mod log_lines;
 mod log_writer;
@@ -26,6 +27,7 @@ mod visitor;
 mod whole_lines;
 
 pub use entrance::Entrance;
+pub use level::{Level, LogEntry};
 pub use log_lines::LogLines;
 pub use log_writer::write_log;
 pub use patience::Patience;

@@ -5,6 +5,7 @@ ghost use Rattle.std.specs.List.{flat_map};
 ghost use Rattle.sm_audit.specs.AuditLines.{audit_line};
 ghost use Rattle.sm_serve.specs.Lines.{bytes_of};
 
+use crate::level::{Level, LogEntry};
 use crate::log_lines::LogLines;
 use crossbeam_channel::{Receiver, Sender, bounded};
 use sm_audit::push_lines;
@@ -24,7 +25,7 @@ const WAITING_BYTES: u64 = 4_194_304;
 /// and counted.
 pub struct ServerLog {
     alloc: Global,
-    to: Sender<Option<LogLines>>,
+    to: Sender<Option<LogEntry>>,
     // The capacity of all lines that wait.
     waiting: AtomicU64,
     lost: AtomicU64,
@@ -38,7 +39,7 @@ impl Drop for ServerLog {
 }
 
 /// Where the writer takes the lines. `None` is the end of the log.
-pub type WaitingLines = Receiver<Option<LogLines>>;
+pub type WaitingLines = Receiver<Option<LogEntry>>;
 
 impl ServerLog {
     /// An empty log, and the lines for its writer.
@@ -47,7 +48,7 @@ impl ServerLog {
     ///
     /// `AllocError` if an allocation failed.
     pub fn new(alloc: Global) -> Result<(ServerLog, WaitingLines), AllocError> {
-        let (to, from) = bounded::<Option<LogLines>, Global>(alloc, WAITING)?;
+        let (to, from) = bounded::<Option<LogEntry>, Global>(alloc, WAITING)?;
         let log = ServerLog {
             alloc,
             to,
@@ -61,26 +62,26 @@ impl ServerLog {
     /// Appends the lines of these records, which stay together. It never blocks.
     pub fn append_records<R: Wait>(&self, rt: &R, records: &[Record]) {
         match lines_of(self.alloc, records) {
-            Ok(lines) => self.append(rt, lines),
+            Ok(lines) => self.append(rt, Level::Audit, lines),
             Err(_) => self.lose(records.len() as u64),
         }
     }
 
-    /// Appends these lines, which stay together. It never blocks.
-    pub fn append<R: Wait>(&self, rt: &R, lines: LogLines) {
+    /// Appends these lines of one level, which stay together. It never blocks.
+    pub fn append<R: Wait>(&self, rt: &R, level: Level, lines: LogLines) {
         let count = lines.count();
-        if !self.passes(rt, lines) {
+        if !self.passes(rt, LogEntry { level, lines }) {
             self.lose(count);
         }
     }
 
     // Passes these lines to the writer. Returns whether there was room.
-    fn passes<R: Wait>(&self, rt: &R, lines: LogLines) -> bool {
-        let bytes = lines.capacity();
+    fn passes<R: Wait>(&self, rt: &R, entry: LogEntry) -> bool {
+        let bytes = entry.lines.capacity();
         if !self.has_room(bytes) {
             return false;
         }
-        let is_passed = self.to.try_send(rt, Some(lines)).is_ok();
+        let is_passed = self.to.try_send(rt, Some(entry)).is_ok();
         if !is_passed {
             self.make_room(bytes);
         }

@@ -1,12 +1,13 @@
 //! What operators see of a server, on standard error.
 
+use crate::journald::is_journal;
 use crate::standard_error::StandardError;
 use crate::systemd::tell_systemd;
 use sm_command::Sockets;
 use sm_connection::{ServerEvent, Supervisor};
 use sm_history::Record;
 use sm_kinds::drop_fields;
-use sm_serve::{LogLines, ServerLog, WaitingLines, write_log};
+use sm_serve::{Level, LogLines, ServerLog, WaitingLines, write_log};
 use std::alloc::AllocError;
 use std::io;
 use std::net::Shutdown;
@@ -32,13 +33,15 @@ pub struct Console<'a, R> {
     clients: UnixStream,
     admins: UnixStream,
     log: ServerLog,
+    // Whether systemd's journal reads standard error.
+    is_journal: bool,
     // Whether audit records are logged.
     audits: bool,
 }
 
 impl<'a, R> Drop for Console<'a, R> {
     fn drop(self) {
-        drop_fields!(self: host, rt, listening, clients, admins, log, audits);
+        drop_fields!(self: host, rt, listening, clients, admins, log, is_journal, audits);
     }
 }
 
@@ -53,6 +56,7 @@ impl<'a, R: Wait> Console<'a, R> {
     ) -> io::Result<(Console<'a, R>, WaitingLines)> {
         let places = (sockets.clients, sockets.admins);
         let (log, lines) = ServerLog::new(host.alloc())?;
+        let is_journal = is_journal(host);
         let console = Console {
             host,
             rt,
@@ -63,6 +67,7 @@ impl<'a, R: Wait> Console<'a, R> {
             clients: handle_of(clients)?,
             admins: handle_of(admins)?,
             log,
+            is_journal,
             audits: sockets.audit,
         };
         Ok((console, lines))
@@ -101,7 +106,7 @@ impl<'a, R: Wait + Clock> Console<'a, R> {
     pub fn write_log(&self, lines: WaitingLines) {
         let (host, log) = (self.host, &self.log);
         let writer = StandardError::new(host, self.rt, Some(log));
-        write_log(self.rt, host.alloc(), log, lines, writer);
+        write_log(self.rt, host.alloc(), log, lines, self.is_journal, writer);
     }
 }
 
@@ -112,11 +117,12 @@ impl<'a, R: Wait> Supervisor for Console<'a, R> {
             ServerEvent::AcceptFailed(_) => tell_systemd(self.host, b"STOPPING=1"),
             _ => {}
         }
-        let line = match self.line_of(notice) {
-            Ok(line) => line,
-            Err(_) => LogLines::Fixed(NO_LINE),
+        let level = level_of(&notice);
+        let (level, line) = match self.line_of(notice) {
+            Ok(line) => (level, line),
+            Err(_) => (Level::Warning, LogLines::Fixed(NO_LINE)),
         };
-        self.log.append(self.rt, line);
+        self.log.append(self.rt, level, line);
     }
 
     fn audit(&self, records: &[Record]) {
@@ -129,6 +135,13 @@ impl<'a, R: Wait> Supervisor for Console<'a, R> {
         // A listener that is shut down already is as it should be.
         let _ = self.clients.shutdown(Shutdown::Both);
         let _ = self.admins.shutdown(Shutdown::Both);
+    }
+}
+
+fn level_of(notice: &ServerEvent) -> Level {
+    match notice {
+        ServerEvent::Listening => Level::Information,
+        _ => Level::Warning,
     }
 }
 

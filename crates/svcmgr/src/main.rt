@@ -5,6 +5,7 @@ mod admin;
 mod checking;
 mod console;
 mod daemon;
+mod journald;
 mod pipe;
 mod questions;
 mod sockets;
@@ -16,6 +17,7 @@ use admin::administer;
 use checking::check_policy;
 use clap::error::ErrorKind;
 use daemon::serve_policy;
+use journald::is_journal;
 use questions::ask;
 use sm_command::{
     Ending, Invocation, Mode, NO_MEMORY, Options, Sockets, invocation_of, read_limited, words_of,
@@ -23,9 +25,10 @@ use sm_command::{
 use sm_engine::Counted;
 use sm_policy::Prepared;
 use sm_script::{ScriptFault, run_script};
+use sm_serve::Level;
 use standard_error::StandardError;
 use standard_streams::StandardStreams;
-use std::io::Write;
+use std::io::{self, Write};
 use std::mem;
 use std::process::ExitCode;
 use std::rt::{Clock, Files, Net};
@@ -82,21 +85,36 @@ fn version(rt: &HostRuntime, words: &clap::Error) -> ExitCode {
 
 /// Prints why there is no answer.
 pub(crate) fn fail(rt: &HostRuntime, ending: &Ending) -> ExitCode {
-    fail_at(rt, rt.stderr(), ending)
+    fail_at(rt, rt.stderr(), b"", ending)
 }
 
 /// Prints why a server has ended, and gives up after a while if standard error takes nothing.
 fn fail_server<'a, R: Wait>(host: &'a HostRuntime, rt: &'a R, ending: &Ending) -> ExitCode {
-    fail_at(host, StandardError::new(host, rt, None), ending)
+    let prefix: &[u8] = if is_journal(host) {
+        Level::Fault.prefix()
+    } else {
+        b""
+    };
+    fail_at(host, StandardError::new(host, rt, None), prefix, ending)
 }
 
-/// Writes there why there is no answer.
-fn fail_at<W: Write + Drop>(rt: &HostRuntime, mut writer: W, ending: &Ending) -> ExitCode {
+/// Writes there why there is no answer, after this prefix.
+fn fail_at<W: Write + Drop>(
+    rt: &HostRuntime,
+    mut writer: W,
+    prefix: &[u8],
+    ending: &Ending,
+) -> ExitCode {
     let _ = match ending.line(rt.alloc()) {
-        Ok(line) => writer.write_all(&line),
-        Err(_) => writer.write_all(NO_MEMORY),
+        Ok(line) => write_with(&mut writer, prefix, &line),
+        Err(_) => write_with(&mut writer, prefix, NO_MEMORY),
     };
     ExitCode::FAILURE
+}
+
+fn write_with<W: Write>(writer: &mut W, prefix: &[u8], line: &[u8]) -> io::Result<()> {
+    writer.write_all(prefix)?;
+    writer.write_all(line)
 }
 
 fn perform<'a, R: Files + Net + Threads + Wait + Clock + Sync>(
@@ -107,7 +125,7 @@ fn perform<'a, R: Files + Net + Threads + Wait + Clock + Sync>(
     match options.mode {
         Mode::Run => run_stdin(host, options),
         Mode::Check { show } => check_policy(host, options, show),
-        Mode::Serve(sockets) => serve_sockets(host, rt, options, sockets),
+        Mode::Serve(sockets) => Ok(serve(host, rt, options, sockets)),
         Mode::Ask(question) => Ok(ask(host, options, question)),
     }
 }
@@ -141,20 +159,30 @@ fn run_stdin<'a>(rt: &HostRuntime, options: &Options<'a>) -> Result<ExitCode, En
 }
 
 /// Serves clients and administrators over sockets, until it is killed or a fault ends it.
+fn serve<'a, R: Files + Net + Threads + Wait + Clock + Sync>(
+    host: &HostRuntime,
+    rt: &R,
+    options: &Options<'a>,
+    sockets: Sockets<'a>,
+) -> ExitCode {
+    match serve_sockets(host, rt, options, sockets) {
+        Ok(()) => ExitCode::SUCCESS,
+        Err(ending) => fail_server(host, rt, &ending),
+    }
+}
+
+/// Reads the policy, and serves under it.
 fn serve_sockets<'a, R: Files + Net + Threads + Wait + Clock + Sync>(
     host: &HostRuntime,
     rt: &R,
     options: &Options<'a>,
     sockets: Sockets<'a>,
-) -> Result<ExitCode, Ending<'a>> {
+) -> Result<(), Ending<'a>> {
     let rules = text_of(host, options.rules)?;
     let contexts = text_of(host, options.contexts)?;
     let policy = match Prepared::from_texts(host.alloc(), &rules, &contexts) {
         Ok(policy) => policy,
         Err(fault) => return Err(Ending::Script(ScriptFault::Policy(fault))),
     };
-    match serve_policy(host, rt, policy, options.places, sockets) {
-        Ok(()) => Ok(ExitCode::SUCCESS),
-        Err(ending) => Ok(fail_server(host, rt, &ending)),
-    }
+    serve_policy(host, rt, policy, options.places, sockets)
 }
