@@ -1,5 +1,6 @@
 """Shared by checks/ and bench/: the built program, its policies, and the lines that come from it."""
 
+import functools
 import os
 import select
 import socket
@@ -67,6 +68,17 @@ def finish_tried(name, ended):
     """Ends a check by what was left out and what failed of its attempts."""
     left_out, failures = ([pair[n] for pair in ended if pair[n]] for n in (0, 1))
     finish(name, len(ended) - len(failures) - len(left_out), failures, left_out)
+
+
+@functools.cache
+def version_of(program):
+    """The name and the version of a program."""
+    return subprocess.run([program, "--version"], check=True, capture_output=True, text=True).stdout.rstrip("\n")
+
+
+def listening(program, clients, admins):
+    """The line of a server that listens at these paths."""
+    return f"listening for clients at {clients} and for administrators at {admins} ({version_of(program)})\n"
 
 
 def add_program(parser):

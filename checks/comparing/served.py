@@ -11,7 +11,7 @@ from itertools import groupby, zip_longest
 
 from model import Administrator, Client, Script, answer_next
 from modelling.lines import Input
-from talking import PATIENCE, Connection, Lines, Wrong
+from talking import PATIENCE, Connection, Lines, Wrong, listening
 
 from .programs import FILES
 
@@ -56,6 +56,7 @@ class Server:
 
     def __init__(self, program, case, connections):
         self.folder, self.speakers = program.folder, {}
+        self.listening = listening(program.path, "clients", "admins")
         program.put(case)
         words = [program.path, "serve", "--journal", str(case.slots), "--workers", str(connections + 2)]
         words += ["--audit", "--socket", "clients", "--admin", "admins", *FILES[:2]]
@@ -182,8 +183,7 @@ def say_all(server, talk, conversation):
 def begin(server, model, case):
     """The model's side, or nothing if the server says why it doesn't begin."""
     manager, fault = model.opened(case.rules, case.contexts, case.slots)
-    line = "listening for clients at clients and for administrators at admins\n"
-    expect(server.said.line(), fault or line, "the server says")
+    expect(server.said.line(), fault or server.listening, "the server says")
     return manager and Talk(manager)
 
 

@@ -10,7 +10,7 @@ import time
 from pathlib import Path
 
 from talking import APPLICATION, DEVICE, LABELS, PATIENCE, SERVICE
-from talking import Connection, Lines, Wrong
+from talking import Connection, Lines, Wrong, listening
 
 HELLO = f"hello 100 1000 {SERVICE}"
 OTHER_HELLO = f"hello 200 10007 {APPLICATION}"
@@ -86,11 +86,8 @@ class Server(Daemon):
             if not (folder / name).exists():
                 (folder / name).write_text(text)
         words = [*before, program, "serve", *options, "--socket", str(self.clients), "--admin", str(self.admins)]
+        self.listening = listening(program, self.clients, self.admins)
         super().__init__([*words, str(folder / "rules"), str(folder / "labels")], **others)
-
-    @property
-    def listening(self):
-        return f"listening for clients at {self.clients} and for administrators at {self.admins}\n"
 
     def listens(self):
         self.says(self.listening)

@@ -18,6 +18,7 @@ pub use administration::{AdminRequest, Administration, RuleWords};
 pub use ending::{Ending, NO_MEMORY, lock_of};
 pub use files::read_limited;
 pub use options::{Invocation, Mode, Options, invocation_of, words_of};
+pub use parser::VERSION;
 pub use question::{AccessWords, FilterWords, NewFiles, Question, TargetWord};
 pub use request_lines::{explain_line, is_granted, is_whole, reload_request, version_in};
 pub use sockets::Sockets;

@@ -5,7 +5,7 @@ use clap::{Arg, ArgAction, Command, value_parser};
 use std::alloc::{AllocError, Global};
 
 /// The version of the program.
-const VERSION: &str = "0.1.0";
+pub const VERSION: &str = "0.1.0";
 
 /// Returns the parser of the command line.
 pub fn command<'a>(alloc: Global) -> Result<Command<'a>, AllocError> {

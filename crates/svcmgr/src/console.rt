@@ -3,7 +3,7 @@
 use crate::journald::is_journal;
 use crate::standard_error::StandardError;
 use crate::systemd::tell_systemd;
-use sm_command::Sockets;
+use sm_command::{Sockets, VERSION};
 use sm_connection::{ServerEvent, Supervisor};
 use sm_history::Record;
 use sm_kinds::drop_fields;
@@ -61,8 +61,8 @@ impl<'a, R: Wait> Console<'a, R> {
             host,
             rt,
             listening: format!(in host.alloc();
-                "listening for clients at {} and for administrators at {}\n",
-                places.0, places.1
+                "listening for clients at {} and for administrators at {} (svcmgr {})\n",
+                places.0, places.1, VERSION
             )?,
             clients: handle_of(clients)?,
             admins: handle_of(admins)?,
