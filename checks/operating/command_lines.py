@@ -28,6 +28,9 @@ def refused_command_lines(program):
         ["--socket", "s", "--admin", "a", "--seal-bytes", "4095"],
         ["--socket", "s", "--admin", "a", "--journal", "+9"],
         ["--socket", "s", "--admin", "a", "--workers", "016"],
+        ["--socket", "s", "--admin", "a", "--audit-rate", "5"],
+        ["--socket", "s", "--admin", "a", "--audit", "--audit-rate", "1000001"],
+        ["--socket", "s", "--admin", "a", "--audit", "--audit-rate", "00"],
     ]
     with room() as folder:
         for words in lines:

@@ -5,8 +5,9 @@ import errno
 import os
 import re
 import select
+import time
 
-from operating.servers import HELLO, LIMIT, MARGIN, OTHER_HELLO
+from operating.servers import HELLO, LIMIT, MARGIN, NOT_ACCEPTED, OTHER_HELLO
 from operating.servers import ask_all, check, expect, reload, served, talk, with_accept_error
 from talking import APPLICATION, DEVICE, Wrong
 
@@ -73,13 +74,36 @@ def audit_log_of_long_requests(program):
             raise Wrong(f"the lines of {came // watches} requests waited")
 
 
-def lines_that_came(server, number, wanted):
-    """How many audit lines came, and how many were lost. They are this number together, each as is wanted."""
+@check
+def audit_rate(program, shim):
+    """No more audit lines come in a second than is asked, and all others are counted, also at the server's end."""
+    rate, number, words = 10, 1000, "audit lines were left out by --audit-rate"
+    asked = [(OTHER_HELLO, "client 1")] + [("list 15", LIST_DENIED)] * number
+    options = ("--audit", "--audit-rate", str(rate))
+    with served(program, *options) as server, server.client() as client:
+        began = time.monotonic()
+        talk(client, *asked)
+        came, _ = lines_that_came(server, number, "journal=2 " + LIST, words)
+        seconds = time.monotonic() - began
+        expect(rate <= came <= rate * (seconds + 1), True, f"in {seconds} seconds come {came} lines")
+        talk(client, ("list 15", LIST_DENIED))
+        server.says("journal=2 " + LIST)
+    with served(program, *options, env=with_accept_error(shim, errno.EBADF)) as server:
+        with server.client() as client:
+            talk(client, *asked)
+        server.says("warning: no more connections are accepted: Bad file descriptor (os error 9)\n")
+        _, left_out = lines_that_came(server, number, "journal=2 " + LIST, words)
+        expect(left_out > 0, True, "lines are left out")
+        server.ends(NOT_ACCEPTED)
+
+
+def lines_that_came(server, number, wanted, words="lines were lost"):
+    """How many audit lines came, and how many did not. They are this number together, each as is wanted."""
     came = lost = 0
     while came + lost < number:
         line = server.said.line()
         if line.startswith("warning: "):
-            lost += int(line.removeprefix("warning: ").removesuffix(" lines were lost\n"))
+            lost += int(line.removeprefix("warning: ").removesuffix(f" {words}\n"))
         else:
             expect(line, wanted or line, "the server says")
             came += 1

@@ -10,8 +10,9 @@ pub struct Number<'a> {
     pub text: &'a str,
 }
 
-/// The options with numbers, all greater than 0, by their ids and as the parser's messages name them.
-const OPTIONS: [(&str, &str); 4] = [
+/// The options with numbers, by their ids and as the parser's messages name them.
+const OPTIONS: [(&str, &str); 5] = [
+    ("audit-rate", "--audit-rate <N>"),
     ("journal", "--journal <N>"),
     ("seal-at", "--seal-at <N>"),
     ("seal-bytes", "--seal-bytes <N>"),
@@ -30,8 +31,8 @@ pub fn odd_number<'a>(matches: &ArgMatches<'a>) -> Option<Number<'a>> {
     None
 }
 
-/// Returns whether a text has only digits, and doesn't begin with `0`.
+/// Returns whether a text has only digits, and doesn't begin with `0` unless it is that.
 fn is_plain(text: &str) -> bool {
     let digits = text.as_bytes();
-    !digits.starts_with(b"0") && digits.iter().all(|digit| digit.is_ascii_digit())
+    text == "0" || !digits.starts_with(b"0") && digits.iter().all(|digit| digit.is_ascii_digit())
 }

@@ -21,8 +21,8 @@ pub enum Mode<'a> {
     Run,
     /// `svcmgr check [--show] RULES CONTEXTS`, and whether what a refusal names is shown.
     Check { show: bool },
-    /// `svcmgr serve [--journal N] [--seal-at N] [--seal-bytes N] [--workers W] [--mode MODE] [--audit] --socket PATH
-    /// --admin PATH RULES CONTEXTS`
+    /// `svcmgr serve [--journal N] [--seal-at N] [--seal-bytes N] [--workers W] [--mode MODE] [--audit]
+    /// [--audit-rate N] --socket PATH --admin PATH RULES CONTEXTS`
     Serve(Sockets<'a>),
     /// `svcmgr label`, `explain`, `access` or `diff`
     Ask(Question<'a>),

@@ -47,6 +47,7 @@ fn serve<'a>(alloc: Global) -> Building<'a> {
         .arg(workers(alloc))
         .arg(permissions(alloc))
         .arg(audit(alloc))
+        .arg(audit_rate(alloc))
         .arg(socket(alloc, "socket", "The clients' socket"))
         .arg(socket(alloc, "admin", "The administrators' socket"));
     with_files(alloc, serve)
@@ -221,6 +222,16 @@ fn audit<'a>(alloc: Global) -> Arg<'a> {
         .long("audit")
         .help("Writes the audit lines of clients' requests to standard error")
         .action(ArgAction::SetTrue)
+}
+
+fn audit_rate<'a>(alloc: Global) -> Arg<'a> {
+    word(
+        alloc,
+        "audit-rate",
+        "N",
+        "Writes at most N audit lines a second, 0 to 1000000, and how many were left out; 0 is no limit [default: 0]",
+    )
+    .value_parser(value_parser!(u32).range(0..=1_000_000))
 }
 
 fn socket<'a>(alloc: Global, name: &'a str, help: &'a str) -> Arg<'a> {

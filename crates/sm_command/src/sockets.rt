@@ -28,6 +28,8 @@ pub struct Sockets<'a> {
     pub seal_bytes: Option<u64>,
     /// Whether the audit lines of clients' requests go to standard error.
     pub audit: bool,
+    /// The number of audit lines that are written in a second, at most. 0: no limit.
+    pub audit_rate: u32,
 }
 
 /// Returns the options of a server.
@@ -40,6 +42,7 @@ pub fn sockets_of<'a>(matches: &ArgMatches<'a>) -> Option<Sockets<'a>> {
         seal_at: entries_to_seal_at(matches),
         seal_bytes: bytes_to_seal_at(matches),
         audit: matches.get_flag("audit"),
+        audit_rate: matches.get_one::<u32>("audit-rate").unwrap_or(0),
     })
 }
 
@@ -94,6 +97,9 @@ pub fn misused(matches: &ArgMatches) -> Option<&'static str> {
     }
     if matches.get_one::<u32>("seal-at") > Some(slots_of(matches) / 2) {
         return Some("--seal-at is greater than half of the slots in the journal");
+    }
+    if matches.contains_id("audit-rate") && !matches.get_flag("audit") {
+        return Some("--audit-rate is given without --audit");
     }
     let mode = matches.get_str("mode")?;
     match permissions_of(mode) {

@@ -33,10 +33,20 @@ pub struct LogEntry {
     pub lines: LogLines,
 }
 
-/// Returns the lines, each with this prefix.
-pub fn prefixed(alloc: Global, prefix: &[u8], lines: &LogLines) -> Result<LogLines, AllocError> {
+/// Returns the first lines, at most this many, each with this prefix.
+pub fn prefixed(
+    alloc: Global,
+    prefix: &[u8],
+    lines: &LogLines,
+    most: u64,
+) -> Result<LogLines, AllocError> {
     let mut text = Vec::new(alloc);
+    let mut left = most;
     for line in lines.bytes().split_inclusive(|byte| *byte == b'\n') {
+        if left == 0 {
+            break;
+        }
+        left = left.saturating_sub(1);
         text.extend_from_slice(prefix)?;
         text.extend_from_slice(line)?;
     }

@@ -7,7 +7,7 @@ use sm_command::{Sockets, VERSION};
 use sm_connection::{ServerEvent, Supervisor};
 use sm_history::Record;
 use sm_kinds::drop_fields;
-use sm_serve::{Level, LogLines, ServerLog, WaitingLines, write_log};
+use sm_serve::{Level, LogForm, LogLines, ServerLog, WaitingLines, write_log};
 use std::alloc::AllocError;
 use std::io;
 use std::net::Shutdown;
@@ -33,15 +33,14 @@ pub struct Console<'a, R> {
     clients: UnixStream,
     admins: UnixStream,
     log: ServerLog,
-    // Whether systemd's journal reads standard error.
-    is_journal: bool,
+    form: LogForm,
     // Whether audit records are logged.
     audits: bool,
 }
 
 impl<'a, R> Drop for Console<'a, R> {
     fn drop(self) {
-        drop_fields!(self: host, rt, listening, clients, admins, log, is_journal, audits);
+        drop_fields!(self: host, rt, listening, clients, admins, log, form, audits);
     }
 }
 
@@ -56,7 +55,10 @@ impl<'a, R: Wait> Console<'a, R> {
     ) -> io::Result<(Console<'a, R>, WaitingLines)> {
         let places = (sockets.clients, sockets.admins);
         let (log, lines) = ServerLog::new(host.alloc())?;
-        let is_journal = is_journal(host);
+        let form = LogForm {
+            is_journal: is_journal(host),
+            audit_rate: sockets.audit_rate,
+        };
         let console = Console {
             host,
             rt,
@@ -67,7 +69,7 @@ impl<'a, R: Wait> Console<'a, R> {
             clients: handle_of(clients)?,
             admins: handle_of(admins)?,
             log,
-            is_journal,
+            form,
             audits: sockets.audit,
         };
         Ok((console, lines))
@@ -106,7 +108,7 @@ impl<'a, R: Wait + Clock> Console<'a, R> {
     pub fn write_log(&self, lines: WaitingLines) {
         let (host, log) = (self.host, &self.log);
         let writer = StandardError::new(host, self.rt, Some(log));
-        write_log(self.rt, host.alloc(), log, lines, self.is_journal, writer);
+        write_log(self.rt, host.alloc(), log, lines, self.form, writer);
     }
 }
 

@@ -28,6 +28,7 @@ const SOCKETS: Sockets = Sockets {
     seal_at: Some(524_288),
     seal_bytes: Some(67_108_864),
     audit: false,
+    audit_rate: 0,
 };
 
 const ANY_ACCESS: FilterWords = FilterWords {
@@ -54,12 +55,13 @@ const ACCEPTED: &[(&str, Mode, u32)] = &[
         1_048_576,
     ),
     (
-        "svcmgr serve --workers 64 --journal 4 --seal-at 2 --admin a --socket s --audit --mode 0660 r c",
+        "svcmgr serve --workers 64 --journal 4 --seal-at 2 --admin a --socket s --audit --mode 0660 --audit-rate 5 r c",
         Mode::Serve(Sockets {
             workers: 64,
             mode: Some(0o660),
             seal_at: Some(2),
             audit: true,
+            audit_rate: 5,
             ..SOCKETS
         }),
         4,
@@ -281,6 +283,9 @@ const REFUSED: &[(ErrorKind, &[&str])] = &[
             "svcmgr serve --journal 0100 --socket s --admin a r c",
             "svcmgr serve --seal-at +50 --socket s --admin a r c",
             "svcmgr serve --workers 016 --socket s --admin a r c",
+            "svcmgr serve --audit-rate 5 --socket s --admin a r c",
+            "svcmgr serve --audit --audit-rate 1000001 --socket s --admin a r c",
+            "svcmgr serve --audit --audit-rate 00 --socket s --admin a r c",
             "svcmgr admin --admin  version",
             "svcmgr admin explain app svc binder call\nseal",
         ],
