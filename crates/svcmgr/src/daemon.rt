@@ -2,9 +2,11 @@
 
 ghost use Rattle.std.specs.Prelude.{◌≡◌};
 ghost use Rattle.sm_core.specs.Opening.{opened};
+ghost use denote.Param.Send.{IsSend, IsSync};
 
 use crate::console::Console;
 use crate::sockets::{Claim, OWNER_ALONE};
+use crate::watchdog::{interval, watch};
 use sm_account::{Account, Forgets};
 use sm_command::{Ending, Sockets};
 use sm_connection::SealAt;
@@ -82,7 +84,8 @@ fn open<'a, J: Naming + Send + Sync, R: Files + Net + Threads + Wait + Clock + S
         admin: Account::new(admins.swap_remove(0), Forgets::new()),
         sealer: admins.swap_remove(0),
     };
-    let ended = listen(host, rt, &door, tokens, slots, sockets);
+    let watcher = admins.pop();
+    let ended = listen(host, rt, &door, tokens, watcher, slots, sockets);
     door.close(rt);
     ended
 }
@@ -128,13 +131,16 @@ fn listen<'a, J: Naming + Send + Sync, R: Files + Net + Threads + Wait + Clock +
     rt: &R,
     door: &Door<J, NoGate>,
     tokens: Tokens<J>,
+    watcher: Option<Admin<J>>,
     slots: u32,
     sockets: Sockets<'a>,
 ) -> Result<(), Ending<'a>> {
     let (claim, clients) = open_socket(host, rt, sockets.clients, sockets.mode)?;
     let ended = match open_socket(host, rt, sockets.admins, Some(OWNER_ALONE)) {
         Ok((other, admins)) => {
-            let ended = serve_at(host, rt, door, tokens, slots, sockets, clients, admins);
+            let ended = serve_at(
+                host, rt, door, tokens, watcher, slots, sockets, clients, admins,
+            );
             other.remove(rt);
             ended
         }
@@ -144,12 +150,13 @@ fn listen<'a, J: Naming + Send + Sync, R: Files + Net + Threads + Wait + Clock +
     ended
 }
 
-/// Serves at these sockets, with a thread of its own for the log.
+/// Serves at these sockets, with a thread of its own for the log, and one for systemd's watchdog.
 fn serve_at<'a, J: Naming + Send + Sync, R: Threads + Wait + Clock + Sync>(
     host: &HostRuntime,
     rt: &R,
     door: &Door<J, NoGate>,
     tokens: Tokens<J>,
+    watcher: Option<Admin<J>>,
     slots: u32,
     sockets: Sockets<'a>,
     clients: UnixListener,
@@ -159,7 +166,32 @@ fn serve_at<'a, J: Naming + Send + Sync, R: Threads + Wait + Clock + Sync>(
         Ok(parts) => parts,
         Err(error) => return Err(Ending::of_file(sockets.clients, error)),
     };
-    let numbers = Numbers {
+    let numbers = numbers_of(slots, &sockets);
+    let shown = &console;
+    thread::scope(thread::scope_env(), rt, |scope| {
+        sends::<Admin<J>>();
+        shares::<Door<J, NoGate>>();
+        if scope.spawn(move || shown.write_log(lines)).is_err() {
+            return Err(Ending::Serve(ServeFault::NoThread));
+        }
+        let is_watched = match (watcher, interval(host)) {
+            (Some(admin), Some(time)) => scope
+                .spawn(move || watch(host, rt, shown, door, admin, time))
+                .is_ok(),
+            _ => true,
+        };
+        let ended = if is_watched {
+            serve_under(host, rt, shown, door, tokens, numbers, clients, admins)
+        } else {
+            Err(Ending::Serve(ServeFault::NoThread))
+        };
+        shown.end_log();
+        ended
+    })
+}
+
+fn numbers_of(slots: u32, sockets: &Sockets) -> Numbers {
+    Numbers {
         workers: sockets.workers,
         clients: u64::MAX,
         admins: u64::MAX,
@@ -169,17 +201,18 @@ fn serve_at<'a, J: Naming + Send + Sync, R: Threads + Wait + Clock + Sync>(
             entries: sockets.seal_at,
             bytes: sockets.seal_bytes,
         },
-    };
-    let shown = &console;
-    thread::scope(thread::scope_env(), rt, |scope| {
-        if scope.spawn(move || shown.write_log(lines)).is_err() {
-            return Err(Ending::Serve(ServeFault::NoThread));
-        }
-        let ended = serve_under(host, rt, shown, door, tokens, numbers, clients, admins);
-        shown.end_log();
-        ended
-    })
+    }
 }
+
+/// Shows that threads may share values of the type.
+fn shares<X: Sync>()
+    ensures { IsSync X.row }
+{}
+
+/// Shows that values of the type may be sent to another thread.
+fn sends<X: Send>()
+    ensures { IsSend X.row }
+{}
 
 /// Serves under the eyes of this console.
 fn serve_under<'a, J: Naming + Send + Sync, R: Threads + Wait + Clock + Sync>(

@@ -8,10 +8,12 @@ mod daemon;
 mod journald;
 mod pipe;
 mod questions;
+mod settings;
 mod sockets;
 mod standard_error;
 mod standard_streams;
 mod systemd;
+mod watchdog;
 
 use admin::administer;
 use checking::check_policy;
