@@ -3,6 +3,7 @@
 use crate::journald::is_journal;
 use crate::standard_error::StandardError;
 use crate::systemd::tell_systemd;
+use mio::net::UnixStream as Probe;
 use sm_command::{Sockets, VERSION};
 use sm_connection::{ServerEvent, Supervisor};
 use sm_history::Record;
@@ -10,9 +11,9 @@ use sm_kinds::drop_fields;
 use sm_serve::{Level, LogForm, LogLines, ServerLog, WaitingLines, write_log};
 use std::alloc::AllocError;
 use std::io;
-use std::net::Shutdown;
+use std::net::{Net, Shutdown};
 use std::os::fd::OwnedFd;
-use std::os::unix::net::{UnixListener, UnixStream};
+use std::os::unix::net::{SocketAddr, UnixListener, UnixStream};
 use std::rt::Clock;
 use std::sync::Wait;
 
@@ -24,14 +25,31 @@ const MEMORY_SHORT: &[u8] = b"warning: memory is short: an allocation failed\n";
 
 const NO_LINE: &[u8] = b"warning: no memory for a line\n";
 
+/// The sockets of a server, and whether each was passed to it: those of clients, then those of administrators.
+#[derive(Drop)]
+pub struct Entrances {
+    pub clients: UnixListener,
+    pub admins: UnixListener,
+    pub are_passed: (bool, bool),
+}
+
+/// The means to end a call that waits for a connection.
+#[derive(Drop)]
+enum Closer {
+    /// A handle on the socket, to shut it down.
+    Handle(UnixStream),
+    /// The address of a socket that was passed, to connect there. The next server finds it as it was.
+    Address(SocketAddr),
+}
+
 /// What operators see of a server, on standard error, and the means to close its sockets.
 pub struct Console<'a, R> {
     host: &'a HostRuntime,
     rt: &'a R,
     // The line that says where it listens.
     listening: String,
-    clients: UnixStream,
-    admins: UnixStream,
+    clients: Closer,
+    admins: Closer,
     log: ServerLog,
     form: LogForm,
     // Whether audit records are logged.
@@ -50,8 +68,7 @@ impl<'a, R: Wait> Console<'a, R> {
         host: &'a HostRuntime,
         rt: &'a R,
         sockets: Sockets,
-        clients: &UnixListener,
-        admins: &UnixListener,
+        entrances: &Entrances,
     ) -> io::Result<(Console<'a, R>, WaitingLines)> {
         let places = (sockets.clients, sockets.admins);
         let (log, lines) = ServerLog::new(host.alloc())?;
@@ -66,8 +83,8 @@ impl<'a, R: Wait> Console<'a, R> {
                 "listening for clients at {} and for administrators at {} (svcmgr {})\n",
                 places.0, places.1, VERSION
             )?,
-            clients: handle_of(clients)?,
-            admins: handle_of(admins)?,
+            clients: closer_of(&entrances.clients, entrances.are_passed.0)?,
+            admins: closer_of(&entrances.admins, entrances.are_passed.1)?,
             log,
             form,
             audits: sockets.audit,
@@ -117,7 +134,7 @@ impl<'a, R: Wait + Clock> Console<'a, R> {
     }
 }
 
-impl<'a, R: Wait> Supervisor for Console<'a, R> {
+impl<'a, R: Wait + Net> Supervisor for Console<'a, R> {
     fn tell(&self, notice: ServerEvent) {
         match &notice {
             ServerEvent::Listening => tell_systemd(self.host, b"READY=1"),
@@ -139,9 +156,8 @@ impl<'a, R: Wait> Supervisor for Console<'a, R> {
     }
 
     fn close_entrances(&self) {
-        // A listener that is shut down already is as it should be.
-        let _ = self.clients.shutdown(Shutdown::Both);
-        let _ = self.admins.shutdown(Shutdown::Both);
+        close(self.rt, &self.clients);
+        close(self.rt, &self.admins);
     }
 }
 
@@ -153,6 +169,22 @@ fn level_of(notice: &ServerEvent) -> Level {
 }
 
 // A listener has no `shutdown` of its own.
-fn handle_of(listener: &UnixListener) -> io::Result<UnixStream> {
-    Ok(UnixStream::from(OwnedFd::from(listener.try_clone()?)))
+fn closer_of(listener: &UnixListener, is_passed: bool) -> io::Result<Closer> {
+    if is_passed {
+        return Ok(Closer::Address(listener.local_addr()?));
+    }
+    let handle = UnixStream::from(OwnedFd::from(listener.try_clone()?));
+    Ok(Closer::Handle(handle))
+}
+
+// If it fails, no call waits: the socket is shut down already, or has connections for each call.
+fn close<R: Net>(rt: &R, closer: &Closer) {
+    match closer {
+        Closer::Handle(handle) => {
+            let _ = handle.shutdown(Shutdown::Both);
+        }
+        Closer::Address(address) => {
+            let _ = Probe::connect_addr(rt, address);
+        }
+    }
 }

@@ -4,7 +4,8 @@ ghost use Rattle.std.specs.Prelude.{◌≡◌};
 ghost use Rattle.sm_core.specs.Opening.{opened};
 ghost use denote.Param.Send.{IsSend, IsSync};
 
-use crate::console::Console;
+use crate::console::{Console, Entrances};
+use crate::passed::Passed;
 use crate::sockets::{Claim, OWNER_ALONE};
 use crate::watchdog::{interval, watch};
 use sm_account::{Account, Forgets};
@@ -33,6 +34,7 @@ pub fn serve_policy<'a, R: Files + Net + Threads + Wait + Clock + Sync>(
     policy: Prepared,
     places: Places,
     sockets: Sockets<'a>,
+    passed: Passed,
 ) -> Result<(), Ending<'a>> {
     let Ok(who) = manager_identity(host.alloc()) else {
         return Err(Ending::Memory);
@@ -45,6 +47,7 @@ pub fn serve_policy<'a, R: Files + Net + Threads + Wait + Clock + Sync>(
         policy,
         places,
         sockets,
+        passed,
     )
 }
 
@@ -57,6 +60,7 @@ fn open<'a, J: Naming + Send + Sync, R: Files + Net + Threads + Wait + Clock + S
     policy: Prepared,
     places: Places,
     sockets: Sockets<'a>,
+    passed: Passed,
 ) -> Result<(), Ending<'a>>
     requires registry { unnamed.seen.book ≡ J.registry }
     requires opening { J.opening ≡ opened places who policy }
@@ -85,7 +89,7 @@ fn open<'a, J: Naming + Send + Sync, R: Files + Net + Threads + Wait + Clock + S
         sealer: admins.swap_remove(0),
     };
     let watcher = admins.pop();
-    let ended = listen(host, rt, &door, tokens, watcher, slots, sockets);
+    let ended = listen(host, rt, &door, tokens, watcher, slots, sockets, passed);
     door.close(rt);
     ended
 }
@@ -107,16 +111,20 @@ const PATIENCE: Patience = Patience {
     end: 10,
 };
 
-/// Claims a socket, and listens there.
+/// Takes a socket that was passed, or claims the path and listens there.
 fn open_socket<'a, R: Files + Net>(
     host: &HostRuntime,
     rt: &R,
     path: &'a str,
     mode: Option<u32>,
-) -> Result<(Claim<'a>, UnixListener), Ending<'a>> {
+    passed: Option<UnixListener>,
+) -> Result<(Option<Claim<'a>>, UnixListener), Ending<'a>> {
+    if let Some(listener) = passed {
+        return Ok((None, listener));
+    }
     let claim = Claim::new(host, path)?;
     match claim.listen(rt, mode) {
-        Ok(listener) => Ok((claim, listener)),
+        Ok(listener) => Ok((Some(claim), listener)),
         Err(error) => {
             claim.give_up(rt);
             Err(Ending::of_file(path, error))
@@ -125,7 +133,7 @@ fn open_socket<'a, R: Files + Net>(
 }
 
 /// Opens the clients' socket, then the administrators', and serves. Where it returns, the sockets and the locks that it
-/// made are gone.
+/// made are gone. Those that were passed stay.
 fn listen<'a, J: Naming + Send + Sync, R: Files + Net + Threads + Wait + Clock + Sync>(
     host: &HostRuntime,
     rt: &R,
@@ -134,24 +142,36 @@ fn listen<'a, J: Naming + Send + Sync, R: Files + Net + Threads + Wait + Clock +
     watcher: Option<Admin<J>>,
     slots: u32,
     sockets: Sockets<'a>,
+    passed: Passed,
 ) -> Result<(), Ending<'a>> {
-    let (claim, clients) = open_socket(host, rt, sockets.clients, sockets.mode)?;
-    let ended = match open_socket(host, rt, sockets.admins, Some(OWNER_ALONE)) {
+    let Passed { clients, admins } = passed;
+    let (claim, clients) = open_socket(host, rt, sockets.clients, sockets.mode, clients)?;
+    let mode = Some(OWNER_ALONE);
+    let ended = match open_socket(host, rt, sockets.admins, mode, admins) {
         Ok((other, admins)) => {
-            let ended = serve_at(
-                host, rt, door, tokens, watcher, slots, sockets, clients, admins,
-            );
-            other.remove(rt);
+            let entrances = Entrances {
+                clients,
+                admins,
+                are_passed: (claim.is_none(), other.is_none()),
+            };
+            let ended = serve_at(host, rt, door, tokens, watcher, slots, sockets, entrances);
+            remove(rt, other);
             ended
         }
         Err(ending) => Err(ending),
     };
-    claim.remove(rt);
+    remove(rt, claim);
     ended
 }
 
+fn remove<R: Files>(rt: &R, claim: Option<Claim>) {
+    if let Some(claim) = claim {
+        claim.remove(rt);
+    }
+}
+
 /// Serves at these sockets, with a thread of its own for the log, and one for systemd's watchdog.
-fn serve_at<'a, J: Naming + Send + Sync, R: Threads + Wait + Clock + Sync>(
+fn serve_at<'a, J: Naming + Send + Sync, R: Net + Threads + Wait + Clock + Sync>(
     host: &HostRuntime,
     rt: &R,
     door: &Door<J, NoGate>,
@@ -159,10 +179,9 @@ fn serve_at<'a, J: Naming + Send + Sync, R: Threads + Wait + Clock + Sync>(
     watcher: Option<Admin<J>>,
     slots: u32,
     sockets: Sockets<'a>,
-    clients: UnixListener,
-    admins: UnixListener,
+    entrances: Entrances,
 ) -> Result<(), Ending<'a>> {
-    let (console, lines) = match Console::new(host, rt, sockets, &clients, &admins) {
+    let (console, lines) = match Console::new(host, rt, sockets, &entrances) {
         Ok(parts) => parts,
         Err(error) => return Err(Ending::of_file(sockets.clients, error)),
     };
@@ -181,7 +200,7 @@ fn serve_at<'a, J: Naming + Send + Sync, R: Threads + Wait + Clock + Sync>(
             _ => true,
         };
         let ended = if is_watched {
-            serve_under(host, rt, shown, door, tokens, numbers, clients, admins)
+            serve_under(host, rt, shown, door, tokens, numbers, entrances)
         } else {
             Err(Ending::Serve(ServeFault::NoThread))
         };
@@ -215,16 +234,20 @@ fn sends<X: Send>()
 {}
 
 /// Serves under the eyes of this console.
-fn serve_under<'a, J: Naming + Send + Sync, R: Threads + Wait + Clock + Sync>(
+fn serve_under<'a, J: Naming + Send + Sync, R: Net + Threads + Wait + Clock + Sync>(
     host: &HostRuntime,
     rt: &R,
     console: &Console<R>,
     door: &Door<J, NoGate>,
     tokens: Tokens<J>,
     numbers: Numbers,
-    mut clients: UnixListener,
-    admins: UnixListener,
+    entrances: Entrances,
 ) -> Result<(), Ending<'a>> {
+    let Entrances {
+        mut clients,
+        admins,
+        are_passed: _,
+    } = entrances;
     let Tokens {
         workers,
         admin,

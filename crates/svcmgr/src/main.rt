@@ -6,6 +6,7 @@ mod checking;
 mod console;
 mod daemon;
 mod journald;
+mod passed;
 mod pipe;
 mod questions;
 mod settings;
@@ -20,6 +21,7 @@ use checking::check_policy;
 use clap::error::ErrorKind;
 use daemon::serve_policy;
 use journald::is_journal;
+use passed::{Passed, passed_sockets};
 use questions::ask;
 use sm_command::{
     Ending, Invocation, Mode, NO_MEMORY, Options, Sockets, invocation_of, read_limited, words_of,
@@ -92,12 +94,20 @@ pub(crate) fn fail(rt: &HostRuntime, ending: &Ending) -> ExitCode {
 
 /// Prints why a server has ended, and gives up after a while if standard error takes nothing.
 fn fail_server<'a, R: Wait>(host: &'a HostRuntime, rt: &'a R, ending: &Ending) -> ExitCode {
-    let prefix: &[u8] = if is_journal(host) {
+    fail_at(
+        host,
+        StandardError::new(host, rt, None),
+        fault_prefix(host),
+        ending,
+    )
+}
+
+fn fault_prefix(host: &HostRuntime) -> &'static [u8] {
+    if is_journal(host) {
         Level::Fault.prefix()
     } else {
         b""
-    };
-    fail_at(host, StandardError::new(host, rt, None), prefix, ending)
+    }
 }
 
 /// Writes there why there is no answer, after this prefix.
@@ -167,7 +177,16 @@ fn serve<'a, R: Files + Net + Threads + Wait + Clock + Sync>(
     options: &Options<'a>,
     sockets: Sockets<'a>,
 ) -> ExitCode {
-    match serve_sockets(host, rt, options, sockets) {
+    let passed = match passed_sockets(host) {
+        Ok(passed) => passed,
+        Err(unusable) => {
+            let mut writer = StandardError::new(host, rt, None);
+            // A failure can't be reported anywhere else.
+            let _ = write_with(&mut writer, fault_prefix(host), unusable.line());
+            return ExitCode::from(2);
+        }
+    };
+    match serve_sockets(host, rt, options, sockets, passed) {
         Ok(()) => ExitCode::SUCCESS,
         Err(ending) => fail_server(host, rt, &ending),
     }
@@ -179,6 +198,7 @@ fn serve_sockets<'a, R: Files + Net + Threads + Wait + Clock + Sync>(
     rt: &R,
     options: &Options<'a>,
     sockets: Sockets<'a>,
+    passed: Passed,
 ) -> Result<(), Ending<'a>> {
     let rules = text_of(host, options.rules)?;
     let contexts = text_of(host, options.contexts)?;
@@ -186,5 +206,5 @@ fn serve_sockets<'a, R: Files + Net + Threads + Wait + Clock + Sync>(
         Ok(policy) => policy,
         Err(fault) => return Err(Ending::Script(ScriptFault::Policy(fault))),
     };
-    serve_policy(host, rt, policy, options.places, sockets)
+    serve_policy(host, rt, policy, options.places, sockets, passed)
 }
