@@ -2,6 +2,7 @@
 
 use crate::attending::{attend_administrator, attend_client};
 use crate::entrance::Entrance;
+use crate::operator::Operator;
 use crate::pages::{NotedRead, NotedWrite};
 use crate::patience::Patience;
 use crate::queue::Queue;
@@ -90,13 +91,14 @@ impl Guest {
     }
 
     /// Serves it as a client's, and adds it and its pages to the account.
-    pub fn attend_client<J: Naming, K: Chronicle, G: Gate + Drop, H: Supervisor, R: Wait + Clock>(
+    pub fn attend_client<J: Naming, K: Chronicle, G: Gate + Drop, H: Operator, R: Wait + Clock>(
         self,
         rt: &R,
         alloc: Global,
         door: &Door<J, G>,
         account: Account<Seat<J>, K>,
         sealer: &SharedAdmin<J>,
+        host: &H,
         monitor: &Monitor<H>,
         patience: Patience,
         queue: &Queue,
@@ -105,7 +107,7 @@ impl Guest {
         let input = NotedRead::new(&*stream, account.page());
         let output = NotedWrite::new(&*stream, account.page());
         let (mut account, input, output) = attend_client(
-            rt, alloc, door, account, sealer, monitor, patience, queue, input, output,
+            rt, alloc, door, account, sealer, host, monitor, patience, queue, input, output,
         );
         account.keep(input.into_page(), output.into_page());
         account

@@ -4,7 +4,8 @@ ghost use Rattle.sm_wire.specs.declared.kind.Kind.TheVariants.{Client as AsClien
 ghost use Rattle.sm_account.specs.Served.{Attended};
 
 use crate::entrance::Entrance;
-use crate::pace::{Pace, PacedRead, PacedWrite};
+use crate::operator::{Milestone, Operator};
+use crate::pace::{Pace, PacedRead, PacedWrite, READS};
 use crate::patience::{Limited, Patience, limit_administrator};
 use crate::queue::Queue;
 use crate::sealing::seal_if_due;
@@ -23,9 +24,6 @@ use std::io::{Read, Write};
 use std::rt::Clock;
 use std::sync::Wait;
 
-/// The most reads of a session. Each gives at least one byte, or is the last.
-const READS: u32 = 16_777_216;
-
 /// Serves a client's connection at a worker's seat, and adds it to the worker's account. After each change the journal
 /// is sealed if it is due; an answer to a read never waits for that. Returns the account with the seat, or with the session of a client that couldn't die, and both
 /// ends of the connection. If the time can't be read or limited, nothing is served.
@@ -33,7 +31,7 @@ pub fn attend_client<
     J: Naming,
     K: Chronicle,
     G: Gate + Drop,
-    H: Supervisor,
+    H: Operator,
     R: Wait + Clock,
     I: Read + Limited,
     O: Write + Limited,
@@ -43,6 +41,7 @@ pub fn attend_client<
     door: &Door<J, G>,
     account: Account<Seat<J>, K>,
     sealer: &SharedAdmin<J>,
+    host: &H,
     monitor: &Monitor<H>,
     patience: Patience,
     queue: &Queue,
@@ -59,7 +58,7 @@ pub fn attend_client<
         return (at_rest(account), input, output);
     };
     let attended = attend_stream(
-        rt, alloc, door, account, sealer, monitor, &pace, input, output,
+        rt, alloc, door, account, sealer, host, monitor, &pace, input, output,
     );
     seal_if_due(rt, door, sealer, monitor);
     attended
@@ -70,7 +69,7 @@ fn attend_stream<
     J: Naming,
     K: Chronicle,
     G: Gate + Drop,
-    H: Supervisor,
+    H: Operator,
     R: Wait + Clock,
     I: Read + Limited,
     O: Write + Limited,
@@ -80,6 +79,7 @@ fn attend_stream<
     door: &Door<J, G>,
     account: Account<Seat<J>, K>,
     sealer: &SharedAdmin<J>,
+    host: &H,
     monitor: &Monitor<H>,
     pace: &Pace<'_, R>,
     input: I,
@@ -98,6 +98,10 @@ fn attend_stream<
         |occasion| {
             if matches!(occasion, Occasion::Connected) {
                 pace.connect();
+                host.reach(Milestone::Connected);
+            }
+            if pace.nears_the_last_read() {
+                host.reach(Milestone::AlmostAllReads);
             }
             if !matches!(occasion, Occasion::Answered) {
                 seal_if_due(rt, door, sealer, monitor);
@@ -110,6 +114,9 @@ fn attend_stream<
         READS,
     );
     note_end(monitor, ended);
+    if matches!(ended, Err(Fault::TooManyReads)) {
+        host.reach(Milestone::AllReads);
+    }
     let input = reader.into_inner().into_inner().into_inner();
     let output = writer.into_inner().into_inner().into_inner();
     (account, input, output)

@@ -13,6 +13,12 @@ use std::time::{Duration, Instant};
 /// The most bytes of a write, which the kernel keeps in one block: it limits the wait for each block alone.
 const AT_ONCE: usize = 32_768;
 
+/// The most reads of a connection. Each gives at least one byte, or is the last.
+pub const READS: u32 = 16_777_216;
+
+/// Nine tenths of them.
+const ALMOST_ALL: u32 = 15_099_494;
+
 /// Seconds until a client must be connected while other connections wait for a worker.
 const HURRY: u64 = 1;
 
@@ -27,13 +33,16 @@ pub struct Pace<'a, R> {
     queue: &'a Queue,
     begun: Instant,
     is_connected: Cell<bool>,
+    // The number of reads, and whether it was told that they are almost all.
+    reads: Cell<u32>,
+    is_told: Cell<bool>,
     // When the replies to the last piece began to be written.
     replying: Cell<Option<Instant>>,
 }
 
 impl<'a, R> Drop for Pace<'a, R> {
     fn drop(self) {
-        drop_fields!(self: rt, patience, queue, begun, is_connected, replying);
+        drop_fields!(self: rt, patience, queue, begun, is_connected, reads, is_told, replying);
     }
 }
 
@@ -46,6 +55,8 @@ impl<'a, R: Clock> Pace<'a, R> {
             queue,
             begun: Instant::now(rt)?,
             is_connected: Cell::new(false),
+            reads: Cell::new(0),
+            is_told: Cell::new(false),
             replying: Cell::new(None),
         })
     }
@@ -53,6 +64,16 @@ impl<'a, R: Clock> Pace<'a, R> {
     /// Notes that the client is connected, so it may idle from now on.
     pub fn connect(&self) {
         self.is_connected.set(true);
+    }
+
+    // Counts a read.
+    fn count(&self) {
+        self.reads.set(self.reads.get().saturating_add(1));
+    }
+
+    /// Returns whether the reads are almost all that the connection has, which it does once.
+    pub fn nears_the_last_read(&self) -> bool {
+        self.reads.get() >= ALMOST_ALL && !self.is_told.replace(true)
     }
 
     // Returns the limit of the next read of a connection whose client isn't connected.
@@ -142,6 +163,7 @@ impl<'a, R: Clock, I: Read + Limited> Read for PacedRead<'a, R, I> {
     fn read(&mut self, buf: &mut [u8]) -> io::Result<usize> {
         let pace = self.pace;
         pace.replying.set(None);
+        pace.count();
         for _ in 0..pace.patience.hello {
             self.limit()?;
             match self.input.read(buf) {

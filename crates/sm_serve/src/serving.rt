@@ -9,6 +9,7 @@ use crate::arrived::Arrived;
 use crate::arriving::arrival;
 use crate::entrance::Entrance;
 use crate::faults::Faults;
+use crate::operator::Operator;
 use crate::patience::Patience;
 use crate::queue::{Arrivals, Queue, queue_of};
 use crate::settling::settle;
@@ -52,7 +53,7 @@ pub fn serve<
     G: Gate + Drop + Send + Sync,
     C: Entrance,
     A: Entrance + Drop + Send,
-    H: Supervisor + Sync,
+    H: Operator + Sync,
     R: Threads + Wait + Clock + Sync,
 >(
     rt: &R,
@@ -151,7 +152,7 @@ fn run_threads<
     G: Gate + Drop + Send + Sync,
     C: Entrance,
     A: Entrance + Drop + Send,
-    H: Supervisor + Sync,
+    H: Operator + Sync,
     R: Threads + Wait + Clock + Sync,
 >(
     rt: &R,
@@ -191,7 +192,7 @@ fn run_threads<
 }
 
 /// Serves clients' connections under a worker's account, and adds it to that of all.
-fn work<J: Naming, K: Chronicle, G: Gate + Drop, H: Supervisor, R: Wait + Clock>(
+fn work<J: Naming, K: Chronicle, G: Gate + Drop, H: Operator, R: Wait + Clock>(
     rt: &R,
     common: &Common<'_, J, G, H>,
     accounts: &Accounts<J, K>,
@@ -204,7 +205,7 @@ fn work<J: Naming, K: Chronicle, G: Gate + Drop, H: Supervisor, R: Wait + Clock>
 }
 
 /// Serves connections from the queue at this account's seat, until no more come.
-fn serve_clients<J: Naming, K: Chronicle, G: Gate + Drop, H: Supervisor, R: Wait + Clock>(
+fn serve_clients<J: Naming, K: Chronicle, G: Gate + Drop, H: Operator, R: Wait + Clock>(
     rt: &R,
     common: &Common<'_, J, G, H>,
     account: Account<Seat<J>, K>,
@@ -235,6 +236,7 @@ fn serve_clients<J: Naming, K: Chronicle, G: Gate + Drop, H: Supervisor, R: Wait
             common.door,
             seat,
             &common.sealer,
+            common.host,
             &monitor,
             common.patience,
             &common.queue,

@@ -8,7 +8,7 @@ use sm_command::{Sockets, VERSION};
 use sm_connection::{ServerEvent, Supervisor};
 use sm_history::Record;
 use sm_kinds::drop_fields;
-use sm_serve::{Level, LogForm, LogLines, ServerLog, WaitingLines, write_log};
+use sm_serve::{Level, LogForm, LogLines, Milestone, Operator, ServerLog, WaitingLines, write_log};
 use std::alloc::AllocError;
 use std::io;
 use std::net::{Net, Shutdown};
@@ -16,8 +16,20 @@ use std::os::fd::OwnedFd;
 use std::os::unix::net::{SocketAddr, UnixListener, UnixStream};
 use std::rt::Clock;
 use std::sync::Wait;
+use std::sync::atomic::{AtomicU64, Ordering};
 
 const CLIENT_WAITS: &[u8] = b"warning: a client has waited for a worker for a second\n";
+
+const ALMOST_ALL_READS: &[u8] =
+    b"warning: a connection has made nine tenths of its 16777216 reads: its client should connect again\n";
+
+const ALL_READS: &[u8] = b"warning: a connection has ended, since it has made 16777216 reads\n";
+
+const FEW_NUMBERS: &[u8] =
+    b"warning: nine tenths of the 4294967295 client numbers are used: the server should be restarted\n";
+
+/// Nine tenths of the client numbers.
+const ALMOST_ALL_NUMBERS: u64 = 3_865_470_566;
 
 const FULL: &[u8] = b"warning: the journal is full: changes are refused until it is sealed\n";
 
@@ -54,11 +66,13 @@ pub struct Console<'a, R> {
     form: LogForm,
     // Whether audit records are logged.
     audits: bool,
+    // The clients that were connected so far.
+    connected: AtomicU64,
 }
 
 impl<'a, R> Drop for Console<'a, R> {
     fn drop(self) {
-        drop_fields!(self: host, rt, listening, clients, admins, log, form, audits);
+        drop_fields!(self: host, rt, listening, clients, admins, log, form, audits, connected);
     }
 }
 
@@ -88,6 +102,7 @@ impl<'a, R: Wait> Console<'a, R> {
             log,
             form,
             audits: sockets.audit,
+            connected: AtomicU64::new(0),
         };
         Ok((console, lines))
     }
@@ -158,6 +173,24 @@ impl<'a, R: Wait + Net> Supervisor for Console<'a, R> {
     fn close_entrances(&self) {
         close(self.rt, &self.clients);
         close(self.rt, &self.admins);
+    }
+}
+
+impl<'a, R: Wait + Net> Operator for Console<'a, R> {
+    fn reach(&self, milestone: Milestone) {
+        let line = match milestone {
+            Milestone::Connected => {
+                let before = self.connected.fetch_add(1, Ordering::SeqCst);
+                if before.saturating_add(1) != ALMOST_ALL_NUMBERS {
+                    return;
+                }
+                FEW_NUMBERS
+            }
+            Milestone::AlmostAllReads => ALMOST_ALL_READS,
+            Milestone::AllReads => ALL_READS,
+        };
+        self.log
+            .append(self.rt, Level::Warning, LogLines::Fixed(line));
     }
 }
 

@@ -15,7 +15,7 @@ use sm_history::{Gate, NoGate, Record};
 use sm_kinds::{Context, Identity, Places};
 use sm_policy::Prepared;
 use sm_samples::{DEVICE_LABELS, DEVICE_RULES};
-use sm_serve::{Entrance, Numbers, Patience, serve};
+use sm_serve::{Entrance, Milestone, Numbers, Operator, Patience, serve};
 use std::alloc::Global;
 use std::io::ErrorKind;
 use std::marker::Brand;
@@ -162,6 +162,10 @@ impl Supervisor for Ear {
     fn close_entrances(&self) {
         self.closed.fetch_add(1, Ordering::SeqCst);
     }
+}
+
+impl Operator for Ear {
+    fn reach(&self, _milestone: Milestone) {}
 }
 
 /// An exchange at the connections of a server while it runs.
