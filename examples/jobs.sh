@@ -17,6 +17,11 @@ say_jobs() {
     echo "$(basename "$0"): jobs at a time: ${jobs:-as rt decides}; a first run takes $1" >&2
 }
 
+# Prints to standard error what comes next if the program isn't proved.
+say_unproved() {
+    echo "$(basename "$0"): compiles svcmgr without proving it, and prints nothing more for one to four minutes" >&2
+}
+
 # Runs svcmgr with these words: the program that the environment's SVCMGR names; one that is compiled as it is, if
 # `unproved` isn't empty; or one that is proved and built first. The second and third word are a policy's files.
 svcmgr() (
@@ -25,6 +30,7 @@ svcmgr() (
     fi
     cd "$(dirname "$0")/../crates/svcmgr"
     if [ -n "${unproved:-}" ]; then
+        say_unproved
         exec rt try --data policy.rules="$2" --data policy.contexts="$3" -- "$1" policy.rules policy.contexts
     fi
     ../../examples/prove >&2
