@@ -22,17 +22,23 @@ say_unproved() {
     echo "$(basename "$0"): compiles svcmgr without proving it, and prints nothing more for one to four minutes" >&2
 }
 
-# Runs svcmgr with these words: the program that the environment's SVCMGR names; one that is compiled as it is, if
+# Becomes svcmgr with these words: the program that the environment's SVCMGR names; one that is compiled as it is, if
 # `unproved` isn't empty; or one that is proved and built first. The second and third word are a policy's files.
-svcmgr() (
+become_svcmgr() {
     if [ -n "${SVCMGR:-}" ]; then
         exec "$SVCMGR" "$@"
     fi
     cd "$(dirname "$0")/../crates/svcmgr"
     if [ -n "${unproved:-}" ]; then
         say_unproved
-        exec rt try --data policy.rules="$2" --data policy.contexts="$3" -- "$1" policy.rules policy.contexts
+        exec rt try --data policy.rules="$2" --data policy.contexts="$3" -- \
+            "$1" policy.rules policy.contexts "${@:4}"
     fi
     ../../examples/prove >&2
     exec out/svcmgr "$@"
+}
+
+# Runs svcmgr with these words.
+svcmgr() (
+    become_svcmgr "$@"
 )
