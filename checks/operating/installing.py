@@ -14,6 +14,7 @@ COPIES = {
     "bin/svcmgr-doorkeeper": "examples/doorkeeper",
     "etc/svcmgr/policy.te": "examples/policy.te",
     "etc/svcmgr/service_contexts": "examples/service_contexts",
+    "lib/sysusers.d/svcmgr.conf": "examples/svcmgr.sysusers",
     "share/bash-completion/completions/svcmgr": "examples/completion.bash",
     "share/man/man1/svcmgr.1": "docs/svcmgr.1",
     "share/man/man8/svcmgr-doorkeeper.8": "docs/svcmgr-doorkeeper.8",
@@ -33,8 +34,14 @@ def there(folder):
     return {str(path.relative_to(folder)) for path in folder.rglob("*") if not path.is_dir()}
 
 
-def units():
-    return {f"lib/systemd/system/{path.name}": path for path in (ROOT / "examples").glob("svcmgr*.*")}
+def texts(program, prefix, settings):
+    """The text of each file that is installed below a prefix. Units get it, and the policy's folder."""
+    found = {"bin/svcmgr": Path(program).read_bytes()}
+    found |= {file: (ROOT / source).read_bytes() for file, source in COPIES.items()}
+    for unit in (ROOT / "examples").glob("svcmgr*.service"):
+        text = unit.read_text().replace("/usr/local/bin/", f"{prefix}/bin/")
+        found[f"lib/systemd/system/{unit.name}"] = text.replace("/etc/svcmgr/", f"{settings}/").encode()
+    return found
 
 
 def expect_text(folder, name, wanted):
@@ -49,13 +56,10 @@ def what_is_installed(program):
     with room() as name:
         folder = Path(name).resolve() / "local"
         expect(install(program, folder), [], "what is kept")
-        expect(there(folder), {"bin/svcmgr", *COPIES, *units()}, "files")
-        expect_text(folder, "bin/svcmgr", Path(program).read_bytes())
-        for file, source in COPIES.items():
-            expect_text(folder, file, (ROOT / source).read_bytes())
-        for file, source in units().items():
-            text = source.read_text().replace("/usr/local/bin/", f"{folder}/bin/")
-            expect_text(folder, file, text.replace("/etc/svcmgr/", f"{folder}/etc/svcmgr/").encode())
+        wanted = texts(program, folder, folder / "etc" / "svcmgr")
+        expect(there(folder), set(wanted), "files")
+        for file, text in wanted.items():
+            expect_text(folder, file, text)
         words = [folder / "bin" / "svcmgr", "check", *(folder / file for file in sorted(POLICY))]
         expect(subprocess.run(words, capture_output=True, timeout=PATIENCE).returncode, 0, "the installed svcmgr check")
         expect(install(program, folder, "--uninstall"), [], "what is kept")
