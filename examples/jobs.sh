@@ -1,4 +1,4 @@
-# Sourced by examples/run, examples/check, examples/serve, examples/prove, examples/install and .ci/run.
+# Sourced by examples/run, examples/check, examples/serve, examples/prove, examples/install, examples/deb and .ci/run.
 
 # Ends the program with status 2, unless these are on the path.
 need() {
