@@ -2,6 +2,7 @@
 
 import os
 import subprocess
+from itertools import chain
 from pathlib import Path
 
 from operating.servers import check, expect, room
@@ -38,7 +39,7 @@ def texts(program, prefix, settings):
     """The text of each file that is installed below a prefix. Units get it, and the policy's folder."""
     found = {"bin/svcmgr": Path(program).read_bytes()}
     found |= {file: (ROOT / source).read_bytes() for file, source in COPIES.items()}
-    for unit in (ROOT / "examples").glob("svcmgr*.service"):
+    for unit in chain(*(ROOT.glob(f"examples/svcmgr*.{kind}") for kind in ("service", "socket"))):
         text = unit.read_text().replace("/usr/local/bin/", f"{prefix}/bin/")
         found[f"lib/systemd/system/{unit.name}"] = text.replace("/etc/svcmgr/", f"{settings}/").encode()
     return found
