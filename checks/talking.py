@@ -59,7 +59,7 @@ def tried(name, attempt, *given):
         attempt(*given)
     except LeftOut as why:
         return f"{name}: {why}", None
-    except (Wrong, OSError, ValueError) as fault:
+    except (Wrong, OSError, ValueError, subprocess.TimeoutExpired) as fault:
         return None, f"{name}: {fault}"
     return None, None
 
