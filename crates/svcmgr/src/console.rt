@@ -3,7 +3,7 @@
 use crate::journald::is_journal;
 use crate::standard_error::StandardError;
 use crate::systemd::tell_systemd;
-use mio::net::UnixStream as Probe;
+use crate::waking::{ListenerAddress, address_of, wake};
 use sm_command::{Sockets, VERSION};
 use sm_connection::{ServerEvent, Supervisor};
 use sm_history::Record;
@@ -11,9 +11,9 @@ use sm_kinds::drop_fields;
 use sm_serve::{Level, LogForm, LogLines, Milestone, Operator, ServerLog, WaitingLines, write_log};
 use std::alloc::AllocError;
 use std::io;
-use std::net::{Net, Shutdown};
+use std::net::Shutdown;
 use std::os::fd::OwnedFd;
-use std::os::unix::net::{SocketAddr, UnixListener, UnixStream};
+use std::os::unix::net::{UnixListener, UnixStream};
 use std::rt::Clock;
 use std::sync::Wait;
 use std::sync::atomic::{AtomicU64, Ordering};
@@ -51,7 +51,7 @@ enum Closer {
     /// A handle on the socket, to shut it down.
     Handle(UnixStream),
     /// The address of a socket that was passed, to connect there. The next server finds it as it was.
-    Address(SocketAddr),
+    Address(ListenerAddress),
 }
 
 /// What operators see of a server, on standard error, and the means to close its sockets.
@@ -149,7 +149,7 @@ impl<'a, R: Wait + Clock> Console<'a, R> {
     }
 }
 
-impl<'a, R: Wait + Net> Supervisor for Console<'a, R> {
+impl<'a, R: Wait> Supervisor for Console<'a, R> {
     fn tell(&self, notice: ServerEvent) {
         match &notice {
             ServerEvent::Listening => tell_systemd(self.host, b"READY=1"),
@@ -171,12 +171,12 @@ impl<'a, R: Wait + Net> Supervisor for Console<'a, R> {
     }
 
     fn close_entrances(&self) {
-        close(self.rt, &self.clients);
-        close(self.rt, &self.admins);
+        close(&self.clients);
+        close(&self.admins);
     }
 }
 
-impl<'a, R: Wait + Net> Operator for Console<'a, R> {
+impl<'a, R: Wait> Operator for Console<'a, R> {
     fn reach(&self, milestone: Milestone) {
         let line = match milestone {
             Milestone::Connected => {
@@ -204,20 +204,18 @@ fn level_of(notice: &ServerEvent) -> Level {
 // A listener has no `shutdown` of its own.
 fn closer_of(listener: &UnixListener, is_passed: bool) -> io::Result<Closer> {
     if is_passed {
-        return Ok(Closer::Address(listener.local_addr()?));
+        return Ok(Closer::Address(address_of(listener)?));
     }
     let handle = UnixStream::from(OwnedFd::from(listener.try_clone()?));
     Ok(Closer::Handle(handle))
 }
 
 // If it fails, no call waits: the socket is shut down already, or has connections for each call.
-fn close<R: Net>(rt: &R, closer: &Closer) {
+fn close(closer: &Closer) {
     match closer {
         Closer::Handle(handle) => {
             let _ = handle.shutdown(Shutdown::Both);
         }
-        Closer::Address(address) => {
-            let _ = Probe::connect_addr(rt, address);
-        }
+        Closer::Address(address) => wake(address),
     }
 }

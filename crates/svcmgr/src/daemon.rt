@@ -171,7 +171,7 @@ fn remove<R: Files>(rt: &R, claim: Option<Claim>) {
 }
 
 /// Serves at these sockets, with a thread of its own for the log, and one for systemd's watchdog.
-fn serve_at<'a, J: Naming + Send + Sync, R: Net + Threads + Wait + Clock + Sync>(
+fn serve_at<'a, J: Naming + Send + Sync, R: Threads + Wait + Clock + Sync>(
     host: &HostRuntime,
     rt: &R,
     door: &Door<J, NoGate>,
@@ -234,7 +234,7 @@ fn sends<X: Send>()
 {}
 
 /// Serves under the eyes of this console.
-fn serve_under<'a, J: Naming + Send + Sync, R: Net + Threads + Wait + Clock + Sync>(
+fn serve_under<'a, J: Naming + Send + Sync, R: Threads + Wait + Clock + Sync>(
     host: &HostRuntime,
     rt: &R,
     console: &Console<R>,

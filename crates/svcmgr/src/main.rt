@@ -14,6 +14,7 @@ mod sockets;
 mod standard_error;
 mod standard_streams;
 mod systemd;
+mod waking;
 mod watchdog;
 
 use admin::administer;
@@ -21,7 +22,7 @@ use checking::check_policy;
 use clap::error::ErrorKind;
 use daemon::serve_policy;
 use journald::is_journal;
-use passed::{Passed, passed_sockets};
+use passed::{Passed, Unusable, passed_sockets};
 use questions::ask;
 use sm_command::{
     Ending, Invocation, Mode, NO_MEMORY, Options, Sockets, invocation_of, read_limited, words_of,
@@ -102,6 +103,14 @@ fn fail_server<'a, R: Wait>(host: &'a HostRuntime, rt: &'a R, ending: &Ending) -
     )
 }
 
+/// Prints why the sockets that systemd passes can't be used.
+fn refuse_sockets<'a, R: Wait>(host: &'a HostRuntime, rt: &'a R, unusable: Unusable) -> ExitCode {
+    let mut writer = StandardError::new(host, rt, None);
+    // A failure can't be reported anywhere else.
+    let _ = write_with(&mut writer, fault_prefix(host), unusable.line());
+    ExitCode::from(2)
+}
+
 fn fault_prefix(host: &HostRuntime) -> &'static [u8] {
     if is_journal(host) {
         Level::Fault.prefix()
@@ -179,12 +188,7 @@ fn serve<'a, R: Files + Net + Threads + Wait + Clock + Sync>(
 ) -> ExitCode {
     let passed = match passed_sockets(host) {
         Ok(passed) => passed,
-        Err(unusable) => {
-            let mut writer = StandardError::new(host, rt, None);
-            // A failure can't be reported anywhere else.
-            let _ = write_with(&mut writer, fault_prefix(host), unusable.line());
-            return ExitCode::from(2);
-        }
+        Err(unusable) => return refuse_sockets(host, rt, unusable),
     };
     match serve_sockets(host, rt, options, sockets, passed) {
         Ok(()) => ExitCode::SUCCESS,
