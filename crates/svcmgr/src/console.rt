@@ -112,11 +112,6 @@ impl<'a, R: Wait> Console<'a, R> {
         self.log.end(self.rt);
     }
 
-    /// Returns whether the log has ended.
-    pub fn is_over(&self) -> bool {
-        self.log.is_over()
-    }
-
     fn line_of(&self, notice: ServerEvent) -> Result<LogLines, AllocError> {
         let alloc = self.host.alloc();
         let line = match notice {

@@ -2,12 +2,10 @@
 
 ghost use Rattle.std.specs.Prelude.{◌≡◌};
 ghost use Rattle.sm_core.specs.Opening.{opened};
-ghost use denote.Param.Send.{IsSend, IsSync};
 
 use crate::console::{Console, Entrances};
 use crate::passed::Passed;
 use crate::sockets::{Claim, OWNER_ALONE};
-use crate::watchdog::{interval, watch};
 use sm_account::{Account, Forgets};
 use sm_command::{Ending, Sockets};
 use sm_connection::SealAt;
@@ -88,8 +86,7 @@ fn open<'a, J: Naming + Send + Sync, R: Files + Net + Threads + Wait + Clock + S
         admin: Account::new(admins.swap_remove(0), Forgets::new()),
         sealer: admins.swap_remove(0),
     };
-    let watcher = admins.pop();
-    let ended = listen(host, rt, &door, tokens, watcher, slots, sockets, passed);
+    let ended = listen(host, rt, &door, tokens, slots, sockets, passed);
     door.close(rt);
     ended
 }
@@ -139,7 +136,6 @@ fn listen<'a, J: Naming + Send + Sync, R: Files + Net + Threads + Wait + Clock +
     rt: &R,
     door: &Door<J, NoGate>,
     tokens: Tokens<J>,
-    watcher: Option<Admin<J>>,
     slots: u32,
     sockets: Sockets<'a>,
     passed: Passed,
@@ -154,7 +150,7 @@ fn listen<'a, J: Naming + Send + Sync, R: Files + Net + Threads + Wait + Clock +
                 admins,
                 are_passed: (claim.is_none(), other.is_none()),
             };
-            let ended = serve_at(host, rt, door, tokens, watcher, slots, sockets, entrances);
+            let ended = serve_at(host, rt, door, tokens, slots, sockets, entrances);
             remove(rt, other);
             ended
         }
@@ -170,13 +166,12 @@ fn remove<R: Files>(rt: &R, claim: Option<Claim>) {
     }
 }
 
-/// Serves at these sockets, with a thread of its own for the log, and one for systemd's watchdog.
+/// Serves at these sockets, with a thread of its own for the log.
 fn serve_at<'a, J: Naming + Send + Sync, R: Threads + Wait + Clock + Sync>(
     host: &HostRuntime,
     rt: &R,
     door: &Door<J, NoGate>,
     tokens: Tokens<J>,
-    watcher: Option<Admin<J>>,
     slots: u32,
     sockets: Sockets<'a>,
     entrances: Entrances,
@@ -188,22 +183,10 @@ fn serve_at<'a, J: Naming + Send + Sync, R: Threads + Wait + Clock + Sync>(
     let numbers = numbers_of(slots, &sockets);
     let shown = &console;
     thread::scope(thread::scope_env(), rt, |scope| {
-        sends::<Admin<J>>();
-        shares::<Door<J, NoGate>>();
         if scope.spawn(move || shown.write_log(lines)).is_err() {
             return Err(Ending::Serve(ServeFault::NoThread));
         }
-        let is_watched = match (watcher, interval(host)) {
-            (Some(admin), Some(time)) => scope
-                .spawn(move || watch(host, rt, shown, door, admin, time))
-                .is_ok(),
-            _ => true,
-        };
-        let ended = if is_watched {
-            serve_under(host, rt, shown, door, tokens, numbers, entrances)
-        } else {
-            Err(Ending::Serve(ServeFault::NoThread))
-        };
+        let ended = serve_under(host, rt, shown, door, tokens, numbers, entrances);
         shown.end_log();
         ended
     })
@@ -222,16 +205,6 @@ fn numbers_of(slots: u32, sockets: &Sockets) -> Numbers {
         },
     }
 }
-
-/// Shows that threads may share values of the type.
-fn shares<X: Sync>()
-    ensures { IsSync X.row }
-{}
-
-/// Shows that values of the type may be sent to another thread.
-fn sends<X: Send>()
-    ensures { IsSend X.row }
-{}
 
 /// Serves under the eyes of this console.
 fn serve_under<'a, J: Naming + Send + Sync, R: Threads + Wait + Clock + Sync>(

@@ -15,7 +15,6 @@ mod standard_error;
 mod standard_streams;
 mod systemd;
 mod waking;
-mod watchdog;
 
 use admin::administer;
 use checking::check_policy;
