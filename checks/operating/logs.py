@@ -76,7 +76,7 @@ def audit_log_of_long_requests(program):
 
 @check
 def audit_rate(program, shim):
-    """No more audit lines come in a second than is asked, and all others are counted, also at the server's end."""
+    """No more audit lines come in a second than is asked, and all others are counted."""
     rate, number, words = 10, 1000, "audit lines were left out by --audit-rate"
     asked = [(OTHER_HELLO, "client 1")] + [("list 15", LIST_DENIED)] * number
     options = ("--audit", "--audit-rate", str(rate))
@@ -88,13 +88,6 @@ def audit_rate(program, shim):
         expect(rate <= came <= rate * (seconds + 1), True, f"in {seconds} seconds come {came} lines")
         talk(client, ("list 15", LIST_DENIED))
         server.says("journal=2 " + LIST)
-    with served(program, *options, env=with_accept_error(shim, errno.EBADF)) as server:
-        with server.client() as client:
-            talk(client, *asked)
-        server.says("warning: no more connections are accepted: Bad file descriptor (os error 9)\n")
-        _, left_out = lines_that_came(server, number, "journal=2 " + LIST, words)
-        expect(left_out > 0, True, "lines are left out")
-        server.ends(NOT_ACCEPTED)
 
 
 def lines_that_came(server, number, wanted, words="lines were lost"):
