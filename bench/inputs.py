@@ -18,7 +18,8 @@ SERVER_TYPES = 50
 @dataclass(frozen=True)
 class Input:
     """One input: `size` is what grows, and `requests` the number of a script's lines. Without a script, a policy is to
-    be checked, or a question about it is to be answered: `access`, or `diff` with itself."""
+    be checked, or a question about it is to be answered: `access`, `diff` with itself, or `check --all` of a policy
+    that is refused."""
 
     name: str
     size: int
@@ -84,6 +85,15 @@ def policy(count: int, seed: int) -> Lines:
             f"neverallow ~dom{a} svc{b}:binder impersonate;",
             f"neverallow {{ service -svc{a} }} {{ domain -dom{b} }}:binder set_context_mgr;",
         ])
+
+
+def broken_policy(count: int, broken: int, seed: int) -> Lines:
+    """The same policy, with as many neverallow rules behind it that forbid what some of its allow rules allow."""
+    lines = list(policy(count, seed))
+    yield from lines
+    allows = [line for line in lines if line.startswith("allow ")]
+    for line in random.Random(seed).sample(allows, broken):
+        yield f"never{line}"
 
 
 def policy_contexts(count: int) -> Lines:
@@ -329,6 +339,10 @@ def all_inputs(seed: int, part: int = 1) -> Iterator[Input]:
         yield Input("check: wide allow rules", n, lambda n=n: wide_policy(wide, n, 1, seed), wide_contexts)
     for n in sizes(13_000, 26_000, 52_000):
         yield Input("check: wide neverallow rules", n, lambda n=n: wide_policy(wide, 1, n, seed), wide_contexts)
+    for question in ("check", "check --all"):
+        for n in sizes(600, 1200, 2400):
+            rules, contexts = lambda n=n: broken_policy(n, 29, seed), lambda n=n: policy_contexts(n)
+            yield Input(f"{question}: 29 broken rules", n, rules, contexts, question=question)
     for question in ("access", "diff"):
         for n in sizes(1000, 2000, 4000):
             rules, contexts = lambda n=n: policy(n, seed), lambda n=n: policy_contexts(n)

@@ -1,10 +1,10 @@
-# Completion of svcmgr's command line for bash: source this file.
+# Completion of the command lines of svcmgr and of svcmgr-doorkeeper for bash: source this file.
 _svcmgr() {
     local word="${COMP_WORDS[COMP_CWORD]}" before="${COMP_WORDS[COMP_CWORD - 1]}" command="${COMP_WORDS[1]:-}"
     local options="" words=""
     case "$command" in
         run) options="--journal --help" ;;
-        check) options="--show --help" ;;
+        check) options="--all --show --help" ;;
         serve) options="--journal --seal-at --seal-bytes --workers --mode --audit --audit-rate --socket --admin --help" ;;
         label) options="--help" ;;
         explain) options="--name --help" ;;
@@ -30,3 +30,16 @@ _svcmgr() {
     fi
 }
 complete -o filenames -F _svcmgr svcmgr
+
+_svcmgr_doorkeeper() {
+    local word="${COMP_WORDS[COMP_CWORD]}" options
+    case "${COMP_WORDS[COMP_CWORD - 1]}" in
+        --socket | --server | --contexts) mapfile -t COMPREPLY < <(compgen -f -- "$word") ;;
+        --mode | --seats) COMPREPLY=() ;;
+        *)
+            options="--socket --server --contexts --mode --seats --relay --help"
+            mapfile -t COMPREPLY < <(compgen -W "$options" -- "$word")
+            ;;
+    esac
+}
+complete -o filenames -F _svcmgr_doorkeeper svcmgr-doorkeeper

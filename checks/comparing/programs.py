@@ -51,6 +51,7 @@ def commands(case):
     asked = [
         (run, script, lambda model: model.run(*files, script, case.slots)),
         (["check", "--show", *FILES[:2]], "", lambda model: model.asks("check", *files, FILES[:2])),
+        (["check", "--all", "--show", *FILES[:2]], "", lambda model: model.asks("check", *files, FILES[:2], True)),
     ]
     for question in case.questions:
         texts = (*files, case.new_rules, case.new_contexts, FILES) if question[0] == "diff" else files

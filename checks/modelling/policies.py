@@ -2,6 +2,8 @@
 
 Files are strings with one character for each byte (latin-1)."""
 
+from itertools import product
+
 CLASSES = [
     ("service_manager", ["add", "find", "list"]),
     ("binder", ["impersonate", "call", "set_context_mgr", "transfer"]),
@@ -31,11 +33,13 @@ MOST_ENTRIES = 16384
 
 
 class Refused(Exception):
-    """The policy is refused. The text is that of the last table of the page; the lines are those that it names."""
+    """The policy is refused. The text is that of the last table of the page; the lines are those that it names.
+
+    `all` has the refusal itself, or if a neverallow rule is broken those for all of these."""
 
     def __init__(self, text, *lines):
         super().__init__(text)
-        self.text, self.lines, self.said = text, lines, ""
+        self.text, self.lines, self.said, self.all = text, lines, "", [self]
 
 
 class Syntax(Exception):
@@ -282,9 +286,11 @@ class Policy:
         for line, _, context in self.entries:
             if type_of(context) not in self.types:
                 raise Refused(f"contexts: undeclared type at line {line}", line)
-        for never in self.rules["neverallow"]:
-            for allow in self.rules["allow"]:
-                self.judge(never, allow)
+        found = [self.judge(*rules) for rules in product(self.rules["neverallow"], self.rules["allow"])]
+        broken = [refused for refused in found if refused is not None]
+        if broken:
+            broken[0].all = broken
+            raise broken[0]
 
     def declare(self, statement):
         if statement.kind not in ("type", "attribute"):
@@ -337,17 +343,18 @@ class Policy:
         return [name for name in self.types if items.has([name] + self.attributes_of[name])]
 
     def judge(self, never, allow):
-        """Refuses the policy if the allow rule breaks the neverallow rule."""
+        """The refusal if the allow rule breaks the neverallow rule, or nothing."""
         both = [access for access in never.accesses if access in allow.accesses]
         if both == []:
-            return
+            return None
         for source in self.types:
             for target in self.types:
                 for kind, perm in both:
                     if never.covers(source, target, kind, perm) and allow.covers(source, target, kind, perm):
                         words = f"neverallow at line {never.line} by allow at line {allow.line}"
                         access = f"{source} {target} {kind} {perm}"
-                        raise Refused(f"{words}: {access}", never.line, allow.line)
+                        return Refused(f"{words}: {access}", never.line, allow.line)
+        return None
 
     def line_of(self, source, target, kind, perm):
         """The line of the first allow rule that grants an access, or nothing."""

@@ -34,22 +34,27 @@ def statement(rest):
     return re.sub("[ \t\r\n]+", " ", found.strip(" \t\r\n"))[:4096]
 
 
-def shown(refused, files):
-    """The statements and lines that a refusal names, each after its file and its number."""
-    path, text = files[refused.text.startswith("contexts: ")]
-    every = text.split("\n")
-    is_whole = refused.text.startswith(("contexts: ", "rules: unsupported "))
-    found = [(line, every[line - 1] if is_whole else statement(every[line - 1 :])) for line in refused.lines]
+def shown(text, numbers, files):
+    """The statements and lines of these numbers that a refusal names, each after its file and its number."""
+    path, file = files[text.startswith("contexts: ")]
+    every = file.split("\n")
+    is_whole = text.startswith(("contexts: ", "rules: unsupported "))
+    found = [(line, every[line - 1] if is_whole else statement(every[line - 1 :])) for line in numbers]
     return lines(f"{path}:{line}: {text}" for line, text in found)
 
 
-def check(kind, rules, contexts, paths=None):
+def check(kind, rules, contexts, paths=None, is_all=False):
     """With two paths, what a refusal names is shown."""
     try:
         policy = read_policy(rules, contexts, kind)
     except Refused as refused:
+        refusals, numbers = [refused], refused.lines
+        if is_all:
+            refusals = refused.all
+            numbers = dict.fromkeys(line for found in refusals for line in found.lines)
         files = list(zip(paths, (rules, contexts))) if paths else None
-        return f"policy refused: {refused.text}\n", shown(refused, files) if paths else "", 1
+        told = lines(f"policy refused: {found.text}" for found in refusals)
+        return told, shown(refused.text, numbers, files) if paths else "", 1
     types, attributes, kept, labels = policy.counts()
     return f"policy ok: {types} types, {attributes} attributes, {kept} rules, {labels} labels\n", "", 0
 

@@ -215,6 +215,9 @@ def scripts_and_checks(program):
         texts = ("rules", DEVICE), ("broken", BROKEN), ("unopened", DEVICE.replace(OPENS, "")), ("labels", LABELS)
         for name, text in texts:
             (folder / name).write_text(text)
+        (["check", "--all", "rules", "labels"], 0, "policy ok: 6 types, 2 attributes, 8 rules, 2 labels\n", ""),
+        (["check", "--all", "--show", "broken", "labels"], 1, f"policy refused: {broken}", shown),
+        (["check", "--all", "nowhere", "labels"], 1, "", missing),
         script = f"{HELLO}\n1 add activity o1 0 8\n1 bye\n".encode()
         for words, status, told, said in asked:
             ended = subprocess.run([program, *words], cwd=folder, input=script, capture_output=True, timeout=PATIENCE)
@@ -450,6 +453,7 @@ def unread_answers(program):
             there, here = os.pipe()
             os.close(there)
             wait_until_nobody_reads(here)
+        ("check --all --show refused labels", 1),
             ended = subprocess.run(words, cwd=folder, stdout=here, stderr=subprocess.PIPE, timeout=PATIENCE)
             os.close(here)
             expect((ended.returncode, ended.stderr), (status, b""), f"{line} ends with, if nobody reads,")

@@ -42,13 +42,13 @@ pub fn check<W: Write>(
 
 /// The line of a check, and the refusal of the policy, if it is refused.
 #[derive(Drop)]
-struct Verdict {
-    line: Vec<u8>,
-    refusal: Option<PolicyFault>,
+pub struct Verdict {
+    pub line: Vec<u8>,
+    pub refusal: Option<PolicyFault>,
 }
 
-// Returns the verdict on two files.
-fn judge(alloc: Global, rules: &[u8], contexts: &[u8]) -> Result<Verdict, AllocError>
+/// Returns the verdict on two files.
+pub fn judge(alloc: Global, rules: &[u8], contexts: &[u8]) -> Result<Verdict, AllocError>
     ensures line { IfOk result (λ v. v.line.items ≡ spec.checked_line (prepared rules.now contexts.now)) }
     ensures refusal { IfOk result (λ v. v.refusal ≡ spec.refusal_in (prepared rules.now contexts.now)) }
 {

@@ -3,4 +3,4 @@
 
 mod checking;
 
-pub use checking::{check, refused_line};
+pub use checking::{Verdict, check, judge, refused_line};

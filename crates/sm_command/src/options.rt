@@ -19,8 +19,9 @@ use std::{env, io};
 pub enum Mode<'a> {
     /// `svcmgr run [--journal N] RULES CONTEXTS`
     Run,
-    /// `svcmgr check [--show] RULES CONTEXTS`, and whether what a refusal names is shown.
-    Check { show: bool },
+    /// `svcmgr check [--all] [--show] RULES CONTEXTS`: whether all broken neverallow rules are named, and whether what a
+    /// refusal names is shown.
+    Check { all: bool, show: bool },
     /// `svcmgr serve [--journal N] [--seal-at N] [--seal-bytes N] [--workers W] [--mode MODE] [--audit]
     /// [--audit-rate N] --socket PATH --admin PATH RULES CONTEXTS`
     Serve(Sockets<'a>),
@@ -147,6 +148,7 @@ fn options_under<'a>(name: &str, matches: &ArgMatches<'a>) -> Option<Options<'a>
         "run" => in_mode(Mode::Run, matches),
         "check" => in_mode(
             Mode::Check {
+                all: matches.get_flag("all"),
                 show: matches.get_flag("show"),
             },
             matches,

@@ -163,6 +163,13 @@ fn by_name<'a>(alloc: Global) -> Arg<'a> {
 fn show<'a>(alloc: Global) -> Arg<'a> {
     Arg::new(alloc, "show")
         .long("show")
+fn all<'a>(alloc: Global) -> Arg<'a> {
+    Arg::new(alloc, "all")
+        .long("all")
+        .help("Names each neverallow rule that is broken with each allow rule that breaks it")
+        .action(ArgAction::SetTrue)
+}
+
         .help("Shows the statements and lines that a refusal names, on standard error")
         .action(ArgAction::SetTrue)
 }

@@ -6,3 +6,4 @@ mod messages;
 mod policies;
 mod rule_texts;
 mod statements;
+mod violations;

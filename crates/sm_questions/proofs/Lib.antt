@@ -9,3 +9,5 @@ pub mod Parting
 pub mod Permissions
 pub mod Written
 pub mod Picked
+pub mod LineStarts
+pub mod Verdicts

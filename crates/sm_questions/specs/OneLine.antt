@@ -38,6 +38,10 @@ abbrev pub first_statement : List (List ℕ) → List ℕ
 first_statement [] = []
 first_statement (line ∷ further) = with_lines (with_words true [] (code line)) further
 
+-- This is that statement, or its first 4,096 bytes.
+abbrev pub shown_statement : List (List ℕ) → List ℕ
+shown_statement further = take 4096 (first_statement further)
+
 -- This is the statement of a line, or its first 4,096 bytes.
 abbrev pub statement_at : List ℕ → ℕ → List ℕ
-statement_at text number = take 4096 (first_statement (drop (number - 1) (lines text)))
+statement_at text number = shown_statement (drop (number - 1) (lines text))

@@ -94,11 +94,10 @@ fn lines_from(text: &[u8], number: u32) -> Lines<'_>
     lines
 }
 
-/// Returns the statement of a line on one line, or its first 4,096 bytes.
-pub fn statement_at(alloc: Global, text: &[u8], number: u32) -> Result<Vec<u8>, AllocError>
-    ensures { IfOk result (λ statement. statement.items ≡ spec.statement_at text.now number) }
+/// Returns the statement of the first of these lines on one line, or its first 4,096 bytes.
+pub fn first_statement(alloc: Global, mut lines: Lines) -> Result<Vec<u8>, AllocError>
+    ensures { IfOk result (λ statement. statement.items ≡ spec.shown_statement lines.entry) }
 {
-    let mut lines = lines_from(text, number);
     let mut statement = Vec::new(alloc);
     if let Some(line) = lines.take() {
         push_words(code_of(line), &mut statement)?;
@@ -106,4 +105,11 @@ pub fn statement_at(alloc: Global, text: &[u8], number: u32) -> Result<Vec<u8>, 
     }
     statement.truncate(MOST);
     Ok(statement)
+}
+
+/// Returns the statement of a line on one line, or its first 4,096 bytes.
+pub fn statement_at(alloc: Global, text: &[u8], number: u32) -> Result<Vec<u8>, AllocError>
+    ensures { IfOk result (λ statement. statement.items ≡ spec.statement_at text.now number) }
+{
+    first_statement(alloc, lines_from(text, number))
 }

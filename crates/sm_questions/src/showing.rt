@@ -49,7 +49,12 @@ fn push_statement(
     push_text(path, number, &statement, shown)
 }
 
-fn push_text(path: &[u8], number: u32, text: &[u8], shown: &mut Vec<u8>) -> Result<(), AllocError>
+pub fn push_text(
+    path: &[u8],
+    number: u32,
+    text: &[u8],
+    shown: &mut Vec<u8>,
+) -> Result<(), AllocError>
     ensures { OnOk result (shown.new.items
         ≡ shown.old.items ++ (path.now ++ numbered (codes ":") number ++ codes ": " ++ text.now ++ codes "\n")) }
 {

@@ -17,7 +17,7 @@ mod systemd;
 mod waking;
 
 use admin::administer;
-use checking::check_policy;
+use checking::{check_policy, check_rules};
 use clap::error::ErrorKind;
 use daemon::serve_policy;
 use journald::is_journal;
@@ -144,7 +144,8 @@ fn perform<'a, R: Files + Net + Threads + Wait + Clock + Sync>(
 ) -> Result<ExitCode, Ending<'a>> {
     match options.mode {
         Mode::Run => run_stdin(host, options),
-        Mode::Check { show } => check_policy(host, options, show),
+        Mode::Check { all: false, show } => check_policy(host, options, show),
+        Mode::Check { all: true, show } => check_rules(host, options, show),
         Mode::Serve(sockets) => Ok(serve(host, rt, options, sockets)),
         Mode::Ask(question) => Ok(ask(host, options, question)),
     }

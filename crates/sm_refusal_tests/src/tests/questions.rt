@@ -6,11 +6,11 @@ use sm_engine::{Counted, Fault};
 use sm_kinds::{Class, Perms, Word};
 use sm_policy::{PolicyFault, Prepared};
 use sm_questions::{
-    FilterOptions, Target, Unknown, access, diff, explain, label, read_filter, shown_lines,
-    unknown_text,
+    FilterOptions, Target, Unknown, access, all_shown_lines, check_all, diff, explain, label,
+    read_filter, shown_lines, unknown_text,
 };
 use sm_ruletext::RuleTextFault;
-use sm_samples::{DEVICE_RULES, stricter_rules};
+use sm_samples::{BROKEN_RULE, DEVICE_LABELS, DEVICE_RULES, device_rules_with, stricter_rules};
 use std::alloc::Global;
 use std::process::Abort;
 
@@ -110,6 +110,31 @@ fn shows_a_statement(rt: &impl Abort, alloc: Global) -> Option<()> {
     Some(())
 }
 
+const VIOLATION: &[u8] =
+    b"policy refused: neverallow at line 16 by allow at line 17: untrusted_app activity_service service_manager add\n";
+
+const SHOWN: &[u8] = b"t.te:16: neverallow untrusted_app *:service_manager add;
+t.te:17: allow untrusted_app activity_service:service_manager add;
+";
+
+fn tells_violations(rt: &impl Abort, alloc: Global, rules: &[u8]) -> Option<PolicyFault> {
+    let mut writer = Counted::new(Vec::new(alloc));
+    let (refusal, fault) = match check_all(alloc, rules, DEVICE_LABELS, &mut writer) {
+        Ok(refusal) => (refusal, None),
+        Err(fault) => (None, Some(fault)),
+    };
+    wrote(rt, fault, writer, VIOLATION)?;
+    refusal
+}
+
+fn shows_violations(rt: &impl Abort, alloc: Global) -> Option<()> {
+    let rules = device_rules_with(alloc, BROKEN_RULE).ok()?;
+    let fault = tells_violations(rt, alloc, &rules)?;
+    let shown = all_shown_lines(alloc, b"t.te", &rules, b"labels", DEVICE_LABELS, &fault).ok()?;
+    same_text(rt, &shown, SHOWN);
+    Some(())
+}
+
 fn answers(rt: &impl Abort, alloc: Global, old: &Prepared, new: &Prepared) {
     again!(rt; labels(rt, alloc, old));
     again!(rt; explains(rt, alloc, old));
@@ -118,6 +143,7 @@ fn answers(rt: &impl Abort, alloc: Global, old: &Prepared, new: &Prepared) {
     again!(rt; names_a_word(rt, alloc));
     again!(rt; shows_a_line(rt, alloc));
     again!(rt; shows_a_statement(rt, alloc));
+    again!(rt; shows_violations(rt, alloc));
 }
 
 fn asks(rt: &impl Abort, alloc: Global) -> Option<()> {

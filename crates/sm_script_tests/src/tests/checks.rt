@@ -5,6 +5,8 @@ use super::lines::same_lines;
 use sm_check::check;
 use sm_engine::{Counted, Fault};
 use sm_kinds::push_numbered;
+use sm_policy::Prepared;
+use sm_questions::{all_shown_lines, check_all};
 use sm_samples::{BROKEN_RULE, DEVICE_LABELS, DEVICE_RULES, FailAt, OneByte};
 use std::alloc::{AllocError, Global};
 use std::io::Write;
@@ -143,6 +145,62 @@ fn a_policy_of_a_phones_size(rt: HostRuntime) {
     let line =
         b"policy refused: neverallow at line 32513 by allow at line 33501: t1999 t3 service_manager add\n";
     assert!(rt; !tells(&rt, rt.alloc(), &rules, b"* u:r:t0", line));
+}
+
+// Files, the lines of a check with all violations, and the statements that are shown.
+struct Judged {
+    rules: &'static [u8],
+    contexts: &'static [u8],
+    lines: &'static [u8],
+    shown: &'static [u8],
+}
+
+const JUDGED: &[Judged] = &[
+    Judged {
+        rules: b"type a;\nneverallow a a:binder call;\nallow a a:binder transfer;",
+        contexts: b"* u:r:a",
+        lines: b"policy ok: 1 types, 0 attributes, 2 rules, 1 labels\n",
+        shown: b"",
+    },
+    // Of other faults the first one alone, also where neverallow rules are broken.
+    Judged {
+        rules: b"type a;\nneverallow a a:binder call;\nallow a a:binder call;\nallow a a:binder *;",
+        contexts: b"* u:r:b",
+        lines: b"policy refused: contexts: undeclared type at line 1\n",
+        shown: b"labels:1: * u:r:b\n",
+    },
+    // Rules that follow each other, and statements of which two are on one line and one on two.
+    Judged {
+        rules: b"type a; type b;\nallow a b:binder call; allow b a:binder call;\nallow a {\n  a b }:binder *;\n\
+            neverallow b a:binder { call transfer };\nneverallow b b:binder call;\nneverallow a *:binder call;\n",
+        contexts: b"* u:r:a",
+        lines: b"policy refused: neverallow at line 5 by allow at line 2: b a binder call\n\
+            policy refused: neverallow at line 7 by allow at line 2: a b binder call\n\
+            policy refused: neverallow at line 7 by allow at line 3: a a binder call\n",
+        shown: b"t.te:5: neverallow b a:binder { call transfer };\n\
+            t.te:2: allow a b:binder call; allow b a:binder call;\n\
+            t.te:7: neverallow a *:binder call;\nt.te:3: allow a { a b }:binder *;\n",
+    },
+];
+
+fn judges(rt: &impl Abort, alloc: Global, judged: &Judged) {
+    let (rules, contexts) = (judged.rules, judged.contexts);
+    let mut writer = Counted::new(Vec::new(alloc));
+    let refusal = check_all(alloc, rules, contexts, &mut writer);
+    same_lines(rt, rules, &writer.into_inner(), judged.lines);
+    let Some(fault) = refusal.ok().expect(rt, "lines") else {
+        assert!(rt; Prepared::from_texts(alloc, rules, contexts).is_ok());
+        return;
+    };
+    let shown = all_shown_lines(alloc, b"t.te", rules, b"labels", contexts, &fault);
+    same_lines(rt, rules, &shown.ok().expect(rt, "memory"), judged.shown);
+}
+
+#[test]
+fn all_violations_are_told(rt: HostRuntime) {
+    for judged in JUDGED {
+        judges(&rt, rt.alloc(), judged);
+    }
 }
 
 // Checks a device's policy: whether it is accepted, and how many writes failed.

@@ -43,10 +43,28 @@ const ACCEPTED: &[(&str, Mode, u32)] = &[
     ("svcmgr run r c", Mode::Run, 1_048_576),
     ("svcmgr run --journal 2 r c", Mode::Run, 2),
     ("svcmgr run r c --journal 1048576", Mode::Run, 1_048_576),
-    ("svcmgr check r c", Mode::Check { show: false }, 1_048_576),
+    (
+        "svcmgr check r c",
+        Mode::Check {
+            all: false,
+            show: false,
+        },
+        1_048_576,
+    ),
     (
         "svcmgr check --show r c",
-        Mode::Check { show: true },
+        Mode::Check {
+            all: false,
+            show: true,
+        },
+        1_048_576,
+    ),
+    (
+        "svcmgr check r --all c",
+        Mode::Check {
+            all: true,
+            show: false,
+        },
         1_048_576,
     ),
     (

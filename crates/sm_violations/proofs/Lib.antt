@@ -1,0 +1,7 @@
+pub mod Blocks
+pub mod Left
+pub mod Members
+pub mod Pairs
+pub mod Refusals
+pub mod Steps
+pub mod Truths
