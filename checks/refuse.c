@@ -5,8 +5,8 @@
  * behind them: while the third isn't 0, all allocations are refused; the fourth counts calls of accept4. ACCEPT_FAILS_AT is the number of the call of accept4 that
  * fails with the error whose number is in ACCEPT_ERROR; LISTEN_FAILS_AT and LISTEN_ERROR are the same of listen. Before
  * the first call of flock the file that FLOCK_REMOVES names is removed, and made again if FLOCK_MAKES is 1, as another
- * process may do between the open and the lock. The time limits of receiving are divided by RECEIVES_FASTER. For Linux
- * with glibc. */
+ * process may do between the open and the lock. The time limits of receiving are divided by RECEIVES_FASTER. The process
+ * at the other end of each socket has the context that is in PEER_CONTEXT, as SELinux gives it. For Linux with glibc. */
 
 #define _GNU_SOURCE
 
@@ -17,6 +17,7 @@
 #include <stddef.h>
 #include <stdint.h>
 #include <stdlib.h>
+#include <string.h>
 #include <sys/file.h>
 #include <sys/mman.h>
 #include <sys/socket.h>
@@ -166,4 +167,22 @@ int setsockopt(int socket, int level, int name, const void *value, socklen_t len
     uint64_t micros = (given->tv_sec * 1000000 + given->tv_usec) / receives_faster;
     struct timeval less = {.tv_sec = micros / 1000000, .tv_usec = micros % 1000000};
     return really(socket, level, name, &less, sizeof less);
+}
+
+int getsockopt(int socket, int level, int name, void *restrict value, socklen_t *restrict length)
+{
+    static int (*really)(int, int, int, void *restrict, socklen_t *restrict);
+    if (!really)
+        *(void **)&really = dlsym(RTLD_NEXT, "getsockopt");
+    const char *context = getenv("PEER_CONTEXT");
+    if (!context || level != SOL_SOCKET || name != SO_PEERSEC)
+        return really(socket, level, name, value, length);
+    socklen_t room = *length;
+    *length = strlen(context) + 1;
+    if (room < *length) {
+        errno = ERANGE;
+        return -1;
+    }
+    memcpy(value, context, *length);
+    return 0;
 }

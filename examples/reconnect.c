@@ -1,4 +1,4 @@
-/* Offers a service, and registers it again after svcmgr was restarted: reconnect SOCKET CONTEXT NAME.
+/* Offers a service, and registers it again after svcmgr was restarted: reconnect SOCKET NAME [CONTEXT].
  * Does what reconnect.py does. Compiled by `cc -Wall -Wextra -Werror -o reconnect reconnect.c`. */
 
 #define _POSIX_C_SOURCE 200809L
@@ -58,22 +58,54 @@ static void serve(FILE *replies)
     }
 }
 
+/* Takes svcmgr's answer to a `hello` from a doorkeeper. Returns the connection to svcmgr that comes with it. From a
+ * doorkeeper that relays none comes: it is the same one then. */
+static int enter(int door)
+{
+    union {
+        struct cmsghdr header;
+        char bytes[CMSG_SPACE(sizeof(int))];
+    } passed;
+    struct iovec line = {answer, sizeof answer - 1};
+    struct msghdr message = {
+        .msg_iov = &line, .msg_iovlen = 1, .msg_control = &passed, .msg_controllen = sizeof passed};
+    ssize_t length = recvmsg(door, &message, 0);
+    answer[length > 0 ? length : 0] = 0;
+    if (!strchr(answer, '\n'))
+        strcpy(answer, "the connection ended");
+    answer[strcspn(answer, "\n")] = 0;
+    struct cmsghdr *header = length > 0 ? CMSG_FIRSTHDR(&message) : NULL;
+    if (!header || header->cmsg_level != SOL_SOCKET || header->cmsg_type != SCM_RIGHTS)
+        return door;
+    int stream;
+    memcpy(&stream, CMSG_DATA(header), sizeof stream);
+    close(door);
+    return stream;
+}
+
 /* Connects, registers and serves. Returns whether the name was registered; `answer` says why it ends. */
-static bool visit(const char *path, const char *context, const char *name)
+static bool visit(const char *path, const char *name, const char *context)
 {
     struct sockaddr_un address = {.sun_family = AF_UNIX};
     strcpy(address.sun_path, path);
     int stream = socket(AF_UNIX, SOCK_STREAM, 0);
-    FILE *replies = stream < 0 ? NULL : fdopen(stream, "r");
-    if (!replies || connect(stream, (struct sockaddr *)&address, sizeof address) != 0) {
+    if (stream < 0 || connect(stream, (struct sockaddr *)&address, sizeof address) != 0) {
         strcpy(answer, strerror(errno));
-        replies ? fclose(replies) : close(stream);
+        close(stream);
         return false;
     }
-    bool is_registered = ask(replies, "client ", "hello %d %u %s\n", getpid(), getuid(), context);
+    stream = context ? stream : enter(stream);
+    FILE *replies = fdopen(stream, "r");
+    if (!replies) {
+        strcpy(answer, strerror(errno));
+        close(stream);
+        return false;
+    }
+    bool is_client = context ? ask(replies, "client ", "hello %d %u %s\n", getpid(), getuid(), context)
+                             : strncmp(answer, "client ", strlen("client ")) == 0;
     char client[32];
     snprintf(client, sizeof client, "%.31s", answer);
-    is_registered = is_registered && ask(replies, "ok", "add %s o1 0 8\n", name);
+    bool is_registered = is_client && ask(replies, "ok", "add %s o1 0 8\n", name);
     if (is_registered) {
         fprintf(stderr, "%s is registered by %s\n", name, client);
         serve(replies);
@@ -84,8 +116,8 @@ static bool visit(const char *path, const char *context, const char *name)
 
 int main(int count, char **words)
 {
-    if (count != 4 || strlen(words[1]) >= sizeof(struct sockaddr_un){0}.sun_path) {
-        fprintf(stderr, "usage: reconnect SOCKET CONTEXT NAME\n");
+    if (count < 3 || count > 4 || strlen(words[1]) >= sizeof(struct sockaddr_un){0}.sun_path) {
+        fprintf(stderr, "usage: reconnect SOCKET NAME [CONTEXT]\n");
         return 2;
     }
     signal(SIGPIPE, SIG_IGN);

@@ -1,8 +1,8 @@
 #!/usr/bin/env python3
-"""Offers a service, and registers it again after svcmgr was restarted: reconnect.py SOCKET CONTEXT NAME.
+"""Offers a service, and registers it again after svcmgr was restarted: reconnect.py SOCKET NAME [CONTEXT].
 
-Prints the calls that it gets. If the connection ends or a request is refused, it begins again after a pause, which
-doubles from one failed try to the next."""
+The socket is a doorkeeper's, or svcmgr's own if a context is given. Prints the calls that it gets. If the connection
+ends or a request is refused, it begins again after a pause, which doubles from one failed try to the next."""
 
 import os
 import socket
@@ -13,11 +13,8 @@ import time
 BETWEEN, FIRST, LONGEST = 0.1, 0.1, 5.0
 
 
-def ask(stream, request, wanted=""):
-    """The answer to a request, which must begin with the wanted word."""
-    stream.write(f"{request}\n")
-    stream.flush()
-    answer = stream.readline()
+def checked(request, answer, wanted):
+    """The answer to a request without its newline. It must begin with the wanted word."""
     if not answer.endswith("\n"):
         raise ConnectionError("the connection ended")
     if not answer.startswith(wanted):
@@ -25,10 +22,26 @@ def ask(stream, request, wanted=""):
     return answer.rstrip("\n")
 
 
-def register(stream):
-    client = ask(stream, f"hello {os.getpid()} {os.getuid()} {context}", "client ")
-    ask(stream, f"add {name} o1 0 8", "ok")
-    print(f"{name} is registered by {client}", file=sys.stderr)
+def ask(stream, request, wanted=""):
+    """Sends a request, and reads its answer."""
+    stream.write(f"{request}\n")
+    stream.flush()
+    return checked(request, stream.readline(), wanted)
+
+
+def connected():
+    """The connection to svcmgr, as a file of lines, and the answer to this process's `hello`."""
+    with socket.socket(socket.AF_UNIX) as stream:
+        stream.connect(path)
+        if context:
+            # A socket is open as long as a file of it.
+            lines = stream.makefile("rw")
+            return lines, ask(lines, f"hello {os.getpid()} {os.getuid()} {context[0]}", "client ")
+        answer, passed, _, _ = socket.recv_fds(stream, 4096, 1)
+        client = checked("hello", answer.decode(), "client ")
+        # A doorkeeper that relays passes nothing on: this is the connection then.
+        with socket.socket(fileno=passed[0]) if passed else stream as connection:
+            return connection.makefile("rw"), client
 
 
 def serve(stream):
@@ -44,16 +57,16 @@ def serve(stream):
                 ask(stream, f"release {word[1:]}", "ok")
 
 
-path, context, name = sys.argv[1:]
+path, name, *context = sys.argv[1:]
 pause = FIRST
 while True:
     try:
-        with socket.socket(socket.AF_UNIX) as connection:
-            connection.connect(path)
-            with connection.makefile("rw") as lines:
-                register(lines)
-                pause = FIRST
-                serve(lines)
+        stream, client = connected()
+        with stream:
+            ask(stream, f"add {name} o1 0 8", "ok")
+            print(f"{name} is registered by {client}", file=sys.stderr)
+            pause = FIRST
+            serve(stream)
     except OSError as fault:
         print(f"{path}: {fault.strerror or fault}; next try in {pause:.1f} s", file=sys.stderr)
     time.sleep(pause)

@@ -123,7 +123,8 @@ def page_of_compiled_policies(program):
 
 
 # Sources the completion, and prints what it completes the last of its words to.
-COMPLETE = """source "$0" && COMP_WORDS=("$@") COMP_CWORD=$(($# - 1)) && _svcmgr && printf '%s\n' "${COMPREPLY[@]}" """
+COMPLETE = """source "$0" && COMP_WORDS=("$@") COMP_CWORD=$(($# - 1)) && "_${1//-/_}" &&
+    printf '%s\n' "${COMPREPLY[@]}" """
 
 # Command lines in a folder with the files `labels` and `rules`, and what their last word is completed to.
 COMPLETED = [
@@ -145,6 +146,13 @@ COMPLETED = [
     ("svcmgr access --class binder ", "labels rules"),
     ("svcmgr access --source ", "labels rules"),
     ("svcmgr diff rules labels n", ""),
+    ("svcmgr-doorkeeper --re", "--relay"),
+    ("svcmgr-doorkeeper --relay --mo", "--mode"),
+    ("svcmgr-doorkeeper --socket ", "labels rules"),
+    ("svcmgr-doorkeeper --socket rules --server l", "labels"),
+    ("svcmgr-doorkeeper --contexts r", "rules"),
+    ("svcmgr-doorkeeper --seats ", ""),
+    ("svcmgr-doorkeeper --mode 6", ""),
 ]
 
 
@@ -207,6 +215,9 @@ def scripts_and_checks(program):
         (["check", "broken", "labels"], 1, f"policy refused: {broken}", ""),
         (["check", "--show", "broken", "labels"], 1, f"policy refused: {broken}", shown),
         (["check", "--show", "rules", "labels"], 0, "policy ok: 6 types, 2 attributes, 8 rules, 2 labels\n", ""),
+        (["check", "--all", "rules", "labels"], 0, "policy ok: 6 types, 2 attributes, 8 rules, 2 labels\n", ""),
+        (["check", "--all", "--show", "broken", "labels"], 1, f"policy refused: {broken}", shown),
+        (["check", "--all", "nowhere", "labels"], 1, "", missing),
         (["check", "unopened", "labels"], 0, "policy ok: 6 types, 2 attributes, 7 rules, 2 labels\n", ""),
         (["check", "nowhere", "labels"], 1, "", missing),
         (["serve", "--socket", "s", "--admin", "a", "unopened", "labels"], 1, "", denied),
@@ -215,9 +226,6 @@ def scripts_and_checks(program):
         texts = ("rules", DEVICE), ("broken", BROKEN), ("unopened", DEVICE.replace(OPENS, "")), ("labels", LABELS)
         for name, text in texts:
             (folder / name).write_text(text)
-        (["check", "--all", "rules", "labels"], 0, "policy ok: 6 types, 2 attributes, 8 rules, 2 labels\n", ""),
-        (["check", "--all", "--show", "broken", "labels"], 1, f"policy refused: {broken}", shown),
-        (["check", "--all", "nowhere", "labels"], 1, "", missing),
         script = f"{HELLO}\n1 add activity o1 0 8\n1 bye\n".encode()
         for words, status, told, said in asked:
             ended = subprocess.run([program, *words], cwd=folder, input=script, capture_output=True, timeout=PATIENCE)
@@ -445,6 +453,7 @@ def unread_answers(program):
         ("explain rules labels untrusted_app activity_service service_manager find", 1),
         ("diff rules labels new newlabels", 1),
         ("label refused labels activity", 2),
+        ("check --all --show refused labels", 1),
     ]
     with room() as folder:
         tour_in(folder)
@@ -453,11 +462,10 @@ def unread_answers(program):
             there, here = os.pipe()
             os.close(there)
             wait_until_nobody_reads(here)
-        ("check --all --show refused labels", 1),
             ended = subprocess.run(words, cwd=folder, stdout=here, stderr=subprocess.PIPE, timeout=PATIENCE)
             os.close(here)
             expect((ended.returncode, ended.stderr), (status, b""), f"{line} ends with, if nobody reads,")
             with open("/dev/full", "wb") as full:
                 ended = subprocess.run(words, cwd=folder, stdout=full, stderr=subprocess.PIPE, timeout=PATIENCE)
-            came = ended.returncode, ended.stderr
-            expect(came, (2, b"fault: a write failed\n"), f"{line} ends with, if the disk is full,")
+            came, status = (ended.returncode, ended.stderr), 1 if words[1] == "check" else 2
+            expect(came, (status, b"fault: a write failed\n"), f"{line} ends with, if the disk is full,")

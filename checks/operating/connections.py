@@ -36,6 +36,22 @@ def slow_connections(program):
 
 
 @check
+def many_silent_connections(program):
+    """While others wait, each worker gives one up after a second, or two if it looks too early."""
+    workers, each = 8, 3
+    with served(program, "--workers", str(workers)) as server, contextlib.ExitStack() as rest:
+        silent = [rest.enter_context(server.client()) for _ in range(workers * each)]
+        began = time.monotonic()
+        with server.client() as client:
+            talk(client, (HELLO, "client 1"))
+            took = time.monotonic() - began
+            ended = sum(bool(select.select([one.stream], [], [], 0)[0]) for one in silent)
+            expect(ended > workers * (each - 1), True, f"{ended} of {len(silent)} silent connections have ended")
+            if took > 4 * each + MARGIN:
+                raise Wrong(f"a client waited {took:.1f} seconds for {each} silent connections of each worker")
+
+
+@check
 def slow_hello(program):
     """A client that sends its `hello` byte by byte has ten seconds for it."""
     with served(program) as server, server.client() as client:

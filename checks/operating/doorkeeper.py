@@ -1,4 +1,4 @@
-"""The doorkeeper: clients with the identities that the kernel gives, their shares, and what may go wrong at a door."""
+"""The doorkeeper: clients with the identities that the kernel gives, and what may go wrong at a door."""
 
 import contextlib
 import ctypes
@@ -8,7 +8,6 @@ import os
 import re
 import resource
 import select
-import shutil
 import signal
 import socket
 import stat
@@ -20,14 +19,14 @@ import time
 from concurrent.futures import ThreadPoolExecutor
 from pathlib import Path
 
+from operating.command_lines import completed, options_in
 from operating.connections import counted, tries_ten_times_a_second
 from operating.servers import LIMIT, MARGIN, OTHER_HELLO, Daemon, Server
-from operating.servers import check, comes_true, expect, is_over, is_refused, room, served, talk
+from operating.servers import check, comes_true, expect, fill, is_over, is_refused, room, served, supervisor, talk
 from talking import APPLICATION, PATIENCE, ROOT, SERVICE, Connection, LeftOut, Wrong
 
 DOORKEEPER = ROOT / "examples" / "doorkeeper"
 
-TOO_MANY = "failed too-many-clients\n"
 IN_USE = "Address already in use"
 
 # What a user is answered who may list names, and one who may not.
@@ -111,13 +110,6 @@ def as_user(uid):
 def entered_as(uid, door):
     with as_user(uid):
         return Passed(door.path)
-
-
-def let_in_as(uid, door):
-    """A client of a user who has room. Another check's process may have a copy of a closed connection for a moment."""
-    clients = []
-    comes_true(lambda: clients.append(entered_as(uid, door)) or clients[-1].is_in, f"a client of {uid} is let in")
-    return clients[-1]
 
 
 def waits(path):
@@ -208,6 +200,44 @@ def doorkeeper_of_one_after_another(program):
 
 
 @check
+def doorkeepers_that_are_killed_meanwhile(program):
+    """Of a thousand clients, who was let in goes on, and who wasn't comes again. No connection is left behind."""
+
+    def visit(path):
+        clients = []
+        comes_true(lambda: is_in_now(path, clients), "a client is let in")
+        with clients[0] as client:
+            talk(client, ("get activity", "null"))
+            time.sleep(0.02)
+            talk(client, ("get activity", "null"), ("bye", "bye"))
+
+    with served(program) as server, ThreadPoolExecutor(8) as pool, contextlib.ExitStack() as all_of_them:
+        door = all_of_them.enter_context(Door(server)).listens()
+        visits = [pool.submit(visit, door.path) for _ in range(1000)]
+        all_of_them.callback(pool.shutdown, cancel_futures=True)
+        for _ in range(5):
+            time.sleep(0.2)
+            door.child.kill()
+            door.child.wait()
+            door = all_of_them.enter_context(Door(server)).listens()
+        for one in visits:
+            one.result()
+        for _ in range(16):
+            all_of_them.enter_context(door.enter())
+
+
+def is_in_now(path, clients):
+    """Whether a client is let in, which is added then. Nobody may be listening, or the doorkeeper may end meanwhile."""
+    with contextlib.suppress(ConnectionError, FileNotFoundError):
+        client = Passed(path)
+        if client.is_in:
+            clients.append(client)
+        else:
+            client.stream.close()
+    return clients
+
+
+@check
 def doorkeeper_of_many_at_once(program):
     """Those that svcmgr has no worker for yet wait."""
 
@@ -241,6 +271,18 @@ def doorkeeper_of_silent_clients(program):
             client.stream.close()
         first.stream.close()
         is_let_in(silent[4])
+
+
+@check
+def doorkeeper_of_clients_that_have_left(program):
+    """svcmgr doesn't hear of who has left before it is accepted, so neither client numbers nor slots are used up."""
+    with opened(program) as (_, door):
+        door.child.send_signal(signal.SIGSTOP)
+        os.waitpid(door.child.pid, os.WUNTRACED)
+        for _ in range(100):
+            Connection(door.path).stream.close()
+        door.child.send_signal(signal.SIGCONT)
+        expect(door.enter().answer, "client 1\n", "the first client that stays is answered")
 
 
 # ---- starts, ends and shortages
@@ -289,13 +331,19 @@ def doorkeepers_that_start_at_once(program):
 
 @check
 def doorkeeper_that_is_ready(program):
-    """systemd is told when clients can connect."""
-    with served(program) as server, socket.socket(socket.AF_UNIX, socket.SOCK_DGRAM) as supervisor:
-        supervisor.bind(str(server.folder / "supervisor"))
-        supervisor.settimeout(PATIENCE)
-        with Door(server, env=os.environ | {"NOTIFY_SOCKET": str(server.folder / "supervisor")}) as door:
-            expect(supervisor.recv(100), b"READY=1", "systemd is told")
-            door.enter().stream.close()
+    """systemd is told when clients can connect. If it takes nothing or isn't there, they can all the same."""
+    with served(program) as server:
+        for name in f"{server.folder}/supervisor", f"@{server.folder}/supervisor":
+            env = os.environ | {"NOTIFY_SOCKET": name}
+            with supervisor(name) as told:
+                with Door(server, env=env) as door:
+                    expect(told.recv(100), b"READY=1", "systemd is told")
+                    door.enter().stream.close()
+                fill(told)
+                with Door(server, env=env) as door:
+                    door.listens().enter().stream.close()
+            with Door(server, env=env) as door:
+                door.listens().enter().stream.close()
 
 
 @check
@@ -410,16 +458,21 @@ def doorkeeper_with_a_closed_standard_error(program):
 # ---- the table of contexts
 
 
+def has_context_of(client, answer):
+    """A client has the context whose `list` is answered so."""
+    with client:
+        came = client.ask("list 15")
+        if not answer.fullmatch(came):
+            raise Wrong(f"a client may not have another context: `list` is answered {came!r}")
+
+
 @check
 def doorkeeper_with_a_table(program):
     user = os.getuid()
     with opened(program) as (_, door):
 
         def lists(answer):
-            with door.enter() as client:
-                came = client.ask("list 15")
-                if not answer.fullmatch(came):
-                    raise Wrong(f"a client may not have another context: `list` is answered {came!r}")
+            has_context_of(door.enter(), answer)
 
         lists(LIST)
         door.table.write_text(f"# {user} {SERVICE}\n\n  * {APPLICATION} # all others\n")
@@ -427,11 +480,12 @@ def doorkeeper_with_a_table(program):
         door.table.write_text(f"* {APPLICATION}\n{user}\t{SERVICE}\n")
         lists(LIST)
         bad = ["root " + SERVICE, f"1 {SERVICE}", "1", f"1 {SERVICE}", "2 u:r", f"03 {SERVICE}", f"4 {SERVICE} x"]
+        bad += [f"4294967295 {SERVICE}"]
         door.table.write_text("\n".join([f"{user} {APPLICATION}", "# good", *bad, f"* {APPLICATION}"]))
         lists(LIST)
         form = "not a user's number or * and a context"
-        faults = [(3, form), (5, form), (6, "user 1 has a line before"), (7, form), (8, form), (9, form)]
-        for number, fault in [*faults, (10, "its end is missing")]:
+        faults = [(3, form), (5, form), (6, "user 1 has a line before"), (7, form), (8, form), (9, form), (10, form)]
+        for number, fault in [*faults, (11, "its end is missing")]:
             door.says(f"warning: {door.table}: line {number}: {fault}\n")
         lists(LIST)
         door.says_no_more()
@@ -464,149 +518,46 @@ def doorkeeper_with_a_bad_table_at_the_start(program):
             door.ends(f"fault: {folder / 'none'}: No such file or directory\n")
 
 
+@contextlib.contextmanager
+def without_a_table(server, **others):
+    """A doorkeeper that takes the kernel's contexts, and where it listens."""
+    path = server.folder / "door"
+    with Daemon([DOORKEEPER, "--socket", path, "--server", server.clients], **others) as door:
+        door.says(f"listening at {path} for svcmgr at {server.clients}\n")
+        yield door, path
+
+
+def turns_away(door, path):
+    with Connection(path) as client:
+        expect(is_over(client), True, "the connection of a process without a context is over")
+    door.says(f"warning: process {os.getpid()} of user {os.getuid()} has no context\n")
+
+
 @check
 def doorkeeper_without_a_table(program):
     """Without a table a process has the context that SELinux gives it, or none."""
+    with served(program) as server, without_a_table(server) as (door, path):
+        if Path("/sys/fs/selinux/enforce").exists():
+            expect(Passed(path).is_in, True, "a process with a context is let in")
+        else:
+            turns_away(door, path)
+
+
+@check
+def doorkeeper_with_contexts_of_the_kernel(program, shim):
+    """A context is taken as SELinux gives it, and what another security module gives is none."""
     with served(program) as server:
-        words = [DOORKEEPER, "--socket", server.folder / "door", "--server", server.clients]
-        with Daemon(words) as door:
-            door.says(f"listening at {server.folder / 'door'} for svcmgr at {server.clients}\n")
-            if Path("/sys/fs/selinux/enforce").exists():
-                expect(Passed(server.folder / "door").is_in, True, "a process with a context is let in")
-                return
-            with Connection(server.folder / "door") as client:
-                expect(is_over(client), True, "the connection of a process without a context is over")
-            door.says(f"warning: process {os.getpid()} of user {os.getuid()} has no context\n")
 
+        def opened_for(context):
+            return without_a_table(server, env=os.environ | {"LD_PRELOAD": shim, "PEER_CONTEXT": context})
 
-# ---- shares
-
-
-@check
-def doorkeeper_with_shares(program):
-    """No user gets more than half of the seats that others leave free, and what is closed is free again."""
-    need_users()
-    with opened(program, server=("--workers", "16")) as (_, door), contextlib.ExitStack() as all_of_them:
-        door.table.write_text(f"0 {SERVICE}\n* {APPLICATION}\n")
-
-        def let_in(uid):
-            return all_of_them.enter_context(let_in_as(uid, door))
-
-        def fill(uid, number):
-            clients = [let_in(uid) for _ in range(number)]
-            refused = entered_as(uid, door)
-            expect((refused.answer, refused.is_in), (TOO_MANY, False), f"one more client of {uid} is answered")
-            return clients
-
-        mine = fill(10007, 8)
-        door.says(f"warning: user 10007 has its share of the seats: process {os.getpid()} is refused\n")
-        # Closed by the client, and by svcmgr.
-        for _ in range(20):
-            mine.pop(0).stream.close()
-            mine.append(let_in(10007))
-        talk(mine[0], ("bye", "bye"))
-        expect(is_over(mine[0]), True, "the connection is over after `bye`")
-        fill(10007, 1)
-        fill(10008, 4)
-        fill(10009, 2)
-        for _ in range(2):
-            talk(all_of_them.enter_context(door.enter()), ("get activity", "null"))
-
-
-@check
-def doorkeeper_with_shares_of_those_who_wait(program):
-    """Who waits for svcmgr has a seat, too. The number of seats is an option."""
-    need_users()
-    with opened(program, "--seats", "6", server=("--workers", "1")) as (_, door), contextlib.ExitStack() as all_of_them:
-        first = all_of_them.enter_context(entered_as(10007, door))
-        with as_user(10007):
-            waiting = [all_of_them.enter_context(waits(door.path)) for _ in range(2)]
-        files = door.files()
-        expect(entered_as(10007, door).answer, TOO_MANY, "one more client is answered")
-        waiting[0].stream.close()
-        door.has_files(files - 2)
-        with as_user(10007):
-            waiting[0] = all_of_them.enter_context(waits(door.path))
-        first.stream.close()
-        all_are_let_in(waiting)
-
-
-@check
-def doorkeeper_with_shares_of_other_processes(program):
-    """A seat is free when the last process that has the connection has ended, whoever opened it."""
-    need_users()
-    with opened(program, "--seats", "2") as (_, door):
-        with entered_as(10007, door) as client:
-            other = subprocess.Popen(["sleep", str(3 * PATIENCE)], pass_fds=[client.stream.fileno()])
-        with other:
-            expect(entered_as(10007, door).answer, TOO_MANY, "a client is answered while another process is connected")
-            other.kill()
-        let_in_as(10007, door).stream.close()
-
-
-@check
-def doorkeeper_with_users_without_a_share(program):
-    """Root and the doorkeeper's own user are let in whatever they have, and what they have is taken."""
-    need_users()
-    own = 10009
-    with served(program, "--mode", "666") as server, contextlib.ExitStack() as all_of_them:
-        # The own user may not be able to read this repository.
-        copy = shutil.copy(DOORKEEPER, server.folder)
-        os.chown(server.folder, own, -1)
-        (server.folder / "users").write_text(f"* {APPLICATION}\n")
-        with Door(server, "--seats", "8", doorkeeper=copy, user=own) as door:
-            door.listens()
-            for uid, answer in [(10007, "client "), *[(0, "client "), (own, "client ")] * 3, (10007, TOO_MANY)]:
-                client = all_of_them.enter_context(entered_as(uid, door))
-                expect(client.answer[: len(answer)], answer, f"a client of {uid} is answered")
-
-
-@check
-def doorkeeper_with_shares_of_relayed_clients(program):
-    """Each has a seat until its connection ends."""
-    need_users()
-    with opened(program, "--relay", "--seats", "4") as (_, door):
-
-        def enter():
-            with as_user(10007):
-                client = Connection(door.path)
-            if client.lines.line() != TOO_MANY:
-                return client
-            expect(is_over(client), True, "the connection of a refused client is over")
-            client.stream.close()
-            return None
-
-        clients = [enter() for _ in range(3)]
-        expect([client is not None for client in clients], [True, True, False], "relayed clients are let in")
-        clients[0].stream.close()
-        comes_true(enter, "a client is let in after another one has gone")
-
-
-@check
-def doorkeeper_that_says_who_is_refused(program):
-    """One line for each user, until the user gets a seat again, and no more than one in ten seconds."""
-    need_users()
-    with opened(program, "--seats", "3") as (_, door):
-        door.table.write_text(f"* {APPLICATION}\n")
-
-        def refuse(uid, says=False, more=""):
-            expect(entered_as(uid, door).answer, TOO_MANY, f"a client of {uid} is answered")
-            if says:
-                door.says(f"warning: user {uid} has its share of the seats: process {os.getpid()} is refused{more}\n")
-            door.says_no_more()
-
-        with let_in_as(10007, door):
-            with let_in_as(10008, door):
-                refuse(10007, says=True)
-                refuse(10008, says=True)
-            with let_in_as(10008, door):
-                refuse(10007)
-                refuse(10008)
-                time.sleep(LIMIT + 1)
-                refuse(10007)
-                refuse(10008, says=True, more=" (1 more since the last such line)")
-        with let_in_as(10007, door):
-            refuse(10007, says=True)
+        longest = f"{SERVICE}:{'c' * (1022 - len(SERVICE))}"
+        for context, answer in (SERVICE, LIST), (APPLICATION, LIST_DENIED), (longest, LIST):
+            with opened_for(context) as (_, path):
+                has_context_of(Passed(path), answer)
+        for context in "unconfined", "/usr/bin/app (enforce)", "u:r:x y", f"{longest}c", "":
+            with opened_for(context) as (door, path):
+                turns_away(door, path)
 
 
 # ---- clients that are relayed
@@ -726,14 +677,17 @@ def doorkeeper_that_relays_with_too_few_files(program):
 
 @check
 def doorkeeper_options(_):
-    """The manual page has the options of `--help`, and no others. What is no option has status 2."""
+    """The manual page and the completion have the options of `--help`. What is no option has status 2."""
     ended = subprocess.run([DOORKEEPER, "--help"], capture_output=True, text=True, timeout=PATIENCE)
     expect((ended.returncode, ended.stderr), (0, ""), "--help ends with")
+    options = options_in(ended.stdout)
     manual = re.findall(r"\.?Fl -([a-z-]+)", (ROOT / "docs" / "svcmgr-doorkeeper.8").read_text())
-    expect({f"--{name}" for name in manual}, set(re.findall(r"--[a-z]+", ended.stdout)), "svcmgr-doorkeeper.8 has")
+    expect({f"--{name}" for name in manual}, options, "svcmgr-doorkeeper.8 has")
+    expect(completed("svcmgr-doorkeeper "), options, "svcmgr-doorkeeper is completed to")
     with room() as folder:
         given = "--socket", folder / "s", "--server", folder / "t"
         wrong = [["--mode", "778"], ["--mode", "1777"], ["--seats", "1"], ["--seats", "+2"], ["--server", folder / "s"]]
+        wrong += [["--seat", "3"], ["--rel"]]
         for words in [], given[:2], [*given, "more"], *([*given, *words] for words in wrong):
             with Daemon([DOORKEEPER, *words]) as door:
                 door.has_ended(status=2)

@@ -17,6 +17,7 @@ COPIES = {
     "etc/svcmgr/service_contexts": "examples/service_contexts",
     "lib/sysusers.d/svcmgr.conf": "examples/svcmgr.sysusers",
     "share/bash-completion/completions/svcmgr": "examples/completion.bash",
+    "share/bash-completion/completions/svcmgr-doorkeeper": "examples/completion.bash",
     "share/man/man1/svcmgr.1": "docs/svcmgr.1",
     "share/man/man8/svcmgr-doorkeeper.8": "docs/svcmgr-doorkeeper.8",
 }

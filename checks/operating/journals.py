@@ -1,5 +1,6 @@
 """Journals that fill up, and memory that runs out."""
 
+import contextlib
 import os
 import re
 import resource
@@ -30,6 +31,21 @@ def journal_that_is_sealed(program):
         talk(admin, ("version", "version 1 1000"), ("seal", "empty"))
         talk(client, ("watch activity o1", "ok"))
         talk(admin, ("seal", "sealed 21 1001"))
+
+
+@check
+def journal_with_a_slot_for_each_worker(program):
+    """No change is refused beside the slots that are kept for the deaths of clients, with `--seal-at` and one more."""
+    workers, seal_at, times = 40, 23, 200
+    options = ("--workers", str(workers), "--journal", str(seal_at + workers + 1), "--seal-at", str(seal_at))
+    with served(program, *options) as server, contextlib.ExitStack() as rest:
+        clients = [rest.enter_context(server.client()) for _ in range(workers)]
+        for turn, client in enumerate(clients, 1):
+            talk(client, (HELLO, f"client {turn}"))
+        for client in clients[:4] * times:
+            answers = ask_all(client, b"watch activity o1\nunwatch activity o1\n" * 5, 10)
+            expect(set(answers), {b"ok"}, "changes are answered")
+        server.says_no_more()
 
 
 @check

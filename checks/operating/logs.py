@@ -8,7 +8,7 @@ import select
 import time
 
 from operating.servers import HELLO, LIMIT, MARGIN, NOT_ACCEPTED, OTHER_HELLO
-from operating.servers import ask_all, check, expect, reload, served, talk, with_accept_error
+from operating.servers import Server, ask_all, check, expect, reload, room, served, talk, with_accept_error
 from talking import APPLICATION, DEVICE, Wrong
 
 
@@ -88,6 +88,40 @@ def audit_rate(program, shim):
         expect(rate <= came <= rate * (seconds + 1), True, f"in {seconds} seconds come {came} lines")
         talk(client, ("list 15", LIST_DENIED))
         server.says("journal=2 " + LIST)
+
+
+@check
+def audit_lines_left_out_at_the_end(program, shim):
+    """A server that ends by itself says how many were left out."""
+    number, options = 20, ("--audit", "--audit-rate", "2")
+    with served(program, *options, env=with_accept_error(shim, errno.EBADF)) as server, server.client() as client:
+        talk(client, (OTHER_HELLO, "client 1"))
+        server.says("warning: no more connections are accepted: Bad file descriptor (os error 9)\n")
+        talk(client, *[("list 15", LIST_DENIED)] * number, ("bye", "bye"))
+        for _ in range(2):
+            server.says("journal=2 " + LIST)
+        server.says(f"warning: {number - 2} audit lines were left out by --audit-rate\n")
+        server.ends(NOT_ACCEPTED)
+
+
+@check
+def audit_log_of_one_request_that_is_too_long(program):
+    """An `add` that a permissive watcher is told of leaves two lines for each of its watches, here more than wait. They
+    are counted as lost by the next line at the latest."""
+    watches, context = 4096, f"u:r:lax:s0:{'c' * 900}"
+    with room() as folder:
+        (folder / "rules").write_text(f"{DEVICE}type lax;\npermissive lax;\n")
+        with Server(program, folder, "--audit") as server, contextlib.ExitStack() as clients:
+            server.listens()
+            watcher, client, other = (clients.enter_context(server.client()) for _ in range(3))
+            talk(watcher, (f"hello 300 10008 {context}", "client 1"))
+            answers = ask_all(watcher, b"watch activity o1\n" * watches, watches)
+            expect(set(answers), {b"ok"}, "watches are answered")
+            lines_that_came(server, 3 * watches, None)
+            talk(client, (HELLO, "client 2"), ("add activity o1 0 8", "ok"))
+            talk(other, (OTHER_HELLO, "client 3"), ("list 15", LIST_DENIED))
+            came, _ = lines_that_came(server, 2 * watches + 1, None)
+            expect(came > 0, True, "the line of the other request came")
 
 
 def lines_that_came(server, number, wanted, words="lines were lost"):

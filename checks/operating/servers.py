@@ -3,6 +3,7 @@
 import contextlib
 import os
 import select
+import socket
 import subprocess
 import tempfile
 import threading
@@ -151,6 +152,23 @@ def ask_all(party, lines, number):
     flood.join(PATIENCE)
     party.lines.held = b""
     return b"".join(came).splitlines()
+
+
+@contextlib.contextmanager
+def supervisor(name):
+    """A socket in place of systemd's. The name is a path, or one in the abstract namespace after `@`."""
+    with socket.socket(socket.AF_UNIX, socket.SOCK_DGRAM) as told:
+        told.bind(f"\0{name[1:]}" if name.startswith("@") else name)
+        told.settimeout(PATIENCE)
+        yield told
+
+
+def fill(told):
+    """Sends to a datagram socket until it takes nothing more."""
+    told.setblocking(False)
+    with contextlib.suppress(BlockingIOError):
+        while True:
+            told.sendto(b"?", told.getsockname())
 
 
 def reload(admin, version, rules):

@@ -4,6 +4,7 @@ import contextlib
 import errno
 import os
 import resource
+import signal
 import socket
 import stat
 import time
@@ -12,6 +13,8 @@ from operating.servers import HELLO, MARGIN, OTHER_HELLO, Server, check, expect,
 from talking import PATIENCE, Wrong
 
 IN_USE = "Address already in use (os error 98)"
+NO_FILES = "Too many open files (os error 24)"
+WAITS = f"warning: a connection waits to be accepted: {NO_FILES}\n"
 TOO_LONG = "path must be shorter than SUN_LEN"
 
 
@@ -85,6 +88,48 @@ def closed_standard_error(program):
             talk(client, (HELLO, "client 1"))
         sizes = {path.name: path.stat().st_size for path in folder.glob("*.lock")}
         expect(sizes, {"clients.lock": 0, "admins.lock": 0}, "the sizes of the locks are")
+
+
+@check
+def too_few_files_to_start(program):
+    """With 9 to 11 a server starts and says that it lacks some. Whoever waits is served once it has more."""
+    files_at_fault = {4: "clients", 5: "admins.lock", 6: "admins", 7: "clients", 8: "clients"}
+    for number in range(4, 12):
+        few = lambda: resource.setrlimit(resource.RLIMIT_NOFILE, (number, 64))
+        with room() as folder, Server(program, folder, "--workers", "4", preexec_fn=few) as server:
+            if number in files_at_fault:
+                server.ends(f"fault: {folder / files_at_fault[number]}: {NO_FILES}\n")
+                expect(files_of(folder), [], "the server leaves")
+                continue
+            # To accept a connection takes a file, also while nobody connects.
+            line = server.said.line()
+            while line == WAITS:
+                line = server.said.line()
+            expect(line, server.listening, "it says")
+            with server.client() as client, server.client() as other, server.admin() as admin:
+                resource.prlimit(server.child.pid, resource.RLIMIT_NOFILE, (4 + 11, 64))
+                talk(client, (HELLO, "client 1"))
+                talk(other, (OTHER_HELLO, "client 2"))
+                talk(admin, ("version", "version 1 3"))
+
+
+@check
+def sockets_that_are_removed(program):
+    """Those who are connected are served, and nobody else can start a server there."""
+    with served(program) as server, server.client() as client, server.admin() as admin:
+        talk(client, (HELLO, "client 1"))
+        server.clients.unlink()
+        server.admins.unlink()
+        with Server(program, server.folder) as other:
+            other.ends(f"fault: {server.clients}: {IN_USE}\n")
+        talk(client, ("add activity o1 0 8", "ok"))
+        talk(admin, ("version", "version 1 3"))
+        expect(files_of(server.folder), ["admins.lock", "clients.lock"], "the second server leaves")
+        server.says_no_more()
+        server.child.terminate()
+        server.has_ended(status=-signal.SIGTERM)
+        with Server(program, server.folder) as other, other.listens().client() as again:
+            talk(again, (OTHER_HELLO, "client 1"))
 
 
 @check

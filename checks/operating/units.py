@@ -1,35 +1,24 @@
 """What units rely on: what systemd and its journal are told, signals, and a limit on the size of files."""
 
-import contextlib
 import errno
 import os
 import re
 import resource
 import signal
-import socket
 import time
 
 from operating.doorkeeper import opened
 from operating.logs import LIST, LIST_DENIED
-from operating.servers import HELLO, NOT_ACCEPTED, OTHER_HELLO, Server, check, comes_true, expect, is_refused
-from operating.servers import room, served, talk, with_accept_error
+from operating.servers import HELLO, NOT_ACCEPTED, OTHER_HELLO, Server, check, comes_true, expect, fill
+from operating.servers import is_refused, room, served, supervisor, talk, with_accept_error
 from operating.starts import IN_USE
-from talking import PATIENCE, ROOT
+from talking import ROOT
 
 
 def starter():
     """The words of the server's unit that are before the program."""
     unit = (ROOT / "examples" / "svcmgr.service").read_text().replace("\\\n", "")
     return re.search("^ExecStart=(.*)/usr/local/bin/svcmgr serve ", unit, re.MULTILINE)[1].split()
-
-
-@contextlib.contextmanager
-def supervisor(name):
-    """A socket in place of systemd's. The name is a path, or one in the abstract namespace after `@`."""
-    with socket.socket(socket.AF_UNIX, socket.SOCK_DGRAM) as told:
-        told.bind(f"\0{name[1:]}" if name.startswith("@") else name)
-        told.settimeout(PATIENCE)
-        yield told
 
 
 @check
@@ -51,10 +40,7 @@ def what_systemd_is_told(program, shim):
 def systemd_that_takes_nothing(program):
     """A server waits for it for five seconds, and then serves."""
     with room() as folder, supervisor(name := f"{folder}/supervisor") as told:
-        told.setblocking(False)
-        with contextlib.suppress(BlockingIOError):
-            while True:
-                told.sendto(b"?", name)
+        fill(told)
         with Server(program, folder, env=os.environ | {"NOTIFY_SOCKET": name}) as server:
             with server.listens().client() as client:
                 talk(client, (HELLO, "client 1"))
@@ -115,8 +101,8 @@ def limit_of_file_sizes(program):
 
 @check
 def doorkeeper_signals(program):
-    """SIGHUP is ignored, and SIGTERM ends the doorkeeper."""
-    with opened(program) as (_, door):
+    """SIGHUP is ignored, also where the doorkeeper's starter doesn't, and SIGTERM ends it."""
+    with opened(program, preexec_fn=lambda: signal.signal(signal.SIGHUP, signal.SIG_DFL)) as (_, door):
         door.child.send_signal(signal.SIGHUP)
         door.enter().stream.close()
         door.child.terminate()
