@@ -5,7 +5,7 @@ use clap::{Arg, ArgAction, Command, value_parser};
 use std::alloc::{AllocError, Global};
 
 /// The version of the program.
-pub const VERSION: &str = "0.1.0";
+pub const VERSION: &str = "0.2.0";
 
 /// Returns the parser of the command line.
 pub fn command<'a>(alloc: Global) -> Result<Command<'a>, AllocError> {
@@ -35,7 +35,10 @@ fn run<'a>(alloc: Global) -> Building<'a> {
 
 fn check<'a>(alloc: Global) -> Building<'a> {
     let about = "Tells whether a policy is accepted";
-    with_files(alloc, Building::new(alloc, "check", about).arg(show(alloc)))
+    let check = Building::new(alloc, "check", about)
+        .arg(all(alloc))
+        .arg(show(alloc));
+    with_files(alloc, check)
 }
 
 fn serve<'a>(alloc: Global) -> Building<'a> {
@@ -160,9 +163,6 @@ fn by_name<'a>(alloc: Global) -> Arg<'a> {
         .action(ArgAction::SetTrue)
 }
 
-fn show<'a>(alloc: Global) -> Arg<'a> {
-    Arg::new(alloc, "show")
-        .long("show")
 fn all<'a>(alloc: Global) -> Arg<'a> {
     Arg::new(alloc, "all")
         .long("all")
@@ -170,6 +170,9 @@ fn all<'a>(alloc: Global) -> Arg<'a> {
         .action(ArgAction::SetTrue)
 }
 
+fn show<'a>(alloc: Global) -> Arg<'a> {
+    Arg::new(alloc, "show")
+        .long("show")
         .help("Shows the statements and lines that a refusal names, on standard error")
         .action(ArgAction::SetTrue)
 }
